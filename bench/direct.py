@@ -1,0 +1,43 @@
+#!/usr/bin/env python3
+"""How `direct` grows with the instance, up to the largest that is accepted.
+
+    bench/direct.py [PROGRAM]
+
+PROGRAM is the built program; without it the proved one in crates/freight/out is taken.
+"""
+import os
+import subprocess
+import sys
+import time
+
+sys.path.insert(0, os.path.dirname(os.path.abspath(__file__)))
+from instances import instance
+
+TOP = os.path.dirname(os.path.dirname(os.path.abspath(__file__)))
+
+
+def seconds(program, text):
+    """The least of three runs, and the number of leg lines."""
+    best = None
+    for _ in range(3):
+        start = time.monotonic()
+        done = subprocess.run([program, "direct"], input=text.encode(), stdout=subprocess.PIPE)
+        took = time.monotonic() - start
+        if done.returncode != 0:
+            sys.exit(f"status {done.returncode}: {done.stdout[:200]!r}")
+        best = took if best is None else min(best, took)
+    return best, done.stdout.count(b"\nleg,")
+
+
+def main():
+    program = sys.argv[1] if len(sys.argv) > 1 else os.path.join(TOP, "crates/freight/out/freight")
+    before = None
+    print("terminals arcs shipments legs seconds growth")
+    for terminals, arcs, shipments in ((10, 100, 50), (30, 300, 150), (100, 1000, 500)):
+        took, legs = seconds(program, instance(terminals, arcs, shipments))
+        growth = "-" if before is None else f"{took / before:.1f}"
+        print(f"{terminals:9} {arcs:4} {shipments:9} {legs:4} {took:7.3f} {growth:>6}")
+        before = took
+
+
+main()

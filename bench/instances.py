@@ -1,0 +1,24 @@
+"""Instances for the benchmarks: random but the same at every run."""
+import random
+
+
+def instance(terminals, arcs, shipments, seed=1):
+    """CSV records of an instance with a ring both ways, so that every shipment can be carried."""
+    draw = random.Random(seed)
+    pairs = [(i, (i + step) % terminals) for i in range(terminals) for step in (1, terminals - 1)]
+    taken = set(pairs)
+    while len(pairs) < arcs:
+        pair = (draw.randrange(terminals), draw.randrange(terminals))
+        if pair[0] != pair[1] and pair not in taken:
+            taken.add(pair)
+            pairs.append(pair)
+    lines = [f"terminal,T{i},{draw.randrange(30)}" for i in range(terminals)]
+    for tail, head in pairs[:arcs]:
+        lines.append(f"arc,T{tail},T{head},{60 + draw.randrange(241)},{10 + draw.randrange(11)},{100 + draw.randrange(101)},{draw.randrange(3)}")
+    for number in range(shipments):
+        origin = draw.randrange(terminals)
+        destination = (origin + 1 + draw.randrange(terminals - 1)) % terminals
+        release = draw.randrange(5000)
+        due = release + 400 * terminals + draw.randrange(2000)
+        lines.append(f"shipment,S{number},T{origin},T{destination},{1 + draw.randrange(12)},{release},{due}")
+    return "\n".join(lines) + "\n"
