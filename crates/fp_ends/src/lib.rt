@@ -1,0 +1,28 @@
+//! Where bytes come from and go to: sources and sinks, in memory and over the standard streams.
+//! A source or sink counts its faults, so that a caller can trace each failure to one of them.
+#![tactic(auto)]
+
+mod copying;
+mod memory_sink;
+mod memory_source;
+mod reading;
+mod sink;
+mod source;
+mod standard;
+mod sure;
+mod writing;
+
+pub use memory_sink::MemSink;
+pub use memory_source::MemSource;
+pub use reading::{ReadEnd, read_all};
+pub use sink::Sink;
+pub use source::{Failed, Source};
+pub use standard::{StdSink, StdSource};
+pub use sure::{SureSink, SureSource};
+pub use writing::{WriteFault, write_all};
+
+/// There was not enough memory.
+pub type NoMemory = std::alloc::AllocError;
+
+#[cfg(test)]
+mod tests;
