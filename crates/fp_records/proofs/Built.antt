@@ -1,5 +1,5 @@
 -- A line that is built field by field is its fields joined by commas, and a line feed.
-use Rattle.std.proofs.Common.{◌≡◌, ◌∙◌, ℕ, Bool, true, false, List, [], ◌∷◌, ◌++◌, refl, sym, ap, append_assoc}
+use Rattle.std.proofs.Common.{◌≡◌, ◌∙◌, ℕ, true, false, List, [], ◌∷◌, ◌++◌, refl, ap, append_assoc}
 use Rattle.std.proofs.lemmas.List.{append-nil}
 use Rattle.fp_records.specs.Text.{Lines, comma, joined, line_feed, line_of, with_end, with_field}
 
