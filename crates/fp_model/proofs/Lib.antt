@@ -1,0 +1,11 @@
+pub mod Sums
+pub mod Distinct
+pub mod Ceilings
+pub mod Bounds
+pub mod Joins
+pub mod Places
+pub mod Steps
+pub mod LegByLeg
+pub mod Faultless
+pub mod FirstFaults
+pub mod Examples
