@@ -1,0 +1,4 @@
+pub mod Floor
+pub mod Points
+pub mod Stamps
+pub mod Timelines
