@@ -1,0 +1,10 @@
+pub mod Counts
+pub mod Placing
+pub mod Tracing
+pub mod Queues
+pub mod Apart
+pub mod Improving
+pub mod Starting
+pub mod Next
+pub mod Exact
+pub mod Worked

@@ -1,0 +1,5 @@
+pub mod Graphs
+pub mod Walks
+pub mod Labels
+pub mod Rows
+pub mod Searches

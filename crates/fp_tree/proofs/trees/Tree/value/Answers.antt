@@ -1,0 +1,11 @@
+use Rattle.std.proofs.Common.{◌≡◌, refl, arith}
+use Rattle.fp_tree.specs.Nodes.{Node, value_of}
+use Rattle.fp_tree.proofs.Sound.{leaf_count-seen, leaf_at-seen}
+use Rattle.fp_tree.proofs.trees.Tree.value.Goals as goal
+
+pub index-requires : goal.index-requires
+index-requires g c = omega (arith, leaf_count-seen _ _ _ _ c.self.view_is c.self.invariant)
+
+pub returns : goal.returns
+returns g c =
+    leaf_at-seen _ _ _ _ c.self.view_is c.self.invariant c.args.leaf c.index.result.now (λ (n : Node g.row.T.Denot). value_of n ≡ c.index.result.now.value) c.requires c.index.ensures refl

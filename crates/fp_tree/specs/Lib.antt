@@ -1,0 +1,5 @@
+pub mod Sides
+pub mod Trees
+pub mod Nodes
+pub mod Layout
+pub mod Ways

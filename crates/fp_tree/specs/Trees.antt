@@ -1,0 +1,67 @@
+-- Trees of splits as lists of nodes in preorder: a split, the nodes below its first side, the nodes below its second.
+-- X is any type of nodes. `fork_of` tells at what a node splits, and None at a leaf.
+use Rattle.std.specs.Prelude.{ℕ, zero, suc, ◌≡◌, ◌≢◌, List, [], ◌∷◌, ◌++◌, filter, is_some, Option, Some, None, IfSome, ◌⊎◌, slice_index_or}
+use Rattle.std.specs.List.{AllByRecursion}
+use Rattle.fp_tree.specs.declared.sides.Side.{Side}
+use Rattle.fp_tree.specs.Sides.{Exit, Fork, HasTail, Obeys, first, second}
+
+-- A node that is a leaf, with the sides on its way from the root.
+pub record Leaf (X : Type 0) : Type 0 where
+  pub node : X
+  pub sides : List Side
+
+-- The leaves among nodes, where `pending` has the sides of the trees that the nodes make: a split opens two trees in place of one.
+abbrev pub leaves_of : {X : Type 0} → (X → Option Fork) → List (List Side) → List X → List (Leaf X)
+leaves_of fork_of pending [] = []
+leaves_of fork_of [] (x ∷ nodes) = []
+leaves_of {X} fork_of (sides ∷ pending) (x ∷ nodes) =
+    elim (fork_of x) as (λ o. List (Leaf X)) [
+      | None ↦ (record { node = x; sides = sides }) ∷ leaves_of fork_of pending nodes
+      | Some f ↦ leaves_of fork_of ((sides ++ (first f ∷ [])) ∷ (sides ++ (second f ∷ [])) ∷ pending) nodes
+    ]
+
+-- The nodes are exactly so many trees, one after another.
+abbrev pub AreTrees : {X : Type 0} → (X → Option Fork) → ℕ → List X → Type 0
+AreTrees fork_of pending [] = pending ≡ 0
+AreTrees fork_of zero (x ∷ nodes) = ⊥
+AreTrees fork_of (suc pending) (x ∷ nodes) =
+    elim (fork_of x) as (λ o. Type 0) [ None ↦ AreTrees fork_of pending nodes | Some f ↦ AreTrees fork_of (suc (suc pending)) nodes ]
+
+-- The nodes are exactly one tree.
+abbrev pub IsTree : {X : Type 0} → (X → Option Fork) → List X → Type 0
+IsTree fork_of nodes = AreTrees fork_of 1 nodes
+
+-- The leaves of a tree, in preorder.
+abbrev pub tree_leaves : {X : Type 0} → (X → Option Fork) → List X → List (Leaf X)
+tree_leaves fork_of nodes = leaves_of fork_of ([] ∷ []) nodes
+
+-- The nodes of a tree that are splits, in preorder.
+abbrev pub tree_splits : {X : Type 0} → (X → Option Fork) → List X → List X
+tree_splits fork_of nodes = filter (λ x. is_some (fork_of x)) nodes
+
+-- The nodes with leaf number k replaced by what `change` makes of it.
+abbrev pub with_leaf : {X : Type 0} → (X → Option Fork) → (X → List X) → ℕ → List X → List X
+with_leaf fork_of change k [] = []
+with_leaf {X} fork_of change zero (x ∷ nodes) =
+    elim (fork_of x) as (λ o. List X) [ None ↦ change x ++ nodes | Some f ↦ x ∷ with_leaf fork_of change zero nodes ]
+with_leaf {X} fork_of change (suc k) (x ∷ nodes) =
+    elim (fork_of x) as (λ o. List X) [ None ↦ x ∷ with_leaf fork_of change k nodes | Some f ↦ x ∷ with_leaf fork_of change (suc k) nodes ]
+
+-- Some element is so.
+abbrev pub AnyByRecursion : {X : Type 0} → (X → Type 0) → List X → Type 0
+AnyByRecursion P [] = ⊥
+AnyByRecursion P (x ∷ xs) = P x ⊎ AnyByRecursion P xs
+
+-- The legs of one shipment go by arcs whose tails are as told, and no two of them leave the same terminal.
+abbrev pub LeaveApart : (ℕ → ℕ) → List Exit → Type 0
+LeaveApart tails [] = Unit {0}
+LeaveApart tails (e ∷ exits) = (e.tail ≡ tails e.arc) × AllByRecursion (λ (f : Exit). f.tail ≢ e.tail) exits × LeaveApart tails exits
+
+-- Each split by an arc has the tail of its arc.
+abbrev pub HaveTails : {X : Type 0} → (ℕ → ℕ) → (X → Option Fork) → List X → Type 0
+HaveTails tails fork_of nodes = AllByRecursion (λ x. IfSome (fork_of x) (HasTail tails)) nodes
+
+-- Each way of sending shipments, over any denominator, obeys all sides of some leaf.
+abbrev pub CoversAll : {X : Type 0} → (ℕ → ℕ) → List (Leaf X) → Type 0
+CoversAll tails leaves =
+    (d : ℕ) (routes : List (List Exit)) → ((k : ℕ) → LeaveApart tails (slice_index_or routes k [])) → AnyByRecursion (λ l. Obeys d routes l.sides) leaves
