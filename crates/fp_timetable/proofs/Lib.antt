@@ -1,0 +1,12 @@
+pub mod Pairs
+pub mod Rising
+pub mod Gathered
+pub mod Adding
+pub mod Carried
+pub mod Apart
+pub mod OfPlans
+pub mod Merging
+pub mod Ordered
+pub mod Existing
+pub mod ReadBack
+pub mod Worked
