@@ -1,0 +1,82 @@
+-- What a run answers, and what it does to its source and its sink.
+use Rattle.std.specs.Prelude.{◌≡◌, ℕ, List, length, nat_lt, MatchBool, MatchResult, Result, None, Some, ⊤}
+use Rattle.std.specs.Io.KnownBytes.{Appends, IsAtEnd}
+use Rattle.std.specs.declared.option.Option.{Option}
+use Rattle.fp_ends.specs.Moves.{AppendsFront, Tells}
+use Rattle.fp_model.specs.Plans.{IsPlan, PlanExists}
+use Rattle.fp_model.specs.Problem.{Problem}
+use Rattle.fp_records.specs.Fields.{records_of}
+use Rattle.fp_reader.specs.declared.reading.Tail.TheVariants.{Alone}
+use Rattle.fp_reader.specs.Input.{Fault, input_of}
+use Rattle.fp_flatnet.specs.Directs.{IsDirectPlan}
+use Rattle.fp_flatnet.specs.Verdicts.{AllInTime, IsBlocked}
+use Rattle.fp_app.specs.declared.words.Order.{Order}
+use Rattle.fp_app.specs.declared.words.Order.TheVariants as order
+use Rattle.fp_app.specs.declared.shown.Shown.{Shown}
+use Rattle.fp_app.specs.declared.shown.Shown.TheVariants as shown
+use Rattle.fp_app.specs.declared.shown.Status.{Status}
+use Rattle.fp_app.specs.declared.shown.Status.TheVariants as status
+use Rattle.fp_app.specs.Shown.{status_of}
+use Rattle.fp_app.specs.Texts.{IsText}
+
+-- Each command: what it shows for an instance.
+
+-- `direct`: the direct plan where a plan exists, and otherwise the first shipment that can't be carried in time, with its fastest time.
+abbrev pub ShowsDirect : Problem → Shown → Type 0
+ShowsDirect p (shown.Direct instance plan) = (instance ≡ p) × IsPlan p 1 plan × IsDirectPlan p plan
+ShowsDirect p (shown.Infeasible instance shipment time) = (instance ≡ p) × IsBlocked p shipment time × (PlanExists p → ⊥)
+ShowsDirect p _ = ⊥
+
+-- What an input alone gives: the instance of its records, or their first fault.
+abbrev pub given : List ℕ → Result Problem Fault
+given input = input_of Alone (records_of input)
+
+-- The instance of the input's records, or their first fault.
+abbrev pub OfInstance : List ℕ → Shown → (Problem → Type 0) → Type 0
+OfInstance input result P = MatchResult (given input) P (λ (f : Fault). result ≡ shown.BadInput f.ordinal f.code)
+
+-- The whole input was read and P holds of it, or more than the limit came.
+abbrev pub OfInput : ℕ → Option (List ℕ) → Option (List ℕ) → Shown → (List ℕ → Type 0) → Type 0
+OfInput limit old new result P =
+    (input : List ℕ) × Tells old input
+    × MatchBool (nat_lt limit (length input)) (result ≡ shown.TooLong) (IsAtEnd new × P input)
+
+-- the most bytes of an input to `direct`
+abbrev pub direct_limit : ℕ
+direct_limit = 16777216
+
+-- What an order shows, by what the source had left and has left now. One line for each command.
+abbrev pub Answers : Option Order → Option (List ℕ) → Option (List ℕ) → Shown → Type 0
+Answers None old new result = result ≡ shown.BadWords
+Answers (Some order.Direct) old new result =
+    OfInput direct_limit old new result (λ input. OfInstance input result (λ p. ShowsDirect p result))
+
+-- Words of no form leave the source alone.
+abbrev pub Leaves : {S : Type 0} → Option Order → S → S → Type 0
+Leaves None old new = new ≡ old
+Leaves (Some order.Direct) old new = ⊤
+
+-- How far a run came: before its text, through a part of it, or through all.
+pub data Reach : Type 0 where
+  before : Reach
+  cut : Reach
+  whole : Reach
+
+-- how far a run of a status came
+abbrev pub reach_of : Status → Reach
+reach_of status.ReadFault = before
+reach_of status.NoMemory = before
+reach_of status.WriteFault = cut
+reach_of _ = whole
+
+-- What is shown is an answer, and the status is its own.
+abbrev pub Settles : Reach → Status → Shown → Type 0 → Type 0
+Settles before status result P = result ≡ shown.Nothing
+Settles cut status result P = P
+Settles whole status result P = (status ≡ status_of result) × P
+
+-- The sink took nothing, a front of the text, or the text.
+abbrev pub Writes : {K : Type 0} → (K → Option (List ℕ)) → Reach → K → K → Shown → Type 0
+Writes taken before old new result = new ≡ old
+Writes taken cut old new result = (text : List ℕ) × IsText result text × AppendsFront (taken old) (taken new) text
+Writes taken whole old new result = (text : List ℕ) × IsText result text × Appends (taken old) (taken new) text

@@ -1,0 +1,102 @@
+// What a run answers.
+ghost use Rattle.std.specs.Prelude.{◌≡◌};
+ghost use Rattle.fp_app.specs.Shown.{code_of, status_of};
+
+use fp_model::{Instance, Plan};
+
+/// How a run ended.
+#[derive(Clone, Copy, Debug, PartialEq, Eq)]
+pub enum Status {
+    /// The command has its answer.
+    Done,
+    /// The search ended before its answer was proved the cheapest.
+    Unfinished,
+    /// No plan exists.
+    Infeasible,
+    /// The certificate isn't accepted.
+    Rejected,
+    /// The words are none of the forms; the source wasn't read.
+    BadWords,
+    /// The records have a fault.
+    BadInput,
+    /// More bytes than the command's limit came.
+    TooLong,
+    /// A read failed; nothing was written.
+    ReadFault,
+    /// A write failed; a front of the text was written.
+    WriteFault,
+    /// Memory wasn't found; nothing was written.
+    NoMemory,
+}
+
+impl Status {
+    /// The number with which the program ends.
+    pub fn code(&self) -> u8
+        ensures { result ≡ code_of self.now }
+    {
+        match self {
+            Status::Done => 0,
+            Status::Unfinished => 10,
+            Status::Infeasible => 11,
+            Status::Rejected => 12,
+            Status::BadWords => 20,
+            Status::BadInput => 21,
+            Status::TooLong => 22,
+            Status::ReadFault => 30,
+            Status::WriteFault => 31,
+            Status::NoMemory => 40,
+        }
+    }
+}
+
+/// What a run shows: the answer whose text it writes.
+#[derive(Drop)]
+pub enum Shown {
+    /// The direct plan of an instance.
+    Direct {
+        instance: Instance,
+        plan: Plan,
+    },
+    /// The first shipment that can't be carried in time, by its number, and its fastest time in the input's unit,
+    /// `None` where it has no route.
+    Infeasible {
+        instance: Instance,
+        shipment: u32,
+        time: Option<u32>,
+    },
+    /// The words are none of the forms.
+    BadWords,
+    /// The record with this ordinal, from 1, is the first with a fault, and this is its least code; the ordinal is 0
+    /// where the input as a whole has it.
+    BadInput {
+        ordinal: u32,
+        code: u32,
+    },
+    /// More bytes than the command's limit came.
+    TooLong,
+    /// There is no answer.
+    Nothing,
+}
+
+impl Shown {
+    /// The status of a run that showed this to its end.
+    pub fn status(&self) -> Status
+        ensures { result ≡ status_of self.now }
+    {
+        match self {
+            Shown::Direct { .. } => Status::Done,
+            Shown::Infeasible { .. } => Status::Infeasible,
+            Shown::BadWords => Status::BadWords,
+            Shown::BadInput { .. } => Status::BadInput,
+            Shown::TooLong => Status::TooLong,
+            Shown::Nothing => Status::NoMemory,
+        }
+    }
+}
+
+/// How a run ended, and what it showed: at `WriteFault` what was being written, at `ReadFault` and `NoMemory` nothing.
+#[derive(Drop)]
+pub struct Ran {
+    pub status: Status,
+    pub shown: Shown,
+}

@@ -1,0 +1,78 @@
+// The top call.
+ghost use Rattle.std.specs.Prelude.{◌≡◌, ◌⊎◌, ◌<◌, ◌≤◌, ℕ, List, length, None, Some};
+ghost use Rattle.fp_ends.specs.Causes.{Rose};
+ghost use Rattle.fp_app.specs.Causes.{ShowsFault, ShowsNone, ShowsPlan, StatusOf};
+ghost use Rattle.fp_app.specs.Runs.{Answers, Leaves, Settles, Writes, direct_limit, reach_of};
+ghost use Rattle.fp_app.specs.Words.{order_of, texts};
+
+use crate::answer::{Stop, answer};
+use crate::{Ran, Shown, Status, text};
+use fp_ends::{Sink, Source, WriteFault, write_all};
+use std::alloc::Global;
+
+// A run that ended before its text.
+fn stopped(status: Status) -> Ran
+    ensures { result ≡ record { status = status; shown = Shown.Nothing } }
+{
+    Ran {
+        status,
+        shown: Shown::Nothing,
+    }
+}
+
+/// All that the program does: reads the words and the source, and writes the text of the answer to the sink.
+///
+/// The words are those after the program's name. The whole text is built before the first write. Want of memory may
+/// come at any point before that, and ends with `NoMemory`; every other status has its cause among the clauses.
+pub fn run<S: Source, K: Sink>(alloc: Global, words: &[String], source: &mut S, sink: &mut K) -> Ran
+    // What is shown answers the words and the input, and the status is its own.
+    ensures answers { Settles (reach_of result.status) result.status result.shown
+        (Answers (order_of (texts words.now)) (S.left source.old) (S.left source.new) result.shown) }
+
+    // The text is written, a front of it at a write fault, and nothing without an answer.
+    ensures writes { Writes K.taken (reach_of result.status) sink.old sink.new result.shown }
+
+    // Each fault of the source or the sink has its cause, and no count falls.
+    ensures read_fault { result.status ≡ Status.ReadFault → Rose (S.faults source.old) (S.faults source.new) }
+    ensures write_fault { result.status ≡ Status.WriteFault → Rose (K.faults sink.old) (K.faults sink.new) }
+    ensures reads_later { S.faults source.old ≤ S.faults source.new }
+    ensures writes_later { K.faults sink.old ≤ K.faults sink.new }
+
+    // Words of no form leave the source alone.
+    ensures leaves { Leaves (order_of (texts words.now)) source.old source.new }
+    ensures bad_words { result.status ≡ Status.BadWords → order_of (texts words.now) ≡ None }
+
+    // The causes of the other statuses, where the source tells its input.
+    ensures too_long { (input : List ℕ) → S.left source.old ≡ Some input → result.status ≡ Status.TooLong
+        → direct_limit < length input }
+    ensures bad_input { (input : List ℕ) → S.left source.old ≡ Some input → result.status ≡ Status.BadInput
+        → ShowsFault input result.shown }
+    ensures infeasible { (input : List ℕ) → S.left source.old ≡ Some input → result.status ≡ Status.Infeasible
+        → ShowsNone input result.shown }
+    ensures done { (input : List ℕ) → S.left source.old ≡ Some input → result.status ≡ Status.Done
+        → ShowsPlan input result.shown }
+
+    // With memory and without a fault the status is the one that the words and the input have.
+    ensures completes { (input : List ℕ) → S.left source.old ≡ Some input
+        → (Rose (S.faults source.old) (S.faults source.new) → ⊥) → (Rose (K.faults sink.old) (K.faults sink.new) → ⊥)
+        → (result.status ≡ Status.NoMemory) ⊎ StatusOf (order_of (texts words.now)) input result.status }
+{
+    let shown = match answer(alloc, words, source) {
+        Ok(shown) => shown,
+        Err(Stop::ReadFault) => return stopped(Status::ReadFault),
+        Err(Stop::NoMemory) => return stopped(Status::NoMemory),
+    };
+    let Ok(text) = text(alloc, &shown) else {
+        return stopped(Status::NoMemory);
+    };
+    match write_all(sink, &text) {
+        Ok(()) => Ran {
+            status: shown.status(),
+            shown,
+        },
+        Err(WriteFault) => Ran {
+            status: Status::WriteFault,
+            shown,
+        },
+    }
+}

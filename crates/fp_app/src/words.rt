@@ -1,0 +1,39 @@
+// The words of the command line.
+ghost use Rattle.fp_app.specs.Words.{Orders, order_of, texts};
+
+use std::alloc::Global;
+use thiserror::Error;
+
+/// A command with its numbers.
+#[derive(Clone, Copy, Debug, PartialEq, Eq)]
+pub enum Order {
+    /// Each shipment's fastest timetable.
+    Direct,
+}
+
+/// Why words give no order.
+#[derive(Clone, Copy, Debug, PartialEq, Eq, Error)]
+pub enum WordFault {
+    /// The words are none of the forms.
+    #[error("the words have none of the forms")]
+    BadWords,
+    /// Memory wasn't found.
+    #[error("out of memory")]
+    NoMemory,
+}
+
+/// The order that the words after the program's name give.
+///
+/// `BadWords` comes exactly where they have none of the forms. The one form is the single word `direct`.
+pub fn read_words(_alloc: Global, words: &[String]) -> Result<Order, WordFault>
+    ensures { Orders (order_of (texts words.now)) result }
+{
+    let [word] = words else {
+        return Err(WordFault::BadWords);
+    };
+    if word.as_str() == "direct" {
+        Ok(Order::Direct)
+    } else {
+        Err(WordFault::BadWords)
+    }
+}

@@ -1,0 +1,8 @@
+pub mod Fields
+pub mod Names
+pub mod Parts
+pub mod Faults
+pub mod Codes
+pub mod Input
+pub mod Drafts
+pub mod Answers

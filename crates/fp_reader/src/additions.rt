@@ -1,0 +1,120 @@
+// A draft with one more record.
+ghost use Rattle.std.specs.Prelude.{◌≡◌, MatchResult};
+ghost use Rattle.fp_reader.specs.Answers.{IsLeast};
+ghost use Rattle.fp_reader.specs.Faults.{arc_faults, first_code, record_code, shipment_faults, terminal_faults};
+ghost use Rattle.fp_reader.specs.Fields.{field};
+ghost use Rattle.fp_reader.specs.Parts.{arc_in, hold_in, shipment_in, with_arc, with_record, with_shipment, with_terminal};
+
+use crate::arc_records::read_arc;
+use crate::codes::RecordFault;
+use crate::drafts::Draft;
+use crate::fields::{field_at, is_of_kind};
+use crate::shipment_records::read_shipment;
+use crate::terminal_records::read_terminal;
+use fp_model::{Name, Shipment};
+use fp_records::Record;
+use std::alloc::{AllocError, Global};
+
+/// Why a record isn't added.
+#[derive(Clone, Copy)]
+pub enum AddFault {
+    /// The record has this fault and none with a lesser code.
+    Record(RecordFault),
+    /// No memory was found.
+    NoMemory,
+}
+
+impl From<RecordFault> for AddFault {
+    ghost use Rattle.std.specs.Prelude.{◌≡◌};
+    ghost use Rattle.fp_reader.specs.declared.additions.AddFault.TheVariants as add;
+
+    ghost from_gives = { λ fault e. e ≡ add.Record fault };
+
+    fn from(fault: RecordFault) -> AddFault {
+        AddFault::Record(fault)
+    }
+}
+
+impl From<AllocError> for AddFault {
+    ghost use Rattle.std.specs.Prelude.{◌≡◌};
+    ghost use Rattle.fp_reader.specs.declared.additions.AddFault.TheVariants.{NoMemory};
+
+    ghost from_gives = { λ _ e. e ≡ NoMemory };
+
+    fn from(_error: AllocError) -> AddFault {
+        AddFault::NoMemory
+    }
+}
+
+// With one more terminal's record.
+fn add_terminal<'a>(
+    alloc: Global,
+    draft: Draft<'a>,
+    line: &'a Record,
+) -> Result<Draft<'a>, AddFault>
+    ensures { MatchResult result
+        (λ d. (first_code (terminal_faults draft.entry line.now) ≡ None)
+        × (d ≡ with_terminal draft.entry (field line.now 1) (hold_in line.now)))
+        (λ e. IsLeast e (first_code (terminal_faults draft.entry line.now))) }
+{
+    let hold = read_terminal(&draft, line)?;
+    let more = draft.with_terminal(alloc, field_at(line, 1), hold)?;
+    Ok(more)
+}
+
+// With one more arc's record.
+fn add_arc<'a>(draft: Draft<'a>, line: &'a Record) -> Result<Draft<'a>, AddFault>
+    ensures { MatchResult result
+        (λ d. (first_code (arc_faults draft.entry line.now) ≡ None) × (d ≡ with_arc draft.entry (arc_in draft.entry line.now)))
+        (λ e. IsLeast e (first_code (arc_faults draft.entry line.now))) }
+{
+    let arc = read_arc(&draft, line)?;
+    let more = draft.with_arc(arc)?;
+    Ok(more)
+}
+
+// With one more shipment's record.
+fn add_shipment<'a>(
+    alloc: Global,
+    draft: Draft<'a>,
+    line: &'a Record,
+) -> Result<Draft<'a>, AddFault>
+    ensures { MatchResult result
+        (λ d. (first_code (shipment_faults draft.entry line.now) ≡ None)
+        × (d ≡ with_shipment draft.entry (shipment_in draft.entry line.now)))
+        (λ e. IsLeast e (first_code (shipment_faults draft.entry line.now))) }
+{
+    let consignment = read_shipment(&draft, line)?;
+    let shipment = Shipment {
+        name: Name::new(alloc, field_at(line, 1))?,
+        from: consignment.from,
+        to: consignment.to,
+        size: consignment.size,
+        release: consignment.release,
+        due: consignment.due,
+    };
+    let more = draft.with_shipment(field_at(line, 1), shipment)?;
+    Ok(more)
+}
+
+/// The draft with what one more record gives, or the least of the record's faults. It takes the draft, so after an `Err` there
+/// is none.
+pub fn add_record<'a>(
+    alloc: Global,
+    draft: Draft<'a>,
+    line: &'a Record,
+) -> Result<Draft<'a>, AddFault>
+    ensures { MatchResult result
+        (λ d. (record_code draft.entry line.now ≡ None) × (d ≡ with_record draft.entry line.now))
+        (λ e. IsLeast e (record_code draft.entry line.now)) }
+{
+    if is_of_kind(line, b"terminal") {
+        add_terminal(alloc, draft, line)
+    } else if is_of_kind(line, b"arc") {
+        add_arc(draft, line)
+    } else if is_of_kind(line, b"shipment") {
+        add_shipment(alloc, draft, line)
+    } else {
+        Err(AddFault::Record(RecordFault::Kind))
+    }
+}

@@ -1,0 +1,26 @@
+// The terminals that two fields of a record name.
+ghost use Rattle.std.specs.Prelude.{◌≡◌, true, false, MatchOption};
+ghost use Rattle.fp_reader.specs.Faults.{lacks_terminal};
+ghost use Rattle.fp_reader.specs.Parts.{terminal_in};
+
+use crate::drafts::Draft;
+use crate::fields::field_at;
+use fp_records::Record;
+
+/// Two terminals by their numbers.
+#[derive(Clone, Copy)]
+pub struct Ends {
+    pub from: u32,
+    pub to: u32,
+}
+
+/// The terminals that two fields name; `None` exactly where one names no earlier terminal.
+pub fn ends_of(draft: &Draft<'_>, line: &Record, from: usize, to: usize) -> Option<Ends>
+    ensures { MatchOption result (lacks_terminal draft.now line.now from to ≡ true)
+        (λ ends. (lacks_terminal draft.now line.now from to ≡ false)
+        × (ends ≡ record { from = terminal_in draft.now line.now from; to = terminal_in draft.now line.now to })) }
+{
+    let from = draft.terminal(field_at(line, from))?;
+    let to = draft.terminal(field_at(line, to))?;
+    Some(Ends { from, to })
+}

@@ -1,0 +1,24 @@
+//! Reads an instance from the records of an input, or names the first fault.
+#![tactic(auto)]
+
+mod additions;
+mod arc_records;
+mod codes;
+mod digits;
+mod drafts;
+mod ends;
+mod faults;
+mod fields;
+mod numbering;
+mod reading;
+mod shipment_records;
+mod terminal_records;
+
+pub use faults::InputFault;
+pub use reading::{Read, Tail, instance};
+
+/// No memory was found.
+pub type NoMemory = std::alloc::AllocError;
+
+#[cfg(test)]
+mod tests;
