@@ -33,7 +33,8 @@ def main():
     program = sys.argv[1] if len(sys.argv) > 1 else os.path.join(TOP, "crates/freight/out/freight")
     before = None
     print("terminals arcs shipments legs seconds growth")
-    for terminals, arcs, shipments in ((10, 100, 50), (30, 300, 150), (100, 1000, 500)):
+    # The last has a ring alone, so that routes are long.
+    for terminals, arcs, shipments in ((10, 90, 50), (30, 300, 150), (100, 1000, 500), (100, 200, 500)):
         took, legs = seconds(program, instance(terminals, arcs, shipments))
         growth = "-" if before is None else f"{took / before:.1f}"
         print(f"{terminals:9} {arcs:4} {shipments:9} {legs:4} {took:7.3f} {growth:>6}")

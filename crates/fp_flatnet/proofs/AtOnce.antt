@@ -2,8 +2,8 @@
 use Rattle.std.proofs.Common.{◌≡◌, ◌≢◌, ℕ, ◌+◌, ◌*◌, ◌≤◌, List, [], ◌∷◌, refl, sym, ap, subst, arith, le_refl}
 use Rattle.fp_model.specs.declared.parts.Leg.{Leg}
 use Rattle.fp_model.specs.declared.parts.Shipment.{Shipment}
-use Rattle.fp_model.specs.Problem.{Problem, IsValid, arc_at}
-use Rattle.fp_model.specs.Routes.{Leads, AreApart, LeavesReady, ArrivesBy, Carries, walk_time, step, arcs_of, ends_of}
+use Rattle.fp_model.specs.Problem.{Problem, IsValid}
+use Rattle.fp_model.specs.Routes.{Leads, LeavesReady, ArrivesBy, Carries, walk_time, step, arcs_of}
 use Rattle.fp_flatnet.proofs.Walks.{IsLeastWalk, least-apart}
 
 -- legs along a walk: the first leaves when ready, each next one a step after the one before

@@ -1,5 +1,5 @@
 -- Direct routes are walks of least time, driven at once, so they carry shipments that are in time.
-use Rattle.std.proofs.Common.{◌≡◌, ◌≢◌, ℕ, suc, ◌+◌, ◌<◌, ◌≤◌, List, [], ◌∷◌, ◌++◌, length, refl, sym, ap, ap₂, ◌∙◌, subst, arith}
+use Rattle.std.proofs.Common.{◌≡◌, ◌≢◌, ℕ, suc, ◌+◌, ◌<◌, List, [], ◌∷◌, ◌++◌, length, refl, sym, ap, ap₂, subst, arith}
 use Rattle.std.specs.Prelude.{slice_index_or}
 use Rattle.std.specs.List.{AllZip}
 use Rattle.fp_model.specs.declared.parts.Leg.{Leg}
@@ -7,13 +7,12 @@ use Rattle.fp_model.specs.declared.parts.Shipment.{Shipment}
 use Rattle.fp_model.specs.Numbered.{no_shipment}
 use Rattle.fp_model.specs.Plans.{IsPlan}
 use Rattle.fp_model.specs.Problem.{Problem, IsValid, IsShipment, arc_at}
-use Rattle.fp_model.specs.Routes.{Leads, Carries, walk_time, step, arcs_of}
-use Rattle.fp_model.specs.Times.{IsLeastTime}
+use Rattle.fp_model.specs.Routes.{Carries, walk_time, step, arcs_of}
 use Rattle.fp_flatnet.specs.Directs.{BeginsFirst, IsDirect, IsDirectRoute, IsDirectPlan}
 use Rattle.fp_flatnet.specs.Verdicts.{IsInTime, AllInTime}
 use Rattle.fp_flatnet.proofs.AtOnce.{at_once, carries-at_once}
 use Rattle.fp_flatnet.proofs.Onward.{begun-least}
-use Rattle.fp_flatnet.proofs.Walks.{IsLeastWalk, IsLeastTime-from_walk, IsLeastTime-unique, steps}
+use Rattle.fp_flatnet.proofs.Walks.{IsLeastWalk, IsLeastTime-from_walk, IsLeastTime-unique}
 
 -- a direct route goes along a least walk
 pub direct-least : (p : Problem) (there here ready : ℕ) (legs : List Leg) → IsValid p → IsDirectRoute p there here ready legs → IsLeastWalk p here there (arcs_of legs)

@@ -1,14 +1,10 @@
 -- The definitions on two arcs, from A to B in 4 and from B to C in 5, with a shipment from A to C and one from B to C that is due at 8.
-use Rattle.std.proofs.Common.{◌≡◌, ℕ, List, [], ◌∷◌, Some, None, refl, sym, ap, arith, lit≤}
+use Rattle.std.proofs.Common.{◌≡◌, ℕ, [], ◌∷◌, Some, None, refl, arith, lit≤}
 use Rattle.fp_model.specs.declared.parts.Arc.{Arc}
-use Rattle.fp_model.specs.declared.parts.Leg.{Leg}
 use Rattle.fp_model.specs.declared.parts.Shipment.{Shipment}
 use Rattle.fp_model.specs.Numbered.{shipment_at}
 use Rattle.fp_model.specs.Problem.{Problem}
-use Rattle.fp_model.specs.Routes.{Leads, walk_time}
 use Rattle.fp_model.specs.Times.{IsLeastTime}
-use Rattle.fp_timenodes.specs.declared.places.Place.{Place}
-use Rattle.fp_flatnet.specs.declared.window_tables.Window.{Window}
 use Rattle.fp_flatnet.specs.Initial.{initial_points}
 use Rattle.fp_flatnet.specs.Tables.{WindowTable, closed, narrowed, windows_in}
 use Rattle.fp_flatnet.specs.Windows.{IsWindow, time_before, time_after}

@@ -1,18 +1,18 @@
 -- The places of releases, due times and anchors give the initial points.
-use Rattle.std.proofs.Common.{◌≡◌, ℕ, ◌+◌, ◌≤◌, ◌<◌, true, false, List, [], ◌∷◌, ◌++◌, length, map, refl, sym, ap, ap₂, ◌∙◌, subst, arith}
-use Rattle.std.specs.Prelude.{Bool, filter, All, ◌==◌, if◌then◌else◌, slice_index_or}
+use Rattle.std.proofs.Common.{◌≡◌, ℕ, ◌≤◌, ◌<◌, true, false, List, [], ◌∷◌, ◌++◌, length, map, refl, sym, ap, ap₂, ◌∙◌, subst, arith, length-append}
+use Rattle.std.specs.Prelude.{Bool, filter, All, ◌==◌, if◌then◌else◌}
 use Rattle.std.proofs.lemmas.List.{get_or-map, length-map, map-append}
 use Rattle.std.proofs.lemmas.List.Elements.{All-append, filter-append}
 use Rattle.std.proofs.lemmas.List.Folds.{list_any-append}
 use Rattle.std.proofs.Math.Bool.{or_comm}
 use Rattle.fp_model.specs.declared.parts.Shipment.{Shipment}
 use Rattle.fp_model.specs.Numbered.{no_shipment}
-use Rattle.fp_model.specs.Problem.{Problem, IsValid}
+use Rattle.fp_model.specs.Problem.{Problem}
 use Rattle.fp_timenodes.specs.declared.places.Place.{Place}
 use Rattle.fp_timenodes.specs.Floor.{has_point}
-use Rattle.fp_timenodes.specs.Points.{IsPlace, TimePoints, points_at, times_at}
+use Rattle.fp_timenodes.specs.Points.{IsPlace, TimePoints, times_at}
 use Rattle.fp_flatnet.specs.Belonging.{BelongsTo}
-use Rattle.fp_flatnet.specs.Initial.{BeginAt, initial_points, releases_at, dues_at, release_place, due_place}
+use Rattle.fp_flatnet.specs.Initial.{BeginAt, releases_at, dues_at, release_place, due_place}
 use Rattle.fp_flatnet.specs.Tables.{WindowTable}
 
 -- the places that have a point from the start
@@ -87,3 +87,19 @@ pub made-begin : (p : Problem) (anchors places : List Place) (terminals : List (
 made-begin p anchors places terminals points same names made =
     let begun : List (List ℕ) → List Place → TimePoints = λ names xs. record { terminals = length names; first = xs; added = [] } in
     subst (λ (v : TimePoints). BeginAt p anchors v) (sym (made ∙ ap₂ begun names same)) (BeginAt-first_places p anchors)
+
+-- there are two places for each shipment, and the anchors
+pub made-few : (p : Problem) (table : WindowTable) (places : List Place) → BelongsTo p table → places ≡ first_places p table.anchors → length places ≤ 31000
+made-few p table places belongs same =
+    let ends : List Place = map release_place p.shipments ++ map due_place p.shipments in
+    let long : length places ≡ length (first_places p table.anchors) = ap (λ (xs : List Place). length xs) same in
+    omega (
+      arith,
+      long,
+      length-append ends table.anchors,
+      length-append (map release_place p.shipments) (map due_place p.shipments),
+      length-map p.shipments release_place,
+      length-map p.shipments due_place,
+      belongs.valid.few_shipments,
+      belongs.few_anchors,
+    )

@@ -1,20 +1,19 @@
 -- A plan exists exactly where each shipment is in time, and which shipment is blocked is certain.
-use Rattle.std.proofs.Common.{◌≡◌, ◌≢◌, ℕ, suc, ◌+◌, ◌*◌, ◌<◌, ◌≤◌, Some, None, Option, List, [], ◌∷◌, length, refl, sym, ap, ◌∙◌, subst, arith, ⊎_elim}
-use Rattle.std.specs.Prelude.{slice_index_or, All, IfSome}
+use Rattle.std.proofs.Common.{◌≡◌, ◌≢◌, ℕ, suc, ◌+◌, ◌*◌, ◌<◌, ◌≤◌, Some, None, Option, List, [], ◌∷◌, length, refl, sym, ap, subst, arith, ⊎_elim}
+use Rattle.std.specs.Prelude.{slice_index_or, IfSome}
 use Rattle.std.specs.List.{AllZip}
-use Rattle.std.proofs.Math.Nat.{mul-le-mul_left, le_of_mul-le-mul_left}
+use Rattle.std.proofs.Math.Nat.{le_of_mul-le-mul_left}
 use Rattle.std.proofs.lemmas.Bool.{cases_lt}
-use Rattle.std.proofs.lemmas.List.{get_or_default}
 use Rattle.fp_model.specs.declared.parts.Leg.{Leg}
 use Rattle.fp_model.specs.declared.parts.Shipment.{Shipment}
 use Rattle.fp_model.specs.Numbered.{no_shipment, shipment_at}
-use Rattle.fp_model.specs.Plans.{IsPlan, PlanExists}
-use Rattle.fp_model.specs.Problem.{Problem, IsValid, IsShipment, arc_at}
+use Rattle.fp_model.specs.Plans.{PlanExists}
+use Rattle.fp_model.specs.Problem.{Problem, IsValid, IsShipment}
 use Rattle.fp_model.specs.Routes.{Leads, LeavesReady, ArrivesBy, Carries, walk_time, step, arcs_of}
 use Rattle.fp_model.specs.Times.{IsLeastTime, IsDistance}
 use Rattle.fp_model.proofs.Places.{AllZip-places}
 use Rattle.fp_flatnet.specs.Verdicts.{IsInTime, AllInTime, IsBlocked}
-use Rattle.fp_flatnet.proofs.Walks.{IsLeastWalk, IsLeastWalk-from_time, IsLeastTime-unique}
+use Rattle.fp_flatnet.proofs.Walks.{IsLeastWalk-from_time, IsLeastTime-unique}
 use Rattle.fp_flatnet.proofs.AtOnce.{at_once, carries-at_once}
 
 -- a shipment in time can be carried

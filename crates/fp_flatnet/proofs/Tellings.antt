@@ -1,12 +1,12 @@
 -- What a fastest time tells of a shipment, and a loop over shipments of all of them.
-use Rattle.std.proofs.Common.{◌≡◌, ℕ, ◌+◌, ◌<◌, ◌≤◌, Some, None, Option, List, length, sym, ◌∙◌, ap, subst, arith, ⊎_elim}
+use Rattle.std.proofs.Common.{◌≡◌, ℕ, ◌+◌, ◌<◌, ◌≤◌, Some, None, Option, List, length, ◌∙◌, ap, subst, arith, ⊎_elim}
 use Rattle.std.specs.Prelude.{slice_index_or, IfSome, IsSomeAnd}
 use Rattle.std.proofs.lemmas.Bool.{cases_lt}
 use Rattle.std.proofs.lemmas.List.{get_or_default}
 use Rattle.fp_model.specs.declared.parts.Shipment.{Shipment}
 use Rattle.fp_model.specs.Numbered.{no_shipment, shipment_at}
 use Rattle.fp_model.specs.Problem.{Problem}
-use Rattle.fp_model.specs.Times.{IsDistance, IsFastest}
+use Rattle.fp_model.specs.Times.{IsFastest}
 use Rattle.fp_flatnet.specs.Verdicts.{IsInTime, AllInTime, IsBlocked}
 
 -- the shipment that a loop reads is the one with its number

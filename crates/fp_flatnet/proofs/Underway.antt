@@ -1,11 +1,11 @@
 -- A shipment that is underway along its direct route.
-use Rattle.std.proofs.Common.{◌≡◌, ◌≢◌, ℕ, ◌+◌, ◌<◌, ◌≤◌, Some, None, Option, List, [], ◌∷◌, ◌++◌, length, refl, sym, ap, ◌∙◌, subst, arith, append_assoc, append-nil}
-use Rattle.std.specs.Prelude.{slice_index_or, unwrap_or}
+use Rattle.std.proofs.Common.{◌≡◌, ◌≢◌, ℕ, ◌+◌, ◌<◌, ◌≤◌, Some, None, Option, List, [], ◌∷◌, ◌++◌, length, refl, arith, append_assoc, append-nil}
+use Rattle.std.specs.Prelude.{unwrap_or}
 use Rattle.fp_model.specs.declared.parts.Leg.{Leg}
 use Rattle.fp_model.specs.declared.parts.Shipment.{Shipment}
 use Rattle.fp_model.specs.Problem.{Problem, IsValid, IsShipment, arc_at}
 use Rattle.fp_model.specs.Routes.{Leads, walk_time, step}
-use Rattle.fp_model.specs.Times.{IsLeastTime, IsDistance}
+use Rattle.fp_model.specs.Times.{IsLeastTime}
 use Rattle.fp_flatnet.specs.Directs.{BeginsLeast, BeginsFirst, IsDirectRoute, IsFirstBelow}
 use Rattle.fp_flatnet.specs.Distances.{AreTimesTo, time_at}
 use Rattle.fp_flatnet.specs.Verdicts.{IsInTime}

@@ -1,5 +1,5 @@
 -- Whether all shipments can arrive in time, and if not, which is the first that cannot.
-use Rattle.std.specs.Prelude.{ℕ, ◌+◌, ◌≤◌, ◌<◌, List, length, All, Option, IfSome}
+use Rattle.std.specs.Prelude.{ℕ, ◌+◌, ◌≤◌, ◌<◌, length, All, Option, IfSome}
 use Rattle.fp_flatnet.specs.declared.verdicts.Verdict.{Verdict}
 use Rattle.fp_flatnet.specs.declared.verdicts.Verdict.TheVariants as verdict
 use Rattle.fp_model.specs.declared.parts.Shipment.{Shipment}

@@ -1,4 +1,4 @@
-ghost use Rattle.std.specs.Prelude.{◌≡◌, ◌++◌, [], map, IfOk};
+ghost use Rattle.std.specs.Prelude.{◌≡◌, ◌≤◌, ◌++◌, [], length, map, IfOk};
 ghost use Rattle.fp_flatnet.specs.Belonging.{BelongsTo};
 ghost use Rattle.fp_flatnet.specs.Initial.{BeginAt, due_place, release_place};
 
@@ -14,6 +14,7 @@ pub fn initial(alloc: Global, instance: &Instance, windows: &Windows) -> Result<
     requires { BelongsTo instance.now windows.now }
     ensures begins { IfOk result (BeginAt instance.now windows.now.anchors) }
     ensures unadded { IfOk result (λ points. points.added ≡ []) }
+    ensures few { IfOk result (λ points. length points.first ≤ 31000) }
 {
     let terminals = instance.terminals().len() as u32;
     let places = first_places(alloc, instance.shipments(), windows.anchors())?;

@@ -12,9 +12,13 @@ use fp_labels::Labels;
 use fp_model::{Instance, Shipment};
 use std::alloc::Global;
 
+// No least time is above this, in the input's unit: a walk of least time goes by each of at most 1,000 arcs at most once, and
+// no step is above 101,000.
+pub(crate) const LONGEST_TIME: u32 = 101_000_000;
+
 // The time of a walk with these steps, the last of which has this hold.
 fn without_hold(steps: Option<u128>, hold: u32) -> Option<u32>
-    requires { IfSome steps (λ n. (hold ≤ n) × (n ≤ 101000000)) }
+    requires { IfSome steps (λ n. (hold ≤ n) × (n ≤ LONGEST_TIME)) }
     ensures { result ≡ option_map (λ n. n - hold) steps }
 {
     steps.map(|steps| (steps - u128::from(hold)) as u32)

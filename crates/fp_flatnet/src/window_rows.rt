@@ -1,5 +1,5 @@
-ghost use Rattle.std.specs.Prelude.{◌≡◌, ◌<◌, ◌≤◌, length, IfOk};
-ghost use Rattle.fp_model.specs.Problem.{IsShipment, IsValid, arc_at};
+ghost use Rattle.std.specs.Prelude.{◌≡◌, ◌+◌, ◌<◌, ◌≤◌, length, IfOk};
+ghost use Rattle.fp_model.specs.Problem.{IsShipment, arc_at};
 ghost use Rattle.fp_model.specs.Times.{IsDistance};
 ghost use Rattle.fp_flatnet.specs.Distances.{AreTimesFrom, AreTimesTo};
 ghost use Rattle.fp_flatnet.specs.Tables.{rows_of};
@@ -7,7 +7,7 @@ ghost use Rattle.fp_flatnet.specs.Windows.{AreWindowRows, IsWindowOrNone, IsWind
 
 use crate::NoMemory;
 use crate::arc_graphs::{backward_graph, forward_graph};
-use crate::least_times::{times_from, times_to};
+use crate::least_times::{LONGEST_TIME, times_from, times_to};
 use crate::window_tables::Window;
 use fp_model::{Instance, Shipment};
 use std::alloc::Global;
@@ -15,9 +15,9 @@ use std::alloc::Global;
 // How long after its release a shipment can leave by an arc, where the least time to the arc's tail is known.
 fn time_before(instance: &Instance, shipment: &Shipment, number: u32, to_tail: u32) -> u32
     requires number { number < length instance.now.arcs }
-    requires small { to_tail ≤ 101000000 }
+    requires small { to_tail ≤ LONGEST_TIME }
     ensures value { result ≡ time_before_of instance.now shipment.now number to_tail }
-    ensures small { result ≤ 101001000 }
+    ensures small { result ≤ LONGEST_TIME + 1000 }
 {
     let tail = instance.arc(number).from;
     if tail == shipment.from {
@@ -29,9 +29,9 @@ fn time_before(instance: &Instance, shipment: &Shipment, number: u32, to_tail: u
 // The time of an arc and a walk onward to a terminal, where the least time from the arc's head is known.
 pub(crate) fn time_onward(instance: &Instance, there: u32, number: u32, from_head: u32) -> u32
     requires number { number < length instance.now.arcs }
-    requires small { from_head ≤ 101000000 }
+    requires small { from_head ≤ LONGEST_TIME }
     ensures value { result ≡ time_onward_of instance.now there number from_head }
-    ensures small { result ≤ 101101000 }
+    ensures small { result ≤ LONGEST_TIME + 101000 }
 {
     let arc = instance.arc(number);
     if arc.to == there {
@@ -70,12 +70,11 @@ fn window_of(
 }
 
 // The rows of all shipments' windows.
-pub(crate) fn window_rows(
+pub(crate) fn all_rows(
     alloc: Global,
     instance: &Instance,
 ) -> Result<Vec<Vec<Option<Window>>>, NoMemory>
-    ensures rows { IfOk result (λ rows. AreWindowRows instance.now (rows_of rows.items)) }
-    ensures valid { IfOk result (λ rows. IsValid instance.now) }
+    ensures { IfOk result (λ rows. AreWindowRows instance.now (rows_of rows.items)) }
 {
     let forward = forward_graph(alloc, instance)?;
     let backward = backward_graph(alloc, instance)?;

@@ -6,7 +6,7 @@ ghost use Rattle.fp_flatnet.specs.Windows.{AreWindows, CoverPlans};
 ghost use Rattle.fp_flatnet.specs.Tables.{AreFull, CanNarrow, closed, tail_of, narrowed, rows_of, windows_in, with_entry};
 
 use crate::NoMemory;
-use crate::window_rows::window_rows;
+use crate::window_rows::all_rows;
 use fp_model::{Arc, Instance};
 use fp_timenodes::Place;
 use std::alloc::Global;
@@ -61,7 +61,7 @@ impl Windows {
     {
         Ok(Windows {
             tails: tails_of(alloc, instance.arcs())?,
-            rows: window_rows(alloc, instance)?,
+            rows: all_rows(alloc, instance)?,
             anchors: Vec::new(alloc),
         })
     }

@@ -1,4 +1,4 @@
-use Rattle.std.proofs.Common.{◌<◌, length, ◌∙◌, arith}
+use Rattle.std.proofs.Common.{◌<◌, length, ◌∙◌}
 use Rattle.fp_flatnet.proofs.ArcTimes.{costs-more}
 use Rattle.fp_flatnet.proofs.arc_graphs.arc_costs.Goals as goal
 

@@ -1,8 +1,8 @@
-use Rattle.std.proofs.Common.{◌≡◌}
+use Rattle.std.proofs.Common.{◌≡◌, ◌≤◌, ◌∙◌, ap, length}
 use Rattle.std.proofs.lemmas.Result.{IfOk-weaker}
 use Rattle.fp_timenodes.specs.Points.{TimePoints}
 use Rattle.fp_flatnet.specs.Initial.{BeginAt}
-use Rattle.fp_flatnet.proofs.FirstPlaces.{first_places, made-are, made-begin}
+use Rattle.fp_flatnet.proofs.FirstPlaces.{first_places, made-are, made-begin, made-few}
 use Rattle.fp_flatnet.proofs.first_points.initial.Goals as goal
 
 pub new-requires : goal.new-requires
@@ -15,4 +15,12 @@ returns-clause-begins c =
     let made : c.deref.result.now ≡ first_places c.args.instance.now c.args.windows.now.anchors = cc (c.deref.ensures.value, c.in_ok-places.ensures, c.shipments.ensures.same, c.anchors.ensures) in
     IfOk-weaker c.new.result _ (BeginAt c.args.instance.now c.args.windows.now.anchors)
     (λ (points : TimePoints) is. made-begin c.args.instance.now c.args.windows.now.anchors c.deref.result.now c.terminals.result.now points made c.terminals.ensures.same is)
+    c.new.ensures
+
+pub returns-clause-few : goal.returns-clause-few
+returns-clause-few c =
+    let made : c.deref.result.now ≡ first_places c.args.instance.now c.args.windows.now.anchors = cc (c.deref.ensures.value, c.in_ok-places.ensures, c.shipments.ensures.same, c.anchors.ensures) in
+    IfOk-weaker c.new.result _ (λ (points : TimePoints). length points.first ≤ 31000)
+    (λ (points : TimePoints) is.
+    made-few c.args.instance.now c.args.windows.now points.first c.requires (ap (λ (v : TimePoints). v.first) is ∙ made))
     c.new.ensures

@@ -1,8 +1,7 @@
-use Rattle.std.proofs.Common.{◌≡◌, ℕ, ◌<◌, ◌≤◌, length, sym, ◌∙◌, arith, below_more}
+use Rattle.std.proofs.Common.{◌≡◌, ◌<◌, ◌≤◌, length, sym, ◌∙◌, below_more}
 use Rattle.std.proofs.lemmas.Bool.{false≢true}
-use Rattle.fp_model.specs.declared.parts.Shipment.{Shipment}
 use Rattle.fp_model.specs.Numbered.{shipment_at}
-use Rattle.fp_flatnet.specs.Verdicts.{IsInTime, AllInTime, IsBlocked}
+use Rattle.fp_flatnet.specs.Verdicts.{IsInTime, IsBlocked}
 use Rattle.fp_flatnet.proofs.InTime.{PlanExists-from_in_time, no_plan-blocked}
 use Rattle.fp_flatnet.proofs.Tellings.{AllInTime-from_each, arrives-at, blocked-at, shipment-read}
 use Rattle.fp_flatnet.proofs.verdicts.feasible.Goals as goal

@@ -1,5 +1,5 @@
-use Rattle.std.proofs.Common.{◌≡◌, ℕ, ◌<◌, None, length, arith}
-use Rattle.std.specs.Prelude.{Option, slice_index_or}
+use Rattle.std.proofs.Common.{◌≡◌, ℕ, None, length, arith}
+use Rattle.std.specs.Prelude.{Option}
 use Rattle.fp_flatnet.specs.declared.window_tables.Window.{Window}
 use Rattle.fp_flatnet.specs.Windows.{IsWindowOrNone}
 use Rattle.fp_flatnet.proofs.Pushes.{each_push}

@@ -1,4 +1,4 @@
-use Rattle.std.proofs.Common.{◌≡◌, ◌<◌, ℕ, length, None, vec_len}
+use Rattle.std.proofs.Common.{◌≡◌, ◌<◌, ℕ, None, vec_len}
 use Rattle.std.specs.Prelude.{slice_index_or}
 use Rattle.fp_flatnet.specs.Windows.{IsWindowOrNone}
 use Rattle.fp_flatnet.proofs.window_rows.window_row.Given as goal

@@ -1,8 +1,7 @@
-use Rattle.std.proofs.Common.{◌≡◌, ◌<◌, ◌∙◌, length, sym, ap, subst, arith, rules}
+use Rattle.std.proofs.Common.{◌≡◌, ◌<◌, length, sym, ap, subst, arith}
 use Rattle.std.proofs.lemmas.Grind.{common_steps}
-use Rattle.fp_model.specs.Problem.{Problem}
 use Rattle.fp_flatnet.specs.Belonging.{BelongsTo}
-use Rattle.fp_flatnet.specs.Tables.{WindowTable, closed, rows_of}
+use Rattle.fp_flatnet.specs.Tables.{WindowTable, rows_of}
 use Rattle.fp_flatnet.proofs.Belonging.{BelongsTo-closed}
 use Rattle.fp_flatnet.proofs.Entries.{full-rows, length-rows_of}
 use Rattle.fp_flatnet.proofs.window_tables.Windows.close.Goals as goal

@@ -1,14 +1,12 @@
-use Rattle.std.proofs.Common.{◌≡◌, ◌<◌, ◌++◌, [], ◌∷◌, Some, length, sym, ◌∙◌, ap, ap₂, subst, arith, List}
+use Rattle.std.proofs.Common.{◌≡◌, Some, sym, ◌∙◌, subst, arith}
 use Rattle.std.specs.Prelude.{slice_index, Option}
 use Rattle.std.proofs.lemmas.List.{get_or_default, with_items_is}
 use Rattle.std.proofs.lemmas.Grind.{common_steps}
 use Rattle.std.specs.declared.alloc.Global.{Global}
 use Rattle.std.specs.declared.vec.Vec.{Vec}
-use Rattle.fp_model.specs.Problem.{Problem}
-use Rattle.fp_timenodes.specs.declared.places.Place.{Place}
 use Rattle.fp_flatnet.specs.declared.window_tables.Window.{Window}
 use Rattle.fp_flatnet.specs.Belonging.{BelongsTo}
-use Rattle.fp_flatnet.specs.Tables.{WindowTable, CanNarrow, narrowed, rows_of, with_entry}
+use Rattle.fp_flatnet.specs.Tables.{WindowTable, CanNarrow, rows_of, with_entry}
 use Rattle.fp_flatnet.proofs.Belonging.{BelongsTo-narrowed}
 use Rattle.fp_flatnet.proofs.Entries.{can_narrow-exists, table_of}
 use Rattle.fp_flatnet.proofs.window_tables.Windows.narrow.Goals as goal
