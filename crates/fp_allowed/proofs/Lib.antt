@@ -1,0 +1,24 @@
+pub mod Meeting
+pub mod AllowedClasses
+pub mod PlanClasses
+pub mod ListedClasses
+pub mod RowClasses
+pub mod Narrowing
+pub mod RowBits
+pub mod Opening
+pub mod Filling
+pub mod ArcRows
+pub mod FilledRows
+pub mod Counting
+pub mod MomentRows
+pub mod Departing
+pub mod Dividing
+pub mod FirstBits
+pub mod ArcExits
+pub mod TerminalExits
+pub mod ForcedSteps
+pub mod Picking
+pub mod Parting
+pub mod Choosing
+pub mod Chosen
+mod Worked

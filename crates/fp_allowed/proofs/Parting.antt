@@ -1,0 +1,48 @@
+-- The middle allowed class of an arc, and a split that parts the allowed classes of a terminal.
+use Rattle.std.proofs.Common.{◌≡◌, ℕ, ◌+◌, ◌-◌, ◌<◌, Bool, true, List, length, get_or, refl, sym, ◌∙◌, arith}
+use Rattle.std.specs.Prelude.{unwrap_or, Option, Some, None}
+use Rattle.fp_longestarcs.specs.Networks.{IsNetwork, TimedNetwork, points_in, tail_in}
+use Rattle.fp_longestarcs.proofs.ClassNumbers.{tail-points}
+use Rattle.fp_allowed.specs.Bits.{bit_of, row_allows}
+use Rattle.fp_allowed.specs.Choices.{IsParted, OneAtMost}
+use Rattle.fp_allowed.specs.Leaving.{IsFirstSet, IsRange}
+use Rattle.fp_allowed.proofs.ArcExits.{class-of_bit, none_by, one_by}
+use Rattle.fp_allowed.proofs.ListedClasses.{class_by}
+
+-- a place after one where a bit is set, at which a bit is set
+pub record IsLater (row : List Bool) (first end n : ℕ) : Type 0 where
+  pub after : first < n
+  pub before : n < end
+  pub set : bit_of row n ≡ true
+
+pub later_or : (row : List Bool) (first end from second : ℕ) (o : Option ℕ) → IsLater row first end second → first < from → IsFirstSet row from end o → IsLater row first end (unwrap_or o second)
+later_or row first end from second None later after none = later
+later_or row first end from second (Some n) later after is = record { after = omega (arith, after, is.0); before = is.1; set = is.2 }
+
+module _ (net : TimedNetwork) (row : List Bool) (arc start end : ℕ) (valid : IsNetwork net) (exists : arc < length net.tails) (range : IsRange net arc start end) where
+  pub none_at_most : IsFirstSet row start end None → OneAtMost (row_allows net row) (λ c. c.arc ≡ arc)
+  none_at_most none c e one two = absurd (none_by net row arc start end valid exists range none c one)
+
+  pub one_at_most : (first : ℕ) → IsFirstSet row start end (Some first) → IsFirstSet row (first + 1) end None → OneAtMost (row_allows net row) (λ c. c.arc ≡ arc)
+  one_at_most first is none c e one two =
+      let tells = one_by net row arc start end valid exists range first is none in
+      tells.4 c one ∙ sym (tells.4 e two)
+
+  -- the point of a later allowed class parts it from the first one
+  pub parted_at : (first n tail : ℕ) → IsFirstSet row start end (Some first) → IsLater row first end n → tail ≡ tail_in net arc →
+      IsParted (row_allows net row) (λ c. c.arc ≡ arc) (get_or (points_in net tail) (n - start) 0)
+  parted_at first n tail is later leaves =
+      let qs : List ℕ = points_in net (tail_in net arc) in
+      let one = class-of_bit net row arc start end valid exists range first is.0 is.1 is.2 in
+      let two = class-of_bit net row arc start end valid exists range n (omega (arith, is.0, later.after)) later.before later.set in
+      let inside : n - start < length qs = omega (arith, later.before, range.begins, range.ends, is.0, later.after) in
+      let order : get_or qs (first - start) 0 < get_or qs (n - start) 0 =
+      (tail-points net arc valid exists).ascending (first - start) (n - start) 0 (omega (arith, is.0, later.after)) inside in
+      rw leaves (record {
+        one = class_by net arc (first - start);
+        two = class_by net arc (n - start);
+        one_leaves = one.0;
+        two_leaves = two.0;
+        before = order;
+        from = refl;
+      })

@@ -1,0 +1,8 @@
+use Rattle.std.proofs.Common.{◌≡◌, ◌<◌}
+use Rattle.fp_allowed.specs.Allowed.{tails_of}
+use Rattle.fp_allowed.specs.Bits.{row_allows}
+use Rattle.fp_allowed.specs.Leaving.{Tells}
+use Rattle.fp_allowed.proofs.exits.leaving_from.Given as goal
+
+abbrev pub invariant-loop-arc : goal.invariant-loop-arc
+invariant-loop-arc l = Tells l.network (row_allows l.network l.row) (λ c. (c.arc < l.arc) × (tails_of l.instance c.arc ≡ l.terminal)) l.leaving

@@ -1,0 +1,11 @@
+pub mod Allowed
+pub mod Walks
+pub mod Listing
+pub mod Settings
+pub mod Bits
+pub mod ForcedChains
+pub mod Chains
+pub mod Departures
+pub mod Moments
+pub mod Leaving
+pub mod Choices

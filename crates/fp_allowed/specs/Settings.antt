@@ -1,0 +1,17 @@
+-- What decides which classes are allowed.
+use Rattle.fp_model.specs.Problem.{Problem}
+use Rattle.fp_flatnet.specs.Belonging.{BelongsTo}
+use Rattle.fp_flatnet.specs.Tables.{WindowTable}
+use Rattle.fp_longestarcs.specs.Networks.{TimedNetwork}
+use Rattle.fp_longestarcs.specs.Whole.{IsWhole}
+
+-- an instance, windows and a network
+pub record Setting : Type 0 where
+  pub problem : Problem
+  pub windows : WindowTable
+  pub network : TimedNetwork
+
+-- the windows belong to the instance, and the network is whole for it
+pub record IsSetting (s : Setting) : Type 0 where
+  pub belongs : BelongsTo s.problem s.windows
+  pub whole : IsWhole s.problem s.network

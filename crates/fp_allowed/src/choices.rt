@@ -1,0 +1,157 @@
+ghost use Rattle.std.specs.Prelude.{ℕ, ◌≡◌, ◌<◌, ◌≤◌, ◌≢◌, true, false, IfSome, IsNone, MatchBool, MatchOption, length};
+ghost use Rattle.fp_model.specs.declared.parts.Leg.{Leg};
+ghost use Rattle.fp_flatnet.specs.Belonging.{BelongsTo};
+ghost use Rattle.fp_longestarcs.specs.Networks.{IsNetwork, class_count, tail_in};
+ghost use Rattle.fp_longestarcs.specs.Whole.{IsWhole};
+ghost use Rattle.fp_allowed.specs.Allowed.{tails_of};
+ghost use Rattle.fp_allowed.specs.Bits.{bit_of, row_allows};
+ghost use Rattle.fp_allowed.specs.Choices.{IsBetter, IsParted, OneAtMost, PartsClasses, Picks};
+ghost use Rattle.fp_allowed.specs.Leaving.{OneLeaves};
+
+use crate::exits::{class_range, first_set};
+use fp_flatnet::Windows;
+use fp_longestarcs::Network;
+use fp_model::Instance;
+use fp_rows::Row;
+use fp_tree::Split;
+
+/// An arc with allowed classes, and whether it is the only one that leaves its terminal and has some.
+#[derive(Clone, Copy)]
+pub struct Pick {
+    pub arc: u32,
+    pub alone: bool,
+}
+
+// The last moment of a shipment's window for an arc, 0 where there is no window.
+fn last_moment(windows: &Windows, shipment: u32, arc: u32) -> u32
+    requires shipment { shipment < length windows.now.rows }
+    requires arc { arc < length windows.now.tails }
+{
+    match windows.window(shipment, arc) {
+        Some((_, last)) => last,
+        None => 0,
+    }
+}
+
+// One more arc, or the one picked before where its window does not end earlier.
+fn better(windows: &Windows, shipment: u32, found: Option<Pick>, arc: u32) -> Pick
+    requires shipment { shipment < length windows.now.rows }
+    requires arc { arc < length windows.now.tails }
+    requires found { IfSome found (λ old. old.arc < length windows.now.tails) }
+    ensures { IsBetter found arc result }
+{
+    match found {
+        None => Pick { arc, alone: true },
+        Some(old) => {
+            let later = last_moment(windows, shipment, old.arc)
+                < last_moment(windows, shipment, arc);
+            Pick {
+                arc: if later { arc } else { old.arc },
+                alone: false,
+            }
+        }
+    }
+}
+
+// Whether an arc has an allowed class.
+fn has_allowed(network: &Network, arc: u32, tail: u32, row: &Row) -> bool
+    requires valid { IsNetwork network.now }
+    requires arc { arc < length network.now.tails }
+    requires tail { tail ≡ tail_in network.now arc }
+    requires long { length row.now ≡ class_count network.now }
+    ensures { MatchBool result ((c : Leg) × OneLeaves (row_allows network.now row.now) (λ k. k.arc ≡ arc) c)
+        ((c : Leg) → OneLeaves (row_allows network.now row.now) (λ k. k.arc ≡ arc) c → ⊥) }
+{
+    let (start, end) = class_range(network, arc, tail);
+    first_set(row, start, end).is_some()
+}
+
+// Of the arcs that leave a terminal and have allowed classes the one whose window ends last.
+fn picked_arc(
+    instance: &Instance,
+    windows: &Windows,
+    network: &Network,
+    shipment: u32,
+    row: &Row,
+    terminal: u32,
+) -> Option<Pick>
+    requires shipment { shipment < length instance.now.shipments }
+    requires belongs { BelongsTo instance.now windows.now }
+    requires whole { IsWhole instance.now network.now }
+    requires long { length row.now ≡ class_count network.now }
+    ensures { Picks (row_allows network.now row.now) (λ c. tails_of instance.now c.arc ≡ terminal) result }
+{
+    let mut found = None;
+    for arc in 0..instance.arcs().len() as u32 {
+        if instance.arc(arc).from == terminal && has_allowed(network, arc, terminal, row) {
+            found = Some(better(windows, shipment, found, arc));
+        }
+    }
+    found
+}
+
+// The last bit that is set in a range whose first bit is.
+fn last_set(row: &Row, first: u32, to: u32) -> u32
+    requires some { first < to }
+    requires within { to ≤ length row.now }
+    requires set { bit_of row.now first ≡ true }
+    ensures from { first ≤ result }
+    ensures to { result < to }
+    ensures set { bit_of row.now result ≡ true }
+{
+    let mut last = first;
+    for place in first + 1..to {
+        if row.get(place) {
+            last = place;
+        }
+    }
+    last
+}
+
+// The point of the middle allowed class of an arc, where it has two or more.
+fn middle_point(network: &Network, arc: u32, tail: u32, row: &Row) -> Option<u32>
+    requires valid { IsNetwork network.now }
+    requires arc { arc < length network.now.tails }
+    requires tail { tail ≡ tail_in network.now arc }
+    requires long { length row.now ≡ class_count network.now }
+    ensures { MatchOption result (OneAtMost (row_allows network.now row.now) (λ c. c.arc ≡ arc))
+        (IsParted (row_allows network.now row.now) (λ c. c.arc ≡ arc)) }
+{
+    let (start, end) = class_range(network, arc, tail);
+    let first = first_set(row, start, end)?;
+    let second = first_set(row, first + 1, end)?;
+    let last = last_set(row, second, end);
+    let middle = first_set(row, first + (last - first + 1) / 2, end).unwrap_or(second);
+    Some(network.points(tail)[(middle - start) as usize])
+}
+
+// A split of a shipment at a terminal that parts the allowed classes that leave it, where there are two or more.
+pub(crate) fn parting_split(
+    instance: &Instance,
+    windows: &Windows,
+    network: &Network,
+    shipment: u32,
+    row: &Row,
+    terminal: u32,
+) -> Option<Split>
+    requires shipment { shipment < length instance.now.shipments }
+    requires belongs { BelongsTo instance.now windows.now }
+    requires whole { IsWhole instance.now network.now }
+    requires long { length row.now ≡ class_count network.now }
+    ensures { MatchOption result (OneAtMost (row_allows network.now row.now) (λ c. tails_of instance.now c.arc ≡ terminal))
+        (PartsClasses instance.now (row_allows network.now row.now) shipment terminal) }
+{
+    let pick = picked_arc(instance, windows, network, shipment, row, terminal)?;
+    if !pick.alone {
+        return Some(Split::ByArc {
+            shipment,
+            arc: pick.arc,
+        });
+    }
+    let at = middle_point(network, pick.arc, terminal, row)?;
+    Some(Split::ByTime {
+        shipment,
+        terminal,
+        at,
+    })
+}

@@ -1,0 +1,126 @@
+ghost use Rattle.std.specs.Prelude.{◌≡◌, ◌<◌, List, IfOk, IfSome, IsNone, IsSome, length};
+ghost use Rattle.fp_model.specs.Numbered.{shipment_at};
+ghost use Rattle.fp_flatnet.specs.Belonging.{BelongsTo};
+ghost use Rattle.fp_flatnet.specs.Tables.{windows_in};
+ghost use Rattle.fp_longestarcs.specs.Networks.{class_count};
+ghost use Rattle.fp_longestarcs.specs.Whole.{IsWhole};
+ghost use Rattle.fp_tree.specs.declared.sides.Side.{Side};
+ghost use Rattle.fp_allowed.specs.Allowed.{tails_of};
+ghost use Rattle.fp_allowed.specs.Bits.{AllowsPlans, IsRowUnder, allowed_in};
+ghost use Rattle.fp_allowed.specs.Chains.{IsForced, SeveralLeave};
+ghost use Rattle.fp_allowed.specs.Choices.{OneAtMost};
+ghost use Rattle.fp_allowed.specs.Departures.{DividesDepartures, IsSplitAt};
+ghost use Rattle.fp_allowed.specs.Settings.{IsSetting};
+
+use crate::NoMemory;
+use crate::allowed_rows::allowed_row;
+use crate::chain_ends::Chain;
+use crate::choices::parting_split;
+use crate::forced_chains::forced_chain;
+use fp_flatnet::Windows;
+use fp_longestarcs::Network;
+use fp_model::Instance;
+use fp_rows::Row;
+use fp_tree::{Side, Split};
+use std::alloc::Global;
+use std::marker::Model;
+
+/// An instance, windows that belong to it, and a network that is whole for it: they decide which classes a shipment may
+/// use under sides.
+///
+/// Contracts see the three as one record. A row has one bit per class of the network, at the class's number.
+#[derive(Drop)]
+pub struct Allowed<'a> {
+    instance: &'a Instance,
+    windows: &'a Windows,
+    network: &'a Network,
+}
+
+impl<'a> Model for Allowed<'a> {
+    ghost use Rattle.fp_allowed.specs.Settings.{Setting, IsSetting};
+
+    ghost Value = { Setting };
+
+    ghost view = { λ a. record { problem = a.instance.now; windows = a.windows.now; network = a.network.now } };
+
+    ghost invariant = { λ a. IsSetting (record { problem = a.instance.now; windows = a.windows.now; network = a.network.now }) };
+}
+
+impl<'a> Allowed<'a> {
+    /// The three together. Takes no memory.
+    pub fn new(instance: &'a Instance, windows: &'a Windows, network: &'a Network) -> Allowed<'a>
+        requires belongs { BelongsTo instance.now windows.now }
+        requires whole { IsWhole instance.now network.now }
+        ensures { result ≡ record { problem = instance.now; windows = windows.now; network = network.now } }
+    {
+        Allowed {
+            instance,
+            windows,
+            network,
+        }
+    }
+
+    /// The row of a shipment under sides: one bit per class, set exactly where the class has a whole moment inside the
+    /// shipment's window for the arc that no side forbids. The sides of other shipments ask nothing of it.
+    ///
+    /// So for every plan over any denominator that lies within the windows and obeys the sides, the classes of the
+    /// shipment's legs are set, and each stands at or after the head of the one before. `NoMemory` where memory is
+    /// wanting.
+    pub fn row(&self, alloc: Global, shipment: u32, sides: &[Side]) -> Result<Row, NoMemory>
+        requires { shipment < length self.now.problem.shipments }
+        ensures exact { IfOk result (IsRowUnder self.now sides.now shipment) }
+        ensures plans { IfOk result (AllowsPlans self.now sides.now shipment) }
+    {
+        allowed_row(
+            alloc,
+            self.instance,
+            self.windows,
+            self.network,
+            shipment,
+            sides,
+        )
+    }
+
+    /// The forced chain of a shipment under a row of its, and how it ends.
+    ///
+    /// From the origin, while the terminal isn't the destination, wasn't met before and has exactly one allowed class,
+    /// that class is taken and followed to its arc's head. `row` has one bit per class; the promise is for each list of
+    /// sides under which it is the shipment's row. `NoMemory` where memory is wanting.
+    pub fn forced(&self, alloc: Global, shipment: u32, row: &Row) -> Result<Chain, NoMemory>
+        requires shipment { shipment < length self.now.problem.shipments }
+        requires row { length row.now ≡ class_count self.now.network }
+        ensures { (sides : List Side) → IsRowUnder self.now sides shipment row.now →
+            IfOk result (IsForced self.now.problem self.now.network (allowed_in self.now sides shipment) (shipment_at self.now.problem shipment)) }
+    {
+        forced_chain(alloc, self.instance, self.network, shipment, row)
+    }
+
+    /// A split of a shipment at a terminal, under a row of its, that leaves something on both sides. `None` exactly where
+    /// fewer than two allowed classes leave the terminal.
+    ///
+    /// Where several arcs with allowed classes leave the terminal, it is by the arc whose window ends last, the least
+    /// number at a tie. Where one does, it is by the point of the middle one of its allowed classes. `row` has one bit
+    /// per class. For each list of sides under which it is the shipment's row, each side of the split, added to that
+    /// list, leaves the shipment some departures at the terminal, and together they leave those that the list alone
+    /// leaves. Takes no memory.
+    pub fn choice(&self, shipment: u32, row: &Row, terminal: u32) -> Option<Split>
+        requires shipment { shipment < length self.now.problem.shipments }
+        requires row { length row.now ≡ class_count self.now.network }
+        ensures none { (sides : List Side) → IsRowUnder self.now sides shipment row.now → IsNone result →
+            OneAtMost (allowed_in self.now sides shipment) (λ c. tails_of self.now.problem c.arc ≡ terminal) }
+        ensures several { (sides : List Side) → IsRowUnder self.now sides shipment row.now → IsSome result →
+            SeveralLeave self.now.problem (allowed_in self.now sides shipment) terminal }
+        ensures at { IfSome result (IsSplitAt self.now.problem shipment terminal) }
+        ensures divides { (sides : List Side) → IsRowUnder self.now sides shipment row.now →
+            IfSome result (DividesDepartures self.now.problem (windows_in self.now.windows) sides shipment terminal) }
+    {
+        parting_split(
+            self.instance,
+            self.windows,
+            self.network,
+            shipment,
+            row,
+            terminal,
+        )
+    }
+}
