@@ -1,7 +1,7 @@
 #!/usr/bin/env python3
 """How the largest time-expanded network is built, and lengthened a thousand times.
 
-100 terminals, 62,000 points, 1,000 arcs, which makes some 620,000 classes. Prints seconds; the program is compiled with
+100 terminals, 62,000 points, 1,000 arcs, which makes some 620,000 classes. Prints the time and what its points and heads take; the program is compiled with
 the checks of `rt try`, so a proved build is faster.
 """
 from kit import run
@@ -53,7 +53,12 @@ fn main(rt: HostRuntime) -> Result<(), anyhow::Error> {
         place += 101;
     }
     let changed = start.elapsed(&rt)?.as_millis();
-    println!(rt; "{} classes: built in {built} ms, lengthened 1,000 times in {changed} ms", network.classes())?;
+    let mut kept = 0usize;
+    for terminal in 0..100u32 {
+        kept += network.points(terminal).len();
+    }
+    let kilobytes = 4 * (kept + network.classes() as usize) / 1024;
+    println!(rt; "{} classes: built in {built} ms, lengthened 1,000 times in {changed} ms, {kilobytes} kB of points and heads", network.classes())?;
     Ok(())
 }
 """
