@@ -19,8 +19,8 @@ pub struct Arc {
     pub freight: u64,
 }
 
-/// What has to go, unsplit, from the terminal `from` to the terminal `to` (a commodity of the
-/// paper).
+/// What has to go, unsplit, from the terminal `from` to the terminal `to` (a commodity of Boland,
+/// Hewitt, Marshall and Savelsbergh 2017, section 2).
 ///
 /// `size` is 1 to 10^18. It can leave at `release` or later, and must have arrived by `due`, with
 /// `release <= due <= 100,000`.
