@@ -1,0 +1,4 @@
+pub mod Shares
+pub mod Prices
+pub mod Leaves
+pub mod Tables
