@@ -1,0 +1,2 @@
+pub mod SetPrices
+pub mod TakenByClasses
