@@ -1,2 +1,5 @@
 pub mod SetPrices
 pub mod TakenByClasses
+pub mod Users
+pub mod ForcedClasses
+pub mod ClassPrices
