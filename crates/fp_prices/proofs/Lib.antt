@@ -3,3 +3,6 @@ pub mod TakenByClasses
 pub mod Users
 pub mod ForcedClasses
 pub mod ClassPrices
+pub mod LeafSums
+pub mod WalkClasses
+pub mod PlanBounds
