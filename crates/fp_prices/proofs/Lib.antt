@@ -6,3 +6,4 @@ pub mod ClassPrices
 pub mod LeafSums
 pub mod WalkClasses
 pub mod PlanBounds
+pub mod OneValue

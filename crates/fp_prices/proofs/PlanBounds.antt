@@ -101,7 +101,4 @@ bounds-plans p windows points sides tables kind forced (Empty shipment) valid ke
 bounds-plans p windows points sides tables kind forced (Value value) valid keep is = leaf-bounds p windows points sides tables kind forced value valid keep is
 
 pub leaves-bound-plans : LeavesBoundPlans
-leaves-bound-plans = record {
-  value = leaf-bounds;
-  empty = λ p windows points sides valid. leaf-empty p windows points sides;
-}
+leaves-bound-plans = record { value = leaf-bounds; empty = leaf-empty }

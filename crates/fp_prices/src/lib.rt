@@ -7,10 +7,12 @@
 #![tactic(auto)]
 
 mod bounds;
+mod laws;
 mod leaf_prices;
 mod tables;
 
 pub use bounds::LeafBound;
+pub use laws::{leaves_bound_plans, leaves_have_one_value};
 pub use leaf_prices::{Kind, LeafPrice};
 pub use tables::{Share, Table, TableFault, Weight};
 
