@@ -7,3 +7,5 @@ pub mod LeafSums
 pub mod WalkClasses
 pub mod PlanBounds
 pub mod OneValue
+pub mod SmallPrices
+pub mod SmallBounds
