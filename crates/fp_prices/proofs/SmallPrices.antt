@@ -1,6 +1,6 @@
 -- The price of an allowed class for a shipment is at most what its trucks would cost the shipment alone, so the least costs stay small.
-use Rattle.std.proofs.Common.{◌≡◌, ℕ, zero, suc, ◌+◌, ◌*◌, ◌<◌, ◌≤◌, Bool, true, false, List, [], ◌∷◌, length, ⊎_elim, sym, subst, refl, arith, le_trans}
-use Rattle.std.specs.Prelude.{sum_by, slice_index_or, Option, if◌then◌else◌}
+use Rattle.std.proofs.Common.{◌≡◌, ℕ, zero, suc, ◌+◌, ◌*◌, ◌<◌, ◌≤◌, Bool, true, false, List, [], ◌∷◌, length, ⊎_elim, sym, subst, arith, le_trans}
+use Rattle.std.specs.Prelude.{sum_by, Option}
 use Rattle.std.specs.List.{AllByRecursion}
 use Rattle.std.proofs.lemmas.Bool.{cases_Bool, cond-true, cond-false}
 use Rattle.std.proofs.lemmas.List.Elements.{All-get_or}

@@ -1,7 +1,7 @@
 -- What a leaf of a search is worth: a number under which no plan costs that obeys the leaf's sides.
 -- The relaxation over a partially time-expanded network: Boland, Hewitt, Marshall and Savelsbergh, "The Continuous-Time Service
 -- Network Design Problem", Operations Research 65, 2017. Its bound by prices and forced classes is this project's own.
-use Rattle.std.specs.Prelude.{ℕ, ◌+◌, ◌*◌, ◌≤◌, ◌≡◌, ◌<◌, List, [], ◌∷◌, Bool, true, false, if◌then◌else◌, sum_by, length, Option}
+use Rattle.std.specs.Prelude.{ℕ, ◌+◌, ◌*◌, ◌≤◌, ◌≡◌, ◌<◌, List, [], Bool, true, false, if◌then◌else◌, sum_by, length, Option}
 use Rattle.fp_model.specs.declared.parts.Leg.{Leg}
 use Rattle.fp_model.specs.declared.parts.Shipment.{Shipment}
 use Rattle.fp_model.specs.Costs.{all_legs, cost, departures_cost, has_leg}
