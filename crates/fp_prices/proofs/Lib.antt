@@ -9,3 +9,4 @@ pub mod PlanBounds
 pub mod OneValue
 pub mod SmallPrices
 pub mod SmallBounds
+mod Worked
