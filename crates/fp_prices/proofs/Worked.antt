@@ -175,57 +175,66 @@ second_walks qs allowed at_b = record { leads = (lit< tt, refl, refl); allowed_a
 abbrev pays : List ℕ → List (List ClassShare) → Kind → ℕ → Leg → ℕ
 pays qs tables kind k c = leaf_price crossing tables (allows qs []) kind ([] ∷ [] ∷ []) k 4 c + crossing.scale * (arc_at crossing c.arc).freight * 4
 
+-- the value of a leaf where nothing is forced: what the classes of the two walks cost
+plain : (qs : List ℕ) (b : ℕ) (tables : List (List ClassShare)) (kind : Kind) → floor_point qs 1 4 ≤ b → AreTwo b (allows qs [] 0) → ((m : ℕ) → m ≤ 3 → floor_point qs 1 m ≡ 0) →
+    allows qs [] 0 (leg 0 0) ≡ true → allows qs [] 0 (leg 1 b) ≡ true → allows qs [] 1 (leg 1 0) ≡ true →
+    IsLeafValue crossing windows (points qs) [] tables kind false (pays qs tables kind 0 (leg 0 0) + pays qs tables kind 0 (leg 1 b) + pays qs tables kind 1 (leg 1 0))
+plain qs b tables kind follows two low at_a at_b second_at_b =
+    let first_pay : Leg → ℕ = pays qs tables kind 0 in
+    let second_pay : Leg → ℕ = pays qs tables kind 1 in
+    record {
+      chains = [] ∷ [] ∷ [];
+      costs = (first_pay (leg 0 0) + first_pay (leg 1 b)) ∷ second_pay (leg 1 0) ∷ [];
+      are_chains = (refl, (refl, tt));
+      are_least = (
+        record {
+          walk = leg 0 0 ∷ leg 1 b ∷ [];
+          timed = first_walks qs b (allows qs [] 0) follows at_a at_b;
+          cost = omega arith;
+          least = first_pays qs b (allows qs [] 0) first_pay two;
+        },
+        (
+          record {
+            walk = leg 1 0 ∷ [];
+            timed = second_walks qs (allows qs [] 1) second_at_b;
+            cost = omega arith;
+            least = second_pays qs (allows qs [] 1) second_pay (λ c. of_second qs [] c low);
+          },
+          tt,
+        ),
+      );
+      value_is = omega arith;
+    }
+
 -- the linear prices: 40 for each class and shipment, so 120 in all
 plain_linear : IsLeafValue crossing windows (points early) [] [] Linear false 120000000
-plain_linear = record {
-  chains = [] ∷ [] ∷ [];
-  costs = 80000000 ∷ 40000000 ∷ [];
-  are_chains = (refl, (refl, tt));
-  are_least = (
-    record {
-      walk = leg 0 0 ∷ leg 1 0 ∷ [];
-      timed = first_walks early 0 (allows early [] 0) (lit≤ tt) refl refl;
-      cost = refl;
-      least = first_pays early 0 (allows early [] 0) (pays early [] Linear 0) (of_first early []);
-    },
-    (
-      record {
-        walk = leg 1 0 ∷ [];
-        timed = second_walks early (allows early [] 1) refl;
-        cost = refl;
-        least = second_pays early (allows early [] 1) (pays early [] Linear 1) (λ c. of_second early [] c low_early);
-      },
-      tt,
-    ),
-  );
-  value_is = refl;
-}
+plain_linear = plain early 0 [] Linear (lit≤ tt) (of_first early []) low_early refl refl refl
 
--- the even prices: 100 for the class from A, and 50 for that from B, which both shipments may use
+-- the even prices: 100 for the class from A, and 50 for that from B for each of both shipments
 plain_even : IsLeafValue crossing windows (points early) [] [] Even false 200000000
-plain_even = record {
-  chains = [] ∷ [] ∷ [];
-  costs = 150000000 ∷ 50000000 ∷ [];
-  are_chains = (refl, (refl, tt));
-  are_least = (
-    record {
-      walk = leg 0 0 ∷ leg 1 0 ∷ [];
-      timed = first_walks early 0 (allows early [] 0) (lit≤ tt) refl refl;
-      cost = refl;
-      least = first_pays early 0 (allows early [] 0) (pays early [] Even 0) (of_first early []);
-    },
-    (
-      record {
-        walk = leg 1 0 ∷ [];
-        timed = second_walks early (allows early [] 1) refl;
-        cost = refl;
-        least = second_pays early (allows early [] 1) (pays early [] Even 1) (λ c. of_second early [] c low_early);
-      },
-      tt,
-    ),
-  );
-  value_is = refl;
-}
+plain_even = plain early 0 [] Even (lit≤ tt) (of_first early []) low_early refl refl refl
+
+-- with the point at 4 each class has one shipment, so they pay for three trucks
+later_even : IsLeafValue crossing windows (points later) [] [] Even false 300000000
+later_even = plain later 4 [] Even (lit≤ tt) (of_first later []) low_later refl refl refl
+
+-- a table by which the first shipment pays for the trucks from A and from B at 4, and the second for those from B at 0
+abbrev weighed : List ClassShare
+weighed =
+    (record { arc = 0; point = 0; v = 0; weights = (record { shipment = 0; w = 100000000 }) ∷ [] })
+    ∷ (record { arc = 1; point = 0; v = 0; weights = (record { shipment = 1; w = 100000000 }) ∷ [] })
+    ∷ (record { arc = 1; point = 4; v = 0; weights = (record { shipment = 0; w = 100000000 }) ∷ [] })
+    ∷ []
+
+keeps_rule : AllKeepRule crossing (weighed ∷ [])
+keeps_rule = ((lit≤ tt, (lit≤ tt, (lit≤ tt, tt))), tt)
+
+later_weighed : IsLeafValue crossing windows (points later) [] (weighed ∷ []) (Table 1) false 300000000
+later_weighed = plain later 4 (weighed ∷ []) (Table 1) (lit≤ tt) (of_first later []) low_later refl refl refl
+
+-- at the round 0 the first shipment has no weight for the class from B
+early_weighed : IsLeafValue crossing windows (points early) [] (weighed ∷ []) (Table 1) false 200000000
+early_weighed = plain early 0 (weighed ∷ []) (Table 1) (lit≤ tt) (of_first early []) low_early refl refl refl
 
 -- a leaf all of whose classes are forced costs its shipments nothing more
 free_first : (qs : List ℕ) (b : ℕ) (chains : List (List Leg)) → floor_point qs 1 4 ≤ b → allows qs [] 0 (leg 0 0) ≡ true → allows qs [] 0 (leg 1 b) ≡ true →
@@ -267,3 +276,38 @@ forced_later =
       are_least = (free_first later 4 chains (lit≤ tt) refl refl refl, (free_second later chains refl refl, tt));
       value_is = refl;
     }
+
+-- without the arc from A the first shipment has no walk
+abbrev without : List Side
+without = Without 0 0 ∷ []
+
+empty : IsLeafEmpty crossing windows (points early) without
+empty = record { shipment = 0; exists = lit< tt; none = none }
+  where
+    none : (walk : List Leg) → IsTimedWalk crossing (points early) (allows early without 0) first walk → ⊥
+    none [] t = absurd (omega (arith, t.leads))
+    none (x ∷ walk) t =
+        let at_a : x ≡ leg 0 0 = from_a 0 (allows early without 0) (of_first early without) x t.allowed_all.0 t.leads.1 in
+        false≢true (subst (λ (l : Leg). allows early without 0 l ≡ true) at_a t.allowed_all.0)
+
+-- the instance is valid, so no plan within the windows costs less than 300
+valid : IsValid crossing
+valid = record {
+  few_terminals = lit≤ tt;
+  few_arcs = lit≤ tt;
+  few_shipments = lit≤ tt;
+  names = search rules;
+  arcs = search rules;
+  shipments = search rules;
+  terminals_differ = search rules;
+  arcs_differ = search rules;
+  shipments_differ = search rules;
+  weight = lit< tt;
+  one_each = refl;
+  holds = search rules;
+  scale = (lit≤ tt, lit≤ tt);
+  fits = lit< tt;
+}
+
+no_cheaper : (d : ℕ) (plan : List (List Leg)) → IsPlanOfLeaf crossing windows [] d plan → 300 ≤ cost crossing plan
+no_cheaper d plan of_leaf = omega (arith, leaf-bounds crossing windows (points later) [] [] Linear true 300000000 valid tt forced_later d plan of_leaf)
