@@ -6,6 +6,7 @@ pub mod ClassPrices
 pub mod LeafSums
 pub mod WalkClasses
 pub mod PlanBounds
+pub mod PlanLeaves
 pub mod OneValue
 pub mod SmallPrices
 pub mod SmallBounds
