@@ -18,9 +18,13 @@ pub enum Spent {
 #[derive(Clone, Copy, Debug, PartialEq, Eq)]
 pub enum Answer {
     /// The legs are a plan of this cost, and no more.
-    Direct { cost: u128 },
+    Direct {
+        cost: u128,
+    },
     /// The legs are a plan of this cost, and no plan costs less.
-    Optimal { cost: u128 },
+    Optimal {
+        cost: u128,
+    },
     /// The legs are a plan of this cost, no plan costs less than `bound`, and the search had spent what it was given.
     Unfinished {
         cost: u128,
@@ -29,7 +33,10 @@ pub enum Answer {
     },
     /// The shipment with this number can't be carried in time. `time` is the fastest time from its origin to its destination,
     /// in the input's unit, and `None` where it has no route.
-    Infeasible { shipment: u32, time: Option<u32> },
+    Infeasible {
+        shipment: u32,
+        time: Option<u32>,
+    },
 }
 
 /// A node of the tree of a search.

@@ -2,7 +2,7 @@
 use crate::certificates::Certificate;
 
 /// The groups of a certificate's lines, in the order in which they stand.
-#[derive(Clone, Copy, Debug, PartialEq, Eq)]
+#[derive(Clone, Copy)]
 pub enum Group {
     Answer,
     Scale,

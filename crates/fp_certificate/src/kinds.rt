@@ -1,7 +1,7 @@
 // The kinds of a certificate's lines.
 
 /// A kind of line.
-#[derive(Clone, Copy, Debug, PartialEq, Eq)]
+#[derive(Clone, Copy)]
 pub enum LineKind {
     /// `answer,direct,COST`
     Direct,
