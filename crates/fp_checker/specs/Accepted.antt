@@ -1,5 +1,5 @@
 -- When a certificate is accepted for an instance and its windows, part by part.
-use Rattle.std.specs.Prelude.{ℕ, ◌+◌, ◌<◌, ◌≤◌, List, Option, IfSome, ⊥}
+use Rattle.std.specs.Prelude.{ℕ, ◌+◌, ◌<◌, ◌≡◌, Option, IfSome}
 use Rattle.fp_model.specs.declared.parts.Shipment.{Shipment}
 use Rattle.fp_model.specs.Numbered.{shipment_at}
 use Rattle.fp_model.specs.Problem.{Problem}
@@ -15,25 +15,25 @@ use Rattle.fp_checker.specs.Points.{HasPoints}
 
 -- what a certificate is tested for, in this order
 pub data Part : Type 0 where
-  plan : Part
-  cost : Part
-  trucks : Part
-  points : Part
-  prices : Part
-  tree : Part
-  leaves : Part
-  infeasible : Part
+  Plan : Part
+  Cost : Part
+  Trucks : Part
+  Points : Part
+  Prices : Part
+  Tree : Part
+  Leaves : Part
+  Blocked : Part
 
 -- the number of a part
 abbrev pub part_number : Part → ℕ
-part_number Part.plan = 1
-part_number Part.cost = 2
-part_number Part.trucks = 3
-part_number Part.points = 4
-part_number Part.prices = 5
-part_number Part.tree = 6
-part_number Part.leaves = 7
-part_number Part.infeasible = 8
+part_number Part.Plan = 1
+part_number Part.Cost = 2
+part_number Part.Trucks = 3
+part_number Part.Points = 4
+part_number Part.Prices = 5
+part_number Part.Tree = 6
+part_number Part.Leaves = 7
+part_number Part.Blocked = 8
 
 -- what an answer claims that no plan costs less than, and 0 where it claims nothing of the kind
 abbrev pub claim_of : Answer → ℕ
@@ -54,25 +54,25 @@ IsBlockedAs p _ = ⊥
 
 -- which parts apply to an answer
 abbrev pub Applies : Answer → Part → Type 0
-Applies (Direct cost) Part.plan = Unit {0}
-Applies (Direct cost) Part.cost = Unit {0}
-Applies (Direct cost) Part.trucks = Unit {0}
+Applies (Direct cost) Part.Plan = Unit {0}
+Applies (Direct cost) Part.Cost = Unit {0}
+Applies (Direct cost) Part.Trucks = Unit {0}
 Applies (Direct cost) _ = ⊥
-Applies (Infeasible shipment time) Part.infeasible = Unit {0}
+Applies (Infeasible shipment time) Part.Blocked = Unit {0}
 Applies (Infeasible shipment time) _ = ⊥
-Applies _ Part.infeasible = ⊥
+Applies _ Part.Blocked = ⊥
 Applies _ _ = Unit {0}
 
 -- a part of a certificate holds
 abbrev pub Holds : Problem → WindowTable → Statement → Part → Type 0
-Holds p table c Part.plan = HasPlan p (windows_in table) c
-Holds p table c Part.cost = HasCost p c
-Holds p table c Part.trucks = HasTrucks p c
-Holds p table c Part.points = HasPoints p table.anchors c
-Holds p table c Part.prices = AreTables p c.tables
-Holds p table c Part.tree = HasTree p c
-Holds p table c Part.leaves = AreLeavesWorth p table c (claim_of c.answer)
-Holds p table c Part.infeasible = IsBlockedAs p c.answer
+Holds p table c Part.Plan = HasPlan p (windows_in table) c
+Holds p table c Part.Cost = HasCost p c
+Holds p table c Part.Trucks = HasTrucks p c
+Holds p table c Part.Points = HasPoints p table.anchors c
+Holds p table c Part.Prices = AreTables p c.tables
+Holds p table c Part.Tree = HasTree p c
+Holds p table c Part.Leaves = AreLeavesWorth p table c (claim_of c.answer)
+Holds p table c Part.Blocked = IsBlockedAs p c.answer
 
 -- a certificate is accepted where each part that applies to its answer holds
 abbrev pub IsAccepted : Problem → WindowTable → Statement → Type 0
@@ -81,7 +81,7 @@ IsAccepted p table c = (part : Part) → Applies c.answer part → Holds p table
 -- a part with this number is the first that applies and fails
 pub record IsFirstFailed (p : Problem) (table : WindowTable) (c : Statement) (number : ℕ) : Type 0 where
   pub part : Part
-  pub number : part_number part ≡ number
+  pub numbered : part_number part ≡ number
   pub applies : Applies c.answer part
   pub fails : Holds p table c part → ⊥
   pub before : (other : Part) → part_number other < number → Applies c.answer other → Holds p table c other
