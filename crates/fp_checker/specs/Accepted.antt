@@ -1,5 +1,5 @@
 -- When a certificate is accepted for an instance and its windows, part by part.
-use Rattle.std.specs.Prelude.{ℕ, ◌+◌, ◌<◌, ◌≡◌, Option, IfSome}
+use Rattle.std.specs.Prelude.{ℕ, ◌+◌, ◌<◌, ◌≤◌, ◌≡◌, Option, IfSome}
 use Rattle.fp_model.specs.declared.parts.Shipment.{Shipment}
 use Rattle.fp_model.specs.Numbered.{shipment_at}
 use Rattle.fp_model.specs.Problem.{Problem}
@@ -85,3 +85,24 @@ pub record IsFirstFailed (p : Problem) (table : WindowTable) (c : Statement) (nu
   pub applies : Applies c.answer part
   pub fails : Holds p table c part → ⊥
   pub before : (other : Part) → part_number other < number → Applies c.answer other → Holds p table c other
+
+-- all parts with lower numbers hold, whether they apply or not
+abbrev pub HoldBelow : Problem → WindowTable → Statement → ℕ → Type 0
+HoldBelow p table c number = (part : Part) → part_number part < number → Holds p table c part
+
+-- a part with this number fails, and all parts with lower numbers hold
+pub record IsFirstUnmet (p : Problem) (table : WindowTable) (c : Statement) (number : ℕ) : Type 0 where
+  pub part : Part
+  pub numbered : part_number part ≡ number
+  pub fails : Holds p table c part → ⊥
+  pub before : HoldBelow p table c number
+
+-- an answer comes with a plan
+abbrev pub TellsPlan : Answer → Type 0
+TellsPlan (Infeasible shipment time) = ⊥
+TellsPlan _ = Unit {0}
+
+-- why no plan is read: the answer comes with none, which is number 1, or the plan, its cost or its trucks fail, and this is the first
+abbrev pub IsPlanRejected : Problem → WindowTable → Statement → Answer → ℕ → Type 0
+IsPlanRejected p table c (Infeasible shipment time) number = number ≡ 1
+IsPlanRejected p table c _ number = (number ≤ 3) × IsFirstUnmet p table c number

@@ -4,8 +4,15 @@
 //! Operations Research 65, 2017. Certificates are this project's own.
 #![tactic(auto)]
 
+mod added_points;
+mod departures;
+mod fastest_times;
 mod laws;
+mod orders;
+mod plans;
+mod price_tables;
 mod rejections;
+mod trees;
 
 pub use laws::accepted_claims;
 pub use rejections::Rejected;

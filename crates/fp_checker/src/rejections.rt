@@ -25,6 +25,16 @@ pub enum Rejected {
     NoMemory,
 }
 
+// The numbers of the parts.
+pub(crate) const PLAN: u32 = 1;
+pub(crate) const COST: u32 = 2;
+pub(crate) const TRUCKS: u32 = 3;
+pub(crate) const POINTS: u32 = 4;
+pub(crate) const PRICES: u32 = 5;
+pub(crate) const TREE: u32 = 6;
+pub(crate) const LEAVES: u32 = 7;
+pub(crate) const BLOCKED: u32 = 8;
+
 impl From<NoMemory> for Rejected {
     ghost use Rattle.std.specs.Prelude.{◌≡◌};
     ghost use Rattle.fp_checker.specs.declared.rejections.Rejected.TheVariants as rejected;

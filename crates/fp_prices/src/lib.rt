@@ -9,10 +9,12 @@
 mod bounds;
 mod laws;
 mod leaf_prices;
+mod price_rule;
 mod tables;
 
 pub use bounds::LeafBound;
 pub use laws::{leaves_bound_plans, leaves_have_one_value};
+pub use price_rule::check_tables;
 pub use leaf_prices::{Kind, LeafPrice};
 pub use tables::{Share, Table, TableFault, Weight};
 
