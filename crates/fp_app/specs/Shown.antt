@@ -11,6 +11,8 @@ use Rattle.fp_app.specs.declared.shown.Status.TheVariants as status
 abbrev pub status_of : Shown → Status
 status_of (shown.Direct instance plan) = status.Done
 status_of (shown.Infeasible instance shipment time) = status.Infeasible
+status_of (shown.Accepted kind) = status.Done
+status_of (shown.RejectedPart number) = status.Rejected
 status_of shown.BadWords = status.BadWords
 status_of (shown.BadInput ordinal code) = status.BadInput
 status_of shown.TooLong = status.TooLong

@@ -1,0 +1,17 @@
+-- An instance and a certificate of an input, or why there are none.
+use Rattle.std.specs.Prelude.{ℕ, ◌≡◌, List, Some, Ok, ⊤}
+use Rattle.fp_certificate.specs.Ranges.{IsInRange}
+use Rattle.fp_app.specs.declared.checks.Given.{Given}
+use Rattle.fp_app.specs.declared.checks.Given.TheVariants.{Both, Fault}
+use Rattle.fp_app.specs.declared.words.Order.TheVariants.{Check}
+use Rattle.fp_app.specs.Inputs.{certificate_in, fault_in, given_before}
+
+-- they are those of the input, or the fault is its first
+abbrev pub AreGiven : List ℕ → Given → Type 0
+AreGiven input (Both p c) = (given_before input ≡ Ok p) × (certificate_in p input ≡ Ok c)
+AreGiven input (Fault ordinal code) = fault_in (Some Check) input ≡ Some (record { ordinal = ordinal; code = code })
+
+-- the certificate is in range for the instance
+abbrev pub AreInRange : Given → Type 0
+AreInRange (Both p c) = IsInRange p c
+AreInRange (Fault ordinal code) = ⊤
