@@ -36,7 +36,7 @@ IsLeafWorth p table c claim (node.Branch split) sides = ⊥
 IsLeafWorth p table c claim (node.Leaf price) sides =
     IsLeafEmpty p (windows_in table) (points_as_of p table.anchors c price.round) sides
     ⊎ ((value : ℕ) × IsLeafValue p (windows_in table) (points_as_of p table.anchors c price.round) sides c.tables price.kind price.forced value
-        × (claim ≤ div_ceil value p.scale))
+    × (claim ≤ div_ceil value p.scale))
 
 -- each leaf of the tree is worth the claim under the sides on its way from the root
 abbrev pub AreLeavesWorth : Problem → WindowTable → Statement → (claim : ℕ) → Type 0
