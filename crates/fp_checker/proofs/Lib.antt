@@ -8,3 +8,5 @@ pub mod ToldPlans
 pub mod DepartureLines
 pub mod TreeNodes
 pub mod SharesInOrder
+pub mod LeavesPassed
+pub mod FirstParts

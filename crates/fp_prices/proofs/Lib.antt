@@ -8,6 +8,7 @@ pub mod WalkClasses
 pub mod PlanBounds
 pub mod PlanLeaves
 pub mod OneValue
+pub mod SamePoints
 pub mod SmallPrices
 pub mod SmallBounds
 mod Worked
