@@ -42,6 +42,12 @@ no_share = record { arc = 0; point = 0; v = 0; weights = [] }
 abbrev pub share_at : List ClassShare → ℕ → ClassShare
 share_at table n = slice_index_or table n no_share
 
+-- the share with a number breaks the price rule, and all before it keep it
+pub record BreaksRule (p : Problem) (table : List ClassShare) (share : ℕ) : Type 0 where
+  pub exists : share < length table
+  pub broken : KeepsRule p.scale (arc_at p (share_at table share).arc) (share_at table share) → ⊥
+  pub before : All (λ (s : ClassShare). KeepsRule p.scale (arc_at p s.arc) s) (take share table)
+
 -- the share exists and breaks the price rule, and all those before it, in its table and in the tables before, keep it
 pub record IsFirstBroken (p : Problem) (tables : List (List ClassShare)) (fault : TableFault) : Type 0 where
   pub table : (1 ≤ fault.table) × (fault.table ≤ length tables)
