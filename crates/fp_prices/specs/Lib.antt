@@ -5,3 +5,4 @@ pub mod Tables
 pub mod Rates
 pub mod Rows
 pub mod ClassCosts
+pub mod Searches
