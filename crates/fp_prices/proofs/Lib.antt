@@ -1,2 +1,3 @@
 pub mod Searched
+pub mod CountedUsers
 pub mod SetBits

@@ -1,12 +1,17 @@
 -- Loops that go from one set bit of a row to the next.
-use Rattle.std.proofs.Common.{◌≡◌, ℕ, zero, suc, ◌+◌, ◌-◌, ◌<◌, ◌≤◌, Bool, true, false, List, [], ◌∷◌, length, get_or, set, ⊎_elim, ◌⊎◌, refl, sym, ap, ◌∙◌, subst, arith}
+use Rattle.std.proofs.Common.{◌≡◌, ℕ, zero, suc, ◌+◌, ◌-◌, ◌<◌, ◌≤◌, Bool, true, false, List, [], ◌∷◌, ◌++◌, length, get_or, set, take, ⊎_elim, ◌⊎◌, refl, sym, ap, ◌∙◌, subst, arith}
 use Rattle.std.specs.Prelude.{Option, Some, None, if◌then◌else◌}
 use Rattle.std.proofs.lemmas.Bool.{both_ways, cases_Bool, cases_lt, cases_order, cond-true, cond-false}
 use Rattle.std.proofs.lemmas.List.{get_or-set_other, get_or-set_same, get_or_past, length-set}
+use Rattle.std.proofs.Math.Seq.{take-append_seam}
 use Rattle.fp_rows.specs.Bits.{first_true_from}
 use Rattle.fp_allowed.specs.Bits.{bit_of}
 use Rattle.fp_allowed.specs.Leaving.{IsFirstSet}
 use Rattle.fp_allowed.proofs.FirstBits.{first_set_none, first_set_some}
+
+-- a vector whose items were lent whole has what was written
+pub whole_write : {X : Type 0} (n : ℕ) (xs ys : List X) → n ≡ length xs → take n (xs ++ ys) ≡ xs
+whole_write n xs ys same = ap (λ (m : ℕ). take m (xs ++ ys)) same ∙ take-append_seam xs ys
 
 -- a place is the first one from another on whose bit is set
 pub record IsNextSet (row : List Bool) (next place : ℕ) : Type 0 where
@@ -57,13 +62,13 @@ module _ {X : Type 0} (f : ℕ → X → X) (d : X) (row : List Bool) (old : Lis
         (read ∙ is ∙ sym (cond-true (bit_of row place) (f place (get_or old place d)) (get_or old place d) at.set_it)))
         (λ (apart : (n < place) ⊎ (place < n)).
         let other : n ≡ place → ⊥ = λ e. absurd (omega arith) in
-        get_or-set_other now place v n d other ∙
+        get_or-set_other now place n v d other ∙
         ⊎_elim
         (λ (early : n < next). so_far.below n early)
         (λ (late : next ≤ n). so_far.after n late ∙ sym (cond-false (bit_of row n) (f n (get_or old n d)) (get_or old n d) (at.between n late (omega arith))))
         (cases_lt n next))
         (cases_order n place);
-    after = λ n h. let other : n ≡ place → ⊥ = λ e. absurd (omega arith) in get_or-set_other now place v n d other ∙ so_far.after n (omega (arith, at.from));
+    after = λ n h. let other : n ≡ place → ⊥ = λ e. absurd (omega arith) in get_or-set_other now place n v d other ∙ so_far.after n (omega (arith, at.from));
   }
 
   -- all are, where no bit is set from the place on

@@ -1,5 +1,5 @@
 -- Rows of all shipments, and the users that they tell.
-use Rattle.std.specs.Prelude.{ℕ, ◌+◌, ◌≡◌, ◌<◌, List, [], Bool, length, slice_index_or, slice_index, if◌then◌else◌}
+use Rattle.std.specs.Prelude.{ℕ, ◌+◌, ◌≡◌, ◌<◌, List, [], Bool, length, slice_index_or, slice_index}
 use Rattle.fp_model.specs.declared.parts.Leg.{Leg}
 use Rattle.fp_model.specs.Problem.{Problem}
 use Rattle.fp_longestarcs.specs.Networks.{TimedNetwork, IsClass, class_count, class_number}
@@ -16,13 +16,9 @@ pub record AreRowsOf (net : TimedNetwork) (allowed : ℕ → Leg → Bool) (rows
   pub long : (k : ℕ) → k < length rows → length (row_at rows k) ≡ class_count net
   pub exact : (k : ℕ) (c : Leg) → k < length rows → IsClass net c → bit_of (row_at rows k) (class_number net c) ≡ allowed k c
 
--- a sum with a size more where the bit is set
-abbrev pub with_size : ℕ → ℕ → Bool → ℕ
-with_size size sum bit = sum + (if bit then size else 0)
-
--- for how many shipments each class is allowed, and their sizes in all
-pub record AreUsers (p : Problem) (net : TimedNetwork) (allowed : ℕ → Leg → Bool) (users : Users) : Type 0 where
+-- at each of so many classes, by its number, for how many shipments it is allowed, and their sizes in all
+pub record AreUsers (p : Problem) (net : TimedNetwork) (allowed : ℕ → Leg → Bool) (classes : ℕ) (users : Users) : Type 0 where
   pub counts : (c : Leg) → IsClass net c → slice_index users.counts.items (class_number net c) ≡ allowed_count (λ j. allowed j c) 0 p.shipments
   pub sizes : (c : Leg) → IsClass net c → slice_index users.sizes.items (class_number net c) ≡ allowed_size (λ j. allowed j c) 0 p.shipments
-  pub counts_long : length users.counts.items ≡ class_count net
-  pub sizes_long : length users.sizes.items ≡ class_count net
+  pub counts_long : length users.counts.items ≡ classes
+  pub sizes_long : length users.sizes.items ≡ classes

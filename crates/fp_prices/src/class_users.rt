@@ -1,8 +1,8 @@
-ghost use Rattle.std.specs.Prelude.{ℕ, ◌≡◌, ◌*◌, ◌<◌, ◌≤◌, ◌^◌, All, Bool, IfOk, length};
-ghost use Rattle.std.specs.Simd.Lanes.{zip2};
+ghost use Rattle.std.specs.Prelude.{ℕ, ◌≡◌, ◌+◌, ◌<◌, ◌≤◌, ◌^◌, All, Bool, IfOk, List, if◌then◌else◌, length, slice_index};
 ghost use Rattle.fp_model.specs.declared.parts.Leg.{Leg};
-ghost use Rattle.fp_longestarcs.specs.Networks.{TimedNetwork, class_count};
-ghost use Rattle.fp_prices.specs.Rows.{AreRowsOf, AreUsers, with_size};
+ghost use Rattle.fp_longestarcs.specs.Networks.{TimedNetwork};
+ghost use Rattle.fp_allowed.specs.Bits.{bit_of};
+ghost use Rattle.fp_prices.specs.Rows.{AreRowsOf, AreUsers};
 
 use crate::NoMemory;
 use fp_model::Instance;
@@ -18,9 +18,10 @@ pub(crate) struct Users {
 
 // Adds a size to those sums whose bits are set.
 fn add_size(sizes: &mut [u128], row: &Row, size: u64)
-    requires lengths { length sizes.old ≡ length row.now }
+    requires few { length row.now < 2 ^ 32 }
+    requires lengths { length row.now ≤ length sizes.old }
     requires room { All (λ sum. sum + size < 2 ^ 128) sizes.old }
-    ensures { sizes.new ≡ zip2 (with_size size) sizes.old row.now }
+    ensures { (n : ℕ) → slice_index sizes.new n ≡ slice_index sizes.old n + (if bit_of row.now n then size else 0) }
 {
     let mut next = 0;
     while let Some(class) = row.first_from(next) {
@@ -38,15 +39,15 @@ pub(crate) fn class_users(
     rows: &[Row],
 ) -> Result<Users, NoMemory>
     requires rows { length rows.now ≡ length instance.now.shipments }
-    requires long { All (λ row. length row ≡ classes) rows.now }
-    ensures { (net : TimedNetwork) (allowed : ℕ → Leg → Bool) → class_count net ≡ classes → AreRowsOf net allowed rows.now →
-        IfOk result (AreUsers instance.now net allowed) }
+    requires long { All (λ (row : List Bool). length row ≡ classes) rows.now }
+    ensures { (net : TimedNetwork) (allowed : ℕ → Leg → Bool) → AreRowsOf net allowed rows.now → IfOk result (AreUsers instance.now net allowed classes) }
 {
     let mut counts = vec![in alloc; 0; classes as usize]?;
     let mut sizes = vec![in alloc; 0; classes as usize]?;
-    for (shipment, row) in rows.iter().enumerate() {
+    for shipment in 0..instance.shipments().len() as u32 {
+        let row = &rows[shipment as usize];
         row.add_to(&mut counts);
-        add_size(&mut sizes, row, instance.shipment(shipment as u32).size);
+        add_size(&mut sizes, row, instance.shipment(shipment).size);
     }
     Ok(Users { counts, sizes })
 }
