@@ -1,7 +1,7 @@
 -- What a leaf of a search is worth: a number under which no plan costs that obeys the leaf's sides.
 -- The relaxation over a partially time-expanded network: Boland, Hewitt, Marshall and Savelsbergh, "The Continuous-Time Service
 -- Network Design Problem", Operations Research 65, 2017. Its bound by prices and forced classes is this project's own.
-use Rattle.std.specs.Prelude.{ℕ, ◌+◌, ◌*◌, ◌≤◌, ◌≡◌, ◌<◌, List, [], ◌∷◌, Bool, true, false, if◌then◌else◌, sum_by, length, Option}
+use Rattle.std.specs.Prelude.{ℕ, ◌+◌, ◌*◌, ◌≤◌, ◌≡◌, ◌<◌, List, [], Bool, true, false, if◌then◌else◌, sum_by, length, Option}
 use Rattle.fp_model.specs.declared.parts.Leg.{Leg}
 use Rattle.fp_model.specs.declared.parts.Shipment.{Shipment}
 use Rattle.fp_model.specs.Costs.{all_legs, cost, departures_cost, has_leg}
@@ -89,7 +89,7 @@ IsSmallBound p (Value value) = value ≤ p.scale * 65537 * alone_total p.arcs p.
 
 -- a leaf has one value only, whatever the windows, points, sides and prices, and none where it is empty
 pub record LeavesHaveOneValue : Type 0 where
-  pub one : (p : Problem) (windows : ℕ → ℕ → Option Window) (points : ℕ → List ℕ) (sides : List Side) (tables : List (List ClassShare)) (kind : Kind) (forced : Bool) (v w : ℕ) → IsValid p →
+  pub one : (p : Problem) (windows : ℕ → ℕ → Option Window) (points : ℕ → List ℕ) (sides : List Side) (tables : List (List ClassShare)) (kind : Kind) (forced : Bool) (v w : ℕ) →
       IsLeafValue p windows points sides tables kind forced v → IsLeafValue p windows points sides tables kind forced w → v ≡ w
   pub some : (p : Problem) (windows : ℕ → ℕ → Option Window) (points : ℕ → List ℕ) (sides : List Side) (tables : List (List ClassShare)) (kind : Kind) (forced : Bool) (v : ℕ) →
       IsLeafValue p windows points sides tables kind forced v → IsLeafEmpty p windows points sides → ⊥
@@ -98,5 +98,5 @@ pub record LeavesHaveOneValue : Type 0 where
 pub record LeavesBoundPlans : Type 0 where
   pub value : (p : Problem) (windows : ℕ → ℕ → Option Window) (points : ℕ → List ℕ) (sides : List Side) (tables : List (List ClassShare)) (kind : Kind) (forced : Bool) (v : ℕ) → IsValid p → AllKeepRule p tables →
       IsLeafValue p windows points sides tables kind forced v → (d : ℕ) (routes : List (List Leg)) → IsPlanOfLeaf p windows sides d routes → v ≤ p.scale * cost p routes
-  pub empty : (p : Problem) (windows : ℕ → ℕ → Option Window) (points : ℕ → List ℕ) (sides : List Side) → IsValid p →
+  pub empty : (p : Problem) (windows : ℕ → ℕ → Option Window) (points : ℕ → List ℕ) (sides : List Side) →
       IsLeafEmpty p windows points sides → (d : ℕ) (routes : List (List Leg)) → IsPlanOfLeaf p windows sides d routes → ⊥

@@ -11,6 +11,7 @@ mod bases;
 mod bounds;
 mod class_prices;
 mod class_users;
+mod laws;
 mod leaf_prices;
 mod price_rule;
 mod share_searches;
@@ -18,6 +19,7 @@ mod tables;
 
 
 pub use bounds::LeafBound;
+pub use laws::{leaves_bound_plans, leaves_have_one_value};
 pub use leaf_prices::{Kind, LeafPrice};
 pub use price_rule::check_tables;
 pub use tables::{Share, Table, TableFault, Weight};
