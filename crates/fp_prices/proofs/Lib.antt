@@ -1,4 +1,7 @@
 pub mod Searched
+pub mod NumberedClasses
+pub mod FilledCosts
+pub mod PricedClasses
 pub mod CountedUsers
 pub mod SetBits
 pub mod SetPrices

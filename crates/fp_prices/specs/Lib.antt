@@ -6,3 +6,4 @@ pub mod Rates
 pub mod Rows
 pub mod ClassCosts
 pub mod Searches
+pub mod Pricings

@@ -13,10 +13,11 @@ mod class_prices;
 mod class_users;
 mod laws;
 mod leaf_prices;
+mod leaf_rules;
 mod price_rule;
+mod share_prices;
 mod share_searches;
 mod tables;
-
 
 pub use bounds::LeafBound;
 pub use laws::{leaves_bound_plans, leaves_have_one_value};

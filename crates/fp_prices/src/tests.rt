@@ -1,5 +1,5 @@
 use crate::bases::ForcedClasses;
-use crate::class_prices::LeafPricing;
+use crate::leaf_rules::leaf_pricing;
 use crate::{Kind, NoMemory, Share, Table, TableFault, Weight, check_tables};
 use fp_allowed::Allowed;
 use fp_flatnet::{Windows, initial};
@@ -72,7 +72,7 @@ fn costs_of_classes(rt: HostRuntime) -> Result<(), Fail> {
         };
         println!(rt; "bases {}", chains.bases(&instance, &network)).unwrap();
         for kind in [Kind::Linear, Kind::Even] {
-            let pricing = LeafPricing::new(alloc, &instance, &network, &tables, kind, &rows, &chains.row)?;
+            let pricing = leaf_pricing(alloc, &instance, &network, &tables, kind, &rows, &chains.row)?;
             for shipment in 0..2u32 {
                 let mut costs = vec![in alloc; Some(7u128); network.classes() as usize + 2]?;
                 pricing.fill_costs(shipment, &rows[shipment as usize], &mut costs);
