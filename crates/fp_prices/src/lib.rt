@@ -8,6 +8,8 @@
 
 mod bounds;
 mod leaf_prices;
+mod least_costs;
+mod point_graphs;
 mod tables;
 
 pub use bounds::LeafBound;
@@ -16,3 +18,6 @@ pub use tables::{Share, Table, TableFault, Weight};
 
 /// What a call that allocates can fail with.
 pub type NoMemory = std::alloc::AllocError;
+
+#[cfg(test)]
+mod tests;
