@@ -1,0 +1,6 @@
+pub mod Nodes
+pub mod PointEdges
+pub mod GraphWalks
+pub mod TimedInGraph
+pub mod GraphTimed
+pub mod LeastOver

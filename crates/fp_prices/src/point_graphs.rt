@@ -1,6 +1,7 @@
 // The graph of a network's points, over which each shipment goes at a leaf.
 ghost use Rattle.std.specs.Prelude.{◌≡◌, ◌+◌, ◌-◌, ◌<◌, ◌≤◌, ◌++◌, IfOk, OnOk, length, map};
 ghost use Rattle.std.specs.List.{range_with_len};
+ghost use Rattle.fp_labels.specs.Graphs.{HasEnds};
 ghost use Rattle.fp_longestarcs.specs.Ascending.{ArePoints, place_of};
 ghost use Rattle.fp_longestarcs.specs.Networks.{class_count, point_count, points_in};
 ghost use Rattle.fp_longestarcs.specs.Whole.{IsWhole};
@@ -87,7 +88,8 @@ fn all_edges(
     requires whole { IsWhole instance.now network.now }
     requires few { point_count network.now ≤ 65000 }
     requires firsts { AreFirstNodes network.now firsts.now }
-    ensures { IfOk result (λ edges. edges.items ≡ edges_of instance.now network.now) }
+    ensures edges { IfOk result (λ edges. edges.items ≡ edges_of instance.now network.now) }
+    ensures ends { IfOk result (λ edges. HasEnds (point_count network.now) edges.items) }
 {
     let mut edges = edges_of_classes(alloc, instance, network, firsts)?;
     for terminal in 0..instance.terminals().len() as u32 {
@@ -99,6 +101,7 @@ fn all_edges(
 
 // Adds the holding edges over the nodes from the first to the last.
 fn hold_between(edges: &mut Vec<Edge>, first: u32, last: u32) -> Result<(), NoMemory>
+    requires { first ≤ last }
     ensures { OnOk result
         (edges.new.items ≡ edges.old.items ++ map next_edge (range_with_len first (last - first))) }
 {
