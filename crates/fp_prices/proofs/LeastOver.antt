@@ -67,15 +67,19 @@ least-over p net allowed price costs s are from to (Some n) least =
 -- numbers below n that are all different are at most n
 few-apart : (n : ℕ) (places : List ℕ) → AllByRecursion (λ i. i < n) places → AreApart places → length places ≤ n
 few-apart n places below apart =
-    let long : length (replicate n 1) ≡ n = length-replicate n 1 in
-    let inside : AllByRecursion (λ i. i < length (replicate n 1)) places = each-weaker (λ i. i < n) (λ i. i < length (replicate n 1)) (λ i h. omega (arith, h, long)) places below in
-    let all : sum_by (λ (i : ℕ). i) (replicate n 1) ≤ length (replicate n 1) * 1 =
-    sum_by-le (λ (i : ℕ). i) 1 (replicate n 1) (λ k d h. omega (arith, get_or-replicate n k 1 d (omega (arith, h, long)))) in
-    omega (arith, sum_by-places-le (λ (i : ℕ). i) 0 refl places (replicate n 1) inside apart, ones places below, all, long)
+    let each : All (λ (i : ℕ). i ≤ 1) row = λ k d h. omega (arith, get_or-replicate {A = ℕ} n k 1 d (omega (arith, h, long))) in
+    let inside : AllByRecursion (λ i. i < length row) places = each-weaker (λ i. i < n) (λ i. i < length row) (λ i h. omega (arith, h, long)) places below in
+    omega (arith, sum_by-places-le (λ (i : ℕ). i) 0 refl places row inside apart, ones places below, sum_by-le (λ (i : ℕ). i) 1 row each, long)
   where
-    ones : (numbers : List ℕ) → AllByRecursion (λ i. i < n) numbers → sum_by (λ i. get_or (replicate n 1) i 0) numbers ≡ length numbers
+    row : List ℕ
+    row = replicate n 1
+
+    long : length row ≡ n
+    long = length-replicate {A = ℕ} n 1
+
+    ones : (numbers : List ℕ) → AllByRecursion (λ i. i < n) numbers → sum_by (λ i. get_or row i 0) numbers ≡ length numbers
     ones [] h = refl
-    ones (x ∷ xs) h = omega (arith, sum_by-cons (λ i. get_or (replicate n 1) i 0) x xs, get_or-replicate n x 1 0 h.0, ones xs h.1)
+    ones (x ∷ xs) h = omega (arith, sum_by-cons (λ i. get_or row i 0) x xs, get_or-replicate {A = ℕ} n x 1 0 h.0, ones xs h.1)
 
 -- the nodes on a walk are nodes
 nodes-below : (edges : List Edge) (nodes here there : ℕ) (walk : List ℕ) → HasEnds nodes edges → here < nodes → LeadsOver edges here walk there → AllByRecursion (λ i. i < nodes) (nodes_on edges here walk)
