@@ -1,4 +1,7 @@
 ghost use Rattle.std.specs.Prelude.{◌≡◌, ◌<◌, [], ◌∷◌, IfOk, length};
+ghost use Rattle.fp_labels.specs.Labels.{IsSmallFor};
+ghost use Rattle.fp_longestarcs.specs.Networks.{class_count, point_count};
+ghost use Rattle.fp_prices.specs.PointGraphs.{IsPointGraph};
 
 use crate::NoMemory;
 use crate::least_costs::least_cost;
@@ -60,8 +63,51 @@ fn line(alloc: Global) -> Result<Instance, NoMemory>
     Ok(Instance::new(terminals, vec![in alloc; 0, 0, 0]?, arcs, shipments))
 }
 
+// The least costs of both shipments over two classes that cost so much.
+fn over_two(
+    alloc: Global,
+    instance: &Instance,
+    network: &Network,
+    graph: &PointGraph,
+    costs: (Option<u128>, Option<u128>),
+) -> Result<(Option<u128>, Option<u128>), NoMemory>
+    requires graph { IsPointGraph instance.now network.now graph.now }
+    requires shipments { length instance.now.shipments ≡ 2 }
+    requires classes { class_count network.now ≡ 2 }
+    requires edges { graph.now.edges ≡ 4 }
+    requires first { IsSmallFor (point_count network.now) costs.0 }
+    requires second { IsSmallFor (point_count network.now) costs.1 }
+{
+    let all = [costs.0, costs.1, Some(0), Some(0)];
+    let first = least_cost(alloc, instance, network, graph, &all, 0)?;
+    let second = least_cost(alloc, instance, network, graph, &all, 1)?;
+    Ok((first, second))
+}
+
+// The least costs of both shipments over three classes that cost so much.
+fn over_three(
+    alloc: Global,
+    instance: &Instance,
+    network: &Network,
+    graph: &PointGraph,
+    costs: (Option<u128>, Option<u128>, Option<u128>),
+) -> Result<(Option<u128>, Option<u128>), NoMemory>
+    requires graph { IsPointGraph instance.now network.now graph.now }
+    requires shipments { length instance.now.shipments ≡ 2 }
+    requires classes { class_count network.now ≡ 3 }
+    requires edges { graph.now.edges ≡ 6 }
+    requires first { IsSmallFor (point_count network.now) costs.0 }
+    requires second { IsSmallFor (point_count network.now) costs.1 }
+    requires third { IsSmallFor (point_count network.now) costs.2 }
+{
+    let all = [costs.0, costs.1, costs.2, Some(0), Some(0), Some(0)];
+    let first = least_cost(alloc, instance, network, graph, &all, 0)?;
+    let second = least_cost(alloc, instance, network, graph, &all, 1)?;
+    Ok((first, second))
+}
+
 #[test]
-fn ways_over_two_points(rt: HostRuntime) -> Result<(), NoMemory> {
+fn ways_over_two_classes(rt: HostRuntime) -> Result<(), NoMemory> {
     let alloc = rt.alloc();
     let instance = line(alloc)?;
     let places = [Place { terminal: 2, at: 8 }, Place { terminal: 2, at: 9 }];
@@ -70,22 +116,16 @@ fn ways_over_two_points(rt: HostRuntime) -> Result<(), NoMemory> {
     let graph = PointGraph::of(alloc, &instance, &network)?;
     assert!(rt; network.classes() == 2 && graph.edges == 4);
     assert!(rt; graph.firsts.as_slice() == [0, 1, 2].as_slice());
-    let free = Some(0);
     let each = Some(40_000_000);
-    for (costs, first, second) in [
-        ([each, each, free, free], Some(80_000_000), each),
-        ([each, None, free, free], None, None),
-        ([None, each, free, free], None, each),
-    ] {
-        let of_first = least_cost(alloc, &instance, &network, &graph, &costs, 0)?;
-        let of_second = least_cost(alloc, &instance, &network, &graph, &costs, 1)?;
-        assert_eq!(rt; (of_first, of_second), (first, second));
-    }
+    let open = over_two(alloc, &instance, &network, &graph, (each, each))?;
+    assert!(rt; open == (Some(80_000_000), each));
+    let barred = over_two(alloc, &instance, &network, &graph, (each, None))?;
+    assert!(rt; barred == (None, None));
     Ok(())
 }
 
 #[test]
-fn ways_over_a_third_point(rt: HostRuntime) -> Result<(), NoMemory> {
+fn ways_over_three_classes(rt: HostRuntime) -> Result<(), NoMemory> {
     let alloc = rt.alloc();
     let instance = line(alloc)?;
     let places = [
@@ -98,18 +138,12 @@ fn ways_over_a_third_point(rt: HostRuntime) -> Result<(), NoMemory> {
     let graph = PointGraph::of(alloc, &instance, &network)?;
     assert!(rt; network.classes() == 3 && graph.edges == 6);
     assert!(rt; graph.firsts.as_slice() == [0, 1, 3].as_slice());
-    let free = Some(0);
     let each = Some(40_000_000);
-    for (costs, first, second) in [
-        ([each, each, each, free, free, free], Some(80_000_000), each),
-        ([each, None, each, free, free, free], Some(80_000_000), each),
-        ([each, each, None, free, free, free], None, each),
-        ([each, Some(9), Some(8), free, free, free], Some(40_000_008), Some(8)),
-        ([each, Some(8), Some(9), free, free, free], Some(40_000_009), Some(8)),
-    ] {
-        let of_first = least_cost(alloc, &instance, &network, &graph, &costs, 0)?;
-        let of_second = least_cost(alloc, &instance, &network, &graph, &costs, 1)?;
-        assert_eq!(rt; (of_first, of_second), (first, second));
-    }
+    let first_barred = over_three(alloc, &instance, &network, &graph, (each, None, each))?;
+    assert!(rt; first_barred == (Some(80_000_000), each));
+    let last_barred = over_three(alloc, &instance, &network, &graph, (each, each, None))?;
+    assert!(rt; last_barred == (None, each));
+    let waits = over_three(alloc, &instance, &network, &graph, (each, Some(9), Some(8)))?;
+    assert!(rt; waits == (Some(40_000_008), Some(8)));
     Ok(())
 }
