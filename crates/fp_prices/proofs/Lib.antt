@@ -17,3 +17,9 @@ pub mod OneValue
 pub mod SmallPrices
 pub mod SmallBounds
 mod Worked
+pub mod Nodes
+pub mod PointEdges
+pub mod GraphWalks
+pub mod TimedInGraph
+pub mod GraphTimed
+pub mod LeastOver

@@ -7,3 +7,5 @@ pub mod Rows
 pub mod ClassCosts
 pub mod Searches
 pub mod Pricings
+pub mod Points
+pub mod PointGraphs

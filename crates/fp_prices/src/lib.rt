@@ -14,6 +14,8 @@ mod class_users;
 mod laws;
 mod leaf_prices;
 mod leaf_rules;
+mod least_costs;
+mod point_graphs;
 mod price_rule;
 mod share_prices;
 mod share_searches;

@@ -1,106 +1,149 @@
-use crate::bases::ForcedClasses;
-use crate::leaf_rules::leaf_pricing;
-use crate::{Kind, NoMemory, Share, Table, TableFault, Weight, check_tables};
-use fp_allowed::Allowed;
-use fp_flatnet::{Windows, initial};
+ghost use Rattle.std.specs.Prelude.{◌≡◌, ◌<◌, [], ◌∷◌, IfOk, length};
+ghost use Rattle.fp_labels.specs.Labels.{IsSmallFor};
+ghost use Rattle.fp_longestarcs.specs.Networks.{class_count, point_count};
+ghost use Rattle.fp_prices.specs.PointGraphs.{IsPointGraph};
+
+use crate::NoMemory;
+use crate::least_costs::least_cost;
+use crate::point_graphs::PointGraph;
 use fp_longestarcs::Network;
 use fp_model::{Arc, Instance, Name, Shipment};
-use fp_rows::Row;
-use fp_timenodes::Points;
+use fp_timenodes::{Place, Points};
 use std::alloc::Global;
-use std::test::Fail;
 
-// A shipment named S1 or S2.
-fn shipment(
-    alloc: Global,
-    name: &[u8],
-    from: u32,
-    to: u32,
-    due: u32,
-) -> Result<Shipment, NoMemory> {
-    Ok(Shipment {
-        name: Name::new(alloc, name)?,
-        from,
-        to,
-        size: 4,
-        release: 0,
-        due,
-    })
-}
-
-fn arc(from: u32, to: u32, time: u32, truck: u64) -> Arc {
+// An arc of capacity 10, of truck cost 100 and no freight.
+fn arc_between(from: u32, to: u32, time: u32) -> Arc
+    ensures { result ≡ record { from = from; to = to; time = time; capacity = 10; truck = 100; freight = 0 } }
+{
     Arc {
         from,
         to,
         time,
         capacity: 10,
-        truck,
+        truck: 100,
         freight: 0,
     }
 }
 
-// A to B of time 4 and B to C of time 5, trucks of 100. S1 of 4 A to C, 0 to 9; S2 of 4 B to C, 0 to 8.
-fn two_arcs(alloc: Global) -> Result<Instance, NoMemory> {
-    let terminals = vec![in alloc; Name::new(alloc, b"A")?, Name::new(alloc, b"B")?, Name::new(alloc, b"C")?]?;
-    let first = shipment(alloc, b"S1", 0, 2, 9)?;
-    let second = shipment(alloc, b"S2", 1, 2, 8)?;
+// Three terminals on a line: the first arc takes 4, the second 5. A shipment goes over both, and one over the second.
+fn line(alloc: Global) -> Result<Instance, NoMemory>
+    ensures { IfOk result (λ i. i ≡ record {
+      terminals = (65 ∷ []) ∷ (66 ∷ []) ∷ (67 ∷ []) ∷ [];
+      holds = 0 ∷ 0 ∷ 0 ∷ [];
+      arcs = (record { from = 0; to = 1; time = 4; capacity = 10; truck = 100; freight = 0 })
+          ∷ (record { from = 1; to = 2; time = 5; capacity = 10; truck = 100; freight = 0 }) ∷ [];
+      shipments = (record { name = 83 ∷ 49 ∷ []; from = 0; to = 2; size = 4; release = 0; due = 9 })
+          ∷ (record { name = 83 ∷ 50 ∷ []; from = 1; to = 2; size = 4; release = 0; due = 8 }) ∷ [];
+      scale = 1000000;
+    }) }
+{
+    let terminals = vec![in alloc;
+        Name::new(alloc, b"A")?,
+        Name::new(alloc, b"B")?,
+        Name::new(alloc, b"C")?,
+    ]?;
+    let first = Shipment {
+        name: Name::new(alloc, b"S1")?,
+        from: 0,
+        to: 2,
+        size: 4,
+        release: 0,
+        due: 9,
+    };
+    let second = Shipment {
+        name: Name::new(alloc, b"S2")?,
+        from: 1,
+        to: 2,
+        size: 4,
+        release: 0,
+        due: 8,
+    };
+    let arcs = vec![in alloc; arc_between(0, 1, 4), arc_between(1, 2, 5)]?;
     let shipments = vec![in alloc; first, second]?;
-    Ok(Instance::new(
-        terminals,
-        vec![in alloc; 0, 0, 0]?,
-        vec![in alloc; arc(0, 1, 4, 100), arc(1, 2, 5, 100)]?,
-        shipments,
-    ))
+    Ok(Instance::new(terminals, vec![in alloc; 0, 0, 0]?, arcs, shipments))
+}
+
+// The least costs of both shipments over two classes that cost so much.
+fn over_two(
+    alloc: Global,
+    instance: &Instance,
+    network: &Network,
+    graph: &PointGraph,
+    costs: (Option<u128>, Option<u128>),
+) -> Result<(Option<u128>, Option<u128>), NoMemory>
+    requires graph { IsPointGraph instance.now network.now graph.now }
+    requires shipments { length instance.now.shipments ≡ 2 }
+    requires classes { class_count network.now ≡ 2 }
+    requires edges { graph.now.edges ≡ 4 }
+    requires first { IsSmallFor (point_count network.now) costs.0 }
+    requires second { IsSmallFor (point_count network.now) costs.1 }
+{
+    let all = [costs.0, costs.1, Some(0), Some(0)];
+    let first = least_cost(alloc, instance, network, graph, &all, 0)?;
+    let second = least_cost(alloc, instance, network, graph, &all, 1)?;
+    Ok((first, second))
+}
+
+// The least costs of both shipments over three classes that cost so much.
+fn over_three(
+    alloc: Global,
+    instance: &Instance,
+    network: &Network,
+    graph: &PointGraph,
+    costs: (Option<u128>, Option<u128>, Option<u128>),
+) -> Result<(Option<u128>, Option<u128>), NoMemory>
+    requires graph { IsPointGraph instance.now network.now graph.now }
+    requires shipments { length instance.now.shipments ≡ 2 }
+    requires classes { class_count network.now ≡ 3 }
+    requires edges { graph.now.edges ≡ 6 }
+    requires first { IsSmallFor (point_count network.now) costs.0 }
+    requires second { IsSmallFor (point_count network.now) costs.1 }
+    requires third { IsSmallFor (point_count network.now) costs.2 }
+{
+    let all = [costs.0, costs.1, costs.2, Some(0), Some(0), Some(0)];
+    let first = least_cost(alloc, instance, network, graph, &all, 0)?;
+    let second = least_cost(alloc, instance, network, graph, &all, 1)?;
+    Ok((first, second))
 }
 
 #[test]
-fn costs_of_classes(rt: HostRuntime) -> Result<(), Fail> {
+fn ways_over_two_classes(rt: HostRuntime) -> Result<(), NoMemory> {
     let alloc = rt.alloc();
-    let instance = two_arcs(alloc)?;
-    let windows = Windows::of(alloc, &instance)?;
-    let points = initial(alloc, &instance, &windows)?;
+    let instance = line(alloc)?;
+    let places = [Place { terminal: 2, at: 8 }, Place { terminal: 2, at: 9 }];
+    let points = Points::new(alloc, 3, &places)?;
     let network = Network::of(alloc, &instance, &points, 0)?;
-    let allowed = Allowed::new(&instance, &windows, &network);
-    let rows = vec![in alloc; allowed.row(alloc, 0, &[])?, allowed.row(alloc, 1, &[])?]?;
-    println!(rt; "classes {}", network.classes()).unwrap();
-    let tables = vec![in alloc]?;
-    for forced in [false, true] {
-        let chains = if forced {
-            ForcedClasses::of(alloc, &instance, &allowed, network.classes(), &rows)?
-        } else {
-            ForcedClasses::none(alloc, network.classes())?
-        };
-        println!(rt; "bases {}", chains.bases(&instance, &network)).unwrap();
-        for kind in [Kind::Linear, Kind::Even] {
-            let pricing = leaf_pricing(alloc, &instance, &network, &tables, kind, &rows, &chains.row)?;
-            for shipment in 0..2u32 {
-                let mut costs = vec![in alloc; Some(7u128); network.classes() as usize + 2]?;
-                pricing.fill_costs(shipment, &rows[shipment as usize], &mut costs);
-                println!(rt; "{costs:?}").unwrap();
-            }
-        }
-    }
+    let graph = PointGraph::of(alloc, &instance, &network)?;
+    assert!(rt; network.classes() == 2 && graph.edges == 4);
+    assert!(rt; graph.firsts.as_slice() == [0, 1, 2].as_slice());
+    let each = Some(40_000_000);
+    let open = over_two(alloc, &instance, &network, &graph, (each, each))?;
+    assert!(rt; open == (Some(80_000_000), each));
+    let barred = over_two(alloc, &instance, &network, &graph, (each, None))?;
+    assert!(rt; barred == (None, None));
     Ok(())
 }
 
 #[test]
-fn tables_in_order(rt: HostRuntime) -> Result<(), Fail> {
+fn ways_over_three_classes(rt: HostRuntime) -> Result<(), NoMemory> {
     let alloc = rt.alloc();
-    let instance = two_arcs(alloc)?;
-    for (weight, want) in [
-        (100_000_000, Ok(())),
-        (100_000_001, Err(TableFault { table: 1, share: 0 })),
-        (u128::MAX, Err(TableFault { table: 1, share: 0 })),
-    ] {
-        let first = vec![in alloc; Weight { shipment: 0, w: weight }]?;
-        let second = vec![in alloc; Weight { shipment: 1, w: 100_000_000 }]?;
-        let third = vec![in alloc; Weight { shipment: 0, w: 100_000_000 }]?;
-        let shares = vec![in alloc;
-            Share { arc: 0, point: 0, v: 0, weights: first },
-            Share { arc: 1, point: 0, v: 0, weights: second },
-            Share { arc: 1, point: 4, v: 0, weights: third }]?;
-        let tables = vec![in alloc; Table { shares }]?;
-        assert_eq!(rt; check_tables(&instance, &tables), want);
-    }
+    let instance = line(alloc)?;
+    let places = [
+        Place { terminal: 1, at: 4 },
+        Place { terminal: 2, at: 8 },
+        Place { terminal: 2, at: 9 },
+    ];
+    let points = Points::new(alloc, 3, &places)?;
+    let network = Network::of(alloc, &instance, &points, 0)?;
+    let graph = PointGraph::of(alloc, &instance, &network)?;
+    assert!(rt; network.classes() == 3 && graph.edges == 6);
+    assert!(rt; graph.firsts.as_slice() == [0, 1, 3].as_slice());
+    let each = Some(40_000_000);
+    let first_barred = over_three(alloc, &instance, &network, &graph, (each, None, each))?;
+    assert!(rt; first_barred == (Some(80_000_000), each));
+    let last_barred = over_three(alloc, &instance, &network, &graph, (each, each, None))?;
+    assert!(rt; last_barred == (None, each));
+    let waits = over_three(alloc, &instance, &network, &graph, (each, Some(9), Some(8)))?;
+    assert!(rt; waits == (Some(40_000_008), Some(8)));
     Ok(())
 }
