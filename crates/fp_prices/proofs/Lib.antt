@@ -1,4 +1,6 @@
 pub mod Searched
+pub mod ChainLoads
+pub mod ForcedSums
 pub mod NumberedClasses
 pub mod FilledCosts
 pub mod PricedClasses

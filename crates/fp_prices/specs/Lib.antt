@@ -9,3 +9,4 @@ pub mod Searches
 pub mod Pricings
 pub mod Points
 pub mod PointGraphs
+pub mod Forced
