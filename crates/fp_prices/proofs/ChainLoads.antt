@@ -11,11 +11,11 @@ use Rattle.fp_timenodes.specs.Floor.{has_point}
 use Rattle.fp_allowed.specs.Bits.{bit_of}
 
 -- loads and bits with those of the classes with some numbers added
-pub record AreAdded (size : ℕ) (numbers : List ℕ) (loads row_loads : List ℕ) (row now : List Bool) : Type 0 where
-  pub loads_long : length row_loads ≡ length loads
-  pub row_long : length now ≡ length row
-  pub loads : (n : ℕ) → get_or row_loads n 0 ≡ get_or loads n 0 + (if has_point numbers n then size else 0)
-  pub told : (n : ℕ) → bit_of now n ≡ (bit_of row n || has_point numbers n)
+pub record AreAdded (size : ℕ) (numbers : List ℕ) (old_loads now_loads : List ℕ) (old_row now_row : List Bool) : Type 0 where
+  pub loads_long : length now_loads ≡ length old_loads
+  pub row_long : length now_row ≡ length old_row
+  pub loads : (n : ℕ) → get_or now_loads n 0 ≡ get_or old_loads n 0 + (if has_point numbers n then size else 0)
+  pub told : (n : ℕ) → bit_of now_row n ≡ (bit_of old_row n || has_point numbers n)
 
 pub added_none : (size : ℕ) (loads : List ℕ) (row : List Bool) → AreAdded size [] loads loads row row
 added_none size loads row = record { loads_long = refl; row_long = refl; loads = λ n. omega arith; told = λ n. sym (or-false (bit_of row n)) }
@@ -82,3 +82,10 @@ added_more size numbers i x load loads now row bits apart inside x_is in_loads i
 
     same : (n : ℕ) → (x ≡ n → ⊥) → has_point (take (i + 1) numbers) n ≡ has_point (take i numbers) n
     same n other = more n ∙ ap (λ (b : Bool). has_point (take i numbers) n || b) (ne_eqb x n other) ∙ or-false (has_point (take i numbers) n)
+
+-- before a class of a chain is added it has its old load
+pub added_before : (size : ℕ) (numbers : List ℕ) (i : ℕ) (loads now : List ℕ) (row bits : List Bool) → AreApart numbers → i < length numbers → AreAdded size (take i numbers) loads now row bits →
+    get_or now (get_or numbers i 0) 0 ≡ get_or loads (get_or numbers i 0) 0
+added_before size numbers i loads now row bits apart inside so_far =
+    let x : ℕ = get_or numbers i 0 in
+    so_far.loads x ∙ (let e : get_or loads x 0 + (if has_point (take i numbers) x then size else 0) ≡ get_or loads x 0 = omega (arith, cond-false {A = ℕ} (has_point (take i numbers) x) size 0 (apart-before numbers i apart inside)) in e)

@@ -1,4 +1,5 @@
 pub mod Searched
+pub mod ForcedSoFar
 pub mod ChainLoads
 pub mod ForcedSums
 pub mod NumberedClasses

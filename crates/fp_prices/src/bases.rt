@@ -59,6 +59,7 @@ fn all_chains(
     rows: &[Row],
 ) -> Result<ForcedClasses, NoMemory>
     requires same { instance.now ≡ allowed.now.problem }
+    requires whole { IsWhole allowed.now.problem allowed.now.network }
     requires classes { classes ≡ class_count allowed.now.network }
     requires rows { length rows.now ≡ length instance.now.shipments }
     requires under { (sides : List Side) × AreRowsUnder allowed.now sides rows.now }
@@ -83,6 +84,7 @@ pub(crate) fn forced_classes(
     forced: bool,
 ) -> Result<ForcedClasses, NoMemory>
     requires same { instance.now ≡ allowed.now.problem }
+    requires whole { IsWhole allowed.now.problem allowed.now.network }
     requires classes { classes ≡ class_count allowed.now.network }
     requires rows { length rows.now ≡ length instance.now.shipments }
     requires under { (sides : List Side) × AreRowsUnder allowed.now sides rows.now }
