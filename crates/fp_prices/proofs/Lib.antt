@@ -1,3 +1,5 @@
+pub mod BasesCost
+pub mod SamePoints
 pub mod Searched
 pub mod ForcedSoFar
 pub mod ChainLoads

@@ -10,3 +10,4 @@ pub mod Pricings
 pub mod Points
 pub mod PointGraphs
 pub mod Forced
+pub mod Found

@@ -37,9 +37,12 @@ fn rule_of<'a>(
         Kind::Even => Ok(Rule::InParts {
             users: class_users(alloc, instance, network.classes(), rows)?,
         }),
-        Kind::Table { id } => Ok(Rule::ByShares {
-            shares: &tables[(id - 1) as usize].shares,
-        }),
+        Kind::Table { id } => {
+            let table = &tables[(id - 1) as usize];
+            Ok(Rule::ByShares {
+                shares: &table.shares,
+            })
+        }
     }
 }
 

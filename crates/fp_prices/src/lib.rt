@@ -21,7 +21,7 @@ mod share_prices;
 mod share_searches;
 mod tables;
 
-pub use bounds::LeafBound;
+pub use bounds::{LeafBound, bound};
 pub use laws::{leaves_bound_plans, leaves_have_one_value};
 pub use leaf_prices::{Kind, LeafPrice};
 pub use price_rule::check_tables;
