@@ -36,7 +36,7 @@ use Rattle.fp_prices.proofs.NumberedClasses.{number-class}
 use Rattle.fp_prices.proofs.SmallBounds.{chain-arcs}
 
 -- one more element at the end of both lists
-zip-push : {X Y : Type 0} (Q : ℕ → X → Y → Type 0) (i : ℕ) (xs : List X) (ys : List Y) (x : X) (y : Y) → AllZipFrom Q i xs ys → Q (i + length xs) x y → AllZipFrom Q i (xs ++ (x ∷ [])) (ys ++ (y ∷ []))
+pub zip-push : {X Y : Type 0} (Q : ℕ → X → Y → Type 0) (i : ℕ) (xs : List X) (ys : List Y) (x : X) (y : Y) → AllZipFrom Q i xs ys → Q (i + length xs) x y → AllZipFrom Q i (xs ++ (x ∷ [])) (ys ++ (y ∷ []))
 zip-push Q i [] [] x y all one = let e : i + 0 ≡ i = omega arith in (subst (λ (n : ℕ). Q n x y) e one, tt)
 zip-push Q i [] (z ∷ ys) x y all one = absurd all
 zip-push Q i (z ∷ xs) [] x y all one = absurd all

@@ -1,3 +1,5 @@
+pub mod LeastSoFar
+pub mod ShipmentCosts
 pub mod BasesCost
 pub mod SamePoints
 pub mod Searched
