@@ -57,12 +57,12 @@ row-priced pricing rows k row inside is priced = record {
 }
 
 -- one more shipment that has a cost
-pub least_more : (pricing : LeafPricing) (rows : List (List Bool)) (bases i value cost : ℕ) (row : List Bool) → i < length pricing.instance.now.shipments → i < length rows → row ≡ get_or rows i [] →
-    AreLeastSoFar pricing rows bases i value → IsSmallCost pricing.instance.now i (Some cost) →
+pub least_more : (pricing : LeafPricing) (rows : List (List Bool)) (bases i value cost : ℕ) (row : List Bool) (o : Option ℕ) → o ≡ Some cost → i < length pricing.instance.now.shipments → i < length rows → row ≡ get_or rows i [] →
+    AreLeastSoFar pricing rows bases i value → IsSmallCost pricing.instance.now i o →
     ((tables : List (List ClassShare)) (allowed : ℕ → Leg → Bool) (kind : Kind) (chains : List (List Leg)) → IsPricing tables allowed kind chains pricing → RowAllows pricing.network.now (allowed i) row →
-        AllowsClasses pricing.network.now (allowed i) → IsLeastOver pricing.instance.now (points_in pricing.network.now) (allowed i) (shipment_at pricing.instance.now i) (leaf_prices pricing.instance.now tables allowed kind chains i) (Some cost)) →
+        AllowsClasses pricing.network.now (allowed i) → IsLeastOver pricing.instance.now (points_in pricing.network.now) (allowed i) (shipment_at pricing.instance.now i) (leaf_prices pricing.instance.now tables allowed kind chains i) o) →
     AreLeastSoFar pricing rows bases (i + 1) (value + cost)
-least_more pricing rows bases i value cost row exists inside is so_far small least =
+least_more pricing rows bases i value cost row o found exists inside is so_far small least =
     let p : Problem = pricing.instance.now in
     let more : take (i + 1) p.shipments ≡ take i p.shipments ++ (shipment_at p i ∷ []) = take_more p.shipments i no_shipment exists in
     let number : 0 + length (take i p.shipments) ≡ i = omega (arith, length-take i p.shipments, exists) in
@@ -73,42 +73,49 @@ least_more pricing rows bases i value cost row exists inside is so_far small lea
           let Q : ℕ → Shipment → ℕ → Type 0 = λ k s n. IsLeastCost p (points_in pricing.network.now) (allowed k) s (leaf_prices p tables allowed kind chains k) n in
           subst (λ (l : List Shipment). AllZipFrom Q 0 l (so_far.costs ++ (cost ∷ []))) (sym more)
           (zip-push Q 0 (take i p.shipments) so_far.costs (shipment_at p i) cost (so_far.least tables allowed kind chains leaf)
-          (subst (λ (k : ℕ). Q k (shipment_at p i) cost) (sym number) (least tables allowed kind chains leaf.is (row-allows pricing rows allowed i row inside is leaf.rows_of) (leaf.classes i))));
+          (subst (λ (k : ℕ). Q k (shipment_at p i) cost) (sym number)
+          (subst (λ (x : Option ℕ). IsLeastOver p (points_in pricing.network.now) (allowed i) (shipment_at p i) (leaf_prices p tables allowed kind chains i) x) found
+          (least tables allowed kind chains leaf.is (row-allows pricing rows allowed i row inside is leaf.rows_of) (leaf.classes i)))));
       small =
           let Q : ℕ → Shipment → ℕ → Type 0 = λ k s n. n ≤ 65536 * (p.scale * sum_by (alone_cost s.size) p.arcs) in
-          subst (λ (l : List Shipment). AllZipFrom Q 0 l (so_far.costs ++ (cost ∷ []))) (sym more) (zip-push Q 0 (take i p.shipments) so_far.costs (shipment_at p i) cost so_far.small small);
+          subst (λ (l : List Shipment). AllZipFrom Q 0 l (so_far.costs ++ (cost ∷ []))) (sym more) (zip-push Q 0 (take i p.shipments) so_far.costs (shipment_at p i) cost so_far.small (subst (IsSmallCost p i) found small));
       is = omega (arith, so_far.is, one, sum_by-append (λ (n : ℕ). n) so_far.costs (cost ∷ []));
     }
 
 -- one more cost fits
-pub more-fits : (pricing : LeafPricing) (rows : List (List Bool)) (bases i value cost : ℕ) → IsValid pricing.instance.now → i < length pricing.instance.now.shipments → AreLeastSoFar pricing rows bases i value →
-    IsSmallCost pricing.instance.now i (Some cost) → bases ≤ pricing.instance.now.scale * alone_total pricing.instance.now.arcs pricing.instance.now.shipments → value + cost < 2 ^ 128
-more-fits pricing rows bases i value cost valid exists so_far small few =
+pub more-fits : (pricing : LeafPricing) (rows : List (List Bool)) (bases i value cost : ℕ) (o : Option ℕ) → o ≡ Some cost → IsValid pricing.instance.now → i < length pricing.instance.now.shipments → AreLeastSoFar pricing rows bases i value →
+    IsSmallCost pricing.instance.now i o → bases ≤ pricing.instance.now.scale * alone_total pricing.instance.now.arcs pricing.instance.now.shipments → value + cost < 2 ^ 128
+more-fits pricing rows bases i value cost o found valid exists so_far small few =
     let p : Problem = pricing.instance.now in
     let own : Shipment → ℕ = λ s. sum_by (alone_cost s.size) p.arcs in
     let costs : sum_by (λ (n : ℕ). n) so_far.costs ≤ p.scale * 65536 * alone_total p.arcs (take i p.shipments) = costs-small p 0 (take i p.shipments) so_far.costs so_far.small in
     let part : sum_by own (take i p.shipments) + own (shipment_at p i) ≤ sum_by own p.shipments = sum_by_more_le own p.shipments i no_shipment exists in
     let scaled : p.scale * 65536 * (sum_by own (take i p.shipments) + own (shipment_at p i)) ≤ p.scale * 65536 * sum_by own p.shipments = mul-le-mul_left (p.scale * 65536) part in
     let whole : p.scale * 65536 * (sum_by own (take i p.shipments) + own (shipment_at p i)) ≡ p.scale * 65536 * sum_by own (take i p.shipments) + 65536 * (p.scale * own (shipment_at p i)) = omega arith in
-    omega (arith, so_far.is, costs, scaled, whole, small, few, valid.fits)
+    let own_cost : cost ≤ 65536 * (p.scale * own (shipment_at p i)) = subst (IsSmallCost p i) found small in
+    omega (arith, so_far.is, costs, scaled, whole, own_cost, few, valid.fits)
 
 -- the first shipment that has no cost
-pub first_without : (pricing : LeafPricing) (rows : List (List Bool)) (bases i value : ℕ) (row : List Bool) → i < length pricing.instance.now.shipments → i < length rows → row ≡ get_or rows i [] →
+pub first_without : (pricing : LeafPricing) (rows : List (List Bool)) (bases i value : ℕ) (row : List Bool) (o : Option ℕ) → o ≡ None → i < length pricing.instance.now.shipments → i < length rows → row ≡ get_or rows i [] →
     AreLeastSoFar pricing rows bases i value →
     ((tables : List (List ClassShare)) (allowed : ℕ → Leg → Bool) (kind : Kind) (chains : List (List Leg)) → IsPricing tables allowed kind chains pricing → RowAllows pricing.network.now (allowed i) row →
-        AllowsClasses pricing.network.now (allowed i) → IsLeastOver pricing.instance.now (points_in pricing.network.now) (allowed i) (shipment_at pricing.instance.now i) (leaf_prices pricing.instance.now tables allowed kind chains i) None) →
+        AllowsClasses pricing.network.now (allowed i) → IsLeastOver pricing.instance.now (points_in pricing.network.now) (allowed i) (shipment_at pricing.instance.now i) (leaf_prices pricing.instance.now tables allowed kind chains i) o) →
     (tables : List (List ClassShare)) (allowed : ℕ → Leg → Bool) (kind : Kind) (chains : List (List Leg)) → IsLeafOf pricing rows tables allowed kind chains →
     IsFoundOver pricing.instance.now (points_in pricing.network.now) allowed (leaf_prices pricing.instance.now tables allowed kind chains) bases (Empty i)
-first_without pricing rows bases i value row exists inside is so_far none tables allowed kind chains leaf =
+first_without pricing rows bases i value row o found exists inside is so_far none tables allowed kind chains leaf =
     let p : Problem = pricing.instance.now in
     record {
       exists = exists;
-      none = none tables allowed kind chains leaf.is (row-allows pricing rows allowed i row inside is leaf.rows_of) (leaf.classes i);
+      none = subst (λ (x : Option ℕ). IsLeastOver p (points_in pricing.network.now) (allowed i) (shipment_at p i) (leaf_prices p tables allowed kind chains i) x) found
+          (none tables allowed kind chains leaf.is (row-allows pricing rows allowed i row inside is leaf.rows_of) (leaf.classes i));
       before = λ j h no_walk.
           let Q : ℕ → Shipment → ℕ → Type 0 = λ k s n. IsLeastCost p (points_in pricing.network.now) (allowed k) s (leaf_prices p tables allowed kind chains k) n in
           let at = zip-places Q (take i p.shipments) so_far.costs no_shipment 0 0 j (so_far.least tables allowed kind chains leaf) (omega (arith, h, length-take i p.shipments, exists)) in
-          let same : get_or (take i p.shipments) j no_shipment ≡ shipment_at p j = ? in
-          no_walk at.walk ?;
+          let same : get_or (take i p.shipments) j no_shipment ≡ shipment_at p j = get_or-take i p.shipments j no_shipment h in
+          let number : 0 + j ≡ j = omega arith in
+          no_walk at.walk
+          (subst (λ (k : ℕ). IsTimedWalk p (points_in pricing.network.now) (allowed k) (shipment_at p j) at.walk) number
+          (subst (λ (s : Shipment). IsTimedWalk p (points_in pricing.network.now) (allowed (0 + j)) s at.walk) same at.timed));
     }
 
 -- all shipments have a cost
