@@ -16,7 +16,7 @@ use Rattle.fp_prices.specs.declared.class_prices.LeafPricing.{LeafPricing}
 use Rattle.fp_prices.specs.declared.leaf_prices.Kind.{Kind}
 use Rattle.fp_prices.specs.ClassCosts.{AllowsClasses, IsLeastOver}
 use Rattle.fp_prices.specs.Found.{IsFoundOver, IsPricedLeaf, IsPricedRow, IsSmallCost, RowAllows, leaf_prices}
-use Rattle.fp_prices.specs.Leaves.{IsLeastCost}
+use Rattle.fp_prices.specs.Leaves.{IsLeastCost, leaf_price}
 use Rattle.fp_prices.specs.Pricings.{IsPricing}
 use Rattle.fp_prices.specs.Rows.{AreRowsOf, row_at}
 use Rattle.fp_prices.specs.Shares.{ClassShare}
@@ -33,7 +33,7 @@ pub record IsLeafOf (pricing : LeafPricing) (rows : List (List Bool)) (tables : 
 pub record AreLeastSoFar (pricing : LeafPricing) (rows : List (List Bool)) (bases i value : ℕ) : Type 0 where
   pub costs : List ℕ
   pub least : (tables : List (List ClassShare)) (allowed : ℕ → Leg → Bool) (kind : Kind) (chains : List (List Leg)) → IsLeafOf pricing rows tables allowed kind chains →
-      AllZipFrom (λ k (s : Shipment) n. IsLeastCost pricing.instance.now (points_in pricing.network.now) (allowed k) s (leaf_prices pricing.instance.now tables allowed kind chains k) n) 0
+      AllZipFrom (λ k (s : Shipment) n. IsLeastCost pricing.instance.now (points_in pricing.network.now) (allowed k) s (leaf_price pricing.instance.now tables allowed kind chains k s.size) n) 0
       (take i pricing.instance.now.shipments) costs
   pub small : AreSmallCosts pricing.instance.now 0 (take i pricing.instance.now.shipments) costs
   pub is : value ≡ bases + sum_by (λ (n : ℕ). n) costs
@@ -70,7 +70,7 @@ least_more pricing rows bases i value cost row o found exists inside is so_far s
     record {
       costs = so_far.costs ++ (cost ∷ []);
       least = λ tables allowed kind chains leaf.
-          let Q : ℕ → Shipment → ℕ → Type 0 = λ k s n. IsLeastCost p (points_in pricing.network.now) (allowed k) s (leaf_prices p tables allowed kind chains k) n in
+          let Q : ℕ → Shipment → ℕ → Type 0 = λ k s n. IsLeastCost p (points_in pricing.network.now) (allowed k) s (leaf_price p tables allowed kind chains k s.size) n in
           subst (λ (l : List Shipment). AllZipFrom Q 0 l (so_far.costs ++ (cost ∷ []))) (sym more)
           (zip-push Q 0 (take i p.shipments) so_far.costs (shipment_at p i) cost (so_far.least tables allowed kind chains leaf)
           (subst (λ (k : ℕ). Q k (shipment_at p i) cost) (sym number)
@@ -101,7 +101,7 @@ pub first_without : (pricing : LeafPricing) (rows : List (List Bool)) (bases i v
     ((tables : List (List ClassShare)) (allowed : ℕ → Leg → Bool) (kind : Kind) (chains : List (List Leg)) → IsPricing tables allowed kind chains pricing → RowAllows pricing.network.now (allowed i) row →
         AllowsClasses pricing.network.now (allowed i) → IsLeastOver pricing.instance.now (points_in pricing.network.now) (allowed i) (shipment_at pricing.instance.now i) (leaf_prices pricing.instance.now tables allowed kind chains i) o) →
     (tables : List (List ClassShare)) (allowed : ℕ → Leg → Bool) (kind : Kind) (chains : List (List Leg)) → IsLeafOf pricing rows tables allowed kind chains →
-    IsFoundOver pricing.instance.now (points_in pricing.network.now) allowed (leaf_prices pricing.instance.now tables allowed kind chains) bases (Empty i)
+    IsFoundOver pricing.instance.now (points_in pricing.network.now) allowed (leaf_price pricing.instance.now tables allowed kind chains) bases (Empty i)
 first_without pricing rows bases i value row o found exists inside is so_far none tables allowed kind chains leaf =
     let p : Problem = pricing.instance.now in
     record {
@@ -109,7 +109,7 @@ first_without pricing rows bases i value row o found exists inside is so_far non
       none = subst (λ (x : Option ℕ). IsLeastOver p (points_in pricing.network.now) (allowed i) (shipment_at p i) (leaf_prices p tables allowed kind chains i) x) found
           (none tables allowed kind chains leaf.is (row-allows pricing rows allowed i row inside is leaf.rows_of) (leaf.classes i));
       before = λ j h no_walk.
-          let Q : ℕ → Shipment → ℕ → Type 0 = λ k s n. IsLeastCost p (points_in pricing.network.now) (allowed k) s (leaf_prices p tables allowed kind chains k) n in
+          let Q : ℕ → Shipment → ℕ → Type 0 = λ k s n. IsLeastCost p (points_in pricing.network.now) (allowed k) s (leaf_price p tables allowed kind chains k s.size) n in
           let at = zip-places Q (take i p.shipments) so_far.costs no_shipment 0 0 j (so_far.least tables allowed kind chains leaf) (omega (arith, h, length-take i p.shipments, exists)) in
           let same : get_or (take i p.shipments) j no_shipment ≡ shipment_at p j = get_or-take i p.shipments j no_shipment h in
           let number : 0 + j ≡ j = omega arith in
@@ -121,13 +121,13 @@ first_without pricing rows bases i value row o found exists inside is so_far non
 -- all shipments have a cost
 pub least_all : (pricing : LeafPricing) (rows : List (List Bool)) (bases i value : ℕ) → length pricing.instance.now.shipments ≤ i → AreLeastSoFar pricing rows bases i value →
     (tables : List (List ClassShare)) (allowed : ℕ → Leg → Bool) (kind : Kind) (chains : List (List Leg)) → IsLeafOf pricing rows tables allowed kind chains →
-    IsFoundOver pricing.instance.now (points_in pricing.network.now) allowed (leaf_prices pricing.instance.now tables allowed kind chains) bases (Value value)
+    IsFoundOver pricing.instance.now (points_in pricing.network.now) allowed (leaf_price pricing.instance.now tables allowed kind chains) bases (Value value)
 least_all pricing rows bases i value all so_far tables allowed kind chains leaf =
     let p : Problem = pricing.instance.now in
     let whole : take i p.shipments ≡ p.shipments = take_all i p.shipments all in
     record {
       costs = so_far.costs;
-      least = subst (λ (l : List Shipment). AllZipFrom (λ k (s : Shipment) n. IsLeastCost p (points_in pricing.network.now) (allowed k) s (leaf_prices p tables allowed kind chains k) n) 0 l so_far.costs) whole
+      least = subst (λ (l : List Shipment). AllZipFrom (λ k (s : Shipment) n. IsLeastCost p (points_in pricing.network.now) (allowed k) s (leaf_price p tables allowed kind chains k s.size) n) 0 l so_far.costs) whole
           (so_far.least tables allowed kind chains leaf);
       small = subst (λ (l : List Shipment). AreSmallCosts p 0 l so_far.costs) whole so_far.small;
       is = so_far.is;

@@ -1,3 +1,4 @@
+pub mod LeafFound
 pub mod LeastSoFar
 pub mod ShipmentCosts
 pub mod BasesCost

@@ -48,9 +48,9 @@ abbrev pub IsSmallCost : Problem → ℕ → Option ℕ → Type 0
 IsSmallCost p k o = IfSome o (λ n. n ≤ 65536 * (p.scale * sum_by (alone_cost (shipment_at p k).size) p.arcs))
 
 -- the value is the bases and the least cost of each shipment, each of which is small
-pub record IsValueOver (p : Problem) (points : ℕ → List ℕ) (allowed : ℕ → Leg → Bool) (price : ℕ → Leg → ℕ) (bases value : ℕ) : Type 0 where
+pub record IsValueOver (p : Problem) (points : ℕ → List ℕ) (allowed : ℕ → Leg → Bool) (price : (k size : ℕ) → Leg → ℕ) (bases value : ℕ) : Type 0 where
   pub costs : List ℕ
-  pub least : AllZipFrom (λ k (s : Shipment) n. IsLeastCost p points (allowed k) s (price k) n) 0 p.shipments costs
+  pub least : AllZipFrom (λ k (s : Shipment) n. IsLeastCost p points (allowed k) s (price k s.size) n) 0 p.shipments costs
   pub small : AllZipFrom (λ k (s : Shipment) n. n ≤ 65536 * (p.scale * sum_by (alone_cost s.size) p.arcs)) 0 p.shipments costs
   pub is : value ≡ bases + sum_by (λ (n : ℕ). n) costs
 
@@ -61,6 +61,6 @@ pub record IsFirstWithoutOver (p : Problem) (points : ℕ → List ℕ) (allowed
   pub before : (j : ℕ) → j < k → ((walk : List Leg) → IsTimedWalk p points (allowed j) (shipment_at p j) walk → ⊥) → ⊥
 
 -- what is found: the value, or the first shipment without an allowed timed walk
-abbrev pub IsFoundOver : Problem → (ℕ → List ℕ) → (ℕ → Leg → Bool) → (ℕ → Leg → ℕ) → ℕ → LeafBound → Type 0
+abbrev pub IsFoundOver : Problem → (ℕ → List ℕ) → (ℕ → Leg → Bool) → ((k size : ℕ) → Leg → ℕ) → ℕ → LeafBound → Type 0
 IsFoundOver p points allowed price bases (Empty shipment) = IsFirstWithoutOver p points allowed shipment
 IsFoundOver p points allowed price bases (Value value) = IsValueOver p points allowed price bases value

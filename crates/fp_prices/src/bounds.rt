@@ -11,7 +11,7 @@ ghost use Rattle.fp_prices.specs.declared.leaf_prices.Kind.{Kind};
 ghost use Rattle.fp_prices.specs.ClassCosts.{AllowsClasses, IsFree, IsLeastOver};
 ghost use Rattle.fp_prices.specs.Forced.{AreRowsUnder};
 ghost use Rattle.fp_prices.specs.Found.{IsFoundOver, IsPricedLeaf, IsPricedRow, IsSmallCost, RowAllows, leaf_prices};
-ghost use Rattle.fp_prices.specs.Leaves.{BoundsPlans, IsBoundOf, IsSmallBound};
+ghost use Rattle.fp_prices.specs.Leaves.{BoundsPlans, IsBoundOf, IsSmallBound, leaf_price};
 ghost use Rattle.fp_prices.specs.PointGraphs.{IsPointGraph};
 ghost use Rattle.fp_prices.specs.Pricings.{IsPricing};
 ghost use Rattle.fp_prices.specs.Rows.{AreRowsOf};
@@ -110,7 +110,7 @@ fn value_over(
     requires bases { bases ≤ pricing.now.instance.now.scale * alone_total pricing.now.instance.now.arcs pricing.now.instance.now.shipments }
     ensures { (tables : List (List ClassShare)) (allowed : ℕ → Leg → Bool) (kind : Kind) (chains : List (List Leg)) → IsPricing tables allowed kind chains pricing.now →
         AreRowsOf pricing.now.network.now allowed rows.now → ((k : ℕ) → AllowsClasses pricing.now.network.now (allowed k)) →
-        IfOk result (IsFoundOver pricing.now.instance.now (points_in pricing.now.network.now) allowed (leaf_prices pricing.now.instance.now tables allowed kind chains) bases) }
+        IfOk result (IsFoundOver pricing.now.instance.now (points_in pricing.now.network.now) allowed (leaf_price pricing.now.instance.now tables allowed kind chains) bases) }
 {
     let mut costs = graph.free_costs(alloc)?;
     let mut value = bases;
