@@ -49,7 +49,7 @@ filled_none pricing k size row old = record {
 -- one more cost
 pub filled_more : (pricing : LeafPricing) (k size : ℕ) (row : List Bool) (old now : List (Option ℕ)) (next place cost : ℕ) → AreFilled pricing k size row old now next → IsNextSet row next place → length row ≤ length old →
     ((tables : List (List ClassShare)) (allowed : ℕ → Leg → Bool) (kind : Kind) (chains : List (List Leg)) → IsPricing tables allowed kind chains pricing → allowed k (class_at pricing.network.now place) ≡ true →
-        cost ≡ cost_at pricing tables allowed kind chains k size place) →
+    cost ≡ cost_at pricing tables allowed kind chains k size place) →
     ((allowed : ℕ → Leg → Bool) → RowAllows pricing.network.now allowed k row → allowed k (class_at pricing.network.now place) ≡ true) →
     AreFilled pricing k size row old (set now place (Some cost)) (place + 1)
 filled_more pricing k size row old now next place cost so_far at room is told = record {

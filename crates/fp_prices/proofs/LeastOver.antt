@@ -60,8 +60,8 @@ least-over p net allowed price costs s are from to (Some n) least =
       timed = record { leads = timed.leads; allowed_all = timed.allowed_all; follows = timed.follows };
       cost = timed.costs_so;
       least = λ other is.
-      let goes = shipment-goes p net allowed price costs s are from other is in
-      subst (λ (m : ℕ). n ≤ m) goes.1.costs_so (least.least goes.0 goes.1.leads goes.1.open_edges);
+          let goes = shipment-goes p net allowed price costs s are from other is in
+          subst (λ (m : ℕ). n ≤ m) goes.1.costs_so (least.least goes.0 goes.1.leads goes.1.open_edges);
     }
 
 -- numbers below n that are all different are at most n

@@ -60,7 +60,7 @@ row-priced pricing rows k row inside is priced = record {
 pub least_more : (pricing : LeafPricing) (rows : List (List Bool)) (bases i value cost : ℕ) (row : List Bool) (o : Option ℕ) → o ≡ Some cost → i < length pricing.instance.now.shipments → i < length rows → row ≡ get_or rows i [] →
     AreLeastSoFar pricing rows bases i value → IsSmallCost pricing.instance.now i o →
     ((tables : List (List ClassShare)) (allowed : ℕ → Leg → Bool) (kind : Kind) (chains : List (List Leg)) → IsPricing tables allowed kind chains pricing → RowAllows pricing.network.now (allowed i) row →
-        AllowsClasses pricing.network.now (allowed i) → IsLeastOver pricing.instance.now (points_in pricing.network.now) (allowed i) (shipment_at pricing.instance.now i) (leaf_prices pricing.instance.now tables allowed kind chains i) o) →
+    AllowsClasses pricing.network.now (allowed i) → IsLeastOver pricing.instance.now (points_in pricing.network.now) (allowed i) (shipment_at pricing.instance.now i) (leaf_prices pricing.instance.now tables allowed kind chains i) o) →
     AreLeastSoFar pricing rows bases (i + 1) (value + cost)
 least_more pricing rows bases i value cost row o found exists inside is so_far small least =
     let p : Problem = pricing.instance.now in
@@ -99,7 +99,7 @@ more-fits pricing rows bases i value cost o found valid exists so_far small few 
 pub first_without : (pricing : LeafPricing) (rows : List (List Bool)) (bases i value : ℕ) (row : List Bool) (o : Option ℕ) → o ≡ None → i < length pricing.instance.now.shipments → i < length rows → row ≡ get_or rows i [] →
     AreLeastSoFar pricing rows bases i value →
     ((tables : List (List ClassShare)) (allowed : ℕ → Leg → Bool) (kind : Kind) (chains : List (List Leg)) → IsPricing tables allowed kind chains pricing → RowAllows pricing.network.now (allowed i) row →
-        AllowsClasses pricing.network.now (allowed i) → IsLeastOver pricing.instance.now (points_in pricing.network.now) (allowed i) (shipment_at pricing.instance.now i) (leaf_prices pricing.instance.now tables allowed kind chains i) o) →
+    AllowsClasses pricing.network.now (allowed i) → IsLeastOver pricing.instance.now (points_in pricing.network.now) (allowed i) (shipment_at pricing.instance.now i) (leaf_prices pricing.instance.now tables allowed kind chains i) o) →
     (tables : List (List ClassShare)) (allowed : ℕ → Leg → Bool) (kind : Kind) (chains : List (List Leg)) → IsLeafOf pricing rows tables allowed kind chains →
     IsFoundOver pricing.instance.now (points_in pricing.network.now) allowed (leaf_price pricing.instance.now tables allowed kind chains) bases (Empty i)
 first_without pricing rows bases i value row o found exists inside is so_far none tables allowed kind chains leaf =

@@ -142,7 +142,7 @@ edge-cases p net e valid h =
     inr (
       late,
       subst (IsHolding net) (sym (get_or-append_right (class_edges p net) holding (class_count net) e no_edge (length-class_edges p net) late))
-      (are-holding net (length net.points) (e - class_count net) (omega arith) (omega (arith, h, late, length-edges p net))),
+          (are-holding net (length net.points) (e - class_count net) (omega arith) (omega (arith, h, late, length-edges p net))),
     ))
     (cases_lt e (class_count net))
 

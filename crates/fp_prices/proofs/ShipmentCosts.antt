@@ -140,11 +140,11 @@ small_ok p k nodes costs (Ok cost) few small told =
 -- and the least over the allowed walks
 pub exact_ok : (pricing : LeafPricing) (k : ℕ) (row : List Bool) (costs : List (Option ℕ)) (r : Result (Option ℕ) AllocError) →
     ((tables : List (List ClassShare)) (allowed : ℕ → Leg → Bool) (kind : Kind) (chains : List (List Leg)) → IsPricing tables allowed kind chains pricing → RowAllows pricing.network.now (allowed k) row →
-        HoldsClassCosts pricing.instance.now pricing.network.now (allowed k) (leaf_prices pricing.instance.now tables allowed kind chains k) (shipment_at pricing.instance.now k).size costs) →
+    HoldsClassCosts pricing.instance.now pricing.network.now (allowed k) (leaf_prices pricing.instance.now tables allowed kind chains k) (shipment_at pricing.instance.now k).size costs) →
     IfOk r (λ cost. (allowed : Leg → Bool) (price : Leg → ℕ) → AllowsClasses pricing.network.now allowed → HoldsClassCosts pricing.instance.now pricing.network.now allowed price (shipment_at pricing.instance.now k).size costs →
-        IsLeastOver pricing.instance.now (points_in pricing.network.now) allowed (shipment_at pricing.instance.now k) price cost) →
+    IsLeastOver pricing.instance.now (points_in pricing.network.now) allowed (shipment_at pricing.instance.now k) price cost) →
     IfOk r (λ cost. (tables : List (List ClassShare)) (allowed : ℕ → Leg → Bool) (kind : Kind) (chains : List (List Leg)) → IsPricing tables allowed kind chains pricing → RowAllows pricing.network.now (allowed k) row →
-        AllowsClasses pricing.network.now (allowed k) → IsLeastOver pricing.instance.now (points_in pricing.network.now) (allowed k) (shipment_at pricing.instance.now k) (leaf_prices pricing.instance.now tables allowed kind chains k) cost)
+    AllowsClasses pricing.network.now (allowed k) → IsLeastOver pricing.instance.now (points_in pricing.network.now) (allowed k) (shipment_at pricing.instance.now k) (leaf_prices pricing.instance.now tables allowed kind chains k) cost)
 exact_ok pricing k row costs (Err e) holds told = tt
 exact_ok pricing k row costs (Ok cost) holds told = λ tables allowed kind chains is allows classes.
     told (allowed k) (leaf_prices pricing.instance.now tables allowed kind chains k) classes (holds tables allowed kind chains is allows)

@@ -98,7 +98,13 @@ impl<'a> LeafPricing<'a> {
         let linear = u128::from(size) * self.rates[arc as usize];
         match &self.rule {
             Rule::BySize => linear,
-            Rule::InParts { users } => even_price(self.instance, arc, users.counts[class as usize], users.sizes[class as usize], linear),
+            Rule::InParts { users } => even_price(
+                self.instance,
+                arc,
+                users.counts[class as usize],
+                users.sizes[class as usize],
+                linear,
+            ),
             Rule::ByShares { shares } => match share_of(shares, arc, point) {
                 Some(share) => share_price(share, shipment, size),
                 None => linear,

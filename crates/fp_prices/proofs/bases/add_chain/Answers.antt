@@ -25,5 +25,5 @@ loop-class-preserved c =
     let in_row : x < length c.args.forced.now.row = c.requires.row i 0 inside in
     let read = get_or_read c.loop-class.forced.loads.items x c.index_mut.result.now (omega (arith, in_loads, so_far.loads_long)) c.index_mut.ensures.value 0 in
     rw c.set.ensures.bits
-        (added_more c.args.size c.args.classes.now i x (c.index_mut.result.now + c.from.result) c.args.forced.now.loads.items c.loop-class.forced.loads.items c.args.forced.now.row c.loop-class.forced.row
-        c.requires.apart inside refl in_loads in_row so_far (omega (arith, read, c.from.ensures)))
+    (added_more c.args.size c.args.classes.now i x (c.index_mut.result.now + c.from.result) c.args.forced.now.loads.items c.loop-class.forced.loads.items c.args.forced.now.row c.loop-class.forced.row
+    c.requires.apart inside refl in_loads in_row so_far (omega (arith, read, c.from.ensures)))

@@ -25,7 +25,7 @@ add_size-requires-clause-room c = rw c.deref_mut-in-loop-shipment.ensures.value 
     omega (arith, small, size, exists, c.shipments.ensures.valid.few_shipments, ap (λ (s : Shipment). s.size) c.shipment.ensures.same))
 
 pub loop-shipment-preserved : goal.loop-shipment-preserved
-loop-shipment-preserved c = 
+loop-shipment-preserved c =
     let p = c.args.instance.now in
     let i : ℕ = c.loop-shipment.shipment in
     let so_far = c.loop-shipment.invariant in

@@ -33,6 +33,6 @@ returns-else-place-shares c =
     sym (share-missing class table place no_share c.requires.shares parted
     (elim c.else-place-shares.branch as (λ _. place < length table → is_share class (get_or table place no_share) ≡ false) [
       | else-place-shares-via-then-place-shares+else-is_of w ↦ λ h.
-      ap (is_share class) (sym (get_or_read table place w.index-shares-place.result h w.index-shares-place.is no_share)) ∙ sym w.is_of.ensures ∙ w.if-is_of.false
+          ap (is_share class) (sym (get_or_read table place w.index-shares-place.result h w.index-shares-place.is no_share)) ∙ sym w.is_of.ensures ∙ w.if-is_of.false
       | else-place-shares-via-else-place-shares w ↦ λ h. absurd (omega arith)
     ]))

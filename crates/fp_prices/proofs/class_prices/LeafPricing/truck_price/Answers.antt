@@ -62,8 +62,12 @@ even_price-requires-clause-some c =
     let allows : priced.allowed c.args.shipment here ≡ true = subst (λ (e : Leg). priced.allowed c.args.shipment e ≡ true) at priced.allows in
     let inside : c.args.class < length c.in-InParts.users.counts.items = omega (arith, c.requires.number, number-within net here priced.is.whole.valid c.requires.class, are.counts_long) in
     let read = get_or_read c.in-InParts.users.counts.items c.args.class c.index-in-InParts.result.now inside c.index-in-InParts.ensures 0 in
-    omega (arith, read, ap (λ (n : ℕ). get_or c.in-InParts.users.counts.items n 0) c.requires.number,
-      users-some p net priced.allowed _ c.args.shipment c.in-InParts.users here are c.requires.class c.requires.shipment allows)
+    omega (
+      arith,
+      read,
+      ap (λ (n : ℕ). get_or c.in-InParts.users.counts.items n 0) c.requires.number,
+      users-some p net priced.allowed _ c.args.shipment c.in-InParts.users here are c.requires.class c.requires.shipment allows,
+    )
 
 pub share_price-requires-clause-weights : goal.share_price-requires-clause-weights
 share_price-requires-clause-weights c =
