@@ -1,1 +1,3 @@
+mod EndedLines
+mod RowTexts
 mod Worked

@@ -1,13 +1,27 @@
 //! The certificate of an answer, its text, and how it is read back.
 #![tactic(auto)]
 
+mod answer_lines;
 mod certificates;
 mod drafts;
 mod faults;
 mod kinds;
+mod leaf_lines;
+mod leg_lines;
+mod name_fields;
+mod node_lines;
+mod point_lines;
+mod scale_lines;
+mod share_lines;
+mod split_lines;
+mod table_lines;
+mod truck_lines;
+mod weight_lines;
+mod writing;
 
 pub use certificates::{Answer, Certificate, Node, Spent};
 pub use faults::CertFault;
+pub use writing::write;
 
 /// No memory was found.
 pub type NoMemory = std::alloc::AllocError;
