@@ -1,3 +1,4 @@
+mod Differing
 mod EndedLines
 mod RowTexts
 mod Worked
