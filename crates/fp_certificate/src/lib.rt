@@ -10,6 +10,7 @@ mod kinds;
 mod leaf_lines;
 mod leg_lines;
 mod line_faults;
+mod line_fields;
 mod lookups;
 mod name_fields;
 mod node_lines;
