@@ -1,16 +1,19 @@
 // What the lines of a certificate have given so far.
-ghost use Rattle.std.specs.Prelude.{◌≡◌, ◌<◌, OnOk, length};
+ghost use Rattle.std.specs.Prelude.{◌≡◌, ◌<◌, ◌^◌, false, is_some, length, OnOk};
+ghost use Rattle.fp_records.specs.Fields.{is_empty};
 ghost use Rattle.fp_certificate.specs.Answers.{with_answer, with_scale};
 ghost use Rattle.fp_certificate.specs.Groups.{has_ended, is_misplaced};
 ghost use Rattle.fp_certificate.specs.Points.{with_point};
 ghost use Rattle.fp_certificate.specs.Reading.{nothing_read};
-ghost use Rattle.fp_certificate.specs.Tables.{with_tables};
+ghost use Rattle.fp_certificate.specs.Tables.{lacks_share, with_share, with_table, with_weight};
 ghost use Rattle.fp_certificate.specs.Timetables.{with_leg, with_truck};
 ghost use Rattle.fp_certificate.specs.Trees.{with_end, with_node};
 
 use crate::NoMemory;
 use crate::certificates::{Answer, Certificate, Node};
 use crate::groups::Group;
+use crate::open_tables::{lacks_share, push_share, push_weight};
+use fp_prices::{Share, Table, Weight};
 use fp_timenodes::AddedPoint;
 use fp_timetable::{LegLine, TruckLine};
 use std::alloc::Global;
@@ -57,6 +60,35 @@ impl Draft {
         matches!(self.latest, Some(Group::End))
     }
 
+    /// Whether there is a scale.
+    pub fn has_scale(&self) -> bool
+        ensures { result ≡ is_some self.now.certificate.scale }
+    {
+        self.certificate.scale.is_some()
+    }
+
+    /// How many tables there are.
+    pub fn table_count(&self) -> u32
+        requires { length self.now.certificate.tables < 2 ^ 32 }
+        ensures { result ≡ length self.now.certificate.tables }
+    {
+        self.certificate.tables.len() as u32
+    }
+
+    /// Whether there is no table.
+    pub fn lacks_table(&self) -> bool
+        ensures { result ≡ is_empty self.now.certificate.tables }
+    {
+        self.certificate.tables.is_empty()
+    }
+
+    /// Whether the last table has no share, or there is no table.
+    pub fn lacks_share(&self) -> bool
+        ensures { result ≡ lacks_share self.now.certificate.tables }
+    {
+        lacks_share(&self.certificate.tables)
+    }
+
     /// Takes an answer.
     pub fn set_answer(&mut self, answer: Answer)
         ensures { self.new ≡ with_answer self.old answer }
@@ -100,6 +132,40 @@ impl Draft {
         let certificate = &mut self.certificate;
         certificate.points.push(point)?;
         self.latest = Some(Group::Points);
+        Ok(())
+    }
+
+    /// Adds a table without shares. The only error is `NoMemory`.
+    pub fn add_table(&mut self, alloc: Global) -> Result<(), NoMemory>
+        ensures { OnOk result (self.new ≡ with_table self.old) }
+    {
+        let certificate = &mut self.certificate;
+        certificate.tables.push(Table {
+            shares: Vec::new(alloc),
+        })?;
+        self.latest = Some(Group::Tables);
+        Ok(())
+    }
+
+    /// Adds a share to the last table. The only error is `NoMemory`.
+    pub fn add_share(&mut self, share: Share) -> Result<(), NoMemory>
+        requires { 0 < length self.old.certificate.tables }
+        ensures { OnOk result (self.new ≡ with_share self.old share) }
+    {
+        let certificate = &mut self.certificate;
+        push_share(&mut certificate.tables, share)?;
+        self.latest = Some(Group::Tables);
+        Ok(())
+    }
+
+    /// Adds a weight to the last share of the last table. The only error is `NoMemory`.
+    pub fn add_weight(&mut self, weight: Weight) -> Result<(), NoMemory>
+        requires { lacks_share self.old.certificate.tables ≡ false }
+        ensures { OnOk result (self.new ≡ with_weight self.old weight) }
+    {
+        let certificate = &mut self.certificate;
+        push_weight(&mut certificate.tables, weight)?;
+        self.latest = Some(Group::Tables);
         Ok(())
     }
 

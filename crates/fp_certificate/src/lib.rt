@@ -4,6 +4,7 @@
 mod answer_lines;
 mod certificates;
 mod drafts;
+mod end_lines;
 mod faults;
 mod groups;
 mod kinds;
@@ -14,6 +15,7 @@ mod line_fields;
 mod lookups;
 mod name_fields;
 mod node_lines;
+mod open_tables;
 mod point_lines;
 mod scale_lines;
 mod share_lines;
