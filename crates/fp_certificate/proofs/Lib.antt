@@ -1,4 +1,5 @@
 mod Differing
 mod EndedLines
+mod LastElements
 mod RowTexts
 mod Worked
