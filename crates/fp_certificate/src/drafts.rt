@@ -1,16 +1,18 @@
 // What the lines of a certificate have given so far.
-ghost use Rattle.std.specs.Prelude.{◌≡◌, ◌<◌, ◌^◌, false, is_some, length, OnOk};
+ghost use Rattle.std.specs.Prelude.{◌≡◌, ◌<◌, ◌^◌, false, is_some, length, MatchResult, Ok, OnOk};
 ghost use Rattle.fp_records.specs.Fields.{is_empty};
 ghost use Rattle.fp_certificate.specs.Answers.{with_answer, with_scale};
 ghost use Rattle.fp_certificate.specs.Groups.{has_ended, is_misplaced};
 ghost use Rattle.fp_certificate.specs.Points.{with_point};
-ghost use Rattle.fp_certificate.specs.Reading.{nothing_read};
+ghost use Rattle.fp_certificate.specs.Outcomes.{IsFirst};
+ghost use Rattle.fp_certificate.specs.Reading.{finished, nothing_read};
 ghost use Rattle.fp_certificate.specs.Tables.{lacks_share, with_share, with_table, with_weight};
 ghost use Rattle.fp_certificate.specs.Timetables.{with_leg, with_truck};
 ghost use Rattle.fp_certificate.specs.Trees.{with_end, with_node};
 
 use crate::NoMemory;
 use crate::certificates::{Answer, Certificate, Node};
+use crate::faults::CertFault;
 use crate::groups::Group;
 use crate::open_tables::{lacks_share, push_share, push_weight};
 use fp_prices::{Share, Table, Weight};
@@ -184,5 +186,16 @@ impl Draft {
         ensures { self.new ≡ with_end self.old }
     {
         self.latest = Some(Group::End);
+    }
+
+    /// The certificate, or, where the lines have not ended, that the record with this ordinal is missing.
+    pub fn finish(self, ordinal: u32) -> Result<Certificate, CertFault>
+        ensures { MatchResult result (λ c. finished self ordinal ≡ Ok c) (λ e. IsFirst e (finished self ordinal)) }
+    {
+        if self.has_ended() {
+            Ok(self.certificate)
+        } else {
+            Err(CertFault::Bad { ordinal, code: 26 })
+        }
     }
 }

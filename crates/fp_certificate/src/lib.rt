@@ -17,6 +17,7 @@ mod name_fields;
 mod node_lines;
 mod open_tables;
 mod point_lines;
+mod reading;
 mod scale_lines;
 mod share_lines;
 mod split_lines;
@@ -27,6 +28,7 @@ mod writing;
 
 pub use certificates::{Answer, Certificate, Node, Spent};
 pub use faults::CertFault;
+pub use reading::read;
 pub use writing::write;
 
 /// No memory was found.
