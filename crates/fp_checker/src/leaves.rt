@@ -9,11 +9,10 @@ ghost use Rattle.fp_checker.specs.Leaves.{AreLeavesWorth, IsBoundWorth, IsLeafWo
 ghost use Rattle.fp_checker.specs.Points.{ArePointsOf};
 
 use crate::NoMemory;
-use crate::stand_in::bound;
 use fp_certificate::{Answer, Certificate, Node};
 use fp_flatnet::Windows;
 use fp_model::Instance;
-use fp_prices::{LeafBound, LeafPrice};
+use fp_prices::{LeafBound, LeafPrice, bound};
 use fp_timenodes::Points;
 use fp_tree::{Side, Split, Way};
 use std::alloc::Global;

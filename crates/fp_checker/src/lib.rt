@@ -14,7 +14,6 @@ mod orders;
 mod plans;
 mod price_tables;
 mod rejections;
-mod stand_in;
 mod trees;
 
 pub use checks::{check, plan_of};
