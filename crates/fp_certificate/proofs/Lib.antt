@@ -1,1 +1,9 @@
+mod Differing
+mod EndedLines
+mod LastElements
+mod LineRanges
+mod Ranged
+mod ReadEnds
+mod RowTexts
+mod TableCounts
 mod Worked

@@ -10,7 +10,7 @@ use Rattle.fp_certificate.specs.declared.certificates.Answer.TheVariants as answ
 use Rattle.fp_certificate.specs.declared.certificates.Spent.{Spent}
 use Rattle.fp_certificate.specs.declared.certificates.Spent.TheVariants.{Rounds, Branches}
 use Rattle.fp_certificate.specs.declared.drafts.Draft.{Draft}
-use Rattle.fp_certificate.specs.declared.drafts.Group.TheVariants as group
+use Rattle.fp_certificate.specs.declared.groups.Group.TheVariants as group
 use Rattle.fp_certificate.specs.Groups.{is_misplaced}
 use Rattle.fp_certificate.specs.Places.{lacks_shipment, shipment_in}
 

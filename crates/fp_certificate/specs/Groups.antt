@@ -1,10 +1,10 @@
 -- Where a line of a group can stand.
-use Rattle.std.specs.Prelude.{ℕ, Bool, true, false, ◌||◌, nat_lt, Option, Some, None}
+use Rattle.std.specs.Prelude.{ℕ, Bool, true, false, ◌||◌, not, nat_lt, Option, Some, None}
 use Rattle.fp_certificate.specs.declared.certificates.Answer.{Answer}
 use Rattle.fp_certificate.specs.declared.certificates.Answer.TheVariants as answer
 use Rattle.fp_certificate.specs.declared.drafts.Draft.{Draft}
-use Rattle.fp_certificate.specs.declared.drafts.Group.{Group}
-use Rattle.fp_certificate.specs.declared.drafts.Group.TheVariants as group
+use Rattle.fp_certificate.specs.declared.groups.Group.{Group}
+use Rattle.fp_certificate.specs.declared.groups.Group.TheVariants as group
 
 -- the place of a group among the groups
 abbrev pub place_of : Group → ℕ
@@ -46,8 +46,7 @@ is_after_answer _ = true
 -- after one of a later group; and none under an answer that forbids it
 abbrev pub is_misplaced_after : Option Group → Answer → Group → Bool
 is_misplaced_after None a g = is_after_answer g
-is_misplaced_after (Some latest) a group.Answer = true
-is_misplaced_after (Some latest) a g = nat_lt (place_of g) (place_of latest) || is_forbidden a g
+is_misplaced_after (Some latest) a g = not (is_after_answer g) || nat_lt (place_of g) (place_of latest) || is_forbidden a g
 
 -- whether a line of the group can't stand after those of the draft
 abbrev pub is_misplaced : Draft → Group → Bool

@@ -9,5 +9,8 @@ pub mod Points
 pub mod Tables
 pub mod Trees
 pub mod Reading
+pub mod Codes
+pub mod Outcomes
+pub mod Indexes
 pub mod Ranges
 pub mod Readable

@@ -5,7 +5,7 @@ use Rattle.fp_reader.specs.Faults.{Finding, fault}
 use Rattle.fp_reader.specs.Fields.{has_number, is_between, number_at}
 use Rattle.fp_timenodes.specs.declared.places.AddedPoint.{AddedPoint}
 use Rattle.fp_certificate.specs.declared.drafts.Draft.{Draft}
-use Rattle.fp_certificate.specs.declared.drafts.Group.TheVariants as group
+use Rattle.fp_certificate.specs.declared.groups.Group.TheVariants as group
 use Rattle.fp_certificate.specs.Groups.{is_misplaced}
 use Rattle.fp_certificate.specs.Places.{lacks_terminal, terminal_in}
 use Rattle.fp_certificate.specs.Timetables.{is_time}

@@ -92,10 +92,18 @@ abbrev pub AnswerExists : Problem → Answer → Type 0
 AnswerExists p (Infeasible shipment time) = shipment < length p.shipments
 AnswerExists p _ = Unit {0}
 
+-- the terminal of a point exists
+abbrev pub PointExists : Problem → AddedPoint → Type 0
+PointExists p point = point.terminal < length p.terminals
+
+-- the shipment of a weight exists
+abbrev pub WeightExists : Problem → Weight → Type 0
+WeightExists p weight = weight.shipment < length p.shipments
+
 -- the arc of a share and the shipments of its weights exist
 pub record ShareExists (p : Problem) (share : ClassShare) : Type 0 where
   pub arc : share.arc < length p.arcs
-  pub weights : All (λ (w : Weight). w.shipment < length p.shipments) share.weights
+  pub weights : All (WeightExists p) share.weights
 
 -- the shipment, the arc and the terminal of a split exist
 abbrev pub SplitExists : Problem → Split → Type 0
@@ -112,6 +120,6 @@ pub record IsNamed (p : Problem) (c : Statement) : Type 0 where
   pub answer : AnswerExists p c.answer
   pub legs : All (LegExists p) c.legs
   pub trucks : All (TruckExists p) c.trucks
-  pub points : All (λ (point : AddedPoint). point.terminal < length p.terminals) c.points
+  pub points : All (PointExists p) c.points
   pub tables : All (All (ShareExists p)) c.tables
   pub tree : All (NodeExists p) c.tree

@@ -1,5 +1,6 @@
 -- The fields of a certificate's lines, in order. A field is a list of bytes; numbers are decimal without leading zeros.
 use Rattle.std.specs.Prelude.{ℕ, ◌+◌, Bool, List, [], ◌∷◌, ◌++◌, map, if◌then◌else◌, Option, Some, None, codes, decimal, slice_index_or}
+use Rattle.std.specs.List.{flat_map}
 use Rattle.fp_records.specs.Text.{Lines, with_field}
 use Rattle.fp_model.specs.Numbered.{shipment_at}
 use Rattle.fp_model.specs.Problem.{Problem, arc_at}
@@ -109,15 +110,18 @@ share_fields p s = codes "share" ∷ tail_name p s.arc ∷ head_name p s.arc ∷
 abbrev pub weight_fields : Problem → Weight → List (List ℕ)
 weight_fields p w = codes "weight" ∷ shipment_name p w.shipment ∷ decimal w.w ∷ []
 
--- the lines of shares, each followed by its weights
-abbrev pub share_rows : Problem → List ClassShare → List (List (List ℕ))
-share_rows p [] = []
-share_rows p (s ∷ shares) = share_fields p s ∷ (map (weight_fields p) s.weights ++ share_rows p shares)
+-- the line of a share, followed by its weights
+abbrev pub share_rows : Problem → ClassShare → List (List (List ℕ))
+share_rows p s = share_fields p s ∷ map (weight_fields p) s.weights
 
--- the lines of tables, numbered from one number on, each followed by its shares
-abbrev pub table_rows : Problem → ℕ → List (List ClassShare) → List (List (List ℕ))
-table_rows p id [] = []
-table_rows p id (table ∷ tables) = table_fields id ∷ (share_rows p table ++ table_rows p (id + 1) tables)
+-- the line of a table with a number, followed by its shares
+abbrev pub table_rows : Problem → ℕ → List ClassShare → List (List (List ℕ))
+table_rows p id table = table_fields id ∷ flat_map (share_rows p) table
+
+-- the lines of tables that are numbered from a number on
+abbrev pub tables_rows : Problem → ℕ → List (List ClassShare) → List (List (List ℕ))
+tables_rows p id [] = []
+tables_rows p id (table ∷ tables) = table_rows p id table ++ tables_rows p (id + 1) tables
 
 -- `split,arc,SHIPMENT,FROM,TO` or `split,time,SHIPMENT,TERMINAL,AT`
 abbrev pub split_fields : Problem → Split → List (List ℕ)
@@ -156,6 +160,6 @@ rows_of p c =
     ++ (map (leg_fields p) c.legs
     ++ (map (truck_fields p) c.trucks
     ++ (map (point_fields p) c.points
-    ++ (table_rows p 1 c.tables
+    ++ (tables_rows p 1 c.tables
     ++ (map (node_fields p) c.tree
     ++ (end_fields ∷ [])))))))

@@ -9,7 +9,7 @@ use Rattle.fp_tree.specs.declared.sides.Split.TheVariants.{ByArc, ByTime}
 use Rattle.fp_certificate.specs.declared.certificates.Node.{Node}
 use Rattle.fp_certificate.specs.declared.certificates.Node.TheVariants.{Branch, Leaf}
 use Rattle.fp_certificate.specs.declared.drafts.Draft.{Draft}
-use Rattle.fp_certificate.specs.declared.drafts.Group.TheVariants as group
+use Rattle.fp_certificate.specs.declared.groups.Group.TheVariants as group
 use Rattle.fp_certificate.specs.Answers.{has_word}
 use Rattle.fp_certificate.specs.Groups.{is_misplaced}
 use Rattle.fp_certificate.specs.Places.{arc_in, lacks_arc, lacks_shipment, lacks_terminal, shipment_in, terminal_in}

@@ -1,4 +1,5 @@
 // Why records give no certificate.
+use std::alloc::AllocError;
 use thiserror::Error;
 
 /// Why records give no certificate.
@@ -21,4 +22,15 @@ pub enum CertFault {
     /// No memory was found.
     #[error("out of memory")]
     NoMemory,
+}
+
+impl From<AllocError> for CertFault {
+    ghost use Rattle.std.specs.Prelude.{◌≡◌};
+    ghost use Rattle.fp_certificate.specs.declared.faults.CertFault.TheVariants.{NoMemory};
+
+    ghost from_gives = { λ _ e. e ≡ NoMemory };
+
+    fn from(_error: AllocError) -> CertFault {
+        CertFault::NoMemory
+    }
 }

@@ -9,6 +9,8 @@ use Rattle.fp_tree.specs.declared.sides.Split.{Split}
 use Rattle.fp_tree.specs.declared.sides.Split.TheVariants.{ByArc, ByTime}
 use Rattle.fp_tree.specs.Sides.{Fork}
 use Rattle.fp_tree.specs.Trees.{Leaf, IsTree, tree_leaves, tree_splits}
+use Rattle.fp_prices.specs.declared.bounds.LeafBound.{LeafBound}
+use Rattle.fp_prices.specs.declared.bounds.LeafBound.TheVariants.{Empty, Value}
 use Rattle.fp_prices.specs.Leaves.{IsLeafEmpty, IsLeafValue}
 use Rattle.fp_certificate.specs.declared.certificates.Node.{Node}
 use Rattle.fp_certificate.specs.declared.certificates.Node.TheVariants as node
@@ -36,7 +38,12 @@ IsLeafWorth p table c claim (node.Branch split) sides = ⊥
 IsLeafWorth p table c claim (node.Leaf price) sides =
     IsLeafEmpty p (windows_in table) (points_as_of p table.anchors c price.round) sides
     ⊎ ((value : ℕ) × IsLeafValue p (windows_in table) (points_as_of p table.anchors c price.round) sides c.tables price.kind price.forced value
-        × (claim ≤ div_ceil value p.scale))
+    × (claim ≤ div_ceil value p.scale))
+
+-- a bound tells that a leaf is empty, or that it is worth the claim in whole units of money
+abbrev pub IsBoundWorth : (scale claim : ℕ) → LeafBound → Type 0
+IsBoundWorth scale claim (Empty shipment) = Unit {0}
+IsBoundWorth scale claim (Value value) = claim ≤ div_ceil value scale
 
 -- each leaf of the tree is worth the claim under the sides on its way from the root
 abbrev pub AreLeavesWorth : Problem → WindowTable → Statement → (claim : ℕ) → Type 0

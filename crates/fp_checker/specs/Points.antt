@@ -1,5 +1,5 @@
 -- The points of a certificate.
-use Rattle.std.specs.Prelude.{ℕ, ◌+◌, ◌≤◌, ◌≡◌, ◌≢◌, ◌==◌, List, ◌++◌, length, false, All, AllPairs, count_by}
+use Rattle.std.specs.Prelude.{ℕ, ◌+◌, ◌<◌, ◌≤◌, ◌≡◌, ◌≢◌, ◌==◌, List, ◌++◌, length, false, All, AllPairs, count_by}
 use Rattle.fp_model.specs.Problem.{Problem}
 use Rattle.fp_timenodes.specs.declared.places.AddedPoint.{AddedPoint}
 use Rattle.fp_timenodes.specs.declared.places.Place.{Place}
@@ -31,4 +31,4 @@ HasPoints p anchors c = AreAddedPoints p anchors c.points
 pub record ArePointsOf (p : Problem) (anchors : List Place) (added : List AddedPoint) (v : TimePoints) : Type 0 where
   pub terminals : v.terminals ≡ length p.terminals
   pub few : v.terminals + length v.first + length v.added ≤ 65000
-  pub same : (terminal round : ℕ) → HaveSamePoints (points_at v terminal round) (points_with p anchors added round terminal)
+  pub same : (terminal round : ℕ) → terminal < length p.terminals → HaveSamePoints (points_at v terminal round) (points_with p anchors added round terminal)

@@ -1,5 +1,5 @@
 // What a plan costs, from its departures and their trucks.
-ghost use Rattle.std.specs.Prelude.{◌≡◌, ◌*◌, ◌<◌, ◌^◌, All, length, sum_by};
+ghost use Rattle.std.specs.Prelude.{◌≡◌, ◌*◌, ◌<◌, ◌^◌, ◌↔◌, All, IsTrue, length, sum_by};
 ghost use Rattle.std.specs.declared.alloc.Global.{Global};
 ghost use Rattle.std.specs.declared.vec.Vec.{Vec};
 ghost use Rattle.fp_model.specs.Costs.{cost, flow_cost, flow_total, lists_of};
@@ -10,6 +10,13 @@ ghost use Rattle.fp_checker.specs.Plans.{line_cost};
 
 use fp_model::{Instance, Leg, Plan};
 use fp_timetable::TruckLine;
+
+// Whether truck lines are the same lines in the same order.
+pub(crate) fn are_same(first: &[TruckLine], second: &[TruckLine]) -> bool
+    ensures { IsTrue result ↔ (first.now ≡ second.now) }
+{
+    first == second
+}
 
 // What the trucks of departures cost.
 fn trucks_cost(instance: &Instance, lines: &[TruckLine]) -> u128

@@ -5,15 +5,18 @@
 #![tactic(auto)]
 
 mod added_points;
+mod checks;
 mod departures;
 mod fastest_times;
 mod laws;
+mod leaves;
 mod orders;
 mod plans;
 mod price_tables;
 mod rejections;
 mod trees;
 
+pub use checks::{check, plan_of};
 pub use laws::accepted_claims;
 pub use rejections::Rejected;
 

@@ -27,7 +27,10 @@ fn legs_ascend(legs: &[LegLine]) -> bool
 {
     for place in 1..legs.len() {
         let (first, second) = (legs[place - 1], legs[place]);
-        if !stands_before((first.depart, first.shipment), (second.depart, second.shipment)) {
+        if !stands_before(
+            (first.depart, first.shipment),
+            (second.depart, second.shipment),
+        ) {
             return false;
         }
     }
@@ -87,11 +90,7 @@ fn bare_routes(alloc: Global, count: usize) -> Result<Vec<Vec<Leg>>, NoMemory>
 }
 
 // The legs of each of so many shipments, in the order of their lines.
-fn gathered_routes(
-    alloc: Global,
-    count: usize,
-    legs: &[LegLine],
-) -> Result<Vec<Vec<Leg>>, NoMemory>
+fn gathered_routes(alloc: Global, count: usize, legs: &[LegLine]) -> Result<Vec<Vec<Leg>>, NoMemory>
     requires { All (λ (l : LegLine). l.shipment < count) legs.now }
     ensures long { IfOk result (λ routes. length routes.items ≡ count) }
     ensures each { IfOk result (λ routes. (k : ℕ) → k < count →
@@ -109,11 +108,7 @@ fn gathered_routes(
 }
 
 // For each shipment its legs, in the order of their lines.
-fn legs_by_shipment(
-    alloc: Global,
-    instance: &Instance,
-    legs: &[LegLine],
-) -> Result<Plan, NoMemory>
+fn legs_by_shipment(alloc: Global, instance: &Instance, legs: &[LegLine]) -> Result<Plan, NoMemory>
     requires { All (LegExists instance.now) legs.now }
     ensures { IfOk result (λ plan. plan ≡ routes_from legs.now 0 instance.now.shipments) }
 {

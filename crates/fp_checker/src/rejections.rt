@@ -27,12 +27,19 @@ pub enum Rejected {
 
 // The numbers of the parts.
 pub(crate) const PLAN: u32 = 1;
+
 pub(crate) const COST: u32 = 2;
+
 pub(crate) const TRUCKS: u32 = 3;
+
 pub(crate) const POINTS: u32 = 4;
+
 pub(crate) const PRICES: u32 = 5;
+
 pub(crate) const TREE: u32 = 6;
+
 pub(crate) const LEAVES: u32 = 7;
+
 pub(crate) const BLOCKED: u32 = 8;
 
 impl From<NoMemory> for Rejected {

@@ -30,8 +30,9 @@ pub(crate) fn split_count(nodes: &[Node]) -> usize
 {
     let mut count: usize = 0;
     for node in nodes {
-        if let Node::Branch { .. } = node {
-            count += 1;
+        match node {
+            Node::Branch { .. } => count += 1,
+            Node::Leaf { .. } => {}
         }
     }
     count

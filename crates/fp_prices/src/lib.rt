@@ -6,17 +6,29 @@
 //! money of which the instance's scale makes one. Then each shipment goes its own cheapest way.
 #![tactic(auto)]
 
+mod arc_rates;
+mod bases;
 mod bounds;
+mod class_prices;
+mod class_users;
 mod laws;
 mod leaf_prices;
+mod leaf_rules;
+mod least_costs;
+mod point_graphs;
 mod price_rule;
+mod share_prices;
+mod share_searches;
 mod tables;
 
-pub use bounds::LeafBound;
+pub use bounds::{LeafBound, bound};
 pub use laws::{leaves_bound_plans, leaves_have_one_value};
-pub use price_rule::check_tables;
 pub use leaf_prices::{Kind, LeafPrice};
+pub use price_rule::check_tables;
 pub use tables::{Share, Table, TableFault, Weight};
 
 /// What a call that allocates can fail with.
 pub type NoMemory = std::alloc::AllocError;
+
+#[cfg(test)]
+mod tests;

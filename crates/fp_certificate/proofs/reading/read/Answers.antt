@@ -1,0 +1,21 @@
+use Rattle.std.proofs.Common.{◌≡◌, ◌+◌, ℕ, drop, length}
+use Rattle.fp_certificate.specs.Reading.{certificate_of, finished}
+use Rattle.fp_certificate.proofs.ReadEnds.{gives, ranges, tells, whole}
+use Rattle.fp_certificate.proofs.reading.read.Goals as goal
+
+pub returns-clause-read : goal.returns-clause-read
+returns-clause-read c =
+    let lines = c.args.lines.now in
+    let d = c.in_ok-draft.draft in
+    gives c.finish.result (finished d (length lines + 1)) (certificate_of c.args.instance.now (c.args.from + 1) (drop c.args.from lines))
+    (whole c.in_ok-lookup.lookup c.args.instance.now lines c.args.from d c.in_ok-lookup.ensures c.requires.from c.in_ok-draft.ensures) c.finish.ensures
+
+pub returns-clause-bad : goal.returns-clause-bad
+returns-clause-bad c =
+    let lines = c.args.lines.now in
+    let d = c.in_ok-draft.draft in
+    tells c.finish.result (finished d (length lines + 1)) (certificate_of c.args.instance.now (c.args.from + 1) (drop c.args.from lines))
+    (whole c.in_ok-lookup.lookup c.args.instance.now lines c.args.from d c.in_ok-lookup.ensures c.requires.from c.in_ok-draft.ensures) c.finish.ensures
+
+pub returns-clause-range : goal.returns-clause-range
+returns-clause-range c = ranges c.args.instance.now (c.args.from + 1) (drop c.args.from c.args.lines.now) c.finish.result (returns-clause-read c)
