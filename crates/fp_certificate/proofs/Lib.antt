@@ -2,6 +2,9 @@ mod Differing
 mod EndedLines
 mod LastElements
 mod LineRanges
+mod LinesBack
+mod NamesBack
+mod NumbersBack
 mod Ranged
 mod ReadEnds
 mod RowTexts

@@ -189,6 +189,7 @@ kind-ranged p before Table fields h r =
 kind-ranged p before Share fields h r =
     let tables = before.certificate.tables in
     let share = share_in p fields in
+    let stays : length tables ≤ length (with_last (and_share share) tables) = omega (arith, length-with_last (and_share share) tables) in
     let count = clear 22 (not (length fields == 5)) h in
     let digits = clear 23 (not (has_number fields 3 && has_number fields 4)) count.later in
     let order = clear 24 _ digits.later in
@@ -201,11 +202,12 @@ kind-ranged p before Share fields h r =
       price = small fields 4 limits.1;
       weights = All-nil (IsWeightInRange p);
     } in
-    with-tables p before.certificate (with_last (and_share share) tables) (omega (arith, length-with_last (and_share share) tables))
+    with-tables p before.certificate (with_last (and_share share) tables) stays
     (All-with_last (All (IsShareInRange p)) (All (IsShareInRange p)) (and_share share) tables (λ table all. all) (λ table all. All-push (IsShareInRange p) table share all fits) r.tables) r
 kind-ranged p before Weight fields h r =
     let tables = before.certificate.tables in
     let weight = weight_in p fields in
+    let stays : length tables ≤ length (with_last (with_last (and_weight weight)) tables) = omega (arith, length-with_last (with_last (and_weight weight)) tables) in
     let count = clear 22 (not (length fields == 3)) h in
     let digits = clear 23 (not (has_number fields 2)) count.later in
     let order = clear 24 _ digits.later in
@@ -218,7 +220,7 @@ kind-ranged p before Weight fields h r =
     let more : (share : ClassShare) → IsShareInRange p share → IsShareInRange p (and_weight weight share) = λ share s. record {
       arc = s.arc; point = s.point; price = s.price; weights = All-push (IsWeightInRange p) share.weights weight s.weights fits;
     } in
-    with-tables p before.certificate (with_last (with_last (and_weight weight)) tables) (omega (arith, length-with_last (with_last (and_weight weight)) tables))
+    with-tables p before.certificate (with_last (with_last (and_weight weight)) tables) stays
     (All-with_last (All (IsShareInRange p)) (All (IsShareInRange p)) (with_last (and_weight weight)) tables (λ table all. all)
     (λ table all. All-with_last (IsShareInRange p) (IsShareInRange p) (and_weight weight) table (λ share s. s) more all) r.tables) r
 kind-ranged p before ByArc fields h r =
