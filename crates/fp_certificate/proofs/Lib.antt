@@ -8,5 +8,6 @@ mod NumbersBack
 mod Ranged
 mod ReadEnds
 mod RowTexts
+mod SegmentsBack
 mod TableCounts
 mod Worked
