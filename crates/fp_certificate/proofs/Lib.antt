@@ -2,8 +2,12 @@ mod Differing
 mod EndedLines
 mod LastElements
 mod LineRanges
+mod LinesBack
+mod NamesBack
+mod NumbersBack
 mod Ranged
 mod ReadEnds
 mod RowTexts
+mod SegmentsBack
 mod TableCounts
 mod Worked

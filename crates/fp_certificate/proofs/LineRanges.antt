@@ -44,9 +44,9 @@ joined p None to h = absurd (cc h)
 pub arc-there : (p : Problem) (fields : List (List ℕ)) (from to : ℕ) → lacks_arc p fields from to ≡ false → arc_in p fields from to < length p.arcs
 arc-there p fields from to h = joined p (terminal_named p (field fields from)) (terminal_named p (field fields to)) h
 
--- what holds of each element still does where the last one is changed and keeps it
-pub All-with_last : {A : Type 0} (P : A → Type 0) (f : A → A) (xs : List A) → ((x : A) → P x → P (f x)) → All P xs → All P (with_last f xs)
-All-with_last P f [] keeps all = all
-All-with_last P f (x ∷ []) keeps all = All-cons P (f x) [] (keeps x (All-head P x [] all)) (All-nil P)
-All-with_last P f (x ∷ y ∷ xs) keeps all =
-    All-cons P x (with_last f (y ∷ xs)) (All-head P x (y ∷ xs) all) (All-with_last P f (y ∷ xs) keeps (All-tail P x (y ∷ xs) all))
+-- what holds of each element makes what holds of each of them with the last one changed
+pub All-with_last : {A : Type 0} (P Q : A → Type 0) (f : A → A) (xs : List A) → ((x : A) → P x → Q x) → ((x : A) → P x → Q (f x)) → All P xs → All Q (with_last f xs)
+All-with_last P Q f [] stays changes all = All-nil Q
+All-with_last P Q f (x ∷ []) stays changes all = All-cons Q (f x) [] (changes x (All-head P x [] all)) (All-nil Q)
+All-with_last P Q f (x ∷ y ∷ xs) stays changes all =
+    All-cons Q x (with_last f (y ∷ xs)) (stays x (All-head P x (y ∷ xs) all)) (All-with_last P Q f (y ∷ xs) stays changes (All-tail P x (y ∷ xs) all))

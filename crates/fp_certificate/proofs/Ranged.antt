@@ -27,21 +27,21 @@ use Rattle.fp_certificate.specs.Groups.{has_ended, is_misplaced}
 use Rattle.fp_certificate.specs.Kinds.{kind_of}
 use Rattle.fp_certificate.specs.Places.{lacks_arc, lacks_shipment, lacks_terminal}
 use Rattle.fp_certificate.specs.Points.{point_in}
-use Rattle.fp_certificate.specs.Ranges.{IsAnswerInRange, IsInRange, IsLeafInRange, IsLegInRange, IsNodeInRange, IsPointInRange, IsScaleInRange, IsShareInRange, IsTruckInRange, IsWeightInRange}
+use Rattle.fp_certificate.specs.Ranges.{AreFewerThan, IsInRange, IsAnswerInRange, IsWithinRanges, IsLeafInRange, IsLegInRange, IsNodeInRange, IsPointInRange, IsScaleInRange, IsShareInRange, IsTruckInRange, IsWeightInRange}
 use Rattle.fp_certificate.specs.Reading.{certificate_from, faults_of, finished, kind_code, line_code, nothing_read, with_kind, with_kind_of, with_line}
 use Rattle.fp_certificate.specs.Statements.{Statement}
 use Rattle.fp_certificate.specs.Tables.{and_share, and_weight, share_in, weight_in, with_last}
 use Rattle.fp_certificate.specs.Timetables.{is_time, leg_in, truck_in}
 use Rattle.fp_certificate.specs.Trees.{has_kind_word, has_leaf_digits, has_leaf_ranges, kind_in, leaf_in}
 use Rattle.fp_certificate.proofs.LineRanges.{All-with_last, arc-there, in-time, shipment-there, small, terminal-there}
-use Rattle.fp_certificate.proofs.TableCounts.{length-with_last}
+use Rattle.fp_certificate.proofs.TableCounts.{fewer-than, length-with_last, line-fewer}
 
 -- with another answer
-with-answer : (p : Problem) (c : Statement) (a : Answer) → IsAnswerInRange p a → IsInRange p c → IsInRange p (record c { answer = a })
+with-answer : (p : Problem) (c : Statement) (a : Answer) → IsAnswerInRange p a → IsWithinRanges p c → IsWithinRanges p (record c { answer = a })
 with-answer p c a h r = record { answer = h; scale = r.scale; legs = r.legs; trucks = r.trucks; points = r.points; tables = r.tables; tree = r.tree }
 
 -- with one more node
-with-node : (p : Problem) (c : Statement) (n : Node) → IsNodeInRange p c.tables n → IsInRange p c → IsInRange p (record c { tree = c.tree ++ (n ∷ []) })
+with-node : (p : Problem) (c : Statement) (n : Node) → IsNodeInRange p c.tables n → IsWithinRanges p c → IsWithinRanges p (record c { tree = c.tree ++ (n ∷ []) })
 with-node p c n h r = record {
   answer = r.answer; scale = r.scale; legs = r.legs; trucks = r.trucks; points = r.points; tables = r.tables;
   tree = All-push (IsNodeInRange p c.tables) c.tree n r.tree h;
@@ -59,7 +59,7 @@ node-grows p few many (node.Leaf price) le h = record { kind = kind-grows few ma
 
 -- with other tables, no fewer than before
 with-tables : (p : Problem) (c : Statement) (tables : List (List ClassShare)) → length c.tables ≤ length tables → All (All (IsShareInRange p)) tables
-    → IsInRange p c → IsInRange p (record c { tables = tables })
+    → IsWithinRanges p c → IsWithinRanges p (record c { tables = tables })
 with-tables p c tables le h r = record {
   answer = r.answer; scale = r.scale; legs = r.legs; trucks = r.trucks; points = r.points; tables = h;
   tree = All-weaker (IsNodeInRange p c.tables) (IsNodeInRange p tables) (λ n. node-grows p c.tables tables n le) c.tree r.tree;
@@ -97,7 +97,7 @@ kind-range tables fields h = elim (cases_Bool (has_word (codes "linear") fields 
 
 -- a line of a kind without a fault gives what is in range
 kind-ranged : (p : Problem) (before : Draft) (kind : LineKind) (fields : List (List ℕ)) → first_code (faults_of p before kind fields) ≡ None
-    → IsInRange p before.certificate → IsInRange p (with_kind p before kind fields).certificate
+    → IsWithinRanges p before.certificate → IsWithinRanges p (with_kind p before kind fields).certificate
 kind-ranged p before Direct fields h r =
     let count = clear 22 (not (length fields == 3)) h in
     let digits = clear 23 (not (has_number fields 2)) count.later in
@@ -189,6 +189,7 @@ kind-ranged p before Table fields h r =
 kind-ranged p before Share fields h r =
     let tables = before.certificate.tables in
     let share = share_in p fields in
+    let stays : length tables ≤ length (with_last (and_share share) tables) = omega (arith, length-with_last (and_share share) tables) in
     let count = clear 22 (not (length fields == 5)) h in
     let digits = clear 23 (not (has_number fields 3 && has_number fields 4)) count.later in
     let order = clear 24 _ digits.later in
@@ -201,11 +202,12 @@ kind-ranged p before Share fields h r =
       price = small fields 4 limits.1;
       weights = All-nil (IsWeightInRange p);
     } in
-    with-tables p before.certificate (with_last (and_share share) tables) (omega (arith, length-with_last (and_share share) tables))
-    (All-with_last (All (IsShareInRange p)) (and_share share) tables (λ table all. All-push (IsShareInRange p) table share all fits) r.tables) r
+    with-tables p before.certificate (with_last (and_share share) tables) stays
+    (All-with_last (All (IsShareInRange p)) (All (IsShareInRange p)) (and_share share) tables (λ table all. all) (λ table all. All-push (IsShareInRange p) table share all fits) r.tables) r
 kind-ranged p before Weight fields h r =
     let tables = before.certificate.tables in
     let weight = weight_in p fields in
+    let stays : length tables ≤ length (with_last (with_last (and_weight weight)) tables) = omega (arith, length-with_last (with_last (and_weight weight)) tables) in
     let count = clear 22 (not (length fields == 3)) h in
     let digits = clear 23 (not (has_number fields 2)) count.later in
     let order = clear 24 _ digits.later in
@@ -218,8 +220,9 @@ kind-ranged p before Weight fields h r =
     let more : (share : ClassShare) → IsShareInRange p share → IsShareInRange p (and_weight weight share) = λ share s. record {
       arc = s.arc; point = s.point; price = s.price; weights = All-push (IsWeightInRange p) share.weights weight s.weights fits;
     } in
-    with-tables p before.certificate (with_last (with_last (and_weight weight)) tables) (omega (arith, length-with_last (with_last (and_weight weight)) tables))
-    (All-with_last (All (IsShareInRange p)) (with_last (and_weight weight)) tables (λ table all. All-with_last (IsShareInRange p) (and_weight weight) table more all) r.tables) r
+    with-tables p before.certificate (with_last (with_last (and_weight weight)) tables) stays
+    (All-with_last (All (IsShareInRange p)) (All (IsShareInRange p)) (with_last (and_weight weight)) tables (λ table all. all)
+    (λ table all. All-with_last (IsShareInRange p) (IsShareInRange p) (and_weight weight) table (λ share s. s) more all) r.tables) r
 kind-ranged p before ByArc fields h r =
     let count = clear 22 (not (length fields == 5)) h in
     let order = clear 24 (is_misplaced before group.Tree) count.later in
@@ -250,13 +253,13 @@ kind-ranged p before Leaf fields h r =
 kind-ranged p before End fields h r = r
 
 maybe-ranged : (p : Problem) (before : Draft) (kind : Option LineKind) (fields : List (List ℕ)) → kind_code p before kind fields ≡ None
-    → IsInRange p before.certificate → IsInRange p (with_kind_of p before kind fields).certificate
+    → IsWithinRanges p before.certificate → IsWithinRanges p (with_kind_of p before kind fields).certificate
 maybe-ranged p before None fields h r = r
 maybe-ranged p before (Some kind) fields h r = kind-ranged p before kind fields h r
 
 -- a line without a fault does
 pub line-ranged : (p : Problem) (before : Draft) (fields : List (List ℕ)) → line_code p before fields ≡ None
-    → IsInRange p before.certificate → IsInRange p (with_line p before fields).certificate
+    → IsWithinRanges p before.certificate → IsWithinRanges p (with_line p before fields).certificate
 line-ranged p before fields h r =
     let open_still = clear 27 (has_ended before) h in
     maybe-ranged p before (kind_of fields) fields open_still.later r
@@ -285,20 +288,30 @@ at-end before ordinal c h = elim (cases_Bool (has_ended before)) [
   | inr going ↦ cc (rw going at h)
 ]
 
-from-ranged : (p : Problem) (before : Draft) (ordinal : ℕ) (records : List (List (List ℕ))) (c : Statement) → IsInRange p before.certificate
-    → certificate_from p before ordinal records ≡ Ok c → IsInRange p c
-from-ranged p before ordinal [] c r h = subst (λ (s : Statement). IsInRange p s) (at-end before ordinal c h) r
-from-ranged p before ordinal (fields ∷ records) c r h =
+-- the counts of tables and shares grow by at most one a line
+from-ranged : (p : Problem) (before : Draft) (n ordinal : ℕ) (records : List (List (List ℕ))) (c : Statement) → IsWithinRanges p before.certificate
+    → AreFewerThan n before.certificate.tables → certificate_from p before ordinal records ≡ Ok c
+    → IsWithinRanges p c × AreFewerThan (n + length records) c.tables
+from-ranged p before n ordinal [] c r few h = (
+  subst (λ (s : Statement). IsWithinRanges p s) (at-end before ordinal c h) r,
+  subst (λ (s : Statement). AreFewerThan (n + 0) s.tables) (at-end before ordinal c h) (fewer-than n (n + 0) before.certificate.tables (omega arith) few)
+)
+from-ranged p before n ordinal (fields ∷ records) c r few h =
     let next = passed ordinal (line_code p before fields) (certificate_from p (with_line p before fields) (ordinal + 1) records) c h in
-    from-ranged p (with_line p before fields) (ordinal + 1) records c (line-ranged p before fields next.0 r) next.1
+    let rest = from-ranged p (with_line p before fields) (n + 1) (ordinal + 1) records c (line-ranged p before fields next.0 r) (line-fewer p before n fields few) next.1 in
+    (rest.0, fewer-than (n + 1 + length records) (n + length (fields ∷ records)) c.tables (omega arith) rest.1)
 
 -- nothing is in range
-nothing-ranged : (p : Problem) → IsInRange p nothing_read.certificate
+nothing-ranged : (p : Problem) → IsWithinRanges p nothing_read.certificate
 nothing-ranged p = record {
   answer = lit≤ tt; scale = tt; legs = All-nil (IsLegInRange p); trucks = All-nil (IsTruckInRange p); points = All-nil (IsPointInRange p);
   tables = All-nil (All (IsShareInRange p)); tree = All-nil (IsNodeInRange p []);
 }
 
--- what records give is in range
-pub read-ranged : (p : Problem) (ordinal : ℕ) (records : List (List (List ℕ))) (c : Statement) → certificate_from p nothing_read ordinal records ≡ Ok c → IsInRange p c
-read-ranged p ordinal records c h = from-ranged p nothing_read ordinal records c (nothing-ranged p) h
+-- what records give is in range, where they can be counted in 32 bits
+pub read-ranged : (p : Problem) (ordinal : ℕ) (records : List (List (List ℕ))) (c : Statement) → length records < 2 ^ 32 - 1
+    → certificate_from p nothing_read ordinal records ≡ Ok c → IsInRange p c
+read-ranged p ordinal records c few h =
+    let none : AreFewerThan 1 [] = record { few_tables = omega arith; few_shares = All-nil (λ (table : List ClassShare). length table < 1) } in
+    let all = from-ranged p nothing_read 1 ordinal records c (nothing-ranged p) none h in
+    record { within = all.0; countable = fewer-than (1 + length records) (2 ^ 32 - 1) c.tables (omega arith) all.1 }

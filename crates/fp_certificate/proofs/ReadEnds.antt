@@ -1,5 +1,5 @@
 -- What the last step of reading answers, for all lines.
-use Rattle.std.proofs.Common.{◌≡◌, ◌∙◌, ℕ, ◌+◌, ◌-◌, ◌≤◌, List, length, take, drop, sym, ap, arith}
+use Rattle.std.proofs.Common.{◌≡◌, ◌∙◌, ℕ, ◌+◌, ◌-◌, ◌^◌, ◌<◌, ◌≤◌, List, length, take, drop, sym, ap, arith}
 use Rattle.std.specs.Prelude.{Result, Ok, Err, IfOk, MatchResult}
 use Rattle.std.proofs.lemmas.List.{length-drop, take_rest}
 use Rattle.fp_model.specs.Problem.{Problem}
@@ -38,6 +38,6 @@ tells (Err (Bad o k)) end read same h ordinal code is =
 tells (Err NoMemory) end read same h ordinal code is = cc is
 
 -- and it is in range
-pub ranges : (p : Problem) (ordinal : ℕ) (records : List (List (List ℕ))) (r : Result Statement CertFault) → IfOk r (λ c. certificate_of p ordinal records ≡ Ok c) → IfOk r (IsInRange p)
-ranges p ordinal records (Ok c) h = read-ranged p ordinal records c h
-ranges p ordinal records (Err e) h = tt
+pub ranges : (p : Problem) (ordinal : ℕ) (records : List (List (List ℕ))) (r : Result Statement CertFault) → length records < 2 ^ 32 - 1 → IfOk r (λ c. certificate_of p ordinal records ≡ Ok c) → IfOk r (IsInRange p)
+ranges p ordinal records (Ok c) few h = read-ranged p ordinal records c few h
+ranges p ordinal records (Err e) few h = tt

@@ -1,5 +1,5 @@
 -- Certificates whose numbers are in range, and whose terminals, arcs, shipments and tables exist.
-use Rattle.std.specs.Prelude.{ℕ, ◌<◌, ◌≤◌, ◌^◌, List, length, All, IfSome}
+use Rattle.std.specs.Prelude.{ℕ, ◌-◌, ◌<◌, ◌≤◌, ◌^◌, List, length, All, IfSome}
 use Rattle.fp_model.specs.Problem.{Problem, weight_at}
 use Rattle.fp_prices.specs.declared.leaf_prices.LeafPrice.{LeafPrice}
 use Rattle.fp_prices.specs.declared.tables.Weight.{Weight}
@@ -77,8 +77,8 @@ abbrev pub IsNodeInRange : Problem → List (List ClassShare) → Node → Type 
 IsNodeInRange p tables (Branch split) = IsSplitInRange p split
 IsNodeInRange p tables (Leaf price) = IsLeafInRange tables price
 
--- all numbers are in range, and all terminals, arcs, shipments and tables exist
-pub record IsInRange (p : Problem) (c : Statement) : Type 0 where
+-- each part is in range beside the others
+pub record IsWithinRanges (p : Problem) (c : Statement) : Type 0 where
   pub answer : IsAnswerInRange p c.answer
   pub scale : IfSome c.scale (IsScaleInRange p)
   pub legs : All (IsLegInRange p) c.legs
@@ -86,6 +86,16 @@ pub record IsInRange (p : Problem) (c : Statement) : Type 0 where
   pub points : All (IsPointInRange p) c.points
   pub tables : All (All (IsShareInRange p)) c.tables
   pub tree : All (IsNodeInRange p c.tables) c.tree
+
+-- there are fewer tables, and fewer shares in each of them, than so many
+pub record AreFewerThan (n : ℕ) (tables : List (List ClassShare)) : Type 0 where
+  pub few_tables : length tables < n
+  pub few_shares : All (λ (table : List ClassShare). length table < n) tables
+
+-- all numbers are in range, all terminals, arcs, shipments and tables exist, and tables and their shares can be counted in 32 bits
+pub record IsInRange (p : Problem) (c : Statement) : Type 0 where
+  pub within : IsWithinRanges p c
+  pub countable : AreFewerThan (2 ^ 32 - 1) c.tables
 
 -- the shipment of an answer exists
 abbrev pub AnswerExists : Problem → Answer → Type 0

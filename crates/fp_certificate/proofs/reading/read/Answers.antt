@@ -1,4 +1,5 @@
-use Rattle.std.proofs.Common.{◌≡◌, ◌+◌, ℕ, drop, length}
+use Rattle.std.proofs.Common.{◌≡◌, ◌+◌, ℕ, drop, length, arith}
+use Rattle.std.proofs.lemmas.List.{length-drop}
 use Rattle.fp_certificate.specs.Reading.{certificate_of, finished}
 use Rattle.fp_certificate.proofs.ReadEnds.{gives, ranges, tells, whole}
 use Rattle.fp_certificate.proofs.reading.read.Goals as goal
@@ -18,4 +19,5 @@ returns-clause-bad c =
     (whole c.in_ok-lookup.lookup c.args.instance.now lines c.args.from d c.in_ok-lookup.ensures c.requires.from c.in_ok-draft.ensures) c.finish.ensures
 
 pub returns-clause-range : goal.returns-clause-range
-returns-clause-range c = ranges c.args.instance.now (c.args.from + 1) (drop c.args.from c.args.lines.now) c.finish.result (returns-clause-read c)
+returns-clause-range c = ranges c.args.instance.now (c.args.from + 1) (drop c.args.from c.args.lines.now) c.finish.result
+    (omega (arith, c.requires.few, length-drop c.args.from c.args.lines.now)) (returns-clause-read c)
