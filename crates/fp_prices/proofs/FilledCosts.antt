@@ -1,12 +1,9 @@
 -- The costs of classes, put in one after the other.
-use Rattle.std.proofs.Common.{◌≡◌, ℕ, zero, suc, ◌+◌, ◌*◌, ◌<◌, ◌≤◌, Bool, true, false, List, [], ◌∷◌, length, get_or, set, ⊎_elim, ◌⊎◌, refl, sym, ap, ◌∙◌, subst, arith}
+use Rattle.std.proofs.Common.{◌≡◌, ℕ, ◌+◌, ◌*◌, ◌<◌, ◌≤◌, Bool, true, false, List, length, get_or, set, refl, ap, ◌∙◌, arith}
 use Rattle.std.specs.Prelude.{Option, Some, None, if◌then◌else◌}
-use Rattle.std.proofs.lemmas.Bool.{cases_Bool, cond-true, cond-false}
 use Rattle.std.proofs.lemmas.List.{get_or-set_other, length-set}
-use Rattle.fp_labels.specs.Walks.{cost_of}
 use Rattle.fp_model.specs.declared.parts.Leg.{Leg}
-use Rattle.fp_model.specs.Numbered.{shipment_at}
-use Rattle.fp_model.specs.Problem.{Problem, arc_at}
+use Rattle.fp_model.specs.Problem.{arc_at}
 use Rattle.fp_longestarcs.specs.Networks.{IsClass, TimedNetwork, class_count, class_number}
 use Rattle.fp_longestarcs.proofs.ClassNumbers.{number-within}
 use Rattle.fp_allowed.specs.Bits.{bit_of}

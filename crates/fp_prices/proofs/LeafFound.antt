@@ -1,11 +1,10 @@
 -- What is found over the network is the bound of the leaf.
-use Rattle.std.proofs.Common.{◌≡◌, ℕ, ◌+◌, ◌*◌, ◌^◌, ◌<◌, ◌≤◌, Bool, List, [], length, get_or, refl, sym, ap, ◌∙◌, subst, arith}
-use Rattle.std.specs.Prelude.{All, IfOk, Option, Result, Ok, Err, sum_by}
+use Rattle.std.proofs.Common.{◌≡◌, ℕ, ◌+◌, ◌*◌, ◌^◌, ◌<◌, ◌≤◌, Bool, List, [], length, sym, ap, ◌∙◌, subst, arith}
+use Rattle.std.specs.Prelude.{All, IfOk, Result, Ok, Err, sum_by}
 use Rattle.std.specs.declared.alloc.AllocError.{AllocError}
 use Rattle.std.proofs.Math.Nat.{mul-le-mul_left}
 use Rattle.std.proofs.lemmas.List.Elements.{All-from_get_or}
 use Rattle.fp_model.specs.declared.parts.Leg.{Leg}
-use Rattle.fp_model.specs.declared.parts.Shipment.{Shipment}
 use Rattle.fp_model.specs.Costs.{all_legs, departures_cost}
 use Rattle.fp_model.specs.Numbered.{AllZipFrom}
 use Rattle.fp_model.specs.Problem.{IsValid, Problem, alone_total}
@@ -29,7 +28,7 @@ use Rattle.fp_prices.specs.Found.{IsFoundOver, IsPricedLeaf}
 use Rattle.fp_prices.specs.Leaves.{BoundsPlans, IsBoundOf, IsChain, IsSmallBound, leaf_price}
 use Rattle.fp_prices.specs.Prices.{AllKeepRule}
 use Rattle.fp_prices.specs.Pricings.{IsPricing, TellsForced}
-use Rattle.fp_prices.specs.Rows.{AreRowsOf, row_at}
+use Rattle.fp_prices.specs.Rows.{AreRowsOf}
 use Rattle.fp_prices.specs.Shares.{ClassShare}
 use Rattle.fp_prices.proofs.BasesCost.{row_cost-chains}
 use Rattle.fp_prices.proofs.PlanBounds.{bounds-plans}

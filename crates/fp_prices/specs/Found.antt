@@ -11,7 +11,6 @@ use Rattle.fp_prices.specs.declared.bounds.LeafBound.{LeafBound}
 use Rattle.fp_prices.specs.declared.bounds.LeafBound.TheVariants.{Empty, Value}
 use Rattle.fp_prices.specs.declared.class_prices.LeafPricing.{LeafPricing}
 use Rattle.fp_prices.specs.declared.leaf_prices.Kind.{Kind}
-use Rattle.fp_prices.specs.ClassCosts.{AllowsClasses}
 use Rattle.fp_prices.specs.Leaves.{IsLeastCost, leaf_price}
 use Rattle.fp_prices.specs.Pricings.{IsPricing}
 use Rattle.fp_prices.specs.Rows.{AreRowsOf}

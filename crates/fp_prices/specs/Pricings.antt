@@ -1,5 +1,5 @@
 -- What a pricing of a leaf keeps, and what it tells.
-use Rattle.std.specs.Prelude.{ℕ, ◌≡◌, ◌<◌, List, length, map, Bool, true}
+use Rattle.std.specs.Prelude.{ℕ, ◌≡◌, List, length, map, Bool, true}
 use Rattle.fp_model.specs.declared.parts.Leg.{Leg}
 use Rattle.fp_model.specs.Costs.{all_legs, has_leg}
 use Rattle.fp_model.specs.Problem.{Problem, IsValid}

@@ -1,6 +1,6 @@
-use Rattle.std.proofs.Common.{◌≡◌, ℕ, ◌+◌, ◌*◌, ◌≤◌, ◌<◌, List, [], length, sym, ap, ◌∙◌, subst, arith}
+use Rattle.std.proofs.Common.{◌≡◌, ℕ, List, length, sym, subst}
 use Rattle.std.specs.Prelude.{All, Bool}
-use Rattle.fp_longestarcs.specs.Networks.{TimedNetwork, class_count}
+use Rattle.fp_longestarcs.specs.Networks.{class_count}
 use Rattle.fp_allowed.specs.Settings.{Setting}
 use Rattle.fp_model.specs.declared.parts.Leg.{Leg}
 use Rattle.fp_prices.specs.declared.leaf_prices.Kind.{Kind}
@@ -10,7 +10,7 @@ use Rattle.fp_prices.specs.Found.{IsPricedLeaf}
 use Rattle.fp_prices.specs.Pricings.{IsPricing, TellsForced}
 use Rattle.fp_prices.specs.Rows.{AreRowsOf}
 use Rattle.fp_prices.specs.Shares.{ClassShare}
-use Rattle.fp_prices.proofs.LeafFound.{IsPrepared, base-fits, base-small, bound-exact, bound-plans, bound-small, leaf-priced, prepared, rows-long}
+use Rattle.fp_prices.proofs.LeafFound.{base-fits, base-small, bound-exact, bound-plans, bound-small, leaf-priced, prepared, rows-long}
 use Rattle.fp_prices.proofs.bounds.bound.Goals as goal
 
 pub forced_classes-requires-clause-under : goal.forced_classes-requires-clause-under
