@@ -15,9 +15,9 @@ use Rattle.fp_prices.specs.declared.bounds.LeafBound.TheVariants.{Empty, Value}
 use Rattle.fp_prices.specs.declared.class_prices.LeafPricing.{LeafPricing}
 use Rattle.fp_prices.specs.declared.leaf_prices.Kind.{Kind}
 use Rattle.fp_prices.specs.ClassCosts.{AllowsClasses, IsLeastOver}
-use Rattle.fp_prices.specs.Found.{IsFoundOver, IsPricedLeaf, IsPricedRow, IsSmallCost, RowAllows, leaf_prices}
+use Rattle.fp_prices.specs.Found.{IsFoundOver, IsPricedLeaf, IsPricedRow, IsSmallCost, leaf_prices}
 use Rattle.fp_prices.specs.Leaves.{IsLeastCost, leaf_price}
-use Rattle.fp_prices.specs.Pricings.{IsPricing}
+use Rattle.fp_prices.specs.Pricings.{IsPricing, RowAllows}
 use Rattle.fp_prices.specs.Rows.{AreRowsOf}
 use Rattle.fp_prices.specs.Shares.{ClassShare}
 use Rattle.fp_prices.proofs.ForcedSoFar.{zip-push}

@@ -19,9 +19,9 @@ use Rattle.fp_prices.specs.declared.class_prices.LeafPricing.{LeafPricing}
 use Rattle.fp_prices.specs.declared.leaf_prices.Kind.{Kind}
 use Rattle.fp_prices.specs.ClassCosts.{AllowsClasses, HoldsClassCosts, IsFree, IsLeastOver}
 use Rattle.fp_prices.specs.Forced.{AreRowsUnder}
-use Rattle.fp_prices.specs.Found.{IsPricedRow, IsSmallCost, RowAllows, leaf_prices}
+use Rattle.fp_prices.specs.Found.{IsPricedRow, IsSmallCost, leaf_prices}
 use Rattle.fp_prices.specs.Points.{class_edge, class_edges, edges_of, holding_below}
-use Rattle.fp_prices.specs.Pricings.{IsPricedClass, IsPricing}
+use Rattle.fp_prices.specs.Pricings.{IsPricedClass, IsPricing, RowAllows}
 use Rattle.fp_prices.specs.Shares.{ClassShare}
 use Rattle.fp_prices.proofs.NumberedClasses.{number-class}
 use Rattle.fp_prices.proofs.PricedClasses.{class-exists}
