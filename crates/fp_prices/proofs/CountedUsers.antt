@@ -1,17 +1,17 @@
 -- The users of each class, shipment by shipment.
-use Rattle.std.proofs.Common.{◌≡◌, ℕ, zero, suc, ◌+◌, ◌*◌, ◌^◌, ◌-◌, ◌<◌, ◌≤◌, Bool, true, false, List, [], ◌∷◌, ◌++◌, length, get_or, take, cond, replicate, ⊎_elim, refl, sym, ap, ◌∙◌, subst, arith}
+use Rattle.std.proofs.Common.{◌≡◌, ℕ, zero, suc, ◌+◌, ◌*◌, ◌^◌, ◌<◌, ◌≤◌, Bool, true, false, List, [], ◌∷◌, ◌++◌, length, get_or, take, replicate, ⊎_elim, refl, sym, ap, ◌∙◌, arith}
 use Rattle.std.specs.Prelude.{All, if◌then◌else◌}
-use Rattle.std.proofs.lemmas.Bool.{cases_Bool, cases_lt, cond-true, cond-false}
-use Rattle.std.proofs.lemmas.List.{get_or-replicate, get_or_past, length-replicate, length-take, take_all, take_more}
+use Rattle.std.proofs.lemmas.Bool.{cases_lt}
+use Rattle.std.proofs.lemmas.List.{get_or-replicate, get_or_past, length-replicate, length-take, take_more}
 use Rattle.fp_model.specs.declared.parts.Leg.{Leg}
 use Rattle.fp_model.specs.declared.parts.Shipment.{Shipment}
 use Rattle.fp_model.specs.Numbered.{no_shipment, shipment_at}
-use Rattle.fp_model.specs.Problem.{IsShipment, IsValid, Problem}
-use Rattle.fp_longestarcs.specs.Networks.{IsClass, TimedNetwork, class_count, class_number}
-use Rattle.fp_rows.specs.Bits.{added_bits, as_one}
+use Rattle.fp_model.specs.Problem.{Problem}
+use Rattle.fp_longestarcs.specs.Networks.{IsClass, TimedNetwork, class_number}
+use Rattle.fp_rows.specs.Bits.{added_bits}
 use Rattle.fp_allowed.specs.Bits.{bit_of}
 use Rattle.fp_prices.specs.Prices.{allowed_count, allowed_size}
-use Rattle.fp_prices.specs.Rows.{AreRowsOf, row_at}
+use Rattle.fp_prices.specs.Rows.{AreRowsOf}
 
 -- one more shipment
 allowed_count-push : (allowed : ℕ → Bool) (i : ℕ) (shipments : List Shipment) (s : Shipment) →

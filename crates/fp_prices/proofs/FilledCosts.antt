@@ -1,12 +1,9 @@
 -- The costs of classes, put in one after the other.
-use Rattle.std.proofs.Common.{◌≡◌, ℕ, zero, suc, ◌+◌, ◌*◌, ◌<◌, ◌≤◌, Bool, true, false, List, [], ◌∷◌, length, get_or, set, ⊎_elim, ◌⊎◌, refl, sym, ap, ◌∙◌, subst, arith}
+use Rattle.std.proofs.Common.{◌≡◌, ℕ, ◌+◌, ◌*◌, ◌<◌, ◌≤◌, Bool, true, false, List, length, get_or, set, refl, ap, ◌∙◌, arith}
 use Rattle.std.specs.Prelude.{Option, Some, None, if◌then◌else◌}
-use Rattle.std.proofs.lemmas.Bool.{cases_Bool, cond-true, cond-false}
 use Rattle.std.proofs.lemmas.List.{get_or-set_other, length-set}
-use Rattle.fp_labels.specs.Walks.{cost_of}
 use Rattle.fp_model.specs.declared.parts.Leg.{Leg}
-use Rattle.fp_model.specs.Numbered.{shipment_at}
-use Rattle.fp_model.specs.Problem.{Problem, arc_at}
+use Rattle.fp_model.specs.Problem.{arc_at}
 use Rattle.fp_longestarcs.specs.Networks.{IsClass, TimedNetwork, class_count, class_number}
 use Rattle.fp_longestarcs.proofs.ClassNumbers.{number-within}
 use Rattle.fp_allowed.specs.Bits.{bit_of}
@@ -16,7 +13,7 @@ use Rattle.fp_prices.specs.declared.class_prices.LeafPricing.{LeafPricing}
 use Rattle.fp_prices.specs.declared.leaf_prices.Kind.{Kind}
 use Rattle.fp_prices.specs.ClassCosts.{HoldsClassCosts}
 use Rattle.fp_prices.specs.Leaves.{leaf_price}
-use Rattle.fp_prices.specs.Pricings.{IsPricing}
+use Rattle.fp_prices.specs.Pricings.{IsPricing, RowAllows}
 use Rattle.fp_prices.specs.Shares.{ClassShare}
 use Rattle.fp_prices.proofs.SetBits.{AreRewritten, IsNextSet, rewritten_all, rewritten_more, rewritten_none}
 
@@ -26,15 +23,11 @@ cost_at pricing tables allowed kind chains k size n =
     leaf_price pricing.instance.now tables allowed kind chains k size (class_at pricing.network.now n)
     + pricing.instance.now.scale * (arc_at pricing.instance.now (class_at pricing.network.now n).arc).freight * size
 
--- a row tells which classes are allowed for the shipment with the number k
-abbrev pub RowAllows : TimedNetwork → (ℕ → Leg → Bool) → ℕ → List Bool → Type 0
-RowAllows net allowed k row = (c : Leg) → IsClass net c → bit_of row (class_number net c) ≡ allowed k c
-
 -- the entries below a place are costs where the row's bit is set, and the others are as they were
 pub record AreFilled (pricing : LeafPricing) (k size : ℕ) (row : List Bool) (old now : List (Option ℕ)) (next : ℕ) : Type 0 where
   pub within : next ≤ length row
   pub long : length now ≡ length old
-  pub costs : (tables : List (List ClassShare)) (allowed : ℕ → Leg → Bool) (kind : Kind) (chains : List (List Leg)) → IsPricing tables allowed kind chains pricing → RowAllows pricing.network.now allowed k row →
+  pub costs : (tables : List (List ClassShare)) (allowed : ℕ → Leg → Bool) (kind : Kind) (chains : List (List Leg)) → IsPricing tables allowed kind chains pricing → RowAllows pricing.network.now (allowed k) row →
       AreRewritten (λ n _. Some (cost_at pricing tables allowed kind chains k size n)) None row old now next
   pub others : (n : ℕ) → length row ≤ n → get_or now n None ≡ get_or old n None
 
@@ -50,7 +43,7 @@ filled_none pricing k size row old = record {
 pub filled_more : (pricing : LeafPricing) (k size : ℕ) (row : List Bool) (old now : List (Option ℕ)) (next place cost : ℕ) → AreFilled pricing k size row old now next → IsNextSet row next place → length row ≤ length old →
     ((tables : List (List ClassShare)) (allowed : ℕ → Leg → Bool) (kind : Kind) (chains : List (List Leg)) → IsPricing tables allowed kind chains pricing → allowed k (class_at pricing.network.now place) ≡ true →
     cost ≡ cost_at pricing tables allowed kind chains k size place) →
-    ((allowed : ℕ → Leg → Bool) → RowAllows pricing.network.now allowed k row → allowed k (class_at pricing.network.now place) ≡ true) →
+    ((allowed : ℕ → Leg → Bool) → RowAllows pricing.network.now (allowed k) row → allowed k (class_at pricing.network.now place) ≡ true) →
     AreFilled pricing k size row old (set now place (Some cost)) (place + 1)
 filled_more pricing k size row old now next place cost so_far at room is told = record {
   within = omega (arith, at.within);
@@ -64,7 +57,7 @@ filled_more pricing k size row old now next place cost so_far at room is told = 
 -- all costs
 pub filled_all : (pricing : LeafPricing) (k size : ℕ) (row : List Bool) (old now : List (Option ℕ)) (next : ℕ) → AreFilled pricing k size row old now next → ((n : ℕ) → next ≤ n → bit_of row n ≡ false) →
     ((n : ℕ) → n < class_count pricing.network.now → get_or old n None ≡ None) →
-    (tables : List (List ClassShare)) (allowed : ℕ → Leg → Bool) (kind : Kind) (chains : List (List Leg)) → IsPricing tables allowed kind chains pricing → RowAllows pricing.network.now allowed k row →
+    (tables : List (List ClassShare)) (allowed : ℕ → Leg → Bool) (kind : Kind) (chains : List (List Leg)) → IsPricing tables allowed kind chains pricing → RowAllows pricing.network.now (allowed k) row →
     HoldsClassCosts pricing.instance.now pricing.network.now (allowed k) (leaf_price pricing.instance.now tables allowed kind chains k size) size now
 filled_all pricing k size row old now next so_far none cleared tables allowed kind chains is allows c class =
     let net : TimedNetwork = pricing.network.now in

@@ -1,27 +1,25 @@
 -- The forced chains of all shipments, shipment by shipment.
-use Rattle.std.proofs.Common.{◌≡◌, ◌≢◌, ℕ, zero, suc, ◌+◌, ◌*◌, ◌-◌, ◌^◌, ◌<◌, ◌≤◌, Bool, true, false, ◌||◌, ◌&&◌, List, [], ◌∷◌, ◌++◌, length, get_or, take, replicate, map, ⊎_elim, refl, sym, ap, ◌∙◌, subst, arith}
+use Rattle.std.proofs.Common.{◌≡◌, ℕ, zero, suc, ◌+◌, ◌*◌, ◌^◌, ◌<◌, ◌≤◌, Bool, true, false, ◌||◌, List, [], ◌∷◌, ◌++◌, length, get_or, take, replicate, map, ⊎_elim, refl, sym, ap, ◌∙◌, subst, arith}
 use Rattle.std.specs.Prelude.{All, if◌then◌else◌, nat_eq, IfOk, Result, Ok, Err}
 use Rattle.std.specs.declared.alloc.AllocError.{AllocError}
 use Rattle.std.specs.List.{AllByRecursion}
 use Rattle.std.proofs.Math.Bool.{or-false}
-use Rattle.std.proofs.lemmas.Bool.{and_from, and_parts, cases_Bool, cases_eq, cases_lt, eq-eqb, eqb-true, false_from_ne_true, ne_eqb}
-use Rattle.std.proofs.lemmas.List.{get_or-replicate, get_or_past, length-append, length-replicate, length-take, map-append, take_all, take_more}
-use Rattle.std.proofs.lemmas.List.Elements.{All-from_recursion, recursion_from_All}
+use Rattle.std.proofs.lemmas.Bool.{cases_eq, cases_lt, eq-eqb, false_from_ne_true, ne_eqb}
+use Rattle.std.proofs.lemmas.List.{get_or-replicate, get_or_past, length-append, length-replicate, length-take, take_all, take_more}
+use Rattle.std.proofs.lemmas.List.Elements.{recursion_from_All}
 use Rattle.std.proofs.lemmas.List.Folds.{list_any-append}
 use Rattle.fp_model.specs.declared.parts.Leg.{Leg}
 use Rattle.fp_model.specs.declared.parts.Shipment.{Shipment}
 use Rattle.fp_model.specs.Costs.{all_legs, has_leg, load, same_leg}
 use Rattle.fp_model.specs.Numbered.{AllZipFrom, no_shipment, shipment_at}
-use Rattle.fp_model.specs.Problem.{IsValid, Problem}
 use Rattle.fp_model.specs.Routes.{AreApart, arcs_of}
 use Rattle.fp_model.proofs.Bounds.{AreApart-map}
 use Rattle.fp_model.proofs.Distinct.{same_leg-refl, same_leg-true}
 use Rattle.fp_timenodes.specs.Floor.{has_point}
 use Rattle.fp_flatnet.specs.Tables.{windows_in}
 use Rattle.fp_longestarcs.specs.Networks.{IsClass, IsNetwork, TimedNetwork, class_count, class_number, points_in}
-use Rattle.fp_longestarcs.proofs.ClassNumbers.{number-within}
 use Rattle.fp_tree.specs.declared.sides.Side.{Side}
-use Rattle.fp_allowed.specs.Allowed.{IsForcedChain, is_allowed}
+use Rattle.fp_allowed.specs.Allowed.{IsForcedChain}
 use Rattle.fp_allowed.specs.Bits.{allowed_in, bit_of}
 use Rattle.fp_allowed.specs.Chains.{IsForced}
 use Rattle.fp_allowed.specs.ForcedChains.{ForcedChain}
@@ -30,7 +28,7 @@ use Rattle.fp_allowed.specs.Settings.{Setting}
 use Rattle.fp_allowed.proofs.AllowedClasses.{is_allowed-parts}
 use Rattle.fp_allowed.proofs.ListedClasses.{class_at-number}
 use Rattle.fp_prices.specs.declared.bases.ForcedClasses.{ForcedClasses}
-use Rattle.fp_prices.specs.Forced.{AreForcedClasses, AreForcedOf, AreRowsUnder}
+use Rattle.fp_prices.specs.Forced.{AreForcedOf, AreRowsUnder}
 use Rattle.fp_prices.specs.Leaves.{IsChain}
 use Rattle.fp_prices.proofs.NumberedClasses.{number-class}
 use Rattle.fp_prices.proofs.SmallBounds.{chain-arcs}

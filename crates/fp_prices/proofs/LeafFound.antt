@@ -1,11 +1,10 @@
 -- What is found over the network is the bound of the leaf.
-use Rattle.std.proofs.Common.{◌≡◌, ℕ, ◌+◌, ◌*◌, ◌^◌, ◌<◌, ◌≤◌, Bool, List, [], length, get_or, refl, sym, ap, ◌∙◌, subst, arith}
-use Rattle.std.specs.Prelude.{All, IfOk, Option, Result, Ok, Err, sum_by}
+use Rattle.std.proofs.Common.{◌≡◌, ℕ, ◌+◌, ◌*◌, ◌^◌, ◌<◌, ◌≤◌, Bool, List, [], length, sym, ap, ◌∙◌, subst, arith}
+use Rattle.std.specs.Prelude.{All, IfOk, Result, Ok, Err, sum_by}
 use Rattle.std.specs.declared.alloc.AllocError.{AllocError}
 use Rattle.std.proofs.Math.Nat.{mul-le-mul_left}
 use Rattle.std.proofs.lemmas.List.Elements.{All-from_get_or}
 use Rattle.fp_model.specs.declared.parts.Leg.{Leg}
-use Rattle.fp_model.specs.declared.parts.Shipment.{Shipment}
 use Rattle.fp_model.specs.Costs.{all_legs, departures_cost}
 use Rattle.fp_model.specs.Numbered.{AllZipFrom}
 use Rattle.fp_model.specs.Problem.{IsValid, Problem, alone_total}
@@ -25,11 +24,11 @@ use Rattle.fp_prices.specs.declared.class_prices.LeafPricing.{LeafPricing}
 use Rattle.fp_prices.specs.declared.leaf_prices.Kind.{Kind}
 use Rattle.fp_prices.specs.ClassCosts.{AllowsClasses}
 use Rattle.fp_prices.specs.Forced.{AreForcedOf, AreRowsUnder, row_cost}
-use Rattle.fp_prices.specs.Found.{IsFoundOver, IsPricedLeaf}
+use Rattle.fp_prices.specs.Found.{IsFoundAtLeaf, IsFoundOver, IsPricedLeaf}
 use Rattle.fp_prices.specs.Leaves.{BoundsPlans, IsBoundOf, IsChain, IsSmallBound, leaf_price}
 use Rattle.fp_prices.specs.Prices.{AllKeepRule}
 use Rattle.fp_prices.specs.Pricings.{IsPricing, TellsForced}
-use Rattle.fp_prices.specs.Rows.{AreRowsOf, row_at}
+use Rattle.fp_prices.specs.Rows.{AreRowsOf}
 use Rattle.fp_prices.specs.Shares.{ClassShare}
 use Rattle.fp_prices.proofs.BasesCost.{row_cost-chains}
 use Rattle.fp_prices.proofs.PlanBounds.{bounds-plans}
@@ -133,36 +132,36 @@ module _ (p : Problem) (windows : WindowTable) (net : TimedNetwork) (sides : Lis
         found.is ∙ ap (λ (n : ℕ). n + sum_by (λ (m : ℕ). m) found.costs) (base_is ∙ ap (λ (n : ℕ). p.scale * n) cost-is) in
         subst (λ (n : ℕ). IsSmallBound p (Value n)) (sym value_is) (value-small p (departures_cost p chains_of (all_legs chains_of)) found.costs cost-small found.small)
 
-    -- what the loop over the shipments promises
-    abbrev pub Promised : ℕ → Result LeafBound AllocError → Type 0
-    Promised base r = (prices_by : List (List ClassShare)) (allowed : ℕ → Leg → Bool) (kind_by : Kind) (chains : List (List Leg)) → IsPricing prices_by allowed kind_by chains pricing → AreRowsOf pricing.network.now allowed rows →
-        ((k : ℕ) → AllowsClasses pricing.network.now (allowed k)) → IfOk r (IsFoundOver pricing.instance.now (points_in pricing.network.now) allowed (leaf_price pricing.instance.now prices_by allowed kind_by chains) base)
-
-    found-over : (base : ℕ) (r : Result LeafBound AllocError) → Promised base r → IfOk r (IsFoundOver p (points_in net) allowed_of (leaf_price p tables allowed_of kind chains_of) base)
-    found-over base r promised =
-        subst (λ (q : Problem). IfOk r (IsFoundOver q (points_in net) allowed_of (leaf_price q tables allowed_of kind chains_of) base)) same
-        (subst (λ (n : TimedNetwork). IfOk r (IsFoundOver pricing.instance.now (points_in n) allowed_of (leaf_price pricing.instance.now tables allowed_of kind chains_of) base)) same_net
-        (promised tables allowed_of kind chains_of pricing-is (subst (λ (n : TimedNetwork). AreRowsOf n allowed_of rows) (sym same_net) rows-are)
-        (λ k. subst (λ (n : TimedNetwork). AllowsClasses n (allowed_of k)) (sym same_net) (allows-classes k))))
-
     ok-weaker : (r : Result LeafBound AllocError) (P Q : LeafBound → Type 0) → ((b : LeafBound) → P b → Q b) → IfOk r P → IfOk r Q
     ok-weaker (Ok b) P Q on h = on b h
     ok-weaker (Err e) P Q on h = tt
 
+    -- what is found at every leaf whose pricing this is, is found at this one
+    found-over : (base : ℕ) (r : Result LeafBound AllocError) → IfOk r (IsFoundAtLeaf pricing rows base) →
+        IfOk r (IsFoundOver p (points_in net) allowed_of (leaf_price p tables allowed_of kind chains_of) base)
+    found-over base r promised =
+        ok-weaker r (IsFoundAtLeaf pricing rows base) (IsFoundOver p (points_in net) allowed_of (leaf_price p tables allowed_of kind chains_of) base)
+        (λ b found.
+        subst (λ (q : Problem). IsFoundOver q (points_in net) allowed_of (leaf_price q tables allowed_of kind chains_of) base b) same
+        (subst (λ (n : TimedNetwork). IsFoundOver pricing.instance.now (points_in n) allowed_of (leaf_price pricing.instance.now tables allowed_of kind chains_of) base b) same_net
+        (found tables allowed_of kind chains_of pricing-is (subst (λ (n : TimedNetwork). AreRowsOf n allowed_of rows) (sym same_net) rows-are)
+        (λ k. subst (λ (n : TimedNetwork). AllowsClasses n (allowed_of k)) (sym same_net) (allows-classes k)))))
+        promised
+
     -- the bound of the leaf with the points as of a round
-    pub bound-exact : (base : ℕ) (r : Result LeafBound AllocError) (v : TimePoints) (round : ℕ) → base ≡ p.scale * row_cost p net forced.loads.items forced.row → IsNetworkOf p v round net → Promised base r →
+    pub bound-exact : (base : ℕ) (r : Result LeafBound AllocError) (v : TimePoints) (round : ℕ) → base ≡ p.scale * row_cost p net forced.loads.items forced.row → IsNetworkOf p v round net → IfOk r (IsFoundAtLeaf pricing rows base) →
         IfOk r (IsBoundOf p (windows_in windows) (λ terminal. points_at v terminal round) sides tables kind plain)
     bound-exact base r v round base_is of promised =
         ok-weaker r (IsFoundOver p (points_in net) allowed_of (leaf_price p tables allowed_of kind chains_of) base) (IsBoundOf p (windows_in windows) (λ terminal. points_at v terminal round) sides tables kind plain)
         (λ b found. bound-same p is.valid (windows_in windows) (points_in net) (λ terminal. points_at v terminal round) of.points sides tables kind plain b (found-bound base b base_is found)) (found-over base r promised)
 
     -- it bounds the plans
-    pub bound-plans : (base : ℕ) (r : Result LeafBound AllocError) → base ≡ p.scale * row_cost p net forced.loads.items forced.row → AllKeepRule p tables → Promised base r → IfOk r (BoundsPlans p (windows_in windows) sides)
+    pub bound-plans : (base : ℕ) (r : Result LeafBound AllocError) → base ≡ p.scale * row_cost p net forced.loads.items forced.row → AllKeepRule p tables → IfOk r (IsFoundAtLeaf pricing rows base) → IfOk r (BoundsPlans p (windows_in windows) sides)
     bound-plans base r base_is keep promised =
         ok-weaker r (IsFoundOver p (points_in net) allowed_of (leaf_price p tables allowed_of kind chains_of) base) (BoundsPlans p (windows_in windows) sides)
         (λ b found. bounds-plans p (windows_in windows) (points_in net) sides tables kind plain b is.valid keep (found-bound base b base_is found)) (found-over base r promised)
 
     -- and is small
-    pub bound-small : (base : ℕ) (r : Result LeafBound AllocError) → base ≡ p.scale * row_cost p net forced.loads.items forced.row → Promised base r → IfOk r (IsSmallBound p)
+    pub bound-small : (base : ℕ) (r : Result LeafBound AllocError) → base ≡ p.scale * row_cost p net forced.loads.items forced.row → IfOk r (IsFoundAtLeaf pricing rows base) → IfOk r (IsSmallBound p)
     bound-small base r base_is promised =
         ok-weaker r (IsFoundOver p (points_in net) allowed_of (leaf_price p tables allowed_of kind chains_of) base) (IsSmallBound p) (λ b found. found-small base b base_is found) (found-over base r promised)

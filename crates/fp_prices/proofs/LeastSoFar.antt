@@ -1,24 +1,24 @@
 -- The value of a leaf, shipment by shipment.
-use Rattle.std.proofs.Common.{◌≡◌, ℕ, zero, suc, ◌+◌, ◌*◌, ◌^◌, ◌<◌, ◌≤◌, Bool, true, false, List, [], ◌∷◌, ◌++◌, length, get_or, take, refl, sym, ap, ◌∙◌, subst, arith}
-use Rattle.std.specs.Prelude.{Option, Some, None, sum_by, slice_index_or}
+use Rattle.std.proofs.Common.{◌≡◌, ℕ, ◌+◌, ◌*◌, ◌^◌, ◌<◌, ◌≤◌, Bool, List, [], ◌∷◌, ◌++◌, length, get_or, take, sym, subst, arith}
+use Rattle.std.specs.Prelude.{Option, Some, None, sum_by}
 use Rattle.std.proofs.Math.Nat.{mul-le-mul_left}
-use Rattle.std.proofs.lemmas.List.{get_or-take, length-append, length-take, take_all, take_more}
+use Rattle.std.proofs.lemmas.List.{get_or-take, length-take, take_all, take_more}
 use Rattle.std.proofs.lemmas.List.Sums.{sum_by-append, sum_by-cons, sum_by_more_le}
 use Rattle.fp_model.specs.declared.parts.Leg.{Leg}
 use Rattle.fp_model.specs.declared.parts.Shipment.{Shipment}
 use Rattle.fp_model.specs.Numbered.{AllZipFrom, no_shipment, shipment_at}
 use Rattle.fp_model.specs.Problem.{IsValid, Problem, alone_cost, alone_total}
 use Rattle.fp_model.proofs.Places.{zip-places}
-use Rattle.fp_longestarcs.specs.Networks.{TimedNetwork, points_in}
+use Rattle.fp_longestarcs.specs.Networks.{points_in}
 use Rattle.fp_allowed.specs.Walks.{IsTimedWalk}
 use Rattle.fp_prices.specs.declared.bounds.LeafBound.TheVariants.{Empty, Value}
 use Rattle.fp_prices.specs.declared.class_prices.LeafPricing.{LeafPricing}
 use Rattle.fp_prices.specs.declared.leaf_prices.Kind.{Kind}
 use Rattle.fp_prices.specs.ClassCosts.{AllowsClasses, IsLeastOver}
-use Rattle.fp_prices.specs.Found.{IsFoundOver, IsPricedLeaf, IsPricedRow, IsSmallCost, RowAllows, leaf_prices}
+use Rattle.fp_prices.specs.Found.{IsFoundOver, IsPricedLeaf, IsPricedRow, IsSmallCost, leaf_prices}
 use Rattle.fp_prices.specs.Leaves.{IsLeastCost, leaf_price}
-use Rattle.fp_prices.specs.Pricings.{IsPricing}
-use Rattle.fp_prices.specs.Rows.{AreRowsOf, row_at}
+use Rattle.fp_prices.specs.Pricings.{IsPricing, RowAllows}
+use Rattle.fp_prices.specs.Rows.{AreRowsOf}
 use Rattle.fp_prices.specs.Shares.{ClassShare}
 use Rattle.fp_prices.proofs.ForcedSoFar.{zip-push}
 use Rattle.fp_prices.proofs.SmallBounds.{AreSmallCosts, costs-small}

@@ -1,6 +1,6 @@
 -- What a pricing tells of a class, and that it fits.
 use Rattle.std.proofs.Common.{◌≡◌, ℕ, zero, suc, ◌+◌, ◌*◌, ◌^◌, ◌<◌, ◌≤◌, Bool, true, false, List, [], ◌∷◌, length, map, ⊎_elim, get_or, sym, ap, ◌∙◌, subst, arith, le_trans}
-use Rattle.std.specs.Prelude.{All, AllPairs, Option, Some, slice_get, slice_index, sum_by}
+use Rattle.std.specs.Prelude.{All, Option, Some, slice_get, slice_index}
 use Rattle.std.specs.Borrow.{Bor}
 use Rattle.std.proofs.Math.Nat.{mul-le-mul_left}
 use Rattle.std.proofs.lemmas.Bool.{cases_Bool, cond-true, cond-false}
@@ -9,24 +9,21 @@ use Rattle.std.proofs.lemmas.List.Elements.{All-head, All-tail}
 use Rattle.fp_model.specs.declared.parts.Leg.{Leg}
 use Rattle.fp_model.specs.Costs.{all_legs, has_leg}
 use Rattle.fp_model.specs.Numbered.{shipment_at}
-use Rattle.fp_model.specs.Problem.{IsValid, Problem, alone_cost, alone_total, arc_at, no_arc, truck_cost}
+use Rattle.fp_model.specs.Problem.{IsValid, Problem, alone_total, arc_at, no_arc}
 use Rattle.fp_longestarcs.specs.Networks.{IsClass, TimedNetwork, class_count, class_number}
 use Rattle.fp_longestarcs.specs.Whole.{IsWhole}
 use Rattle.fp_longestarcs.proofs.Lengthened.{arc-count}
 use Rattle.fp_allowed.specs.Bits.{bit_of}
 use Rattle.fp_allowed.specs.Listing.{class_at}
-use Rattle.fp_allowed.proofs.ListedClasses.{class_at-number}
 use Rattle.fp_prices.specs.declared.class_prices.LeafPricing.{LeafPricing}
-use Rattle.fp_prices.specs.declared.class_prices.Rule.{Rule}
-use Rattle.fp_prices.specs.declared.class_prices.Rule.TheVariants.{BySize, InParts, ByShares}
+use Rattle.fp_prices.specs.declared.class_prices.Rule.TheVariants.{InParts, ByShares}
 use Rattle.fp_prices.specs.declared.class_users.Users.{Users}
 use Rattle.fp_prices.specs.declared.leaf_prices.Kind.{Kind}
 use Rattle.fp_prices.specs.declared.leaf_prices.Kind.TheVariants.{Linear, Even, Table}
 use Rattle.fp_prices.specs.declared.tables.Share.{Share}
-use Rattle.fp_prices.specs.declared.tables.Weight.{Weight}
 use Rattle.fp_prices.specs.Leaves.{leaf_price}
-use Rattle.fp_prices.specs.Prices.{AllKeepRule, allowed_count, allowed_size, even_price, share_for, share_price, table_at, table_price, truck_price}
-use Rattle.fp_prices.specs.Pricings.{IsPricedClass, IsPricing, IsRuleOf}
+use Rattle.fp_prices.specs.Prices.{AllKeepRule, allowed_count, even_price, share_for, share_price, table_at, table_price, truck_price}
+use Rattle.fp_prices.specs.Pricings.{IsPricedClass, IsRuleOf}
 use Rattle.fp_prices.specs.Rates.{rate_of}
 use Rattle.fp_prices.specs.Rows.{AreUsers}
 use Rattle.fp_prices.specs.Searches.{is_share}

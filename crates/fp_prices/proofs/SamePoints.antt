@@ -1,13 +1,13 @@
 -- A leaf is the same over other lists of the same points.
-use Rattle.std.proofs.Common.{◌≡◌, ℕ, zero, suc, ◌+◌, ◌<◌, ◌≤◌, Bool, true, false, ◌&&◌, ◌||◌, List, [], ◌∷◌, length, ⊎_elim, refl, sym, ap, ◌∙◌, subst, arith}
-use Rattle.std.specs.Prelude.{Option, Some, None, nat_eq, nat_le, nat_lt, sum_by}
+use Rattle.std.proofs.Common.{◌≡◌, ℕ, zero, suc, ◌+◌, ◌<◌, ◌≤◌, Bool, false, ◌&&◌, ◌||◌, List, [], ◌∷◌, length, ⊎_elim, refl, sym, ap, ◌∙◌, subst}
+use Rattle.std.specs.Prelude.{Option, Some, None, nat_eq, nat_le, nat_lt}
 use Rattle.std.proofs.lemmas.Bool.{and_left, cases_lt, le-ltb}
 use Rattle.fp_model.specs.declared.parts.Leg.{Leg}
 use Rattle.fp_model.specs.declared.parts.Shipment.{Shipment}
 use Rattle.fp_model.specs.Numbered.{AllZipFrom, shipment_at}
 use Rattle.fp_model.specs.Problem.{IsValid, Problem, arc_at, no_arc}
 use Rattle.fp_model.specs.Routes.{Leads, arcs_of, step}
-use Rattle.fp_timenodes.specs.Floor.{HaveSamePoints, floor_point}
+use Rattle.fp_timenodes.specs.Floor.{HaveSamePoints}
 use Rattle.fp_timenodes.proofs.Floors.{floor-same}
 use Rattle.fp_flatnet.specs.declared.window_tables.Window.{Window}
 use Rattle.fp_longestarcs.specs.Classes.{head_of}
@@ -17,7 +17,7 @@ use Rattle.fp_allowed.specs.Walks.{FollowsHeads, IsTimedWalk}
 use Rattle.fp_prices.specs.declared.bounds.LeafBound.{LeafBound}
 use Rattle.fp_prices.specs.declared.bounds.LeafBound.TheVariants.{Empty, Value}
 use Rattle.fp_prices.specs.declared.leaf_prices.Kind.{Kind}
-use Rattle.fp_prices.specs.Leaves.{HasNoWalk, IsBoundOf, IsChain, IsFirstWithout, IsLeafValue, IsLeastCost, leaf_price}
+use Rattle.fp_prices.specs.Leaves.{HasNoWalk, IsBoundOf, IsChain, IsLeastCost, leaf_price}
 use Rattle.fp_prices.specs.Shares.{ClassShare}
 
 -- what holds of the elements at each place of two lists

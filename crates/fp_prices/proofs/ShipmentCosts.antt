@@ -1,18 +1,16 @@
 -- What a shipment costs at a leaf, and that it is small.
-use Rattle.std.proofs.Common.{◌≡◌, ℕ, zero, suc, ◌+◌, ◌*◌, ◌-◌, ◌^◌, ◌<◌, ◌≤◌, Bool, true, false, List, [], ◌∷◌, ◌++◌, length, get_or, map, ⊎_elim, refl, sym, ap, ◌∙◌, subst, arith, le_trans}
+use Rattle.std.proofs.Common.{◌≡◌, ℕ, zero, suc, ◌+◌, ◌*◌, ◌^◌, ◌<◌, ◌≤◌, Bool, true, false, List, [], ◌∷◌, ◌++◌, length, get_or, ⊎_elim, refl, sym, ap, ◌∙◌, subst, arith, le_trans}
 use Rattle.std.specs.Prelude.{All, IfOk, IfSome, Option, Some, None, Result, Ok, Err, if◌then◌else◌, sum_by}
-use Rattle.std.specs.List.{range_with_len}
 use Rattle.std.specs.declared.alloc.AllocError.{AllocError}
 use Rattle.std.proofs.Math.Nat.{mul-le-mul_left}
-use Rattle.std.proofs.lemmas.Bool.{cases_Bool, cases_lt, cases_eq}
+use Rattle.std.proofs.lemmas.Bool.{cases_lt}
 use Rattle.std.proofs.lemmas.List.{length-append}
 use Rattle.std.proofs.lemmas.List.FromFn.{length-map-range_with_len}
 use Rattle.fp_labels.specs.Labels.{IsSmallFor, greatest_cost}
-use Rattle.fp_labels.specs.Walks.{cost_of}
 use Rattle.fp_model.specs.declared.parts.Leg.{Leg}
 use Rattle.fp_model.specs.Numbered.{shipment_at}
 use Rattle.fp_model.specs.Problem.{IsValid, Problem, alone_cost, alone_total, arc_at}
-use Rattle.fp_longestarcs.specs.Networks.{IsClass, TimedNetwork, class_count, class_number, point_count, points_in}
+use Rattle.fp_longestarcs.specs.Networks.{TimedNetwork, class_count, points_in}
 use Rattle.fp_tree.specs.declared.sides.Side.{Side}
 use Rattle.fp_allowed.specs.Bits.{IsRowUnder, bit_of}
 use Rattle.fp_allowed.specs.Listing.{class_at}
@@ -21,12 +19,10 @@ use Rattle.fp_prices.specs.declared.class_prices.LeafPricing.{LeafPricing}
 use Rattle.fp_prices.specs.declared.leaf_prices.Kind.{Kind}
 use Rattle.fp_prices.specs.ClassCosts.{AllowsClasses, HoldsClassCosts, IsFree, IsLeastOver}
 use Rattle.fp_prices.specs.Forced.{AreRowsUnder}
-use Rattle.fp_prices.specs.Found.{IsPricedRow, IsSmallCost, RowAllows, leaf_prices}
+use Rattle.fp_prices.specs.Found.{IsPricedRow, IsSmallCost, leaf_prices}
 use Rattle.fp_prices.specs.Points.{class_edge, class_edges, edges_of, holding_below}
-use Rattle.fp_prices.specs.Pricings.{IsPricedClass, IsPricing}
-use Rattle.fp_prices.specs.Prices.{AllKeepRule}
+use Rattle.fp_prices.specs.Pricings.{IsPricedClass, IsPricing, RowAllows}
 use Rattle.fp_prices.specs.Shares.{ClassShare}
-use Rattle.fp_prices.specs.Leaves.{leaf_price}
 use Rattle.fp_prices.proofs.NumberedClasses.{number-class}
 use Rattle.fp_prices.proofs.PricedClasses.{class-exists}
 use Rattle.fp_prices.proofs.SetBits.{set-within}

@@ -4,26 +4,22 @@ use Rattle.fp_model.specs.declared.parts.Leg.{Leg}
 use Rattle.fp_model.specs.declared.parts.Shipment.{Shipment}
 use Rattle.fp_model.specs.Numbered.{AllZipFrom, shipment_at}
 use Rattle.fp_model.specs.Problem.{Problem, alone_cost}
-use Rattle.fp_longestarcs.specs.Networks.{TimedNetwork, IsClass, class_number}
+use Rattle.fp_longestarcs.specs.Networks.{points_in}
 use Rattle.fp_allowed.specs.Bits.{bit_of}
 use Rattle.fp_allowed.specs.Walks.{IsTimedWalk}
 use Rattle.fp_prices.specs.declared.bounds.LeafBound.{LeafBound}
 use Rattle.fp_prices.specs.declared.bounds.LeafBound.TheVariants.{Empty, Value}
 use Rattle.fp_prices.specs.declared.class_prices.LeafPricing.{LeafPricing}
 use Rattle.fp_prices.specs.declared.leaf_prices.Kind.{Kind}
-use Rattle.fp_prices.specs.ClassCosts.{AllowsClasses}
+use Rattle.fp_prices.specs.ClassCosts.{AllowsClasses, IsLeastOver}
 use Rattle.fp_prices.specs.Leaves.{IsLeastCost, leaf_price}
-use Rattle.fp_prices.specs.Pricings.{IsPricing}
+use Rattle.fp_prices.specs.Pricings.{IsPricing, RowAllows}
 use Rattle.fp_prices.specs.Rows.{AreRowsOf}
 use Rattle.fp_prices.specs.Shares.{ClassShare}
 
 -- the prices of a leaf for the shipment with the number k
 abbrev pub leaf_prices : Problem → List (List ClassShare) → (ℕ → Leg → Bool) → Kind → List (List Leg) → ℕ → Leg → ℕ
 leaf_prices p tables allowed kind chains k = leaf_price p tables allowed kind chains k (shipment_at p k).size
-
--- a row tells which classes are allowed
-abbrev pub RowAllows : TimedNetwork → (Leg → Bool) → List Bool → Type 0
-RowAllows net allowed row = (c : Leg) → IsClass net c → bit_of row (class_number net c) ≡ allowed c
 
 -- the row is that of the shipment with the number k under a pricing
 pub record IsPricedRow (pricing : LeafPricing) (k : ℕ) (row : List Bool) : Type 0 where
@@ -64,3 +60,17 @@ pub record IsFirstWithoutOver (p : Problem) (points : ℕ → List ℕ) (allowed
 abbrev pub IsFoundOver : Problem → (ℕ → List ℕ) → (ℕ → Leg → Bool) → ((k size : ℕ) → Leg → ℕ) → ℕ → LeafBound → Type 0
 IsFoundOver p points allowed price bases (Empty shipment) = IsFirstWithoutOver p points allowed shipment
 IsFoundOver p points allowed price bases (Value value) = IsValueOver p points allowed price bases value
+
+-- at each leaf whose pricing this is, and whose row this is, it is the least cost of the shipment with the number k, or it has none
+abbrev pub IsLeastAtLeaf : LeafPricing → ℕ → List Bool → Option ℕ → Type 0
+IsLeastAtLeaf pricing k row cost =
+    (tables : List (List ClassShare)) (allowed : ℕ → Leg → Bool) (kind : Kind) (chains : List (List Leg)) → IsPricing tables allowed kind chains pricing →
+    RowAllows pricing.network.now (allowed k) row → AllowsClasses pricing.network.now (allowed k) →
+    IsLeastOver pricing.instance.now (points_in pricing.network.now) (allowed k) (shipment_at pricing.instance.now k) (leaf_prices pricing.instance.now tables allowed kind chains k) cost
+
+-- at each leaf whose pricing this is, and whose rows these are, it is found with such bases
+abbrev pub IsFoundAtLeaf : LeafPricing → List (List Bool) → ℕ → LeafBound → Type 0
+IsFoundAtLeaf pricing rows bases bound =
+    (tables : List (List ClassShare)) (allowed : ℕ → Leg → Bool) (kind : Kind) (chains : List (List Leg)) → IsPricing tables allowed kind chains pricing →
+    AreRowsOf pricing.network.now allowed rows → ((k : ℕ) → AllowsClasses pricing.network.now (allowed k)) →
+    IsFoundOver pricing.instance.now (points_in pricing.network.now) allowed (leaf_price pricing.instance.now tables allowed kind chains) bases bound

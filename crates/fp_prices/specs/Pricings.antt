@@ -1,8 +1,9 @@
 -- What a pricing of a leaf keeps, and what it tells.
-use Rattle.std.specs.Prelude.{ℕ, ◌≡◌, ◌<◌, List, length, map, Bool, true}
+use Rattle.std.specs.Prelude.{ℕ, ◌+◌, ◌*◌, ◌≡◌, List, length, map, Bool, true, Option}
 use Rattle.fp_model.specs.declared.parts.Leg.{Leg}
 use Rattle.fp_model.specs.Costs.{all_legs, has_leg}
-use Rattle.fp_model.specs.Problem.{Problem, IsValid}
+use Rattle.fp_model.specs.Numbered.{shipment_at}
+use Rattle.fp_model.specs.Problem.{Problem, IsValid, arc_at}
 use Rattle.fp_longestarcs.specs.Networks.{TimedNetwork, IsClass, class_count, class_number}
 use Rattle.fp_longestarcs.specs.Whole.{IsWhole}
 use Rattle.fp_allowed.specs.Bits.{bit_of}
@@ -12,7 +13,9 @@ use Rattle.fp_prices.specs.declared.leaf_prices.Kind.TheVariants.{Linear, Even, 
 use Rattle.fp_prices.specs.declared.class_prices.LeafPricing.{LeafPricing}
 use Rattle.fp_prices.specs.declared.class_prices.Rule.{Rule}
 use Rattle.fp_prices.specs.declared.class_prices.Rule.TheVariants.{BySize, InParts, ByShares}
-use Rattle.fp_prices.specs.Prices.{AllKeepRule, table_at}
+use Rattle.fp_prices.specs.ClassCosts.{HoldsClassCosts}
+use Rattle.fp_prices.specs.Leaves.{leaf_price}
+use Rattle.fp_prices.specs.Prices.{AllKeepRule, table_at, truck_price}
 use Rattle.fp_prices.specs.Rates.{rate_of}
 use Rattle.fp_prices.specs.Rows.{AreUsers}
 use Rattle.fp_prices.specs.Shares.{ClassShare}
@@ -47,3 +50,27 @@ pub record IsPricedClass (pricing : LeafPricing) (k class : ℕ) : Type 0 where
   pub chains : List (List Leg)
   pub is : IsPricing tables allowed kind chains pricing
   pub allows : allowed k (class_at pricing.network.now class) ≡ true
+
+-- a row tells which classes are allowed
+abbrev pub RowAllows : TimedNetwork → (Leg → Bool) → List Bool → Type 0
+RowAllows net allowed row = (c : Leg) → IsClass net c → bit_of row (class_number net c) ≡ allowed c
+
+-- at each leaf whose pricing this is, a number is the truck price of a class for the shipment with the number k and a size
+abbrev pub IsTruckPrice : LeafPricing → (k size : ℕ) → Leg → ℕ → Type 0
+IsTruckPrice pricing k size c price =
+    (tables : List (List ClassShare)) (allowed : ℕ → Leg → Bool) (kind : Kind) (chains : List (List Leg)) → IsPricing tables allowed kind chains pricing →
+    price ≡ truck_price pricing.instance.now tables allowed kind c k size
+
+-- at each leaf whose pricing this is, and where the class is allowed, a number is what it costs the shipment: its price and the flow
+abbrev pub IsClassCost : LeafPricing → (k size : ℕ) → Leg → ℕ → Type 0
+IsClassCost pricing k size c cost =
+    (tables : List (List ClassShare)) (allowed : ℕ → Leg → Bool) (kind : Kind) (chains : List (List Leg)) → IsPricing tables allowed kind chains pricing → allowed k c ≡ true →
+    cost ≡ leaf_price pricing.instance.now tables allowed kind chains k size c + pricing.instance.now.scale * (arc_at pricing.instance.now c.arc).freight * size
+
+-- at each leaf whose pricing this is, and where the row tells which classes are allowed for the shipment, the costs are those of the classes
+abbrev pub HoldsLeafCosts : LeafPricing → ℕ → List Bool → List (Option ℕ) → Type 0
+HoldsLeafCosts pricing k row costs =
+    (tables : List (List ClassShare)) (allowed : ℕ → Leg → Bool) (kind : Kind) (chains : List (List Leg)) → IsPricing tables allowed kind chains pricing →
+    RowAllows pricing.network.now (allowed k) row →
+    HoldsClassCosts pricing.instance.now pricing.network.now (allowed k)
+    (leaf_price pricing.instance.now tables allowed kind chains k (shipment_at pricing.instance.now k).size) (shipment_at pricing.instance.now k).size costs

@@ -1,5 +1,5 @@
 -- Tests by which shares and weights in order are looked up.
-use Rattle.std.specs.Prelude.{ℕ, Bool, ◌&&◌, ◌||◌, nat_eq, nat_lt}
+use Rattle.std.specs.Prelude.{Bool, ◌&&◌, ◌||◌, nat_eq, nat_lt}
 use Rattle.fp_model.specs.declared.parts.Leg.{Leg}
 use Rattle.fp_prices.specs.Shares.{ClassShare}
 

@@ -1,4 +1,4 @@
-ghost use Rattle.std.specs.Prelude.{ℕ, ◌≡◌, ◌+◌, ◌*◌, ◌<◌, ◌≤◌, ◌^◌, ◌||◌, All, Bool, IfOk, List, false, if◌then◌else◌, length, replicate, slice_index, true};
+ghost use Rattle.std.specs.Prelude.{ℕ, ◌≡◌, ◌+◌, ◌*◌, ◌<◌, ◌≤◌, ◌^◌, ◌||◌, All, IfOk, List, false, if◌then◌else◌, length, replicate, slice_index, true};
 ghost use Rattle.fp_model.specs.Routes.{AreApart};
 ghost use Rattle.fp_timenodes.specs.Floor.{has_point};
 ghost use Rattle.fp_longestarcs.specs.Networks.{class_count};

@@ -1,21 +1,14 @@
-ghost use Rattle.std.specs.Prelude.{ℕ, ◌≡◌, ◌+◌, ◌*◌, ◌<◌, ◌≤◌, Bool, IfOk, List, None, OnOk, length};
-ghost use Rattle.fp_model.specs.declared.parts.Leg.{Leg};
-ghost use Rattle.fp_model.specs.Numbered.{shipment_at};
+ghost use Rattle.std.specs.Prelude.{◌≡◌, ◌+◌, ◌*◌, ◌<◌, ◌≤◌, IfOk, length};
 ghost use Rattle.fp_model.specs.Problem.{alone_total};
 ghost use Rattle.fp_timenodes.specs.Points.{points_at};
 ghost use Rattle.fp_flatnet.specs.Belonging.{BelongsTo};
 ghost use Rattle.fp_flatnet.specs.Tables.{windows_in};
-ghost use Rattle.fp_longestarcs.specs.Networks.{class_count, points_in};
-ghost use Rattle.fp_longestarcs.specs.Whole.{IsWhole};
-ghost use Rattle.fp_prices.specs.declared.leaf_prices.Kind.{Kind};
-ghost use Rattle.fp_prices.specs.ClassCosts.{AllowsClasses, IsFree, IsLeastOver};
+ghost use Rattle.fp_longestarcs.specs.Networks.{class_count};
+ghost use Rattle.fp_prices.specs.ClassCosts.{IsFree};
 ghost use Rattle.fp_prices.specs.Forced.{AreRowsUnder};
-ghost use Rattle.fp_prices.specs.Found.{IsFoundOver, IsPricedLeaf, IsPricedRow, IsSmallCost, RowAllows, leaf_prices};
-ghost use Rattle.fp_prices.specs.Leaves.{BoundsPlans, IsBoundOf, IsSmallBound, leaf_price};
+ghost use Rattle.fp_prices.specs.Found.{IsFoundAtLeaf, IsLeastAtLeaf, IsPricedLeaf, IsPricedRow, IsSmallCost};
+ghost use Rattle.fp_prices.specs.Leaves.{BoundsPlans, IsBoundOf, IsSmallBound};
 ghost use Rattle.fp_prices.specs.PointGraphs.{IsPointGraph};
-ghost use Rattle.fp_prices.specs.Pricings.{IsPricing};
-ghost use Rattle.fp_prices.specs.Rows.{AreRowsOf};
-ghost use Rattle.fp_prices.specs.Shares.{ClassShare};
 ghost use Rattle.fp_prices.specs.Tables.{AreTables, HasKind};
 
 use crate::NoMemory;
@@ -80,10 +73,7 @@ fn shipment_cost(
     requires free { IsFree (class_count pricing.now.network.now) costs.old }
     ensures free { IsFree (class_count pricing.now.network.now) costs.new }
     ensures small { IfOk result (IsSmallCost pricing.now.instance.now shipment) }
-    ensures exact { IfOk result (λ cost. (tables : List (List ClassShare)) (allowed : ℕ → Leg → Bool) (kind : Kind) (chains : List (List Leg)) →
-        IsPricing tables allowed kind chains pricing.now → RowAllows pricing.now.network.now (allowed shipment) row.now → AllowsClasses pricing.now.network.now (allowed shipment) →
-        IsLeastOver pricing.now.instance.now (points_in pricing.now.network.now) (allowed shipment) (shipment_at pricing.now.instance.now shipment)
-        (leaf_prices pricing.now.instance.now tables allowed kind chains shipment) cost) }
+    ensures exact { IfOk result (IsLeastAtLeaf pricing.now shipment row.now) }
 {
     pricing.fill_costs(shipment, row, costs);
     least_cost(
@@ -108,9 +98,7 @@ fn value_over(
     requires rows { length rows.now ≡ length pricing.now.instance.now.shipments }
     requires priced { IsPricedLeaf pricing.now rows.now }
     requires bases { bases ≤ pricing.now.instance.now.scale * alone_total pricing.now.instance.now.arcs pricing.now.instance.now.shipments }
-    ensures { (tables : List (List ClassShare)) (allowed : ℕ → Leg → Bool) (kind : Kind) (chains : List (List Leg)) → IsPricing tables allowed kind chains pricing.now →
-        AreRowsOf pricing.now.network.now allowed rows.now → ((k : ℕ) → AllowsClasses pricing.now.network.now (allowed k)) →
-        IfOk result (IsFoundOver pricing.now.instance.now (points_in pricing.now.network.now) allowed (leaf_price pricing.now.instance.now tables allowed kind chains) bases) }
+    ensures { IfOk result (IsFoundAtLeaf pricing.now rows.now bases) }
 {
     let mut costs = graph.free_costs(alloc)?;
     let mut value = bases;

@@ -1,16 +1,9 @@
-ghost use Rattle.std.specs.Prelude.{ℕ, ◌≡◌, ◌+◌, ◌*◌, ◌<◌, ◌≤◌, ◌^◌, Bool, IfOk, List, None, length, true, slice_index_or};
-ghost use Rattle.fp_model.specs.declared.parts.Leg.{Leg};
+ghost use Rattle.std.specs.Prelude.{ℕ, ◌≡◌, ◌<◌, ◌≤◌, None, length, slice_index_or, true};
 ghost use Rattle.fp_model.specs.Numbered.{shipment_at};
-ghost use Rattle.fp_model.specs.Problem.{arc_at};
 ghost use Rattle.fp_longestarcs.specs.Networks.{IsClass, class_count, class_number};
 ghost use Rattle.fp_allowed.specs.Bits.{bit_of};
 ghost use Rattle.fp_allowed.specs.Listing.{class_at};
-ghost use Rattle.fp_prices.specs.declared.leaf_prices.Kind.{Kind};
-ghost use Rattle.fp_prices.specs.ClassCosts.{HoldsClassCosts};
-ghost use Rattle.fp_prices.specs.Leaves.{leaf_price};
-ghost use Rattle.fp_prices.specs.Prices.{truck_price as truck_price_of};
-ghost use Rattle.fp_prices.specs.Pricings.{IsPricedClass, IsPricing};
-ghost use Rattle.fp_prices.specs.Shares.{ClassShare};
+ghost use Rattle.fp_prices.specs.Pricings.{HoldsLeafCosts, IsClassCost, IsPricedClass, IsTruckPrice};
 
 use crate::class_users::Users;
 use crate::share_prices::{even_price, share_price};
@@ -49,10 +42,7 @@ impl<'a> LeafPricing<'a> {
         requires long { length row.now ≡ class_count self.now.network.now }
         requires room { class_count self.now.network.now ≤ length costs.old }
         requires priced { (class : ℕ) → bit_of row.now class ≡ true → IsPricedClass self.now shipment class }
-        ensures costs { (tables : List (List ClassShare)) (allowed : ℕ → Leg → Bool) (kind : Kind) (chains : List (List Leg)) → IsPricing tables allowed kind chains self.now →
-            ((c : Leg) → IsClass self.now.network.now c → bit_of row.now (class_number self.now.network.now c) ≡ allowed shipment c) →
-            HoldsClassCosts self.now.instance.now self.now.network.now (allowed shipment)
-            (leaf_price self.now.instance.now tables allowed kind chains shipment (shipment_at self.now.instance.now shipment).size) (shipment_at self.now.instance.now shipment).size costs.new }
+        ensures costs { HoldsLeafCosts self.now shipment row.now costs.new }
         ensures others { (n : ℕ) → class_count self.now.network.now ≤ n → slice_index_or costs.new n None ≡ slice_index_or costs.old n None }
     {
         let size = self.instance.shipment(shipment).size;
@@ -70,10 +60,7 @@ impl<'a> LeafPricing<'a> {
         requires class { class < class_count self.now.network.now }
         requires priced { IsPricedClass self.now shipment class }
         requires size { size ≡ (shipment_at self.now.instance.now shipment).size }
-        ensures { (tables : List (List ClassShare)) (allowed : ℕ → Leg → Bool) (kind : Kind) (chains : List (List Leg)) → IsPricing tables allowed kind chains self.now →
-            allowed shipment (class_at self.now.network.now class) ≡ true →
-            result ≡ leaf_price self.now.instance.now tables allowed kind chains shipment size (class_at self.now.network.now class)
-            + self.now.instance.now.scale * (arc_at self.now.instance.now (class_at self.now.network.now class).arc).freight * size }
+        ensures { IsClassCost self.now shipment size (class_at self.now.network.now class) result }
     {
         let (number, point) = self.network.of_class(class);
         let arc = self.instance.arc(number);
@@ -92,8 +79,7 @@ impl<'a> LeafPricing<'a> {
         requires number { class ≡ class_number self.now.network.now (record { arc = arc; depart = point }) }
         requires priced { IsPricedClass self.now shipment class }
         requires size { size ≡ (shipment_at self.now.instance.now shipment).size }
-        ensures { (tables : List (List ClassShare)) (allowed : ℕ → Leg → Bool) (kind : Kind) (chains : List (List Leg)) → IsPricing tables allowed kind chains self.now →
-            result ≡ truck_price_of self.now.instance.now tables allowed kind (record { arc = arc; depart = point }) shipment size }
+        ensures { IsTruckPrice self.now shipment size (record { arc = arc; depart = point }) result }
     {
         let linear = u128::from(size) * self.rates[arc as usize];
         match &self.rule {

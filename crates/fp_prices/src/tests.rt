@@ -125,6 +125,18 @@ fn plain_bound(
     bound(alloc, instance, &windows, &points, &[], &[], price)
 }
 
+// A share by which one shipment pays so much for a class, and no other shipment pays.
+fn one_pays(alloc: Global, arc: u32, point: u32, shipment: u32, w: u128) -> Result<Share, NoMemory>
+    ensures { IfOk result (λ share. share ≡ record { arc = arc; point = point; v = 0; weights = record { shipment = shipment; w = w } ∷ [] }) }
+{
+    Ok(Share {
+        arc,
+        point,
+        v: 0,
+        weights: vec![in alloc; Weight { shipment, w }]?,
+    })
+}
+
 // A table for the line: over the first arc the first shipment pays so much, over the second each pays a truck alone.
 fn line_table(alloc: Global, first: u128) -> Result<Table, NoMemory>
     ensures { IfOk result (λ table. table ≡
@@ -132,20 +144,11 @@ fn line_table(alloc: Global, first: u128) -> Result<Table, NoMemory>
         ∷ (record { arc = 1; point = 0; v = 0; weights = record { shipment = 1; w = 100000000 } ∷ [] })
         ∷ (record { arc = 1; point = 4; v = 0; weights = record { shipment = 0; w = 100000000 } ∷ [] }) ∷ []) }
 {
-    let mut shares = Vec::new(alloc);
-    for (arc, point, shipment, w) in [
-        (0, 0, 0, first),
-        (1, 0, 1, 100_000_000),
-        (1, 4, 0, 100_000_000),
-    ] {
-        let weights = vec![in alloc; Weight { shipment, w }]?;
-        shares.push(Share {
-            arc,
-            point,
-            v: 0,
-            weights,
-        })?;
-    }
+    let shares = vec![in alloc;
+        one_pays(alloc, 0, 0, 0, first)?,
+        one_pays(alloc, 1, 0, 1, 100_000_000)?,
+        one_pays(alloc, 1, 4, 0, 100_000_000)?,
+    ]?;
     Ok(Table { shares })
 }
 

@@ -1,6 +1,6 @@
-use Rattle.std.proofs.Common.{ℕ, ◌≡◌, ◌+◌, ◌<◌, ◌^◌, List, Bool, true, length, get_or, set, take, refl, arith}
+use Rattle.std.proofs.Common.{ℕ, ◌+◌, ◌<◌, ◌^◌, length, get_or, refl, arith}
 use Rattle.std.proofs.lemmas.List.{get_or_read}
-use Rattle.fp_prices.proofs.ChainLoads.{AreAdded, added_before, added_more}
+use Rattle.fp_prices.proofs.ChainLoads.{added_before, added_more}
 use Rattle.fp_prices.proofs.bases.add_chain.Goals as goal
 
 pub overflow_add-index_mut : goal.overflow_add-index_mut

@@ -1,18 +1,15 @@
 use Rattle.std.proofs.Common.{ℕ, ◌≡◌, ◌+◌, ◌≤◌, ◌<◌, ◌^◌, ◌||◌, Bool, List, [], length, get_or, replicate, sym, ap, ◌∙◌, subst, arith}
-use Rattle.std.specs.Prelude.{All, if◌then◌else◌, true, false}
+use Rattle.std.specs.Prelude.{All, if◌then◌else◌, false}
 use Rattle.std.proofs.lemmas.List.{get_or_read}
 use Rattle.fp_model.specs.declared.parts.Shipment.{Shipment}
 use Rattle.fp_model.specs.Numbered.{no_shipment, shipment_at}
 use Rattle.fp_model.specs.Problem.{Problem}
 use Rattle.fp_model.specs.Routes.{AreApart}
-use Rattle.fp_longestarcs.specs.Networks.{class_count}
 use Rattle.fp_timenodes.specs.Floor.{has_point}
 use Rattle.fp_tree.specs.declared.sides.Side.{Side}
-use Rattle.fp_allowed.specs.Allowed.{IsForcedChain}
 use Rattle.fp_allowed.specs.Bits.{IsRowUnder, allowed_in, bit_of}
 use Rattle.fp_allowed.specs.Chains.{IsForced}
 use Rattle.fp_allowed.specs.ForcedChains.{ForcedChain}
-use Rattle.fp_allowed.specs.Listing.{classes_at}
 use Rattle.fp_prices.specs.Forced.{AreRowsUnder}
 use Rattle.fp_prices.proofs.ForcedSoFar.{numbers-apart, so_far_all, so_far_more, so_far_none}
 use Rattle.fp_prices.proofs.bases.all_chains.Goals as goal

@@ -1,4 +1,4 @@
-use Rattle.std.proofs.Common.{ℕ, ◌≡◌, ◌+◌, ◌*◌, ◌<◌, List, length, sym, ap, ◌∙◌, arith}
+use Rattle.std.proofs.Common.{ℕ, ◌≡◌, ◌+◌, ◌*◌, sym, ap, ◌∙◌, arith}
 use Rattle.fp_longestarcs.proofs.ClassNumbers.{few-classes}
 use Rattle.fp_prices.specs.Forced.{sum_below, truck_cost_at}
 use Rattle.fp_prices.proofs.ForcedSums.{part-fits, set_cost, sum_below-next, sum_below-rest}

@@ -1,4 +1,4 @@
-use Rattle.std.proofs.Common.{ℕ, ◌≡◌, ◌≤◌, ◌*◌, ◌-◌, length}
+use Rattle.std.proofs.Common.{◌≡◌, ◌≤◌, ◌*◌, ◌-◌, length}
 use Rattle.fp_prices.specs.Forced.{sum_below}
 use Rattle.fp_prices.proofs.ForcedSums.{set_cost}
 use Rattle.fp_prices.proofs.bases.bases.Given as goal

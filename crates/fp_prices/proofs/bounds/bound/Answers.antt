@@ -1,16 +1,16 @@
-use Rattle.std.proofs.Common.{◌≡◌, ℕ, ◌+◌, ◌*◌, ◌≤◌, ◌<◌, List, [], length, sym, ap, ◌∙◌, subst, arith}
-use Rattle.std.specs.Prelude.{All, Bool}
-use Rattle.fp_longestarcs.specs.Networks.{TimedNetwork, class_count}
+use Rattle.std.proofs.Common.{◌≡◌, ℕ, List, length, sym, subst}
+use Rattle.std.specs.Prelude.{All, Bool, IfOk}
+use Rattle.fp_longestarcs.specs.Networks.{class_count}
 use Rattle.fp_allowed.specs.Settings.{Setting}
 use Rattle.fp_model.specs.declared.parts.Leg.{Leg}
 use Rattle.fp_prices.specs.declared.leaf_prices.Kind.{Kind}
 use Rattle.fp_prices.specs.ClassCosts.{AllowsClasses}
 use Rattle.fp_prices.specs.Forced.{AreRowsUnder}
-use Rattle.fp_prices.specs.Found.{IsPricedLeaf}
+use Rattle.fp_prices.specs.Found.{IsFoundAtLeaf, IsPricedLeaf}
 use Rattle.fp_prices.specs.Pricings.{IsPricing, TellsForced}
 use Rattle.fp_prices.specs.Rows.{AreRowsOf}
 use Rattle.fp_prices.specs.Shares.{ClassShare}
-use Rattle.fp_prices.proofs.LeafFound.{IsPrepared, base-fits, base-small, bound-exact, bound-plans, bound-small, leaf-priced, prepared, rows-long}
+use Rattle.fp_prices.proofs.LeafFound.{base-fits, base-small, bound-exact, bound-plans, bound-small, leaf-priced, prepared, rows-long}
 use Rattle.fp_prices.proofs.bounds.bound.Goals as goal
 
 pub forced_classes-requires-clause-under : goal.forced_classes-requires-clause-under
@@ -65,9 +65,7 @@ returns-clause-exact c =
     c.in_ok-network.ensures.whole.whole c.in_ok-rows.ensures.under c.deref.ensures.value c.in_ok-forced.ensures in
     let prices = λ (allowed : ℕ → Leg → Bool) (chains : List (List Leg)) (are : AreRowsOf net allowed rows) (tells : TellsForced net chains c.in_ok-forced.forced.row).
     c.in_ok-pricing.ensures.pricing allowed chains (subst (λ (l : List (List Bool)). AreRowsOf net allowed l) (sym c.deref-2.ensures.value) are) tells in
-    let promised = λ (tables : List (List ClassShare)) (allowed : ℕ → Leg → Bool) (kind : Kind) (chains : List (List Leg)) (is : IsPricing tables allowed kind chains c.in_ok-pricing.pricing)
-    (are : AreRowsOf c.in_ok-pricing.pricing.network.now allowed rows) (classes : (k : ℕ) → AllowsClasses c.in_ok-pricing.pricing.network.now (allowed k)).
-    c.value_over.ensures tables allowed kind chains is (subst (λ (l : List (List Bool)). AreRowsOf c.in_ok-pricing.pricing.network.now allowed l) (sym c.deref-3.ensures.value) are) classes in
+    let promised = subst (λ (l : List (List Bool)). IfOk c.value_over.result (IsFoundAtLeaf c.in_ok-pricing.pricing l c.bases-base.result)) c.deref-3.ensures.value c.value_over.ensures in
     bound-exact p c.args.windows.now net c.args.sides.now rows c.args.price.forced c.in_ok-forced.forced prep c.args.tables.now c.args.price.kind c.in_ok-pricing.pricing
     c.in_ok-pricing.ensures.same.0 c.in_ok-pricing.ensures.same.1 prices c.bases-base.result c.value_over.result c.args.points.now c.args.price.round
     c.bases-base.ensures c.in_ok-network.ensures.whole promised
@@ -81,9 +79,7 @@ returns-clause-plans c =
     c.in_ok-network.ensures.whole.whole c.in_ok-rows.ensures.under c.deref.ensures.value c.in_ok-forced.ensures in
     let prices = λ (allowed : ℕ → Leg → Bool) (chains : List (List Leg)) (are : AreRowsOf net allowed rows) (tells : TellsForced net chains c.in_ok-forced.forced.row).
     c.in_ok-pricing.ensures.pricing allowed chains (subst (λ (l : List (List Bool)). AreRowsOf net allowed l) (sym c.deref-2.ensures.value) are) tells in
-    let promised = λ (tables : List (List ClassShare)) (allowed : ℕ → Leg → Bool) (kind : Kind) (chains : List (List Leg)) (is : IsPricing tables allowed kind chains c.in_ok-pricing.pricing)
-    (are : AreRowsOf c.in_ok-pricing.pricing.network.now allowed rows) (classes : (k : ℕ) → AllowsClasses c.in_ok-pricing.pricing.network.now (allowed k)).
-    c.value_over.ensures tables allowed kind chains is (subst (λ (l : List (List Bool)). AreRowsOf c.in_ok-pricing.pricing.network.now allowed l) (sym c.deref-3.ensures.value) are) classes in
+    let promised = subst (λ (l : List (List Bool)). IfOk c.value_over.result (IsFoundAtLeaf c.in_ok-pricing.pricing l c.bases-base.result)) c.deref-3.ensures.value c.value_over.ensures in
     bound-plans p c.args.windows.now net c.args.sides.now rows c.args.price.forced c.in_ok-forced.forced prep c.args.tables.now c.args.price.kind c.in_ok-pricing.pricing
     c.in_ok-pricing.ensures.same.0 c.in_ok-pricing.ensures.same.1 prices c.bases-base.result c.value_over.result c.bases-base.ensures c.requires.tables.rule promised
 
@@ -96,8 +92,6 @@ returns-clause-small c =
     c.in_ok-network.ensures.whole.whole c.in_ok-rows.ensures.under c.deref.ensures.value c.in_ok-forced.ensures in
     let prices = λ (allowed : ℕ → Leg → Bool) (chains : List (List Leg)) (are : AreRowsOf net allowed rows) (tells : TellsForced net chains c.in_ok-forced.forced.row).
     c.in_ok-pricing.ensures.pricing allowed chains (subst (λ (l : List (List Bool)). AreRowsOf net allowed l) (sym c.deref-2.ensures.value) are) tells in
-    let promised = λ (tables : List (List ClassShare)) (allowed : ℕ → Leg → Bool) (kind : Kind) (chains : List (List Leg)) (is : IsPricing tables allowed kind chains c.in_ok-pricing.pricing)
-    (are : AreRowsOf c.in_ok-pricing.pricing.network.now allowed rows) (classes : (k : ℕ) → AllowsClasses c.in_ok-pricing.pricing.network.now (allowed k)).
-    c.value_over.ensures tables allowed kind chains is (subst (λ (l : List (List Bool)). AreRowsOf c.in_ok-pricing.pricing.network.now allowed l) (sym c.deref-3.ensures.value) are) classes in
+    let promised = subst (λ (l : List (List Bool)). IfOk c.value_over.result (IsFoundAtLeaf c.in_ok-pricing.pricing l c.bases-base.result)) c.deref-3.ensures.value c.value_over.ensures in
     bound-small p c.args.windows.now net c.args.sides.now rows c.args.price.forced c.in_ok-forced.forced prep c.args.tables.now c.args.price.kind c.in_ok-pricing.pricing
     c.in_ok-pricing.ensures.same.0 c.in_ok-pricing.ensures.same.1 prices c.bases-base.result c.value_over.result c.bases-base.ensures promised

@@ -1,4 +1,4 @@
-use Rattle.std.proofs.Common.{◌≡◌, ℕ, ◌≤◌, List, length, sym, ap, ◌∙◌, arith}
+use Rattle.std.proofs.Common.{◌∙◌, arith}
 use Rattle.fp_prices.proofs.ShipmentCosts.{classes-among, classes-priced, costs-fit, costs-most, exact_ok, small_ok}
 use Rattle.fp_longestarcs.specs.Networks.{point_count}
 use Rattle.fp_prices.proofs.bounds.shipment_cost.Goals as goal

@@ -6,7 +6,7 @@ use Rattle.fp_model.specs.declared.parts.Shipment.{Shipment}
 use Rattle.fp_rows.specs.Bits.{added_bits}
 use Rattle.fp_allowed.specs.Bits.{bit_of}
 use Rattle.fp_prices.specs.Prices.{allowed_count, allowed_size}
-use Rattle.fp_prices.proofs.CountedUsers.{UsersOf, users_more}
+use Rattle.fp_prices.proofs.CountedUsers.{users_more}
 use Rattle.fp_prices.proofs.SetBits.{whole_write}
 use Rattle.fp_prices.proofs.class_users.class_users.Goals as goal
 

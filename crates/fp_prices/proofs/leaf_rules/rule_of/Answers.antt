@@ -1,10 +1,8 @@
-use Rattle.std.proofs.Common.{ℕ, ◌≡◌, ◌-◌, ◌<◌, List, [], length, sym, ap, ◌∙◌, subst, arith}
+use Rattle.std.proofs.Common.{◌≡◌, ◌-◌, ◌<◌, [], length, sym, ◌∙◌, subst, arith}
 use Rattle.std.proofs.lemmas.List.{get_or_read}
-use Rattle.fp_model.specs.declared.parts.Leg.{Leg}
 use Rattle.fp_prices.specs.declared.leaf_prices.Kind.{Kind}
 use Rattle.fp_prices.specs.Prices.{table_at}
 use Rattle.fp_prices.specs.Pricings.{IsRuleOf}
-use Rattle.fp_prices.specs.Shares.{ClassShare}
 use Rattle.fp_prices.specs.Tables.{HasKind, IsAscendingTable}
 use Rattle.fp_prices.specs.declared.class_prices.Rule.TheVariants.{ByShares}
 use Rattle.fp_prices.proofs.leaf_rules.rule_of.Goals as goal

@@ -1,12 +1,4 @@
-use Rattle.std.proofs.Common.{◌≡◌, ℕ, ◌+◌, ◌-◌, ◌*◌, ◌≤◌, Bool, List, length, get_or}
-use Rattle.std.specs.Prelude.{Option, None, Some}
-use Rattle.fp_model.specs.declared.parts.Leg.{Leg}
-use Rattle.fp_model.specs.Numbered.{shipment_at}
-use Rattle.fp_longestarcs.specs.Networks.{IsClass, class_count, class_number}
-use Rattle.fp_allowed.specs.Bits.{bit_of}
-use Rattle.fp_prices.specs.declared.leaf_prices.Kind.{Kind}
-use Rattle.fp_prices.specs.Pricings.{IsPricing}
-use Rattle.fp_prices.specs.Shares.{ClassShare}
+use Rattle.std.proofs.Common.{◌-◌, length}
 use Rattle.fp_prices.proofs.FilledCosts.{AreFilled}
 use Rattle.fp_prices.proofs.class_prices.LeafPricing.fill_costs.Given as goal
 
