@@ -1,0 +1,35 @@
+ghost use Rattle.std.specs.Prelude.{◌≡◌, ◌≢◌, ◌↔◌, IsTrue};
+ghost use Rattle.fp_model.specs.declared.parts.Shipment.{Shipment};
+ghost use Rattle.fp_model.specs.Routes.{ArcsExist, AreApart, IsRoute, Leads, arcs_of};
+ghost use Rattle.fp_relaxmodel.specs.Terminals.{terminals_on};
+
+use crate::relaxed_plans::TimedWalk;
+use fp_model::Instance;
+
+// How many terminals an instance can have.
+const TERMINALS: usize = 100;
+
+/// Whether no terminal stands twice on a walk whose arcs exist. Of a walk whose arcs lead from a shipment's origin to its
+/// other destination it's whether they are a route of the shipment.
+///
+/// Takes no memory, and time that grows with the classes.
+pub fn is_route(instance: &Instance, walk: &TimedWalk) -> bool
+    requires { ArcsExist instance.now walk.now }
+    ensures apart { IsTrue result ↔ AreApart (terminals_on instance.now walk.now) }
+    ensures route { (s : Shipment) → s.from ≢ s.to → Leads instance.now s.from (arcs_of walk.now) s.to →
+        (IsTrue result ↔ IsRoute instance.now s (arcs_of walk.now)) }
+{
+    let Some(first) = walk.stops.first() else {
+        return true;
+    };
+    let mut met = [false; TERMINALS];
+    met[instance.arc(first.arc).from as usize] = true;
+    for stop in &walk.stops {
+        let entered = instance.arc(stop.arc).to as usize;
+        if met[entered] {
+            return false;
+        }
+        met[entered] = true;
+    }
+    true
+}
