@@ -1,0 +1,3 @@
+pub mod WrittenStops
+pub mod RouteCosts
+pub mod PlansCoarsen

@@ -35,7 +35,8 @@ fn load_on(shipments: &[Shipment], walks: &[TimedWalk], stop: Stop) -> u128
 {
     let mut total: u128 = 0;
     for (at, shipment) in shipments.iter().enumerate() {
-        if goes_by(&walks[at].stops, stop) {
+        let walk = &walks[at];
+        if goes_by(&walk.stops, stop) {
             total += u128::from(shipment.size);
         }
     }
@@ -89,11 +90,12 @@ fn walks_cost(instance: &Instance, walks: &[TimedWalk]) -> u128
 {
     let mut total: u128 = 0;
     for (at, shipment) in instance.shipments().iter().enumerate() {
+        let walk = &walks[at];
         total += walk_cost(
             instance,
             walks,
             shipment.size,
-            &walks[at].stops,
+            &walk.stops,
             &walks[at + 1..],
         );
     }
