@@ -1,3 +1,4 @@
 pub mod WrittenStops
 pub mod RouteCosts
 pub mod PlansCoarsen
+pub mod MetTerminals

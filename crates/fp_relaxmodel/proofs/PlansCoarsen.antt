@@ -53,6 +53,16 @@ routes-from p points d (s ∷ ss) (r ∷ routes) plan =
 pub HasRoutes-coarsened : (p : Problem) (points : ℕ → List ℕ) (d : ℕ) (routes : List (List Leg)) → IsPlan p d routes → HasRoutes p (coarsened p points d routes)
 HasRoutes-coarsened p points d routes plan = routes-from p points d p.shipments routes plan
 
+plan-routes : (p : Problem) (d : ℕ) (ss : List Shipment) (routes : List (List Leg)) → AllZip (Carries p d) ss routes → AllZip (λ s r. IsRoute p s (arcs_of r)) ss routes
+plan-routes p d [] [] plan = tt
+plan-routes p d [] (r ∷ routes) plan = absurd plan
+plan-routes p d (s ∷ ss) [] plan = absurd plan
+plan-routes p d (s ∷ ss) (r ∷ routes) plan = (plan.0.route, plan-routes p d ss routes plan.1)
+
+-- so are those of the plan itself
+pub HasRoutes-plan : (p : Problem) (d : ℕ) (routes : List (List Leg)) → IsPlan p d routes → HasRoutes p routes
+HasRoutes-plan p d routes plan = plan-routes p d p.shipments routes plan
+
 without-times : (p : Problem) (windows : ℕ → ℕ → Option Window) (points : ℕ → List ℕ) (k : ℕ) (ss : List Shipment) (walks : List (List Leg)) → AllZipFrom (λ j s walk. IsRelaxedWalk p windows points j s walk) k ss walks →
     AllZip (λ s walk. IsRoute p s (arcs_of walk)) ss walks
 without-times p windows points k [] [] relaxed = tt

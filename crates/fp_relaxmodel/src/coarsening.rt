@@ -1,4 +1,4 @@
-ghost use Rattle.std.specs.Prelude.{◌≡◌, ◌<◌, ◌≤◌, IfOk, length, map};
+ghost use Rattle.std.specs.Prelude.{◌≡◌, ◌<◌, ◌≤◌, All, IfOk, length, map};
 ghost use Rattle.fp_model.specs.Costs.{cost};
 ghost use Rattle.fp_model.specs.Plans.{IsPlan};
 ghost use Rattle.fp_model.specs.Routes.{ArcsExist};
@@ -49,6 +49,24 @@ fn classes(
     Ok(TimedWalk { stops })
 }
 
+// The classes of the legs of all routes.
+fn relaxed(
+    alloc: Global,
+    instance: &Instance,
+    network: &Network,
+    plan: &Plan,
+) -> Result<RelaxedPlan, NoMemory>
+    requires routes { All (ArcsExist instance.now) plan.now }
+    requires arcs { HasArcsOf instance.now network.now }
+    ensures { IfOk result (λ r. r ≡ coarsened instance.now (points_in network.now) 1 plan.now) }
+{
+    let mut walks = Vec::with_capacity(alloc, plan.routes.len())?;
+    for route in &plan.routes {
+        walks.push(classes(alloc, instance, network, route)?)?;
+    }
+    Ok(RelaxedPlan { walks })
+}
+
 /// The relaxed plan of a plan that lies within the windows: each departure is moved back to the greatest point of its
 /// terminal that is not after it.
 ///
@@ -70,9 +88,5 @@ pub fn coarsen(
     ensures cheaper { IfOk result (λ r. cost instance.now r ≤ cost instance.now plan.now) }
     ensures all { CoarsensPlans instance.now (windows_in windows.now) (points_in network.now) }
 {
-    let mut walks = Vec::with_capacity(alloc, plan.routes.len())?;
-    for route in &plan.routes {
-        walks.push(classes(alloc, instance, network, route)?)?;
-    }
-    Ok(RelaxedPlan { walks })
+    relaxed(alloc, instance, network, plan)
 }

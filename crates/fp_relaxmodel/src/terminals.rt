@@ -17,6 +17,7 @@ fn are_apart(instance: &Instance, tail: u32, stops: &[Stop]) -> bool
     requires arcs { ArcsExist instance.now (legs_of stops.now) }
     ensures { IsTrue result ↔ AreApart (tail ∷ ends_of instance.now (arcs_of (legs_of stops.now))) }
 {
+    let _known = instance.terminals();
     let mut met = [false; TERMINALS];
     met[tail as usize] = true;
     for stop in stops {

@@ -1,4 +1,4 @@
-use Rattle.std.proofs.Common.{◌≡◌, ◌∙◌, sym}
+use Rattle.std.proofs.Common.{◌≡◌, ◌∙◌, rules, sym}
 use Rattle.std.specs.List.{list_any}
 use Rattle.fp_relaxmodel.proofs.WrittenStops.{has_leg-legs_of, same_stop}
 use Rattle.fp_relaxmodel.proofs.relaxed_costs.goes_by.Goals as goal
