@@ -1,11 +1,14 @@
 -- Terminals that were met, as bits.
 use Rattle.std.proofs.Common.{◌≡◌, ◌≢◌, ℕ, zero, suc, ◌+◌, ◌<◌, ◌≤◌, Bool, true, false, List, [], ◌∷◌, length, drop, get_or, set, replicate, refl, sym, ap, ◌∙◌, subst, arith, get_or-set_other, get_or-set_same, true≢false, add-one, drop-cons}
-use Rattle.std.specs.Prelude.{◌↔◌}
+use Rattle.std.specs.Prelude.{◌↔◌, Some, None, slice_get}
 use Rattle.std.specs.List.{AllByRecursion}
+use Rattle.fp_model.specs.declared.parts.Leg.{Leg}
+use Rattle.fp_model.specs.declared.parts.Shipment.{Shipment}
 use Rattle.fp_model.specs.Problem.{Problem, IsValid, arc_at, no_arc}
-use Rattle.fp_model.specs.Routes.{AreApart, arcs_of, ends_of}
+use Rattle.fp_model.specs.Routes.{AreApart, IsRoute, Leads, arcs_of, ends_of}
 use Rattle.fp_relaxmodel.specs.declared.stops.Stop.{Stop}
 use Rattle.fp_relaxmodel.specs.Stops.{legs_of}
+use Rattle.fp_relaxmodel.specs.Terminals.{terminals_on}
 
 -- the terminals that classes enter
 abbrev pub entered_by : Problem → List Stop → List ℕ
@@ -70,3 +73,43 @@ entered-next p stops i d lt =
 -- the ends of an arc are among the terminals, of which there are at most a hundred
 pub arc-within : (p : Problem) (a : ℕ) → IsValid p → a < length p.arcs → ((arc_at p a).from < length p.terminals) × ((arc_at p a).to < 100)
 arc-within p a valid lt = ((valid.arcs a no_arc lt).from, omega (arith, (valid.arcs a no_arc lt).to, valid.few_terminals))
+
+-- terminals are apart exactly where those that are entered from the next class on are new
+pub decides-next : (A : Type 0) (p : Problem) (met : List Bool) (stops : List Stop) (i : ℕ) (d : Stop) (to : ℕ) → i < length stops → to ≡ (arc_at p (get_or stops i d).arc).to → to < length met → get_or met to false ≡ false →
+    (A ↔ AreNew met (entered_by p (drop i stops))) → (A ↔ AreNew (set met to true) (entered_by p (drop (i + 1) stops)))
+decides-next A p met stops i d to lt is within unmet decides =
+    let left : List ℕ = entered_by p (drop (i + 1) stops) in
+    let here : entered_by p (drop i stops) ≡ to ∷ left = entered-next p stops i d lt ∙ ap (λ (x : ℕ). x ∷ left) (sym is) in
+    let next : AreNew met (to ∷ left) ↔ AreNew (set met to true) left = new-next met to left within unmet in (
+      (λ apart. next.0 (subst (AreNew met) here (decides.0 apart))),
+      (λ new. decides.1 (subst (AreNew met) (sym here) (next.1 new))),
+    )
+
+-- they are not where the next class enters one that was met
+pub decides-never : (A : Type 0) (p : Problem) (met : List Bool) (stops : List Stop) (i : ℕ) (d : Stop) (to : ℕ) → i < length stops → to ≡ (arc_at p (get_or stops i d).arc).to → get_or met to false ≡ true →
+    (A ↔ AreNew met (entered_by p (drop i stops))) → A → ⊥
+decides-never A p met stops i d to lt is was decides apart =
+    let left : List ℕ = entered_by p (drop (i + 1) stops) in
+    let here : entered_by p (drop i stops) ≡ to ∷ left = entered-next p stops i d lt ∙ ap (λ (x : ℕ). x ∷ left) (sym is) in
+    new-never met to left was (subst (AreNew met) here (decides.0 apart))
+
+-- the terminals on a walk with a first class
+pub on-first : (p : Problem) (stops : List Stop) (first : Stop) → slice_get stops 0 ≡ Some first → terminals_on p (legs_of stops) ≡ (arc_at p first.arc).from ∷ entered_by p stops
+on-first p [] first is = cc
+on-first p (stop ∷ stops) first is =
+    let same : stop ≡ first = cc in
+    ap (λ (s : Stop). (arc_at p s.arc).from ∷ entered_by p (stop ∷ stops)) same
+
+-- and on one without
+pub on-none : (p : Problem) (stops : List Stop) → slice_get stops 0 ≡ None → terminals_on p (legs_of stops) ≡ []
+on-none p [] is = refl
+on-none p (stop ∷ stops) is = cc
+
+-- whether the walk from a shipment's origin to its destination is a route of it
+pub route-decides : (A : Type 0) (p : Problem) (walk : List Leg) → (A ↔ AreApart (terminals_on p walk)) → (s : Shipment) → s.from ≢ s.to → Leads p s.from (arcs_of walk) s.to → (A ↔ IsRoute p s (arcs_of walk))
+route-decides A p [] decides s ends leads = ((λ a. absurd (ends leads)), (λ route. absurd (ends leads)))
+route-decides A p (c ∷ walk) decides s ends leads =
+    let Apart : ℕ → Type 0 = λ here. AreApart (here ∷ ends_of p (arcs_of (c ∷ walk))) in (
+      (λ a. record { some = λ e. cc; leads = leads; once = subst Apart leads.1 (decides.0 a) }),
+      (λ route. decides.1 (subst Apart (sym leads.1) route.once)),
+    )

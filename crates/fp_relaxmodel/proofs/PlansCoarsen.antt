@@ -1,14 +1,18 @@
 -- Plans over any denominator coarsen into relaxed plans that cost no more.
-use Rattle.std.proofs.Common.{◌≡◌, ℕ, ◌+◌, ◌≤◌, List, [], ◌∷◌, map, sym, subst}
-use Rattle.std.specs.Prelude.{Option}
+use Rattle.std.proofs.Common.{◌≡◌, ◌∙◌, ℕ, ◌+◌, ◌<◌, ◌≤◌, List, [], ◌∷◌, ap, arith, get_or, length, map, sym, subst}
+use Rattle.std.specs.Prelude.{Option, All}
+use Rattle.std.specs.declared.alloc.Global.{Global}
+use Rattle.std.specs.declared.vec.Vec.{Vec}
 use Rattle.std.specs.List.{AllByRecursion, AllZip}
 use Rattle.fp_model.specs.declared.parts.Leg.{Leg}
 use Rattle.fp_model.specs.declared.parts.Shipment.{Shipment}
-use Rattle.fp_model.specs.Costs.{cost}
+use Rattle.fp_model.specs.Costs.{cost, lists_of}
 use Rattle.fp_model.specs.Numbered.{AllFrom, AllZipFrom}
 use Rattle.fp_model.specs.Plans.{IsPlan}
 use Rattle.fp_model.specs.Problem.{Problem}
-use Rattle.fp_model.specs.Routes.{Carries, IsRoute, arcs_of}
+use Rattle.fp_model.specs.Routes.{ArcsExist, Carries, IsRoute, arcs_of}
+use Rattle.fp_model.proofs.Bounds.{length-lists_of}
+use Rattle.fp_model.proofs.Places.{at-map}
 use Rattle.fp_flatnet.specs.declared.window_tables.Window.{Window}
 use Rattle.fp_flatnet.specs.Windows.{PlanLiesWithin}
 use Rattle.fp_longestarcs.specs.Classes.{class_of}
@@ -89,3 +93,12 @@ cost-coarsened p points d routes = cost-classes p points d routes
 pub coarsens-plans : (p : Problem) (windows : ℕ → ℕ → Option Window) (points : ℕ → List ℕ) → CoarsensPlans p windows points
 coarsens-plans p windows points d routes h plan within =
     (relaxed-coarsened p windows points d routes h plan within, cost-coarsened p points d routes)
+
+-- the arcs of the route at a place exist where those of all do
+pub route-arcs : (p : Problem) (routes : List (Vec Leg Global)) (plan : List (List Leg)) (i : ℕ) (v : Vec Leg Global) → lists_of routes ≡ plan → All (ArcsExist p) plan → i < length routes → v ≡ get_or routes i v → ArcsExist p v.items
+route-arcs p routes plan i v view exist lt is =
+    let all : All (ArcsExist p) (lists_of routes) = subst (All (ArcsExist p)) (sym view) exist in
+    let there : i < length (lists_of routes) = omega (arith, length-lists_of routes, lt) in
+    let items : Vec Leg Global → List Leg = λ r. r.items in
+    let same : get_or (lists_of routes) i v.items ≡ v.items = at-map items routes i v ∙ ap items (sym is) in
+    subst (ArcsExist p) same (all i v.items there)

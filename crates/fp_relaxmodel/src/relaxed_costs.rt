@@ -12,7 +12,12 @@ use fp_model::{Instance, Shipment};
 fn goes_by(stops: &[Stop], stop: Stop) -> bool
     ensures { result ≡ has_leg (leg_of stop) (legs_of stops.now) }
 {
-    stops.iter().any(|other| stop == *other)
+    for other in stops {
+        if stop == *other {
+            return true;
+        }
+    }
+    false
 }
 
 // Whether one of the walks goes by the class.

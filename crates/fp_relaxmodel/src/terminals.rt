@@ -30,6 +30,17 @@ fn are_apart(instance: &Instance, tail: u32, stops: &[Stop]) -> bool
     true
 }
 
+// Whether no terminal stands twice on the walk of these classes.
+fn goes_once(instance: &Instance, stops: &[Stop]) -> bool
+    requires { ArcsExist instance.now (legs_of stops.now) }
+    ensures { IsTrue result ↔ AreApart (terminals_on instance.now (legs_of stops.now)) }
+{
+    match stops.first() {
+        Some(first) => are_apart(instance, instance.arc(first.arc).from, stops),
+        None => true,
+    }
+}
+
 /// Whether no terminal stands twice on a walk whose arcs exist. Of a walk whose arcs lead from a shipment's origin to its
 /// destination, another terminal, it's whether they are a route of the shipment.
 ///
@@ -40,8 +51,5 @@ pub fn is_route(instance: &Instance, walk: &TimedWalk) -> bool
     ensures route { (s : Shipment) → s.from ≢ s.to → Leads instance.now s.from (arcs_of walk.now) s.to →
         (IsTrue result ↔ IsRoute instance.now s (arcs_of walk.now)) }
 {
-    match walk.stops.first() {
-        Some(first) => are_apart(instance, instance.arc(first.arc).from, &walk.stops),
-        None => true,
-    }
+    goes_once(instance, &walk.stops)
 }
