@@ -24,7 +24,7 @@ groups_so_far stops groups = []
 abbrev pub with_member : Leg → Member → List Met → List Met
 with_member c m [] = record { class = c; members = m ∷ [] } ∷ []
 with_member c m (g ∷ groups) =
-    if same_leg c g.class then record g { members = g.members ++ (m ∷ []) } ∷ groups else g ∷ with_member c m groups
+    if same_leg g.class c then record g { members = g.members ++ (m ∷ []) } ∷ groups else g ∷ with_member c m groups
 
 -- the groups after each of the legs in turn
 abbrev pub after : List Placed → List Met → List Met
