@@ -4,3 +4,6 @@ pub mod PlansCoarsen
 pub mod MetTerminals
 pub mod MetClasses
 pub mod Peeling
+pub mod GroupLaws
+pub mod PlacedLegs
+pub mod UniqueGroups
