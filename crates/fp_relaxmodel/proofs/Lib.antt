@@ -7,3 +7,4 @@ pub mod Peeling
 pub mod GroupLaws
 pub mod PlacedLegs
 pub mod UniqueGroups
+pub mod MadeGroups
