@@ -8,3 +8,4 @@ pub mod GroupLaws
 pub mod PlacedLegs
 pub mod UniqueGroups
 pub mod MadeGroups
+pub mod RouteLengths

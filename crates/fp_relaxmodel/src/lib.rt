@@ -22,3 +22,6 @@ pub use terminals::is_route;
 
 /// What a call that allocates can fail with.
 pub type NoMemory = std::alloc::AllocError;
+
+#[cfg(test)]
+mod tests;
