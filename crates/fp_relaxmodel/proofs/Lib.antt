@@ -9,3 +9,4 @@ pub mod PlacedLegs
 pub mod UniqueGroups
 pub mod MadeGroups
 pub mod RouteLengths
+pub mod MembersByPlace
