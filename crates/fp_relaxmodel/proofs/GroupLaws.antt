@@ -1,19 +1,18 @@
 -- The groups of all legs in turn are the groups of the classes, and no other lists are.
-use Rattle.std.proofs.Common.{◌≡◌, ◌∙◌, ℕ, zero, suc, ◌+◌, ◌<◌, ◌≤◌, Bool, true, false, List, [], ◌∷◌, ◌++◌, length, map, inl, inr, ⊎_elim, refl, sym, ap, ap₂, subst, arith, le_refl, true≢false}
-use Rattle.std.specs.Prelude.{◌⊎◌, All, AllPairs, Contains, not}
+use Rattle.std.proofs.Common.{◌≡◌, ◌∙◌, ℕ, zero, suc, ◌≤◌, Bool, true, false, List, [], ◌∷◌, ◌++◌, length, map, ⊎_elim, refl, sym, ap, subst, arith, true≢false}
+use Rattle.std.specs.Prelude.{All, AllPairs, Contains, not}
 use Rattle.std.specs.List.{AllByRecursion, list_any}
 use Rattle.std.proofs.lemmas.Bool.{cases_Bool, or_cases, or_left, or_right}
-use Rattle.std.proofs.lemmas.List.Elements.{All-append, All-cons, All-filter, All-from_recursion, All-head, All-map, All-nil, All-tail, All-weaker, Contains-append_right, recursion_from_All}
-use Rattle.std.proofs.lemmas.List.Folds.{list_any-append}
+use Rattle.std.proofs.lemmas.List.Elements.{All-append, All-filter, All-from_recursion, All-head, All-map, All-tail, Contains-append_right, recursion_from_All}
 use Rattle.std.proofs.lemmas.List.Kept.{AllPairs-cons, AllPairs-filter}
 use Rattle.fp_model.specs.declared.parts.Leg.{Leg}
 use Rattle.fp_model.specs.declared.parts.Member.{Member}
-use Rattle.fp_model.specs.Costs.{all_legs, has_leg, same_leg}
+use Rattle.fp_model.specs.Costs.{same_leg}
 use Rattle.fp_model.proofs.Distinct.{same_leg-refl, same_leg-true}
 use Rattle.fp_model.proofs.Sums.{each-weaker}
 use Rattle.fp_relaxmodel.specs.Grouping.{Met, after}
-use Rattle.fp_relaxmodel.specs.Groups.{AreGroups, ComesBefore, IsGroup, StartsBefore}
-use Rattle.fp_relaxmodel.specs.Members.{Placed, members_among, members_in, placed_from, placed_on}
+use Rattle.fp_relaxmodel.specs.Groups.{ComesBefore, StartsBefore}
+use Rattle.fp_relaxmodel.specs.Members.{Placed, members_among}
 use Rattle.fp_relaxmodel.proofs.MetClasses.{same_leg-comm}
 use Rattle.fp_relaxmodel.proofs.Peeling.{Occurs, members-other, members-others, members-same, occurs-from_others, occurs-others, others, others-other, others-same, peel}
 

@@ -1,5 +1,5 @@
 -- Groups that are made walk by walk.
-use Rattle.std.proofs.Common.{◌≡◌, ◌∙◌, ℕ, ◌+◌, ◌<◌, ◌≤◌, List, [], ◌∷◌, ◌++◌, length, drop, get_or, map, refl, sym, ap, subst, arith, add-one, drop-cons}
+use Rattle.std.proofs.Common.{◌≡◌, ◌∙◌, ℕ, ◌+◌, ◌<◌, ◌≤◌, List, [], ◌∷◌, ◌++◌, length, drop, get_or, refl, sym, ap, subst, arith, add-one, drop-cons}
 use Rattle.std.specs.declared.alloc.Global.{Global}
 use Rattle.std.specs.declared.vec.Vec.{Vec}
 use Rattle.std.proofs.lemmas.List.{drop_all}
@@ -9,7 +9,6 @@ use Rattle.fp_relaxmodel.specs.declared.stops.Stop.{Stop}
 use Rattle.fp_relaxmodel.specs.Grouping.{Met, after, groups_so_far, with_member}
 use Rattle.fp_relaxmodel.specs.Groups.{AreGroups, lists_of}
 use Rattle.fp_relaxmodel.specs.Members.{Placed, placed_from, placed_on}
-use Rattle.fp_relaxmodel.specs.Stops.{leg_of}
 use Rattle.fp_relaxmodel.proofs.GroupLaws.{members_of}
 use Rattle.fp_relaxmodel.proofs.UniqueGroups.{groups-met}
 

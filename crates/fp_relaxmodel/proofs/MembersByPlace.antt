@@ -1,14 +1,13 @@
 -- Members of a class by their numbers: they are the legs that go by the class.
-use Rattle.std.proofs.Common.{◌≡◌, ◌∙◌, ℕ, zero, suc, ◌+◌, ◌<◌, ◌≤◌, true, false, List, [], ◌∷◌, ◌++◌, length, map, ⊎_elim, refl, sym, ap, subst, arith, add-one}
-use Rattle.std.specs.Prelude.{All, Contains, slice_index_or}
+use Rattle.std.proofs.Common.{◌≡◌, ℕ, zero, suc, ◌+◌, ◌<◌, true, false, List, [], ◌∷◌, length, ⊎_elim, refl, sym, subst, arith}
+use Rattle.std.specs.Prelude.{All, Contains}
 use Rattle.std.proofs.lemmas.Bool.{cases_Bool}
-use Rattle.std.proofs.lemmas.List.Elements.{All-append, All-cons, All-contains, All-nil, All-weaker, Contains-append_left, Contains-append_right}
+use Rattle.std.proofs.lemmas.List.Elements.{All-append, All-cons, All-nil, All-weaker, Contains-append_left, Contains-append_right}
 use Rattle.fp_model.specs.declared.parts.Leg.{Leg}
 use Rattle.fp_model.specs.declared.parts.Member.{Member}
 use Rattle.fp_model.specs.Costs.{same_leg}
-use Rattle.fp_model.specs.Numbered.{leg_at, no_leg, route_at}
+use Rattle.fp_model.specs.Numbered.{leg_at, route_at}
 use Rattle.fp_model.proofs.Distinct.{same_leg-refl, same_leg-true}
-use Rattle.fp_model.proofs.Places.{next-at}
 use Rattle.fp_relaxmodel.specs.Members.{Placed, members_among, members_in, placed_from, placed_on}
 use Rattle.fp_relaxmodel.proofs.Peeling.{members-other, members-same}
 

@@ -1,13 +1,12 @@
 -- The legs of walks, each with its class, come in order.
-use Rattle.std.proofs.Common.{◌≡◌, ◌∙◌, ℕ, ◌+◌, ◌<◌, ◌≤◌, Bool, ◌||◌, List, [], ◌∷◌, ◌++◌, inl, inr, refl, sym, ap, ap₂, arith, le_refl}
-use Rattle.std.specs.Prelude.{◌⊎◌, All, AllPairs}
+use Rattle.std.proofs.Common.{◌≡◌, ◌∙◌, ℕ, ◌+◌, ◌≤◌, Bool, ◌||◌, List, [], ◌∷◌, inl, inr, refl, sym, ap, ap₂, arith, le_refl}
+use Rattle.std.specs.Prelude.{All, AllPairs}
 use Rattle.std.specs.List.{list_any}
 use Rattle.std.proofs.lemmas.List.Elements.{All-append, All-cons, All-nil, All-weaker}
 use Rattle.std.proofs.lemmas.List.Folds.{list_any-append}
 use Rattle.std.proofs.lemmas.List.Kept.{AllPairs-cons}
 use Rattle.fp_model.specs.declared.parts.Leg.{Leg}
 use Rattle.fp_model.specs.Costs.{all_legs, has_leg, same_leg}
-use Rattle.fp_relaxmodel.specs.Groups.{ComesBefore}
 use Rattle.fp_relaxmodel.specs.Members.{Placed, placed_from, placed_on}
 use Rattle.fp_relaxmodel.proofs.GroupLaws.{Before, pairs-append, pairs-nil}
 

@@ -1,5 +1,5 @@
 -- Plans over any denominator coarsen into relaxed plans that cost no more.
-use Rattle.std.proofs.Common.{◌≡◌, ◌∙◌, ℕ, ◌+◌, ◌<◌, ◌≤◌, List, [], ◌∷◌, ap, arith, get_or, length, map, sym, subst}
+use Rattle.std.proofs.Common.{◌≡◌, ◌∙◌, ℕ, ◌+◌, ◌<◌, ◌≤◌, List, [], ◌∷◌, ap, arith, get_or, length, sym, subst}
 use Rattle.std.specs.Prelude.{Option, All}
 use Rattle.std.specs.declared.alloc.Global.{Global}
 use Rattle.std.specs.declared.vec.Vec.{Vec}
@@ -15,7 +15,6 @@ use Rattle.fp_model.proofs.Bounds.{length-lists_of}
 use Rattle.fp_model.proofs.Places.{at-map}
 use Rattle.fp_flatnet.specs.declared.window_tables.Window.{Window}
 use Rattle.fp_flatnet.specs.Windows.{PlanLiesWithin}
-use Rattle.fp_longestarcs.specs.Classes.{class_of}
 use Rattle.fp_longestarcs.proofs.ClassCosts.{cost-classes}
 use Rattle.fp_tree.specs.Sides.{MeetsAll}
 use Rattle.fp_allowed.specs.Allowed.{PlanObeys, exit_of, is_allowed}

@@ -1,10 +1,9 @@
 -- The groups of a relaxed plan: those that are met in turn, and no other lists.
-use Rattle.std.proofs.Common.{◌≡◌, ◌∙◌, ℕ, zero, suc, ◌<◌, ◌≤◌, true, List, [], ◌∷◌, length, inl, inr, ⊎_elim, refl, sym, ap₂, subst, arith, le_refl}
+use Rattle.std.proofs.Common.{◌≡◌, ◌∙◌, zero, suc, ◌<◌, List, [], ◌∷◌, length, inl, inr, ⊎_elim, refl, sym, ap₂, subst, arith, le_refl}
 use Rattle.std.specs.Prelude.{◌⊎◌, All, AllPairs, Contains}
 use Rattle.std.proofs.lemmas.List.Elements.{All-contains, All-from_recursion, All-head, All-map, All-tail, All-weaker}
 use Rattle.fp_model.specs.declared.parts.Leg.{Leg}
 use Rattle.fp_model.specs.declared.parts.Member.{Member}
-use Rattle.fp_model.specs.Costs.{all_legs, has_leg}
 use Rattle.fp_relaxmodel.specs.Grouping.{Met, after}
 use Rattle.fp_relaxmodel.specs.Groups.{AreGroups, ComesBefore, IsGroup, StartsBefore}
 use Rattle.fp_relaxmodel.specs.Members.{Placed, placed_from}

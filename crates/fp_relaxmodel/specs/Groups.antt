@@ -1,5 +1,5 @@
 -- Groups of legs of one class.
-use Rattle.std.specs.Prelude.{ℕ, ◌<◌, ◌≡◌, ◌⊎◌, List, [], ◌∷◌, map, true, All, AllPairs, Contains}
+use Rattle.std.specs.Prelude.{◌<◌, ◌≡◌, ◌⊎◌, List, ◌∷◌, map, true, All, AllPairs, Contains}
 use Rattle.std.specs.declared.alloc.Global.{Global}
 use Rattle.std.specs.declared.vec.Vec.{Vec}
 use Rattle.fp_model.specs.declared.parts.Leg.{Leg}

@@ -4,7 +4,7 @@ use Rattle.fp_model.specs.declared.parts.Leg.{Leg}
 use Rattle.fp_model.specs.Costs.{cost}
 use Rattle.fp_longestarcs.specs.Networks.{points_in}
 use Rattle.fp_flatnet.specs.Tables.{windows_in}
-use Rattle.fp_relaxmodel.specs.Relaxed.{IsRelaxedPlan, coarsened}
+use Rattle.fp_relaxmodel.specs.Relaxed.{IsRelaxedPlan}
 use Rattle.fp_relaxmodel.proofs.PlansCoarsen.{HasRoutes-plan, coarsens-plans, cost-coarsened, relaxed-coarsened}
 use Rattle.fp_relaxmodel.proofs.RouteCosts.{HasRoutes-exist}
 use Rattle.fp_relaxmodel.proofs.coarsening.coarsen.Goals as goal

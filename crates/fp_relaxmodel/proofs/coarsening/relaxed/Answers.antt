@@ -1,5 +1,4 @@
-use Rattle.std.proofs.Common.{◌≡◌, List, rules}
-use Rattle.fp_model.specs.declared.parts.Leg.{Leg}
+use Rattle.std.proofs.Common.{◌≡◌, rules}
 use Rattle.fp_relaxmodel.proofs.PlansCoarsen.{route-arcs}
 use Rattle.fp_relaxmodel.proofs.coarsening.relaxed.Goals as goal
 

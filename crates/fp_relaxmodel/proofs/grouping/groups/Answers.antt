@@ -1,4 +1,4 @@
-use Rattle.std.proofs.Common.{◌≡◌, ◌∙◌, List, ap, get_or, rules, subst}
+use Rattle.std.proofs.Common.{◌≡◌, ◌∙◌, List, ap, rules, subst}
 use Rattle.fp_model.specs.declared.parts.Leg.{Leg}
 use Rattle.fp_relaxmodel.specs.Grouping.{Met, after, groups_so_far}
 use Rattle.fp_relaxmodel.specs.Groups.{AreGroups, lists_of}

@@ -1,4 +1,4 @@
-use Rattle.std.proofs.Common.{◌≡◌, List, arith, sym, subst}
+use Rattle.std.proofs.Common.{List, arith}
 use Rattle.fp_model.specs.declared.parts.Leg.{Leg}
 use Rattle.fp_relaxmodel.specs.Relaxed.{HasRoutes}
 use Rattle.fp_relaxmodel.proofs.RouteCosts.{HasRoutes-exist, HasRoutes-long, cost-routes-fits}
