@@ -40,7 +40,8 @@ fn classes(
 ) -> Result<TimedWalk, NoMemory>
     requires route { ArcsExist instance.now route.now }
     requires arcs { HasArcsOf instance.now network.now }
-    ensures { IfOk result (λ walk. walk ≡ map (class_of instance.now (points_in network.now) 1) route.now) }
+    ensures { IfOk result (λ walk.
+        walk ≡ map (class_of instance.now (points_in network.now) 1) route.now) }
 {
     let mut stops = Vec::with_capacity(alloc, route.len())?;
     for leg in route {
@@ -67,11 +68,13 @@ fn relaxed(
     Ok(RelaxedPlan { walks })
 }
 
-/// The relaxed plan of a plan that lies within the windows: each departure is moved back to the greatest point of its
-/// terminal that is not after it.
+/// The relaxed plan of a plan that lies within the windows: each departure is moved back to the
+/// greatest point of its terminal that is not after it.
 ///
-/// It costs no more than the plan. The same is true of every plan over any denominator that lies within the windows,
-/// whatever the points of the network are. `NoMemory` where memory is wanting.
+/// It costs no more than the plan. The same is true of every plan over any denominator that lies
+/// within the windows, whatever the points of the network are. The windows belong to the instance,
+/// and the network is whole for it; the windows serve the contract alone. `NoMemory` where memory is
+/// wanting.
 pub fn coarsen(
     alloc: Global,
     instance: &Instance,
@@ -83,8 +86,10 @@ pub fn coarsen(
     requires whole { IsWhole instance.now network.now }
     requires plan { IsPlan instance.now 1 plan.now }
     requires within { PlanLiesWithin (windows_in windows.now) 1 plan.now }
-    ensures exact { IfOk result (λ r. r ≡ coarsened instance.now (points_in network.now) 1 plan.now) }
-    ensures relaxed { IfOk result (IsRelaxedPlan instance.now (windows_in windows.now) (points_in network.now)) }
+    ensures exact { IfOk result (λ r.
+        r ≡ coarsened instance.now (points_in network.now) 1 plan.now) }
+    ensures relaxed { IfOk result
+        (IsRelaxedPlan instance.now (windows_in windows.now) (points_in network.now)) }
     ensures cheaper { IfOk result (λ r. cost instance.now r ≤ cost instance.now plan.now) }
     ensures all { CoarsensPlans instance.now (windows_in windows.now) (points_in network.now) }
 {

@@ -24,9 +24,11 @@ impl Grouping {
     // One more member of a class.
     fn add(&mut self, alloc: Global, stop: Stop, member: Member) -> Result<(), NoMemory>
         requires { length self.old.classes.keys ≡ length self.old.groups.items }
-        ensures matched { OnOk result (length self.new.classes.keys ≡ length self.new.groups.items) }
+        ensures matched { OnOk result
+            (length self.new.classes.keys ≡ length self.new.groups.items) }
         ensures groups { OnOk result (groups_so_far self.new.classes.keys self.new.groups.items
-            ≡ with_member (leg_of stop) member (groups_so_far self.old.classes.keys self.old.groups.items)) }
+            ≡ with_member (leg_of stop) member
+            (groups_so_far self.old.classes.keys self.old.groups.items)) }
     {
         let (number, is_new) = self.classes.insert_full(stop)?;
         if is_new {
@@ -40,9 +42,11 @@ impl Grouping {
     fn add_walk(&mut self, alloc: Global, shipment: u32, stops: &[Stop]) -> Result<(), NoMemory>
         requires matched { length self.old.classes.keys ≡ length self.old.groups.items }
         requires few { length stops.now < 2 ^ 32 - 1 }
-        ensures matched { OnOk result (length self.new.classes.keys ≡ length self.new.groups.items) }
+        ensures matched { OnOk result
+            (length self.new.classes.keys ≡ length self.new.groups.items) }
         ensures groups { OnOk result (groups_so_far self.new.classes.keys self.new.groups.items
-            ≡ after (placed_on shipment 0 (legs_of stops.now)) (groups_so_far self.old.classes.keys self.old.groups.items)) }
+            ≡ after (placed_on shipment 0 (legs_of stops.now))
+            (groups_so_far self.old.classes.keys self.old.groups.items)) }
     {
         for (leg, stop) in stops.iter().enumerate() {
             let leg = leg as u32;
@@ -52,11 +56,12 @@ impl Grouping {
     }
 }
 
-/// The legs of a relaxed plan in groups, one for each class that occurs, also for one with a single leg.
+/// The legs of a relaxed plan in groups, one for each class that occurs, also for one with a single
+/// leg.
 ///
-/// Each leg is in exactly one group. The members of a group go by shipment and then leg, and the groups by their first
-/// members. There are fewer than `2^32 - 1` walks, and fewer than `2^32 - 1` classes on each. `NoMemory` where memory is
-/// wanting. Takes time that grows with the legs.
+/// Each leg is in exactly one group. The members of a group go by shipment and then leg, and the
+/// groups by their first members. There are fewer than `2^32 - 1` walks, and fewer than `2^32 - 1`
+/// classes on each. `NoMemory` where memory is wanting. Takes time that grows with the legs.
 pub fn groups(alloc: Global, relaxed: &RelaxedPlan) -> Result<Vec<Vec<Member>>, NoMemory>
     requires few_walks { length relaxed.now < 2 ^ 32 - 1 }
     requires few_legs { All (λ walk. length walk < 2 ^ 32 - 1) relaxed.now }

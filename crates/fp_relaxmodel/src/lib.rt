@@ -1,9 +1,10 @@
 //! Timed walks and relaxed plans of a partially time-expanded network.
 //!
-//! A relaxed plan has for each shipment a walk over classes: its arcs are a route, and each class stands at or after the
-//! head of the one before. What a plan does at moments between the points, it does there at the points before them, so
-//! every plan over every denominator coarsens into a relaxed plan that costs no more (the relaxation of Boland, Hewitt,
-//! Marshall and Savelsbergh, "The Continuous-Time Service Network Design Problem", Operations Research 65, 2017).
+//! A relaxed plan has for each shipment a walk over classes: its arcs are a route, and each class
+//! stands at or after the head of the one before. What a plan does at moments between the points,
+//! it does there at the points before them, so every plan over every denominator coarsens into a
+//! relaxed plan that costs no more (the relaxation of Boland, Hewitt, Marshall and Savelsbergh,
+//! "The Continuous-Time Service Network Design Problem", Operations Research 65, 2017).
 #![tactic(auto)]
 
 mod coarsening;

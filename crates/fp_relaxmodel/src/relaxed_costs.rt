@@ -1,5 +1,6 @@
 ghost use Rattle.std.specs.Prelude.{ℕ, List, ◌≡◌, ◌+◌, ◌<◌, ◌≤◌, ◌^◌, length, All};
-ghost use Rattle.fp_model.specs.Costs.{all_legs, cost, cost_with, departure_cost, departures_cost, has_leg, load};
+ghost use Rattle.fp_model.specs.Costs.{all_legs, cost, cost_with, departure_cost};
+ghost use Rattle.fp_model.specs.Costs.{departures_cost, has_leg, load};
 ghost use Rattle.fp_model.specs.Routes.{ArcsExist};
 ghost use Rattle.fp_relaxmodel.specs.Relaxed.{HasRoutes};
 ghost use Rattle.fp_relaxmodel.specs.Stops.{leg_of, legs_of};
@@ -71,7 +72,8 @@ fn walk_cost(
 ) -> u128
     requires walks { length walks.now ≡ length instance.now.shipments }
     requires arcs { ArcsExist instance.now (legs_of stops.now) }
-    requires fits { cost_with instance.now walks.now size (legs_of stops.now) (all_legs later.now) < 2 ^ 128 }
+    requires fits { cost_with instance.now walks.now size (legs_of stops.now)
+        (all_legs later.now) < 2 ^ 128 }
     ensures { result + departures_cost instance.now walks.now (all_legs later.now)
         ≡ cost_with instance.now walks.now size (legs_of stops.now) (all_legs later.now) }
 {
@@ -109,8 +111,8 @@ fn walks_cost(instance: &Instance, walks: &[TimedWalk]) -> u128
 
 /// What a relaxed plan costs: its trucks, counted once for each distinct class, and its flow.
 ///
-/// Each shipment has a walk whose arcs are a route of it. So the cost is below `2^127`. Takes no memory, so it looks at
-/// each pair of classes.
+/// Each shipment has a walk whose arcs are a route of it. So the cost is below `2^127`. Takes no
+/// memory, so it looks at each pair of classes.
 pub fn relaxed_cost(instance: &Instance, relaxed: &RelaxedPlan) -> u128
     requires { HasRoutes instance.now relaxed.now }
     ensures { result ≡ cost instance.now relaxed.now }

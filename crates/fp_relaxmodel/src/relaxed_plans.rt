@@ -1,7 +1,8 @@
 use crate::stops::Stop;
 use std::marker::Model;
 
-/// The classes that a shipment goes by, in order. Contracts see each as a leg that leaves at its point.
+/// The classes that a shipment goes by, in order. Contracts see each as a leg that leaves at its
+/// point.
 #[derive(Drop)]
 pub struct TimedWalk {
     pub stops: Vec<Stop>,

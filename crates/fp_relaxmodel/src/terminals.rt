@@ -41,14 +41,16 @@ fn goes_once(instance: &Instance, stops: &[Stop]) -> bool
     }
 }
 
-/// Whether no terminal stands twice on a walk whose arcs exist. Of a walk whose arcs lead from a shipment's origin to its
-/// destination, another terminal, it's whether they are a route of the shipment.
+/// Whether no terminal stands twice on a walk whose arcs exist. Of a walk whose arcs lead from a
+/// shipment's origin to its destination, another terminal, it's whether they are a route of the
+/// shipment.
 ///
 /// Takes no memory, and time that grows with the classes.
 pub fn is_route(instance: &Instance, walk: &TimedWalk) -> bool
     requires { ArcsExist instance.now walk.now }
     ensures apart { IsTrue result ↔ AreApart (terminals_on instance.now walk.now) }
-    ensures route { (s : Shipment) → s.from ≢ s.to → Leads instance.now s.from (arcs_of walk.now) s.to →
+    ensures route { (s : Shipment) → s.from ≢ s.to →
+        Leads instance.now s.from (arcs_of walk.now) s.to →
         (IsTrue result ↔ IsRoute instance.now s (arcs_of walk.now)) }
 {
     goes_once(instance, &walk.stops)

@@ -15,7 +15,14 @@ use std::alloc::Global;
 
 // An arc of time 5.
 fn arc_between(from: u32, to: u32) -> Arc
-    ensures { result ≡ record { from = from; to = to; time = 5; capacity = 10; truck = 100; freight = 1 } }
+    ensures { result ≡ record {
+      from = from;
+      to = to;
+      time = 5;
+      capacity = 10;
+      truck = 100;
+      freight = 1;
+    } }
 {
     Arc {
         from,
