@@ -22,3 +22,30 @@ def instance(terminals, arcs, shipments, seed=1):
         due = release + 400 * terminals + draw.randrange(2000)
         lines.append(f"shipment,S{number},T{origin},T{destination},{1 + draw.randrange(12)},{release},{due}")
     return "\n".join(lines) + "\n"
+
+
+def generated(seed, terminals, shipments):
+    """CSV records of an instance made from a number: a ring both ways, and an arc across from each terminal."""
+    state = seed
+
+    def draw(below):
+        nonlocal state
+        state = (1103515245 * state + 12345) % 2**31
+        return state // 65536 % below
+
+    lines = [f"terminal,T{i + 1}" for i in range(terminals)]
+    taken = set()
+    for tail in range(terminals):
+        for step in (1, terminals - 1, terminals // 2):
+            head = (tail + step) % terminals
+            if (tail, head) not in taken:
+                taken.add((tail, head))
+                time, capacity, truck, freight = 60 + draw(241), 10 + draw(11), 100 + draw(101), draw(3)
+                lines.append(f"arc,T{tail + 1},T{head + 1},{time},{capacity},{truck},{freight}")
+    for number in range(shipments):
+        origin = draw(terminals)
+        destination = (origin + 1 + draw(terminals - 1)) % terminals
+        size, release = 1 + draw(12), draw(5000)
+        due = release + 300 * terminals + draw(2000)
+        lines.append(f"shipment,S{number + 1},T{origin + 1},T{destination + 1},{size},{release},{due}")
+    return "\n".join(lines) + "\n"

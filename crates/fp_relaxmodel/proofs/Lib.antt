@@ -1,0 +1,12 @@
+pub mod WrittenStops
+pub mod RouteCosts
+pub mod PlansCoarsen
+pub mod MetTerminals
+pub mod MetClasses
+pub mod Peeling
+pub mod GroupLaws
+pub mod PlacedLegs
+pub mod UniqueGroups
+pub mod MadeGroups
+pub mod RouteLengths
+pub mod MembersByPlace

@@ -1,0 +1,12 @@
+use Rattle.std.proofs.Common.{◌≡◌, ◌∷◌, drop, length}
+use Rattle.std.specs.Prelude.{◌↔◌}
+use Rattle.fp_model.specs.Routes.{AreApart}
+use Rattle.fp_relaxmodel.proofs.MetTerminals.{AreNew, entered_by}
+use Rattle.fp_relaxmodel.proofs.terminals.are_apart.Given as goal
+
+-- the terminals are apart exactly where those that are left are new
+abbrev pub invariant-loop-stop : goal.invariant-loop-stop
+invariant-loop-stop l = record {
+  long : length l.met ≡ 100;
+  decides : AreApart (l.tail ∷ entered_by l.instance l.stops) ↔ AreNew l.met (entered_by l.instance (drop l.stop-index l.stops));
+}
