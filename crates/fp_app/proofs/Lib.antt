@@ -1,2 +1,4 @@
 pub mod OneTable
 pub mod Verdicts
+pub mod Counted
+pub mod Ends

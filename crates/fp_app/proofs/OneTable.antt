@@ -41,6 +41,7 @@ window-unique p s a v w one two =
   where
     same-rest : (x y t u n : ℕ) → x + t ≡ n → y + u ≡ n → t ≡ u → x ≡ y
     same-rest x y t u n one two same = omega (arith, one, two, same)
+
     same-parts : (v w : Window) → v.lo ≡ w.lo → v.hi ≡ w.hi → v ≡ w
     same-parts v w lo hi = ap (λ (n : ℕ). record { lo = n; hi = v.hi }) lo ∙ ap (λ (n : ℕ). record { lo = w.lo; hi = n }) hi
 
@@ -71,10 +72,10 @@ pub windows-one : (p : Problem) (one two : WindowTable) → AreWindowsOf p one �
 windows-one p one two first second =
     let long : length one.rows ≡ length two.rows = omega (arith, first.belongs.shipments, second.belongs.shipments) in
     let rows : one.rows ≡ two.rows = ext_get_or [] one.rows two.rows long (λ k lt.
-        let ship : k < length p.shipments = omega (arith, lt, first.belongs.shipments) in
-        ext_get_or None (slice_index_or one.rows k []) (slice_index_or two.rows k [])
-        (row-long p one first.belongs k ship ∙ sym (row-long p two second.belongs k ship))
-        (λ a at. entry-same p one two first second k a ship (omega (arith, at, row-long p one first.belongs k ship)))) in
+    let ship : k < length p.shipments = omega (arith, lt, first.belongs.shipments) in
+    ext_get_or None (slice_index_or one.rows k []) (slice_index_or two.rows k [])
+    (row-long p one first.belongs k ship ∙ sym (row-long p two second.belongs k ship))
+    (λ a at. entry-same p one two first second k a ship (omega (arith, at, row-long p one first.belongs k ship)))) in
     same-table one two (first.belongs.tails ∙ sym second.belongs.tails) rows (first.bare ∙ sym second.bare)
   where
     same-table : (one two : WindowTable) → one.tails ≡ two.tails → one.rows ≡ two.rows → one.anchors ≡ two.anchors → one ≡ two

@@ -1,9 +1,8 @@
 // What `check` shows.
-ghost use Rattle.std.specs.Prelude.{◌≤◌, length, IfOk};
+ghost use Rattle.std.specs.Prelude.{ℕ, ◌≡◌, ◌-◌, ◌<◌, ◌≤◌, ◌^◌, drop, length, IfOk};
 ghost use Rattle.fp_certificate.specs.Ranges.{IsInRange};
-ghost use Rattle.fp_model.specs.Problem.{Problem};
-ghost use Rattle.fp_app.specs.Checks.{ShowsCheck, kind_of, scaled};
-ghost use Rattle.fp_app.specs.Given.{AreInRange, AreGiven};
+ghost use Rattle.fp_app.specs.Checks.{ShowsCheck, kind_of, scale_of, scaled};
+ghost use Rattle.fp_app.specs.Given.{AreGiven, AreInRange, AreRead};
 ghost use Rattle.fp_app.specs.Inputs.{OfCertificate};
 ghost use Rattle.fp_app.specs.Shown.{IsPrintable};
 
@@ -69,6 +68,10 @@ fn read_certificate(
     lines: &[Record],
     used: usize,
 ) -> Result<Given, NoMemory>
+    requires used { used ≤ length lines.now }
+    requires few { length lines.now < 2 ^ 32 - 1 }
+    ensures read { IfOk result (AreRead instance used lines.now) }
+    ensures range { IfOk result AreInRange }
 {
     match read(alloc, &instance, lines, used) {
         Ok(certificate) => Ok(Given::Both {
@@ -81,17 +84,12 @@ fn read_certificate(
 }
 
 // Whether a certificate is accepted for an instance at its scale.
-fn verdict(
-    alloc: Global,
-    instance: Instance,
-    certificate: &Certificate,
-) -> Result<Shown, NoMemory>
+fn verdict(alloc: Global, instance: Instance, certificate: &Certificate) -> Result<Shown, NoMemory>
     requires { IsInRange instance certificate.now }
     ensures shown { IfOk result (ShowsCheck (scaled instance certificate.now) certificate.now) }
     ensures printable { IfOk result IsPrintable }
 {
-    let scale = certificate.scale.unwrap_or(DEFAULT_SCALE);
-    let instance = instance.with_scale(scale);
+    let instance = instance.with_scale(scale_of(certificate));
     let windows = Windows::of(alloc, &instance)?;
     match check(alloc, &instance, &windows, certificate) {
         Ok(()) => Ok(Shown::Accepted {
@@ -99,6 +97,16 @@ fn verdict(
         }),
         Err(Rejected::Part { number }) => Ok(Shown::RejectedPart { number }),
         Err(Rejected::NoMemory) => Err(AllocError),
+    }
+}
+
+// The scale that a certificate names, or the one that stands where it names none.
+fn scale_of(certificate: &Certificate) -> u32
+    ensures { result ≡ scale_of certificate.now.scale }
+{
+    match certificate.scale {
+        Some(scale) => scale,
+        None => DEFAULT_SCALE,
     }
 }
 

@@ -56,7 +56,11 @@ fn infeasible_text(
     ensures { IfOk result (λ text. IsText (Shown.Infeasible instance.now shipment time) text.items) }
 {
     let answer = Answer::Infeasible { shipment, time };
-    write(alloc, instance, &timetable_of(alloc, answer, Vec::new(alloc), Vec::new(alloc)))
+    write(
+        alloc,
+        instance,
+        &timetable_of(alloc, answer, Vec::new(alloc), Vec::new(alloc)),
+    )
 }
 
 // `accepted` and the kind of an answer.

@@ -120,7 +120,7 @@ claims-whole p windows (Infeasible shipment time) cover within = within
 
 -- what an accepted certificate claims of the plans within the windows is true
 pub accepted-claims-within : (p : Problem) (table : WindowTable) (c : Statement) → IsValid p → IsInRange p c → IsAccepted p table c → ClaimsWithin p (windows_in table) c.answer
-accepted-claims-within p table c valid range accepted = claims-within p table c c.answer refl valid range.answer accepted
+accepted-claims-within p table c valid range accepted = claims-within p table c c.answer refl valid range.within.answer accepted
 
 -- and where the windows are the instance's own, so is what it claims of all plans
 pub accepted-claims-whole : (p : Problem) (table : WindowTable) (c : Statement) → IsValid p → IsInRange p c → IsAccepted p table c → AreWindows p (windows_in table) → Claims p c.answer
