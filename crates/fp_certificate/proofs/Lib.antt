@@ -3,6 +3,7 @@ mod EndedLines
 mod LastElements
 mod LineRanges
 mod LinesBack
+mod ListsBack
 mod NamesBack
 mod NumbersBack
 mod Ranged
@@ -10,4 +11,5 @@ mod ReadEnds
 mod RowTexts
 mod SegmentsBack
 mod TableCounts
+mod TablesBack
 mod Worked
