@@ -6,10 +6,12 @@ mod LinesBack
 mod ListsBack
 mod NamesBack
 mod NumbersBack
+mod PlainRows
 mod Ranged
 mod ReadEnds
 mod RowTexts
 mod SegmentsBack
 mod TableCounts
 mod TablesBack
+mod WrittenBack
 mod Worked

@@ -1,6 +1,8 @@
 -- Certificates whose lines stand in an order that reading takes, and that reading gives them back.
-use Rattle.std.specs.Prelude.{◌≡◌, [], None, Ok}
-use Rattle.fp_model.specs.Problem.{Problem, IsValid}
+use Rattle.std.specs.Prelude.{◌≡◌, [], All, None, Ok}
+use Rattle.fp_model.specs.declared.parts.Shipment.{Shipment}
+use Rattle.fp_model.specs.Names.{IsName}
+use Rattle.fp_model.specs.Problem.{Problem}
 use Rattle.fp_records.specs.Fields.{records_of}
 use Rattle.fp_records.specs.Text.{lines_of}
 use Rattle.fp_certificate.specs.declared.certificates.Answer.{Answer}
@@ -34,10 +36,14 @@ Allows (Infeasible shipment time) c = HasAnswerAlone c
 abbrev pub IsReadable : Statement → Type 0
 IsReadable c = Allows c.answer c
 
--- a certificate in range whose lines can be read is what the records of its text give
+-- the names of the shipments are names, as they are in each instance
+abbrev pub HaveNames : Problem → Type 0
+HaveNames p = All (λ (s : Shipment). IsName s.name) p.shipments
+
+-- the records of a certificate's text give the certificate back
 abbrev pub ReadsBack : Problem → Statement → Type 0
 ReadsBack p c = certificate_of p 1 (records_of (lines_of (rows_of p c))) ≡ Ok c
 
--- that is so for every valid instance
-abbrev pub WrittenReadsBack : Type 0
-WrittenReadsBack = (p : Problem) (c : Statement) → IsValid p → IsInRange p c → IsReadable c → ReadsBack p c
+-- that is so for each certificate in range whose lines stand in an order that reading takes
+abbrev pub WrittenReadsBack : Problem → Type 0
+WrittenReadsBack p = (c : Statement) → IsInRange p c → IsReadable c → ReadsBack p c

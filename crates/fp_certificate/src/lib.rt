@@ -8,6 +8,7 @@ mod end_lines;
 mod faults;
 mod groups;
 mod kinds;
+mod laws;
 mod leaf_lines;
 mod leg_lines;
 mod line_faults;
@@ -28,6 +29,7 @@ mod writing;
 
 pub use certificates::{Answer, Certificate, Node, Spent};
 pub use faults::CertFault;
+pub use laws::written_reads_back;
 pub use reading::read;
 pub use writing::write;
 
