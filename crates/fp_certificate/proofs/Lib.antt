@@ -1,17 +1,4 @@
-mod Differing
 mod EndedLines
-mod LastElements
-mod LineRanges
-mod LinesBack
-mod ListsBack
-mod NamesBack
-mod NumbersBack
-mod PlainRows
-mod Ranged
-mod ReadEnds
+pub mod Named
 mod RowTexts
-mod SegmentsBack
-mod TableCounts
-mod TablesBack
-mod WrittenBack
-mod Worked
+pub mod Worked
