@@ -1,13 +1,4 @@
-mod Differing
 mod EndedLines
-mod LastElements
-mod LineRanges
-mod LinesBack
-mod NamesBack
-mod NumbersBack
-mod Ranged
-mod ReadEnds
+pub mod Named
 mod RowTexts
-mod SegmentsBack
-mod TableCounts
-mod Worked
+pub mod Worked

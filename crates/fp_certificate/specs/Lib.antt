@@ -1,16 +1,3 @@
 pub mod Statements
 pub mod Rows
-pub mod Kinds
-pub mod Places
-pub mod Groups
-pub mod Answers
-pub mod Timetables
-pub mod Points
-pub mod Tables
-pub mod Trees
-pub mod Reading
-pub mod Codes
-pub mod Outcomes
-pub mod Indexes
 pub mod Ranges
-pub mod Readable

@@ -15,8 +15,11 @@ use Rattle.fp_certificate.specs.declared.certificates.Answer.{Answer}
 use Rattle.fp_certificate.specs.declared.certificates.Answer.TheVariants.{Direct, Optimal, Unfinished, Infeasible}
 use Rattle.fp_certificate.specs.declared.certificates.Node.{Node}
 use Rattle.fp_certificate.specs.declared.certificates.Node.TheVariants.{Branch, Leaf}
-use Rattle.fp_certificate.specs.Answers.{largest}
 use Rattle.fp_certificate.specs.Statements.{Statement}
+
+-- the largest number that a field may have where no other limit is named
+abbrev pub largest : ℕ
+largest = 2 ^ 127 - 1
 
 -- costs and bounds are no larger than a field may be, a shipment exists, and a fastest time is at most 10,000,000
 abbrev pub IsAnswerInRange : Problem → Answer → Type 0
@@ -77,8 +80,8 @@ abbrev pub IsNodeInRange : Problem → List (List ClassShare) → Node → Type 
 IsNodeInRange p tables (Branch split) = IsSplitInRange p split
 IsNodeInRange p tables (Leaf price) = IsLeafInRange tables price
 
--- each part is in range beside the others
-pub record IsWithinRanges (p : Problem) (c : Statement) : Type 0 where
+-- all numbers are in range, and all terminals, arcs, shipments and tables exist
+pub record IsInRange (p : Problem) (c : Statement) : Type 0 where
   pub answer : IsAnswerInRange p c.answer
   pub scale : IfSome c.scale (IsScaleInRange p)
   pub legs : All (IsLegInRange p) c.legs
@@ -86,16 +89,6 @@ pub record IsWithinRanges (p : Problem) (c : Statement) : Type 0 where
   pub points : All (IsPointInRange p) c.points
   pub tables : All (All (IsShareInRange p)) c.tables
   pub tree : All (IsNodeInRange p c.tables) c.tree
-
--- there are fewer tables, and fewer shares in each of them, than so many
-pub record AreFewerThan (n : ℕ) (tables : List (List ClassShare)) : Type 0 where
-  pub few_tables : length tables < n
-  pub few_shares : All (λ (table : List ClassShare). length table < n) tables
-
--- all numbers are in range, all terminals, arcs, shipments and tables exist, and tables and their shares can be counted in 32 bits
-pub record IsInRange (p : Problem) (c : Statement) : Type 0 where
-  pub within : IsWithinRanges p c
-  pub countable : AreFewerThan (2 ^ 32 - 1) c.tables
 
 -- the shipment of an answer exists
 abbrev pub AnswerExists : Problem → Answer → Type 0

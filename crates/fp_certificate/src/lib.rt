@@ -1,23 +1,16 @@
-//! The certificate of an answer, its text, and how it is read back.
+//! The certificate of an answer, and its text.
+//!
+//! A certificate tells why an answer is true: a plan's legs and departures, the points of a time-expanded network, tables of
+//! prices, and the tree of a search. It is this project's own.
 #![tactic(auto)]
 
 mod answer_lines;
 mod certificates;
-mod drafts;
-mod end_lines;
-mod faults;
-mod groups;
-mod kinds;
 mod leaf_lines;
 mod leg_lines;
-mod line_faults;
-mod line_fields;
-mod lookups;
 mod name_fields;
 mod node_lines;
-mod open_tables;
 mod point_lines;
-mod reading;
 mod scale_lines;
 mod share_lines;
 mod split_lines;
@@ -27,8 +20,6 @@ mod weight_lines;
 mod writing;
 
 pub use certificates::{Answer, Certificate, Node, Spent};
-pub use faults::CertFault;
-pub use reading::read;
 pub use writing::write;
 
 /// No memory was found.

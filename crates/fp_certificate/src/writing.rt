@@ -1,13 +1,12 @@
 // Writes a certificate.
-ghost use Rattle.std.specs.Prelude.{◌≡◌, IfOk};
-ghost use Rattle.fp_records.specs.Text.{lines_of};
+ghost use Rattle.std.specs.Prelude.{◌≡◌, ◌++◌, false, IfOk, OnOk};
+ghost use Rattle.fp_records.specs.Text.{line_of, lines_of};
 ghost use Rattle.fp_certificate.specs.Ranges.{IsNamed};
-ghost use Rattle.fp_certificate.specs.Rows.{rows_of};
+ghost use Rattle.fp_certificate.specs.Rows.{end_fields, rows_of};
 
 use crate::NoMemory;
 use crate::answer_lines::write_answer;
 use crate::certificates::Certificate;
-use crate::end_lines::write_end;
 use crate::leg_lines::write_legs;
 use crate::node_lines::write_tree;
 use crate::point_lines::write_points;
@@ -17,6 +16,15 @@ use crate::truck_lines::write_trucks;
 use fp_model::Instance;
 use fp_records::Line;
 use std::alloc::Global;
+
+// Adds `end`.
+fn write_end(line: &mut Line) -> Result<(), NoMemory>
+    requires begun { line.old.begun ≡ false }
+    ensures text { OnOk result (line.new.text ≡ line.old.text ++ line_of end_fields) }
+{
+    line.word(b"end")?;
+    line.end()
+}
 
 /// The text of a certificate of an instance.
 ///
