@@ -4,8 +4,8 @@ use Rattle.std.specs.Prelude.{All, length}
 use Rattle.fp_model.specs.Problem.{Problem}
 use Rattle.fp_prices.specs.Shares.{ClassShare}
 use Rattle.fp_prices.specs.Tables.{AreCountable}
-use Rattle.fp_certificate.specs.Ranges.{IsInRange, IsShareInRange}
-use Rattle.fp_certificate.specs.Statements.{Statement}
+use Rattle.fp_lines.specs.Ranges.{IsInRange, IsShareInRange}
+use Rattle.fp_lines.specs.Statements.{Statement}
 
 -- the arcs of shares in range exist
 arcs-exist : (p : Problem) (tables : List (List ClassShare)) → All (All (IsShareInRange p)) tables → All (λ table. All (λ (s : ClassShare). s.arc < length p.arcs) table) tables

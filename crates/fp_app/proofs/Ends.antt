@@ -5,7 +5,7 @@ use Rattle.std.specs.Io.KnownBytes.{IsAtEnd}
 use Rattle.fp_model.specs.declared.parts.Leg.{Leg}
 use Rattle.fp_model.specs.Problem.{Problem}
 use Rattle.fp_reader.specs.Input.{Fault}
-use Rattle.fp_certificate.specs.Statements.{Statement}
+use Rattle.fp_lines.specs.Statements.{Statement}
 use Rattle.fp_app.specs.declared.words.Order.{Order}
 use Rattle.fp_app.specs.declared.words.Order.TheVariants.{Direct, Check}
 use Rattle.fp_app.specs.declared.shown.AnswerKind.{AnswerKind}

@@ -4,9 +4,9 @@ use Rattle.fp_model.specs.Problem.{Problem}
 use Rattle.fp_flatnet.specs.Belonging.{BelongsTo}
 use Rattle.fp_flatnet.specs.Tables.{WindowTable, windows_in}
 use Rattle.fp_flatnet.specs.Windows.{AreWindows}
-use Rattle.fp_certificate.specs.declared.certificates.Answer.{Answer}
-use Rattle.fp_certificate.specs.declared.certificates.Answer.TheVariants as answer
-use Rattle.fp_certificate.specs.Statements.{Statement}
+use Rattle.fp_lines.specs.declared.certificates.Answer.{Answer}
+use Rattle.fp_lines.specs.declared.certificates.Answer.TheVariants as answer
+use Rattle.fp_lines.specs.Statements.{Statement}
 use Rattle.fp_checker.specs.Accepted.{IsAccepted, IsFirstFailed}
 use Rattle.fp_checker.specs.Claims.{Claims}
 use Rattle.fp_app.specs.declared.shown.AnswerKind.{AnswerKind}

@@ -2,7 +2,7 @@
 use Rattle.std.specs.Prelude.{ℕ, ◌+◌, ◌≡◌, List, drop, Some, Ok, Err, ⊤}
 use Rattle.fp_model.specs.Problem.{Problem}
 use Rattle.fp_certificate.specs.Reading.{certificate_of}
-use Rattle.fp_certificate.specs.Ranges.{IsInRange}
+use Rattle.fp_lines.specs.Ranges.{IsInRange}
 use Rattle.fp_app.specs.declared.checks.Given.{Given}
 use Rattle.fp_app.specs.declared.checks.Given.TheVariants.{Both, Fault}
 use Rattle.fp_app.specs.declared.words.Order.TheVariants.{Check}

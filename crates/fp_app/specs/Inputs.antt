@@ -5,7 +5,7 @@ use Rattle.fp_records.specs.Fields.{records_of}
 use Rattle.fp_reader.specs.declared.reading.Tail.TheVariants.{Alone, Certificate}
 use Rattle.fp_reader.specs.Input.{Fault, input_of, instance_records}
 use Rattle.fp_certificate.specs.Reading.{certificate_of}
-use Rattle.fp_certificate.specs.Statements.{Statement}
+use Rattle.fp_lines.specs.Statements.{Statement}
 use Rattle.fp_app.specs.declared.words.Order.{Order}
 use Rattle.fp_app.specs.declared.words.Order.TheVariants as order
 use Rattle.fp_app.specs.declared.shown.Shown.{Shown}

@@ -5,10 +5,10 @@ use Rattle.fp_model.specs.Costs.{cost}
 use Rattle.fp_timetable.specs.declared.lines.LegLine.{LegLine}
 use Rattle.fp_timetable.specs.declared.lines.TruckLine.{TruckLine}
 use Rattle.fp_timetable.specs.Lines.{AreLegLines, AreTruckLines}
-use Rattle.fp_certificate.specs.declared.certificates.Answer.{Answer}
-use Rattle.fp_certificate.specs.declared.certificates.Answer.TheVariants as answer
-use Rattle.fp_certificate.specs.Rows.{rows_of}
-use Rattle.fp_certificate.specs.Statements.{Statement}
+use Rattle.fp_lines.specs.declared.certificates.Answer.{Answer}
+use Rattle.fp_lines.specs.declared.certificates.Answer.TheVariants as answer
+use Rattle.fp_lines.specs.Rows.{rows_of}
+use Rattle.fp_lines.specs.Statements.{Statement}
 use Rattle.fp_app.specs.declared.shown.AnswerKind.{AnswerKind}
 use Rattle.fp_app.specs.declared.shown.AnswerKind.TheVariants as kind
 use Rattle.fp_app.specs.declared.shown.Shown.{Shown}

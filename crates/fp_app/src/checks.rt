@@ -1,6 +1,6 @@
 // What `check` shows.
 ghost use Rattle.std.specs.Prelude.{ℕ, ◌≡◌, ◌-◌, ◌<◌, ◌≤◌, ◌^◌, drop, length, IfOk};
-ghost use Rattle.fp_certificate.specs.Ranges.{IsInRange};
+ghost use Rattle.fp_lines.specs.Ranges.{IsInRange};
 ghost use Rattle.fp_app.specs.Checks.{ShowsCheck, kind_of, scale_of, scaled};
 ghost use Rattle.fp_app.specs.Given.{AreGiven, AreInRange, AreRead};
 ghost use Rattle.fp_app.specs.Inputs.{OfCertificate};

@@ -1,4 +1,15 @@
-mod EndedLines
-pub mod Named
-mod RowTexts
-pub mod Worked
+mod Differing
+mod LastElements
+mod LineRanges
+mod LinesBack
+mod ListsBack
+pub mod NamesBack
+pub mod NumbersBack
+mod PlainRows
+pub mod Ranged
+mod ReadEnds
+mod SegmentsBack
+mod TableCounts
+mod TablesBack
+mod Worked
+pub mod WrittenBack

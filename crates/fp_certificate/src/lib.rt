@@ -1,26 +1,33 @@
-//! The certificate of an answer, and its text.
-//!
-//! A certificate tells why an answer is true: a plan's legs and departures, the points of a time-expanded network, tables of
-//! prices, and the tree of a search. It is this project's own.
+//! The certificate of an answer, and its text both ways. What it is made of and how it is written stand in `fp_lines`; here it
+//! is read from the records of its text, or the first fault is named.
 #![tactic(auto)]
 
 mod answer_lines;
-mod certificates;
+mod drafts;
+mod end_lines;
+mod faults;
+mod groups;
+mod kinds;
+mod laws;
 mod leaf_lines;
 mod leg_lines;
-mod name_fields;
-mod node_lines;
+mod line_faults;
+mod line_fields;
+mod lookups;
+mod open_tables;
 mod point_lines;
+mod reading;
 mod scale_lines;
 mod share_lines;
 mod split_lines;
 mod table_lines;
 mod truck_lines;
 mod weight_lines;
-mod writing;
 
-pub use certificates::{Answer, Certificate, Node, Spent};
-pub use writing::write;
+pub use faults::CertFault;
+pub use fp_lines::{Answer, Certificate, Node, Spent, write};
+pub use laws::written_reads_back;
+pub use reading::read;
 
 /// No memory was found.
 pub type NoMemory = std::alloc::AllocError;

@@ -1,41 +1,53 @@
 // Lines `weight,SHIPMENT,W`.
-ghost use Rattle.std.specs.Prelude.{◌≡◌, ◌++◌, All, false, map, OnOk};
-ghost use Rattle.fp_records.specs.Text.{line_of, lines_of};
-ghost use Rattle.fp_certificate.specs.Ranges.{WeightExists};
-ghost use Rattle.fp_certificate.specs.Rows.{weight_fields};
+ghost use Rattle.std.specs.Prelude.{◌≡◌, false, OnOk, Some, None, MatchResult};
+ghost use Rattle.fp_reader.specs.Faults.{first_code};
+ghost use Rattle.fp_reader.specs.Fields.{has_number};
+ghost use Rattle.fp_certificate.specs.Codes.{code_of};
+ghost use Rattle.fp_certificate.specs.Outcomes.{IsLeast};
+ghost use Rattle.fp_certificate.specs.Tables.{lacks_share, weight_faults, weight_in, with_weight};
 
-use crate::NoMemory;
-use crate::name_fields::write_shipment;
-use fp_model::Instance;
+use crate::drafts::Draft;
+use crate::groups::Group;
+use crate::line_faults::{AddFault, LineFault};
+use crate::line_fields::{shipment_at, small_at};
+use crate::lookups::Lookup;
 use fp_prices::Weight;
-use fp_records::Line;
+use fp_reader::fields::{has_fields, has_number};
+use fp_records::Record;
 
-// Adds the line of a weight.
-fn write_weight(line: &mut Line, instance: &Instance, weight: &Weight) -> Result<(), NoMemory>
-    requires begun { line.old.begun ≡ false }
-    requires exists { WeightExists instance.now weight.now }
-    ensures text { OnOk result (line.new.text ≡ line.old.text ++ line_of (weight_fields instance.now weight.now)) }
-    ensures ended { OnOk result (line.new.begun ≡ false) }
+// The weight of a line, or the first of the line's faults.
+fn weight_of(lookup: &Lookup<'_>, draft: &Draft, line: &Record) -> Result<Weight, LineFault>
+    ensures faults { MatchResult result
+        (λ weight. (first_code (weight_faults lookup.now draft.now line.now) ≡ None) × (weight ≡ weight_in lookup.now line.now))
+        (λ fault. first_code (weight_faults lookup.now draft.now line.now) ≡ Some (code_of fault)) }
+    ensures share { OnOk result (lacks_share draft.now.certificate.tables ≡ false) }
 {
-    line.word(b"weight")?;
-    write_shipment(line, instance, weight.shipment)?;
-    line.number(weight.w)?;
-    line.end()
+    if !has_fields(line, 3) {
+        return Err(LineFault::Fields);
+    }
+    if !has_number(line, 2) {
+        return Err(LineFault::Digits);
+    }
+    if draft.is_misplaced(Group::Tables) || draft.lacks_share() {
+        return Err(LineFault::Order);
+    }
+    let Some(shipment) = shipment_at(lookup, line, 1) else {
+        return Err(LineFault::Name);
+    };
+    let Some(w) = small_at(line, 2) else {
+        return Err(LineFault::Range);
+    };
+    Ok(Weight { shipment, w })
 }
 
-/// Adds the lines of weights.
-pub fn write_weights(
-    line: &mut Line,
-    instance: &Instance,
-    weights: &[Weight],
-) -> Result<(), NoMemory>
-    requires begun { line.old.begun ≡ false }
-    requires exist { All (WeightExists instance.now) weights.now }
-    ensures text { OnOk result (line.new.text ≡ line.old.text ++ lines_of (map (weight_fields instance.now) weights.now)) }
-    ensures ended { OnOk result (line.new.begun ≡ false) }
+/// Adds the weight of a line to the last share, or tells the first of the line's faults.
+pub fn read_weight(lookup: &Lookup<'_>, draft: &mut Draft, line: &Record) -> Result<(), AddFault>
+    ensures { MatchResult result
+        (λ _. (first_code (weight_faults lookup.now draft.old line.now) ≡ None)
+        × (draft.new ≡ with_weight draft.old (weight_in lookup.now line.now)))
+        (λ e. IsLeast e (first_code (weight_faults lookup.now draft.old line.now))) }
 {
-    for weight in weights {
-        write_weight(line, instance, weight)?;
-    }
+    let weight = weight_of(lookup, draft, line)?;
+    draft.add_weight(weight)?;
     Ok(())
 }

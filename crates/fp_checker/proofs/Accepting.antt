@@ -25,12 +25,12 @@ use Rattle.fp_prices.specs.Leaves.{IsLeafEmpty, IsLeafValue, IsPlanOfLeaf}
 use Rattle.fp_prices.specs.Prices.{AllKeepRule}
 use Rattle.fp_prices.proofs.PlanBounds.{leaf-bounds, leaf-empty}
 use Rattle.fp_prices.proofs.PlanLeaves.{plan-obeys-leaf}
-use Rattle.fp_certificate.specs.declared.certificates.Answer.{Answer}
-use Rattle.fp_certificate.specs.declared.certificates.Answer.TheVariants.{Direct, Optimal, Unfinished, Infeasible}
-use Rattle.fp_certificate.specs.declared.certificates.Node.{Node}
-use Rattle.fp_certificate.specs.declared.certificates.Node.TheVariants as node
-use Rattle.fp_certificate.specs.Ranges.{IsAnswerInRange, IsInRange}
-use Rattle.fp_certificate.specs.Statements.{Statement}
+use Rattle.fp_lines.specs.declared.certificates.Answer.{Answer}
+use Rattle.fp_lines.specs.declared.certificates.Answer.TheVariants.{Direct, Optimal, Unfinished, Infeasible}
+use Rattle.fp_lines.specs.declared.certificates.Node.{Node}
+use Rattle.fp_lines.specs.declared.certificates.Node.TheVariants as node
+use Rattle.fp_lines.specs.Ranges.{IsAnswerInRange, IsInRange}
+use Rattle.fp_lines.specs.Statements.{Statement}
 use Rattle.fp_checker.specs.Accepted.{Applies, IsAccepted, IsBlockedAs, IsTooLate, Part, claim_of}
 use Rattle.fp_checker.specs.Claims.{AcceptedClaims, Claims, ClaimsWithin, NoPlanWithinCheaper}
 use Rattle.fp_checker.specs.Leaves.{AreLeavesWorth, HasTree, IsLeafWorth, fork_of, split_tail}

@@ -15,7 +15,7 @@ use Rattle.fp_timenodes.specs.Points.{IsAddedPoint, TimePoints, added_at, greate
 use Rattle.fp_timenodes.proofs.Floors.{has-cases, has-first, has-rest}
 use Rattle.fp_timenodes.proofs.Included.{has_point-append, or_right_comm}
 use Rattle.fp_flatnet.specs.Initial.{BeginAt, initial_points}
-use Rattle.fp_certificate.specs.Ranges.{IsPointInRange}
+use Rattle.fp_lines.specs.Ranges.{IsPointInRange}
 use Rattle.fp_checker.specs.Points.{AreAddedPoints, ArePointsOf, points_with}
 use Rattle.fp_checker.proofs.RoundCounts.{RoundsAscend, count_in, few-in_all}
 

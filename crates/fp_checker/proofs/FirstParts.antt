@@ -6,10 +6,10 @@ use Rattle.fp_model.specs.Problem.{Problem}
 use Rattle.std.specs.Prelude.{Option}
 use Rattle.fp_flatnet.specs.Tables.{WindowTable, windows_in}
 use Rattle.fp_prices.specs.Tables.{AreTables}
-use Rattle.fp_certificate.specs.declared.certificates.Answer.{Answer}
-use Rattle.fp_certificate.specs.declared.certificates.Answer.TheVariants.{Direct, Optimal, Unfinished, Infeasible}
-use Rattle.fp_certificate.specs.declared.certificates.Spent.{Spent}
-use Rattle.fp_certificate.specs.Statements.{Statement}
+use Rattle.fp_lines.specs.declared.certificates.Answer.{Answer}
+use Rattle.fp_lines.specs.declared.certificates.Answer.TheVariants.{Direct, Optimal, Unfinished, Infeasible}
+use Rattle.fp_lines.specs.declared.certificates.Spent.{Spent}
+use Rattle.fp_lines.specs.Statements.{Statement}
 use Rattle.fp_checker.specs.Accepted.{Applies, HoldBelow, Holds, IsAccepted, IsBlockedAs, IsFirstFailed, IsFirstUnmet, IsTooLate, Part, part_number}
 use Rattle.fp_checker.specs.Leaves.{HasTree}
 use Rattle.fp_checker.specs.Plans.{HasCost, HasPlan, HasTimetable}

@@ -19,9 +19,9 @@ use Rattle.fp_prices.specs.declared.leaf_prices.LeafPrice.{LeafPrice}
 use Rattle.fp_prices.specs.Leaves.{IsBoundOf, IsLeafEmpty, IsLeafValue}
 use Rattle.fp_prices.proofs.OneValue.{leaf-value-some, leaf-value-unique}
 use Rattle.fp_prices.proofs.SamePoints.{bound-same}
-use Rattle.fp_certificate.specs.declared.certificates.Node.{Node}
-use Rattle.fp_certificate.specs.declared.certificates.Node.TheVariants as node
-use Rattle.fp_certificate.specs.Statements.{Statement}
+use Rattle.fp_lines.specs.declared.certificates.Node.{Node}
+use Rattle.fp_lines.specs.declared.certificates.Node.TheVariants as node
+use Rattle.fp_lines.specs.Statements.{Statement}
 use Rattle.fp_checker.specs.Accepted.{claim_of}
 use Rattle.fp_checker.specs.Leaves.{IsBoundWorth, IsLeafWorth, fork_of, split_tail}
 use Rattle.fp_checker.specs.Points.{ArePointsOf, points_as_of}

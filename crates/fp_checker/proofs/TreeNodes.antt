@@ -6,8 +6,8 @@ use Rattle.fp_model.specs.Problem.{Problem}
 use Rattle.fp_prices.specs.declared.leaf_prices.LeafPrice.{LeafPrice}
 use Rattle.fp_tree.specs.declared.sides.Split.{Split}
 use Rattle.fp_tree.specs.Trees.{AreTrees}
-use Rattle.fp_certificate.specs.declared.certificates.Node.{Node}
-use Rattle.fp_certificate.specs.declared.certificates.Node.TheVariants.{Branch, Leaf}
+use Rattle.fp_lines.specs.declared.certificates.Node.{Node}
+use Rattle.fp_lines.specs.declared.certificates.Node.TheVariants.{Branch, Leaf}
 use Rattle.fp_checker.specs.Leaves.{fork_of}
 
 -- the nodes from a place on, where the node there is known

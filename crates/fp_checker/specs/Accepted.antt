@@ -6,9 +6,9 @@ use Rattle.fp_model.specs.Problem.{Problem}
 use Rattle.fp_model.specs.Times.{IsFastest}
 use Rattle.fp_flatnet.specs.Tables.{WindowTable, windows_in}
 use Rattle.fp_prices.specs.Tables.{AreTables}
-use Rattle.fp_certificate.specs.declared.certificates.Answer.{Answer}
-use Rattle.fp_certificate.specs.declared.certificates.Answer.TheVariants.{Direct, Optimal, Unfinished, Infeasible}
-use Rattle.fp_certificate.specs.Statements.{Statement}
+use Rattle.fp_lines.specs.declared.certificates.Answer.{Answer}
+use Rattle.fp_lines.specs.declared.certificates.Answer.TheVariants.{Direct, Optimal, Unfinished, Infeasible}
+use Rattle.fp_lines.specs.Statements.{Statement}
 use Rattle.fp_checker.specs.Leaves.{AreLeavesWorth, HasTree}
 use Rattle.fp_checker.specs.Plans.{HasCost, HasPlan, HasTrucks}
 use Rattle.fp_checker.specs.Points.{HasPoints}

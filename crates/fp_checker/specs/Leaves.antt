@@ -12,9 +12,9 @@ use Rattle.fp_tree.specs.Trees.{Leaf, IsTree, tree_leaves, tree_splits}
 use Rattle.fp_prices.specs.declared.bounds.LeafBound.{LeafBound}
 use Rattle.fp_prices.specs.declared.bounds.LeafBound.TheVariants.{Empty, Value}
 use Rattle.fp_prices.specs.Leaves.{IsLeafEmpty, IsLeafValue}
-use Rattle.fp_certificate.specs.declared.certificates.Node.{Node}
-use Rattle.fp_certificate.specs.declared.certificates.Node.TheVariants as node
-use Rattle.fp_certificate.specs.Statements.{Statement}
+use Rattle.fp_lines.specs.declared.certificates.Node.{Node}
+use Rattle.fp_lines.specs.declared.certificates.Node.TheVariants as node
+use Rattle.fp_lines.specs.Statements.{Statement}
 use Rattle.fp_checker.specs.Points.{points_as_of}
 
 -- the terminal that the arc of a split leaves, and 0 for a split by time

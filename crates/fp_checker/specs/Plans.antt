@@ -9,9 +9,9 @@ use Rattle.fp_flatnet.specs.Windows.{IsInside, PlanLiesWithin}
 use Rattle.fp_timetable.specs.declared.lines.LegLine.{LegLine}
 use Rattle.fp_timetable.specs.declared.lines.TruckLine.{TruckLine}
 use Rattle.fp_timetable.specs.Lines.{AreTruckLines, Precedes, routes_from}
-use Rattle.fp_certificate.specs.declared.certificates.Answer.{Answer}
-use Rattle.fp_certificate.specs.declared.certificates.Answer.TheVariants.{Direct, Optimal, Unfinished, Infeasible}
-use Rattle.fp_certificate.specs.Statements.{Statement}
+use Rattle.fp_lines.specs.declared.certificates.Answer.{Answer}
+use Rattle.fp_lines.specs.declared.certificates.Answer.TheVariants.{Direct, Optimal, Unfinished, Infeasible}
+use Rattle.fp_lines.specs.Statements.{Statement}
 
 -- for each shipment its legs, in the order of their lines
 abbrev pub routes_of : Problem → Statement → List (List Leg)

@@ -6,7 +6,7 @@ use Rattle.fp_timenodes.specs.declared.places.Place.{Place}
 use Rattle.fp_timenodes.specs.Floor.{HaveSamePoints, has_point}
 use Rattle.fp_timenodes.specs.Points.{TimePoints, added_at, points_at}
 use Rattle.fp_flatnet.specs.Initial.{initial_points}
-use Rattle.fp_certificate.specs.Statements.{Statement}
+use Rattle.fp_lines.specs.Statements.{Statement}
 
 -- the points of a terminal as of a round: the initial ones, and those that were added up to and with that round
 abbrev pub points_with : Problem → List Place → List AddedPoint → ℕ → ℕ → List ℕ

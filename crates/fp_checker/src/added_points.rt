@@ -2,7 +2,7 @@
 ghost use Rattle.std.specs.Prelude.{ℕ, ◌≡◌, ◌≤◌, ◌==◌, ◌↔◌, All, AllPairs, IfOk, IsTrue, OnOk, count_by};
 ghost use Rattle.fp_timenodes.specs.declared.places.AddedPoint.{AddedPoint};
 ghost use Rattle.fp_flatnet.specs.Belonging.{BelongsTo};
-ghost use Rattle.fp_certificate.specs.Ranges.{IsPointInRange};
+ghost use Rattle.fp_lines.specs.Ranges.{IsPointInRange};
 ghost use Rattle.fp_checker.specs.Points.{ArePointsOf, AreAddedPoints};
 
 use crate::rejections::{POINTS, Rejected};

@@ -4,7 +4,7 @@ ghost use Rattle.fp_flatnet.specs.Belonging.{BelongsTo};
 ghost use Rattle.fp_flatnet.specs.Tables.{windows_in};
 ghost use Rattle.fp_flatnet.specs.Windows.{AreWindows};
 ghost use Rattle.fp_prices.specs.Tables.{AreCountable};
-ghost use Rattle.fp_certificate.specs.Ranges.{IsInRange};
+ghost use Rattle.fp_lines.specs.Ranges.{IsInRange};
 ghost use Rattle.fp_checker.specs.Accepted.{HoldBelow, IsAccepted, IsFirstFailed, IsFirstUnmet, IsPlanRejected, IsTooLate, TellsPlan};
 ghost use Rattle.fp_checker.specs.Claims.{Claims, ClaimsWithin};
 ghost use Rattle.fp_checker.specs.Plans.{HasTimetable, routes_of, stated_cost as stated_cost_of};

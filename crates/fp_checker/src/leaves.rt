@@ -2,8 +2,8 @@
 ghost use Rattle.std.specs.Prelude.{◌≡◌, ◌≤◌, ◌↔◌, IfOk, IsTrue};
 ghost use Rattle.fp_flatnet.specs.Belonging.{BelongsTo};
 ghost use Rattle.fp_prices.specs.Tables.{AreTables, HasKind};
-ghost use Rattle.fp_certificate.specs.declared.certificates.Node.TheVariants as node;
-ghost use Rattle.fp_certificate.specs.Ranges.{IsInRange, IsSplitInRange};
+ghost use Rattle.fp_lines.specs.declared.certificates.Node.TheVariants as node;
+ghost use Rattle.fp_lines.specs.Ranges.{IsInRange, IsSplitInRange};
 ghost use Rattle.fp_checker.specs.Accepted.{claim_of as claim_of_answer};
 ghost use Rattle.fp_checker.specs.Leaves.{AreLeavesWorth, IsBoundWorth, IsLeafWorth, split_tail as tail_of_split};
 ghost use Rattle.fp_checker.specs.Points.{ArePointsOf};

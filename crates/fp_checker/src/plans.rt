@@ -8,7 +8,7 @@ ghost use Rattle.fp_flatnet.specs.Tables.{windows_in};
 ghost use Rattle.fp_flatnet.specs.Windows.{IsInside};
 ghost use Rattle.fp_timetable.specs.declared.lines.LegLine.{LegLine};
 ghost use Rattle.fp_timetable.specs.Lines.{LegExists, Precedes, route_of, routes_from};
-ghost use Rattle.fp_certificate.specs.Ranges.{IsInRange};
+ghost use Rattle.fp_lines.specs.Ranges.{IsInRange};
 ghost use Rattle.fp_checker.specs.Plans.{HasPlan, LeavesInside, routes_of};
 
 use crate::NoMemory;

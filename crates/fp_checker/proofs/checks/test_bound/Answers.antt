@@ -5,8 +5,8 @@ use Rattle.fp_timenodes.specs.declared.places.AddedPoint.{AddedPoint}
 use Rattle.fp_tree.specs.Trees.{IsTree, tree_splits}
 use Rattle.fp_prices.specs.Shares.{ClassShare}
 use Rattle.fp_prices.specs.Tables.{AreTables}
-use Rattle.fp_certificate.specs.declared.certificates.Node.{Node}
-use Rattle.fp_certificate.specs.Statements.{Statement}
+use Rattle.fp_lines.specs.declared.certificates.Node.{Node}
+use Rattle.fp_lines.specs.Statements.{Statement}
 use Rattle.fp_checker.specs.Leaves.{HasTree, fork_of}
 use Rattle.fp_checker.specs.Points.{AreAddedPoints}
 use Rattle.fp_checker.proofs.Failing.{failed, other-err, part-same}

@@ -1,6 +1,6 @@
 use Rattle.std.proofs.Common.{◌≡◌, sym, ap, ◌∙◌, arith}
 use Rattle.std.proofs.lemmas.Result.{err_from_is_err_and}
-use Rattle.fp_certificate.specs.Statements.{Statement}
+use Rattle.fp_lines.specs.Statements.{Statement}
 use Rattle.fp_checker.proofs.Failing.{other-err}
 use Rattle.fp_checker.proofs.FirstParts.{claim-failed, direct-failed, refusal-failed}
 use Rattle.fp_checker.proofs.checks.test_parts.Goals as goal

@@ -5,7 +5,7 @@ use Rattle.fp_model.specs.Costs.{cost}
 use Rattle.fp_model.specs.Problem.{Problem}
 use Rattle.fp_timetable.specs.declared.lines.TruckLine.{TruckLine}
 use Rattle.fp_timetable.specs.Lines.{AreTruckLines}
-use Rattle.fp_certificate.specs.Statements.{Statement}
+use Rattle.fp_lines.specs.Statements.{Statement}
 use Rattle.fp_checker.specs.Plans.{routes_of, stated_cost}
 use Rattle.fp_checker.proofs.DepartureLines.{AreTruckLines-unique}
 use Rattle.fp_checker.proofs.Failing.{failed, part-same}

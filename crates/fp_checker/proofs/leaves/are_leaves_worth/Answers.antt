@@ -3,9 +3,9 @@ use Rattle.fp_tree.specs.declared.sides.Side.{Side}
 use Rattle.fp_tree.specs.declared.sides.Split.TheVariants.{ByArc}
 use Rattle.fp_tree.specs.declared.ways.Step.{Step}
 use Rattle.fp_tree.specs.Ways.{pending_on, way_sides}
-use Rattle.fp_certificate.specs.declared.certificates.Node.{Node}
-use Rattle.fp_certificate.specs.declared.certificates.Node.TheVariants.{Branch, Leaf}
-use Rattle.fp_certificate.specs.Statements.{Statement}
+use Rattle.fp_lines.specs.declared.certificates.Node.{Node}
+use Rattle.fp_lines.specs.declared.certificates.Node.TheVariants.{Branch, Leaf}
+use Rattle.fp_lines.specs.Statements.{Statement}
 use Rattle.fp_checker.specs.Accepted.{claim_of}
 use Rattle.fp_checker.specs.Leaves.{AreLeavesWorth, IsLeafWorth}
 use Rattle.fp_checker.proofs.LeavesPassed.{worth-branch, worth-last, worth-more}

@@ -3,7 +3,7 @@ use Rattle.fp_timenodes.specs.Points.{points_at}
 use Rattle.fp_flatnet.specs.Tables.{windows_in}
 use Rattle.fp_prices.specs.Leaves.{IsBoundOf}
 use Rattle.fp_prices.specs.Shares.{ClassShare}
-use Rattle.fp_certificate.specs.Statements.{Statement}
+use Rattle.fp_lines.specs.Statements.{Statement}
 use Rattle.fp_checker.specs.Accepted.{claim_of}
 use Rattle.fp_checker.specs.Leaves.{IsBoundWorth}
 use Rattle.fp_checker.proofs.LeavesPassed.{bound-worth}

@@ -2,7 +2,7 @@ use Rattle.std.proofs.Common.{◌≡◌, List, refl, sym, ap, ◌∙◌, subst}
 use Rattle.fp_model.specs.declared.parts.Leg.{Leg}
 use Rattle.fp_model.specs.Plans.{IsPlan}
 use Rattle.fp_flatnet.specs.Tables.{windows_in}
-use Rattle.fp_certificate.specs.Statements.{Statement}
+use Rattle.fp_lines.specs.Statements.{Statement}
 use Rattle.fp_checker.proofs.Failing.{failed, part-same}
 use Rattle.fp_checker.proofs.ToldPlans.{HasPlan-told, told-HasPlan}
 use Rattle.fp_checker.proofs.plans.told_plan.Goals as goal
