@@ -1,6 +1,6 @@
 -- Each name, and each pair of ends, is new among those before it.
-use Rattle.std.proofs.Common.{◌≡◌, ◌≢◌, ◌∙◌, ℕ, ◌+◌, ◌<◌, Bool, true, false, eqb, List, length, get_or, take, sym, arith}
-use Rattle.std.specs.Prelude.{◌&&◌, AllPairs}
+use Rattle.std.proofs.Common.{◌≡◌, ◌≢◌, ◌∙◌, ℕ, ◌+◌, ◌<◌, Bool, false, eqb, List, length, get_or, take, sym, arith}
+use Rattle.std.specs.Prelude.{AllPairs}
 use Rattle.std.specs.List.{list_any}
 use Rattle.std.specs.Str.{bytes_eq}
 use Rattle.std.proofs.lemmas.Bool.{and_parts, eqb-true, false_from_ne_true}

@@ -1,5 +1,5 @@
 -- What the fields of a line without a fault give is in range.
-use Rattle.std.proofs.Common.{◌≡◌, ◌∙◌, ℕ, ◌<◌, ◌≤◌, true, false, List, [], ◌∷◌, ◌++◌, length, refl, sym, ap, arith, inl, inr}
+use Rattle.std.proofs.Common.{◌≡◌, ℕ, ◌<◌, ◌≤◌, true, false, List, [], ◌∷◌, length, refl, arith}
 use Rattle.std.specs.Prelude.{Option, Some, None, All, is_none, position, unwrap_or}
 use Rattle.std.proofs.lemmas.List.{length-map}
 use Rattle.std.proofs.lemmas.List.Elements.{All-cons, All-head, All-nil, All-tail}
@@ -11,7 +11,7 @@ use Rattle.fp_reader.specs.Fields.{field, number_at}
 use Rattle.fp_reader.proofs.Fits.{between, there}
 use Rattle.fp_lines.specs.Ranges.{largest}
 use Rattle.fp_certificate.specs.Answers.{is_small}
-use Rattle.fp_certificate.specs.Places.{arc_between, arc_in, arc_named, lacks_arc, lacks_shipment, lacks_terminal, shipment_in, terminal_in, terminal_named}
+use Rattle.fp_certificate.specs.Places.{arc_between, arc_in, lacks_arc, lacks_shipment, lacks_terminal, shipment_in, terminal_in, terminal_named}
 use Rattle.fp_certificate.specs.Tables.{with_last}
 use Rattle.fp_certificate.specs.Timetables.{is_time}
 

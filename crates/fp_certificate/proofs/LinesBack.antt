@@ -1,8 +1,8 @@
 -- Each written line has no fault where it can stand, and gives what it was written for.
-use Rattle.std.proofs.Common.{◌≡◌, ◌∙◌, ℕ, ◌+◌, ◌^◌, ◌-◌, ◌<◌, ◌≤◌, Bool, true, false, cond, eqb, ltb, List, [], ◌∷◌, ◌++◌, length, refl, sym, ap, arith, inl, inr}
-use Rattle.std.specs.Prelude.{Option, Some, None, ◌&&◌, ◌||◌, ◌==◌, not, codes, decimal, IfSome, if◌then◌else◌, is_some, nat_lt}
+use Rattle.std.proofs.Common.{◌≡◌, ℕ, ◌+◌, ◌^◌, ◌<◌, ◌≤◌, Bool, true, false, List, [], length, refl, arith}
+use Rattle.std.specs.Prelude.{Option, Some, None, ◌||◌, codes, IfSome, if◌then◌else◌, is_some}
 use Rattle.std.specs.Str.{bytes_eq}
-use Rattle.std.proofs.lemmas.Bool.{eq-eqb, lt-ltb, not_from_true, or_from}
+use Rattle.std.proofs.lemmas.Bool.{eq-eqb, lt-ltb}
 use Rattle.fp_model.specs.Problem.{IsValid, Problem, weight_at}
 use Rattle.fp_prices.specs.declared.leaf_prices.Kind.{Kind}
 use Rattle.fp_prices.specs.declared.leaf_prices.Kind.TheVariants as price
@@ -25,17 +25,17 @@ use Rattle.fp_lines.specs.declared.certificates.Spent.{Spent}
 use Rattle.fp_lines.specs.declared.certificates.Spent.TheVariants as spent
 use Rattle.fp_certificate.specs.declared.drafts.Draft.{Draft}
 use Rattle.fp_certificate.specs.declared.groups.Group.TheVariants as group
-use Rattle.fp_certificate.specs.Answers.{has_bad_scale, with_answer, with_scale}
+use Rattle.fp_certificate.specs.Answers.{with_answer, with_scale}
 use Rattle.fp_certificate.specs.Groups.{has_ended, is_misplaced}
 use Rattle.fp_certificate.specs.Points.{with_point}
 use Rattle.fp_lines.specs.Ranges.{IsAnswerInRange, IsLeafInRange, IsLegInRange, IsNodeInRange, IsPointInRange, IsScaleInRange, IsShareInRange, IsSplitInRange, IsTruckInRange, IsWeightInRange, largest}
 use Rattle.fp_certificate.specs.Reading.{line_code, nothing_read, with_line}
-use Rattle.fp_lines.specs.Rows.{answer_fields, end_fields, kind_text, leaf_fields, leg_fields, mode_text, node_fields, point_fields, scale_fields, share_fields, spent_text, split_fields, table_fields, time_text, truck_fields, weight_fields}
+use Rattle.fp_lines.specs.Rows.{answer_fields, end_fields, kind_text, leaf_fields, leg_fields, mode_text, node_fields, point_fields, scale_fields, share_fields, split_fields, table_fields, truck_fields, weight_fields}
 use Rattle.fp_certificate.specs.Tables.{lacks_share, with_share, with_table, with_weight}
 use Rattle.fp_certificate.specs.Timetables.{with_leg, with_truck}
 use Rattle.fp_certificate.specs.Trees.{with_end, with_node}
 use Rattle.fp_certificate.proofs.NamesBack.{arc-back, shipment-back, terminal-back}
-use Rattle.fp_certificate.proofs.NumbersBack.{IsReadBack, large-back, no-word, number-back, time-back, within-back}
+use Rattle.fp_certificate.proofs.NumbersBack.{large-back, no-word, number-back, time-back, within-back}
 
 -- a line has no fault and takes one draft to another
 pub record IsStep (p : Problem) (before : Draft) (fields : List (List ℕ)) (after : Draft) : Type 0 where
@@ -63,8 +63,17 @@ truck-step p before t v r open_still placed =
     let load = large-back t.load r.load in
     record {
       clean =
-          rw (open_still, placed, depart.is, trucks.is, load.is, arc, within-back 0 100000 t.depart (omega arith) r.depart depart,
-              within-back 0 largest t.trucks (omega arith) r.trucks trucks, within-back 0 largest t.load (omega arith) r.load load) refl;
+          rw (
+            open_still,
+            placed,
+            depart.is,
+            trucks.is,
+            load.is,
+            arc,
+            within-back 0 100000 t.depart (omega arith) r.depart depart,
+            within-back 0 largest t.trucks (omega arith) r.trucks trucks,
+            within-back 0 largest t.load (omega arith) r.load load,
+          ) refl;
       gives = rw (arc, depart.value, trucks.value, load.value) refl;
     }
 
@@ -76,8 +85,15 @@ point-step p before point v r open_still placed =
     let round = time-back point.round (omega (arith, r.round)) in
     record {
       clean =
-          rw (open_still, placed, at.is, round.is, terminal, within-back 0 100000 point.at (omega arith) r.time at,
-              within-back 1 4000 point.round r.round.0 r.round.1 round) refl;
+          rw (
+            open_still,
+            placed,
+            at.is,
+            round.is,
+            terminal,
+            within-back 0 100000 point.at (omega arith) r.time at,
+            within-back 1 4000 point.round r.round.0 r.round.1 round,
+          ) refl;
       gives = rw (terminal, at.value, round.value) refl;
     }
 
@@ -111,8 +127,16 @@ share-step p before s v r open_still placed some =
     let v-back = large-back s.v r.price in
     record {
       clean =
-          rw (open_still, placed, some, point.is, v-back.is, arc, within-back 0 100000 s.point (omega arith) r.point point,
-              within-back 0 largest s.v (omega arith) r.price v-back) refl;
+          rw (
+            open_still,
+            placed,
+            some,
+            point.is,
+            v-back.is,
+            arc,
+            within-back 0 100000 s.point (omega arith) r.point point,
+            within-back 0 largest s.v (omega arith) r.price v-back,
+          ) refl;
       gives = rw (arc, point.value, v-back.value) refl;
     }
 

@@ -1,23 +1,18 @@
 -- Names that are written are those of what they were written for, and they are plain.
-use Rattle.std.proofs.Common.{◌≡◌, ◌≢◌, ◌∙◌, ℕ, ◌<◌, ◌≤◌, Bool, true, false, eqb, leb, List, [], ◌∷◌, length, get_or, map, refl, sym, ap, arith, inl, inr}
-use Rattle.std.specs.Prelude.{Option, Some, None, All, AllPairs, IsTrue, ◌&&◌, ◌||◌, ◌==◌, not, position}
-use Rattle.std.specs.List.{list_all}
+use Rattle.std.proofs.Common.{◌≡◌, ◌≢◌, ℕ, ◌<◌, Bool, true, false, eqb, List, [], length, get_or, refl, sym, arith}
+use Rattle.std.specs.Prelude.{Some, AllPairs, position}
 use Rattle.std.specs.Str.{bytes_eq}
 use Rattle.std.proofs.Math.ListN.{get_or-map}
-use Rattle.std.proofs.lemmas.Bool.{and_from, and_parts, eq-eqb, eqb-true, false_from_ne_true, lt-ltb, ne_eqb, not_from_false}
+use Rattle.std.proofs.lemmas.Bool.{and_from, and_parts, eq-eqb, eqb-true, false_from_ne_true, lt-ltb}
 use Rattle.std.proofs.lemmas.List.{length-map}
 use Rattle.std.proofs.lemmas.List.Sums.{position_or_len_is}
 use Rattle.std.proofs.lemmas.Slice.Eq.{bytes_eq-Decides}
-use Rattle.fp_model.specs.declared.parts.Arc.{Arc}
 use Rattle.fp_model.specs.declared.parts.Shipment.{Shipment}
-use Rattle.fp_model.specs.Names.{IsName, is_name_byte}
-use Rattle.fp_model.specs.Numbered.{no_shipment, shipment_at}
-use Rattle.fp_model.specs.Problem.{EndsDiffer, IsArc, IsValid, Problem, arc_at, no_arc}
+use Rattle.fp_model.specs.Numbered.{no_shipment}
+use Rattle.fp_model.specs.Problem.{IsArc, IsValid, Problem, arc_at, no_arc}
 use Rattle.fp_reader.specs.Faults.{joins, shipment_names}
 use Rattle.fp_reader.specs.Names.{number_of}
-use Rattle.fp_records.specs.Fields.{is_empty}
-use Rattle.fp_records.specs.Text.{is_plain, is_plain_field}
-use Rattle.fp_certificate.specs.Places.{arc_between, arc_named, shipment_named, terminal_named}
+use Rattle.fp_certificate.specs.Places.{arc_named, shipment_named, terminal_named}
 use Rattle.fp_lines.specs.Rows.{head_name, shipment_name, tail_name, terminal_name}
 
 -- the first place that passes
@@ -59,7 +54,7 @@ arc-back p arc v within =
     let is = arc-valid p arc v within in
     let passes : joins a.from a.to a ≡ true = and_from (eqb a.from a.from) (eqb a.to a.to) (eq-eqb a.from a.from refl) (eq-eqb a.to a.to refl) in
     let fails : (k : ℕ) → k < arc → joins a.from a.to (arc_at p k) ≡ false = λ k before. false_from_ne_true (joins a.from a.to (arc_at p k)) (λ same.
-        let b = arc_at p k in
-        let parts = and_parts (eqb a.from b.from) (eqb a.to b.to) same in
-        v.arcs_differ k arc no_arc before within (sym (eqb-true a.from b.from parts.0)) (sym (eqb-true a.to b.to parts.1))) in
+    let b = arc_at p k in
+    let parts = and_parts (eqb a.from b.from) (eqb a.to b.to) same in
+    v.arcs_differ k arc no_arc before within (sym (eqb-true a.from b.from parts.0)) (sym (eqb-true a.to b.to parts.1))) in
     rw (terminal-back p a.from v is.from, terminal-back p a.to v is.to) (first-place (joins a.from a.to) p.arcs arc no_arc within passes fails)

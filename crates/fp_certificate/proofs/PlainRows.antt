@@ -1,8 +1,8 @@
 -- The written lines have plain fields alone.
-use Rattle.std.proofs.Common.{◌≡◌, ◌∙◌, ℕ, ◌+◌, ◌^◌, ◌-◌, ◌<◌, ◌≤◌, Bool, true, false, eqb, leb, List, [], ◌∷◌, ◌++◌, length, map, refl, sym, ap, arith, inl, inr}
-use Rattle.std.specs.Prelude.{Option, Some, None, All, IsTrue, ◌&&◌, ◌||◌, ◌==◌, not, codes, decimal, IfSome}
+use Rattle.std.proofs.Common.{◌≡◌, ◌∙◌, ℕ, ◌+◌, ◌^◌, ◌-◌, ◌<◌, Bool, true, false, leb, List, [], ◌∷◌, ◌++◌, length, map, refl, arith}
+use Rattle.std.specs.Prelude.{Option, Some, None, All, ◌&&◌, ◌==◌, not, IfSome}
 use Rattle.std.specs.List.{AllByRecursion, flat_map, list_all}
-use Rattle.std.proofs.lemmas.Bool.{and_from, and_parts, leb-true, ne_eqb, not_from_false, or_cases, eqb-true}
+use Rattle.std.proofs.lemmas.Bool.{and_from, and_parts, ne_eqb}
 use Rattle.std.proofs.lemmas.List.Elements.{All-head, All-tail, recursion_from_All}
 use Rattle.std.proofs.lemmas.List.Folds.{list_all-append}
 use Rattle.fp_model.specs.Names.{IsName, is_name_byte}
@@ -10,7 +10,6 @@ use Rattle.fp_model.specs.Numbered.{no_shipment}
 use Rattle.fp_model.specs.Problem.{IsValid, Problem, arc_at}
 use Rattle.fp_prices.specs.declared.leaf_prices.Kind.{Kind}
 use Rattle.fp_prices.specs.declared.leaf_prices.Kind.TheVariants as price
-use Rattle.fp_prices.specs.declared.leaf_prices.LeafPrice.{LeafPrice}
 use Rattle.fp_prices.specs.declared.tables.Weight.{Weight}
 use Rattle.fp_prices.specs.Shares.{ClassShare}
 use Rattle.fp_prices.specs.Tables.{HasKind}
@@ -20,17 +19,15 @@ use Rattle.fp_records.specs.Text.{is_plain, is_plain_field, is_plain_record}
 use Rattle.fp_timenodes.specs.declared.places.AddedPoint.{AddedPoint}
 use Rattle.fp_timetable.specs.declared.lines.LegLine.{LegLine}
 use Rattle.fp_timetable.specs.declared.lines.TruckLine.{TruckLine}
-use Rattle.fp_tree.specs.declared.sides.Split.{Split}
 use Rattle.fp_tree.specs.declared.sides.Split.TheVariants as split
 use Rattle.fp_lines.specs.declared.certificates.Answer.{Answer}
 use Rattle.fp_lines.specs.declared.certificates.Answer.TheVariants as answer
 use Rattle.fp_lines.specs.declared.certificates.Node.{Node}
 use Rattle.fp_lines.specs.declared.certificates.Node.TheVariants as node
-use Rattle.fp_lines.specs.declared.certificates.Spent.{Spent}
 use Rattle.fp_lines.specs.declared.certificates.Spent.TheVariants as spent
-use Rattle.fp_lines.specs.Ranges.{IsAnswerInRange, IsInRange, IsLeafInRange, IsLegInRange, IsNodeInRange, IsPointInRange, IsScaleInRange, IsShareInRange, IsSplitInRange, IsTruckInRange, IsWeightInRange}
+use Rattle.fp_lines.specs.Ranges.{IsAnswerInRange, IsInRange, IsLegInRange, IsNodeInRange, IsPointInRange, IsScaleInRange, IsShareInRange, IsTruckInRange, IsWeightInRange}
 use Rattle.fp_certificate.specs.Readable.{HaveNames}
-use Rattle.fp_lines.specs.Rows.{answer_fields, end_fields, head_name, kind_text, leaf_fields, leg_fields, mode_text, node_fields, point_fields, rows_of, scale_fields, scale_rows, share_fields, share_rows, shipment_name, spent_text, split_fields, table_fields, table_rows, tables_rows, tail_name, terminal_name, truck_fields, weight_fields}
+use Rattle.fp_lines.specs.Rows.{answer_fields, head_name, kind_text, leg_fields, mode_text, node_fields, point_fields, rows_of, scale_rows, share_fields, share_rows, shipment_name, table_fields, table_rows, tables_rows, tail_name, terminal_name, truck_fields, weight_fields}
 use Rattle.fp_lines.specs.Statements.{Statement}
 use Rattle.fp_certificate.proofs.NamesBack.{arc-valid}
 use Rattle.fp_certificate.proofs.NumbersBack.{large-back, number-back, time-back}
@@ -38,8 +35,14 @@ use Rattle.fp_certificate.proofs.NumbersBack.{large-back, number-back, time-back
 -- a byte of a name needs no quotes and is not stripped
 plain-letter : (b : ℕ) → is_name_byte b ≡ true → is_plain b ≡ true
 plain-letter b h =
-    rw (ne_eqb b 44 (λ e. cc (rw e at h)), ne_eqb b 34 (λ e. cc (rw e at h)), ne_eqb b 13 (λ e. cc (rw e at h)), ne_eqb b 10 (λ e. cc (rw e at h)),
-        ne_eqb b 32 (λ e. cc (rw e at h)), ne_eqb b 9 (λ e. cc (rw e at h))) refl
+    rw (
+      ne_eqb b 44 (λ e. cc (rw e at h)),
+      ne_eqb b 34 (λ e. cc (rw e at h)),
+      ne_eqb b 13 (λ e. cc (rw e at h)),
+      ne_eqb b 10 (λ e. cc (rw e at h)),
+      ne_eqb b 32 (λ e. cc (rw e at h)),
+      ne_eqb b 9 (λ e. cc (rw e at h)),
+    ) refl
 
 plain-letters : (bytes : List ℕ) → list_all is_name_byte bytes ≡ true → list_all is_plain bytes ≡ true
 plain-letters [] h = refl
@@ -82,13 +85,23 @@ scale-plain p (Some n) r = rw (number-back n (omega (arith, r.most))).plain refl
 
 leg-plain : (p : Problem) (l : LegLine) → IsValid p → HaveNames p → IsLegInRange p l → is_plain_record (leg_fields p l) ≡ true
 leg-plain p l v named r =
-    rw (shipment-plain p l.shipment named r.exists.0, tail-plain p l.arc v r.exists.1, head-plain p l.arc v r.exists.1,
-        (time-back l.depart r.depart).plain, (time-back l.arrive r.arrive).plain) refl
+    rw (
+      shipment-plain p l.shipment named r.exists.0,
+      tail-plain p l.arc v r.exists.1,
+      head-plain p l.arc v r.exists.1,
+      (time-back l.depart r.depart).plain,
+      (time-back l.arrive r.arrive).plain,
+    ) refl
 
 truck-plain : (p : Problem) (t : TruckLine) → IsValid p → IsTruckInRange p t → is_plain_record (truck_fields p t) ≡ true
 truck-plain p t v r =
-    rw (tail-plain p t.arc v r.exists, head-plain p t.arc v r.exists, (time-back t.depart r.depart).plain, (large-back t.trucks r.trucks).plain,
-        (large-back t.load r.load).plain) refl
+    rw (
+      tail-plain p t.arc v r.exists,
+      head-plain p t.arc v r.exists,
+      (time-back t.depart r.depart).plain,
+      (large-back t.trucks r.trucks).plain,
+      (large-back t.load r.load).plain,
+    ) refl
 
 point-plain : (p : Problem) (point : AddedPoint) → IsValid p → IsPointInRange p point → is_plain_record (point_fields p point) ≡ true
 point-plain p point v r =
@@ -112,7 +125,7 @@ both-plain rows more first second =
 share-plain : (p : Problem) (s : ClassShare) → IsValid p → HaveNames p → IsShareInRange p s → list_all is_plain_record (share_rows p s) ≡ true
 share-plain p s v named r =
     let line : is_plain_record (share_fields p s) ≡ true =
-        rw (tail-plain p s.arc v r.arc, head-plain p s.arc v r.arc, (time-back s.point r.point).plain, (large-back s.v r.price).plain) refl in
+    rw (tail-plain p s.arc v r.arc, head-plain p s.arc v r.arc, (time-back s.point r.point).plain, (large-back s.v r.price).plain) refl in
     and_from (is_plain_record (share_fields p s)) (list_all is_plain_record (map (weight_fields p) s.weights)) line
     (each-plain (weight_fields p) (IsWeightInRange p) (λ w. weight-plain p w named) s.weights (recursion_from_All (IsWeightInRange p) s.weights r.weights))
 
@@ -130,7 +143,7 @@ tables-plain p id (table ∷ tables) v named few all =
     let line : is_plain_record (table_fields id) ≡ true = rw (number-back id (omega arith)).plain refl in
     both-plain (table_rows p id table) (tables_rows p (id + 1) tables)
     (and_from (is_plain_record (table_fields id)) (list_all is_plain_record (flat_map (share_rows p) table)) line
-        (shares-plain p table v named (All-head (All (IsShareInRange p)) table tables all)))
+    (shares-plain p table v named (All-head (All (IsShareInRange p)) table tables all)))
     (tables-plain p (id + 1) tables v named (omega arith) (All-tail (All (IsShareInRange p)) table tables all))
 
 kind-plain : (tables : List (List ClassShare)) (kind : Kind) → length tables < 10 ^ 64 → HasKind tables kind → is_plain_field (kind_text kind) ≡ true
@@ -161,5 +174,5 @@ rows-plain p c v named r few =
     (both-plain (map (point_fields p) c.points) _ (each-plain (point_fields p) (IsPointInRange p) (λ x. point-plain p x v) c.points (recursion_from_All (IsPointInRange p) c.points r.points))
     (both-plain (tables_rows p 1 c.tables) _ (tables-plain p 1 c.tables v named (omega (arith, few)) r.tables)
     (both-plain (map (node_fields p) c.tree) _
-        (each-plain (node_fields p) (IsNodeInRange p c.tables) (λ n. node-plain p c.tables n v named (omega (arith, few))) c.tree (recursion_from_All (IsNodeInRange p c.tables) c.tree r.tree))
-        refl))))))
+    (each-plain (node_fields p) (IsNodeInRange p c.tables) (λ n. node-plain p c.tables n v named (omega (arith, few))) c.tree (recursion_from_All (IsNodeInRange p c.tables) c.tree r.tree))
+    refl))))))

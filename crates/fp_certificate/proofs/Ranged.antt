@@ -1,7 +1,7 @@
 -- What is read is in range.
-use Rattle.std.proofs.Common.{◌≡◌, ◌∙◌, ℕ, ◌+◌, ◌*◌, ◌^◌, ◌-◌, ◌<◌, ◌≤◌, Bool, true, false, leb, ltb, List, [], ◌∷◌, ◌++◌, length, get_or, drop, refl, sym, ap, subst, arith, lit≤, inl, inr}
-use Rattle.std.specs.Prelude.{Option, Some, None, Result, Ok, Err, All, IfSome, ◌&&◌, ◌||◌, not, ◌==◌, is_none, codes, nat_lt}
-use Rattle.std.proofs.lemmas.Bool.{and_parts, cases_Bool, leb-true, ltb-true, not-false, or_parts}
+use Rattle.std.proofs.Common.{◌≡◌, ◌∙◌, ℕ, ◌+◌, ◌^◌, ◌-◌, ◌<◌, ◌≤◌, true, false, List, [], ◌∷◌, ◌++◌, length, get_or, drop, refl, sym, ap, subst, arith, lit≤, inl, inr}
+use Rattle.std.specs.Prelude.{Option, Some, None, Result, Ok, All, IfSome, ◌&&◌, ◌||◌, not, ◌==◌, codes, nat_lt}
+use Rattle.std.proofs.lemmas.Bool.{and_parts, cases_Bool, ltb-true, not-false, or_parts}
 use Rattle.std.proofs.lemmas.List.{drop_more, length_push}
 use Rattle.std.proofs.lemmas.List.Elements.{All-nil, All-push, All-weaker}
 use Rattle.fp_model.specs.Problem.{Problem, weight_at}
@@ -27,7 +27,7 @@ use Rattle.fp_certificate.specs.Groups.{has_ended, is_misplaced}
 use Rattle.fp_certificate.specs.Kinds.{kind_of}
 use Rattle.fp_certificate.specs.Places.{lacks_arc, lacks_shipment, lacks_terminal}
 use Rattle.fp_certificate.specs.Points.{point_in}
-use Rattle.fp_lines.specs.Ranges.{IsAnswerInRange, IsInRange, IsLeafInRange, IsLegInRange, IsNodeInRange, IsPointInRange, IsScaleInRange, IsShareInRange, IsTruckInRange, IsWeightInRange, largest}
+use Rattle.fp_lines.specs.Ranges.{IsAnswerInRange, IsInRange, IsLegInRange, IsNodeInRange, IsPointInRange, IsScaleInRange, IsShareInRange, IsTruckInRange, IsWeightInRange}
 use Rattle.fp_certificate.specs.Reading.{certificate_from, faults_of, finished, kind_code, line_code, nothing_read, with_kind, with_kind_of, with_line}
 use Rattle.fp_lines.specs.Statements.{Statement}
 use Rattle.fp_certificate.specs.Tables.{and_share, and_weight, share_in, weight_in, with_last}
@@ -43,7 +43,12 @@ with-answer p c a h r = record { answer = h; scale = r.scale; legs = r.legs; tru
 -- with one more node
 with-node : (p : Problem) (c : Statement) (n : Node) → IsNodeInRange p c.tables n → IsInRange p c → IsInRange p (record c { tree = c.tree ++ (n ∷ []) })
 with-node p c n h r = record {
-  answer = r.answer; scale = r.scale; legs = r.legs; trucks = r.trucks; points = r.points; tables = r.tables;
+  answer = r.answer;
+  scale = r.scale;
+  legs = r.legs;
+  trucks = r.trucks;
+  points = r.points;
+  tables = r.tables;
   tree = All-push (IsNodeInRange p c.tables) c.tree n r.tree h;
 }
 
@@ -61,7 +66,12 @@ node-grows p few many (node.Leaf price) le h = record { kind = kind-grows few ma
 with-tables : (p : Problem) (c : Statement) (tables : List (List ClassShare)) → length c.tables ≤ length tables → All (All (IsShareInRange p)) tables
     → IsInRange p c → IsInRange p (record c { tables = tables })
 with-tables p c tables le h r = record {
-  answer = r.answer; scale = r.scale; legs = r.legs; trucks = r.trucks; points = r.points; tables = h;
+  answer = r.answer;
+  scale = r.scale;
+  legs = r.legs;
+  trucks = r.trucks;
+  points = r.points;
+  tables = h;
   tree = All-weaker (IsNodeInRange p c.tables) (IsNodeInRange p tables) (λ n. node-grows p c.tables tables n le) c.tree r.tree;
 }
 
@@ -144,8 +154,13 @@ kind-ranged p before Leg fields h r =
       arrive = in-time fields 5 times.1;
     } in
     record {
-      answer = r.answer; scale = r.scale; legs = All-push (IsLegInRange p) before.certificate.legs (leg_in p fields) r.legs leg;
-      trucks = r.trucks; points = r.points; tables = r.tables; tree = r.tree;
+      answer = r.answer;
+      scale = r.scale;
+      legs = All-push (IsLegInRange p) before.certificate.legs (leg_in p fields) r.legs leg;
+      trucks = r.trucks;
+      points = r.points;
+      tables = r.tables;
+      tree = r.tree;
     }
 kind-ranged p before Truck fields h r =
     let count = clear 22 (not (length fields == 6)) h in
@@ -162,8 +177,13 @@ kind-ranged p before Truck fields h r =
       load = small fields 5 three.1;
     } in
     record {
-      answer = r.answer; scale = r.scale; legs = r.legs; trucks = All-push (IsTruckInRange p) before.certificate.trucks (truck_in p fields) r.trucks truck;
-      points = r.points; tables = r.tables; tree = r.tree;
+      answer = r.answer;
+      scale = r.scale;
+      legs = r.legs;
+      trucks = All-push (IsTruckInRange p) before.certificate.trucks (truck_in p fields) r.trucks truck;
+      points = r.points;
+      tables = r.tables;
+      tree = r.tree;
     }
 kind-ranged p before Point fields h r =
     let count = clear 22 (not (length fields == 4)) h in
@@ -178,9 +198,13 @@ kind-ranged p before Point fields h r =
       round = between 1 4000 fields 3 limits.1;
     } in
     record {
-      answer = r.answer; scale = r.scale; legs = r.legs; trucks = r.trucks;
+      answer = r.answer;
+      scale = r.scale;
+      legs = r.legs;
+      trucks = r.trucks;
       points = All-push (IsPointInRange p) before.certificate.points (point_in p fields) r.points point;
-      tables = r.tables; tree = r.tree;
+      tables = r.tables;
+      tree = r.tree;
     }
 kind-ranged p before Table fields h r =
     let tables = before.certificate.tables in
@@ -218,7 +242,10 @@ kind-ranged p before Weight fields h r =
       small = small fields 2 (not-false (is_small fields 2) range.here);
     } in
     let more : (share : ClassShare) → IsShareInRange p share → IsShareInRange p (and_weight weight share) = λ share s. record {
-      arc = s.arc; point = s.point; price = s.price; weights = All-push (IsWeightInRange p) share.weights weight s.weights fits;
+      arc = s.arc;
+      point = s.point;
+      price = s.price;
+      weights = All-push (IsWeightInRange p) share.weights weight s.weights fits;
     } in
     with-tables p before.certificate (with_last (with_last (and_weight weight)) tables) stays
     (All-with_last (All (IsShareInRange p)) (All (IsShareInRange p)) (with_last (and_weight weight)) tables (λ table all. all)
@@ -244,7 +271,7 @@ kind-ranged p before Leaf fields h r =
     let order = clear 24 (is_misplaced before group.Tree) digits.later in
     let range = clear 28 (not (has_leaf_ranges (length tables) fields)) order.later in
     let limits = and_parts (has_kind_word fields || is_between 1 (length tables) fields 1) (is_between 0 4000 fields 2)
-        (not-false (has_leaf_ranges (length tables) fields) range.here) in
+    (not-false (has_leaf_ranges (length tables) fields) range.here) in
     let fits : IsNodeInRange p tables (leaf_in fields) = record {
       kind = kind-range tables fields limits.0;
       round = (between 0 4000 fields 2 limits.1).1;
@@ -294,7 +321,7 @@ from-ranged : (p : Problem) (before : Draft) (n ordinal : ℕ) (records : List (
     → IsInRange p c × AreFewerThan (n + length records) c.tables
 from-ranged p before n ordinal [] c r few h = (
   subst (λ (s : Statement). IsInRange p s) (at-end before ordinal c h) r,
-  subst (λ (s : Statement). AreFewerThan (n + 0) s.tables) (at-end before ordinal c h) (fewer-than n (n + 0) before.certificate.tables (omega arith) few)
+  subst (λ (s : Statement). AreFewerThan (n + 0) s.tables) (at-end before ordinal c h) (fewer-than n (n + 0) before.certificate.tables (omega arith) few),
 )
 from-ranged p before n ordinal (fields ∷ records) c r few h =
     let next = passed ordinal (line_code p before fields) (certificate_from p (with_line p before fields) (ordinal + 1) records) c h in
@@ -304,8 +331,13 @@ from-ranged p before n ordinal (fields ∷ records) c r few h =
 -- nothing is in range
 nothing-ranged : (p : Problem) → IsInRange p nothing_read.certificate
 nothing-ranged p = record {
-  answer = lit≤ tt; scale = tt; legs = All-nil (IsLegInRange p); trucks = All-nil (IsTruckInRange p); points = All-nil (IsPointInRange p);
-  tables = All-nil (All (IsShareInRange p)); tree = All-nil (IsNodeInRange p []);
+  answer = lit≤ tt;
+  scale = tt;
+  legs = All-nil (IsLegInRange p);
+  trucks = All-nil (IsTruckInRange p);
+  points = All-nil (IsPointInRange p);
+  tables = All-nil (All (IsShareInRange p));
+  tree = All-nil (IsNodeInRange p []);
 }
 
 -- what records give is in range, and its tables can be counted in 32 bits, where the records can
@@ -314,10 +346,12 @@ pub read-ranged : (p : Problem) (ordinal : ℕ) (records : List (List (List ℕ)
 read-ranged p ordinal records c few h =
     let none : AreFewerThan 1 [] = record { few_tables = omega arith; few_shares = All-nil (λ (table : List ClassShare). length table < 1) } in
     let all = from-ranged p nothing_read 1 ordinal records c (nothing-ranged p) none h in
-    let fewer = fewer-than (1 + length records) (2 ^ 32 - 1) c.tables (omega arith) all.1 in
-    (all.0, record {
-      few_tables = fewer.few_tables;
-      few_shares = fewer.few_shares;
-      arcs = All-weaker (All (IsShareInRange p)) (All (λ (s : ClassShare). s.arc < length p.arcs))
-          (λ table h. All-weaker (IsShareInRange p) (λ (s : ClassShare). s.arc < length p.arcs) (λ s i. i.arc) table h) c.tables all.0.tables;
-    })
+    let fewer = fewer-than (1 + length records) (2 ^ 32 - 1) c.tables (omega arith) all.1 in (
+      all.0,
+      record {
+        few_tables = fewer.few_tables;
+        few_shares = fewer.few_shares;
+        arcs = All-weaker (All (IsShareInRange p)) (All (λ (s : ClassShare). s.arc < length p.arcs))
+            (λ table h. All-weaker (IsShareInRange p) (λ (s : ClassShare). s.arc < length p.arcs) (λ s i. i.arc) table h) c.tables all.0.tables;
+      },
+    )

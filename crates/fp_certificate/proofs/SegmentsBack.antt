@@ -1,6 +1,6 @@
 -- The lines of each part, one after the other, give the part.
-use Rattle.std.proofs.Common.{◌≡◌, ◌∙◌, ℕ, ◌+◌, ◌<◌, ◌≤◌, Bool, true, false, ltb, List, [], ◌∷◌, ◌++◌, length, map, refl, sym, ap, append_assoc, arith, inl, inr}
-use Rattle.std.specs.Prelude.{◌⊎◌, Ok, Some, ◌||◌, not}
+use Rattle.std.proofs.Common.{◌≡◌, ℕ, ◌+◌, ◌≤◌, true, false, List, [], ◌∷◌, ◌++◌, map, refl, arith}
+use Rattle.std.specs.Prelude.{Ok, Some}
 use Rattle.std.specs.List.{AllByRecursion, fold}
 use Rattle.std.proofs.lemmas.Bool.{le-ltb}
 use Rattle.fp_model.specs.Problem.{Problem}

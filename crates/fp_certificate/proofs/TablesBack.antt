@@ -1,6 +1,6 @@
 -- The tables of a certificate are read back from their lines.
-use Rattle.std.proofs.Common.{◌≡◌, ◌∙◌, ℕ, ◌+◌, ◌^◌, ◌-◌, ◌<◌, ◌≤◌, Bool, false, List, [], ◌∷◌, ◌++◌, length, map, refl, sym, ap, subst, append_assoc, arith, lit≤, inl, inr}
-use Rattle.std.specs.Prelude.{◌⊎◌, All, ◌==◌}
+use Rattle.std.proofs.Common.{◌≡◌, ◌∙◌, ℕ, ◌+◌, ◌^◌, ◌-◌, ◌<◌, false, List, [], ◌∷◌, ◌++◌, length, map, refl, sym, ap, subst, append_assoc, arith, lit≤, inl, inr}
+use Rattle.std.specs.Prelude.{All, ◌==◌}
 use Rattle.std.specs.List.{AllByRecursion, flat_map, fold}
 use Rattle.std.proofs.lemmas.Bool.{ne_eqb}
 use Rattle.std.proofs.lemmas.List.{append-nil, length_push}
@@ -88,11 +88,11 @@ share-back p s c tables table share rest v r free after =
     let now = with s (tables ++ ((table ++ (bare ∷ [])) ∷ [])) in
     let some : lacks_share now.tables ≡ false = lacks_share-push tables (table ++ (bare ∷ [])) ∙ some-pushed table bare in
     let weights : ReadsTo p 5 (map (weight_fields p) share.weights ++ rest) now c =
-        segment p 5 group.Tables (weight_fields p) add-weight (IsWeightFit p) (lit≤ tt)
-        (λ t g w le fits. weight-step p (at t g) w v fits.range (going g (omega arith)) (placed g group.Tables t.answer refl le fits.free) fits.some)
-        (λ t x y one other. record { range = other.range; some = lacks_share-changed (and_weight x) t.tables ∙ other.some; free = other.free })
-        rest c share.weights now (fit-each p now share.weights some free (recursion_from_All (IsWeightInRange p) share.weights r.weights))
-        (subst (λ (t : Statement). ReadsTo p 5 rest t c) (sym (weights-added s tables table share.weights bare)) after) in
+    segment p 5 group.Tables (weight_fields p) add-weight (IsWeightFit p) (lit≤ tt)
+    (λ t g w le fits. weight-step p (at t g) w v fits.range (going g (omega arith)) (placed g group.Tables t.answer refl le fits.free) fits.some)
+    (λ t x y one other. record { range = other.range; some = lacks_share-changed (and_weight x) t.tables ∙ other.some; free = other.free })
+    rest c share.weights now (fit-each p now share.weights some free (recursion_from_All (IsWeightInRange p) share.weights r.weights))
+    (subst (λ (t : Statement). ReadsTo p 5 rest t c) (sym (weights-added s tables table share.weights bare)) after) in
     one-line p 5 group.Tables (share_fields p share) (with s (tables ++ (table ∷ []))) (with s (with_last (and_share bare) (tables ++ (table ∷ [])))) c
     (map (weight_fields p) share.weights ++ rest) (lit≤ tt)
     (λ g le. share-step p (at (with s (tables ++ (table ∷ []))) g) share v r (going g (omega arith)) (placed g group.Tables s.answer refl le free) (some-pushed tables table))
@@ -107,7 +107,7 @@ shares-back p s c tables rest v free [] table all after =
 shares-back p s c tables rest v free (share ∷ shares) table all after =
     let others = flat_map (share_rows p) shares in
     let next = shares-back p s c tables rest v free shares (table ++ (share ∷ [])) (All-tail (IsShareInRange p) share shares all)
-        (subst (λ (t : List ClassShare). ReadsTo p 5 rest (with s (tables ++ (t ∷ []))) c) (sym (append_assoc table (share ∷ []) shares)) after) in
+    (subst (λ (t : List ClassShare). ReadsTo p 5 rest (with s (tables ++ (t ∷ []))) c) (sym (append_assoc table (share ∷ []) shares)) after) in
     subst (λ (lines : List (List (List ℕ))). ReadsTo p 5 lines (with s (tables ++ (table ∷ []))) c) (sym (append_assoc (share_rows p share) others rest))
     (share-back p s c tables table share (others ++ rest) v (All-head (IsShareInRange p) share shares all) free next)
 
@@ -122,9 +122,9 @@ numbered-back p c rest v (table ∷ tables) s id next few all free after =
     let others = tables_rows p (id + 1) tables in
     let more = with s (s.tables ++ (table ∷ [])) in
     let later : ReadsTo p 5 (others ++ rest) more c =
-        numbered-back p c rest v tables more (id + 1) (omega (arith, length_push s.tables table)) (omega arith)
-        (All-tail (All (IsShareInRange p)) table tables all) free
-        (subst (λ (ts : List (List ClassShare)). ReadsTo p 5 rest (with s ts) c) (sym (append_assoc s.tables (table ∷ []) tables)) after) in
+    numbered-back p c rest v tables more (id + 1) (omega (arith, length_push s.tables table)) (omega arith)
+    (All-tail (All (IsShareInRange p)) table tables all) free
+    (subst (λ (ts : List (List ClassShare)). ReadsTo p 5 rest (with s ts) c) (sym (append_assoc s.tables (table ∷ []) tables)) after) in
     let inside = shares-back p s c s.tables (others ++ rest) v free table [] (All-head (All (IsShareInRange p)) table tables all) later in
     one-line p 5 group.Tables (table_fields id) s (with s (s.tables ++ ([] ∷ []))) c ((shares ++ others) ++ rest) (lit≤ tt)
     (λ g le. table-step p (at s g) id next (omega arith) (going g (omega arith)) (placed g group.Tables s.answer refl le free))

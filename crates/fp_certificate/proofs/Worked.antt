@@ -1,6 +1,6 @@
 -- What reading says of a worked certificate and of altered ones.
 use Rattle.std.proofs.Common.{◌≡◌, ℕ, List, [], ◌∷◌, ◌++◌, refl}
-use Rattle.std.specs.Prelude.{Result, None, Ok, Err, codes, true}
+use Rattle.std.specs.Prelude.{Result, Ok, Err, codes}
 use Rattle.fp_reader.specs.Input.{Fault}
 use Rattle.fp_certificate.specs.Reading.{certificate_of}
 use Rattle.fp_lines.specs.Statements.{Statement}

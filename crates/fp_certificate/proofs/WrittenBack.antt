@@ -1,21 +1,18 @@
 -- The records of a written certificate give it back.
-use Rattle.std.proofs.Common.{◌≡◌, ◌∙◌, ℕ, ◌+◌, ◌^◌, ◌-◌, ◌<◌, ◌≤◌, Bool, true, false, List, [], ◌∷◌, ◌++◌, length, map, refl, sym, ap, subst, arith, lit≤, inl, inr}
-use Rattle.std.specs.Prelude.{◌⊎◌, Option, Some, None, Ok, Result, All, IfSome, is_some, codes}
+use Rattle.std.proofs.Common.{◌≡◌, ◌∙◌, ℕ, ◌+◌, ◌^◌, ◌-◌, ◌<◌, ◌≤◌, false, List, [], ◌∷◌, ◌++◌, length, map, refl, sym, ap, subst, arith, lit≤, inl, inr}
+use Rattle.std.specs.Prelude.{◌⊎◌, Option, Some, None, Ok, IfSome}
 use Rattle.fp_model.specs.Problem.{IsValid, Problem}
 use Rattle.csv.specs.Reading.{strip_bom}
-use Rattle.fp_reader.specs.Input.{Fault}
-use Rattle.fp_records.specs.Fields.{records_of}
 use Rattle.fp_records.specs.Text.{lines_of}
 use Rattle.fp_records.proofs.RoundTrip.{records_of-lines_of}
 use Rattle.fp_lines.specs.declared.certificates.Answer.{Answer}
 use Rattle.fp_lines.specs.declared.certificates.Answer.TheVariants as answer
-use Rattle.fp_lines.specs.declared.certificates.Spent.TheVariants as spent
 use Rattle.fp_certificate.specs.declared.groups.Group.{Group}
 use Rattle.fp_certificate.specs.declared.groups.Group.TheVariants as group
 use Rattle.fp_certificate.specs.Groups.{is_forbidden, place_of}
 use Rattle.fp_lines.specs.Ranges.{IsInRange, IsScaleInRange}
-use Rattle.fp_certificate.specs.Readable.{Allows, HaveNames, IsReadable, ReadsBack, WrittenReadsBack}
-use Rattle.fp_certificate.specs.Reading.{certificate_from, certificate_of, nothing_read}
+use Rattle.fp_certificate.specs.Readable.{Allows, HaveNames, IsReadable, WrittenReadsBack}
+use Rattle.fp_certificate.specs.Reading.{certificate_of, nothing_read}
 use Rattle.fp_lines.specs.Rows.{answer_fields, end_fields, leg_fields, node_fields, point_fields, rows_of, scale_fields, scale_rows, tables_rows, truck_fields}
 use Rattle.fp_lines.specs.Statements.{Statement}
 use Rattle.fp_certificate.proofs.LinesBack.{IsStep, answer-step, end-step, scale-step}
@@ -35,13 +32,37 @@ record IsFree (c : Statement) : Type 0 where
 
 free-answer : (a : Answer) (c : Statement) → c.answer ≡ a → Allows a c → IsFree c
 free-answer (answer.Direct cost) c is h = record {
-  scale = inr h.scale; legs = inl (rw is refl); trucks = inl (rw is refl); points = inr h.points; tables = inr h.tables; tree = inr h.tree }
+  scale = inr h.scale;
+  legs = inl (rw is refl);
+  trucks = inl (rw is refl);
+  points = inr h.points;
+  tables = inr h.tables;
+  tree = inr h.tree;
+}
 free-answer (answer.Optimal cost) c is h = record {
-  scale = inl (rw is refl); legs = inl (rw is refl); trucks = inl (rw is refl); points = inl (rw is refl); tables = inl (rw is refl); tree = inl (rw is refl) }
+  scale = inl (rw is refl);
+  legs = inl (rw is refl);
+  trucks = inl (rw is refl);
+  points = inl (rw is refl);
+  tables = inl (rw is refl);
+  tree = inl (rw is refl);
+}
 free-answer (answer.Unfinished cost bound s) c is h = record {
-  scale = inl (rw is refl); legs = inl (rw is refl); trucks = inl (rw is refl); points = inl (rw is refl); tables = inl (rw is refl); tree = inl (rw is refl) }
+  scale = inl (rw is refl);
+  legs = inl (rw is refl);
+  trucks = inl (rw is refl);
+  points = inl (rw is refl);
+  tables = inl (rw is refl);
+  tree = inl (rw is refl);
+}
 free-answer (answer.Infeasible shipment time) c is h = record {
-  scale = inr h.rest.scale; legs = inr h.legs; trucks = inr h.trucks; points = inr h.rest.points; tables = inr h.rest.tables; tree = inr h.rest.tree }
+  scale = inr h.rest.scale;
+  legs = inr h.legs;
+  trucks = inr h.trucks;
+  points = inr h.rest.points;
+  tables = inr h.rest.tables;
+  tree = inr h.rest.tree;
+}
 
 -- the end can stand under each answer
 end-free : (a : Answer) → is_forbidden a group.End ≡ false

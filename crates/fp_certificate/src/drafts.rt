@@ -1,6 +1,5 @@
 // What the lines of a certificate have given so far.
-ghost use Rattle.std.specs.Prelude.{◌≡◌, ◌<◌, ◌^◌, false, is_some, length, MatchResult, Ok, OnOk};
-ghost use Rattle.fp_records.specs.Fields.{is_empty};
+ghost use Rattle.std.specs.Prelude.{◌≡◌, ◌<◌, false, length, MatchResult, Ok, OnOk};
 ghost use Rattle.fp_certificate.specs.Answers.{with_answer, with_scale};
 ghost use Rattle.fp_certificate.specs.Groups.{has_ended, is_misplaced};
 ghost use Rattle.fp_certificate.specs.Points.{with_point};
@@ -11,10 +10,10 @@ ghost use Rattle.fp_certificate.specs.Timetables.{with_leg, with_truck};
 ghost use Rattle.fp_certificate.specs.Trees.{with_end, with_node};
 
 use crate::NoMemory;
-use fp_lines::{Answer, Certificate, Node};
 use crate::faults::CertFault;
 use crate::groups::Group;
-use crate::open_tables::{lacks_share, push_share, push_weight};
+use crate::open_tables::{push_share, push_weight};
+use fp_lines::{Answer, Certificate, Node};
 use fp_prices::{Share, Table, Weight};
 use fp_timenodes::AddedPoint;
 use fp_timetable::{LegLine, TruckLine};
@@ -60,35 +59,6 @@ impl Draft {
         ensures { result ≡ has_ended self.now }
     {
         matches!(self.latest, Some(Group::End))
-    }
-
-    /// Whether there is a scale.
-    pub fn has_scale(&self) -> bool
-        ensures { result ≡ is_some self.now.certificate.scale }
-    {
-        self.certificate.scale.is_some()
-    }
-
-    /// How many tables there are.
-    pub fn table_count(&self) -> u32
-        requires { length self.now.certificate.tables < 2 ^ 32 }
-        ensures { result ≡ length self.now.certificate.tables }
-    {
-        self.certificate.tables.len() as u32
-    }
-
-    /// Whether there is no table.
-    pub fn lacks_table(&self) -> bool
-        ensures { result ≡ is_empty self.now.certificate.tables }
-    {
-        self.certificate.tables.is_empty()
-    }
-
-    /// Whether the last table has no share, or there is no table.
-    pub fn lacks_share(&self) -> bool
-        ensures { result ≡ lacks_share self.now.certificate.tables }
-    {
-        lacks_share(&self.certificate.tables)
     }
 
     /// Takes an answer.

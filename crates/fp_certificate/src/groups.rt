@@ -52,7 +52,10 @@ impl Group {
     fn is_beyond_direct(self) -> bool
         ensures { result ≡ is_beyond_direct self }
     {
-        matches!(self, Group::Scale | Group::Points | Group::Tables | Group::Tree)
+        matches!(
+            self,
+            Group::Scale | Group::Points | Group::Tables | Group::Tree
+        )
     }
 
     // Whether none of its lines can stand under the answer.

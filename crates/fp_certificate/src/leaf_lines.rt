@@ -75,7 +75,8 @@ fn leaf_of(draft: &Draft, line: &Record) -> Result<Node, LineFault>
     if draft.is_misplaced(Group::Tree) {
         return Err(LineFault::Order);
     }
-    let Some(kind) = kind_of(line, draft.table_count()) else {
+    let tables = draft.certificate.tables.len() as u32;
+    let Some(kind) = kind_of(line, tables) else {
         return Err(LineFault::Range);
     };
     let Some(round) = round_of(line) else {

@@ -7,7 +7,6 @@ ghost use Rattle.fp_lines.specs.Ranges.{IsInRange};
 ghost use Rattle.fp_certificate.specs.Reading.{certificate_from, certificate_of, faults_of, finished, line_code, nothing_read, with_kind, with_line};
 
 use crate::answer_lines::{read_direct, read_infeasible, read_optimal, read_unfinished};
-use fp_lines::Certificate;
 use crate::drafts::Draft;
 use crate::end_lines::read_end;
 use crate::faults::CertFault;
@@ -23,6 +22,7 @@ use crate::split_lines::{read_by_arc, read_by_time};
 use crate::table_lines::read_table;
 use crate::truck_lines::read_truck;
 use crate::weight_lines::read_weight;
+use fp_lines::Certificate;
 use fp_model::Instance;
 use fp_records::Record;
 use std::alloc::Global;

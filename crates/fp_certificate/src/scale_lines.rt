@@ -42,7 +42,7 @@ fn scale_of(lookup: &Lookup<'_>, draft: &Draft, line: &Record) -> Result<u32, Li
     if !has_number(line, 1) {
         return Err(LineFault::Digits);
     }
-    if draft.is_misplaced(Group::Scale) || draft.has_scale() {
+    if draft.is_misplaced(Group::Scale) || draft.certificate.scale.is_some() {
         return Err(LineFault::Order);
     }
     match scale_at(lookup, line) {

@@ -41,7 +41,7 @@ fn share_of(
     if !has_share_digits(line) {
         return Err(LineFault::Digits);
     }
-    if draft.is_misplaced(Group::Tables) || draft.lacks_table() {
+    if draft.is_misplaced(Group::Tables) || draft.certificate.tables.is_empty() {
         return Err(LineFault::Order);
     }
     let Some(arc) = arc_at(lookup, line, 1, 2) else {

@@ -11,6 +11,7 @@ use crate::groups::Group;
 use crate::line_faults::{AddFault, LineFault};
 use crate::line_fields::{shipment_at, small_at};
 use crate::lookups::Lookup;
+use crate::open_tables::lacks_share;
 use fp_prices::Weight;
 use fp_reader::fields::{has_fields, has_number};
 use fp_records::Record;
@@ -28,7 +29,7 @@ fn weight_of(lookup: &Lookup<'_>, draft: &Draft, line: &Record) -> Result<Weight
     if !has_number(line, 2) {
         return Err(LineFault::Digits);
     }
-    if draft.is_misplaced(Group::Tables) || draft.lacks_share() {
+    if draft.is_misplaced(Group::Tables) || lacks_share(&draft.certificate.tables) {
         return Err(LineFault::Order);
     }
     let Some(shipment) = shipment_at(lookup, line, 1) else {

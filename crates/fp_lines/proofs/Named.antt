@@ -1,5 +1,5 @@
 -- What is in range names terminals, arcs and shipments that exist.
-use Rattle.std.proofs.Common.{ℕ, List}
+use Rattle.std.proofs.Common.{List}
 use Rattle.std.specs.Prelude.{All}
 use Rattle.std.proofs.lemmas.List.Elements.{All-weaker}
 use Rattle.fp_model.specs.Problem.{Problem}

@@ -33,12 +33,7 @@ fn write_spent(line: &mut Line, spent: Spent) -> Result<(), NoMemory>
 }
 
 // Adds `answer,unfinished,COST,BOUND,SPENT`.
-fn write_unfinished(
-    line: &mut Line,
-    cost: u128,
-    bound: u128,
-    spent: Spent,
-) -> Result<(), NoMemory>
+fn write_unfinished(line: &mut Line, cost: u128, bound: u128, spent: Spent) -> Result<(), NoMemory>
     requires begun { line.old.begun ≡ false }
     ensures text { OnOk result (line.new.text ≡ line.old.text ++ line_of (unfinished_fields cost bound spent)) }
     ensures ended { OnOk result (line.new.begun ≡ false) }

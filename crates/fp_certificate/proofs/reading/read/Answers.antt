@@ -1,4 +1,4 @@
-use Rattle.std.proofs.Common.{◌≡◌, ◌+◌, ◌-◌, ◌^◌, ◌<◌, ℕ, List, drop, length, arith}
+use Rattle.std.proofs.Common.{◌+◌, ◌-◌, ◌^◌, ◌<◌, ℕ, List, drop, length, arith}
 use Rattle.std.proofs.lemmas.List.{length-drop}
 use Rattle.fp_certificate.specs.Reading.{certificate_of, finished}
 use Rattle.fp_certificate.proofs.ReadEnds.{counts, gives, ranges, tells, whole}

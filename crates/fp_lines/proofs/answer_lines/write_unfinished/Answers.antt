@@ -1,4 +1,4 @@
-use Rattle.std.proofs.Common.{◌≡◌, ℕ, List, [], ◌∷◌}
+use Rattle.std.proofs.Common.{[], ◌∷◌}
 use Rattle.std.specs.Prelude.{codes, decimal}
 use Rattle.fp_lines.specs.Rows.{spent_text}
 use Rattle.fp_lines.proofs.EndedLines.{ended-line}

@@ -1,4 +1,4 @@
-use Rattle.std.proofs.Common.{◌≡◌, ℕ, List, [], ◌∷◌, ◌++◌, subst}
+use Rattle.std.proofs.Common.{◌≡◌, [], ◌∷◌, ◌++◌, subst}
 use Rattle.std.specs.Prelude.{codes, decimal, OnOk}
 use Rattle.fp_prices.specs.Shares.{ClassShare}
 use Rattle.fp_records.specs.Text.{line_of}

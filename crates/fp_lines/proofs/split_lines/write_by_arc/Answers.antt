@@ -1,5 +1,5 @@
-use Rattle.std.proofs.Common.{◌≡◌, ℕ, List, [], ◌∷◌}
-use Rattle.std.specs.Prelude.{codes, decimal}
+use Rattle.std.proofs.Common.{[], ◌∷◌}
+use Rattle.std.specs.Prelude.{codes}
 use Rattle.fp_lines.specs.Rows.{head_name, shipment_name, tail_name}
 use Rattle.fp_lines.proofs.EndedLines.{ended-line}
 use Rattle.fp_lines.proofs.split_lines.write_by_arc.Goals as goal
