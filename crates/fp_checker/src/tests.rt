@@ -16,7 +16,14 @@ use std::alloc::Global;
 
 // An arc of capacity 10, of truck cost 100 and no freight.
 fn arc_between(from: u32, to: u32, time: u32) -> Arc
-    ensures { result ≡ record { from = from; to = to; time = time; capacity = 10; truck = 100; freight = 0 } }
+    ensures { result ≡ record {
+      from = from;
+      to = to;
+      time = time;
+      capacity = 10;
+      truck = 100;
+      freight = 0;
+    } }
 {
     Arc {
         from,
@@ -28,8 +35,8 @@ fn arc_between(from: u32, to: u32, time: u32) -> Arc
     }
 }
 
-// Three terminals on a line: the first arc takes 4, the second 5. A shipment goes over both and is due at a time, and one goes
-// over the second.
+// Three terminals on a line: the first arc takes 4, the second 5. A shipment goes over both and
+// is due at a time, and one goes over the second.
 fn line(alloc: Global, due: u32) -> Result<Instance, NoMemory>
     requires { due ≤ 100000 }
     ensures { IfOk result (λ i. i ≡ record {
@@ -37,8 +44,10 @@ fn line(alloc: Global, due: u32) -> Result<Instance, NoMemory>
       holds = 0 ∷ 0 ∷ 0 ∷ [];
       arcs = (record { from = 0; to = 1; time = 4; capacity = 10; truck = 100; freight = 0 })
           ∷ (record { from = 1; to = 2; time = 5; capacity = 10; truck = 100; freight = 0 }) ∷ [];
-      shipments = (record { name = 83 ∷ 49 ∷ []; from = 0; to = 2; size = 4; release = 0; due = due })
-          ∷ (record { name = 83 ∷ 50 ∷ []; from = 1; to = 2; size = 4; release = 0; due = 8 }) ∷ [];
+      shipments =
+          (record { name = 83 ∷ 49 ∷ []; from = 0; to = 2; size = 4; release = 0; due = due })
+          ∷ (record { name = 83 ∷ 50 ∷ []; from = 1; to = 2; size = 4; release = 0; due = 8 })
+          ∷ [];
       scale = 1000000;
     }) }
 {
@@ -70,7 +79,12 @@ fn line(alloc: Global, due: u32) -> Result<Instance, NoMemory>
 
 // A leg line.
 fn leg(shipment: u32, arc: u32, depart: u32, arrive: u32) -> LegLine
-    ensures { result ≡ record { shipment = shipment; arc = arc; depart = depart; arrive = arrive } }
+    ensures { result ≡ record {
+      shipment = shipment;
+      arc = arc;
+      depart = depart;
+      arrive = arrive;
+    } }
 {
     LegLine {
         shipment,
@@ -103,8 +117,8 @@ fn point(terminal: u32, at: u32) -> AddedPoint
     }
 }
 
-// A certificate whose tree is one leaf of linear prices with forced classes. The first shipment leaves at 0 and at 4, the second
-// by a leg that is given.
+// A certificate whose tree is one leaf of linear prices with forced classes. The first shipment
+// leaves at 0 and at 4, the second by a leg that is given.
 fn certificate(
     alloc: Global,
     answer: Answer,
@@ -117,7 +131,8 @@ fn certificate(
       scale = None;
       legs = (record { shipment = 0; arc = 0; depart = 0; arrive = 4 }) ∷ second
           ∷ (record { shipment = 0; arc = 1; depart = 4; arrive = 9 }) ∷ [];
-      trucks = (record { arc = 0; depart = 0; trucks = 1; load = 4 }) ∷ (record { arc = 1; depart = 0; trucks = 1; load = 4 })
+      trucks = (record { arc = 0; depart = 0; trucks = 1; load = 4 })
+          ∷ (record { arc = 1; depart = 0; trucks = 1; load = 4 })
           ∷ (record { arc = 1; depart = 4; trucks = 1; load = 4 }) ∷ [];
       points = option_to_list added;
       tables = [];
@@ -162,8 +177,10 @@ fn told_by(
 ) -> Result<Told, NoMemory>
     requires due { due ≤ 100000 }
     requires answer { (p : Problem) → length p.shipments ≡ 2 → IsAnswerInRange p answer }
-    requires second { (second.shipment < 2) × (second.arc < 2) × (second.depart ≤ 100000) × (second.arrive ≤ 100000) }
-    requires added { IfSome added (λ q. (q.terminal < 3) × (q.at ≤ 100000) × (1 ≤ q.round) × (q.round ≤ 4000)) }
+    requires second { (second.shipment < 2) × (second.arc < 2)
+        × (second.depart ≤ 100000) × (second.arrive ≤ 100000) }
+    requires added { IfSome added (λ q. (q.terminal < 3) × (q.at ≤ 100000)
+        × (1 ≤ q.round) × (q.round ≤ 4000)) }
     requires round { round ≤ 4000 }
     ensures belongs { IfOk result (λ c. BelongsTo c.instance c.windows) }
     ensures range { IfOk result (λ c. IsInRange c.instance c.certificate) }
@@ -188,8 +205,10 @@ fn verdict(
     round: u32,
 ) -> Result<Result<(), Rejected>, NoMemory>
     requires answer { (p : Problem) → length p.shipments ≡ 2 → IsAnswerInRange p answer }
-    requires second { (second.shipment < 2) × (second.arc < 2) × (second.depart ≤ 100000) × (second.arrive ≤ 100000) }
-    requires added { IfSome added (λ q. (q.terminal < 3) × (q.at ≤ 100000) × (1 ≤ q.round) × (q.round ≤ 4000)) }
+    requires second { (second.shipment < 2) × (second.arc < 2)
+        × (second.depart ≤ 100000) × (second.arrive ≤ 100000) }
+    requires added { IfSome added (λ q. (q.terminal < 3) × (q.at ≤ 100000)
+        × (1 ≤ q.round) × (q.round ≤ 4000)) }
     requires round { round ≤ 4000 }
 {
     let told = told_by(alloc, 9, answer, second, added, round)?;
