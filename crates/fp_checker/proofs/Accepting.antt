@@ -1,6 +1,6 @@
 -- What an accepted certificate claims is true.
-use Rattle.std.proofs.Common.{◌≡◌, ℕ, ◌+◌, ◌*◌, ◌<◌, ◌≤◌, List, [], ◌∷◌, length, ⊎_elim, refl, sym, subst, arith}
-use Rattle.std.specs.Prelude.{Option, Some, None, IfSome, slice_index_or}
+use Rattle.std.proofs.Common.{◌≡◌, ℕ, ◌*◌, ◌<◌, ◌≤◌, List, [], ◌∷◌, length, ⊎_elim, refl, sym, subst, arith}
+use Rattle.std.specs.Prelude.{Option, Some, None, slice_index_or}
 use Rattle.std.specs.List.{AllByRecursion}
 use Rattle.std.specs.Int.{div_ceil}
 use Rattle.fp_model.specs.declared.parts.Leg.{Leg}
@@ -120,7 +120,7 @@ claims-whole p windows (Infeasible shipment time) cover within = within
 
 -- what an accepted certificate claims of the plans within the windows is true
 pub accepted-claims-within : (p : Problem) (table : WindowTable) (c : Statement) → IsValid p → IsInRange p c → IsAccepted p table c → ClaimsWithin p (windows_in table) c.answer
-accepted-claims-within p table c valid range accepted = claims-within p table c c.answer refl valid range.within.answer accepted
+accepted-claims-within p table c valid range accepted = claims-within p table c c.answer refl valid range.answer accepted
 
 -- and where the windows are the instance's own, so is what it claims of all plans
 pub accepted-claims-whole : (p : Problem) (table : WindowTable) (c : Statement) → IsValid p → IsInRange p c → IsAccepted p table c → AreWindows p (windows_in table) → Claims p c.answer

@@ -1,5 +1,5 @@
 -- Points that are added one by one to the initial ones.
-use Rattle.std.proofs.Common.{◌≡◌, ◌≢◌, ℕ, zero, suc, ◌+◌, ◌<◌, ◌≤◌, Bool, true, false, ◌||◌, ◌&&◌, cond, List, [], ◌∷◌, ◌++◌, length, get_or, take, ⊎_elim, refl, sym, ap, ◌∙◌, subst, arith, eqb-true, eq-eqb, append_assoc}
+use Rattle.std.proofs.Common.{◌≡◌, ◌≢◌, ℕ, zero, suc, ◌+◌, ◌<◌, ◌≤◌, Bool, true, false, ◌||◌, ◌&&◌, List, [], ◌∷◌, ◌++◌, length, get_or, take, ⊎_elim, refl, sym, ap, ◌∙◌, subst, arith, eqb-true, eq-eqb, append_assoc}
 use Rattle.std.specs.Prelude.{All, AllPairs, Ok, Result, ◌==◌, nat_le}
 use Rattle.std.proofs.lemmas.Bool.{and_parts, cases_Bool, false≢true, le-leb, or_cases}
 use Rattle.std.proofs.lemmas.List.{get_or-take, get_or_default, length-take-le, take_all, take_more}
@@ -11,7 +11,7 @@ use Rattle.fp_timenodes.specs.declared.places.Added.TheVariants as added
 use Rattle.fp_timenodes.specs.declared.places.AddedPoint.{AddedPoint}
 use Rattle.fp_timenodes.specs.declared.places.Place.{Place}
 use Rattle.fp_timenodes.specs.Floor.{HaveSamePoints, has_point}
-use Rattle.fp_timenodes.specs.Points.{IsAddedPoint, TimePoints, added_at, greatest_round, points_at, times_at}
+use Rattle.fp_timenodes.specs.Points.{TimePoints, added_at, greatest_round, points_at, times_at}
 use Rattle.fp_timenodes.proofs.Floors.{has-cases, has-first, has-rest}
 use Rattle.fp_timenodes.proofs.Included.{has_point-append, or_right_comm}
 use Rattle.fp_flatnet.specs.Initial.{BeginAt, initial_points}

@@ -1,14 +1,12 @@
 -- The truck lines of routes are certain, and the sum over them is what the departures cost.
-use Rattle.std.proofs.Common.{◌≡◌, ℕ, ◌+◌, ◌*◌, ◌<◌, ◌≤◌, Bool, true, false, ◌||◌, List, [], ◌∷◌, length, map, get_or, ⊎_elim, refl, sym, ap, ap₂, ◌∙◌, subst, arith}
-use Rattle.std.specs.Prelude.{All, AllPairs, sum_by}
+use Rattle.std.proofs.Common.{◌≡◌, ℕ, ◌*◌, Bool, true, false, ◌||◌, List, [], ◌∷◌, map, ⊎_elim, refl, sym, ap, ap₂, ◌∙◌, subst, arith}
+use Rattle.std.specs.Prelude.{sum_by}
 use Rattle.std.specs.List.{AllByRecursion}
 use Rattle.std.proofs.lemmas.Bool.{cases_Bool, cond-false, false_from_ne_true, false≢true, or_cases, or_left}
 use Rattle.std.proofs.lemmas.List.Elements.{recursion_from_All}
 use Rattle.fp_model.specs.declared.parts.Leg.{Leg}
-use Rattle.fp_model.specs.Costs.{all_legs, cost, departure_cost, departures_cost, distinct, flow_total, has_leg, load, same_leg, trucks}
-use Rattle.fp_model.specs.Plans.{IsPlan}
-use Rattle.fp_model.specs.Problem.{Problem, IsValid, arc_at}
-use Rattle.fp_model.proofs.Bounds.{cost_fits}
+use Rattle.fp_model.specs.Costs.{all_legs, departure_cost, departures_cost, distinct, has_leg, load, same_leg, trucks}
+use Rattle.fp_model.specs.Problem.{Problem, arc_at}
 use Rattle.fp_model.proofs.Distinct.{distinct_sum-occur, same_leg-refl, same_leg-true}
 use Rattle.fp_model.proofs.Sums.{sum_by-each, sum_by-map}
 use Rattle.fp_timetable.specs.declared.lines.TruckLine.{TruckLine}

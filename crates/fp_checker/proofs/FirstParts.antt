@@ -10,7 +10,7 @@ use Rattle.fp_lines.specs.declared.certificates.Answer.{Answer}
 use Rattle.fp_lines.specs.declared.certificates.Answer.TheVariants.{Direct, Optimal, Unfinished, Infeasible}
 use Rattle.fp_lines.specs.declared.certificates.Spent.{Spent}
 use Rattle.fp_lines.specs.Statements.{Statement}
-use Rattle.fp_checker.specs.Accepted.{Applies, HoldBelow, Holds, IsAccepted, IsBlockedAs, IsFirstFailed, IsFirstUnmet, IsTooLate, Part, part_number}
+use Rattle.fp_checker.specs.Accepted.{Applies, HoldBelow, Holds, IsBlockedAs, IsFirstFailed, IsFirstUnmet, IsTooLate, Part, part_number}
 use Rattle.fp_checker.specs.Leaves.{HasTree}
 use Rattle.fp_checker.specs.Plans.{HasCost, HasPlan, HasTimetable}
 use Rattle.fp_checker.specs.Points.{HasPoints}
@@ -51,6 +51,10 @@ number-some Part.Prices = omega arith
 number-some Part.Tree = omega arith
 number-some Part.Leaves = omega arith
 number-some Part.Blocked = omega arith
+
+-- an answer that claims a bound
+abbrev pub IsClaim : Answer → Type 0
+IsClaim answer = ((cost : ℕ) × (answer ≡ Optimal cost)) ⊎ ((cost : ℕ) × (bound : ℕ) × (spent : Spent) × (answer ≡ Unfinished cost bound spent))
 
 module _ (p : Problem) (table : WindowTable) (c : Statement) where
   hold-none : HoldBelow p table c 1
@@ -159,10 +163,6 @@ module _ (p : Problem) (table : WindowTable) (c : Statement) where
   unfinished-applies Part.Tree cost bound spent le = tt
   unfinished-applies Part.Leaves cost bound spent le = tt
   unfinished-applies Part.Blocked cost bound spent le = absurd (omega (arith, le))
-
-  -- an answer that claims a bound
-  abbrev pub IsClaim : Answer → Type 0
-  IsClaim answer = ((cost : ℕ) × (answer ≡ Optimal cost)) ⊎ ((cost : ℕ) × (bound : ℕ) × (spent : Spent) × (answer ≡ Unfinished cost bound spent))
 
   pub claim-failed : (answer : Answer) (number : ℕ) → c.answer ≡ answer → IsClaim answer → (number ≤ 7) × IsFirstUnmet p table c number → IsFirstFailed p table c number
   claim-failed answer number same claim failed =

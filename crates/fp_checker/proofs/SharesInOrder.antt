@@ -1,5 +1,5 @@
 -- Tables whose shares keep the price rule, or of which one is the first to break it.
-use Rattle.std.proofs.Common.{◌≡◌, ℕ, suc, ◌-◌, ◌<◌, List, [], ◌∷◌, length, get_or, refl, subst, arith}
+use Rattle.std.proofs.Common.{◌≡◌, ◌-◌, List, [], refl, arith}
 use Rattle.std.specs.Prelude.{Result, Ok, Err, IfErr, OnOk, ◌↔◌, is_ok, true}
 use Rattle.std.specs.List.{AllByRecursion}
 use Rattle.fp_model.specs.Problem.{Problem, arc_at}

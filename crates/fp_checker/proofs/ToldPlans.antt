@@ -1,5 +1,5 @@
 -- The plan that leg lines tell, and what of it the tests tell.
-use Rattle.std.proofs.Common.{◌≡◌, ℕ, ◌+◌, ◌<◌, List, ap, ◌∙◌, subst, sym, length}
+use Rattle.std.proofs.Common.{◌≡◌, ℕ, ◌+◌, List, subst, sym}
 use Rattle.std.specs.Prelude.{All, AllPairs, Option}
 use Rattle.std.proofs.lemmas.List.Elements.{recursion_from_All}
 use Rattle.fp_model.specs.Plans.{IsPlan}

@@ -47,7 +47,8 @@ fn tested_plan(
     requires belongs { BelongsTo instance.now windows.now }
     requires range { IsInRange instance.now certificate.now }
     ensures plan { IfOk result (λ plan. plan ≡ routes_of instance.now certificate.now) }
-    ensures holds { OnOk result (HasTimetable instance.now (windows_in windows.now) certificate.now) }
+    ensures holds { OnOk result
+        (HasTimetable instance.now (windows_in windows.now) certificate.now) }
     ensures part { (number : ℕ) → result ≡ Err (Rejected.Part number) →
         (number ≤ 3) × IsFirstUnmet instance.now windows.now certificate.now number }
 {
@@ -91,7 +92,8 @@ fn test_bound(
     Ok(())
 }
 
-// Whether a certificate tells its plan and all that bounds the plans as it has to be: parts 1 to 7.
+// Whether a certificate tells its plan and all that bounds the plans as it has to be: parts 1 to
+// 7.
 fn test_claim(
     alloc: Global,
     instance: &Instance,
@@ -119,7 +121,8 @@ fn test_refusal(
     requires { shipment < length instance.now.shipments }
     ensures holds { OnOk result (IsTooLate instance.now (shipment_at instance.now shipment) time) }
     ensures part { (number : ℕ) → result ≡ Err (Rejected.Part number) →
-        (number ≡ BLOCKED) × (IsTooLate instance.now (shipment_at instance.now shipment) time → ⊥) }
+        (number ≡ BLOCKED)
+        × (IsTooLate instance.now (shipment_at instance.now shipment) time → ⊥) }
 {
     if is_too_late(alloc, instance, shipment, time)? {
         Ok(())
@@ -154,14 +157,16 @@ fn test_parts(
     }
 }
 
-/// Whether a certificate is accepted for an instance and windows that belong to it: whether each part that applies to its
-/// answer holds.
+/// Whether a certificate is accepted for an instance and windows that belong to it: whether each
+/// part that applies to its answer holds.
 ///
-/// Accepted, its claim is true: of all plans that lie within the windows, and where these are the instance's own, of all
-/// plans, with departures in any fractions of the unit of time. Otherwise `Rejected` tells the first part that fails.
+/// Accepted, its claim is true: of all plans that lie within the windows, and where these are the
+/// instance's own, of all plans, with departures in any fractions of the unit of time. Otherwise
+/// `Rejected` tells the first part that fails.
 ///
-/// The instance has the scale of prices under which the certificate was made, and the certificate's numbers are in range, as
-/// those of one that was read. Takes time that grows with its lines, but for the leaves, each of which is bounded anew.
+/// The instance has the scale of prices under which the certificate was made, and the
+/// certificate's numbers are in range, as those of one that was read. Takes time that grows with
+/// its lines, but for the leaves, each of which is bounded anew.
 pub fn check(
     alloc: Global,
     instance: &Instance,
@@ -174,17 +179,21 @@ pub fn check(
     ensures accepted { OnOk result (IsAccepted instance.now windows.now certificate.now) }
     ensures part { (number : ℕ) → result ≡ Err (Rejected.Part number) →
         IsFirstFailed instance.now windows.now certificate.now number }
-    ensures within { OnOk result (ClaimsWithin instance.now (windows_in windows.now) certificate.now.answer) }
+    ensures within { OnOk result
+        (ClaimsWithin instance.now (windows_in windows.now) certificate.now.answer) }
     ensures claims { OnOk result
-        (AreWindows instance.now (windows_in windows.now) → Claims instance.now certificate.now.answer) }
+        (AreWindows instance.now (windows_in windows.now)
+        → Claims instance.now certificate.now.answer) }
 {
     test_parts(alloc, instance, windows, certificate)
 }
 
-/// The plan that a certificate tells, for each shipment its legs, where the parts 1 to 3 hold: the plan lies within the
-/// windows, and its cost and its trucks are as told. What the answer claims of other plans isn't looked at.
+/// The plan that a certificate tells, for each shipment its legs, where the parts 1 to 3 hold:
+/// the plan lies within the windows, and its cost and its trucks are as told. What the answer
+/// claims of other plans isn't looked at.
 ///
-/// `Rejected` tells the first of these parts that fails, and 1 where the answer is an infeasible one.
+/// `Rejected` tells the first of these parts that fails, and 1 where the answer is an infeasible
+/// one.
 pub fn plan_of(
     alloc: Global,
     instance: &Instance,
@@ -194,7 +203,8 @@ pub fn plan_of(
     requires belongs { BelongsTo instance.now windows.now }
     requires range { IsInRange instance.now certificate.now }
     ensures plan { IfOk result (λ plan. plan ≡ routes_of instance.now certificate.now) }
-    ensures holds { OnOk result (HasTimetable instance.now (windows_in windows.now) certificate.now) }
+    ensures holds { OnOk result
+        (HasTimetable instance.now (windows_in windows.now) certificate.now) }
     ensures answer { OnOk result (TellsPlan certificate.now.answer) }
     ensures part { (number : ℕ) → result ≡ Err (Rejected.Part number) →
         IsPlanRejected instance.now windows.now certificate.now certificate.now.answer number }

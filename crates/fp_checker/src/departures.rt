@@ -48,7 +48,8 @@ fn route_flow(instance: &Instance, size: u64, route: &[Leg]) -> u128
 fn routes_flow(instance: &Instance, routes: &[Vec<Leg>]) -> u128
     requires long { length routes.now ≡ length instance.now.shipments }
     requires arcs { All (λ (r : Vec Leg Global). ArcsExist instance.now r.items) routes.now }
-    requires fits { flow_total instance.now instance.now.shipments (lists_of routes.now) < 2 ^ 128 }
+    requires fits { flow_total instance.now instance.now.shipments (lists_of routes.now)
+        < 2 ^ 128 }
     ensures { result ≡ flow_total instance.now instance.now.shipments (lists_of routes.now) }
 {
     let mut total: u128 = 0;

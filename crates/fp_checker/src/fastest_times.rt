@@ -8,7 +8,8 @@ use fp_flatnet::fastest;
 use fp_model::{Instance, Shipment};
 use std::alloc::Global;
 
-// Whether a shipment with this fastest time, or with no route, arrives after its due time or never.
+// Whether a shipment with this fastest time, or with no route, arrives after its due time or
+// never.
 fn is_late(shipment: &Shipment, time: Option<u32>) -> bool
     ensures { IsTrue result ↔ IfSome time (λ t. shipment.now.due < shipment.now.release + t) }
 {

@@ -61,18 +61,20 @@ fn is_leaf_worth(
     price: LeafPrice,
 ) -> Result<bool, NoMemory>
     requires belongs { BelongsTo instance.now windows.now }
-    requires points { ArePointsOf instance.now windows.now.anchors certificate.now.points points.now }
+    requires points { ArePointsOf instance.now windows.now.anchors certificate.now.points
+        points.now }
     requires tables { AreTables instance.now certificate.now.tables }
     requires kind { HasKind certificate.now.tables price.kind }
-    ensures { IfOk result (λ worth. IsTrue worth ↔ IsLeafWorth instance.now windows.now certificate.now
-        (claim_of_answer certificate.now.answer) (node.Leaf price) sides.now) }
+    ensures { IfOk result (λ worth. IsTrue worth
+        ↔ IsLeafWorth instance.now windows.now certificate.now (claim_of_answer certificate.now.answer) (node.Leaf price) sides.now) }
 {
     let tables = certificate.tables.as_slice();
     let bound = bound(alloc, instance, windows, points, tables, sides, price)?;
     Ok(is_bound_worth(bound, instance.scale(), claim_of(certificate.answer)))
 }
 
-// Whether each leaf is worth what the certificate claims. The leaves are reached in preorder, each with the sides on its way.
+// Whether each leaf is worth what the certificate claims. The leaves are reached in preorder,
+// each with the sides on its way.
 pub(crate) fn are_leaves_worth(
     alloc: Global,
     instance: &Instance,
@@ -82,10 +84,11 @@ pub(crate) fn are_leaves_worth(
 ) -> Result<bool, NoMemory>
     requires belongs { BelongsTo instance.now windows.now }
     requires range { IsInRange instance.now certificate.now }
-    requires points { ArePointsOf instance.now windows.now.anchors certificate.now.points points.now }
+    requires points { ArePointsOf instance.now windows.now.anchors certificate.now.points
+        points.now }
     requires tables { AreTables instance.now certificate.now.tables }
-    ensures { IfOk result (λ worth. IsTrue worth ↔ AreLeavesWorth instance.now windows.now certificate.now
-        (claim_of_answer certificate.now.answer)) }
+    ensures { IfOk result (λ worth. IsTrue worth
+        ↔ AreLeavesWorth instance.now windows.now certificate.now (claim_of_answer certificate.now.answer)) }
 {
     let mut way = Way::new(alloc);
     for node in certificate.tree.as_slice() {

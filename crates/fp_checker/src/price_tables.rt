@@ -37,7 +37,8 @@ fn shares_ascend(shares: &[Share]) -> bool
 // Whether the weights of each share stand by shipment.
 fn all_weights_ascend(shares: &[Share]) -> bool
     ensures { IsTrue result
-        ↔ All (λ (s : ClassShare). AllPairs (λ (v w : Weight). v.shipment < w.shipment) s.weights) shares.now }
+        ↔ All (λ (s : ClassShare). AllPairs (λ (v w : Weight). v.shipment < w.shipment) s.weights)
+        shares.now }
 {
     for share in shares {
         if !weights_ascend(share.weights.as_slice()) {

@@ -7,17 +7,19 @@ use thiserror::Error;
 pub enum Rejected {
     /// The part with this number is the first of those that apply to the answer and fail:
     ///
-    /// - 1: the leg lines are in order, each arrives a travel time after it left, and they are a plan in whole units within
-    ///   the windows.
+    /// - 1: the leg lines are in order, each arrives a travel time after it left, and they are a
+    ///   plan in whole units within the windows.
     /// - 2: the stated cost is the plan's.
     /// - 3: the truck lines are the plan's departures, each with its trucks and its load.
-    /// - 4: the points stand by their rounds, at most 8 in one, and each is neither an initial one nor there twice.
+    /// - 4: the points stand by their rounds, at most 8 in one, and each is neither an initial
+    ///   one nor there twice.
     /// - 5: the shares and their weights are in order and keep the price rule.
     /// - 6: the nodes are one tree of at most 100,000 splits.
     /// - 7: no leaf is worth less than the claim.
     /// - 8: the named shipment can't arrive in time, and its fastest time is as told.
     ///
-    /// 1 to 3 apply to a direct answer, 1 to 7 to an optimal and an unfinished one, 8 to an infeasible one.
+    /// 1 to 3 apply to a direct answer, 1 to 7 to an optimal and an unfinished one, 8 to an
+    /// infeasible one.
     #[error("part {number} of the certificate fails")]
     Part { number: u32 },
     /// No memory was found.

@@ -6,8 +6,8 @@ ghost use Rattle.fp_checker.specs.Leaves.{fork_of};
 
 use fp_certificate::Node;
 
-// Whether the nodes are exactly one tree in preorder: as long as nodes are to come, a split opens one more tree, and a leaf
-// ends one.
+// Whether the nodes are exactly one tree in preorder: as long as nodes are to come, a split opens
+// one more tree, and a leaf ends one.
 pub(crate) fn is_tree(nodes: &[Node]) -> bool
     ensures { (p : Problem) → IsTrue result ↔ IsTree (fork_of p) nodes.now }
 {

@@ -1,4 +1,4 @@
-use Rattle.std.proofs.Common.{◌≡◌, Ok, refl, sym, ap, ◌∙◌, arith}
+use Rattle.std.proofs.Common.{Ok, ap, ◌∙◌, arith}
 use Rattle.std.proofs.lemmas.Bool.{false_from_ne_true}
 use Rattle.fp_checker.proofs.AddedOneByOne.{made-all, made-holds, made-more, made-order, made-there, new-there}
 use Rattle.fp_checker.proofs.Failing.{part-same}

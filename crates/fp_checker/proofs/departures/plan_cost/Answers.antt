@@ -1,4 +1,4 @@
-use Rattle.std.proofs.Common.{◌≡◌, List, ap, ◌∙◌, arith, subst}
+use Rattle.std.proofs.Common.{◌≡◌, List, ap, ◌∙◌, arith}
 use Rattle.fp_model.specs.declared.parts.Leg.{Leg}
 use Rattle.fp_model.specs.Costs.{flow_total, lists_of}
 use Rattle.fp_model.proofs.Bounds.{AreReady, AreReady-plan, cost_fits}

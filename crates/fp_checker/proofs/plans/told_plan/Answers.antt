@@ -1,4 +1,4 @@
-use Rattle.std.proofs.Common.{◌≡◌, List, refl, sym, ap, ◌∙◌, subst}
+use Rattle.std.proofs.Common.{◌≡◌, List, refl, ap, ◌∙◌, subst}
 use Rattle.fp_model.specs.declared.parts.Leg.{Leg}
 use Rattle.fp_model.specs.Plans.{IsPlan}
 use Rattle.fp_flatnet.specs.Tables.{windows_in}
@@ -13,7 +13,7 @@ returns-then-not-legs_ascend-clause-part c number same = (
   part-same 1 number same,
   λ has.
       let legs : c.as_slice-legs.result.now ≡ c.args.certificate.now.legs = c.as_slice-legs.ensures.value ∙ ap (λ (s : Statement). s.legs) c.certificate.view_is in
-      let told = told-HasPlan c.args.instance.now (windows_in c.args.windows.now) c.args.certificate.now c.as_slice-legs.result.now legs c.requires.range.within.legs has in
+      let told = told-HasPlan c.args.instance.now (windows_in c.args.windows.now) c.args.certificate.now c.as_slice-legs.result.now legs c.requires.range.legs has in
       elim c.then-not-legs_ascend.branch [
         | then-not-legs_ascend-via-then-not-legs_ascend w ↦ failed c.legs_ascend.result w.if-not-legs_ascend.true c.legs_ascend.ensures.1 told.ascending
         | then-not-legs_ascend-via-else-not-legs_ascend+then-not-arrive_in_time w ↦ failed w.arrive_in_time.result w.if-not-arrive_in_time.true w.arrive_in_time.ensures.1 told.arrivals

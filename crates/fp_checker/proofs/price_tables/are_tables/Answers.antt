@@ -1,4 +1,4 @@
-use Rattle.std.proofs.Common.{◌≡◌, sym, ◌∙◌}
+use Rattle.std.proofs.Common.{sym, ◌∙◌}
 use Rattle.fp_checker.proofs.SharesInOrder.{tells-rule}
 use Rattle.fp_checker.proofs.price_tables.are_tables.Goals as goal
 

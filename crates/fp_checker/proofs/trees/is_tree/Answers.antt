@@ -1,4 +1,4 @@
-use Rattle.std.proofs.Common.{◌≡◌, ◌+◌, refl, sym, ◌∙◌, arith}
+use Rattle.std.proofs.Common.{arith}
 use Rattle.std.proofs.lemmas.Bool.{false≢true}
 use Rattle.fp_tree.specs.declared.sides.Split.TheVariants.{ByArc}
 use Rattle.fp_tree.specs.Trees.{IsTree}
