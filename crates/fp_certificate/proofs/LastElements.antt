@@ -5,7 +5,7 @@ use Rattle.std.proofs.Math.ListN.{set}
 use Rattle.std.proofs.lemmas.Bool.{eqb-false}
 use Rattle.fp_prices.specs.Shares.{ClassShare}
 use Rattle.fp_records.specs.Fields.{is_empty}
-use Rattle.fp_lines.specs.Tables.{lacks_share, with_last}
+use Rattle.fp_certificate.specs.Tables.{lacks_share, with_last}
 
 -- a write at the last place
 pub with_last-set : {A : Type 0} (f : A → A) (xs : List A) (d : A) → 0 < length xs → set xs (length xs - 1) (f (get_or xs (length xs - 1) d)) ≡ with_last f xs

@@ -10,10 +10,10 @@ use Rattle.fp_reader.specs.Faults.{joins, shipment_names}
 use Rattle.fp_reader.specs.Fields.{field, number_at}
 use Rattle.fp_reader.proofs.Fits.{between, there}
 use Rattle.fp_lines.specs.Ranges.{largest}
-use Rattle.fp_lines.specs.Answers.{is_small}
-use Rattle.fp_lines.specs.Places.{arc_between, arc_in, lacks_arc, lacks_shipment, lacks_terminal, shipment_in, terminal_in, terminal_named}
-use Rattle.fp_lines.specs.Tables.{with_last}
-use Rattle.fp_lines.specs.Timetables.{is_time}
+use Rattle.fp_certificate.specs.Answers.{is_small}
+use Rattle.fp_certificate.specs.Places.{arc_between, arc_in, lacks_arc, lacks_shipment, lacks_terminal, shipment_in, terminal_in, terminal_named}
+use Rattle.fp_certificate.specs.Tables.{with_last}
+use Rattle.fp_certificate.specs.Timetables.{is_time}
 
 -- a number that is no larger than a field may be
 pub small : (fields : List (List ℕ)) (place : ℕ) → is_small fields place ≡ true → number_at fields place ≤ largest

@@ -23,19 +23,19 @@ use Rattle.fp_lines.specs.declared.certificates.Node.{Node}
 use Rattle.fp_lines.specs.declared.certificates.Node.TheVariants as node
 use Rattle.fp_lines.specs.declared.certificates.Spent.{Spent}
 use Rattle.fp_lines.specs.declared.certificates.Spent.TheVariants as spent
-use Rattle.fp_lines.specs.declared.drafts.Draft.{Draft}
-use Rattle.fp_lines.specs.declared.groups.Group.TheVariants as group
-use Rattle.fp_lines.specs.Answers.{with_answer, with_scale}
-use Rattle.fp_lines.specs.Groups.{has_ended, is_misplaced}
-use Rattle.fp_lines.specs.Points.{with_point}
+use Rattle.fp_certificate.specs.declared.drafts.Draft.{Draft}
+use Rattle.fp_certificate.specs.declared.groups.Group.TheVariants as group
+use Rattle.fp_certificate.specs.Answers.{with_answer, with_scale}
+use Rattle.fp_certificate.specs.Groups.{has_ended, is_misplaced}
+use Rattle.fp_certificate.specs.Points.{with_point}
 use Rattle.fp_lines.specs.Ranges.{IsAnswerInRange, IsLeafInRange, IsLegInRange, IsNodeInRange, IsPointInRange, IsScaleInRange, IsShareInRange, IsSplitInRange, IsTruckInRange, IsWeightInRange, largest}
-use Rattle.fp_lines.specs.Reading.{line_code, nothing_read, with_line}
+use Rattle.fp_certificate.specs.Reading.{line_code, nothing_read, with_line}
 use Rattle.fp_lines.specs.Rows.{answer_fields, end_fields, kind_text, leaf_fields, leg_fields, mode_text, node_fields, point_fields, scale_fields, share_fields, split_fields, table_fields, truck_fields, weight_fields}
-use Rattle.fp_lines.specs.Tables.{lacks_share, with_share, with_table, with_weight}
-use Rattle.fp_lines.specs.Timetables.{with_leg, with_truck}
-use Rattle.fp_lines.specs.Trees.{with_end, with_node}
-use Rattle.fp_lines.proofs.NamesBack.{arc-back, shipment-back, terminal-back}
-use Rattle.fp_lines.proofs.NumbersBack.{large-back, no-word, number-back, time-back, within-back}
+use Rattle.fp_certificate.specs.Tables.{lacks_share, with_share, with_table, with_weight}
+use Rattle.fp_certificate.specs.Timetables.{with_leg, with_truck}
+use Rattle.fp_certificate.specs.Trees.{with_end, with_node}
+use Rattle.fp_certificate.proofs.NamesBack.{arc-back, shipment-back, terminal-back}
+use Rattle.fp_certificate.proofs.NumbersBack.{large-back, no-word, number-back, time-back, within-back}
 
 -- a line has no fault and takes one draft to another
 pub record IsStep (p : Problem) (before : Draft) (fields : List (List ℕ)) (after : Draft) : Type 0 where

@@ -9,13 +9,13 @@ use Rattle.fp_timenodes.specs.declared.places.AddedPoint.{AddedPoint}
 use Rattle.fp_timetable.specs.declared.lines.LegLine.{LegLine}
 use Rattle.fp_timetable.specs.declared.lines.TruckLine.{TruckLine}
 use Rattle.fp_lines.specs.declared.certificates.Node.{Node}
-use Rattle.fp_lines.specs.declared.groups.Group.TheVariants as group
-use Rattle.fp_lines.specs.Groups.{is_forbidden}
+use Rattle.fp_certificate.specs.declared.groups.Group.TheVariants as group
+use Rattle.fp_certificate.specs.Groups.{is_forbidden}
 use Rattle.fp_lines.specs.Ranges.{IsLegInRange, IsNodeInRange, IsPointInRange, IsTruckInRange}
 use Rattle.fp_lines.specs.Rows.{leg_fields, node_fields, point_fields, truck_fields}
 use Rattle.fp_lines.specs.Statements.{Statement}
-use Rattle.fp_lines.proofs.LinesBack.{leg-step, node-step, point-step, truck-step}
-use Rattle.fp_lines.proofs.SegmentsBack.{ReadsTo, at, going, placed, segment}
+use Rattle.fp_certificate.proofs.LinesBack.{leg-step, node-step, point-step, truck-step}
+use Rattle.fp_certificate.proofs.SegmentsBack.{ReadsTo, at, going, placed, segment}
 
 -- a test fails, or there is nothing to be tested
 abbrev pub Free : {X : Type 0} → Bool → List X → Type 0

@@ -26,11 +26,11 @@ use Rattle.fp_lines.specs.declared.certificates.Node.{Node}
 use Rattle.fp_lines.specs.declared.certificates.Node.TheVariants as node
 use Rattle.fp_lines.specs.declared.certificates.Spent.TheVariants as spent
 use Rattle.fp_lines.specs.Ranges.{IsAnswerInRange, IsInRange, IsLegInRange, IsNodeInRange, IsPointInRange, IsScaleInRange, IsShareInRange, IsTruckInRange, IsWeightInRange}
-use Rattle.fp_lines.specs.Readable.{HaveNames}
+use Rattle.fp_certificate.specs.Readable.{HaveNames}
 use Rattle.fp_lines.specs.Rows.{answer_fields, head_name, kind_text, leg_fields, mode_text, node_fields, point_fields, rows_of, scale_rows, share_fields, share_rows, shipment_name, table_fields, table_rows, tables_rows, tail_name, terminal_name, truck_fields, weight_fields}
 use Rattle.fp_lines.specs.Statements.{Statement}
-use Rattle.fp_lines.proofs.NamesBack.{arc-valid}
-use Rattle.fp_lines.proofs.NumbersBack.{large-back, number-back, time-back}
+use Rattle.fp_certificate.proofs.NamesBack.{arc-valid}
+use Rattle.fp_certificate.proofs.NumbersBack.{large-back, number-back, time-back}
 
 -- a byte of a name needs no quotes and is not stripped
 plain-letter : (b : ℕ) → is_name_byte b ≡ true → is_plain b ≡ true

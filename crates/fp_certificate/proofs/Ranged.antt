@@ -18,23 +18,23 @@ use Rattle.fp_lines.specs.declared.certificates.Answer.{Answer}
 use Rattle.fp_lines.specs.declared.certificates.Node.{Node}
 use Rattle.fp_lines.specs.declared.certificates.Node.TheVariants.{Branch}
 use Rattle.fp_lines.specs.declared.certificates.Node.TheVariants as node
-use Rattle.fp_lines.specs.declared.drafts.Draft.{Draft}
-use Rattle.fp_lines.specs.declared.groups.Group.TheVariants as group
-use Rattle.fp_lines.specs.declared.kinds.LineKind.{LineKind}
-use Rattle.fp_lines.specs.declared.kinds.LineKind.TheVariants.{Direct, Optimal, Unfinished, Infeasible, Scale, Leg, Truck, Point, Table, Share, Weight, ByArc, ByTime, Leaf, End}
-use Rattle.fp_lines.specs.Answers.{has_bad_scale, has_time, has_time_in_range, has_unfinished_digits, has_word, is_small, time_in}
-use Rattle.fp_lines.specs.Groups.{has_ended, is_misplaced}
-use Rattle.fp_lines.specs.Kinds.{kind_of}
-use Rattle.fp_lines.specs.Places.{lacks_arc, lacks_shipment, lacks_terminal}
-use Rattle.fp_lines.specs.Points.{point_in}
+use Rattle.fp_certificate.specs.declared.drafts.Draft.{Draft}
+use Rattle.fp_certificate.specs.declared.groups.Group.TheVariants as group
+use Rattle.fp_certificate.specs.declared.kinds.LineKind.{LineKind}
+use Rattle.fp_certificate.specs.declared.kinds.LineKind.TheVariants.{Direct, Optimal, Unfinished, Infeasible, Scale, Leg, Truck, Point, Table, Share, Weight, ByArc, ByTime, Leaf, End}
+use Rattle.fp_certificate.specs.Answers.{has_bad_scale, has_time, has_time_in_range, has_unfinished_digits, has_word, is_small, time_in}
+use Rattle.fp_certificate.specs.Groups.{has_ended, is_misplaced}
+use Rattle.fp_certificate.specs.Kinds.{kind_of}
+use Rattle.fp_certificate.specs.Places.{lacks_arc, lacks_shipment, lacks_terminal}
+use Rattle.fp_certificate.specs.Points.{point_in}
 use Rattle.fp_lines.specs.Ranges.{IsAnswerInRange, IsInRange, IsLegInRange, IsNodeInRange, IsPointInRange, IsScaleInRange, IsShareInRange, IsTruckInRange, IsWeightInRange}
-use Rattle.fp_lines.specs.Reading.{certificate_from, faults_of, finished, kind_code, line_code, nothing_read, with_kind, with_kind_of, with_line}
+use Rattle.fp_certificate.specs.Reading.{certificate_from, faults_of, finished, kind_code, line_code, nothing_read, with_kind, with_kind_of, with_line}
 use Rattle.fp_lines.specs.Statements.{Statement}
-use Rattle.fp_lines.specs.Tables.{and_share, and_weight, share_in, weight_in, with_last}
-use Rattle.fp_lines.specs.Timetables.{is_time, leg_in, truck_in}
-use Rattle.fp_lines.specs.Trees.{has_kind_word, has_leaf_digits, has_leaf_ranges, kind_in, leaf_in}
-use Rattle.fp_lines.proofs.LineRanges.{All-with_last, arc-there, in-time, shipment-there, small, terminal-there}
-use Rattle.fp_lines.proofs.TableCounts.{AreFewerThan, fewer-than, length-with_last, line-fewer}
+use Rattle.fp_certificate.specs.Tables.{and_share, and_weight, share_in, weight_in, with_last}
+use Rattle.fp_certificate.specs.Timetables.{is_time, leg_in, truck_in}
+use Rattle.fp_certificate.specs.Trees.{has_kind_word, has_leaf_digits, has_leaf_ranges, kind_in, leaf_in}
+use Rattle.fp_certificate.proofs.LineRanges.{All-with_last, arc-there, in-time, shipment-there, small, terminal-there}
+use Rattle.fp_certificate.proofs.TableCounts.{AreFewerThan, fewer-than, length-with_last, line-fewer}
 
 -- with another answer
 with-answer : (p : Problem) (c : Statement) (a : Answer) → IsAnswerInRange p a → IsInRange p c → IsInRange p (record c { answer = a })

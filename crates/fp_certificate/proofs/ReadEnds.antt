@@ -5,14 +5,14 @@ use Rattle.std.proofs.lemmas.List.{length-drop, take_rest}
 use Rattle.fp_model.specs.Problem.{Problem}
 use Rattle.fp_prices.specs.Tables.{AreCountable}
 use Rattle.fp_reader.specs.Input.{Fault}
-use Rattle.fp_lines.specs.declared.drafts.Draft.{Draft}
-use Rattle.fp_lines.specs.declared.faults.CertFault.{CertFault}
-use Rattle.fp_lines.specs.declared.faults.CertFault.TheVariants.{Bad, NoMemory}
-use Rattle.fp_lines.specs.Outcomes.{IsFirst}
+use Rattle.fp_certificate.specs.declared.drafts.Draft.{Draft}
+use Rattle.fp_certificate.specs.declared.faults.CertFault.{CertFault}
+use Rattle.fp_certificate.specs.declared.faults.CertFault.TheVariants.{Bad, NoMemory}
+use Rattle.fp_certificate.specs.Outcomes.{IsFirst}
 use Rattle.fp_lines.specs.Ranges.{IsInRange}
-use Rattle.fp_lines.specs.Reading.{certificate_from, certificate_of, finished, nothing_read}
+use Rattle.fp_certificate.specs.Reading.{certificate_from, certificate_of, finished, nothing_read}
 use Rattle.fp_lines.specs.Statements.{Statement}
-use Rattle.fp_lines.proofs.Ranged.{read-ranged}
+use Rattle.fp_certificate.proofs.Ranged.{read-ranged}
 
 -- the lines from a place on give what the draft of all of them ends with
 pub whole : (p q : Problem) (lines : List (List (List ℕ))) (from : ℕ) (d : Draft) → p ≡ q → from ≤ length lines

@@ -5,13 +5,13 @@ use Rattle.std.proofs.lemmas.List.{length_push}
 use Rattle.std.proofs.lemmas.List.Elements.{All-push, All-weaker}
 use Rattle.fp_model.specs.Problem.{Problem}
 use Rattle.fp_prices.specs.Shares.{ClassShare}
-use Rattle.fp_lines.specs.declared.drafts.Draft.{Draft}
-use Rattle.fp_lines.specs.declared.kinds.LineKind.{LineKind}
-use Rattle.fp_lines.specs.declared.kinds.LineKind.TheVariants.{Direct, Optimal, Unfinished, Infeasible, Scale, Leg, Truck, Point, Table, Share, Weight, ByArc, ByTime, Leaf, End}
-use Rattle.fp_lines.specs.Kinds.{kind_of}
-use Rattle.fp_lines.specs.Reading.{with_kind, with_kind_of, with_line}
-use Rattle.fp_lines.specs.Tables.{and_share, and_weight, share_in, weight_in, with_last}
-use Rattle.fp_lines.proofs.LineRanges.{All-with_last}
+use Rattle.fp_certificate.specs.declared.drafts.Draft.{Draft}
+use Rattle.fp_certificate.specs.declared.kinds.LineKind.{LineKind}
+use Rattle.fp_certificate.specs.declared.kinds.LineKind.TheVariants.{Direct, Optimal, Unfinished, Infeasible, Scale, Leg, Truck, Point, Table, Share, Weight, ByArc, ByTime, Leaf, End}
+use Rattle.fp_certificate.specs.Kinds.{kind_of}
+use Rattle.fp_certificate.specs.Reading.{with_kind, with_kind_of, with_line}
+use Rattle.fp_certificate.specs.Tables.{and_share, and_weight, share_in, weight_in, with_last}
+use Rattle.fp_certificate.proofs.LineRanges.{All-with_last}
 
 -- a changed last element keeps the length
 pub length-with_last : {A : Type 0} (f : A → A) (xs : List A) → length (with_last f xs) ≡ length xs

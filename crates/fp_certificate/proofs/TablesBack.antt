@@ -9,16 +9,16 @@ use Rattle.fp_model.specs.Problem.{IsValid, Problem}
 use Rattle.fp_prices.specs.declared.tables.Weight.{Weight}
 use Rattle.fp_prices.specs.Shares.{ClassShare}
 use Rattle.fp_records.specs.Fields.{is_empty}
-use Rattle.fp_lines.specs.declared.groups.Group.TheVariants as group
-use Rattle.fp_lines.specs.Groups.{is_forbidden}
+use Rattle.fp_certificate.specs.declared.groups.Group.TheVariants as group
+use Rattle.fp_certificate.specs.Groups.{is_forbidden}
 use Rattle.fp_lines.specs.Ranges.{IsShareInRange, IsWeightInRange}
 use Rattle.fp_lines.specs.Rows.{share_fields, share_rows, table_fields, tables_rows, weight_fields}
 use Rattle.fp_lines.specs.Statements.{Statement}
-use Rattle.fp_lines.specs.Tables.{and_share, and_weight, lacks_share, with_last}
-use Rattle.fp_lines.proofs.LinesBack.{share-step, table-step, weight-step}
-use Rattle.fp_lines.proofs.ListsBack.{Free}
-use Rattle.fp_lines.proofs.SegmentsBack.{ReadsTo, at, going, one-line, placed, segment}
-use Rattle.fp_lines.proofs.TableCounts.{length-with_last}
+use Rattle.fp_certificate.specs.Tables.{and_share, and_weight, lacks_share, with_last}
+use Rattle.fp_certificate.proofs.LinesBack.{share-step, table-step, weight-step}
+use Rattle.fp_certificate.proofs.ListsBack.{Free}
+use Rattle.fp_certificate.proofs.SegmentsBack.{ReadsTo, at, going, one-line, placed, segment}
+use Rattle.fp_certificate.proofs.TableCounts.{length-with_last}
 
 -- the last element of a list with one more
 with_last-push : {A : Type 0} (f : A → A) (xs : List A) (x : A) → with_last f (xs ++ (x ∷ [])) ≡ xs ++ (f x ∷ [])

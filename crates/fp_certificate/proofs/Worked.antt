@@ -2,7 +2,7 @@
 use Rattle.std.proofs.Common.{◌≡◌, ℕ, List, [], ◌∷◌, ◌++◌, refl}
 use Rattle.std.specs.Prelude.{Result, Ok, Err, codes}
 use Rattle.fp_reader.specs.Input.{Fault}
-use Rattle.fp_lines.specs.Reading.{certificate_of}
+use Rattle.fp_certificate.specs.Reading.{certificate_of}
 use Rattle.fp_lines.specs.Statements.{Statement}
 use Rattle.fp_lines.proofs.Worked.{answer, best, last, leaf, leg, records, small, truck, whole}
 

@@ -9,11 +9,11 @@ use Rattle.fp_lines.specs.declared.certificates.Answer.{Answer}
 use Rattle.fp_lines.specs.declared.certificates.Answer.TheVariants as answer
 use Rattle.fp_lines.specs.declared.certificates.Spent.{Spent}
 use Rattle.fp_lines.specs.declared.certificates.Spent.TheVariants.{Rounds, Branches}
-use Rattle.fp_lines.specs.declared.drafts.Draft.{Draft}
-use Rattle.fp_lines.specs.declared.groups.Group.TheVariants as group
-use Rattle.fp_lines.specs.Groups.{is_misplaced}
+use Rattle.fp_certificate.specs.declared.drafts.Draft.{Draft}
+use Rattle.fp_certificate.specs.declared.groups.Group.TheVariants as group
+use Rattle.fp_certificate.specs.Groups.{is_misplaced}
 use Rattle.fp_lines.specs.Ranges.{largest}
-use Rattle.fp_lines.specs.Places.{lacks_shipment, shipment_in}
+use Rattle.fp_certificate.specs.Places.{lacks_shipment, shipment_in}
 
 -- whether the number in the field at a place is no larger
 abbrev pub is_small : List (List ℕ) → ℕ → Bool

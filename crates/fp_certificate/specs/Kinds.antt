@@ -2,8 +2,8 @@
 use Rattle.std.specs.Prelude.{ℕ, List, if◌then◌else◌, Option, Some, None, codes}
 use Rattle.std.specs.Str.{bytes_eq}
 use Rattle.fp_reader.specs.Fields.{field, is_kind}
-use Rattle.fp_lines.specs.declared.kinds.LineKind.{LineKind}
-use Rattle.fp_lines.specs.declared.kinds.LineKind.TheVariants as kind
+use Rattle.fp_certificate.specs.declared.kinds.LineKind.{LineKind}
+use Rattle.fp_certificate.specs.declared.kinds.LineKind.TheVariants as kind
 
 -- the kind of an answer, told by its second field
 abbrev pub answer_kind : List ℕ → Option LineKind

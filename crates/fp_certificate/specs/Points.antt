@@ -4,11 +4,11 @@ use Rattle.fp_model.specs.Problem.{Problem}
 use Rattle.fp_reader.specs.Faults.{Finding, fault}
 use Rattle.fp_reader.specs.Fields.{has_number, is_between, number_at}
 use Rattle.fp_timenodes.specs.declared.places.AddedPoint.{AddedPoint}
-use Rattle.fp_lines.specs.declared.drafts.Draft.{Draft}
-use Rattle.fp_lines.specs.declared.groups.Group.TheVariants as group
-use Rattle.fp_lines.specs.Groups.{is_misplaced}
-use Rattle.fp_lines.specs.Places.{lacks_terminal, terminal_in}
-use Rattle.fp_lines.specs.Timetables.{is_time}
+use Rattle.fp_certificate.specs.declared.drafts.Draft.{Draft}
+use Rattle.fp_certificate.specs.declared.groups.Group.TheVariants as group
+use Rattle.fp_certificate.specs.Groups.{is_misplaced}
+use Rattle.fp_certificate.specs.Places.{lacks_terminal, terminal_in}
+use Rattle.fp_certificate.specs.Timetables.{is_time}
 
 -- the faults of `point,TERMINAL,TIME,ROUND`
 abbrev pub point_faults : Problem → Draft → List (List ℕ) → List Finding

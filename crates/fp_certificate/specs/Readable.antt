@@ -9,7 +9,7 @@ use Rattle.fp_records.specs.Text.{lines_of}
 use Rattle.fp_lines.specs.declared.certificates.Answer.{Answer}
 use Rattle.fp_lines.specs.declared.certificates.Answer.TheVariants.{Direct, Optimal, Unfinished, Infeasible}
 use Rattle.fp_lines.specs.Ranges.{IsInRange}
-use Rattle.fp_lines.specs.Reading.{certificate_of}
+use Rattle.fp_certificate.specs.Reading.{certificate_of}
 use Rattle.fp_lines.specs.Rows.{rows_of}
 use Rattle.fp_lines.specs.Statements.{Statement}
 

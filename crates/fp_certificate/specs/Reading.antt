@@ -5,17 +5,17 @@ use Rattle.fp_reader.specs.Faults.{Finding, first_code}
 use Rattle.fp_reader.specs.Fields.{number_at}
 use Rattle.fp_reader.specs.Input.{Fault, first_fault}
 use Rattle.fp_lines.specs.declared.certificates.Answer.TheVariants as answer
-use Rattle.fp_lines.specs.declared.drafts.Draft.{Draft}
-use Rattle.fp_lines.specs.declared.kinds.LineKind.{LineKind}
-use Rattle.fp_lines.specs.declared.kinds.LineKind.TheVariants.{Direct, Optimal, Unfinished, Infeasible, Scale, Leg, Truck, Point, Table, Share, Weight, ByArc, ByTime, Leaf, End}
-use Rattle.fp_lines.specs.Answers.{cost_faults, infeasible_faults, infeasible_in, scale_faults, unfinished_faults, unfinished_in, with_answer, with_scale}
-use Rattle.fp_lines.specs.Groups.{has_ended}
-use Rattle.fp_lines.specs.Kinds.{kind_of}
-use Rattle.fp_lines.specs.Points.{point_faults, point_in, with_point}
+use Rattle.fp_certificate.specs.declared.drafts.Draft.{Draft}
+use Rattle.fp_certificate.specs.declared.kinds.LineKind.{LineKind}
+use Rattle.fp_certificate.specs.declared.kinds.LineKind.TheVariants.{Direct, Optimal, Unfinished, Infeasible, Scale, Leg, Truck, Point, Table, Share, Weight, ByArc, ByTime, Leaf, End}
+use Rattle.fp_certificate.specs.Answers.{cost_faults, infeasible_faults, infeasible_in, scale_faults, unfinished_faults, unfinished_in, with_answer, with_scale}
+use Rattle.fp_certificate.specs.Groups.{has_ended}
+use Rattle.fp_certificate.specs.Kinds.{kind_of}
+use Rattle.fp_certificate.specs.Points.{point_faults, point_in, with_point}
 use Rattle.fp_lines.specs.Statements.{Statement}
-use Rattle.fp_lines.specs.Tables.{share_faults, share_in, table_faults, weight_faults, weight_in, with_share, with_table, with_weight}
-use Rattle.fp_lines.specs.Timetables.{leg_faults, leg_in, truck_faults, truck_in, with_leg, with_truck}
-use Rattle.fp_lines.specs.Trees.{by_arc_faults, by_arc_in, by_time_faults, by_time_in, end_faults, leaf_faults, leaf_in, with_end, with_node}
+use Rattle.fp_certificate.specs.Tables.{share_faults, share_in, table_faults, weight_faults, weight_in, with_share, with_table, with_weight}
+use Rattle.fp_certificate.specs.Timetables.{leg_faults, leg_in, truck_faults, truck_in, with_leg, with_truck}
+use Rattle.fp_certificate.specs.Trees.{by_arc_faults, by_arc_in, by_time_faults, by_time_in, end_faults, leaf_faults, leaf_in, with_end, with_node}
 
 -- nothing read yet; the answer stands for none
 abbrev pub nothing_read : Draft

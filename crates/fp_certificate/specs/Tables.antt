@@ -6,12 +6,12 @@ use Rattle.fp_prices.specs.Shares.{ClassShare}
 use Rattle.fp_reader.specs.Faults.{Finding, fault}
 use Rattle.fp_reader.specs.Fields.{has_number, number_at}
 use Rattle.fp_records.specs.Fields.{is_empty}
-use Rattle.fp_lines.specs.declared.drafts.Draft.{Draft}
-use Rattle.fp_lines.specs.declared.groups.Group.TheVariants as group
-use Rattle.fp_lines.specs.Answers.{is_small}
-use Rattle.fp_lines.specs.Groups.{is_misplaced}
-use Rattle.fp_lines.specs.Places.{arc_in, lacks_arc, lacks_shipment, shipment_in}
-use Rattle.fp_lines.specs.Timetables.{is_time}
+use Rattle.fp_certificate.specs.declared.drafts.Draft.{Draft}
+use Rattle.fp_certificate.specs.declared.groups.Group.TheVariants as group
+use Rattle.fp_certificate.specs.Answers.{is_small}
+use Rattle.fp_certificate.specs.Groups.{is_misplaced}
+use Rattle.fp_certificate.specs.Places.{arc_in, lacks_arc, lacks_shipment, shipment_in}
+use Rattle.fp_certificate.specs.Timetables.{is_time}
 
 -- a list with what a function makes of its last element
 abbrev pub with_last : {A : Type 0} → (A → A) → List A → List A

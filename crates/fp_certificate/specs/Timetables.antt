@@ -5,11 +5,11 @@ use Rattle.fp_reader.specs.Faults.{Finding, fault}
 use Rattle.fp_reader.specs.Fields.{has_number, is_between, number_at}
 use Rattle.fp_timetable.specs.declared.lines.LegLine.{LegLine}
 use Rattle.fp_timetable.specs.declared.lines.TruckLine.{TruckLine}
-use Rattle.fp_lines.specs.declared.drafts.Draft.{Draft}
-use Rattle.fp_lines.specs.declared.groups.Group.TheVariants as group
-use Rattle.fp_lines.specs.Answers.{is_small}
-use Rattle.fp_lines.specs.Groups.{is_misplaced}
-use Rattle.fp_lines.specs.Places.{arc_in, lacks_arc, lacks_shipment, shipment_in}
+use Rattle.fp_certificate.specs.declared.drafts.Draft.{Draft}
+use Rattle.fp_certificate.specs.declared.groups.Group.TheVariants as group
+use Rattle.fp_certificate.specs.Answers.{is_small}
+use Rattle.fp_certificate.specs.Groups.{is_misplaced}
+use Rattle.fp_certificate.specs.Places.{arc_in, lacks_arc, lacks_shipment, shipment_in}
 
 -- whether the field at a place is a time in range
 abbrev pub is_time : List (List ℕ) → ℕ → Bool

@@ -8,12 +8,12 @@ use Rattle.fp_reader.specs.Fields.{has_number, is_between, number_at}
 use Rattle.fp_tree.specs.declared.sides.Split.TheVariants.{ByArc, ByTime}
 use Rattle.fp_lines.specs.declared.certificates.Node.{Node}
 use Rattle.fp_lines.specs.declared.certificates.Node.TheVariants.{Branch, Leaf}
-use Rattle.fp_lines.specs.declared.drafts.Draft.{Draft}
-use Rattle.fp_lines.specs.declared.groups.Group.TheVariants as group
-use Rattle.fp_lines.specs.Answers.{has_word}
-use Rattle.fp_lines.specs.Groups.{is_misplaced}
-use Rattle.fp_lines.specs.Places.{arc_in, lacks_arc, lacks_shipment, lacks_terminal, shipment_in, terminal_in}
-use Rattle.fp_lines.specs.Timetables.{is_time}
+use Rattle.fp_certificate.specs.declared.drafts.Draft.{Draft}
+use Rattle.fp_certificate.specs.declared.groups.Group.TheVariants as group
+use Rattle.fp_certificate.specs.Answers.{has_word}
+use Rattle.fp_certificate.specs.Groups.{is_misplaced}
+use Rattle.fp_certificate.specs.Places.{arc_in, lacks_arc, lacks_shipment, lacks_terminal, shipment_in, terminal_in}
+use Rattle.fp_certificate.specs.Timetables.{is_time}
 
 -- the faults of `split,arc,SHIPMENT,FROM,TO`
 abbrev pub by_arc_faults : Problem → Draft → List (List ℕ) → List Finding

@@ -2,9 +2,9 @@
 ghost use Rattle.std.specs.Prelude.{◌≡◌, ◌<◌, false, Some, None, true, MatchOption, MatchResult};
 ghost use Rattle.fp_reader.specs.Faults.{first_code};
 ghost use Rattle.fp_reader.specs.Fields.{has_number, number_at};
-ghost use Rattle.fp_lines.specs.Answers.{cost_faults, has_time, has_time_in_range, has_unfinished_digits, infeasible_faults, infeasible_in, spent_in, time_in, unfinished_faults, unfinished_in, with_answer};
-ghost use Rattle.fp_lines.specs.Codes.{code_of};
-ghost use Rattle.fp_lines.specs.Outcomes.{IsLeast};
+ghost use Rattle.fp_certificate.specs.Answers.{cost_faults, has_time, has_time_in_range, has_unfinished_digits, infeasible_faults, infeasible_in, spent_in, time_in, unfinished_faults, unfinished_in, with_answer};
+ghost use Rattle.fp_certificate.specs.Codes.{code_of};
+ghost use Rattle.fp_certificate.specs.Outcomes.{IsLeast};
 ghost use Rattle.fp_lines.specs.declared.certificates.Answer.{Answer};
 
 use crate::drafts::Draft;

@@ -1,13 +1,13 @@
 // What the lines of a certificate have given so far.
 ghost use Rattle.std.specs.Prelude.{◌≡◌, ◌<◌, false, length, MatchResult, Ok, OnOk};
-ghost use Rattle.fp_lines.specs.Answers.{with_answer, with_scale};
-ghost use Rattle.fp_lines.specs.Groups.{has_ended, is_misplaced};
-ghost use Rattle.fp_lines.specs.Points.{with_point};
-ghost use Rattle.fp_lines.specs.Outcomes.{IsFirst};
-ghost use Rattle.fp_lines.specs.Reading.{finished, nothing_read};
-ghost use Rattle.fp_lines.specs.Tables.{lacks_share, with_share, with_table, with_weight};
-ghost use Rattle.fp_lines.specs.Timetables.{with_leg, with_truck};
-ghost use Rattle.fp_lines.specs.Trees.{with_end, with_node};
+ghost use Rattle.fp_certificate.specs.Answers.{with_answer, with_scale};
+ghost use Rattle.fp_certificate.specs.Groups.{has_ended, is_misplaced};
+ghost use Rattle.fp_certificate.specs.Points.{with_point};
+ghost use Rattle.fp_certificate.specs.Outcomes.{IsFirst};
+ghost use Rattle.fp_certificate.specs.Reading.{finished, nothing_read};
+ghost use Rattle.fp_certificate.specs.Tables.{lacks_share, with_share, with_table, with_weight};
+ghost use Rattle.fp_certificate.specs.Timetables.{with_leg, with_truck};
+ghost use Rattle.fp_certificate.specs.Trees.{with_end, with_node};
 
 use crate::NoMemory;
 use crate::faults::CertFault;

@@ -26,7 +26,7 @@ pub enum CertFault {
 
 impl From<AllocError> for CertFault {
     ghost use Rattle.std.specs.Prelude.{◌≡◌};
-    ghost use Rattle.fp_lines.specs.declared.faults.CertFault.TheVariants.{NoMemory};
+    ghost use Rattle.fp_certificate.specs.declared.faults.CertFault.TheVariants.{NoMemory};
 
     ghost from_gives = { λ _ e. e ≡ NoMemory };
 

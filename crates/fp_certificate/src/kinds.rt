@@ -1,6 +1,6 @@
 // The kinds of a certificate's lines.
 ghost use Rattle.std.specs.Prelude.{◌≡◌};
-ghost use Rattle.fp_lines.specs.Kinds.{answer_kind, kind_of, split_kind};
+ghost use Rattle.fp_certificate.specs.Kinds.{answer_kind, kind_of, split_kind};
 
 use fp_reader::fields::{field_at, is_of_kind};
 use fp_records::Record;

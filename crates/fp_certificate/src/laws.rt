@@ -2,7 +2,7 @@
 ghost use Rattle.std.specs.Prelude.{All};
 ghost use Rattle.fp_model.specs.declared.parts.Shipment.{Shipment};
 ghost use Rattle.fp_model.specs.Names.{IsName};
-ghost use Rattle.fp_lines.specs.Readable.{WrittenReadsBack};
+ghost use Rattle.fp_certificate.specs.Readable.{WrittenReadsBack};
 
 use fp_model::{Instance, Shipment};
 

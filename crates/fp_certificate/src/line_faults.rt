@@ -1,6 +1,6 @@
 // The faults that a line may have, and their codes.
 ghost use Rattle.std.specs.Prelude.{◌≡◌};
-ghost use Rattle.fp_lines.specs.Codes.{code_of};
+ghost use Rattle.fp_certificate.specs.Codes.{code_of};
 
 use std::alloc::AllocError;
 
@@ -51,7 +51,7 @@ pub enum AddFault {
 
 impl From<LineFault> for AddFault {
     ghost use Rattle.std.specs.Prelude.{◌≡◌};
-    ghost use Rattle.fp_lines.specs.declared.line_faults.AddFault.TheVariants as add;
+    ghost use Rattle.fp_certificate.specs.declared.line_faults.AddFault.TheVariants as add;
 
     ghost from_gives = { λ fault e. e ≡ add.Line fault };
 
@@ -62,7 +62,7 @@ impl From<LineFault> for AddFault {
 
 impl From<AllocError> for AddFault {
     ghost use Rattle.std.specs.Prelude.{◌≡◌};
-    ghost use Rattle.fp_lines.specs.declared.line_faults.AddFault.TheVariants.{NoMemory};
+    ghost use Rattle.fp_certificate.specs.declared.line_faults.AddFault.TheVariants.{NoMemory};
 
     ghost from_gives = { λ _ e. e ≡ NoMemory };
 

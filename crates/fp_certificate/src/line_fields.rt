@@ -1,9 +1,9 @@
 // The words, numbers and names in the fields of a line that is read.
 ghost use Rattle.std.specs.Prelude.{◌≡◌, true, false, MatchOption};
 ghost use Rattle.fp_reader.specs.Fields.{has_number, number_at};
-ghost use Rattle.fp_lines.specs.Answers.{has_word, is_small};
-ghost use Rattle.fp_lines.specs.Places.{arc_in, lacks_arc, lacks_shipment, lacks_terminal, shipment_in, terminal_in};
-ghost use Rattle.fp_lines.specs.Timetables.{is_time};
+ghost use Rattle.fp_certificate.specs.Answers.{has_word, is_small};
+ghost use Rattle.fp_certificate.specs.Places.{arc_in, lacks_arc, lacks_shipment, lacks_terminal, shipment_in, terminal_in};
+ghost use Rattle.fp_certificate.specs.Timetables.{is_time};
 
 use crate::lookups::Lookup;
 use fp_reader::digits::{number_between, short_between};

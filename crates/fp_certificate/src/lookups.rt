@@ -3,7 +3,7 @@ ghost use Rattle.std.specs.Prelude.{◌≡◌, ◌≢◌, ◌^◌, AllPairs, IfO
 ghost use Rattle.fp_model.specs.declared.parts.Shipment.{Shipment};
 ghost use Rattle.fp_model.specs.Problem.{EndsDiffer, weight_at};
 ghost use Rattle.fp_reader.specs.Drafts.{ends_in, names_of};
-ghost use Rattle.fp_lines.specs.Places.{arc_between, arc_named, shipment_named, terminal_named};
+ghost use Rattle.fp_certificate.specs.Places.{arc_between, arc_named, shipment_named, terminal_named};
 
 use crate::NoMemory;
 use fp_model::{Arc, Instance, Name, Shipment};
@@ -23,7 +23,7 @@ pub struct Lookup<'a> {
 
 impl<'a> Model for Lookup<'a> {
     ghost use Rattle.fp_model.specs.Problem.{Problem};
-    ghost use Rattle.fp_lines.specs.Indexes.{IsIndexed};
+    ghost use Rattle.fp_certificate.specs.Indexes.{IsIndexed};
 
     ghost Value = { Problem };
 

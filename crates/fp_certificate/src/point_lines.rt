@@ -2,9 +2,9 @@
 ghost use Rattle.std.specs.Prelude.{◌≡◌, ◌<◌, false, ◌&&◌, Some, None, true, MatchOption, MatchResult};
 ghost use Rattle.fp_reader.specs.Faults.{first_code};
 ghost use Rattle.fp_reader.specs.Fields.{has_number, is_between, number_at};
-ghost use Rattle.fp_lines.specs.Codes.{code_of};
-ghost use Rattle.fp_lines.specs.Outcomes.{IsLeast};
-ghost use Rattle.fp_lines.specs.Points.{point_faults, point_in, with_point};
+ghost use Rattle.fp_certificate.specs.Codes.{code_of};
+ghost use Rattle.fp_certificate.specs.Outcomes.{IsLeast};
+ghost use Rattle.fp_certificate.specs.Points.{point_faults, point_in, with_point};
 
 use crate::drafts::Draft;
 use crate::groups::Group;

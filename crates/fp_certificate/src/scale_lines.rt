@@ -2,9 +2,9 @@
 ghost use Rattle.std.specs.Prelude.{◌≡◌, false, Some, None, true, MatchOption, MatchResult};
 ghost use Rattle.fp_reader.specs.Faults.{first_code};
 ghost use Rattle.fp_reader.specs.Fields.{has_number, number_at};
-ghost use Rattle.fp_lines.specs.Answers.{has_bad_scale, scale_faults, with_scale};
-ghost use Rattle.fp_lines.specs.Codes.{code_of};
-ghost use Rattle.fp_lines.specs.Outcomes.{IsLeast};
+ghost use Rattle.fp_certificate.specs.Answers.{has_bad_scale, scale_faults, with_scale};
+ghost use Rattle.fp_certificate.specs.Codes.{code_of};
+ghost use Rattle.fp_certificate.specs.Outcomes.{IsLeast};
 
 use crate::drafts::Draft;
 use crate::groups::Group;

@@ -3,9 +3,9 @@ ghost use Rattle.std.specs.Prelude.{◌≡◌, ◌<◌, Some, None, MatchResult}
 ghost use Rattle.fp_reader.specs.Faults.{first_code};
 ghost use Rattle.fp_reader.specs.Fields.{has_number};
 ghost use Rattle.fp_tree.specs.declared.sides.Split.TheVariants.{ByArc, ByTime};
-ghost use Rattle.fp_lines.specs.Codes.{code_of};
-ghost use Rattle.fp_lines.specs.Outcomes.{IsLeast};
-ghost use Rattle.fp_lines.specs.Trees.{by_arc_faults, by_arc_in, by_time_faults, by_time_in, with_node};
+ghost use Rattle.fp_certificate.specs.Codes.{code_of};
+ghost use Rattle.fp_certificate.specs.Outcomes.{IsLeast};
+ghost use Rattle.fp_certificate.specs.Trees.{by_arc_faults, by_arc_in, by_time_faults, by_time_in, with_node};
 
 use crate::drafts::Draft;
 use crate::groups::Group;

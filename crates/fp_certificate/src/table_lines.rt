@@ -2,9 +2,9 @@
 ghost use Rattle.std.specs.Prelude.{◌≡◌, ◌+◌, ◌==◌, Some, None, true, length, MatchResult};
 ghost use Rattle.fp_reader.specs.Faults.{first_code};
 ghost use Rattle.fp_reader.specs.Fields.{has_number, number_at};
-ghost use Rattle.fp_lines.specs.Codes.{code_of};
-ghost use Rattle.fp_lines.specs.Outcomes.{IsLeast};
-ghost use Rattle.fp_lines.specs.Tables.{table_faults, with_table};
+ghost use Rattle.fp_certificate.specs.Codes.{code_of};
+ghost use Rattle.fp_certificate.specs.Outcomes.{IsLeast};
+ghost use Rattle.fp_certificate.specs.Tables.{table_faults, with_table};
 
 use crate::drafts::Draft;
 use crate::groups::Group;

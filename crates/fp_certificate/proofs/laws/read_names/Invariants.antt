@@ -1,7 +1,7 @@
 use Rattle.std.proofs.Common.{◌<◌, ℕ, get_or}
 use Rattle.fp_model.specs.declared.parts.Shipment.{Shipment}
 use Rattle.fp_model.specs.Names.{IsName}
-use Rattle.fp_lines.proofs.laws.read_names.Given as goal
+use Rattle.fp_certificate.proofs.laws.read_names.Given as goal
 
 -- the shipments so far have names
 abbrev pub invariant-loop-shipment : goal.invariant-loop-shipment

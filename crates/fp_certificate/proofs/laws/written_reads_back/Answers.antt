@@ -1,6 +1,6 @@
-use Rattle.fp_lines.specs.Readable.{HaveNames}
-use Rattle.fp_lines.proofs.WrittenBack.{written-back}
-use Rattle.fp_lines.proofs.laws.written_reads_back.Goals as goal
+use Rattle.fp_certificate.specs.Readable.{HaveNames}
+use Rattle.fp_certificate.proofs.WrittenBack.{written-back}
+use Rattle.fp_certificate.proofs.laws.written_reads_back.Goals as goal
 
 pub returns : goal.returns
 returns c =

@@ -1,6 +1,6 @@
 use Rattle.std.proofs.Common.{◌∙◌}
-use Rattle.fp_lines.proofs.Differing.{ends-after}
-use Rattle.fp_lines.proofs.lookups.arc_ends.Goals as goal
+use Rattle.fp_certificate.proofs.Differing.{ends-after}
+use Rattle.fp_certificate.proofs.lookups.arc_ends.Goals as goal
 
 pub loop-arc-preserved : goal.loop-arc-preserved
 loop-arc-preserved c =

@@ -1,5 +1,5 @@
-use Rattle.fp_lines.proofs.Differing.{fresh-name}
-use Rattle.fp_lines.proofs.lookups.terminal_names.Goals as goal
+use Rattle.fp_certificate.proofs.Differing.{fresh-name}
+use Rattle.fp_certificate.proofs.lookups.terminal_names.Goals as goal
 
 pub add-requires : goal.add-requires
 add-requires c =

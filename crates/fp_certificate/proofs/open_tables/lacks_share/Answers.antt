@@ -3,8 +3,8 @@ use Rattle.std.specs.Prelude.{◌==◌, vec_len}
 use Rattle.std.proofs.lemmas.Option.{get_or_from_slice_get, slice_get_within}
 use Rattle.fp_prices.specs.Shares.{ClassShare}
 use Rattle.fp_records.specs.Fields.{is_empty}
-use Rattle.fp_lines.proofs.LastElements.{lacks_share-last}
-use Rattle.fp_lines.proofs.open_tables.lacks_share.Goals as goal
+use Rattle.fp_certificate.proofs.LastElements.{lacks_share-last}
+use Rattle.fp_certificate.proofs.open_tables.lacks_share.Goals as goal
 
 pub returns-in-Some : goal.returns-in-Some
 returns-in-Some c =

@@ -1,9 +1,9 @@
 use Rattle.std.proofs.Common.{◌∙◌, ◌-◌, List, [], ◌∷◌, ◌++◌, length, ap}
 use Rattle.std.proofs.Math.ListN.{set}
 use Rattle.fp_prices.specs.Shares.{ClassShare}
-use Rattle.fp_lines.specs.Tables.{and_share}
-use Rattle.fp_lines.proofs.LastElements.{with_last-set}
-use Rattle.fp_lines.proofs.open_tables.push_share.Goals as goal
+use Rattle.fp_certificate.specs.Tables.{and_share}
+use Rattle.fp_certificate.proofs.LastElements.{with_last-set}
+use Rattle.fp_certificate.proofs.open_tables.push_share.Goals as goal
 
 pub returns : goal.returns
 returns c =

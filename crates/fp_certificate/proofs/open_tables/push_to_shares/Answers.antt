@@ -1,6 +1,6 @@
-use Rattle.fp_lines.specs.Tables.{and_weight}
-use Rattle.fp_lines.proofs.LastElements.{made-last}
-use Rattle.fp_lines.proofs.open_tables.push_to_shares.Goals as goal
+use Rattle.fp_certificate.specs.Tables.{and_weight}
+use Rattle.fp_certificate.proofs.LastElements.{made-last}
+use Rattle.fp_certificate.proofs.open_tables.push_to_shares.Goals as goal
 
 pub returns : goal.returns
 returns c =

@@ -1,6 +1,6 @@
-use Rattle.fp_lines.specs.Tables.{and_weight, with_last}
-use Rattle.fp_lines.proofs.LastElements.{has-share, has-table, made-last}
-use Rattle.fp_lines.proofs.open_tables.push_weight.Goals as goal
+use Rattle.fp_certificate.specs.Tables.{and_weight, with_last}
+use Rattle.fp_certificate.proofs.LastElements.{has-share, has-table, made-last}
+use Rattle.fp_certificate.proofs.open_tables.push_weight.Goals as goal
 
 pub push_to_table-requires : goal.push_to_table-requires
 push_to_table-requires c = has-share c.args.tables.now c.index-tables-last.result c.requires

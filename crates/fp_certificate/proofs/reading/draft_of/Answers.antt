@@ -1,9 +1,9 @@
 use Rattle.std.proofs.Common.{◌≡◌, ◌∙◌, ◌+◌, ◌≤◌, ℕ, sym, ap, drop, arith}
-use Rattle.fp_lines.specs.declared.drafts.Draft.{Draft}
-use Rattle.fp_lines.specs.Reading.{certificate_from, with_line}
-use Rattle.fp_lines.proofs.Ranged.{read-on}
-use Rattle.fp_lines.proofs.TableCounts.{line-count, table_count}
-use Rattle.fp_lines.proofs.reading.draft_of.Goals as goal
+use Rattle.fp_certificate.specs.declared.drafts.Draft.{Draft}
+use Rattle.fp_certificate.specs.Reading.{certificate_from, with_line}
+use Rattle.fp_certificate.proofs.Ranged.{read-on}
+use Rattle.fp_certificate.proofs.TableCounts.{line-count, table_count}
+use Rattle.fp_certificate.proofs.reading.draft_of.Goals as goal
 
 pub loop-place-preserved : goal.loop-place-preserved
 loop-place-preserved c =

@@ -1,6 +1,6 @@
 use Rattle.std.proofs.Common.{◌≡◌, ◌≤◌, ◌+◌, drop, length}
-use Rattle.fp_lines.specs.Reading.{certificate_from, nothing_read}
-use Rattle.fp_lines.proofs.reading.draft_of.Given as goal
+use Rattle.fp_certificate.specs.Reading.{certificate_from, nothing_read}
+use Rattle.fp_certificate.proofs.reading.draft_of.Given as goal
 
 -- the lines that are left decide, and there are no more tables than lines so far
 abbrev pub invariant-loop-place : goal.invariant-loop-place

@@ -1,8 +1,8 @@
 use Rattle.std.proofs.Common.{◌+◌, ◌-◌, ◌^◌, ◌<◌, ℕ, List, drop, length, arith}
 use Rattle.std.proofs.lemmas.List.{length-drop}
-use Rattle.fp_lines.specs.Reading.{certificate_of, finished}
-use Rattle.fp_lines.proofs.ReadEnds.{counts, gives, ranges, tells, whole}
-use Rattle.fp_lines.proofs.reading.read.Goals as goal
+use Rattle.fp_certificate.specs.Reading.{certificate_of, finished}
+use Rattle.fp_certificate.proofs.ReadEnds.{counts, gives, ranges, tells, whole}
+use Rattle.fp_certificate.proofs.reading.read.Goals as goal
 
 pub returns-clause-read : goal.returns-clause-read
 returns-clause-read c =

@@ -5,7 +5,7 @@ use Rattle.fp_model.specs.Problem.{Problem}
 use Rattle.fp_reader.specs.Faults.{joins}
 use Rattle.fp_reader.proofs.Indexes.{same_ends}
 use Rattle.fp_reader.proofs.Places.{position-map}
-use Rattle.fp_lines.proofs.lookups.Lookup.arc_between.Goals as goal
+use Rattle.fp_certificate.proofs.lookups.Lookup.arc_between.Goals as goal
 
 pub returns-in_err-number : goal.returns-in_err-number
 returns-in_err-number c =
