@@ -1,4 +1,3 @@
 pub mod OneTable
 pub mod Verdicts
-pub mod Counted
 pub mod Ends

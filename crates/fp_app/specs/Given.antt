@@ -1,8 +1,10 @@
 -- An instance and a certificate of an input, or why there are none.
 use Rattle.std.specs.Prelude.{ℕ, ◌+◌, ◌≡◌, List, drop, Some, Ok, Err, ⊤}
 use Rattle.fp_model.specs.Problem.{Problem}
-use Rattle.fp_certificate.specs.Reading.{certificate_of}
+use Rattle.fp_prices.specs.Tables.{AreCountable}
 use Rattle.fp_lines.specs.Ranges.{IsInRange}
+use Rattle.fp_lines.specs.Statements.{Statement}
+use Rattle.fp_certificate.specs.Reading.{certificate_of}
 use Rattle.fp_app.specs.declared.checks.Given.{Given}
 use Rattle.fp_app.specs.declared.checks.Given.TheVariants.{Both, Fault}
 use Rattle.fp_app.specs.declared.words.Order.TheVariants.{Check}
@@ -18,7 +20,11 @@ abbrev pub AreRead : Problem → ℕ → List (List (List ℕ)) → Given → Ty
 AreRead p used records (Both q c) = (q ≡ p) × (certificate_of p (used + 1) (drop used records) ≡ Ok c)
 AreRead p used records (Fault ordinal code) = certificate_of p (used + 1) (drop used records) ≡ Err (record { ordinal = ordinal; code = code })
 
--- the certificate is in range for the instance
-abbrev pub AreInRange : Given → Type 0
-AreInRange (Both p c) = IsInRange p c
-AreInRange (Fault ordinal code) = ⊤
+-- the certificate can be checked for the instance: it is in range, and its tables can be counted
+abbrev pub CanBeChecked : Problem → Statement → Type 0
+CanBeChecked p c = IsInRange p c × AreCountable p c.tables
+
+-- the certificate can be checked for the instance, where there is one
+abbrev pub AreCheckable : Given → Type 0
+AreCheckable (Both p c) = CanBeChecked p c
+AreCheckable (Fault ordinal code) = ⊤

@@ -1,8 +1,7 @@
 // What `check` shows.
 ghost use Rattle.std.specs.Prelude.{ℕ, ◌≡◌, ◌-◌, ◌<◌, ◌≤◌, ◌^◌, drop, length, IfOk};
-ghost use Rattle.fp_lines.specs.Ranges.{IsInRange};
 ghost use Rattle.fp_app.specs.Checks.{ShowsCheck, kind_of, scale_of, scaled};
-ghost use Rattle.fp_app.specs.Given.{AreGiven, AreInRange, AreRead};
+ghost use Rattle.fp_app.specs.Given.{AreCheckable, AreGiven, AreRead, CanBeChecked};
 ghost use Rattle.fp_app.specs.Inputs.{OfCertificate};
 ghost use Rattle.fp_app.specs.Shown.{IsPrintable};
 
@@ -50,7 +49,7 @@ pub fn check_shown(alloc: Global, bytes: Vec<u8>) -> Result<Shown, NoMemory>
 fn read_both(alloc: Global, bytes: Vec<u8>) -> Result<Given, NoMemory>
     requires { length bytes.items ≤ 134217728 }
     ensures given { IfOk result (AreGiven bytes.items) }
-    ensures range { IfOk result AreInRange }
+    ensures checkable { IfOk result AreCheckable }
 {
     let lines = records(alloc, &bytes)?;
     drop(bytes);
@@ -71,7 +70,7 @@ fn read_certificate(
     requires used { used ≤ length lines.now }
     requires few { length lines.now < 2 ^ 32 - 1 }
     ensures read { IfOk result (AreRead instance used lines.now) }
-    ensures range { IfOk result AreInRange }
+    ensures checkable { IfOk result AreCheckable }
 {
     match read(alloc, &instance, lines, used) {
         Ok(certificate) => Ok(Given::Both {
@@ -85,7 +84,7 @@ fn read_certificate(
 
 // Whether a certificate is accepted for an instance at its scale.
 fn verdict(alloc: Global, instance: Instance, certificate: &Certificate) -> Result<Shown, NoMemory>
-    requires { IsInRange instance certificate.now }
+    requires { CanBeChecked instance certificate.now }
     ensures shown { IfOk result (ShowsCheck (scaled instance certificate.now) certificate.now) }
     ensures printable { IfOk result IsPrintable }
 {
