@@ -1,6 +1,6 @@
 -- Each walk in the graph of the points, from a point to the last one of a terminal, is an allowed timed walk at the same cost once
 -- the waiting is left out.
-use Rattle.std.proofs.Common.{◌≡◌, ℕ, zero, suc, ◌+◌, ◌-◌, ◌*◌, ◌<◌, ◌≤◌, true, false, Bool, List, [], ◌∷◌, length, get_or, ⊎_elim, ap, sym, ◌∙◌, subst, refl, arith}
+use Rattle.std.proofs.Common.{◌≡◌, ℕ, ◌+◌, ◌-◌, ◌*◌, ◌<◌, ◌≤◌, true, false, Bool, List, [], ◌∷◌, length, get_or, ⊎_elim, ap, sym, ◌∙◌, subst, refl, arith}
 use Rattle.std.specs.Prelude.{Option, Some, None, IsSome, unwrap_or, if◌then◌else◌}
 use Rattle.std.specs.List.{AllByRecursion}
 use Rattle.std.proofs.lemmas.Bool.{cases_Bool, cond-true, cond-false, false≢true}
@@ -11,13 +11,13 @@ use Rattle.fp_labels.specs.Walks.{IsOpen, cost_of, Leads as LeadsOver, walk_cost
 use Rattle.fp_model.specs.declared.parts.Leg.{Leg}
 use Rattle.fp_model.specs.Problem.{Problem, arc_at}
 use Rattle.fp_model.specs.Routes.{Leads, arcs_of}
-use Rattle.fp_longestarcs.specs.Ascending.{ArePoints, place_of}
+use Rattle.fp_longestarcs.specs.Ascending.{place_of}
 use Rattle.fp_longestarcs.specs.Classes.{head_of}
 use Rattle.fp_longestarcs.specs.Networks.{TimedNetwork, IsClass, class_count, class_number, points_in}
 use Rattle.fp_longestarcs.proofs.Grown.{points-of}
 use Rattle.fp_allowed.specs.Walks.{FollowsHeads}
 use Rattle.fp_prices.specs.Leaves.{walk_cost}
-use Rattle.fp_prices.specs.Points.{class_edge, edges_of, first_node, last_node, next_edge, point_node}
+use Rattle.fp_prices.specs.Points.{class_edge, edges_of, first_node, last_node}
 use Rattle.fp_prices.proofs.GraphWalks.{AreCosts}
 use Rattle.fp_prices.proofs.Nodes.{first-point, node-unique}
 use Rattle.fp_prices.proofs.PointEdges.{IsHolding, Joins, class-joins, edge-cases, edge-of-class}

@@ -1,16 +1,16 @@
 -- Walks in the graph of a network's points, and waiting at a terminal.
-use Rattle.std.proofs.Common.{◌≡◌, ℕ, zero, suc, ◌+◌, ◌*◌, ◌<◌, ◌≤◌, true, false, Bool, List, [], ◌∷◌, length, ap, sym, ◌∙◌, subst, refl, arith}
-use Rattle.std.specs.Prelude.{Option, Some, None, IsSome, unwrap_or}
+use Rattle.std.proofs.Common.{◌≡◌, ℕ, zero, suc, ◌+◌, ◌<◌, Bool, List, ◌∷◌, length, ap, sym, ◌∙◌, subst, refl, arith}
+use Rattle.std.specs.Prelude.{Option, Some, IsSome, unwrap_or}
 use Rattle.std.proofs.lemmas.List.Sums.{sum_by-cons}
 use Rattle.fp_labels.specs.declared.graphs.Edge.{Edge}
 use Rattle.fp_labels.specs.Graphs.{edge_at}
-use Rattle.fp_labels.specs.Walks.{Leads, IsOpen, IsWalk, cost_of, walk_cost}
+use Rattle.fp_labels.specs.Walks.{IsWalk, cost_of, walk_cost}
 use Rattle.fp_model.specs.declared.parts.Leg.{Leg}
 use Rattle.fp_model.specs.Problem.{Problem, IsValid}
 use Rattle.fp_longestarcs.specs.Networks.{TimedNetwork, class_count, points_in}
 use Rattle.fp_longestarcs.specs.Whole.{IsWhole}
 use Rattle.fp_prices.specs.ClassCosts.{AllowsClasses, HoldsClassCosts, IsFree}
-use Rattle.fp_prices.specs.Points.{edges_of, first_node, next_edge}
+use Rattle.fp_prices.specs.Points.{edges_of, first_node}
 use Rattle.fp_prices.proofs.PointEdges.{holding-edge}
 
 -- costs of all edges of the graph of a whole network, for a shipment of a size

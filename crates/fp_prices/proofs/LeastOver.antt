@@ -1,6 +1,6 @@
 -- The distance in the graph of the points, from the origin's first point to the destination's last, is the least cost over the
 -- allowed timed walks of a shipment; and it is small.
-use Rattle.std.proofs.Common.{◌≡◌, ◌≢◌, ℕ, zero, suc, ◌+◌, ◌-◌, ◌*◌, ◌<◌, ◌≤◌, true, false, Bool, List, [], ◌∷◌, length, get_or, map, replicate, ⊎_elim, ap, sym, ◌∙◌, subst, refl, arith}
+use Rattle.std.proofs.Common.{◌≡◌, ℕ, ◌+◌, ◌*◌, ◌<◌, ◌≤◌, Bool, List, [], ◌∷◌, length, get_or, replicate, ⊎_elim, sym, subst, refl, arith}
 use Rattle.std.specs.Prelude.{All, Option, Some, None, IfSome, unwrap_or}
 use Rattle.std.specs.List.{AllByRecursion, sum_by}
 use Rattle.std.proofs.Math.Nat.{mul-le-mul_right}
@@ -16,7 +16,7 @@ use Rattle.fp_model.specs.declared.parts.Shipment.{Shipment}
 use Rattle.fp_model.specs.Problem.{Problem}
 use Rattle.fp_model.proofs.Bounds.{sum_by-places-le}
 use Rattle.fp_model.proofs.Sums.{each-weaker}
-use Rattle.fp_longestarcs.specs.Networks.{TimedNetwork, point_count, points_in}
+use Rattle.fp_longestarcs.specs.Networks.{TimedNetwork, points_in}
 use Rattle.fp_longestarcs.proofs.Grown.{points-of}
 use Rattle.fp_allowed.specs.Walks.{FollowsHeads, IsTimedWalk}
 use Rattle.fp_prices.specs.ClassCosts.{IsLeastOver}
@@ -60,8 +60,8 @@ least-over p net allowed price costs s are from to (Some n) least =
       timed = record { leads = timed.leads; allowed_all = timed.allowed_all; follows = timed.follows };
       cost = timed.costs_so;
       least = λ other is.
-      let goes = shipment-goes p net allowed price costs s are from other is in
-      subst (λ (m : ℕ). n ≤ m) goes.1.costs_so (least.least goes.0 goes.1.leads goes.1.open_edges);
+          let goes = shipment-goes p net allowed price costs s are from other is in
+          subst (λ (m : ℕ). n ≤ m) goes.1.costs_so (least.least goes.0 goes.1.leads goes.1.open_edges);
     }
 
 -- numbers below n that are all different are at most n

@@ -3,7 +3,7 @@ use Rattle.std.proofs.Common.{◌≡◌, ℕ, zero, suc, ◌+◌, ◌-◌, ◌<�
 use Rattle.std.proofs.lemmas.Bool.{cases_order}
 use Rattle.std.proofs.lemmas.List.Sums.{sum_by_more, sum_by-take-le}
 use Rattle.fp_longestarcs.specs.Ascending.{ArePoints, place_of}
-use Rattle.fp_longestarcs.specs.Networks.{TimedNetwork, IsNetwork, point_count, points_in}
+use Rattle.fp_longestarcs.specs.Networks.{TimedNetwork, point_count, points_in}
 use Rattle.fp_longestarcs.proofs.Places.{at-place, place-is}
 use Rattle.fp_prices.specs.Points.{first_node}
 

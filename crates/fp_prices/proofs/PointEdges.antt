@@ -1,6 +1,5 @@
 -- The edges of the graph of a network's points, by their numbers.
-use Rattle.std.proofs.Common.{◌≡◌, ℕ, zero, suc, ◌+◌, ◌-◌, ◌<◌, ◌≤◌, ◌⊎◌, ⊎_elim, inl, inr, List, [], ◌∷◌, ◌++◌, length, get_or, take, map, sym, ap, ◌∙◌, subst, arith, length-append}
-use Rattle.std.specs.List.{range_with_len}
+use Rattle.std.proofs.Common.{◌≡◌, ℕ, zero, suc, ◌+◌, ◌-◌, ◌<◌, ◌≤◌, ◌⊎◌, ⊎_elim, inl, inr, List, ◌++◌, length, get_or, sym, ap, ◌∙◌, subst, arith, length-append}
 use Rattle.std.proofs.lemmas.Bool.{cases_lt}
 use Rattle.std.proofs.lemmas.List.{get_or_append_left, get_or-append_right, get_or-append-add, get_or_default, take_all}
 use Rattle.std.proofs.lemmas.List.FromFn.{length-map-range_with_len, get_or-map-range_with_len}
@@ -20,7 +19,7 @@ use Rattle.fp_longestarcs.proofs.Places.{at-place}
 use Rattle.fp_longestarcs.proofs.Shorter.{head-within}
 use Rattle.fp_allowed.specs.Listing.{class_at}
 use Rattle.fp_allowed.proofs.ListedClasses.{class_at-number, class_by, class_by-is, class_by-number}
-use Rattle.fp_prices.specs.Points.{class_edge, class_edges, edges_of, first_node, holding_at, holding_below, next_edge, point_node}
+use Rattle.fp_prices.specs.Points.{class_edge, class_edges, edges_of, first_node, holding_at, holding_below, next_edge}
 use Rattle.fp_prices.proofs.Nodes.{nodes-more, nodes-within, node-within}
 
 -- a class has each number below their count
@@ -142,7 +141,7 @@ edge-cases p net e valid h =
     inr (
       late,
       subst (IsHolding net) (sym (get_or-append_right (class_edges p net) holding (class_count net) e no_edge (length-class_edges p net) late))
-      (are-holding net (length net.points) (e - class_count net) (omega arith) (omega (arith, h, late, length-edges p net))),
+          (are-holding net (length net.points) (e - class_count net) (omega arith) (omega (arith, h, late, length-edges p net))),
     ))
     (cases_lt e (class_count net))
 

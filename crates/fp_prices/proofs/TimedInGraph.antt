@@ -1,14 +1,13 @@
 -- Each allowed timed walk goes in the graph of the points, with waiting between its classes, at the same cost.
-use Rattle.std.proofs.Common.{◌≡◌, ℕ, zero, suc, ◌+◌, ◌-◌, ◌*◌, ◌<◌, ◌≤◌, true, false, Bool, List, [], ◌∷◌, length, get_or, ⊎_elim, ap, sym, ◌∙◌, subst, refl, arith}
-use Rattle.std.specs.Prelude.{Option, Some, None, if◌then◌else◌}
-use Rattle.std.specs.List.{AllByRecursion, AllPairs}
+use Rattle.std.proofs.Common.{◌≡◌, ℕ, ◌+◌, ◌-◌, ◌*◌, ◌<◌, ◌≤◌, true, Bool, List, [], ◌∷◌, length, get_or, ⊎_elim, ap, sym, ◌∙◌, subst, refl, arith}
+use Rattle.std.specs.Prelude.{Option, Some, None}
+use Rattle.std.specs.List.{AllByRecursion}
 use Rattle.std.proofs.lemmas.Bool.{cases_lt, cond-true}
 use Rattle.std.proofs.lemmas.List.Sums.{sum_by-cons}
 use Rattle.fp_labels.specs.declared.graphs.Edge.{Edge}
 use Rattle.fp_labels.specs.Graphs.{edge_at}
 use Rattle.fp_labels.specs.Walks.{cost_of}
 use Rattle.fp_model.specs.declared.parts.Leg.{Leg}
-use Rattle.fp_model.specs.declared.parts.Shipment.{Shipment}
 use Rattle.fp_model.specs.Problem.{Problem, arc_at}
 use Rattle.fp_model.specs.Routes.{Leads, arcs_of}
 use Rattle.fp_longestarcs.specs.Ascending.{ArePoints, place_of}
@@ -16,11 +15,10 @@ use Rattle.fp_longestarcs.specs.Classes.{head_of}
 use Rattle.fp_longestarcs.specs.Networks.{TimedNetwork, IsClass, class_number, points_in}
 use Rattle.fp_longestarcs.proofs.ClassNumbers.{number-within}
 use Rattle.fp_longestarcs.proofs.Grown.{points-of}
-use Rattle.fp_allowed.specs.Walks.{FollowsHeads, IsTimedWalk}
+use Rattle.fp_allowed.specs.Walks.{FollowsHeads}
 use Rattle.fp_prices.specs.Leaves.{walk_cost}
 use Rattle.fp_prices.specs.Points.{class_edge, edges_of, first_node, last_node}
 use Rattle.fp_prices.proofs.GraphWalks.{AreCosts, Goes, goes-first, goes-later}
-use Rattle.fp_prices.proofs.Nodes.{first-point}
 use Rattle.fp_prices.proofs.PointEdges.{Joins, class-joins, edge-of-class, length-edges}
 
 -- an earlier one of ascending points has the earlier place

@@ -1,5 +1,5 @@
 -- What is kept of the graph of a network's points.
-use Rattle.std.specs.Prelude.{ℕ, ◌≡◌, ◌≤◌, length}
+use Rattle.std.specs.Prelude.{◌≡◌, ◌≤◌, length}
 use Rattle.fp_model.specs.Problem.{Problem}
 use Rattle.fp_longestarcs.specs.Networks.{TimedNetwork, point_count}
 use Rattle.fp_longestarcs.specs.Whole.{IsWhole}

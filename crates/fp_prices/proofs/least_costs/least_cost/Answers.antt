@@ -1,5 +1,5 @@
 -- The search begins at the origin's first node and ends at the destination's last.
-use Rattle.std.proofs.Common.{◌≡◌, ℕ, ◌+◌, ◌-◌, ◌*◌, ◌<◌, ◌≤◌, List, length, get_or, sym, ap, ◌∙◌, subst, arith}
+use Rattle.std.proofs.Common.{◌≡◌, ℕ, ◌-◌, ◌*◌, ◌<◌, ◌≤◌, List, length, get_or, sym, ap, ◌∙◌, subst, arith}
 use Rattle.std.specs.Prelude.{All, Option, Some, None, IfSome}
 use Rattle.std.proofs.lemmas.List.{get_or_read}
 use Rattle.fp_labels.specs.Graphs.{HasEnds, Shape}
@@ -56,10 +56,10 @@ found : (p : Problem) (net : TimedNetwork) (graph : Shape) (costs : List (Option
     AreLabels graph costs start labels → start ≡ first_node net s.from → end ≡ last_node net s.to → last_node net s.to < point_count net → o ≡ cost_to labels end → IsFound p net costs s o
 found p net graph costs s start end labels o shape are from to inside is =
     subst (IsFound p net costs s) (sym (is ∙ ap (cost_to labels) to)) (
-      record {
-        exact = at_first.exact (last_node net s.to) inside;
-        walked = some (cost_to labels (last_node net s.to)) (at_first.walked (last_node net s.to) inside);
-      }
+    record {
+      exact = at_first.exact (last_node net s.to) inside;
+      walked = some (cost_to labels (last_node net s.to)) (at_first.walked (last_node net s.to) inside);
+    }
     )
   where
     at_first : AreLabels (shape_of p net) costs (first_node net s.from) labels

@@ -1,11 +1,11 @@
 -- One more terminal has its holding edges.
-use Rattle.std.proofs.Common.{◌≡◌, ℕ, suc, ◌+◌, ◌-◌, ◌<◌, List, [], ◌∷◌, ◌++◌, length, get_or, map, append_assoc, sym, ap, ◌∙◌, subst, arith}
+use Rattle.std.proofs.Common.{◌≡◌, ℕ, suc, ◌+◌, ◌-◌, ◌<◌, List, ◌++◌, length, get_or, map, append_assoc, sym, ap, ◌∙◌, subst, arith}
 use Rattle.std.specs.List.{range_with_len}
 use Rattle.fp_labels.specs.declared.graphs.Edge.{Edge}
 use Rattle.fp_labels.specs.Graphs.{HasEnds}
 use Rattle.fp_model.specs.Problem.{Problem}
 use Rattle.fp_longestarcs.specs.Networks.{TimedNetwork, point_count, points_in}
-use Rattle.fp_prices.specs.Points.{class_edges, edges_of, first_node, holding_at, holding_below, next_edge, last_node}
+use Rattle.fp_prices.specs.Points.{class_edges, first_node, holding_at, holding_below, next_edge, last_node}
 use Rattle.fp_prices.proofs.PointEdges.{has-ends}
 use Rattle.fp_prices.proofs.point_graphs.all_edges.Goals as goal
 

@@ -1,5 +1,5 @@
 -- Both ends of each edge are nodes, and there are few edges.
-use Rattle.std.proofs.Common.{ℕ, ◌≡◌, List, length, sym, ap, ◌∙◌, subst, arith}
+use Rattle.std.proofs.Common.{ℕ, List, length, sym, ap, ◌∙◌, subst, arith}
 use Rattle.fp_labels.specs.declared.graphs.Edge.{Edge}
 use Rattle.fp_labels.specs.Graphs.{HasEnds}
 use Rattle.fp_longestarcs.specs.Networks.{point_count}
