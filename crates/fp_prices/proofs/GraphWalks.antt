@@ -1,0 +1,61 @@
+-- Walks in the graph of a network's points, and waiting at a terminal.
+use Rattle.std.proofs.Common.{◌≡◌, ℕ, zero, suc, ◌+◌, ◌<◌, Bool, List, ◌∷◌, length, ap, sym, ◌∙◌, subst, refl, arith}
+use Rattle.std.specs.Prelude.{Option, Some, IsSome, unwrap_or}
+use Rattle.std.proofs.lemmas.List.Sums.{sum_by-cons}
+use Rattle.fp_labels.specs.declared.graphs.Edge.{Edge}
+use Rattle.fp_labels.specs.Graphs.{edge_at}
+use Rattle.fp_labels.specs.Walks.{IsWalk, cost_of, walk_cost}
+use Rattle.fp_model.specs.declared.parts.Leg.{Leg}
+use Rattle.fp_model.specs.Problem.{Problem, IsValid}
+use Rattle.fp_longestarcs.specs.Networks.{TimedNetwork, class_count, points_in}
+use Rattle.fp_longestarcs.specs.Whole.{IsWhole}
+use Rattle.fp_prices.specs.ClassCosts.{AllowsClasses, HoldsClassCosts, IsFree}
+use Rattle.fp_prices.specs.Points.{edges_of, first_node}
+use Rattle.fp_prices.proofs.PointEdges.{holding-edge}
+
+-- costs of all edges of the graph of a whole network, for a shipment of a size
+pub record AreCosts (p : Problem) (net : TimedNetwork) (allowed : Leg → Bool) (price : Leg → ℕ) (size : ℕ) (costs : List (Option ℕ)) : Type 0 where
+  pub valid : IsValid p
+  pub whole : IsWhole p net
+  pub count : length costs ≡ length (edges_of p net)
+  pub free : IsFree (class_count net) costs
+  pub classes : AllowsClasses net allowed
+  pub holds : HoldsClassCosts p net allowed price size costs
+
+-- some walk over open edges leads from one node to another at this cost
+abbrev pub Goes : List Edge → List (Option ℕ) → (here there cost : ℕ) → Type 0
+Goes edges costs here there cost = (walk : List ℕ) × IsWalk edges costs here there walk cost
+
+-- a walk with one more edge before it
+pub goes-first : (edges : List Edge) (costs : List (Option ℕ)) (here there e more cost : ℕ) → e < length edges → (edge_at edges e).from ≡ here → cost_of costs e ≡ Some more →
+    Goes edges costs (edge_at edges e).to there cost → Goes edges costs here there (more + cost)
+goes-first edges costs here there e more cost exists leaves costs_so (walk, goes) = (
+  e ∷ walk,
+  record {
+    leads = (exists, leaves, goes.leads);
+    open_edges = (subst (λ (o : Option ℕ). IsSome o) (sym costs_so) refl, goes.open_edges);
+    costs_so =
+        sum_by-cons (λ n. unwrap_or (cost_of costs n) 0) e walk ∙
+        ap (λ (n : ℕ). n + walk_cost costs walk) (ap (λ (o : Option ℕ). unwrap_or o 0) costs_so) ∙
+        ap (λ (n : ℕ). more + n) goes.costs_so;
+  },
+)
+
+-- waiting at a terminal from one of its points to a later one is free
+pub goes-later : (p : Problem) (net : TimedNetwork) (costs : List (Option ℕ)) (t n i there cost : ℕ) → length costs ≡ length (edges_of p net) → IsFree (class_count net) costs → t < length net.points →
+    i + n < length (points_in net t) → Goes (edges_of p net) costs (first_node net t + (i + n)) there cost → Goes (edges_of p net) costs (first_node net t + i) there cost
+goes-later p net costs t zero i there cost count free exists within goes =
+    let e : first_node net t + (i + 0) ≡ first_node net t + i = omega arith in
+    subst (λ (node : ℕ). Goes (edges_of p net) costs node there cost) e goes
+goes-later p net costs t (suc n) i there cost count free exists within goes =
+    let holding = holding-edge p net t i exists (omega (arith, within)) in
+    let later : i + suc n ≡ i + 1 + n = omega arith in
+    let rest : Goes (edges_of p net) costs (first_node net t + (i + 1)) there cost =
+    goes-later p net costs t n (i + 1) there cost count free exists (omega (arith, within)) (subst (λ (m : ℕ). Goes (edges_of p net) costs (first_node net t + m) there cost) later goes) in
+    let next : first_node net t + (i + 1) ≡ (edge_at (edges_of p net) holding.0).to =
+    (let e : first_node net t + (i + 1) ≡ first_node net t + i + 1 = omega arith in e) ∙ ap (λ (e : Edge). e.to) (sym holding.3) in
+    let nothing : 0 + cost ≡ cost = omega arith in
+    subst (λ (n : ℕ). Goes (edges_of p net) costs (first_node net t + i) there n) nothing
+    (goes-first (edges_of p net) costs (first_node net t + i) there holding.0 0 cost holding.2 (ap (λ (e : Edge). e.from) holding.3)
+    (free holding.0 holding.1 (omega (arith, count, holding.2)))
+    (subst (λ (node : ℕ). Goes (edges_of p net) costs node there cost) next rest))

@@ -1,0 +1,108 @@
+-- The distance in the graph of the points, from the origin's first point to the destination's last, is the least cost over the
+-- allowed timed walks of a shipment; and it is small.
+use Rattle.std.proofs.Common.{◌≡◌, ℕ, ◌+◌, ◌*◌, ◌<◌, ◌≤◌, Bool, List, [], ◌∷◌, length, get_or, replicate, ⊎_elim, sym, subst, refl, arith}
+use Rattle.std.specs.Prelude.{All, Option, Some, None, IfSome, unwrap_or}
+use Rattle.std.specs.List.{AllByRecursion, sum_by}
+use Rattle.std.proofs.Math.Nat.{mul-le-mul_right}
+use Rattle.std.proofs.lemmas.Bool.{cases_lt}
+use Rattle.std.proofs.lemmas.List.{get_or_past, get_or-replicate, length-map, length-replicate}
+use Rattle.std.proofs.lemmas.List.Sums.{sum_by-cons, sum_by-le}
+use Rattle.fp_labels.specs.declared.graphs.Edge.{Edge}
+use Rattle.fp_labels.specs.Graphs.{HasEnds, edge_at, no_edge}
+use Rattle.fp_labels.specs.Labels.{IsSimpleWalk}
+use Rattle.fp_labels.specs.Walks.{AreApart, IsDistance, IsWalk, cost_of, nodes_on, Leads as LeadsOver, walk_cost as edges_cost}
+use Rattle.fp_model.specs.declared.parts.Leg.{Leg}
+use Rattle.fp_model.specs.declared.parts.Shipment.{Shipment}
+use Rattle.fp_model.specs.Problem.{Problem}
+use Rattle.fp_model.proofs.Bounds.{sum_by-places-le}
+use Rattle.fp_model.proofs.Sums.{each-weaker}
+use Rattle.fp_longestarcs.specs.Networks.{TimedNetwork, points_in}
+use Rattle.fp_longestarcs.proofs.Grown.{points-of}
+use Rattle.fp_allowed.specs.Walks.{FollowsHeads, IsTimedWalk}
+use Rattle.fp_prices.specs.ClassCosts.{IsLeastOver}
+use Rattle.fp_prices.specs.Leaves.{walk_cost}
+use Rattle.fp_prices.specs.Points.{edges_of, first_node, last_node}
+use Rattle.fp_prices.proofs.GraphTimed.{IsTimedFrom, timed-walk}
+use Rattle.fp_prices.proofs.GraphWalks.{AreCosts, Goes}
+use Rattle.fp_prices.proofs.Nodes.{first-point}
+use Rattle.fp_prices.proofs.TimedInGraph.{goes-timed}
+
+-- each allowed timed walk of a shipment goes from the origin's first node to the destination's last
+shipment-goes : (p : Problem) (net : TimedNetwork) (allowed : Leg → Bool) (price : Leg → ℕ) (costs : List (Option ℕ)) (s : Shipment) → AreCosts p net allowed price s.size costs → s.from < length net.points →
+    (walk : List Leg) → IsTimedWalk p (points_in net) allowed s walk → Goes (edges_of p net) costs (first_node net s.from) (last_node net s.to) (walk_cost p price s.size walk)
+shipment-goes p net allowed price costs s are from walk timed =
+    let begins = first-point (points_in net s.from) (points-of net s.from are.whole.valid from) in
+    let node : first_node net s.from + 0 ≡ first_node net s.from = omega arith in
+    subst (λ (n : ℕ). Goes (edges_of p net) costs n (last_node net s.to) (walk_cost p price s.size walk)) node
+    (goes-timed p net allowed price s.size costs are s.to walk s.from 0 from begins.1 timed.leads timed.allowed_all
+    (subst (λ (n : ℕ). FollowsHeads p (points_in net) n walk) (sym begins.2) timed.follows))
+
+-- and each open walk between these nodes is an allowed timed walk
+shipment-timed : (p : Problem) (net : TimedNetwork) (allowed : Leg → Bool) (price : Leg → ℕ) (costs : List (Option ℕ)) (s : Shipment) → AreCosts p net allowed price s.size costs → s.from < length net.points → s.to < length net.points →
+    (walk : List ℕ) (cost : ℕ) → IsWalk (edges_of p net) costs (first_node net s.from) (last_node net s.to) walk cost → IsTimedFrom p net allowed price s.size s.from 0 s.to cost
+shipment-timed p net allowed price costs s are from to walk cost goes =
+    let begins = first-point (points_in net s.from) (points-of net s.from are.whole.valid from) in
+    let node : first_node net s.from ≡ first_node net s.from + 0 = omega arith in
+    let timed = timed-walk p net allowed price s.size costs are s.to to walk s.from 0 from begins.1
+    (subst (λ (n : ℕ). LeadsOver (edges_of p net) n walk (last_node net s.to)) node goes.leads) goes.open_edges in
+    subst (λ (n : ℕ). IsTimedFrom p net allowed price s.size s.from 0 s.to n) goes.costs_so
+    (subst (λ (n : ℕ). IsTimedFrom p net allowed price s.size s.from n s.to (edges_cost costs walk)) begins.2 timed)
+
+pub least-over : (p : Problem) (net : TimedNetwork) (allowed : Leg → Bool) (price : Leg → ℕ) (costs : List (Option ℕ)) (s : Shipment) → AreCosts p net allowed price s.size costs → s.from < length net.points → s.to < length net.points →
+    (o : Option ℕ) → IsDistance (edges_of p net) costs (first_node net s.from) (last_node net s.to) o → IsLeastOver p (points_in net) allowed s price o
+least-over p net allowed price costs s are from to None none = λ walk timed.
+    let goes = shipment-goes p net allowed price costs s are from walk timed in
+    none goes.0 goes.1.leads goes.1.open_edges
+least-over p net allowed price costs s are from to (Some n) least =
+    let timed = shipment-timed p net allowed price costs s are from to least.attained.0 n least.attained.1 in
+    record {
+      walk = timed.walk;
+      timed = record { leads = timed.leads; allowed_all = timed.allowed_all; follows = timed.follows };
+      cost = timed.costs_so;
+      least = λ other is.
+          let goes = shipment-goes p net allowed price costs s are from other is in
+          subst (λ (m : ℕ). n ≤ m) goes.1.costs_so (least.least goes.0 goes.1.leads goes.1.open_edges);
+    }
+
+-- numbers below n that are all different are at most n
+few-apart : (n : ℕ) (places : List ℕ) → AllByRecursion (λ i. i < n) places → AreApart places → length places ≤ n
+few-apart n places below apart =
+    let each : All (λ (i : ℕ). i ≤ 1) row = λ k d h. omega (arith, get_or-replicate {A = ℕ} n k 1 d (omega (arith, h, long))) in
+    let inside : AllByRecursion (λ i. i < length row) places = each-weaker (λ i. i < n) (λ i. i < length row) (λ i h. omega (arith, h, long)) places below in
+    omega (arith, sum_by-places-le (λ (i : ℕ). i) 0 refl places row inside apart, ones places below, sum_by-le (λ (i : ℕ). i) 1 row each, long)
+  where
+    row : List ℕ
+    row = replicate n 1
+
+    long : length row ≡ n
+    long = length-replicate {A = ℕ} n 1
+
+    ones : (numbers : List ℕ) → AllByRecursion (λ i. i < n) numbers → sum_by (λ i. get_or row i 0) numbers ≡ length numbers
+    ones [] h = refl
+    ones (x ∷ xs) h = omega (arith, sum_by-cons (λ i. get_or row i 0) x xs, get_or-replicate {A = ℕ} n x 1 0 h.0, ones xs h.1)
+
+-- the nodes on a walk are nodes
+nodes-below : (edges : List Edge) (nodes here there : ℕ) (walk : List ℕ) → HasEnds nodes edges → here < nodes → LeadsOver edges here walk there → AllByRecursion (λ i. i < nodes) (nodes_on edges here walk)
+nodes-below edges nodes here there [] ends inside leads = (inside, tt)
+nodes-below edges nodes here there (e ∷ walk) ends inside leads =
+    (inside, nodes-below edges nodes (edge_at edges e).to there walk ends (ends e no_edge leads.0).1 leads.2)
+
+-- a walk that repeats no node costs at most the number of nodes times the greatest cost of an edge
+pub simple-small : (edges : List Edge) (costs : List (Option ℕ)) (nodes here there : ℕ) (walk : List ℕ) (cost most : ℕ) → HasEnds nodes edges → here < nodes →
+    IsSimpleWalk edges costs here there walk cost → All (λ o. IfSome o (λ (n : ℕ). n ≤ most)) costs → cost ≤ nodes * most
+simple-small edges costs nodes here there walk cost most ends inside simple all =
+    let few : length (nodes_on edges here walk) ≤ nodes = few-apart nodes (nodes_on edges here walk) (nodes-below edges nodes here there walk ends inside simple.goes.leads) simple.apart in
+    let short : length walk ≤ nodes = omega (arith, few, length-map walk (λ (e : ℕ). (edge_at edges e).to)) in
+    let each : edges_cost costs walk ≤ length walk * most = sum_by-le (λ (e : ℕ). unwrap_or (cost_of costs e) 0) most walk (λ k d h. each-small (get_or walk k d)) in
+    omega (arith, each, mul-le-mul_right most short, simple.goes.costs_so)
+  where
+    small : (o : Option ℕ) → IfSome o (λ (n : ℕ). n ≤ most) → unwrap_or o 0 ≤ most
+    small None h = omega arith
+    small (Some n) h = h
+
+    each-small : (e : ℕ) → unwrap_or (cost_of costs e) 0 ≤ most
+    each-small e =
+        ⊎_elim
+        (λ (there : e < length costs). small (cost_of costs e) (all e None there))
+        (λ (past : length costs ≤ e). subst (λ (o : Option ℕ). unwrap_or o 0 ≤ most) (sym (get_or_past costs e None past)) (omega arith))
+        (cases_lt e (length costs))

@@ -1,0 +1,35 @@
+pub mod LeafFound
+pub mod LeastSoFar
+pub mod ShipmentCosts
+pub mod BasesCost
+pub mod SamePoints
+pub mod Searched
+pub mod ForcedSoFar
+pub mod ChainLoads
+pub mod ForcedSums
+pub mod NumberedClasses
+pub mod FilledCosts
+pub mod PricedClasses
+pub mod CountedUsers
+pub mod SetBits
+pub mod SetPrices
+pub mod TakenByClasses
+pub mod Users
+pub mod ForcedClasses
+pub mod ClassPrices
+pub mod LeafSums
+pub mod WalkClasses
+pub mod PlanBounds
+pub mod PlanLeaves
+pub mod OneValue
+pub mod SmallPrices
+pub mod SmallBounds
+mod Worked
+pub mod Nodes
+pub mod PointEdges
+pub mod GraphWalks
+pub mod TimedInGraph
+pub mod GraphTimed
+pub mod LeastOver
+pub mod CostBounds
+mod WorkedGraph

@@ -1,0 +1,13 @@
+pub mod Shares
+pub mod Prices
+pub mod Leaves
+pub mod Tables
+pub mod Rates
+pub mod Rows
+pub mod ClassCosts
+pub mod Searches
+pub mod Pricings
+pub mod Points
+pub mod PointGraphs
+pub mod Forced
+pub mod Found

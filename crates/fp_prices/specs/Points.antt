@@ -1,0 +1,62 @@
+-- The points of a network as the nodes of a graph, by terminal and then by time, and the edges between them.
+-- The source of the network: Boland, Hewitt, Marshall and Savelsbergh, "The Continuous-Time Service Network Design Problem",
+-- Operations Research 65, 2017.
+use Rattle.std.specs.Prelude.{ℕ, zero, suc, ◌+◌, ◌-◌, ◌<◌, ◌≡◌, List, [], ◌++◌, length, map, take, sum_by, slice_index}
+use Rattle.std.specs.List.{range_with_len}
+use Rattle.fp_labels.specs.declared.graphs.Edge.{Edge}
+use Rattle.fp_labels.specs.Graphs.{Shape}
+use Rattle.fp_model.specs.declared.parts.Leg.{Leg}
+use Rattle.fp_model.specs.Problem.{Problem, arc_at}
+use Rattle.fp_longestarcs.specs.Ascending.{place_of}
+use Rattle.fp_longestarcs.specs.Classes.{head_of}
+use Rattle.fp_longestarcs.specs.Networks.{TimedNetwork, class_count, point_count, points_in}
+use Rattle.fp_allowed.specs.Listing.{class_at}
+
+-- the first node of a terminal: as many nodes as the terminals before it have points
+abbrev pub first_node : TimedNetwork → ℕ → ℕ
+first_node net terminal = sum_by (λ (qs : List ℕ). length qs) (take terminal net.points)
+
+-- the first node of each terminal
+pub record AreFirstNodes (net : TimedNetwork) (firsts : List ℕ) : Type 0 where
+  pub count : length firsts ≡ length net.points
+  pub each : (terminal : ℕ) → terminal < length net.points → slice_index firsts terminal ≡ first_node net terminal
+
+-- the node of a point of a terminal
+abbrev pub point_node : TimedNetwork → ℕ → ℕ → ℕ
+point_node net terminal at = first_node net terminal + place_of (points_in net terminal) at
+
+-- the node of a terminal's last point
+abbrev pub last_node : TimedNetwork → ℕ → ℕ
+last_node net terminal = first_node net terminal + (length (points_in net terminal) - 1)
+
+-- the edge of a class: from its point to its head
+abbrev pub class_edge : Problem → TimedNetwork → Leg → Edge
+class_edge p net c = record {
+  from = point_node net (arc_at p c.arc).from c.depart;
+  to = point_node net (arc_at p c.arc).to (head_of p (points_in net) c);
+}
+
+-- the edges of the classes, by their numbers
+abbrev pub class_edges : Problem → TimedNetwork → List Edge
+class_edges p net = map (λ n. class_edge p net (class_at net n)) (range_with_len 0 (class_count net))
+
+-- the edge from a node to the next one
+abbrev pub next_edge : ℕ → Edge
+next_edge node = record { from = node; to = node + 1 }
+
+-- the holding edges of a terminal: from each of its points to the next one
+abbrev pub holding_at : TimedNetwork → ℕ → List Edge
+holding_at net terminal = map next_edge (range_with_len (first_node net terminal) (length (points_in net terminal) - 1))
+
+-- the holding edges of the terminals with numbers below n
+abbrev pub holding_below : TimedNetwork → ℕ → List Edge
+holding_below net zero = []
+holding_below net (suc n) = holding_below net n ++ holding_at net n
+
+-- all edges: those of the classes, and then the holding edges
+abbrev pub edges_of : Problem → TimedNetwork → List Edge
+edges_of p net = class_edges p net ++ holding_below net (length net.points)
+
+-- the graph of the points
+abbrev pub shape_of : Problem → TimedNetwork → Shape
+shape_of p net = record { nodes = point_count net; edges = edges_of p net }

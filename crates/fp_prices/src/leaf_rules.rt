@@ -1,0 +1,76 @@
+ghost use Rattle.std.specs.Prelude.{ℕ, ◌≡◌, All, Bool, IfOk, List, length};
+ghost use Rattle.fp_model.specs.declared.parts.Leg.{Leg};
+ghost use Rattle.fp_longestarcs.specs.Networks.{class_count};
+ghost use Rattle.fp_longestarcs.specs.Whole.{IsWhole};
+ghost use Rattle.fp_prices.specs.Pricings.{IsPricing, IsRuleOf, TellsForced};
+ghost use Rattle.fp_prices.specs.Rows.{AreRowsOf};
+ghost use Rattle.fp_prices.specs.Tables.{AreTables, HasKind};
+
+use crate::NoMemory;
+use crate::arc_rates::linear_rates;
+use crate::class_prices::{LeafPricing, Rule};
+use crate::class_users::class_users;
+use crate::leaf_prices::Kind;
+use crate::tables::Table;
+use fp_longestarcs::Network;
+use fp_model::Instance;
+use fp_rows::Row;
+use std::alloc::Global;
+
+// The rule of a kind.
+fn rule_of<'a>(
+    alloc: Global,
+    instance: &Instance,
+    network: &Network,
+    tables: &'a [Table],
+    kind: Kind,
+    rows: &[Row],
+) -> Result<Rule<'a>, NoMemory>
+    requires tables { AreTables instance.now tables.now }
+    requires kind { HasKind tables.now kind }
+    requires rows { length rows.now ≡ length instance.now.shipments }
+    requires long { All (λ (row : List Bool). length row ≡ class_count network.now) rows.now }
+    ensures { (allowed : ℕ → Leg → Bool) → AreRowsOf network.now allowed rows.now → IfOk result (IsRuleOf instance.now network.now tables.now allowed kind) }
+{
+    match kind {
+        Kind::Linear => Ok(Rule::BySize),
+        Kind::Even => Ok(Rule::InParts {
+            users: class_users(alloc, instance, network.classes(), rows)?,
+        }),
+        Kind::Table { id } => {
+            let table = &tables[(id - 1) as usize];
+            Ok(Rule::ByShares {
+                shares: &table.shares,
+            })
+        }
+    }
+}
+
+/// The pricing of a leaf by a kind, where the rows are those of the shipments and `forced` has the bits of the classes that
+/// someone is forced to use. `NoMemory` where memory is wanting.
+pub(crate) fn leaf_pricing<'a>(
+    alloc: Global,
+    instance: &'a Instance,
+    network: &'a Network,
+    tables: &'a [Table],
+    kind: Kind,
+    rows: &[Row],
+    forced: &'a Row,
+) -> Result<LeafPricing<'a>, NoMemory>
+    requires whole { IsWhole instance.now network.now }
+    requires tables { AreTables instance.now tables.now }
+    requires kind { HasKind tables.now kind }
+    requires rows { length rows.now ≡ length instance.now.shipments }
+    requires long { All (λ (row : List Bool). length row ≡ class_count network.now) rows.now }
+    ensures same { IfOk result (λ pricing. (pricing.instance.now ≡ instance.now) × (pricing.network.now ≡ network.now)) }
+    ensures pricing { (allowed : ℕ → Leg → Bool) (chains : List (List Leg)) → AreRowsOf network.now allowed rows.now → TellsForced network.now chains forced.now →
+        IfOk result (IsPricing tables.now allowed kind chains) }
+{
+    Ok(LeafPricing {
+        instance,
+        network,
+        rates: linear_rates(alloc, instance)?,
+        rule: rule_of(alloc, instance, network, tables, kind, rows)?,
+        forced,
+    })
+}
