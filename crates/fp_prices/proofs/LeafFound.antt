@@ -45,22 +45,22 @@ pub rows-long : (s : Setting) (sides : List Side) (rows : List (List Bool)) → 
 rows-long s sides rows under = All-from_get_or (λ (row : List Bool). length row ≡ class_count s.network) rows [] (λ k h. (under k h).long)
 
 -- what the code has of a leaf before it prices the classes: the rows of the shipments and the forced classes
-pub record IsPrepared (p : Problem) (windows : WindowTable) (net : TimedNetwork) (sides : List Side) (rows : List (List Bool)) (plain : Bool) (forced : ForcedClasses) : Type 0 where
+pub record IsPrepared (p : Problem) (windows : WindowTable) (net : TimedNetwork) (sides : List Side) (rows : List (List Bool)) (is_forced : Bool) (forced : ForcedClasses) : Type 0 where
   pub valid : IsValid p
   pub setting : IsSetting (setting_of p windows net)
   pub under : AreRowsUnder (setting_of p windows net) sides rows
-  pub forced_of : AreForcedOf (setting_of p windows net) rows plain forced
+  pub forced_of : AreForcedOf (setting_of p windows net) rows is_forced forced
 
-pub prepared : (p : Problem) (windows : WindowTable) (net : TimedNetwork) (sides : List Side) (rows others : List (List Bool)) (plain : Bool) (forced : ForcedClasses) (s : Setting) → s ≡ setting_of p windows net →
-    BelongsTo p windows → IsWhole p net → AreRowsUnder s sides rows → others ≡ rows → AreForcedOf s others plain forced → IsPrepared p windows net sides rows plain forced
-prepared p windows net sides rows others plain forced s is belongs whole under same forced_of = record {
+pub prepared : (p : Problem) (windows : WindowTable) (net : TimedNetwork) (sides : List Side) (rows others : List (List Bool)) (is_forced : Bool) (forced : ForcedClasses) (s : Setting) → s ≡ setting_of p windows net →
+    BelongsTo p windows → IsWhole p net → AreRowsUnder s sides rows → others ≡ rows → AreForcedOf s others is_forced forced → IsPrepared p windows net sides rows is_forced forced
+prepared p windows net sides rows others is_forced forced s is belongs whole under same forced_of = record {
   valid = belongs.valid;
   setting = record { belongs = belongs; whole = whole };
   under = subst (λ (t : Setting). AreRowsUnder t sides rows) is under;
-  forced_of = subst (λ (t : Setting). AreForcedOf t rows plain forced) is (subst (λ (l : List (List Bool)). AreForcedOf s l plain forced) same forced_of);
+  forced_of = subst (λ (t : Setting). AreForcedOf t rows is_forced forced) is (subst (λ (l : List (List Bool)). AreForcedOf s l is_forced forced) same forced_of);
 }
 
-module _ (p : Problem) (windows : WindowTable) (net : TimedNetwork) (sides : List Side) (rows : List (List Bool)) (plain : Bool) (forced : ForcedClasses) (is : IsPrepared p windows net sides rows plain forced) where
+module _ (p : Problem) (windows : WindowTable) (net : TimedNetwork) (sides : List Side) (rows : List (List Bool)) (is_forced : Bool) (forced : ForcedClasses) (is : IsPrepared p windows net sides rows is_forced forced) where
   -- which classes are allowed for whom
   abbrev allowed_of : ℕ → Leg → Bool
   allowed_of = allowed_in (setting_of p windows net) sides
@@ -69,14 +69,14 @@ module _ (p : Problem) (windows : WindowTable) (net : TimedNetwork) (sides : Lis
   abbrev chains_of : List (List Leg)
   chains_of = is.forced_of.chains
 
-  chains-are : AllZipFrom (λ k. IsChain p (allowed_of k) plain) 0 p.shipments chains_of
+  chains-are : AllZipFrom (λ k. IsChain p (allowed_of k) is_forced) 0 p.shipments chains_of
   chains-are = is.forced_of.are_chains sides is.under
 
   cost-is : row_cost p net forced.loads.items forced.row ≡ departures_cost p chains_of (all_legs chains_of)
   cost-is = row_cost-chains p net chains_of forced is.setting.whole.valid is.forced_of.are
 
   cost-small : departures_cost p chains_of (all_legs chains_of) ≤ alone_total p.arcs p.shipments
-  cost-small = bases-small p (windows_in windows) (points_in net) sides plain chains_of chains-are
+  cost-small = bases-small p (windows_in windows) (points_in net) sides is_forced chains_of chains-are
 
   -- the bases are small
   pub base-le : p.scale * row_cost p net forced.loads.items forced.row ≤ p.scale * alone_total p.arcs p.shipments
@@ -108,6 +108,7 @@ module _ (p : Problem) (windows : WindowTable) (net : TimedNetwork) (sides : Lis
       chains = chains_of;
       is = pricing-is;
       rows_of = subst (λ (n : TimedNetwork). AreRowsOf n allowed_of rows) (sym same_net) rows-are;
+      classes = λ k. subst (λ (n : TimedNetwork). AllowsClasses n (allowed_of k)) (sym same_net) (allows-classes k);
     }
 
     pub base-small : (base : ℕ) → base ≡ p.scale * row_cost p net forced.loads.items forced.row → base ≤ pricing.instance.now.scale * alone_total pricing.instance.now.arcs pricing.instance.now.shipments
@@ -115,7 +116,7 @@ module _ (p : Problem) (windows : WindowTable) (net : TimedNetwork) (sides : Lis
 
     -- what is found is the bound over the network's points
     found-bound : (base : ℕ) (b : LeafBound) → base ≡ p.scale * row_cost p net forced.loads.items forced.row → IsFoundOver p (points_in net) allowed_of (leaf_price p tables allowed_of kind chains_of) base b →
-        IsBoundOf p (windows_in windows) (points_in net) sides tables kind plain b
+        IsBoundOf p (windows_in windows) (points_in net) sides tables kind is_forced b
     found-bound base (Empty shipment) base_is found = record { exists = found.exists; none = found.none; before = found.before }
     found-bound base (Value value) base_is found = record {
       chains = chains_of;
@@ -150,16 +151,16 @@ module _ (p : Problem) (windows : WindowTable) (net : TimedNetwork) (sides : Lis
 
     -- the bound of the leaf with the points as of a round
     pub bound-exact : (base : ℕ) (r : Result LeafBound AllocError) (v : TimePoints) (round : ℕ) → base ≡ p.scale * row_cost p net forced.loads.items forced.row → IsNetworkOf p v round net → IfOk r (IsFoundAtLeaf pricing rows base) →
-        IfOk r (IsBoundOf p (windows_in windows) (λ terminal. points_at v terminal round) sides tables kind plain)
+        IfOk r (IsBoundOf p (windows_in windows) (λ terminal. points_at v terminal round) sides tables kind is_forced)
     bound-exact base r v round base_is of promised =
-        ok-weaker r (IsFoundOver p (points_in net) allowed_of (leaf_price p tables allowed_of kind chains_of) base) (IsBoundOf p (windows_in windows) (λ terminal. points_at v terminal round) sides tables kind plain)
-        (λ b found. bound-same p is.valid (windows_in windows) (points_in net) (λ terminal. points_at v terminal round) of.points sides tables kind plain b (found-bound base b base_is found)) (found-over base r promised)
+        ok-weaker r (IsFoundOver p (points_in net) allowed_of (leaf_price p tables allowed_of kind chains_of) base) (IsBoundOf p (windows_in windows) (λ terminal. points_at v terminal round) sides tables kind is_forced)
+        (λ b found. bound-same p is.valid (windows_in windows) (points_in net) (λ terminal. points_at v terminal round) of.points sides tables kind is_forced b (found-bound base b base_is found)) (found-over base r promised)
 
     -- it bounds the plans
     pub bound-plans : (base : ℕ) (r : Result LeafBound AllocError) → base ≡ p.scale * row_cost p net forced.loads.items forced.row → AllKeepRule p tables → IfOk r (IsFoundAtLeaf pricing rows base) → IfOk r (BoundsPlans p (windows_in windows) sides)
     bound-plans base r base_is keep promised =
         ok-weaker r (IsFoundOver p (points_in net) allowed_of (leaf_price p tables allowed_of kind chains_of) base) (BoundsPlans p (windows_in windows) sides)
-        (λ b found. bounds-plans p (windows_in windows) (points_in net) sides tables kind plain b is.valid keep (found-bound base b base_is found)) (found-over base r promised)
+        (λ b found. bounds-plans p (windows_in windows) (points_in net) sides tables kind is_forced b is.valid keep (found-bound base b base_is found)) (found-over base r promised)
 
     -- and is small
     pub bound-small : (base : ℕ) (r : Result LeafBound AllocError) → base ≡ p.scale * row_cost p net forced.loads.items forced.row → IfOk r (IsFoundAtLeaf pricing rows base) → IfOk r (IsSmallBound p)

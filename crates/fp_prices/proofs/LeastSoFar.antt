@@ -54,6 +54,7 @@ row-priced pricing rows k row inside is priced = record {
   chains = priced.chains;
   is = priced.is;
   allows = row-allows pricing rows priced.allowed k row inside is priced.rows_of;
+  classes = priced.classes k;
 }
 
 -- one more shipment that has a cost

@@ -31,3 +31,5 @@ pub mod GraphWalks
 pub mod TimedInGraph
 pub mod GraphTimed
 pub mod LeastOver
+pub mod CostBounds
+mod WorkedGraph

@@ -1,12 +1,11 @@
 -- What a shipment costs at a leaf, and that it is small.
-use Rattle.std.proofs.Common.{◌≡◌, ℕ, zero, suc, ◌+◌, ◌*◌, ◌^◌, ◌<◌, ◌≤◌, Bool, true, false, List, [], ◌∷◌, ◌++◌, length, get_or, ⊎_elim, refl, sym, ap, ◌∙◌, subst, arith, le_trans}
-use Rattle.std.specs.Prelude.{All, IfOk, IfSome, Option, Some, None, Result, Ok, Err, if◌then◌else◌, sum_by}
+use Rattle.std.proofs.Common.{◌≡◌, ℕ, zero, suc, ◌*◌, ◌^◌, ◌<◌, ◌≤◌, Bool, true, List, [], ◌∷◌, ◌++◌, length, get_or, ⊎_elim, refl, sym, ap, ◌∙◌, subst, arith, le_trans}
+use Rattle.std.specs.Prelude.{All, IfOk, IfSome, Option, Some, None, Result, Ok, Err, sum_by}
 use Rattle.std.specs.declared.alloc.AllocError.{AllocError}
 use Rattle.std.proofs.Math.Nat.{mul-le-mul_left}
 use Rattle.std.proofs.lemmas.Bool.{cases_lt}
 use Rattle.std.proofs.lemmas.List.{length-append}
-use Rattle.std.proofs.lemmas.List.FromFn.{length-map-range_with_len}
-use Rattle.fp_labels.specs.Labels.{IsSmallFor, greatest_cost}
+use Rattle.fp_labels.specs.Labels.{IsSmallFor}
 use Rattle.fp_model.specs.declared.parts.Leg.{Leg}
 use Rattle.fp_model.specs.Numbered.{shipment_at}
 use Rattle.fp_model.specs.Problem.{IsValid, Problem, alone_cost, alone_total, arc_at}
@@ -20,9 +19,11 @@ use Rattle.fp_prices.specs.declared.leaf_prices.Kind.{Kind}
 use Rattle.fp_prices.specs.ClassCosts.{AllowsClasses, HoldsClassCosts, IsFree, IsLeastOver}
 use Rattle.fp_prices.specs.Forced.{AreRowsUnder}
 use Rattle.fp_prices.specs.Found.{IsPricedRow, IsSmallCost, leaf_prices}
-use Rattle.fp_prices.specs.Points.{class_edge, class_edges, edges_of, holding_below}
 use Rattle.fp_prices.specs.Pricings.{IsPricedClass, IsPricing, RowAllows}
 use Rattle.fp_prices.specs.Shares.{ClassShare}
+use Rattle.fp_prices.specs.declared.point_graphs.PointGraph.{PointGraph}
+use Rattle.fp_prices.specs.PointGraphs.{IsPointGraph}
+use Rattle.fp_prices.proofs.CostBounds.{all-at-most, all-small}
 use Rattle.fp_prices.proofs.NumberedClasses.{number-class}
 use Rattle.fp_prices.proofs.PricedClasses.{class-exists}
 use Rattle.fp_prices.proofs.SetBits.{set-within}
@@ -46,11 +47,6 @@ rows_under-push s sides rows i row long under is k h =
     end : (xs : List (List Bool)) → get_or (xs ++ (row ∷ [])) (length xs) [] ≡ row
     end [] = refl
     end (x ∷ xs) = end xs
-
--- the classes are among the edges
-pub classes-among : (p : Problem) (net : TimedNetwork) → class_count net ≤ length (edges_of p net)
-classes-among p net =
-    omega (arith, length-append (class_edges p net) (holding_below net (length net.points)), length-map-range_with_len (λ n. class_edge p net (class_at net n)) 0 (class_count net))
 
 -- the classes whose bits are set are priced
 pub classes-priced : (pricing : LeafPricing) (k : ℕ) (row : List Bool) → IsPricedRow pricing k row → length row ≡ class_count pricing.network.now → (class : ℕ) → bit_of row class ≡ true → IsPricedClass pricing k class
@@ -76,39 +72,22 @@ if_some-weaker None P Q on h = tt
 if_some-weaker (Some n) P Q on h = on n h
 
 -- all costs are at most that
-pub costs-most : (pricing : LeafPricing) (k : ℕ) (row : List Bool) (costs : List (Option ℕ)) → (priced : IsPricedRow pricing k row) → k < length pricing.instance.now.shipments →
+pub costs-most : (pricing : LeafPricing) (k : ℕ) (row : List Bool) (graph : PointGraph) (costs : List (Option ℕ)) → IsPointGraph pricing.instance.now pricing.network.now graph → (priced : IsPricedRow pricing k row) →
+    k < length pricing.instance.now.shipments → length costs ≡ graph.edges →
     HoldsClassCosts pricing.instance.now pricing.network.now (priced.allowed k) (leaf_prices pricing.instance.now priced.tables priced.allowed priced.kind priced.chains k) (shipment_at pricing.instance.now k).size costs →
     IsFree (class_count pricing.network.now) costs → All (λ (o : Option ℕ). IfSome o (λ n. n ≤ most_of pricing.instance.now k)) costs
-costs-most pricing k row costs priced exists holds free e d h =
+costs-most pricing k row graph costs of priced exists long holds free =
     let p : Problem = pricing.instance.now in
     let net : TimedNetwork = pricing.network.now in
-    let Most : Option ℕ → Type 0 = λ o. IfSome o (λ n. n ≤ most_of p k) in
-    let read : get_or costs e d ≡ get_or costs e None = any costs e d None h in
-    subst Most (sym read)
-    (⊎_elim
-    (λ (class : e < class_count net).
-    let at = number-class net e priced.is.whole.valid class in
-    let c : Leg = class_at net e in
-    let own : get_or costs e None ≡ (if priced.allowed k c then Some (leaf_prices p priced.tables priced.allowed priced.kind priced.chains k c + p.scale * (arc_at p c.arc).freight * (shipment_at p k).size) else None) =
-    ap (λ (n : ℕ). get_or costs n None) (sym at.1) ∙ holds c at.0 in
-    subst Most (sym own)
-    (split (priced.allowed k c) (leaf_prices p priced.tables priced.allowed priced.kind priced.chains k c + p.scale * (arc_at p c.arc).freight * (shipment_at p k).size) (λ is.
-    let arc_exists : c.arc < length p.arcs = class-exists p net c priced.is.whole at.0 in
+    let price : Leg → ℕ = leaf_prices p priced.tables priced.allowed priced.kind priced.chains k in
+    all-at-most p net (priced.allowed k) price (shipment_at p k).size costs (most_of p k)
+    (record { valid = priced.is.valid; whole = priced.is.whole; count = long ∙ of.count; free = free; classes = priced.classes; holds = holds })
+    (λ c allows.
+    let arc_exists : c.arc < length p.arcs = class-exists p net c priced.is.whole (priced.classes c allows) in
     le_trans
-    (priced-alone p (arc_at p c.arc) (leaf_prices p priced.tables priced.allowed priced.kind priced.chains k c) (shipment_at p k).size
-    (leaf_price-small p priced.tables priced.allowed priced.kind priced.chains c k priced.is.valid priced.is.keep exists arc_exists is))
-    (mul-le-mul_left p.scale (arc-alone p (shipment_at p k).size c.arc arc_exists)))))
-    (λ (held : class_count net ≤ e). subst Most (sym (free e held h)) (omega arith))
-    (cases_lt e (class_count net)))
-  where
-    any : (xs : List (Option ℕ)) (n : ℕ) (a b : Option ℕ) → n < length xs → get_or xs n a ≡ get_or xs n b
-    any [] n a b h = absurd (omega arith)
-    any (x ∷ xs) zero a b h = refl
-    any (x ∷ xs) (suc n) a b h = any xs n a b (omega arith)
-
-    split : (b : Bool) (v : ℕ) → (b ≡ true → v ≤ most_of pricing.instance.now k) → IfSome (if b then Some v else None) (λ n. n ≤ most_of pricing.instance.now k)
-    split true v le = le refl
-    split false v le = tt
+    (priced-alone p (arc_at p c.arc) (price c) (shipment_at p k).size
+    (leaf_price-small p priced.tables priced.allowed priced.kind priced.chains c k priced.is.valid priced.is.keep exists arc_exists allows))
+    (mul-le-mul_left p.scale (arc-alone p (shipment_at p k).size c.arc arc_exists)))
 
 -- so many times that fit
 pub most-fits : (p : Problem) (k : ℕ) → IsValid p → k < length p.shipments → 65536 * most_of p k < 2 ^ 127
@@ -118,11 +97,9 @@ most-fits p k valid exists =
 
 -- and all costs leave room for a walk over all nodes
 pub costs-fit : (p : Problem) (k nodes : ℕ) (costs : List (Option ℕ)) → IsValid p → k < length p.shipments → nodes ≤ 65000 → All (λ (o : Option ℕ). IfSome o (λ n. n ≤ most_of p k)) costs → All (IsSmallFor nodes) costs
-costs-fit p k nodes costs valid exists few small e d h =
-    if_some-weaker (get_or costs e d) (λ n. n ≤ most_of p k) (λ n. nodes * n ≤ greatest_cost) (λ n le.
-    let first : nodes * n ≤ nodes * most_of p k = mul-le-mul_left nodes le in
-    let second : most_of p k * nodes ≤ most_of p k * 65000 = mul-le-mul_left (most_of p k) few in
-    omega (arith, first, second, most-fits p k valid exists)) (small e d h)
+costs-fit p k nodes costs valid exists few small =
+    let most : most_of p k * nodes ≤ most_of p k * 65000 = mul-le-mul_left (most_of p k) few in
+    all-small costs nodes (most_of p k) small (omega (arith, most, most-fits p k valid exists))
 
 -- a least cost is small
 pub small_ok : (p : Problem) (k nodes : ℕ) (costs : List (Option ℕ)) (r : Result (Option ℕ) AllocError) → nodes ≤ 65000 → All (λ (o : Option ℕ). IfSome o (λ n. n ≤ most_of p k)) costs →

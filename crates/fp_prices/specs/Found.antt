@@ -5,7 +5,6 @@ use Rattle.fp_model.specs.declared.parts.Shipment.{Shipment}
 use Rattle.fp_model.specs.Numbered.{AllZipFrom, shipment_at}
 use Rattle.fp_model.specs.Problem.{Problem, alone_cost}
 use Rattle.fp_longestarcs.specs.Networks.{points_in}
-use Rattle.fp_allowed.specs.Bits.{bit_of}
 use Rattle.fp_allowed.specs.Walks.{IsTimedWalk}
 use Rattle.fp_prices.specs.declared.bounds.LeafBound.{LeafBound}
 use Rattle.fp_prices.specs.declared.bounds.LeafBound.TheVariants.{Empty, Value}
@@ -29,6 +28,7 @@ pub record IsPricedRow (pricing : LeafPricing) (k : ℕ) (row : List Bool) : Typ
   pub chains : List (List Leg)
   pub is : IsPricing tables allowed kind chains pricing
   pub allows : RowAllows pricing.network.now (allowed k) row
+  pub classes : AllowsClasses pricing.network.now (allowed k)
 
 -- the rows are those of all shipments under a pricing
 pub record IsPricedLeaf (pricing : LeafPricing) (rows : List (List Bool)) : Type 0 where
@@ -38,6 +38,7 @@ pub record IsPricedLeaf (pricing : LeafPricing) (rows : List (List Bool)) : Type
   pub chains : List (List Leg)
   pub is : IsPricing tables allowed kind chains pricing
   pub rows_of : AreRowsOf pricing.network.now allowed rows
+  pub classes : (k : ℕ) → AllowsClasses pricing.network.now (allowed k)
 
 -- the cost of the shipment with the number k, if it has one, is at most 65,536 times the scaled cost of going over every arc alone
 abbrev pub IsSmallCost : Problem → ℕ → Option ℕ → Type 0

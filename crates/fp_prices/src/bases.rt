@@ -68,11 +68,8 @@ fn all_chains(
     let mut forced = no_chains(alloc, classes)?;
     for shipment in 0..instance.shipments().len() as u32 {
         let chain = allowed.forced(alloc, shipment, &rows[shipment as usize])?;
-        add_chain(
-            &mut forced,
-            &chain.classes,
-            instance.shipment(shipment).size,
-        );
+        let size = instance.shipment(shipment).size;
+        add_chain(&mut forced, &chain.classes, size);
     }
     Ok(forced)
 }

@@ -116,11 +116,15 @@ fn value_over(
 /// classes are paid whole, and the least cost of each shipment's allowed timed walks under the prices; or that the leaf is
 /// empty, with the first shipment that has no allowed timed walk.
 ///
-/// Over every denominator, no plan that lies within the windows and obeys the sides costs less, times the instance's scale,
-/// and where the leaf is empty there is none. The value counts parts of a unit of money, of which the scale makes one. The
-/// windows and the points belong to the instance; there are at most 65,000 points in all, the first ones and the added ones;
-/// the tables are in order and keep the price rule ([`check_tables`](crate::check_tables)), and a kind by a table names one
-/// of them. `NoMemory` where memory is wanting; nothing is changed.
+/// Over every denominator, the scale times the cost of each plan that lies within the windows and obeys the sides is at least
+/// the value, and where the leaf is empty there is no such plan. The value counts parts of a unit of money, of which the
+/// instance's scale makes one; it is at most 65,537 times the scale times what all shipments cost that each go over every arc
+/// alone, so it's below 2^128.
+///
+/// The windows and the points belong to the instance; the terminals, the first points and the added points are together at
+/// most 65,000; the tables are in order and keep the price rule ([`check_tables`](crate::check_tables)), and a kind by a
+/// table names one of them. `NoMemory` where memory is wanting. One search over the points for each shipment; their graph
+/// and the prices are made once.
 pub fn bound(
     alloc: Global,
     instance: &Instance,

@@ -3,13 +3,10 @@ use Rattle.std.specs.Prelude.{All, Bool, IfOk}
 use Rattle.fp_longestarcs.specs.Networks.{class_count}
 use Rattle.fp_allowed.specs.Settings.{Setting}
 use Rattle.fp_model.specs.declared.parts.Leg.{Leg}
-use Rattle.fp_prices.specs.declared.leaf_prices.Kind.{Kind}
-use Rattle.fp_prices.specs.ClassCosts.{AllowsClasses}
 use Rattle.fp_prices.specs.Forced.{AreRowsUnder}
 use Rattle.fp_prices.specs.Found.{IsFoundAtLeaf, IsPricedLeaf}
-use Rattle.fp_prices.specs.Pricings.{IsPricing, TellsForced}
+use Rattle.fp_prices.specs.Pricings.{TellsForced}
 use Rattle.fp_prices.specs.Rows.{AreRowsOf}
-use Rattle.fp_prices.specs.Shares.{ClassShare}
 use Rattle.fp_prices.proofs.LeafFound.{base-fits, base-small, bound-exact, bound-plans, bound-small, leaf-priced, prepared, rows-long}
 use Rattle.fp_prices.proofs.bounds.bound.Goals as goal
 
