@@ -1,5 +1,5 @@
 -- An instance has one table of windows.
-use Rattle.std.proofs.Common.{◌≡◌, ◌≢◌, ℕ, zero, suc, ◌+◌, ◌<◌, List, [], ◌∷◌, length, map, refl, sym, ap, ◌∙◌, subst, arith, rules}
+use Rattle.std.proofs.Common.{◌≡◌, ℕ, zero, suc, ◌+◌, ◌<◌, List, [], ◌∷◌, length, refl, sym, ap, ◌∙◌, subst, arith, rules}
 use Rattle.std.specs.Prelude.{Option, Some, None, All, slice_index_or}
 use Rattle.std.proofs.lemmas.List.{ext_get_or}
 use Rattle.fp_model.specs.declared.parts.Shipment.{Shipment}
@@ -8,7 +8,7 @@ use Rattle.fp_model.specs.Problem.{Problem, arc_at}
 use Rattle.fp_flatnet.specs.declared.window_tables.Window.{Window}
 use Rattle.fp_flatnet.specs.Belonging.{BelongsTo}
 use Rattle.fp_flatnet.specs.Tables.{WindowTable, windows_in}
-use Rattle.fp_flatnet.specs.Windows.{AreWindows, IsWindow, IsWindowOrNone, time_after, time_before}
+use Rattle.fp_flatnet.specs.Windows.{IsWindow, IsWindowOrNone, time_after, time_before}
 use Rattle.fp_flatnet.proofs.Walks.{IsLeastTime-unique}
 use Rattle.fp_app.specs.Checks.{AreWindowsOf}
 

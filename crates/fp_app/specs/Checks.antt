@@ -1,5 +1,5 @@
 -- What `check` shows.
-use Rattle.std.specs.Prelude.{ℕ, ◌≡◌, [], ◌⊎◌, Option, Some, None}
+use Rattle.std.specs.Prelude.{ℕ, ◌≡◌, [], Option, Some, None}
 use Rattle.fp_model.specs.Problem.{Problem}
 use Rattle.fp_flatnet.specs.Belonging.{BelongsTo}
 use Rattle.fp_flatnet.specs.Tables.{WindowTable, windows_in}

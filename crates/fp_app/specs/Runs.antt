@@ -8,7 +8,7 @@ use Rattle.fp_ends.specs.Moves.{AppendsFront, Tells}
 use Rattle.fp_model.specs.Plans.{IsPlan, PlanExists}
 use Rattle.fp_model.specs.Problem.{Problem}
 use Rattle.fp_flatnet.specs.Directs.{IsDirectPlan}
-use Rattle.fp_flatnet.specs.Verdicts.{AllInTime, IsBlocked}
+use Rattle.fp_flatnet.specs.Verdicts.{IsBlocked}
 use Rattle.fp_app.specs.declared.words.Order.{Order}
 use Rattle.fp_app.specs.declared.words.Order.TheVariants as order
 use Rattle.fp_app.specs.declared.shown.Shown.{Shown}

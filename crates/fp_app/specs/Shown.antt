@@ -1,7 +1,6 @@
 -- What is shown, and its status.
 use Rattle.std.specs.Prelude.{ℕ, ◌<◌, length, ⊤}
 use Rattle.fp_model.specs.Plans.{IsPlan}
-use Rattle.fp_model.specs.Problem.{IsValid}
 use Rattle.fp_app.specs.declared.shown.Shown.{Shown}
 use Rattle.fp_app.specs.declared.shown.Shown.TheVariants as shown
 use Rattle.fp_app.specs.declared.shown.Status.{Status}

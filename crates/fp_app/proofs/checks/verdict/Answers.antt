@@ -1,6 +1,5 @@
 use Rattle.std.proofs.Common.{rules, ap, ◌≡◌, ◌∙◌, ℕ}
-use Rattle.fp_model.specs.Problem.{Problem}
-use Rattle.fp_app.specs.Checks.{ShowsCheck, scaled}
+use Rattle.fp_app.specs.Checks.{scaled}
 use Rattle.fp_app.proofs.Verdicts.{rejected-shown}
 use Rattle.fp_app.proofs.checks.verdict.Goals as goal
 

@@ -1,4 +1,4 @@
-use Rattle.std.proofs.Common.{rules, sym, ◌≡◌, ◌∙◌, ℕ, List}
+use Rattle.std.proofs.Common.{sym, ◌∙◌}
 use Rattle.fp_app.specs.Words.{order_of, texts}
 use Rattle.fp_app.proofs.Ends.{done-cause, fault-cause}
 use Rattle.fp_app.proofs.top.run.Goals as goal
