@@ -1,18 +1,21 @@
 -- When each status comes, by the words and the whole input.
-use Rattle.std.specs.Prelude.{◌≡◌, ◌⊎◌, ◌<◌, ◌≤◌, ℕ, List, length, nat_lt, MatchBool, MatchResult, Option, Some, None, Ok, Err}
+use Rattle.std.specs.Prelude.{◌≡◌, ◌⊎◌, ℕ, List, length, nat_lt, MatchBool, MatchResult, Option, Some, None, Ok}
 use Rattle.fp_model.specs.declared.parts.Leg.{Leg}
 use Rattle.fp_model.specs.Plans.{IsPlan, PlanExists}
 use Rattle.fp_model.specs.Problem.{Problem}
 use Rattle.fp_reader.specs.Input.{Fault}
 use Rattle.fp_flatnet.specs.Directs.{IsDirectPlan}
 use Rattle.fp_flatnet.specs.Verdicts.{IsBlocked}
+use Rattle.fp_lines.specs.Statements.{Statement}
+use Rattle.fp_app.specs.declared.shown.AnswerKind.{AnswerKind}
 use Rattle.fp_app.specs.declared.words.Order.{Order}
 use Rattle.fp_app.specs.declared.words.Order.TheVariants as order
 use Rattle.fp_app.specs.declared.shown.Shown.{Shown}
 use Rattle.fp_app.specs.declared.shown.Shown.TheVariants as shown
 use Rattle.fp_app.specs.declared.shown.Status.{Status}
 use Rattle.fp_app.specs.declared.shown.Status.TheVariants as status
-use Rattle.fp_app.specs.Runs.{direct_limit, given}
+use Rattle.fp_app.specs.Checks.{IsAcceptedFor, ShowsAccepted, ShowsRejected, scaled}
+use Rattle.fp_app.specs.Inputs.{certificate_in, check_limit, direct_limit, fault_in, given, given_before}
 
 -- The input gives an instance, and what is shown is its direct plan.
 pub record ShowsPlan (input : List ℕ) (result : Shown) : Type 0 where
@@ -34,16 +37,47 @@ pub record ShowsNone (input : List ℕ) (result : Shown) : Type 0 where
   pub blocked : IsBlocked instance shipment time
   pub none : PlanExists instance → ⊥
 
--- The records of the input have a fault, and what is shown is the first.
-pub record ShowsFault (input : List ℕ) (result : Shown) : Type 0 where
-  pub ordinal : ℕ
-  pub code : ℕ
-  pub read : given input ≡ Err (record { ordinal = ordinal; code = code })
-  pub shows : result ≡ shown.BadInput ordinal code
+-- The input gives an instance and a certificate, which is accepted for the instance at the certificate's scale. So what the
+-- certificate claims of all plans, over every denominator, is true.
+pub record ShowsYes (input : List ℕ) (result : Shown) : Type 0 where
+  pub instance : Problem
+  pub certificate : Statement
+  pub kind : AnswerKind
+  pub read : given_before input ≡ Ok instance
+  pub certified : certificate_in instance input ≡ Ok certificate
+  pub shows : result ≡ shown.Accepted kind
+  pub accepted : ShowsAccepted (scaled instance certificate) certificate kind
+
+-- The input gives an instance and a certificate, which isn't accepted for the instance at the certificate's scale, and what is
+-- shown is the first part that fails.
+pub record ShowsNo (input : List ℕ) (result : Shown) : Type 0 where
+  pub instance : Problem
+  pub certificate : Statement
+  pub number : ℕ
+  pub read : given_before input ≡ Ok instance
+  pub certified : certificate_in instance input ≡ Ok certificate
+  pub shows : result ≡ shown.RejectedPart number
+  pub rejected : ShowsRejected (scaled instance certificate) certificate number
+
+-- The records of the input have a fault for the order, and what is shown is the first.
+pub record ShowsFault (wanted : Option Order) (input : List ℕ) (result : Shown) : Type 0 where
+  pub fault : Fault
+  pub first : fault_in wanted input ≡ Some fault
+  pub shows : result ≡ shown.BadInput fault.ordinal fault.code
+
+-- what is shown where an order is done: a direct plan, or that a certificate is accepted
+abbrev pub ShowsDone : Option Order → List ℕ → Shown → Type 0
+ShowsDone None input result = ⊥
+ShowsDone (Some order.Direct) input result = ShowsPlan input result
+ShowsDone (Some order.Check) input result = ShowsYes input result
 
 -- the status of `direct` for an instance: done where a plan exists, and infeasible where none does
 abbrev pub DirectStatus : Problem → Status → Type 0
 DirectStatus p result = ((result ≡ status.Done) × PlanExists p) ⊎ ((result ≡ status.Infeasible) × (PlanExists p → ⊥))
+
+-- the status of `check` for an instance and a certificate: done where it is accepted, and rejected where it isn't
+abbrev pub CheckStatus : Problem → Statement → Status → Type 0
+CheckStatus p c result = ((result ≡ status.Done) × IsAcceptedFor p c) ⊎ ((result ≡ status.Rejected) × (IsAcceptedFor p c → ⊥))
 
 -- the one status that a run with memory and without a fault of its source and its sink has
 abbrev pub StatusOf : Option Order → List ℕ → Status → Type 0
@@ -51,3 +85,8 @@ StatusOf None input result = result ≡ status.BadWords
 StatusOf (Some order.Direct) input result =
     MatchBool (nat_lt direct_limit (length input)) (result ≡ status.TooLong)
     (MatchResult (given input) (λ p. DirectStatus p result) (λ f. result ≡ status.BadInput))
+StatusOf (Some order.Check) input result =
+    MatchBool (nat_lt check_limit (length input)) (result ≡ status.TooLong)
+    (MatchResult (given_before input)
+    (λ p. MatchResult (certificate_in p input) (λ c. CheckStatus (scaled p c) c result) (λ f. result ≡ status.BadInput))
+    (λ f. result ≡ status.BadInput))

@@ -1,21 +1,22 @@
 -- What a run answers, and what it does to its source and its sink.
-use Rattle.std.specs.Prelude.{◌≡◌, ℕ, List, length, nat_lt, MatchBool, MatchResult, Result, None, Some, ⊤}
+use Rattle.std.specs.Prelude.{◌≡◌, ℕ, List, length, nat_lt, MatchBool, None, Some, IsSomeAnd, ⊤}
+use Rattle.std.specs.declared.alloc.Global.{Global}
+use Rattle.std.specs.declared.vec.Vec.{Vec}
 use Rattle.std.specs.Io.KnownBytes.{Appends, IsAtEnd}
 use Rattle.std.specs.declared.option.Option.{Option}
 use Rattle.fp_ends.specs.Moves.{AppendsFront, Tells}
 use Rattle.fp_model.specs.Plans.{IsPlan, PlanExists}
 use Rattle.fp_model.specs.Problem.{Problem}
-use Rattle.fp_records.specs.Fields.{records_of}
-use Rattle.fp_reader.specs.declared.reading.Tail.TheVariants.{Alone}
-use Rattle.fp_reader.specs.Input.{Fault, input_of}
 use Rattle.fp_flatnet.specs.Directs.{IsDirectPlan}
-use Rattle.fp_flatnet.specs.Verdicts.{AllInTime, IsBlocked}
+use Rattle.fp_flatnet.specs.Verdicts.{IsBlocked}
 use Rattle.fp_app.specs.declared.words.Order.{Order}
 use Rattle.fp_app.specs.declared.words.Order.TheVariants as order
 use Rattle.fp_app.specs.declared.shown.Shown.{Shown}
 use Rattle.fp_app.specs.declared.shown.Shown.TheVariants as shown
 use Rattle.fp_app.specs.declared.shown.Status.{Status}
 use Rattle.fp_app.specs.declared.shown.Status.TheVariants as status
+use Rattle.fp_app.specs.Checks.{ShowsCheck, scaled}
+use Rattle.fp_app.specs.Inputs.{OfCertificate, OfInstance, check_limit, direct_limit}
 use Rattle.fp_app.specs.Shown.{status_of}
 use Rattle.fp_app.specs.Texts.{IsText}
 
@@ -27,34 +28,30 @@ ShowsDirect p (shown.Direct instance plan) = (instance ≡ p) × IsPlan p 1 plan
 ShowsDirect p (shown.Infeasible instance shipment time) = (instance ≡ p) × IsBlocked p shipment time × (PlanExists p → ⊥)
 ShowsDirect p _ = ⊥
 
--- What an input alone gives: the instance of its records, or their first fault.
-abbrev pub given : List ℕ → Result Problem Fault
-given input = input_of Alone (records_of input)
-
--- The instance of the input's records, or their first fault.
-abbrev pub OfInstance : List ℕ → Shown → (Problem → Type 0) → Type 0
-OfInstance input result P = MatchResult (given input) P (λ (f : Fault). result ≡ shown.BadInput f.ordinal f.code)
-
 -- The whole input was read and P holds of it, or more than the limit came.
 abbrev pub OfInput : ℕ → Option (List ℕ) → Option (List ℕ) → Shown → (List ℕ → Type 0) → Type 0
 OfInput limit old new result P =
     (input : List ℕ) × Tells old input
     × MatchBool (nat_lt limit (length input)) (result ≡ shown.TooLong) (IsAtEnd new × P input)
 
--- the most bytes of an input to `direct`
-abbrev pub direct_limit : ℕ
-direct_limit = 16777216
+-- The whole input was read, or `None` where more than the limit came.
+abbrev pub Takes : ℕ → Option (List ℕ) → Option (List ℕ) → Option (Vec ℕ Global) → Type 0
+Takes limit old new result =
+    (input : List ℕ) × Tells old input
+    × MatchBool (nat_lt limit (length input)) (result ≡ None) (IsAtEnd new × IsSomeAnd result (λ bytes. bytes.items ≡ input))
 
 -- What an order shows, by what the source had left and has left now. One line for each command.
 abbrev pub Answers : Option Order → Option (List ℕ) → Option (List ℕ) → Shown → Type 0
 Answers None old new result = result ≡ shown.BadWords
 Answers (Some order.Direct) old new result =
     OfInput direct_limit old new result (λ input. OfInstance input result (λ p. ShowsDirect p result))
+Answers (Some order.Check) old new result =
+    OfInput check_limit old new result (λ input. OfCertificate input result (λ p c. ShowsCheck (scaled p c) c result))
 
 -- Words of no form leave the source alone.
 abbrev pub Leaves : {S : Type 0} → Option Order → S → S → Type 0
 Leaves None old new = new ≡ old
-Leaves (Some order.Direct) old new = ⊤
+Leaves (Some order) old new = ⊤
 
 -- How far a run came: before its text, through a part of it, or through all.
 pub data Reach : Type 0 where

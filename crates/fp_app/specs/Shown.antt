@@ -1,7 +1,6 @@
 -- What is shown, and its status.
 use Rattle.std.specs.Prelude.{ℕ, ◌<◌, length, ⊤}
 use Rattle.fp_model.specs.Plans.{IsPlan}
-use Rattle.fp_model.specs.Problem.{IsValid}
 use Rattle.fp_app.specs.declared.shown.Shown.{Shown}
 use Rattle.fp_app.specs.declared.shown.Shown.TheVariants as shown
 use Rattle.fp_app.specs.declared.shown.Status.{Status}
@@ -11,6 +10,8 @@ use Rattle.fp_app.specs.declared.shown.Status.TheVariants as status
 abbrev pub status_of : Shown → Status
 status_of (shown.Direct instance plan) = status.Done
 status_of (shown.Infeasible instance shipment time) = status.Infeasible
+status_of (shown.Accepted kind) = status.Done
+status_of (shown.RejectedPart number) = status.Rejected
 status_of shown.BadWords = status.BadWords
 status_of (shown.BadInput ordinal code) = status.BadInput
 status_of shown.TooLong = status.TooLong

@@ -2,13 +2,15 @@
 #![tactic(auto)]
 
 mod answer;
-mod lines;
+mod checks;
+mod directs;
+mod inputs;
 mod shown;
 mod texts;
 mod top;
 mod words;
 
-pub use shown::{Ran, Shown, Status};
+pub use shown::{AnswerKind, Ran, Shown, Status};
 pub use texts::text;
 pub use top::run;
 pub use words::{Order, WordFault, read_words};

@@ -49,6 +49,16 @@ impl Status {
     }
 }
 
+/// What an accepted certificate claims: that its legs are a plan of its cost, that moreover no plan is cheaper, or none costs
+/// less than a bound, or that no plan exists.
+#[derive(Clone, Copy, Debug, PartialEq, Eq)]
+pub enum AnswerKind {
+    Direct,
+    Optimal,
+    Unfinished,
+    Infeasible,
+}
+
 /// What a run shows: the answer whose text it writes.
 #[derive(Drop)]
 pub enum Shown {
@@ -63,6 +73,15 @@ pub enum Shown {
         instance: Instance,
         shipment: u32,
         time: Option<u32>,
+    },
+    /// The certificate of the input is accepted, and its answer is of this kind.
+    Accepted {
+        kind: AnswerKind,
+    },
+    /// The certificate of the input isn't accepted, and this is the first part that fails: 1 the plan, 2 its cost, 3 the trucks,
+    /// 4 the points, 5 the prices, 6 the tree, 7 a leaf below the claim, 8 an answer `infeasible` that isn't so.
+    RejectedPart {
+        number: u32,
     },
     /// The words are none of the forms.
     BadWords,
@@ -86,6 +105,8 @@ impl Shown {
         match self {
             Shown::Direct { .. } => Status::Done,
             Shown::Infeasible { .. } => Status::Infeasible,
+            Shown::Accepted { .. } => Status::Done,
+            Shown::RejectedPart { .. } => Status::Rejected,
             Shown::BadWords => Status::BadWords,
             Shown::BadInput { .. } => Status::BadInput,
             Shown::TooLong => Status::TooLong,

@@ -45,7 +45,7 @@ fn sink_of(alloc: Global, room: usize, step: usize, fails: &[u64]) -> Result<Mem
 #[test]
 fn answers_by_words_and_input(rt: HostRuntime) -> Result<(), Fail> {
     let alloc = rt.alloc();
-    let rows: [Row; 27] = [
+    let rows: [Row; 46] = [
         ("direct", ONE_ARC, 0, ONE_ARC_DIRECT),
         (
             "direct",
@@ -184,6 +184,120 @@ fn answers_by_words_and_input(rt: HostRuntime) -> Result<(), Fail> {
             "terminal,ABCDEFGHIJKLMNOPQRSTUVWXYZabcdefg\n",
             21,
             "refused,1,3\n",
+        ),
+        (
+            "check",
+            "terminal,A\nterminal,B\nterminal,C\narc,A,B,4,10,100,0\narc,B,C,5,10,100,0\nshipment,S1,A,C,4,0,9\nshipment,S2,B,C,4,0,8\nanswer,optimal,300\nleg,S1,A,B,0,4\nleg,S2,B,C,0,5\nleg,S1,B,C,4,9\ntruck,A,B,0,1,4\ntruck,B,C,0,1,4\ntruck,B,C,4,1,4\npoint,B,4,1\nleaf,linear,1,forced\nend\n",
+            0,
+            "accepted,optimal\n",
+        ),
+        (
+            "check",
+            "terminal,A\nterminal,B\nterminal,C\narc,A,B,4,10,100,0\narc,B,C,5,10,100,0\nshipment,S1,A,C,4,0,9\nshipment,S2,B,C,4,0,8\nanswer,unfinished,300,300,rounds\nleg,S1,A,B,0,4\nleg,S2,B,C,0,5\nleg,S1,B,C,4,9\ntruck,A,B,0,1,4\ntruck,B,C,0,1,4\ntruck,B,C,4,1,4\npoint,B,4,1\nleaf,linear,1,forced\nend\n",
+            0,
+            "accepted,unfinished\n",
+        ),
+        (
+            "check",
+            "terminal,A\nterminal,B\nterminal,C\narc,A,B,4,10,100,0\narc,B,C,5,10,100,0\nshipment,S1,A,C,4,0,9\nshipment,S2,B,C,4,0,8\nanswer,optimal,300\nscale,7\nleg,S1,A,B,0,4\nleg,S2,B,C,0,5\nleg,S1,B,C,4,9\ntruck,A,B,0,1,4\ntruck,B,C,0,1,4\ntruck,B,C,4,1,4\npoint,B,4,1\ntable,1\nshare,A,B,0,0\nweight,S1,700\nshare,B,C,0,0\nweight,S2,700\nshare,B,C,4,0\nweight,S1,700\nleaf,1,1,plain\nend\n",
+            0,
+            "accepted,optimal\n",
+        ),
+        (
+            "check",
+            "terminal,A\nterminal,B\nterminal,C\narc,A,B,4,10,100,0\narc,B,C,5,10,100,0\nshipment,S1,A,C,4,0,9\nshipment,S2,B,C,4,0,8\nanswer,optimal,300\nscale,7\nleg,S1,A,B,0,4\nleg,S2,B,C,0,5\nleg,S1,B,C,4,9\ntruck,A,B,0,1,4\ntruck,B,C,0,1,4\ntruck,B,C,4,1,4\npoint,B,4,1\ntable,1\nshare,A,B,0,0\nweight,S1,701\nshare,B,C,0,0\nweight,S2,700\nshare,B,C,4,0\nweight,S1,700\nleaf,1,1,plain\nend\n",
+            12,
+            "rejected,5\n",
+        ),
+        (
+            "check",
+            "terminal,A\nterminal,B\narc,A,B,5,10,100,1\nshipment,S1,A,B,4,0,10\nanswer,direct,104\nleg,S1,A,B,0,5\ntruck,A,B,0,1,4\nend\n",
+            0,
+            "accepted,direct\n",
+        ),
+        (
+            "check",
+            "terminal,A\nterminal,B\narc,A,B,5,10,100,1\nshipment,S1,A,B,4,0,4\nanswer,infeasible,S1,5\nend\n",
+            0,
+            "accepted,infeasible\n",
+        ),
+        (
+            "check",
+            "terminal,A\nterminal,B\narc,A,B,5,10,100,1\nshipment,S1,A,B,4,0,10\nanswer,infeasible,S1,5\nend\n",
+            12,
+            "rejected,8\n",
+        ),
+        (
+            "check",
+            "terminal,A\nterminal,B\nterminal,C\narc,A,B,4,10,100,0\narc,B,C,5,10,100,0\nshipment,S1,A,C,4,0,9\nshipment,S2,B,C,4,0,8\nanswer,optimal,300\nleg,S1,A,B,0,4\nleg,S2,B,C,1,5\nleg,S1,B,C,4,9\nend\n",
+            12,
+            "rejected,1\n",
+        ),
+        (
+            "check",
+            "terminal,A\nterminal,B\nterminal,C\narc,A,B,4,10,100,0\narc,B,C,5,10,100,0\nshipment,S1,A,C,4,0,9\nshipment,S2,B,C,4,0,8\nanswer,optimal,301\nleg,S1,A,B,0,4\nleg,S2,B,C,0,5\nleg,S1,B,C,4,9\ntruck,A,B,0,1,4\ntruck,B,C,0,1,4\ntruck,B,C,4,1,4\npoint,B,4,1\nleaf,linear,1,forced\nend\n",
+            12,
+            "rejected,2\n",
+        ),
+        (
+            "check",
+            "terminal,A\nterminal,B\nterminal,C\narc,A,B,4,10,100,0\narc,B,C,5,10,100,0\nshipment,S1,A,C,4,0,9\nshipment,S2,B,C,4,0,8\nanswer,optimal,300\nleg,S1,A,B,0,4\nleg,S2,B,C,0,5\nleg,S1,B,C,4,9\nend\n",
+            12,
+            "rejected,3\n",
+        ),
+        (
+            "check",
+            "terminal,A\nterminal,B\nterminal,C\narc,A,B,4,10,100,0\narc,B,C,5,10,100,0\nshipment,S1,A,C,4,0,9\nshipment,S2,B,C,4,0,8\nanswer,optimal,300\nleg,S1,A,B,0,4\nleg,S2,B,C,0,5\nleg,S1,B,C,4,9\ntruck,A,B,0,1,4\ntruck,B,C,0,1,4\ntruck,B,C,4,1,4\npoint,C,8,1\nleaf,linear,1,forced\nend\n",
+            12,
+            "rejected,4\n",
+        ),
+        (
+            "check",
+            "terminal,A\nterminal,B\nterminal,C\narc,A,B,4,10,100,0\narc,B,C,5,10,100,0\nshipment,S1,A,C,4,0,9\nshipment,S2,B,C,4,0,8\nanswer,optimal,300\nleg,S1,A,B,0,4\nleg,S2,B,C,0,5\nleg,S1,B,C,4,9\ntruck,A,B,0,1,4\ntruck,B,C,0,1,4\ntruck,B,C,4,1,4\npoint,B,4,1\nleaf,linear,1,forced\nleaf,linear,1,forced\nend\n",
+            12,
+            "rejected,6\n",
+        ),
+        (
+            "check",
+            "terminal,A\nterminal,B\nterminal,C\narc,A,B,4,10,100,0\narc,B,C,5,10,100,0\nshipment,S1,A,C,4,0,9\nshipment,S2,B,C,4,0,8\nanswer,optimal,300\nleg,S1,A,B,0,4\nleg,S2,B,C,0,5\nleg,S1,B,C,4,9\ntruck,A,B,0,1,4\ntruck,B,C,0,1,4\ntruck,B,C,4,1,4\npoint,B,4,1\nleaf,linear,0,forced\nend\n",
+            12,
+            "rejected,7\n",
+        ),
+        (
+            "check",
+            "terminal,A\nterminal,B\narc,A,B,5,10,100,1\nshipment,S1,A,B,4,0,10\nanswer,optimal,104\nlag,S1,A,B,0,5\n",
+            21,
+            "refused,6,21\n",
+        ),
+        (
+            "check",
+            "terminal,A\nterminal,B\narc,A,B,5,10,100,1\nshipment,S1,A,B,4,0,10\nanswer,optimal,104\nleg,S1,A,B,0,5\nleaf,7,0,plain\n",
+            21,
+            "refused,7,28\n",
+        ),
+        (
+            "check",
+            "terminal,A\nterminal,B\narc,A,B,5,10,100,1\nshipment,S1,A,B,4,0,10\nanswer,optimal,104\nscale,1000000000\nscale,1\n",
+            21,
+            "refused,7,24\n",
+        ),
+        (
+            "check",
+            "terminal,A\nterminal,B\narc,A,B,5,10,100,1\nshipment,S1,A,B,4,0,10\n",
+            21,
+            "refused,5,26\n",
+        ),
+        (
+            "check",
+            "terminal,A\nterminal,B\narc,A,B,5,10,100,1\nshipment,S1,A,B,4,0,10\nanswer,direct,104\nend\nend\n",
+            21,
+            "refused,7,27\n",
+        ),
+        (
+            "check",
+            "terminal,A\nterminal,A\nanswer,best,1\n",
+            21,
+            "refused,2,6\n",
         ),
     ];
     for (line, input, code, want) in rows {

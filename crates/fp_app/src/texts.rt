@@ -1,31 +1,48 @@
 // The text of an answer.
-ghost use Rattle.std.specs.Prelude.{◌≡◌, ◌<◌, ◌++◌, ◌∷◌, [], codes, decimal, length, IfOk};
-ghost use Rattle.fp_model.specs.Numbered.{shipment_at};
+ghost use Rattle.std.specs.Prelude.{◌≡◌, ◌<◌, ◌∷◌, [], codes, decimal, length, IfOk};
 ghost use Rattle.fp_model.specs.Plans.{IsPlan};
 ghost use Rattle.fp_records.specs.Text.{line_of};
 ghost use Rattle.fp_app.specs.Shown.{IsPrintable};
-ghost use Rattle.fp_app.specs.Texts.{IsText, end_fields, infeasible_fields};
+ghost use Rattle.fp_app.specs.Texts.{IsText, kind_text, timetable_of};
 
-use crate::lines::{add_direct, add_end, add_infeasible, add_legs, add_trucks};
-use crate::{NoMemory, Shown};
+use crate::{AnswerKind, NoMemory, Shown};
+use fp_certificate::{Answer, Certificate, write};
 use fp_model::{Instance, Plan, cost};
 use fp_records::Line;
-use fp_timetable::{legs, trucks};
+use fp_timetable::{LegLine, TruckLine, legs, trucks};
 use std::alloc::Global;
+
+// A certificate of an answer with a timetable and no more.
+fn timetable_of(
+    alloc: Global,
+    answer: Answer,
+    legs: Vec<LegLine>,
+    trucks: Vec<TruckLine>,
+) -> Certificate
+    ensures { result ≡ timetable_of answer legs.items trucks.items }
+{
+    Certificate {
+        answer,
+        scale: None,
+        legs,
+        trucks,
+        points: Vec::new(alloc),
+        tables: Vec::new(alloc),
+        tree: Vec::new(alloc),
+    }
+}
 
 // The answer, the leg lines, the truck lines and the end.
 fn direct_text(alloc: Global, instance: &Instance, plan: &Plan) -> Result<Vec<u8>, NoMemory>
     requires { IsPlan instance.now 1 plan.now }
     ensures { IfOk result (λ text. IsText (Shown.Direct instance.now plan.now) text.items) }
 {
+    let answer = Answer::Direct {
+        cost: cost(instance, plan),
+    };
     let legs = legs(alloc, instance, plan)?;
     let trucks = trucks(alloc, instance, plan)?;
-    let mut line = Line::new(alloc)?;
-    add_direct(&mut line, cost(instance, plan))?;
-    add_legs(&mut line, instance, &legs)?;
-    add_trucks(&mut line, instance, &trucks)?;
-    add_end(&mut line)?;
-    Ok(line.into_bytes())
+    write(alloc, instance, &timetable_of(alloc, answer, legs, trucks))
 }
 
 // The name of the shipment, its fastest time and the end.
@@ -36,21 +53,46 @@ fn infeasible_text(
     time: Option<u32>,
 ) -> Result<Vec<u8>, NoMemory>
     requires { shipment < length instance.now.shipments }
-    ensures { IfOk result (λ text. text.items ≡ line_of (infeasible_fields (shipment_at instance.now shipment).name time) ++ line_of end_fields) }
+    ensures { IfOk result (λ text. IsText (Shown.Infeasible instance.now shipment time) text.items) }
+{
+    let answer = Answer::Infeasible { shipment, time };
+    write(
+        alloc,
+        instance,
+        &timetable_of(alloc, answer, Vec::new(alloc), Vec::new(alloc)),
+    )
+}
+
+// `accepted` and the kind of an answer.
+fn accepted_text(alloc: Global, kind: AnswerKind) -> Result<Vec<u8>, NoMemory>
+    ensures { IfOk result (λ text. text.items ≡ line_of (codes "accepted" ∷ kind_text kind ∷ [])) }
+{
+    match kind {
+        AnswerKind::Direct => pair_text(alloc, b"accepted", b"direct"),
+        AnswerKind::Optimal => pair_text(alloc, b"accepted", b"optimal"),
+        AnswerKind::Unfinished => pair_text(alloc, b"accepted", b"unfinished"),
+        AnswerKind::Infeasible => pair_text(alloc, b"accepted", b"infeasible"),
+    }
+}
+
+// `rejected` and the number of a part.
+fn rejected_text(alloc: Global, number: u32) -> Result<Vec<u8>, NoMemory>
+    ensures { IfOk result (λ text. text.items ≡ line_of (codes "rejected" ∷ decimal number ∷ [])) }
 {
     let mut line = Line::new(alloc)?;
-    add_infeasible(&mut line, instance.shipment(shipment).name.bytes(), time)?;
-    add_end(&mut line)?;
+    line.word(b"rejected")?;
+    line.number(u128::from(number))?;
+    line.end()?;
     Ok(line.into_bytes())
 }
 
-// `refused` and a reason.
-fn refusal_text(alloc: Global, reason: &[u8]) -> Result<Vec<u8>, NoMemory>
-    ensures { IfOk result (λ text. text.items ≡ line_of (codes "refused" ∷ reason.now ∷ [])) }
+// A line of two words.
+fn pair_text(alloc: Global, first: &[u8], second: &[u8]) -> Result<Vec<u8>, NoMemory>
+    ensures { IfOk result (λ text. text.items ≡ line_of (first.now ∷ second.now ∷ [])) }
 {
     let mut line = Line::new(alloc)?;
-    line.word(b"refused")?;
-    line.word(reason)?;
+    line.word(first)?;
+    line.word(second)?;
     line.end()?;
     Ok(line.into_bytes())
 }
@@ -81,9 +123,11 @@ pub fn text(alloc: Global, shown: &Shown) -> Result<Vec<u8>, NoMemory>
             shipment,
             time,
         } => infeasible_text(alloc, instance, *shipment, *time),
-        Shown::BadWords => refusal_text(alloc, b"words"),
+        Shown::Accepted { kind } => accepted_text(alloc, *kind),
+        Shown::RejectedPart { number } => rejected_text(alloc, *number),
+        Shown::BadWords => pair_text(alloc, b"refused", b"words"),
         Shown::BadInput { ordinal, code } => fault_text(alloc, *ordinal, *code),
-        Shown::TooLong => refusal_text(alloc, b"long"),
+        Shown::TooLong => pair_text(alloc, b"refused", b"long"),
         Shown::Nothing => Ok(Vec::new(alloc)),
     }
 }

@@ -1,11 +1,13 @@
 // The top call.
 ghost use Rattle.std.specs.Prelude.{◌≡◌, ◌⊎◌, ◌<◌, ◌≤◌, ℕ, List, length, None, Some};
 ghost use Rattle.fp_ends.specs.Causes.{Rose};
-ghost use Rattle.fp_app.specs.Causes.{ShowsFault, ShowsNone, ShowsPlan, StatusOf};
-ghost use Rattle.fp_app.specs.Runs.{Answers, Leaves, Settles, Writes, direct_limit, reach_of};
+ghost use Rattle.fp_app.specs.Causes.{ShowsDone, ShowsFault, ShowsNo, ShowsNone, StatusOf};
+ghost use Rattle.fp_app.specs.Inputs.{limit_of};
+ghost use Rattle.fp_app.specs.Runs.{Answers, Leaves, Settles, Writes, reach_of};
 ghost use Rattle.fp_app.specs.Words.{order_of, texts};
 
-use crate::answer::{Stop, answer};
+use crate::answer::answer;
+use crate::inputs::Stop;
 use crate::{Ran, Shown, Status, text};
 use fp_ends::{Sink, Source, WriteFault, write_all};
 use std::alloc::Global;
@@ -44,13 +46,15 @@ pub fn run<S: Source, K: Sink>(alloc: Global, words: &[String], source: &mut S, 
 
     // The causes of the other statuses, where the source tells its input.
     ensures too_long { (input : List ℕ) → S.left source.old ≡ Some input → result.status ≡ Status.TooLong
-        → direct_limit < length input }
+        → limit_of (order_of (texts words.now)) < length input }
     ensures bad_input { (input : List ℕ) → S.left source.old ≡ Some input → result.status ≡ Status.BadInput
-        → ShowsFault input result.shown }
+        → ShowsFault (order_of (texts words.now)) input result.shown }
     ensures infeasible { (input : List ℕ) → S.left source.old ≡ Some input → result.status ≡ Status.Infeasible
         → ShowsNone input result.shown }
     ensures done { (input : List ℕ) → S.left source.old ≡ Some input → result.status ≡ Status.Done
-        → ShowsPlan input result.shown }
+        → ShowsDone (order_of (texts words.now)) input result.shown }
+    ensures rejected { (input : List ℕ) → S.left source.old ≡ Some input → result.status ≡ Status.Rejected
+        → ShowsNo input result.shown }
 
     // With memory and without a fault the status is the one that the words and the input have.
     ensures completes { (input : List ℕ) → S.left source.old ≡ Some input

@@ -9,6 +9,8 @@ use thiserror::Error;
 pub enum Order {
     /// Each shipment's fastest timetable.
     Direct,
+    /// Whether a certificate is accepted.
+    Check,
 }
 
 /// Why words give no order.
@@ -24,7 +26,7 @@ pub enum WordFault {
 
 /// The order that the words after the program's name give.
 ///
-/// `BadWords` comes exactly where they have none of the forms. The one form is the single word `direct`.
+/// `BadWords` comes exactly where they have none of the forms. The forms are the single words `direct` and `check`.
 pub fn read_words(_alloc: Global, words: &[String]) -> Result<Order, WordFault>
     ensures { Orders (order_of (texts words.now)) result }
 {
@@ -33,6 +35,8 @@ pub fn read_words(_alloc: Global, words: &[String]) -> Result<Order, WordFault>
     };
     if word.as_str() == "direct" {
         Ok(Order::Direct)
+    } else if word.as_str() == "check" {
+        Ok(Order::Check)
     } else {
         Err(WordFault::BadWords)
     }

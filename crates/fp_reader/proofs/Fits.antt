@@ -34,7 +34,7 @@ pub record IsShipmentFit (p : Problem) (fields : List (List ℕ)) : Type 0 where
   pub room : length p.shipments < 500
 
 -- a number within its limits
-between : (low high : ℕ) (fields : List (List ℕ)) (place : ℕ) → is_between low high fields place ≡ true
+pub between : (low high : ℕ) (fields : List (List ℕ)) (place : ℕ) → is_between low high fields place ≡ true
     → (low ≤ number_at fields place) × (number_at fields place ≤ high)
 between low high fields place h =
     let n = number_at fields place in
@@ -42,7 +42,7 @@ between low high fields place h =
     (leb-true low n parts.0, leb-true n high parts.1)
 
 -- the number of a terminal that is there
-there : (names : List (List ℕ)) (name : List ℕ) (found : Option ℕ) → number_of names name ≡ found → is_none found ≡ false
+pub there : (names : List (List ℕ)) (name : List ℕ) (found : Option ℕ) → number_of names name ≡ found → is_none found ≡ false
     → unwrap_or found 0 < length names
 there names name None e h = absurd (cc h)
 there names name (Some i) e h = (position-Some (bytes_eq name) names i [] e).0

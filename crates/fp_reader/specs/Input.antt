@@ -13,7 +13,7 @@ pub record Fault : Type 0 where
   pub code : ℕ
 
 -- the fault of the record with this ordinal, if it has a code, or else what is read with the records after it
-abbrev pub first_fault : ℕ → Option ℕ → Result Problem Fault → Result Problem Fault
+abbrev pub first_fault : {A : Type 0} → ℕ → Option ℕ → Result A Fault → Result A Fault
 first_fault ordinal (Some code) rest = Err (record { ordinal = ordinal; code = code })
 first_fault ordinal None rest = rest
 

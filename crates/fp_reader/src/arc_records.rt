@@ -6,7 +6,7 @@ ghost use Rattle.fp_reader.specs.Fields.{number_at};
 ghost use Rattle.fp_reader.specs.Parts.{arc_in};
 
 use crate::codes::RecordFault;
-use crate::digits::{number_between, short_between};
+use crate::digits::{long_between, short_between};
 use crate::drafts::Draft;
 use crate::ends::ends_of;
 use crate::fields::{field_at, has_fields, has_name, has_number};
@@ -48,9 +48,9 @@ fn arc_numbers(line: &Record) -> Option<ArcNumbers>
         × (n ≡ record { time = number_at line.now 3; capacity = number_at line.now 4; truck = number_at line.now 5; freight = number_at line.now 6 })) }
 {
     let time = short_between(field_at(line, 3), 1, LONGEST_TIME)?;
-    let capacity = number_between(field_at(line, 4), 1, MOST)?;
-    let truck = number_between(field_at(line, 5), 0, MOST)?;
-    let freight = number_between(field_at(line, 6), 0, MOST)?;
+    let capacity = long_between(field_at(line, 4), 1, MOST)?;
+    let truck = long_between(field_at(line, 5), 0, MOST)?;
+    let freight = long_between(field_at(line, 6), 0, MOST)?;
     Some(ArcNumbers {
         time,
         capacity,

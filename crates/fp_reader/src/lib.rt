@@ -4,12 +4,12 @@
 mod additions;
 mod arc_records;
 mod codes;
-mod digits;
+pub mod digits;
 mod drafts;
 mod ends;
 mod faults;
-mod fields;
-mod numbering;
+pub mod fields;
+pub mod numbering;
 mod reading;
 mod shipment_records;
 mod terminal_records;

@@ -6,7 +6,7 @@ ghost use Rattle.fp_reader.specs.Fields.{number_at};
 ghost use Rattle.fp_reader.specs.Parts.{terminal_in};
 
 use crate::codes::RecordFault;
-use crate::digits::{number_between, short_between};
+use crate::digits::{long_between, short_between};
 use crate::drafts::Draft;
 use crate::ends::ends_of;
 use crate::fields::{field_at, has_fields, has_name, has_number};
@@ -55,7 +55,7 @@ fn shipment_numbers(line: &Record) -> Option<ShipmentNumbers>
         (λ n. (has_shipment_ranges line.now ≡ true)
         × (n ≡ record { size = number_at line.now 4; release = number_at line.now 5; due = number_at line.now 6 })) }
 {
-    let size = number_between(field_at(line, 4), 1, LARGEST_SIZE)?;
+    let size = long_between(field_at(line, 4), 1, LARGEST_SIZE)?;
     let release = short_between(field_at(line, 5), 0, LATEST)?;
     let due = short_between(field_at(line, 6), 0, LATEST)?;
     Some(ShipmentNumbers { size, release, due })

@@ -4,13 +4,14 @@ use Rattle.fp_reader.specs.Fields.{number}
 use Rattle.fp_reader.proofs.Numerals.{value-grows, value-step}
 use Rattle.fp_reader.proofs.digits.number_up_to.Goals as goal
 
-pub returns-then-value-high : goal.returns-then-value-high
-returns-then-value-high c =
+pub returns-in_err-value : goal.returns-in_err-value
+returns-in_err-value c =
     let digits = c.args.digits.now in
     let i = c.loop-digit.digit-index in
     let next = c.loop-digit.value * 10 + (get_or digits i 0 - 48) in
     let step = value-step c.loop-digit.value digits i c.requires.digits (omega arith) in
     let grows = value-grows next (drop (i + 1) digits) in
     let total = sym step ∙ c.loop-digit.invariant.value in
-    let above : c.args.high < number digits = omega (arith, c.if-value-high.true, c.from.ensures, grows, total) in
-    and_right (leb 0 (number digits)) (leb (number digits) c.args.high) (lt-leb (number digits) c.args.high above)
+    let over : c.args.high < next = c.in_err-value.ensures in
+    let above : c.args.high < number digits = omega (arith, over, grows, total) in
+    rw c.from_residual.ensures (and_right (leb 0 (number digits)) (leb (number digits) c.args.high) (lt-leb (number digits) c.args.high above))

@@ -1,0 +1,62 @@
+-- What `check` shows.
+use Rattle.std.specs.Prelude.{ℕ, ◌≡◌, [], Option, Some, None}
+use Rattle.fp_model.specs.Problem.{Problem}
+use Rattle.fp_flatnet.specs.Belonging.{BelongsTo}
+use Rattle.fp_flatnet.specs.Tables.{WindowTable, windows_in}
+use Rattle.fp_flatnet.specs.Windows.{AreWindows}
+use Rattle.fp_lines.specs.declared.certificates.Answer.{Answer}
+use Rattle.fp_lines.specs.declared.certificates.Answer.TheVariants as answer
+use Rattle.fp_lines.specs.Statements.{Statement}
+use Rattle.fp_checker.specs.Accepted.{IsAccepted, IsFirstFailed}
+use Rattle.fp_checker.specs.Claims.{Claims}
+use Rattle.fp_app.specs.declared.shown.AnswerKind.{AnswerKind}
+use Rattle.fp_app.specs.declared.shown.AnswerKind.TheVariants as kind
+use Rattle.fp_app.specs.declared.shown.Shown.{Shown}
+use Rattle.fp_app.specs.declared.shown.Shown.TheVariants as shown
+
+-- the kind of an answer
+abbrev pub kind_of : Answer → AnswerKind
+kind_of (answer.Direct cost) = kind.Direct
+kind_of (answer.Optimal cost) = kind.Optimal
+kind_of (answer.Unfinished cost bound spent) = kind.Unfinished
+kind_of (answer.Infeasible shipment time) = kind.Infeasible
+
+-- the scale that a certificate names, and 1,000,000 where it names none
+abbrev pub scale_of : Option ℕ → ℕ
+scale_of None = 1000000
+scale_of (Some scale) = scale
+
+-- the instance with a certificate's scale
+abbrev pub scaled : Problem → Statement → Problem
+scaled p c = record p { scale = scale_of c.scale }
+
+-- the windows of the instance, without anchors
+pub record AreWindowsOf (p : Problem) (table : WindowTable) : Type 0 where
+  pub exact : AreWindows p (windows_in table)
+  pub bare : table.anchors ≡ []
+  pub belongs : BelongsTo p table
+
+-- the certificate is accepted for the instance and its windows
+pub record IsAcceptedFor (p : Problem) (c : Statement) : Type 0 where
+  pub table : WindowTable
+  pub windows : AreWindowsOf p table
+  pub accepted : IsAccepted p table c
+
+-- the certificate is accepted, its answer is of this kind, and what it claims of all plans, over every denominator, is true
+pub record ShowsAccepted (p : Problem) (c : Statement) (k : AnswerKind) : Type 0 where
+  pub is_kind : k ≡ kind_of c.answer
+  pub accepted : IsAcceptedFor p c
+  pub claims : Claims p c.answer
+
+-- the certificate isn't accepted, and this is the number of the first part that fails
+pub record ShowsRejected (p : Problem) (c : Statement) (number : ℕ) : Type 0 where
+  pub table : WindowTable
+  pub windows : AreWindowsOf p table
+  pub first : IsFirstFailed p table c number
+  pub rejected : IsAcceptedFor p c → ⊥
+
+-- what is shown of a certificate
+abbrev pub ShowsCheck : Problem → Statement → Shown → Type 0
+ShowsCheck p c (shown.Accepted kind) = ShowsAccepted p c kind
+ShowsCheck p c (shown.RejectedPart number) = ShowsRejected p c number
+ShowsCheck p c _ = ⊥

@@ -1,0 +1,15 @@
+mod Differing
+mod LastElements
+mod LineRanges
+mod LinesBack
+mod ListsBack
+pub mod NamesBack
+pub mod NumbersBack
+mod PlainRows
+pub mod Ranged
+mod ReadEnds
+mod SegmentsBack
+mod TableCounts
+mod TablesBack
+mod Worked
+pub mod WrittenBack

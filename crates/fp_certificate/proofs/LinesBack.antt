@@ -1,0 +1,265 @@
+-- Each written line has no fault where it can stand, and gives what it was written for.
+use Rattle.std.proofs.Common.{◌≡◌, ℕ, ◌+◌, ◌^◌, ◌<◌, ◌≤◌, Bool, true, false, List, [], length, refl, arith}
+use Rattle.std.specs.Prelude.{Option, Some, None, ◌||◌, codes, IfSome, if◌then◌else◌, is_some}
+use Rattle.std.specs.Str.{bytes_eq}
+use Rattle.std.proofs.lemmas.Bool.{eq-eqb, lt-ltb}
+use Rattle.fp_model.specs.Problem.{IsValid, Problem, weight_at}
+use Rattle.fp_prices.specs.declared.leaf_prices.Kind.{Kind}
+use Rattle.fp_prices.specs.declared.leaf_prices.Kind.TheVariants as price
+use Rattle.fp_prices.specs.declared.leaf_prices.LeafPrice.{LeafPrice}
+use Rattle.fp_prices.specs.declared.tables.Weight.{Weight}
+use Rattle.fp_prices.specs.Shares.{ClassShare}
+use Rattle.fp_prices.specs.Tables.{HasKind}
+use Rattle.fp_reader.specs.Fields.{is_number, is_within, number}
+use Rattle.fp_records.specs.Fields.{is_empty}
+use Rattle.fp_timenodes.specs.declared.places.AddedPoint.{AddedPoint}
+use Rattle.fp_timetable.specs.declared.lines.LegLine.{LegLine}
+use Rattle.fp_timetable.specs.declared.lines.TruckLine.{TruckLine}
+use Rattle.fp_tree.specs.declared.sides.Split.{Split}
+use Rattle.fp_tree.specs.declared.sides.Split.TheVariants as split
+use Rattle.fp_lines.specs.declared.certificates.Answer.{Answer}
+use Rattle.fp_lines.specs.declared.certificates.Answer.TheVariants as answer
+use Rattle.fp_lines.specs.declared.certificates.Node.{Node}
+use Rattle.fp_lines.specs.declared.certificates.Node.TheVariants as node
+use Rattle.fp_lines.specs.declared.certificates.Spent.{Spent}
+use Rattle.fp_lines.specs.declared.certificates.Spent.TheVariants as spent
+use Rattle.fp_certificate.specs.declared.drafts.Draft.{Draft}
+use Rattle.fp_certificate.specs.declared.groups.Group.TheVariants as group
+use Rattle.fp_certificate.specs.Answers.{with_answer, with_scale}
+use Rattle.fp_certificate.specs.Groups.{has_ended, is_misplaced}
+use Rattle.fp_certificate.specs.Points.{with_point}
+use Rattle.fp_lines.specs.Ranges.{IsAnswerInRange, IsLeafInRange, IsLegInRange, IsNodeInRange, IsPointInRange, IsScaleInRange, IsShareInRange, IsSplitInRange, IsTruckInRange, IsWeightInRange, largest}
+use Rattle.fp_certificate.specs.Reading.{line_code, nothing_read, with_line}
+use Rattle.fp_lines.specs.Rows.{answer_fields, end_fields, kind_text, leaf_fields, leg_fields, mode_text, node_fields, point_fields, scale_fields, share_fields, split_fields, table_fields, truck_fields, weight_fields}
+use Rattle.fp_certificate.specs.Tables.{lacks_share, with_share, with_table, with_weight}
+use Rattle.fp_certificate.specs.Timetables.{with_leg, with_truck}
+use Rattle.fp_certificate.specs.Trees.{with_end, with_node}
+use Rattle.fp_certificate.proofs.NamesBack.{arc-back, shipment-back, terminal-back}
+use Rattle.fp_certificate.proofs.NumbersBack.{large-back, no-word, number-back, time-back, within-back}
+
+-- a line has no fault and takes one draft to another
+pub record IsStep (p : Problem) (before : Draft) (fields : List (List ℕ)) (after : Draft) : Type 0 where
+  pub clean : line_code p before fields ≡ None
+  pub gives : with_line p before fields ≡ after
+
+pub leg-step : (p : Problem) (before : Draft) (l : LegLine) → IsValid p → IsLegInRange p l → has_ended before ≡ false → is_misplaced before group.Legs ≡ false
+    → IsStep p before (leg_fields p l) (with_leg before l)
+leg-step p before l v r open_still placed =
+    let shipment = shipment-back p l.shipment v r.exists.0 in
+    let arc = arc-back p l.arc v r.exists.1 in
+    let depart = time-back l.depart r.depart in
+    let arrive = time-back l.arrive r.arrive in
+    record {
+      clean = rw (open_still, placed, depart.is, arrive.is, shipment, arc, within-back 0 100000 l.depart (omega arith) r.depart depart, within-back 0 100000 l.arrive (omega arith) r.arrive arrive) refl;
+      gives = rw (shipment, arc, depart.value, arrive.value) refl;
+    }
+
+pub truck-step : (p : Problem) (before : Draft) (t : TruckLine) → IsValid p → IsTruckInRange p t → has_ended before ≡ false → is_misplaced before group.Trucks ≡ false
+    → IsStep p before (truck_fields p t) (with_truck before t)
+truck-step p before t v r open_still placed =
+    let arc = arc-back p t.arc v r.exists in
+    let depart = time-back t.depart r.depart in
+    let trucks = large-back t.trucks r.trucks in
+    let load = large-back t.load r.load in
+    record {
+      clean =
+          rw (
+            open_still,
+            placed,
+            depart.is,
+            trucks.is,
+            load.is,
+            arc,
+            within-back 0 100000 t.depart (omega arith) r.depart depart,
+            within-back 0 largest t.trucks (omega arith) r.trucks trucks,
+            within-back 0 largest t.load (omega arith) r.load load,
+          ) refl;
+      gives = rw (arc, depart.value, trucks.value, load.value) refl;
+    }
+
+pub point-step : (p : Problem) (before : Draft) (point : AddedPoint) → IsValid p → IsPointInRange p point → has_ended before ≡ false
+    → is_misplaced before group.Points ≡ false → IsStep p before (point_fields p point) (with_point before point)
+point-step p before point v r open_still placed =
+    let terminal = terminal-back p point.terminal v r.terminal in
+    let at = time-back point.at r.time in
+    let round = time-back point.round (omega (arith, r.round)) in
+    record {
+      clean =
+          rw (
+            open_still,
+            placed,
+            at.is,
+            round.is,
+            terminal,
+            within-back 0 100000 point.at (omega arith) r.time at,
+            within-back 1 4000 point.round r.round.0 r.round.1 round,
+          ) refl;
+      gives = rw (terminal, at.value, round.value) refl;
+    }
+
+-- a scale, where there is none yet
+pub scale-step : (p : Problem) (before : Draft) (n : ℕ) → IsScaleInRange p n → has_ended before ≡ false → is_misplaced before group.Scale ≡ false
+    → is_some before.certificate.scale ≡ false → IsStep p before (scale_fields n) (with_scale before n)
+scale-step p before n r open_still placed none =
+    let back = number-back n (omega (arith, r.most)) in
+    record {
+      clean = rw (open_still, placed, none, back.is, within-back 1 (10 ^ 9) n r.least r.most back, back.value, lt-ltb (weight_at n p.arcs p.shipments) (2 ^ 127) r.fits) refl;
+      gives = rw back.value refl;
+    }
+
+-- a table with the next number
+pub table-step : (p : Problem) (before : Draft) (id : ℕ) → id ≡ length before.certificate.tables + 1 → id < 10 ^ 64 → has_ended before ≡ false
+    → is_misplaced before group.Tables ≡ false → IsStep p before (table_fields id) (with_table before)
+table-step p before id next small open_still placed =
+    let back = number-back id small in
+    record {
+      clean = rw (open_still, placed, back.is, back.value, eq-eqb id (length before.certificate.tables + 1) next) refl;
+      gives = refl;
+    }
+
+-- a share, without its weights
+pub share-step : (p : Problem) (before : Draft) (s : ClassShare) → IsValid p → IsShareInRange p s → has_ended before ≡ false
+    → is_misplaced before group.Tables ≡ false → is_empty before.certificate.tables ≡ false
+    → IsStep p before (share_fields p s) (with_share before (record s { weights = [] }))
+share-step p before s v r open_still placed some =
+    let arc = arc-back p s.arc v r.arc in
+    let point = time-back s.point r.point in
+    let v-back = large-back s.v r.price in
+    record {
+      clean =
+          rw (
+            open_still,
+            placed,
+            some,
+            point.is,
+            v-back.is,
+            arc,
+            within-back 0 100000 s.point (omega arith) r.point point,
+            within-back 0 largest s.v (omega arith) r.price v-back,
+          ) refl;
+      gives = rw (arc, point.value, v-back.value) refl;
+    }
+
+pub weight-step : (p : Problem) (before : Draft) (w : Weight) → IsValid p → IsWeightInRange p w → has_ended before ≡ false
+    → is_misplaced before group.Tables ≡ false → lacks_share before.certificate.tables ≡ false
+    → IsStep p before (weight_fields p w) (with_weight before w)
+weight-step p before w v r open_still placed some =
+    let shipment = shipment-back p w.shipment v r.shipment in
+    let back = large-back w.w r.small in
+    record {
+      clean = rw (open_still, placed, some, back.is, shipment, within-back 0 largest w.w (omega arith) r.small back) refl;
+      gives = rw (shipment, back.value) refl;
+    }
+
+-- a split
+split-step : (p : Problem) (before : Draft) (s : Split) → IsValid p → IsSplitInRange p s → has_ended before ≡ false → is_misplaced before group.Tree ≡ false
+    → IsStep p before (split_fields p s) (with_node before (node.Branch s))
+split-step p before (split.ByArc shipment arc) v r open_still placed =
+    let shipment-is = shipment-back p shipment v r.0 in
+    let arc-is = arc-back p arc v r.1 in
+    record { clean = rw (open_still, placed, shipment-is, arc-is) refl; gives = rw (shipment-is, arc-is) refl }
+split-step p before (split.ByTime shipment terminal at) v r open_still placed =
+    let shipment-is = shipment-back p shipment v r.0 in
+    let terminal-is = terminal-back p terminal v r.1 in
+    let back = time-back at r.2 in
+    record {
+      clean = rw (open_still, placed, back.is, shipment-is, terminal-is, within-back 0 100000 at (omega arith) r.2 back) refl;
+      gives = rw (shipment-is, terminal-is, back.value) refl;
+    }
+
+-- the kind of a leaf's prices as it is read
+abbrev kind_read : List ℕ → Kind
+kind_read word = if bytes_eq word (codes "linear") then price.Linear else if bytes_eq word (codes "even") then price.Even else price.Table (number word)
+
+-- whether it is a word
+abbrev is_kind_word : List ℕ → Bool
+is_kind_word word = bytes_eq word (codes "linear") || bytes_eq word (codes "even")
+
+record IsKindBack (tables : List (List ClassShare)) (kind : Kind) : Type 0 where
+  is : (is_kind_word (kind_text kind) || is_number (kind_text kind)) ≡ true
+  within : (is_kind_word (kind_text kind) || is_within 1 (length tables) (kind_text kind)) ≡ true
+  same : kind_read (kind_text kind) ≡ kind
+
+kind-back : (tables : List (List ClassShare)) (kind : Kind) → length tables < 10 ^ 64 → HasKind tables kind → IsKindBack tables kind
+kind-back tables price.Linear few r = record { is = refl; within = refl; same = refl }
+kind-back tables price.Even few r = record { is = refl; within = refl; same = refl }
+kind-back tables (price.Table id) few r =
+    let back = number-back id (omega (arith, r.1)) in
+    let linear = no-word id (codes "linear") back refl in
+    let even = no-word id (codes "even") back refl in
+    record {
+      is = rw (linear, even, back.is) refl;
+      within = rw (linear, even, within-back 1 (length tables) id r.0 r.1 back) refl;
+      same = rw (linear, even, back.value) refl;
+    }
+
+-- whether a leaf pays forced classes whole is a word, and the word tells it
+mode-is : (forced : Bool) → (bytes_eq (mode_text forced) (codes "plain") || bytes_eq (mode_text forced) (codes "forced")) ≡ true
+mode-is true = refl
+mode-is false = refl
+
+mode-same : (forced : Bool) → bytes_eq (mode_text forced) (codes "forced") ≡ forced
+mode-same true = refl
+mode-same false = refl
+
+leaf-step : (p : Problem) (before : Draft) (l : LeafPrice) → length before.certificate.tables < 10 ^ 64 → IsLeafInRange before.certificate.tables l
+    → has_ended before ≡ false → is_misplaced before group.Tree ≡ false → IsStep p before (leaf_fields l) (with_node before (node.Leaf l))
+leaf-step p before l few r open_still placed =
+    let kind = kind-back before.certificate.tables l.kind few r.kind in
+    let back = time-back l.round (omega (arith, r.round)) in
+    record {
+      clean = rw (open_still, placed, kind.is, kind.within, mode-is l.forced, back.is, within-back 0 4000 l.round (omega arith) r.round back) refl;
+      gives = rw (kind.same, mode-same l.forced, back.value) refl;
+    }
+
+-- a node
+pub node-step : (p : Problem) (before : Draft) (n : Node) → IsValid p → length before.certificate.tables < 10 ^ 64 → IsNodeInRange p before.certificate.tables n
+    → has_ended before ≡ false → is_misplaced before group.Tree ≡ false → IsStep p before (node_fields p n) (with_node before n)
+node-step p before (node.Branch s) v few r open_still placed = split-step p before s v r open_still placed
+node-step p before (node.Leaf l) v few r open_still placed = leaf-step p before l few r open_still placed
+
+-- the end
+pub end-step : (p : Problem) (before : Draft) → has_ended before ≡ false → is_misplaced before group.End ≡ false → IsStep p before end_fields (with_end before)
+end-step p before open_still placed = record { clean = rw (open_still, placed) refl; gives = refl }
+
+-- the answer, which stands first
+unfinished-step : (p : Problem) (cost bound : ℕ) (s : Spent) → cost ≤ largest → bound ≤ largest
+    → IsStep p nothing_read (answer_fields p (answer.Unfinished cost bound s)) (with_answer nothing_read (answer.Unfinished cost bound s))
+unfinished-step p cost bound spent.Rounds costs bounds =
+    let cost-is = large-back cost costs in
+    let bound-is = large-back bound bounds in
+    record {
+      clean = rw (cost-is.is, bound-is.is, within-back 0 largest cost (omega arith) costs cost-is, within-back 0 largest bound (omega arith) bounds bound-is) refl;
+      gives = rw (cost-is.value, bound-is.value) refl;
+    }
+unfinished-step p cost bound spent.Branches costs bounds =
+    let cost-is = large-back cost costs in
+    let bound-is = large-back bound bounds in
+    record {
+      clean = rw (cost-is.is, bound-is.is, within-back 0 largest cost (omega arith) costs cost-is, within-back 0 largest bound (omega arith) bounds bound-is) refl;
+      gives = rw (cost-is.value, bound-is.value) refl;
+    }
+
+infeasible-step : (p : Problem) (shipment : ℕ) (time : Option ℕ) → IsValid p → shipment < length p.shipments → IfSome time (λ t. t ≤ 10000000)
+    → IsStep p nothing_read (answer_fields p (answer.Infeasible shipment time)) (with_answer nothing_read (answer.Infeasible shipment time))
+infeasible-step p shipment None v there fast =
+    let shipment-is = shipment-back p shipment v there in
+    record { clean = rw shipment-is refl; gives = rw shipment-is refl }
+infeasible-step p shipment (Some time) v there fast =
+    let shipment-is = shipment-back p shipment v there in
+    let back = number-back time (omega (arith, fast)) in
+    let some = no-word time (codes "none") back refl in
+    record {
+      clean = rw (some, back.is, shipment-is, within-back 0 10000000 time (omega arith) fast back) refl;
+      gives = rw (shipment-is, some, back.value) refl;
+    }
+
+pub answer-step : (p : Problem) (a : Answer) → IsValid p → IsAnswerInRange p a → IsStep p nothing_read (answer_fields p a) (with_answer nothing_read a)
+answer-step p (answer.Direct cost) v r =
+    let back = large-back cost r in
+    record { clean = rw (back.is, within-back 0 largest cost (omega arith) r back) refl; gives = rw back.value refl }
+answer-step p (answer.Optimal cost) v r =
+    let back = large-back cost r in
+    record { clean = rw (back.is, within-back 0 largest cost (omega arith) r back) refl; gives = rw back.value refl }
+answer-step p (answer.Unfinished cost bound s) v r = unfinished-step p cost bound s r.0 r.1
+answer-step p (answer.Infeasible shipment time) v r = infeasible-step p shipment time v r.0 r.1

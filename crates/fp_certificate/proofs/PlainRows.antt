@@ -1,0 +1,178 @@
+-- The written lines have plain fields alone.
+use Rattle.std.proofs.Common.{◌≡◌, ◌∙◌, ℕ, ◌+◌, ◌^◌, ◌-◌, ◌<◌, Bool, true, false, leb, List, [], ◌∷◌, ◌++◌, length, map, refl, arith}
+use Rattle.std.specs.Prelude.{Option, Some, None, All, ◌&&◌, ◌==◌, not, IfSome}
+use Rattle.std.specs.List.{AllByRecursion, flat_map, list_all}
+use Rattle.std.proofs.lemmas.Bool.{and_from, and_parts, ne_eqb}
+use Rattle.std.proofs.lemmas.List.Elements.{All-head, All-tail, recursion_from_All}
+use Rattle.std.proofs.lemmas.List.Folds.{list_all-append}
+use Rattle.fp_model.specs.Names.{IsName, is_name_byte}
+use Rattle.fp_model.specs.Numbered.{no_shipment}
+use Rattle.fp_model.specs.Problem.{IsValid, Problem, arc_at}
+use Rattle.fp_prices.specs.declared.leaf_prices.Kind.{Kind}
+use Rattle.fp_prices.specs.declared.leaf_prices.Kind.TheVariants as price
+use Rattle.fp_prices.specs.declared.tables.Weight.{Weight}
+use Rattle.fp_prices.specs.Shares.{ClassShare}
+use Rattle.fp_prices.specs.Tables.{HasKind}
+use Rattle.fp_reader.proofs.NameForm.{name-test}
+use Rattle.fp_records.specs.Fields.{is_empty}
+use Rattle.fp_records.specs.Text.{is_plain, is_plain_field, is_plain_record}
+use Rattle.fp_timenodes.specs.declared.places.AddedPoint.{AddedPoint}
+use Rattle.fp_timetable.specs.declared.lines.LegLine.{LegLine}
+use Rattle.fp_timetable.specs.declared.lines.TruckLine.{TruckLine}
+use Rattle.fp_tree.specs.declared.sides.Split.TheVariants as split
+use Rattle.fp_lines.specs.declared.certificates.Answer.{Answer}
+use Rattle.fp_lines.specs.declared.certificates.Answer.TheVariants as answer
+use Rattle.fp_lines.specs.declared.certificates.Node.{Node}
+use Rattle.fp_lines.specs.declared.certificates.Node.TheVariants as node
+use Rattle.fp_lines.specs.declared.certificates.Spent.TheVariants as spent
+use Rattle.fp_lines.specs.Ranges.{IsAnswerInRange, IsInRange, IsLegInRange, IsNodeInRange, IsPointInRange, IsScaleInRange, IsShareInRange, IsTruckInRange, IsWeightInRange}
+use Rattle.fp_certificate.specs.Readable.{HaveNames}
+use Rattle.fp_lines.specs.Rows.{answer_fields, head_name, kind_text, leg_fields, mode_text, node_fields, point_fields, rows_of, scale_rows, share_fields, share_rows, shipment_name, table_fields, table_rows, tables_rows, tail_name, terminal_name, truck_fields, weight_fields}
+use Rattle.fp_lines.specs.Statements.{Statement}
+use Rattle.fp_certificate.proofs.NamesBack.{arc-valid}
+use Rattle.fp_certificate.proofs.NumbersBack.{large-back, number-back, time-back}
+
+-- a byte of a name needs no quotes and is not stripped
+plain-letter : (b : ℕ) → is_name_byte b ≡ true → is_plain b ≡ true
+plain-letter b h =
+    rw (
+      ne_eqb b 44 (λ e. cc (rw e at h)),
+      ne_eqb b 34 (λ e. cc (rw e at h)),
+      ne_eqb b 13 (λ e. cc (rw e at h)),
+      ne_eqb b 10 (λ e. cc (rw e at h)),
+      ne_eqb b 32 (λ e. cc (rw e at h)),
+      ne_eqb b 9 (λ e. cc (rw e at h)),
+    ) refl
+
+plain-letters : (bytes : List ℕ) → list_all is_name_byte bytes ≡ true → list_all is_plain bytes ≡ true
+plain-letters [] h = refl
+plain-letters (b ∷ bytes) h =
+    let parts = and_parts (is_name_byte b) (list_all is_name_byte bytes) h in
+    and_from (is_plain b) (list_all is_plain bytes) (plain-letter b parts.0) (plain-letters bytes parts.1)
+
+-- a name is plain
+plain-name : (name : List ℕ) → IsName name → is_plain_field name ≡ true
+plain-name name is =
+    let outer = and_parts (not (length name == 0) && leb (length name) 32) (list_all is_name_byte name) (name-test name is) in
+    let inner = and_parts (not (length name == 0)) (leb (length name) 32) outer.0 in
+    and_from (not (is_empty name)) (list_all is_plain name) inner.0 (plain-letters name outer.1)
+
+-- what a terminal, a shipment and the ends of an arc are called
+terminal-plain : (p : Problem) (terminal : ℕ) → IsValid p → terminal < length p.terminals → is_plain_field (terminal_name p terminal) ≡ true
+terminal-plain p terminal v there = plain-name (terminal_name p terminal) (v.names terminal [] there)
+
+shipment-plain : (p : Problem) (shipment : ℕ) → HaveNames p → shipment < length p.shipments → is_plain_field (shipment_name p shipment) ≡ true
+shipment-plain p shipment named there = plain-name (shipment_name p shipment) (named shipment no_shipment there)
+
+tail-plain : (p : Problem) (arc : ℕ) → IsValid p → arc < length p.arcs → is_plain_field (tail_name p arc) ≡ true
+tail-plain p arc v there = terminal-plain p (arc_at p arc).from v (arc-valid p arc v there).from
+
+head-plain : (p : Problem) (arc : ℕ) → IsValid p → arc < length p.arcs → is_plain_field (head_name p arc) ≡ true
+head-plain p arc v there = terminal-plain p (arc_at p arc).to v (arc-valid p arc v there).to
+
+-- the line of an answer
+answer-plain : (p : Problem) (a : Answer) → HaveNames p → IsAnswerInRange p a → is_plain_record (answer_fields p a) ≡ true
+answer-plain p (answer.Direct cost) named r = rw (large-back cost r).plain refl
+answer-plain p (answer.Optimal cost) named r = rw (large-back cost r).plain refl
+answer-plain p (answer.Unfinished cost bound spent.Rounds) named r = rw ((large-back cost r.0).plain, (large-back bound r.1).plain) refl
+answer-plain p (answer.Unfinished cost bound spent.Branches) named r = rw ((large-back cost r.0).plain, (large-back bound r.1).plain) refl
+answer-plain p (answer.Infeasible shipment None) named r = rw (shipment-plain p shipment named r.0) refl
+answer-plain p (answer.Infeasible shipment (Some time)) named r = rw (shipment-plain p shipment named r.0, (number-back time (omega (arith, r.1))).plain) refl
+
+scale-plain : (p : Problem) (scale : Option ℕ) → IfSome scale (IsScaleInRange p) → list_all is_plain_record (scale_rows scale) ≡ true
+scale-plain p None r = refl
+scale-plain p (Some n) r = rw (number-back n (omega (arith, r.most))).plain refl
+
+leg-plain : (p : Problem) (l : LegLine) → IsValid p → HaveNames p → IsLegInRange p l → is_plain_record (leg_fields p l) ≡ true
+leg-plain p l v named r =
+    rw (
+      shipment-plain p l.shipment named r.exists.0,
+      tail-plain p l.arc v r.exists.1,
+      head-plain p l.arc v r.exists.1,
+      (time-back l.depart r.depart).plain,
+      (time-back l.arrive r.arrive).plain,
+    ) refl
+
+truck-plain : (p : Problem) (t : TruckLine) → IsValid p → IsTruckInRange p t → is_plain_record (truck_fields p t) ≡ true
+truck-plain p t v r =
+    rw (
+      tail-plain p t.arc v r.exists,
+      head-plain p t.arc v r.exists,
+      (time-back t.depart r.depart).plain,
+      (large-back t.trucks r.trucks).plain,
+      (large-back t.load r.load).plain,
+    ) refl
+
+point-plain : (p : Problem) (point : AddedPoint) → IsValid p → IsPointInRange p point → is_plain_record (point_fields p point) ≡ true
+point-plain p point v r =
+    rw (terminal-plain p point.terminal v r.terminal, (time-back point.at r.time).plain, (time-back point.round (omega (arith, r.round))).plain) refl
+
+weight-plain : (p : Problem) (w : Weight) → HaveNames p → IsWeightInRange p w → is_plain_record (weight_fields p w) ≡ true
+weight-plain p w named r = rw (shipment-plain p w.shipment named r.shipment, (large-back w.w r.small).plain) refl
+
+-- lines of elements that each have a plain line
+each-plain : {X : Type 0} (fields : X → List (List ℕ)) (P : X → Type 0) → ((x : X) → P x → is_plain_record (fields x) ≡ true)
+    → (xs : List X) → AllByRecursion P xs → list_all is_plain_record (map fields xs) ≡ true
+each-plain fields P plain [] all = refl
+each-plain fields P plain (x ∷ xs) all =
+    and_from (is_plain_record (fields x)) (list_all is_plain_record (map fields xs)) (plain x all.0) (each-plain fields P plain xs all.1)
+
+-- lines one after the other
+both-plain : (rows more : List (List (List ℕ))) → list_all is_plain_record rows ≡ true → list_all is_plain_record more ≡ true → list_all is_plain_record (rows ++ more) ≡ true
+both-plain rows more first second =
+    list_all-append is_plain_record rows more ∙ and_from (list_all is_plain_record rows) (list_all is_plain_record more) first second
+
+share-plain : (p : Problem) (s : ClassShare) → IsValid p → HaveNames p → IsShareInRange p s → list_all is_plain_record (share_rows p s) ≡ true
+share-plain p s v named r =
+    let line : is_plain_record (share_fields p s) ≡ true =
+    rw (tail-plain p s.arc v r.arc, head-plain p s.arc v r.arc, (time-back s.point r.point).plain, (large-back s.v r.price).plain) refl in
+    and_from (is_plain_record (share_fields p s)) (list_all is_plain_record (map (weight_fields p) s.weights)) line
+    (each-plain (weight_fields p) (IsWeightInRange p) (λ w. weight-plain p w named) s.weights (recursion_from_All (IsWeightInRange p) s.weights r.weights))
+
+shares-plain : (p : Problem) (shares : List ClassShare) → IsValid p → HaveNames p → All (IsShareInRange p) shares
+    → list_all is_plain_record (flat_map (share_rows p) shares) ≡ true
+shares-plain p [] v named all = refl
+shares-plain p (s ∷ shares) v named all =
+    both-plain (share_rows p s) (flat_map (share_rows p) shares) (share-plain p s v named (All-head (IsShareInRange p) s shares all))
+    (shares-plain p shares v named (All-tail (IsShareInRange p) s shares all))
+
+tables-plain : (p : Problem) (id : ℕ) (tables : List (List ClassShare)) → IsValid p → HaveNames p → id + length tables < 10 ^ 64 → All (All (IsShareInRange p)) tables
+    → list_all is_plain_record (tables_rows p id tables) ≡ true
+tables-plain p id [] v named few all = refl
+tables-plain p id (table ∷ tables) v named few all =
+    let line : is_plain_record (table_fields id) ≡ true = rw (number-back id (omega arith)).plain refl in
+    both-plain (table_rows p id table) (tables_rows p (id + 1) tables)
+    (and_from (is_plain_record (table_fields id)) (list_all is_plain_record (flat_map (share_rows p) table)) line
+    (shares-plain p table v named (All-head (All (IsShareInRange p)) table tables all)))
+    (tables-plain p (id + 1) tables v named (omega arith) (All-tail (All (IsShareInRange p)) table tables all))
+
+kind-plain : (tables : List (List ClassShare)) (kind : Kind) → length tables < 10 ^ 64 → HasKind tables kind → is_plain_field (kind_text kind) ≡ true
+kind-plain tables price.Linear few r = refl
+kind-plain tables price.Even few r = refl
+kind-plain tables (price.Table id) few r = (number-back id (omega (arith, r.1))).plain
+
+mode-plain : (forced : Bool) → is_plain_field (mode_text forced) ≡ true
+mode-plain true = refl
+mode-plain false = refl
+
+node-plain : (p : Problem) (tables : List (List ClassShare)) (n : Node) → IsValid p → HaveNames p → length tables < 10 ^ 64 → IsNodeInRange p tables n
+    → is_plain_record (node_fields p n) ≡ true
+node-plain p tables (node.Branch (split.ByArc shipment arc)) v named few r =
+    rw (shipment-plain p shipment named r.0, tail-plain p arc v r.1, head-plain p arc v r.1) refl
+node-plain p tables (node.Branch (split.ByTime shipment terminal at)) v named few r =
+    rw (shipment-plain p shipment named r.0, terminal-plain p terminal v r.1, (time-back at r.2).plain) refl
+node-plain p tables (node.Leaf l) v named few r =
+    rw (kind-plain tables l.kind few r.kind, (time-back l.round (omega (arith, r.round))).plain, mode-plain l.forced) refl
+
+-- all lines of a certificate
+pub rows-plain : (p : Problem) (c : Statement) → IsValid p → HaveNames p → IsInRange p c → length c.tables < 2 ^ 32 - 1 → list_all is_plain_record (rows_of p c) ≡ true
+rows-plain p c v named r few =
+    and_from (is_plain_record (answer_fields p c.answer)) _ (answer-plain p c.answer named r.answer)
+    (both-plain (scale_rows c.scale) _ (scale-plain p c.scale r.scale)
+    (both-plain (map (leg_fields p) c.legs) _ (each-plain (leg_fields p) (IsLegInRange p) (λ l. leg-plain p l v named) c.legs (recursion_from_All (IsLegInRange p) c.legs r.legs))
+    (both-plain (map (truck_fields p) c.trucks) _ (each-plain (truck_fields p) (IsTruckInRange p) (λ t. truck-plain p t v) c.trucks (recursion_from_All (IsTruckInRange p) c.trucks r.trucks))
+    (both-plain (map (point_fields p) c.points) _ (each-plain (point_fields p) (IsPointInRange p) (λ x. point-plain p x v) c.points (recursion_from_All (IsPointInRange p) c.points r.points))
+    (both-plain (tables_rows p 1 c.tables) _ (tables-plain p 1 c.tables v named (omega (arith, few)) r.tables)
+    (both-plain (map (node_fields p) c.tree) _
+    (each-plain (node_fields p) (IsNodeInRange p c.tables) (λ n. node-plain p c.tables n v named (omega (arith, few))) c.tree (recursion_from_All (IsNodeInRange p c.tables) c.tree r.tree))
+    refl))))))

@@ -1,0 +1,13 @@
+pub mod Kinds
+pub mod Places
+pub mod Groups
+pub mod Answers
+pub mod Timetables
+pub mod Points
+pub mod Tables
+pub mod Trees
+pub mod Reading
+pub mod Codes
+pub mod Outcomes
+pub mod Indexes
+pub mod Readable

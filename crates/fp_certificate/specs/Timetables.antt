@@ -1,0 +1,64 @@
+-- The lines of legs and of trucks: their faults in the order in which they are looked for, and what they give.
+use Rattle.std.specs.Prelude.{ℕ, List, [], ◌∷◌, ◌++◌, length, Bool, ◌&&◌, ◌||◌, not, ◌==◌, Some}
+use Rattle.fp_model.specs.Problem.{Problem}
+use Rattle.fp_reader.specs.Faults.{Finding, fault}
+use Rattle.fp_reader.specs.Fields.{has_number, is_between, number_at}
+use Rattle.fp_timetable.specs.declared.lines.LegLine.{LegLine}
+use Rattle.fp_timetable.specs.declared.lines.TruckLine.{TruckLine}
+use Rattle.fp_certificate.specs.declared.drafts.Draft.{Draft}
+use Rattle.fp_certificate.specs.declared.groups.Group.TheVariants as group
+use Rattle.fp_certificate.specs.Answers.{is_small}
+use Rattle.fp_certificate.specs.Groups.{is_misplaced}
+use Rattle.fp_certificate.specs.Places.{arc_in, lacks_arc, lacks_shipment, shipment_in}
+
+-- whether the field at a place is a time in range
+abbrev pub is_time : List (List ℕ) → ℕ → Bool
+is_time fields place = is_between 0 100000 fields place
+
+-- the faults of `leg,SHIPMENT,FROM,TO,DEPART,ARRIVE`
+abbrev pub leg_faults : Problem → Draft → List (List ℕ) → List Finding
+leg_faults p before fields =
+    fault 22 (not (length fields == 6))
+    ∷ fault 23 (not (has_number fields 4 && has_number fields 5))
+    ∷ fault 24 (is_misplaced before group.Legs)
+    ∷ fault 25 (lacks_shipment p fields 1 || lacks_arc p fields 2 3)
+    ∷ fault 28 (not (is_time fields 4 && is_time fields 5))
+    ∷ []
+
+-- the leg of a line
+abbrev pub leg_in : Problem → List (List ℕ) → LegLine
+leg_in p fields = record {
+  shipment = shipment_in p fields 1;
+  arc = arc_in p fields 2 3;
+  depart = number_at fields 4;
+  arrive = number_at fields 5;
+}
+
+-- a draft with one more leg
+abbrev pub with_leg : Draft → LegLine → Draft
+with_leg before leg =
+    record { certificate = record before.certificate { legs = before.certificate.legs ++ (leg ∷ []) }; latest = Some group.Legs }
+
+-- the faults of `truck,FROM,TO,DEPART,TRUCKS,LOAD`
+abbrev pub truck_faults : Problem → Draft → List (List ℕ) → List Finding
+truck_faults p before fields =
+    fault 22 (not (length fields == 6))
+    ∷ fault 23 (not (has_number fields 3 && has_number fields 4 && has_number fields 5))
+    ∷ fault 24 (is_misplaced before group.Trucks)
+    ∷ fault 25 (lacks_arc p fields 1 2)
+    ∷ fault 28 (not (is_time fields 3 && is_small fields 4 && is_small fields 5))
+    ∷ []
+
+-- the truck line of a line
+abbrev pub truck_in : Problem → List (List ℕ) → TruckLine
+truck_in p fields = record {
+  arc = arc_in p fields 1 2;
+  depart = number_at fields 3;
+  trucks = number_at fields 4;
+  load = number_at fields 5;
+}
+
+-- a draft with one more truck line
+abbrev pub with_truck : Draft → TruckLine → Draft
+with_truck before truck =
+    record { certificate = record before.certificate { trucks = before.certificate.trucks ++ (truck ∷ []) }; latest = Some group.Trucks }

@@ -1,0 +1,88 @@
+-- The lines of a tree and of the end: their faults in the order in which they are looked for, and what they give.
+use Rattle.std.specs.Prelude.{ℕ, List, [], ◌∷◌, ◌++◌, length, Bool, ◌&&◌, ◌||◌, not, ◌==◌, if◌then◌else◌, Some, codes}
+use Rattle.fp_model.specs.Problem.{Problem}
+use Rattle.fp_prices.specs.declared.leaf_prices.Kind.{Kind}
+use Rattle.fp_prices.specs.declared.leaf_prices.Kind.TheVariants.{Linear, Even, Table}
+use Rattle.fp_reader.specs.Faults.{Finding, fault}
+use Rattle.fp_reader.specs.Fields.{has_number, is_between, number_at}
+use Rattle.fp_tree.specs.declared.sides.Split.TheVariants.{ByArc, ByTime}
+use Rattle.fp_lines.specs.declared.certificates.Node.{Node}
+use Rattle.fp_lines.specs.declared.certificates.Node.TheVariants.{Branch, Leaf}
+use Rattle.fp_certificate.specs.declared.drafts.Draft.{Draft}
+use Rattle.fp_certificate.specs.declared.groups.Group.TheVariants as group
+use Rattle.fp_certificate.specs.Answers.{has_word}
+use Rattle.fp_certificate.specs.Groups.{is_misplaced}
+use Rattle.fp_certificate.specs.Places.{arc_in, lacks_arc, lacks_shipment, lacks_terminal, shipment_in, terminal_in}
+use Rattle.fp_certificate.specs.Timetables.{is_time}
+
+-- the faults of `split,arc,SHIPMENT,FROM,TO`
+abbrev pub by_arc_faults : Problem → Draft → List (List ℕ) → List Finding
+by_arc_faults p before fields =
+    fault 22 (not (length fields == 5))
+    ∷ fault 24 (is_misplaced before group.Tree)
+    ∷ fault 25 (lacks_shipment p fields 2 || lacks_arc p fields 3 4)
+    ∷ []
+
+-- the node of such a line
+abbrev pub by_arc_in : Problem → List (List ℕ) → Node
+by_arc_in p fields = Branch (ByArc (shipment_in p fields 2) (arc_in p fields 3 4))
+
+-- the faults of `split,time,SHIPMENT,TERMINAL,AT`
+abbrev pub by_time_faults : Problem → Draft → List (List ℕ) → List Finding
+by_time_faults p before fields =
+    fault 22 (not (length fields == 5))
+    ∷ fault 23 (not (has_number fields 4))
+    ∷ fault 24 (is_misplaced before group.Tree)
+    ∷ fault 25 (lacks_shipment p fields 2 || lacks_terminal p fields 3)
+    ∷ fault 28 (not (is_time fields 4))
+    ∷ []
+
+-- the node of such a line
+abbrev pub by_time_in : Problem → List (List ℕ) → Node
+by_time_in p fields = Branch (ByTime (shipment_in p fields 2) (terminal_in p fields 3) (number_at fields 4))
+
+-- whether the kind of a leaf's prices is a word
+abbrev pub has_kind_word : List (List ℕ) → Bool
+has_kind_word fields = has_word (codes "linear") fields 1 || has_word (codes "even") fields 1
+
+-- whether the kind, the round and the mode of a leaf are such
+abbrev pub has_leaf_digits : List (List ℕ) → Bool
+has_leaf_digits fields =
+    (has_kind_word fields || has_number fields 1) && has_number fields 2 && (has_word (codes "plain") fields 3 || has_word (codes "forced") fields 3)
+
+-- whether a leaf's table exists, where it is priced by one, among so many tables, and its round is in range
+abbrev pub has_leaf_ranges : ℕ → List (List ℕ) → Bool
+has_leaf_ranges tables fields = (has_kind_word fields || is_between 1 tables fields 1) && is_between 0 4000 fields 2
+
+-- the faults of `leaf,KIND,ROUND,MODE`
+abbrev pub leaf_faults : Draft → List (List ℕ) → List Finding
+leaf_faults before fields =
+    fault 22 (not (length fields == 4))
+    ∷ fault 23 (not (has_leaf_digits fields))
+    ∷ fault 24 (is_misplaced before group.Tree)
+    ∷ fault 28 (not (has_leaf_ranges (length before.certificate.tables) fields))
+    ∷ []
+
+-- the kind of a leaf's prices
+abbrev pub kind_in : List (List ℕ) → Kind
+kind_in fields =
+    if has_word (codes "linear") fields 1 then Linear
+    else if has_word (codes "even") fields 1 then Even
+    else Table (number_at fields 1)
+
+-- the node of a leaf's line
+abbrev pub leaf_in : List (List ℕ) → Node
+leaf_in fields = Leaf (record { kind = kind_in fields; round = number_at fields 2; forced = has_word (codes "forced") fields 3 })
+
+-- a draft with one more node
+abbrev pub with_node : Draft → Node → Draft
+with_node before node =
+    record { certificate = record before.certificate { tree = before.certificate.tree ++ (node ∷ []) }; latest = Some group.Tree }
+
+-- the faults of `end`
+abbrev pub end_faults : Draft → List (List ℕ) → List Finding
+end_faults before fields = fault 22 (not (length fields == 1)) ∷ fault 24 (is_misplaced before group.End) ∷ []
+
+-- a draft that has ended
+abbrev pub with_end : Draft → Draft
+with_end before = record before { latest = Some group.End }

@@ -1,0 +1,171 @@
+// What the lines of a certificate have given so far.
+ghost use Rattle.std.specs.Prelude.{◌≡◌, ◌<◌, false, length, MatchResult, Ok, OnOk};
+ghost use Rattle.fp_certificate.specs.Answers.{with_answer, with_scale};
+ghost use Rattle.fp_certificate.specs.Groups.{has_ended, is_misplaced};
+ghost use Rattle.fp_certificate.specs.Points.{with_point};
+ghost use Rattle.fp_certificate.specs.Outcomes.{IsFirst};
+ghost use Rattle.fp_certificate.specs.Reading.{finished, nothing_read};
+ghost use Rattle.fp_certificate.specs.Tables.{lacks_share, with_share, with_table, with_weight};
+ghost use Rattle.fp_certificate.specs.Timetables.{with_leg, with_truck};
+ghost use Rattle.fp_certificate.specs.Trees.{with_end, with_node};
+
+use crate::NoMemory;
+use crate::faults::CertFault;
+use crate::groups::Group;
+use crate::open_tables::{push_share, push_weight};
+use fp_lines::{Answer, Certificate, Node};
+use fp_prices::{Share, Table, Weight};
+use fp_timenodes::AddedPoint;
+use fp_timetable::{LegLine, TruckLine};
+use std::alloc::Global;
+
+/// What the lines so far have given, and the group of the latest of them.
+#[derive(Drop)]
+pub struct Draft {
+    /// The parts of the certificate. Before the first line its answer stands for none.
+    pub certificate: Certificate,
+    /// The group of the latest line, `None` before the first.
+    pub latest: Option<Group>,
+}
+
+impl Draft {
+    /// Nothing read yet.
+    pub fn new(alloc: Global) -> Draft
+        ensures { result ≡ nothing_read }
+    {
+        Draft {
+            certificate: Certificate {
+                answer: Answer::Direct { cost: 0 },
+                scale: None,
+                legs: Vec::new(alloc),
+                trucks: Vec::new(alloc),
+                points: Vec::new(alloc),
+                tables: Vec::new(alloc),
+                tree: Vec::new(alloc),
+            },
+            latest: None,
+        }
+    }
+
+    /// Whether a line of the group can't stand after the lines so far.
+    pub fn is_misplaced(&self, group: Group) -> bool
+        ensures { result ≡ is_misplaced self.now group }
+    {
+        group.is_misplaced_after(self.latest, self.certificate.answer)
+    }
+
+    /// Whether the latest line is `end`.
+    pub fn has_ended(&self) -> bool
+        ensures { result ≡ has_ended self.now }
+    {
+        matches!(self.latest, Some(Group::End))
+    }
+
+    /// Takes an answer.
+    pub fn set_answer(&mut self, answer: Answer)
+        ensures { self.new ≡ with_answer self.old answer }
+    {
+        self.certificate.answer = answer;
+        self.latest = Some(Group::Answer);
+    }
+
+    /// Takes a scale.
+    pub fn set_scale(&mut self, scale: u32)
+        ensures { self.new ≡ with_scale self.old scale }
+    {
+        self.certificate.scale = Some(scale);
+        self.latest = Some(Group::Scale);
+    }
+
+    /// Adds a leg. The only error is `NoMemory`.
+    pub fn add_leg(&mut self, leg: LegLine) -> Result<(), NoMemory>
+        ensures { OnOk result (self.new ≡ with_leg self.old leg) }
+    {
+        let certificate = &mut self.certificate;
+        certificate.legs.push(leg)?;
+        self.latest = Some(Group::Legs);
+        Ok(())
+    }
+
+    /// Adds a truck line. The only error is `NoMemory`.
+    pub fn add_truck(&mut self, truck: TruckLine) -> Result<(), NoMemory>
+        ensures { OnOk result (self.new ≡ with_truck self.old truck) }
+    {
+        let certificate = &mut self.certificate;
+        certificate.trucks.push(truck)?;
+        self.latest = Some(Group::Trucks);
+        Ok(())
+    }
+
+    /// Adds a point. The only error is `NoMemory`.
+    pub fn add_point(&mut self, point: AddedPoint) -> Result<(), NoMemory>
+        ensures { OnOk result (self.new ≡ with_point self.old point) }
+    {
+        let certificate = &mut self.certificate;
+        certificate.points.push(point)?;
+        self.latest = Some(Group::Points);
+        Ok(())
+    }
+
+    /// Adds a table without shares. The only error is `NoMemory`.
+    pub fn add_table(&mut self, alloc: Global) -> Result<(), NoMemory>
+        ensures { OnOk result (self.new ≡ with_table self.old) }
+    {
+        let certificate = &mut self.certificate;
+        certificate.tables.push(Table {
+            shares: Vec::new(alloc),
+        })?;
+        self.latest = Some(Group::Tables);
+        Ok(())
+    }
+
+    /// Adds a share to the last table. The only error is `NoMemory`.
+    pub fn add_share(&mut self, share: Share) -> Result<(), NoMemory>
+        requires { 0 < length self.old.certificate.tables }
+        ensures { OnOk result (self.new ≡ with_share self.old share) }
+    {
+        let certificate = &mut self.certificate;
+        push_share(&mut certificate.tables, share)?;
+        self.latest = Some(Group::Tables);
+        Ok(())
+    }
+
+    /// Adds a weight to the last share of the last table. The only error is `NoMemory`.
+    pub fn add_weight(&mut self, weight: Weight) -> Result<(), NoMemory>
+        requires { lacks_share self.old.certificate.tables ≡ false }
+        ensures { OnOk result (self.new ≡ with_weight self.old weight) }
+    {
+        let certificate = &mut self.certificate;
+        push_weight(&mut certificate.tables, weight)?;
+        self.latest = Some(Group::Tables);
+        Ok(())
+    }
+
+    /// Adds a node. The only error is `NoMemory`.
+    pub fn add_node(&mut self, node: Node) -> Result<(), NoMemory>
+        ensures { OnOk result (self.new ≡ with_node self.old node) }
+    {
+        let certificate = &mut self.certificate;
+        certificate.tree.push(node)?;
+        self.latest = Some(Group::Tree);
+        Ok(())
+    }
+
+    /// Takes the end.
+    pub fn set_end(&mut self)
+        ensures { self.new ≡ with_end self.old }
+    {
+        self.latest = Some(Group::End);
+    }
+
+    /// The certificate, or, where the lines have not ended, that the record with this ordinal is missing.
+    pub fn finish(self, ordinal: u32) -> Result<Certificate, CertFault>
+        ensures { MatchResult result (λ c. finished self ordinal ≡ Ok c) (λ e. IsFirst e (finished self ordinal)) }
+    {
+        if self.has_ended() {
+            Ok(self.certificate)
+        } else {
+            Err(CertFault::Bad { ordinal, code: 26 })
+        }
+    }
+}

@@ -1,0 +1,139 @@
+// Reads a certificate.
+ghost use Rattle.std.specs.Prelude.{◌≡◌, ◌≤◌, ◌+◌, ◌-◌, ◌^◌, ◌<◌, ℕ, drop, length, Err, IfOk, MatchResult, None, Ok};
+ghost use Rattle.fp_prices.specs.Tables.{AreCountable};
+ghost use Rattle.fp_reader.specs.Faults.{first_code};
+ghost use Rattle.fp_certificate.specs.Outcomes.{IsFirst, IsLeast};
+ghost use Rattle.fp_lines.specs.Ranges.{IsInRange};
+ghost use Rattle.fp_certificate.specs.Reading.{certificate_from, certificate_of, faults_of, finished, line_code, nothing_read, with_kind, with_line};
+
+use crate::answer_lines::{read_direct, read_infeasible, read_optimal, read_unfinished};
+use crate::drafts::Draft;
+use crate::end_lines::read_end;
+use crate::faults::CertFault;
+use crate::kinds::{LineKind, kind_of};
+use crate::leaf_lines::read_leaf;
+use crate::leg_lines::read_leg;
+use crate::line_faults::{AddFault, LineFault};
+use crate::lookups::Lookup;
+use crate::point_lines::read_point;
+use crate::scale_lines::read_scale;
+use crate::share_lines::read_share;
+use crate::split_lines::{read_by_arc, read_by_time};
+use crate::table_lines::read_table;
+use crate::truck_lines::read_truck;
+use crate::weight_lines::read_weight;
+use fp_lines::Certificate;
+use fp_model::Instance;
+use fp_records::Record;
+use std::alloc::Global;
+
+// Adds what a line of a kind gives, or tells the first of the line's faults.
+fn read_kind(
+    alloc: Global,
+    lookup: &Lookup<'_>,
+    draft: &mut Draft,
+    kind: LineKind,
+    line: &Record,
+) -> Result<(), AddFault>
+    requires { length draft.old.certificate.tables < 2 ^ 32 }
+    ensures { MatchResult result
+        (λ _. (first_code (faults_of lookup.now draft.old kind line.now) ≡ None) × (draft.new ≡ with_kind lookup.now draft.old kind line.now))
+        (λ e. IsLeast e (first_code (faults_of lookup.now draft.old kind line.now))) }
+{
+    match kind {
+        LineKind::Direct => read_direct(draft, line),
+        LineKind::Optimal => read_optimal(draft, line),
+        LineKind::Unfinished => read_unfinished(draft, line),
+        LineKind::Infeasible => read_infeasible(lookup, draft, line),
+        LineKind::Scale => read_scale(lookup, draft, line),
+        LineKind::Leg => read_leg(lookup, draft, line),
+        LineKind::Truck => read_truck(lookup, draft, line),
+        LineKind::Point => read_point(lookup, draft, line),
+        LineKind::Table => read_table(alloc, draft, line),
+        LineKind::Share => read_share(alloc, lookup, draft, line),
+        LineKind::Weight => read_weight(lookup, draft, line),
+        LineKind::ByArc => read_by_arc(lookup, draft, line),
+        LineKind::ByTime => read_by_time(lookup, draft, line),
+        LineKind::Leaf => read_leaf(draft, line),
+        LineKind::End => read_end(draft, line),
+    }
+}
+
+// Adds what a line gives, or tells the first of the line's faults.
+fn read_line(
+    alloc: Global,
+    lookup: &Lookup<'_>,
+    draft: &mut Draft,
+    line: &Record,
+) -> Result<(), AddFault>
+    requires { length draft.old.certificate.tables < 2 ^ 32 }
+    ensures { MatchResult result
+        (λ _. (line_code lookup.now draft.old line.now ≡ None) × (draft.new ≡ with_line lookup.now draft.old line.now))
+        (λ e. IsLeast e (line_code lookup.now draft.old line.now)) }
+{
+    if draft.has_ended() {
+        return Err(AddFault::Line(LineFault::AfterEnd));
+    }
+    match kind_of(line) {
+        Some(kind) => read_kind(alloc, lookup, draft, kind, line),
+        None => Err(AddFault::Line(LineFault::Kind)),
+    }
+}
+
+// What lines give, of which the first has the ordinal `first`, or the first of them with a fault.
+fn draft_of(
+    alloc: Global,
+    lookup: &Lookup<'_>,
+    lines: &[Record],
+    first: usize,
+) -> Result<Draft, CertFault>
+    requires { first + length lines.now < 2 ^ 32 }
+    ensures { MatchResult result
+        (λ d. certificate_from lookup.now nothing_read first lines.now ≡ finished d (first + length lines.now))
+        (λ e. IsFirst e (certificate_from lookup.now nothing_read first lines.now)) }
+{
+    let mut draft = Draft::new(alloc);
+    for (place, line) in lines.iter().enumerate() {
+        match read_line(alloc, lookup, &mut draft, line) {
+            Ok(()) => {}
+            Err(AddFault::Line(fault)) => {
+                return Err(CertFault::Bad {
+                    ordinal: (first + place) as u32,
+                    code: fault.code(),
+                });
+            }
+            Err(AddFault::NoMemory) => return Err(CertFault::NoMemory),
+        }
+    }
+    Ok(draft)
+}
+
+/// The certificate of an instance that the records from place `from` on give, or the first fault.
+///
+/// There are fewer than `2^32 - 1` records, and `from` is at most their number. Ordinals count from 1 over all records. The
+/// records are the lines that [`fp_lines::write`] tells of, in that order; legs, trucks, shares and weights may stand in any
+/// order among themselves. A number is one or more ASCII digits, leading zeros allowed. A certificate that was read is in
+/// range: times are at most 100,000, rounds at most 4,000, a point's round at least 1, a fastest time at most 10,000,000, a
+/// scale is 1 to 1,000,000,000 and fits the instance, all other numbers are at most `2^127 - 1`, and the tables that leaves
+/// name exist. Its tables, and the shares of each, are fewer than `2^32 - 1`.
+///
+/// `Bad` comes exactly where there is a fault: the first record with one decides ([`CertFault`] has the codes). `NoMemory`
+/// comes only where no memory is found.
+pub fn read(
+    alloc: Global,
+    instance: &Instance,
+    lines: &[Record],
+    from: usize,
+) -> Result<Certificate, CertFault>
+    requires from { from ≤ length lines.now }
+    requires few { length lines.now < 2 ^ 32 - 1 }
+    ensures read { IfOk result (λ c. certificate_of instance.now (from + 1) (drop from lines.now) ≡ Ok c) }
+    ensures bad { (ordinal code : ℕ) → result ≡ Err (CertFault.Bad ordinal code)
+        → certificate_of instance.now (from + 1) (drop from lines.now) ≡ Err (record { ordinal = ordinal; code = code }) }
+    ensures range { IfOk result (IsInRange instance.now) }
+    ensures countable { IfOk result (λ c. AreCountable instance.now c.tables) }
+{
+    let lookup = Lookup::new(alloc, instance)?;
+    let draft = draft_of(alloc, &lookup, &lines[from..], from + 1)?;
+    draft.finish(lines.len() as u32 + 1)
+}

@@ -1,0 +1,79 @@
+// Lines `share,FROM,TO,POINT,V`, each followed by its weights.
+ghost use Rattle.std.specs.Prelude.{◌≡◌, ◌<◌, length, OnOk, ◌&&◌, Some, None, MatchResult};
+ghost use Rattle.fp_reader.specs.Faults.{first_code};
+ghost use Rattle.fp_reader.specs.Fields.{has_number};
+ghost use Rattle.fp_certificate.specs.Codes.{code_of};
+ghost use Rattle.fp_certificate.specs.Outcomes.{IsLeast};
+ghost use Rattle.fp_certificate.specs.Tables.{share_faults, share_in, with_share};
+
+use crate::drafts::Draft;
+use crate::groups::Group;
+use crate::line_faults::{AddFault, LineFault};
+use crate::line_fields::{arc_at, small_at, time_at};
+use crate::lookups::Lookup;
+use fp_prices::Share;
+use fp_reader::fields::{has_fields, has_number};
+use fp_records::Record;
+use std::alloc::Global;
+
+// Whether the point and the price are numbers.
+fn has_share_digits(line: &Record) -> bool
+    ensures { result ≡ (has_number line.now 3 && has_number line.now 4) }
+{
+    has_number(line, 3) && has_number(line, 4)
+}
+
+// The share of a line, which has no weights yet, or the first of the line's faults.
+fn share_of(
+    alloc: Global,
+    lookup: &Lookup<'_>,
+    draft: &Draft,
+    line: &Record,
+) -> Result<Share, LineFault>
+    ensures faults { MatchResult result
+        (λ share. (first_code (share_faults lookup.now draft.now line.now) ≡ None) × (share ≡ share_in lookup.now line.now))
+        (λ fault. first_code (share_faults lookup.now draft.now line.now) ≡ Some (code_of fault)) }
+    ensures table { OnOk result (0 < length draft.now.certificate.tables) }
+{
+    if !has_fields(line, 5) {
+        return Err(LineFault::Fields);
+    }
+    if !has_share_digits(line) {
+        return Err(LineFault::Digits);
+    }
+    if draft.is_misplaced(Group::Tables) || draft.certificate.tables.is_empty() {
+        return Err(LineFault::Order);
+    }
+    let Some(arc) = arc_at(lookup, line, 1, 2) else {
+        return Err(LineFault::Name);
+    };
+    let Some(point) = time_at(line, 3) else {
+        return Err(LineFault::Range);
+    };
+    let Some(v) = small_at(line, 4) else {
+        return Err(LineFault::Range);
+    };
+    Ok(Share {
+        arc,
+        point,
+        v,
+        weights: Vec::new(alloc),
+    })
+}
+
+/// Adds the share of a line to the last table, or tells the first of the line's faults.
+pub fn read_share(
+    alloc: Global,
+    lookup: &Lookup<'_>,
+    draft: &mut Draft,
+    line: &Record,
+) -> Result<(), AddFault>
+    ensures { MatchResult result
+        (λ _. (first_code (share_faults lookup.now draft.old line.now) ≡ None)
+        × (draft.new ≡ with_share draft.old (share_in lookup.now line.now)))
+        (λ e. IsLeast e (first_code (share_faults lookup.now draft.old line.now))) }
+{
+    let share = share_of(alloc, lookup, draft, line)?;
+    draft.add_share(share)?;
+    Ok(())
+}

@@ -1,0 +1,12 @@
+pub mod Accepting
+pub mod Ascents
+pub mod Failing
+pub mod RoundCounts
+pub mod AddedOneByOne
+pub mod RoutesOfLines
+pub mod ToldPlans
+pub mod DepartureLines
+pub mod TreeNodes
+pub mod SharesInOrder
+pub mod LeavesPassed
+pub mod FirstParts

@@ -1,0 +1,15 @@
+use Rattle.std.proofs.Common.{◌≡◌, ◌<◌, ◌*◌, length, get_or, ap, ◌∙◌, arith}
+use Rattle.std.proofs.lemmas.List.Sums.{sum_by_more_le}
+use Rattle.fp_model.specs.declared.parts.Arc.{Arc}
+use Rattle.fp_timetable.specs.declared.lines.TruckLine.{TruckLine}
+use Rattle.fp_checker.specs.Plans.{line_cost}
+use Rattle.fp_checker.proofs.departures.trucks_cost.Goals as goal
+
+pub overflow_add-total : goal.overflow_add-total
+overflow_add-total c =
+    let p = c.args.instance.now in
+    let none : TruckLine = record { arc = 0; depart = 0; trucks = 0; load = 0 } in
+    let line : TruckLine = get_or c.args.lines.now c.loop-line.line-index none in
+    let lt : c.loop-line.line-index < length c.args.lines.now = omega arith in
+    let one : c.from.result * line.trucks ≡ line_cost p line = ap (λ n. n * line.trucks) (c.from.ensures ∙ ap (λ (a : Arc). a.truck) c.arc.ensures.same) in
+    omega (arith, one, c.loop-line.invariant, sum_by_more_le (line_cost p) c.args.lines.now c.loop-line.line-index none lt, c.requires.fits)

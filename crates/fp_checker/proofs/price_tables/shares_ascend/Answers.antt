@@ -1,0 +1,9 @@
+use Rattle.std.proofs.Common.{refl, arith}
+use Rattle.fp_prices.specs.Shares.{ClassShare}
+use Rattle.fp_prices.specs.Tables.{Precedes}
+use Rattle.fp_checker.proofs.Ascents.{Precedes-trans, pairs-from_neighbours}
+use Rattle.fp_checker.proofs.price_tables.shares_ascend.Goals as goal
+
+pub returns : goal.returns
+returns c =
+    (λ _. pairs-from_neighbours (λ (s t : ClassShare). Precedes s.arc s.point t.arc t.point) (λ s t u. Precedes-trans s.arc s.point t.arc t.point u.arc u.point) c.args.shares.now c.loop-place.place c.loop-place.invariant (omega arith), λ _. refl)

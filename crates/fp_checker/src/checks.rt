@@ -1,0 +1,216 @@
+ghost use Rattle.std.specs.Prelude.{ℕ, ◌≡◌, ◌<◌, ◌≤◌, IfOk, OnOk, length};
+ghost use Rattle.fp_model.specs.Numbered.{shipment_at};
+ghost use Rattle.fp_flatnet.specs.Belonging.{BelongsTo};
+ghost use Rattle.fp_flatnet.specs.Tables.{windows_in};
+ghost use Rattle.fp_flatnet.specs.Windows.{AreWindows};
+ghost use Rattle.fp_prices.specs.Tables.{AreCountable};
+ghost use Rattle.fp_lines.specs.Ranges.{IsInRange};
+ghost use Rattle.fp_checker.specs.Accepted.{HoldBelow, IsAccepted, IsFirstFailed, IsFirstUnmet, IsPlanRejected, IsTooLate, TellsPlan};
+ghost use Rattle.fp_checker.specs.Claims.{Claims, ClaimsWithin};
+ghost use Rattle.fp_checker.specs.Plans.{HasTimetable, routes_of, stated_cost as stated_cost_of};
+
+use crate::added_points::told_points;
+use crate::departures::{are_same, plan_cost};
+use crate::fastest_times::is_too_late;
+use crate::leaves::are_leaves_worth;
+use crate::plans::told_plan;
+use crate::price_tables::are_tables;
+use crate::rejections::{BLOCKED, COST, LEAVES, PLAN, PRICES, Rejected, TREE, TRUCKS};
+use crate::trees::{is_tree, split_count};
+use fp_certificate::{Answer, Certificate};
+use fp_flatnet::Windows;
+use fp_model::{Instance, Plan};
+use fp_timetable::trucks;
+use std::alloc::Global;
+
+// How many splits a tree may have.
+const MOST_SPLITS: usize = 100_000;
+
+// The cost that an answer states of its plan, and 0 where it has none.
+fn stated_cost(answer: Answer) -> u128
+    ensures { result ≡ stated_cost_of answer }
+{
+    match answer {
+        Answer::Direct { cost } | Answer::Optimal { cost } | Answer::Unfinished { cost, .. } =>
+            cost,
+        Answer::Infeasible { .. } => 0,
+    }
+}
+
+// The plan of a certificate, whose cost and trucks are as told: parts 1 to 3.
+fn tested_plan(
+    alloc: Global,
+    instance: &Instance,
+    windows: &Windows,
+    certificate: &Certificate,
+) -> Result<Plan, Rejected>
+    requires belongs { BelongsTo instance.now windows.now }
+    requires range { IsInRange instance.now certificate.now }
+    ensures plan { IfOk result (λ plan. plan ≡ routes_of instance.now certificate.now) }
+    ensures holds { OnOk result
+        (HasTimetable instance.now (windows_in windows.now) certificate.now) }
+    ensures part { (number : ℕ) → result ≡ Err (Rejected.Part number) →
+        (number ≤ 3) × IsFirstUnmet instance.now windows.now certificate.now number }
+{
+    let plan = told_plan(alloc, instance, windows, certificate)?;
+    let lines = trucks(alloc, instance, &plan)?;
+    if stated_cost(certificate.answer) != plan_cost(instance, &plan, lines.as_slice()) {
+        return Err(Rejected::Part { number: COST });
+    }
+    if !are_same(certificate.trucks.as_slice(), lines.as_slice()) {
+        return Err(Rejected::Part { number: TRUCKS });
+    }
+    Ok(plan)
+}
+
+// Whether all that bounds the plans is as it has to be: parts 4 to 7.
+fn test_bound(
+    alloc: Global,
+    instance: &Instance,
+    windows: &Windows,
+    certificate: &Certificate,
+) -> Result<(), Rejected>
+    requires belongs { BelongsTo instance.now windows.now }
+    requires range { IsInRange instance.now certificate.now }
+    requires countable { AreCountable instance.now certificate.now.tables }
+    requires timetable { HasTimetable instance.now (windows_in windows.now) certificate.now }
+    ensures holds { OnOk result (HoldBelow instance.now windows.now certificate.now BLOCKED) }
+    ensures part { (number : ℕ) → result ≡ Err (Rejected.Part number) →
+        (number ≤ 7) × IsFirstUnmet instance.now windows.now certificate.now number }
+{
+    let points = told_points(alloc, instance, windows, certificate.points.as_slice())?;
+    if !are_tables(instance, certificate.tables.as_slice()) {
+        return Err(Rejected::Part { number: PRICES });
+    }
+    let nodes = certificate.tree.as_slice();
+    if !is_tree(nodes) || split_count(nodes) > MOST_SPLITS {
+        return Err(Rejected::Part { number: TREE });
+    }
+    if !are_leaves_worth(alloc, instance, windows, certificate, &points)? {
+        return Err(Rejected::Part { number: LEAVES });
+    }
+    Ok(())
+}
+
+// Whether a certificate tells its plan and all that bounds the plans as it has to be: parts 1 to
+// 7.
+fn test_claim(
+    alloc: Global,
+    instance: &Instance,
+    windows: &Windows,
+    certificate: &Certificate,
+) -> Result<(), Rejected>
+    requires belongs { BelongsTo instance.now windows.now }
+    requires range { IsInRange instance.now certificate.now }
+    requires countable { AreCountable instance.now certificate.now.tables }
+    ensures holds { OnOk result (HoldBelow instance.now windows.now certificate.now BLOCKED) }
+    ensures part { (number : ℕ) → result ≡ Err (Rejected.Part number) →
+        (number ≤ 7) × IsFirstUnmet instance.now windows.now certificate.now number }
+{
+    tested_plan(alloc, instance, windows, certificate)?;
+    test_bound(alloc, instance, windows, certificate)
+}
+
+// Whether the shipment of an infeasible answer is too late: part 8.
+fn test_refusal(
+    alloc: Global,
+    instance: &Instance,
+    shipment: u32,
+    time: Option<u32>,
+) -> Result<(), Rejected>
+    requires { shipment < length instance.now.shipments }
+    ensures holds { OnOk result (IsTooLate instance.now (shipment_at instance.now shipment) time) }
+    ensures part { (number : ℕ) → result ≡ Err (Rejected.Part number) →
+        (number ≡ BLOCKED)
+        × (IsTooLate instance.now (shipment_at instance.now shipment) time → ⊥) }
+{
+    if is_too_late(alloc, instance, shipment, time)? {
+        Ok(())
+    } else {
+        Err(Rejected::Part { number: BLOCKED })
+    }
+}
+
+// Whether each part that applies to the answer holds.
+fn test_parts(
+    alloc: Global,
+    instance: &Instance,
+    windows: &Windows,
+    certificate: &Certificate,
+) -> Result<(), Rejected>
+    requires belongs { BelongsTo instance.now windows.now }
+    requires range { IsInRange instance.now certificate.now }
+    requires countable { AreCountable instance.now certificate.now.tables }
+    ensures accepted { OnOk result (IsAccepted instance.now windows.now certificate.now) }
+    ensures part { (number : ℕ) → result ≡ Err (Rejected.Part number) →
+        IsFirstFailed instance.now windows.now certificate.now number }
+{
+    match certificate.answer {
+        Answer::Direct { .. } => {
+            tested_plan(alloc, instance, windows, certificate)?;
+            Ok(())
+        }
+        Answer::Optimal { .. } | Answer::Unfinished { .. } => {
+            test_claim(alloc, instance, windows, certificate)
+        }
+        Answer::Infeasible { shipment, time } => test_refusal(alloc, instance, shipment, time),
+    }
+}
+
+/// Whether a certificate is accepted for an instance and windows that belong to it: whether each
+/// part that applies to its answer holds.
+///
+/// Accepted, its claim is true: of all plans that lie within the windows, and where these are the
+/// instance's own, of all plans, with departures in any fractions of the unit of time. Otherwise
+/// `Rejected` tells the first part that fails.
+///
+/// The instance has the scale of prices under which the certificate was made, and the
+/// certificate's numbers are in range, as those of one that was read. Takes time that grows with
+/// its lines, but for the leaves, each of which is bounded anew.
+pub fn check(
+    alloc: Global,
+    instance: &Instance,
+    windows: &Windows,
+    certificate: &Certificate,
+) -> Result<(), Rejected>
+    requires belongs { BelongsTo instance.now windows.now }
+    requires range { IsInRange instance.now certificate.now }
+    requires countable { AreCountable instance.now certificate.now.tables }
+    ensures accepted { OnOk result (IsAccepted instance.now windows.now certificate.now) }
+    ensures part { (number : ℕ) → result ≡ Err (Rejected.Part number) →
+        IsFirstFailed instance.now windows.now certificate.now number }
+    ensures within { OnOk result
+        (ClaimsWithin instance.now (windows_in windows.now) certificate.now.answer) }
+    ensures claims { OnOk result
+        (AreWindows instance.now (windows_in windows.now)
+        → Claims instance.now certificate.now.answer) }
+{
+    test_parts(alloc, instance, windows, certificate)
+}
+
+/// The plan that a certificate tells, for each shipment its legs, where the parts 1 to 3 hold:
+/// the plan lies within the windows, and its cost and its trucks are as told. What the answer
+/// claims of other plans isn't looked at.
+///
+/// `Rejected` tells the first of these parts that fails, and 1 where the answer is an infeasible
+/// one.
+pub fn plan_of(
+    alloc: Global,
+    instance: &Instance,
+    windows: &Windows,
+    certificate: &Certificate,
+) -> Result<Plan, Rejected>
+    requires belongs { BelongsTo instance.now windows.now }
+    requires range { IsInRange instance.now certificate.now }
+    ensures plan { IfOk result (λ plan. plan ≡ routes_of instance.now certificate.now) }
+    ensures holds { OnOk result
+        (HasTimetable instance.now (windows_in windows.now) certificate.now) }
+    ensures answer { OnOk result (TellsPlan certificate.now.answer) }
+    ensures part { (number : ℕ) → result ≡ Err (Rejected.Part number) →
+        IsPlanRejected instance.now windows.now certificate.now certificate.now.answer number }
+{
+    match certificate.answer {
+        Answer::Infeasible { .. } => Err(Rejected::Part { number: PLAN }),
+        _ => tested_plan(alloc, instance, windows, certificate),
+    }
+}

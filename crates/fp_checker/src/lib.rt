@@ -1,0 +1,28 @@
+//! Tests a certificate: whether what it tells makes its claim true for an instance and its
+//! windows.
+//!
+//! The problem is that of Boland, Hewitt, Marshall and Savelsbergh, "The Continuous-Time Service
+//! Network Design Problem", Operations Research 65, 2017. Certificates are this project's own.
+#![tactic(auto)]
+
+mod added_points;
+mod checks;
+mod departures;
+mod fastest_times;
+mod laws;
+mod leaves;
+mod orders;
+mod plans;
+mod price_tables;
+mod rejections;
+mod trees;
+
+pub use checks::{check, plan_of};
+pub use laws::accepted_claims;
+pub use rejections::Rejected;
+
+/// The error of a call that finds no memory.
+pub type NoMemory = std::alloc::AllocError;
+
+#[cfg(test)]
+mod tests;

@@ -1,0 +1,4 @@
+mod EndedLines
+pub mod Named
+mod RowTexts
+pub mod Worked
