@@ -129,10 +129,11 @@ parts-back p c v r few free =
     scale-back p s c legs c.scale refl r.scale free.scale (sooner p 1 2 legs with-scale c (lit≤ tt) two)
 
 -- the lines of a certificate give it
-rows-back : (p : Problem) (c : Statement) → IsValid p → IsInRange p c → length c.tables < 2 ^ 32 - 1 → IsReadable c → certificate_of p 1 (rows_of p c) ≡ Ok c
-rows-back p c v r few readable =
+pub rows-back : (p : Problem) (c : Statement) (ordinal : ℕ) → IsValid p → IsInRange p c → length c.tables < 2 ^ 32 - 1 → IsReadable c
+    → certificate_of p ordinal (rows_of p c) ≡ Ok c
+rows-back p c ordinal v r few readable =
     let step = answer-step p c.answer v r.answer in
-    rw (step.clean, step.gives) (parts-back p c v r few (free-answer c.answer c refl readable) group.Answer 2 (lit≤ tt))
+    rw (step.clean, step.gives) (parts-back p c v r few (free-answer c.answer c refl readable) group.Answer (ordinal + 1) (lit≤ tt))
 
 -- the text of a certificate begins with no byte order mark
 unmarked : (p : Problem) (a : Answer) (rest : List (List (List ℕ))) → strip_bom (lines_of (answer_fields p a ∷ rest)) ≡ lines_of (answer_fields p a ∷ rest)
@@ -144,6 +145,6 @@ unmarked p (answer.Infeasible shipment time) rest = refl
 
 -- the records of a written certificate give it back
 pub written-back : (p : Problem) → IsValid p → HaveNames p → WrittenReadsBack p
-written-back p v named c r countable readable =
+written-back p v named c r countable readable ordinal =
     let text = records_of-lines_of (rows_of p c) (rows-plain p c v named r countable.few_tables) (unmarked p c.answer _) in
-    ap (certificate_of p 1) text ∙ rows-back p c v r countable.few_tables readable
+    ap (certificate_of p ordinal) text ∙ rows-back p c ordinal v r countable.few_tables readable

@@ -1,5 +1,5 @@
 -- Certificates whose lines stand in an order that reading takes, and that reading gives them back.
-use Rattle.std.specs.Prelude.{◌≡◌, [], All, None, Ok}
+use Rattle.std.specs.Prelude.{ℕ, ◌≡◌, [], All, None, Ok}
 use Rattle.fp_model.specs.declared.parts.Shipment.{Shipment}
 use Rattle.fp_model.specs.Names.{IsName}
 use Rattle.fp_model.specs.Problem.{Problem}
@@ -41,9 +41,9 @@ IsReadable c = Allows c.answer c
 abbrev pub HaveNames : Problem → Type 0
 HaveNames p = All (λ (s : Shipment). IsName s.name) p.shipments
 
--- the records of a certificate's text give the certificate back
+-- the records of a certificate's text give the certificate back, whatever the ordinal of the first of them is
 abbrev pub ReadsBack : Problem → Statement → Type 0
-ReadsBack p c = certificate_of p 1 (records_of (lines_of (rows_of p c))) ≡ Ok c
+ReadsBack p c = (ordinal : ℕ) → certificate_of p ordinal (records_of (lines_of (rows_of p c))) ≡ Ok c
 
 -- that is so for each certificate in range, of countable tables, whose lines stand in an order that reading takes
 abbrev pub WrittenReadsBack : Problem → Type 0

@@ -164,9 +164,10 @@ fn test_parts(
 /// instance's own, of all plans, with departures in any fractions of the unit of time. Otherwise
 /// `Rejected` tells the first part that fails.
 ///
-/// The instance has the scale of prices under which the certificate was made, and the
-/// certificate's numbers are in range, as those of one that was read. Takes time that grows with
-/// its lines, but for the leaves, each of which is bounded anew.
+/// The instance has the scale of prices under which the certificate was made. The certificate's
+/// numbers are in range, as those of one that was read, and there are fewer than `2^32 - 1` tables
+/// and shares in each. Takes time that grows with its lines, but for the leaves, each of which is
+/// bounded anew. `NoMemory` comes only where no memory is found.
 pub fn check(
     alloc: Global,
     instance: &Instance,
@@ -193,7 +194,7 @@ pub fn check(
 /// claims of other plans isn't looked at.
 ///
 /// `Rejected` tells the first of these parts that fails, and 1 where the answer is an infeasible
-/// one.
+/// one. `NoMemory` comes only where no memory is found.
 pub fn plan_of(
     alloc: Global,
     instance: &Instance,

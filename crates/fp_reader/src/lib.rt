@@ -4,11 +4,14 @@
 mod additions;
 mod arc_records;
 mod codes;
+/// Numbers written in digits, of any count.
 pub mod digits;
 mod drafts;
 mod ends;
 mod faults;
+/// The fields of a record, and what they hold.
 pub mod fields;
+/// Names, numbered in the order in which they come.
 pub mod numbering;
 mod reading;
 mod shipment_records;
