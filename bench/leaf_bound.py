@@ -1,53 +1,64 @@
 #!/usr/bin/env python3
-"""How long the bound of a leaf takes at round 0, without sides, on generated instances.
+"""How long the bound of a leaf takes at round 0, on generated instances.
 
-Prints the classes of the network and the seconds of one call under each way of pricing; the program is compiled with the checks of
-`rt try`, so a proved build is faster.
+    bench/leaf_bound.py [PROGRAM]
+
+PROGRAM is the built program; without it the proved one in crates/freight/out is taken. It checks the direct plan of each instance with a
+tree of 128 leaves, whose splits leave every class allowed, and prints how much longer each leaf takes than one leaf alone.
 """
+import os
+import subprocess
+import sys
+import time
+
+sys.path.insert(0, os.path.dirname(os.path.abspath(__file__)))
 from instances import generated
-from kit import run
 
-SOURCE = """#![tactic(auto)]
+TOP = os.path.dirname(os.path.dirname(os.path.abspath(__file__)))
 
-use fp_flatnet::{Windows, initial};
-use fp_longestarcs::Network;
-use fp_prices::{Kind, LeafBound, LeafPrice, bound};
-use fp_reader::{InputFault, Tail, instance};
-use fp_records::records;
-use std::time::Instant;
 
-const INPUTS: [&str; 2] = [INPUT];
+def tree(depth, split, leaf):
+    """A balanced tree in preorder."""
+    return [leaf] if depth == 0 else [split] + 2 * tree(depth - 1, split, leaf)
 
-fn main(rt: HostRuntime) -> Result<(), anyhow::Error> {
-    let alloc = rt.alloc();
-    for input in INPUTS.iter() {
-        let lines = records(alloc, input.as_bytes())?;
-        let read = match instance(alloc, &lines, Tail::Alone) {
-            Ok(read) => read,
-            Err(_) => return Ok(()),
-        };
-        let windows = Windows::of(alloc, &read.instance)?;
-        let points = initial(alloc, &read.instance, &windows)?;
-        let network = Network::of(alloc, &read.instance, &points, 0)?;
-        println!(rt; "{} terminals, {} shipments, {} classes", read.instance.terminals().len(), read.instance.shipments().len(), network.classes())?;
-        for (name, kind, forced) in [("linear", Kind::Linear, false), ("linear forced", Kind::Linear, true), ("even", Kind::Even, false), ("even forced", Kind::Even, true)].iter() {
-            let price = LeafPrice { kind: *kind, round: 0, forced: *forced };
-            let start = Instant::now(&rt)?;
-            let found = bound(alloc, &read.instance, &windows, &points, &[], &[], price)?;
-            let took = start.elapsed(&rt)?.as_micros();
-            if let LeafBound::Value { value } = found {
-                println!(rt; "  {name}: {value} in {took} microseconds")?;
-            }
-        }
-    }
-    Ok(())
-}
-"""
 
-LAYERS = [
-    "fp_model:", "fp_records: csv itoa", "fp_labels:", "fp_timenodes:", "fp_tree:", "fp_rows:", "fp_reader: fp_model fp_records indexmap thiserror",
-    "fp_flatnet: fp_model fp_labels fp_timenodes", "fp_longestarcs: fp_model fp_timenodes", "fp_allowed: fp_model fp_timenodes fp_flatnet fp_longestarcs fp_tree fp_rows",
-    "fp_prices: fp_model fp_labels fp_timenodes fp_flatnet fp_longestarcs fp_tree fp_rows fp_allowed",
-]
-TEXTS = ", ".join('"' + generated(1, terminals, shipments).replace("\n", "\\n") + '"' for terminals, shipments in ((10, 40), (20, 60)))
-print(run(SOURCE.replace("INPUT]", TEXTS + "]"), LAYERS, ["fp_flatnet", "fp_longestarcs", "fp_prices", "fp_reader", "fp_records", "anyhow"]), end="")
+def certificate(direct, depth, split, leaf):
+    """The certificate of a direct plan with the bound 0 and such a tree."""
+    lines = direct.splitlines()
+    cost = lines[0].split(",")[2]
+    return "\n".join([f"answer,unfinished,{cost},0,rounds"] + lines[1:-1] + tree(depth, split, leaf) + ["end"]) + "\n"
+
+
+def run(program, command, text):
+    """What the program prints, and the least seconds of three runs."""
+    best = None
+    for _ in range(3):
+        start = time.monotonic()
+        done = subprocess.run([program, command], input=text.encode(), stdout=subprocess.PIPE)
+        took = time.monotonic() - start
+        best = took if best is None else min(best, took)
+    return done.stdout.decode(), best
+
+
+def main():
+    program = sys.argv[1] if len(sys.argv) > 1 else os.path.join(TOP, "crates/freight/out/freight")
+    print("terminals shipments prices seconds")
+    for terminals, shipments in ((10, 40), (20, 60)):
+        text = generated(1, terminals, shipments)
+        direct, _ = run(program, "direct", text)
+        destination = next(line.split(",")[3] for line in text.splitlines() if line.startswith("shipment,S1,"))
+        # No shipment leaves its destination, so this split parts nothing.
+        split = f"split,time,S1,{destination},50000"
+        for kind in ("linear", "even"):
+            for mode in ("plain", "forced"):
+                leaf = f"leaf,{kind},0,{mode}"
+                took = []
+                for depth in (0, 7):
+                    printed, seconds = run(program, "check", text + certificate(direct, depth, split, leaf))
+                    if printed != "accepted,unfinished\n":
+                        sys.exit(f"{printed!r} with {leaf}")
+                    took.append(seconds)
+                print(f"{terminals:9} {shipments:9} {kind + ' ' + mode:13} {(took[1] - took[0]) / 127:.4f}")
+
+
+main()
