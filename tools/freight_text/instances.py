@@ -1,0 +1,108 @@
+"""The instance of records that have no fault, and the words of its fields."""
+
+from dataclasses import dataclass, field
+
+from .records import Record
+
+MOST = {"terminal": 100, "arc": 1000, "shipment": 500}
+AMOUNT = 10**18
+LATEST = 100_000
+
+# The fields of each kind of record after the first: what it is called, and its least and greatest number (None: a name).
+FIELDS = {
+    "terminal": (("NAME", None), ("HOLD", (0, 1000))),
+    "arc": (("FROM", None), ("TO", None), ("TIME", (1, LATEST)), ("CAPACITY", (1, AMOUNT)), ("TRUCK", (0, AMOUNT)), ("FREIGHT", (0, AMOUNT))),
+    "shipment": (("NAME", None), ("FROM", None), ("TO", None), ("SIZE", (1, AMOUNT)), ("RELEASE", (0, LATEST)), ("DUE", (0, LATEST))),
+}
+
+
+@dataclass(frozen=True)
+class Arc:
+    tail: str
+    head: str
+    time: int
+    capacity: int
+    truck: int
+    freight: int
+    line: int
+
+
+@dataclass(frozen=True)
+class Shipment:
+    name: str
+    origin: str
+    destination: str
+    size: int
+    release: int
+    due: int
+    line: int
+
+
+@dataclass
+class Instance:
+    """Terminals with their holds, arcs by their two ends and shipments by their names, each in the input's order."""
+
+    holds: dict[str, int] = field(default_factory=dict)
+    arcs: dict[tuple[str, str], Arc] = field(default_factory=dict)
+    shipments: dict[str, Shipment] = field(default_factory=dict)
+
+    def add(self, record: Record):
+        words = record.fields
+        if record.kind == "terminal":
+            self.holds[words[1]] = int(words[2]) if len(words) > 2 else 0
+        elif record.kind == "arc":
+            self.arcs[words[1], words[2]] = Arc(words[1], words[2], *map(int, words[3:7]), record.line)
+        else:
+            self.shipments[words[1]] = Shipment(*words[1:4], *map(int, words[4:7]), record.line)
+
+
+def instance_of(records):
+    """The instance of records that the program read without a fault; of a certificate after it nothing is taken."""
+    instance = Instance()
+    for record in records:
+        if record.kind == "answer":
+            break
+        instance.add(record)
+    return instance
+
+
+def certificate_part(records):
+    """The records from the first `answer` on."""
+    for place, record in enumerate(records):
+        if record.kind == "answer":
+            return records[place:]
+    return []
+
+
+def trucks_for(size, capacity):
+    return -(-size // capacity)
+
+
+def scaled_alone_cost(instance):
+    """1,000,000 times what all shipments cost that go over every arc alone, which the weight multiplies by 65,536."""
+    total = sum(
+        arc.freight * it.size + arc.truck * trucks_for(it.size, arc.capacity)
+        for it in instance.shipments.values()
+        for arc in instance.arcs.values()
+    )
+    return 1_000_000 * total
+
+
+def least_times(instance, origin):
+    """The least time of a walk from a terminal to each other, with the holds of the terminals between."""
+    import heapq
+
+    outgoing = {}
+    for arc in instance.arcs.values():
+        outgoing.setdefault(arc.tail, []).append(arc)
+    times, queue = {}, [(0, origin)]
+    while queue:
+        time, here = heapq.heappop(queue)
+        if here in times:
+            continue
+        times[here] = time
+        held = time + (instance.holds[here] if here != origin else 0)
+        for arc in outgoing.get(here, ()):
+            if arc.head not in times:
+                heapq.heappush(queue, (held + arc.time, arc.head))
+    return times

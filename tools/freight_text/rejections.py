@@ -1,0 +1,216 @@
+"""Which part of a certificate fails, in words, and the place where it can be seen outside the proof."""
+
+from .instances import certificate_part, instance_of, least_times, trucks_for
+
+PARTS = {
+    1: "the leg lines aren't a plan in order",
+    2: "COST isn't the plan's",
+    3: "the truck lines aren't the plan's departures",
+    4: "the points aren't in order, too many in a round, initial, or twice",
+    5: "a table isn't in order, or a share breaks the price rule",
+    6: "the splits and leaves aren't one tree",
+    7: "some leaf is worth less than the claim",
+    8: "the shipment isn't too late, or its fastest time is another",
+}
+
+
+def lines_of(certificate, kind):
+    return [it for it in certificate if it.kind == kind]
+
+
+def legs_of(certificate):
+    """The legs of each shipment as they stand: ends, departure, arrival and line."""
+    found = {}
+    for it in lines_of(certificate, "leg"):
+        found.setdefault(it.fields[1], []).append((it.fields[2], it.fields[3], int(it.fields[4]), int(it.fields[5]), it.line))
+    return found
+
+
+def order_fault(instance, certificate):
+    places = {name: place for place, name in enumerate(instance.shipments)}
+    keys = [(int(it.fields[4]), places[it.fields[1]], it.line) for it in lines_of(certificate, "leg")]
+    for one, two in zip(keys, keys[1:]):
+        if one[:2] >= two[:2]:
+            return f"line {two[2]}: legs ascend by departure and then by the shipment's place in the input"
+    return None
+
+
+def route_fault(instance, shipment, legs):
+    """What is wrong with the legs of a shipment, if something is."""
+    if not legs:
+        return f"shipment {shipment.name} has no leg"
+    here, ready, met = shipment.origin, shipment.release, {shipment.origin}
+    for tail, head, depart, arrive, line in legs:
+        arc = instance.arcs[tail, head]
+        if tail != here:
+            return f"line {line}: {shipment.name} leaves {tail} and is at {here}"
+        if depart < ready:
+            return f"line {line}: {shipment.name} leaves {tail} at {depart}, and can at {ready}"
+        if arrive != depart + arc.time:
+            return f"line {line}: the arc takes {arc.time}, so {shipment.name} arrives at {depart + arc.time}"
+        if head in met:
+            return f"line {line}: {shipment.name} comes to {head} a second time"
+        here, ready = head, arrive + instance.holds[head]
+        met.add(head)
+    if here != shipment.destination:
+        return f"line {legs[-1][4]}: {shipment.name} ends at {here}, and has to go to {shipment.destination}"
+    if legs[-1][3] > shipment.due:
+        return f"line {legs[-1][4]}: {shipment.name} arrives at {legs[-1][3]}, and is due at {shipment.due}"
+    return None
+
+
+def plan_fault(instance, certificate):
+    fault = order_fault(instance, certificate)
+    legs = legs_of(certificate)
+    for shipment in instance.shipments.values():
+        fault = fault or route_fault(instance, shipment, legs.get(shipment.name, []))
+    return fault
+
+
+def departures_of(instance, certificate):
+    """The load of each departure, by departure and then by the arc's place."""
+    places = {ends: place for place, ends in enumerate(instance.arcs)}
+    loads = {}
+    for name, legs in legs_of(certificate).items():
+        for tail, head, depart, _, _ in legs:
+            key = (depart, places[tail, head], tail, head)
+            loads[key] = loads.get(key, 0) + instance.shipments[name].size
+    return dict(sorted(loads.items()))
+
+
+def cost_fault(instance, certificate):
+    trucks = sum(
+        instance.arcs[tail, head].truck * trucks_for(load, instance.arcs[tail, head].capacity)
+        for (_, _, tail, head), load in departures_of(instance, certificate).items()
+    )
+    flow = sum(
+        instance.arcs[tail, head].freight * instance.shipments[name].size
+        for name, legs in legs_of(certificate).items()
+        for tail, head, *_ in legs
+    )
+    answer = certificate[0]
+    return f"line {answer.line}: the plan costs {trucks + flow:,} (trucks {trucks:,}, flow {flow:,}), not {int(answer.fields[2]):,}"
+
+
+def truck_fault(instance, certificate):
+    wanted = []
+    for (depart, _, tail, head), load in departures_of(instance, certificate).items():
+        wanted.append((tail, head, depart, trucks_for(load, instance.arcs[tail, head].capacity), load))
+    stated = lines_of(certificate, "truck")
+    for line, want in zip(stated, wanted):
+        if (*line.fields[1:3], *map(int, line.fields[3:6])) != want:
+            return f"line {line.line}: the next departure is truck,{','.join(map(str, want))}"
+    if len(stated) > len(wanted):
+        return f"line {stated[len(wanted)].line}: the plan has no further departure"
+    return f"the line truck,{','.join(map(str, wanted[len(stated)]))} is missing"
+
+
+def is_initial(instance, terminal, time):
+    return time == 0 or any(
+        (it.origin, it.release) == (terminal, time) or (it.destination, it.due) == (terminal, time)
+        for it in instance.shipments.values()
+    )
+
+
+def point_fault(instance, certificate):
+    met, last, count = set(), 0, 0
+    for it in lines_of(certificate, "point"):
+        terminal, time, number = it.fields[1], int(it.fields[2]), int(it.fields[3])
+        count = count + 1 if number == last else 1
+        if number < last:
+            return f"line {it.line}: round {number} comes after round {last}"
+        if count > 8:
+            return f"line {it.line}: it is the ninth point of round {number}"
+        if is_initial(instance, terminal, time):
+            return f"line {it.line}: {time} is an initial point of {terminal}"
+        if (terminal, time) in met:
+            return f"line {it.line}: the point stands twice"
+        met.add((terminal, time))
+        last = number
+    return None
+
+
+def scale_of(certificate):
+    scales = lines_of(certificate, "scale")
+    return int(scales[0].fields[1]) if scales else 1_000_000
+
+
+class TableReader:
+    """Goes over the lines of tables and keeps the share in hand."""
+
+    def __init__(self, instance, scale):
+        self.instance, self.scale = instance, scale
+        self.arc_place = {ends: place for place, ends in enumerate(instance.arcs)}
+        self.shipment_place = {name: place for place, name in enumerate(instance.shipments)}
+        self.share, self.last_share, self.last_weight = None, None, None
+
+    def take(self, it):
+        """Takes a line, and says what is wrong with it or with the share before it."""
+        fault = self.rule_fault() if it.kind in ("table", "share") else None
+        if it.kind == "table":
+            self.share, self.last_share = None, None
+        elif it.kind == "share":
+            key = (self.arc_place[it.fields[1], it.fields[2]], int(it.fields[3]))
+            if self.last_share is not None and key <= self.last_share:
+                fault = fault or f"line {it.line}: shares ascend by the arc's place in the input and then by point"
+            self.last_share, self.last_weight, self.share = key, None, [it, 0]
+        else:
+            place = self.shipment_place[it.fields[1]]
+            if self.last_weight is not None and place <= self.last_weight:
+                fault = fault or f"line {it.line}: weights ascend by the shipment's place in the input"
+            self.last_weight = place
+            self.share[1] += int(it.fields[2])
+        return fault
+
+    def rule_fault(self):
+        if self.share is None:
+            return None
+        it, weights = self.share
+        arc = self.instance.arcs[it.fields[1], it.fields[2]]
+        paid, most = weights + arc.capacity * int(it.fields[4]), self.scale * arc.truck
+        return f"line {it.line}: the share pays {paid:,}, and scale times TRUCK is {most:,}" if paid > most else None
+
+
+def table_fault(instance, certificate):
+    reader = TableReader(instance, scale_of(certificate))
+    for it in certificate:
+        if it.kind in ("table", "share", "weight"):
+            fault = reader.take(it)
+            if fault:
+                return fault
+    return reader.rule_fault()
+
+
+def tree_fault(instance, certificate):
+    nodes = [it for it in certificate if it.kind in ("split", "leaf")]
+    wanted = 1
+    for it in nodes:
+        if wanted == 0:
+            return f"line {it.line}: the tree is whole before it"
+        wanted += 1 if it.kind == "split" else -1
+    if wanted:
+        return f"{wanted:,} more leaves are wanted"
+    return f"{sum(it.kind == 'split' for it in nodes):,} splits, and 100,000 are allowed"
+
+
+def leaf_fault(instance, certificate):
+    return "which leaf it is isn't looked for here"
+
+
+def infeasible_fault(instance, certificate):
+    answer = certificate[0]
+    it = instance.shipments[answer.fields[2]]
+    time = least_times(instance, it.origin).get(it.destination)
+    words = "has no route" if time is None else f"takes {time} at the fastest"
+    return f"line {answer.line}: {it.name} {words}, and has {it.due - it.release} from release to due"
+
+
+PLACES = {
+    1: plan_fault, 2: cost_fault, 3: truck_fault, 4: point_fault, 5: table_fault, 6: tree_fault, 7: leaf_fault, 8: infeasible_fault,
+}  # fmt: skip
+
+
+def explanation(records, number):
+    """One or two lines on a rejected certificate: the part that fails, and where."""
+    place = PLACES[number](instance_of(records), certificate_part(records))
+    return [f"part {number} of the certificate fails: {PARTS[number]}"] + ([place] if place else [])

@@ -1,0 +1,72 @@
+"""The timetable of an answer: its legs and departures, with what they cost."""
+
+from dataclasses import dataclass
+
+from .instances import certificate_part, instance_of, trucks_for
+from .records import records_of
+
+
+@dataclass(frozen=True)
+class Leg:
+    shipment: str
+    tail: str
+    head: str
+    depart: int
+    arrive: int
+
+
+@dataclass(frozen=True)
+class Departure:
+    tail: str
+    head: str
+    depart: int
+    arrive: int
+    trucks: int
+    load: int
+    capacity: int
+
+    @property
+    def use(self):
+        """The part of the trucks' capacity that is used, in percent."""
+        return 100 * self.load // (self.trucks * self.capacity) if self.trucks else 0
+
+
+class Timetable:
+    """An instance, the answer's kind and cost, and the legs and departures as they are printed."""
+
+    def __init__(self, instance_data, answer_data):
+        self.instance = instance_of(records_of(instance_data))
+        lines = certificate_part(records_of(answer_data))
+        self.answer = lines[0].fields if lines else ("answer", "none")
+        self.legs = [Leg(*it.fields[1:4], int(it.fields[4]), int(it.fields[5])) for it in lines if it.kind == "leg"]
+        self.departures = [self.departure(it.fields) for it in lines if it.kind == "truck"]
+        self.claims = [it for it in lines if it.kind in ("point", "table", "split", "leaf")]
+
+    def departure(self, fields):
+        arc = self.instance.arcs[fields[1], fields[2]]
+        depart, trucks, load = map(int, fields[3:6])
+        return Departure(arc.tail, arc.head, depart, depart + arc.time, trucks, load, arc.capacity)
+
+    def legs_by_shipment(self):
+        found = {name: [] for name in self.instance.shipments}
+        for leg in self.legs:
+            found[leg.shipment].append(leg)
+        return found
+
+    def aboard(self, departure):
+        """The shipments that leave by a departure."""
+        key = (departure.tail, departure.head, departure.depart)
+        return [it.shipment for it in self.legs if (it.tail, it.head, it.depart) == key]
+
+    def costs_by_arc(self):
+        """For each arc that is used: its trucks, what they cost, and what the flow over it costs."""
+        found = {}
+        for it in self.departures:
+            arc = self.instance.arcs[it.tail, it.head]
+            trucks, money, flow = found.get((it.tail, it.head), (0, 0, 0))
+            found[it.tail, it.head] = (trucks + it.trucks, money + it.trucks * arc.truck, flow + it.load * arc.freight)
+        return found
+
+    def trucks_alone(self):
+        """How many trucks would run if no two shipments shared one."""
+        return sum(trucks_for(self.instance.shipments[it.shipment].size, self.instance.arcs[it.tail, it.head].capacity) for it in self.legs)

@@ -1,0 +1,133 @@
+"""What is said beside each refusal and each rejection: one case a code, one a part."""
+
+import pathlib
+import sys
+import unittest
+
+sys.dont_write_bytecode = True
+sys.path.insert(0, str(pathlib.Path(__file__).resolve().parents[1]))
+
+from freight_text.answers import explanation  # noqa: E402
+
+ENDS = "terminal,A\nterminal,B\n"
+ONE_ARC = ENDS + "arc,A,B,5,10,100,1\nshipment,S1,A,B,4,0,10\n"
+CERTIFICATE = ("answer,optimal,104", "leg,S1,A,B,0,5", "truck,A,B,0,1,4", "leaf,linear,0,forced", "end")
+
+# What follows the two terminals A and B, the refusal, and what is said of it.
+INPUTS = (
+    ("depot,C", "3,1", 'line 3 (record 3), the first field is "depot"', "small letters"),
+    ("arc,A,B,5,10,100", "3,2", "6 fields, and a record of this kind has 7"),
+    ("terminal,C C", "3,3", 'field NAME is "C C"'),
+    ("arc,A,B,5x,10,100,1", "3,4", 'field TIME is "5x": not whole digits (code 4, Digits)'),
+    ("arc,A,B,5,10,100,", "3,2", "6 fields"),
+    ("terminal,C,1001", "3,5", 'field HOLD is "1001": it has to be 0 to 1,000'),
+    ("terminal,A", "3,6", "the terminal of line 1 has this name"),
+    ("arc,A,D,5,10,100,1\nterminal,D", "3,7", 'field TO is "D"', "line 4 has that terminal"),
+    ("arc,A,b,5,10,100,1", "3,7", 'field TO is "b"', "letter by letter"),
+    ("arc,A,A,5,10,100,1", "3,8", 'FROM and TO are both "A"'),
+    ("arc,A,B,5,10,100,1\n\narc,A,B,6,10,100,1", "4,9", "line 5 (record 4)", ),
+    ("shipment,S1,A,B,4,10,9", "3,10", "DUE is 9, before RELEASE, which is 10"),
+    ("arc,A,B,5,10,100,1000000000000000000\nshipment,S1,A,B,1000000000000000000,0,10", "0,12", "(code 12, TooLarge)"),
+)  # fmt: skip
+
+# Whole inputs whose first record is of no kind, and the likely cause.
+FIRST_RECORDS = (
+    (b"name,hold\nterminal,A\n", "a header row?"),
+    (b"terminal;A\n", "semicolons"),
+    (b"terminal\tA\n", "tabs"),
+    ("terminal,A\n".encode("utf-16"), "UTF-16"),
+    (b"\xef\xbb\xbf\xef\xbb\xbfterminal,A\n", "byte order mark"),
+)
+
+# Which lines stand in place of one of the certificate's, the refusal, and what is said of it.
+LINES = (
+    (2, ("lag,S1,A,B,0,5",), "6,21", 'the first field is "lag"'),
+    (1, ("answer,bound,104",), "5,21", 'the second field is "bound"'),
+    (4, ("leaf,linear,0",), "8,22", "3 fields in place of 4: leaf,KIND,ROUND,MODE"),
+    (2, ("leg,S1,A,B,0,5x",), "6,23", 'field ARRIVE is "5x": not a number'),
+    (4, ("leaf,linear,0,loose",), "8,23", 'field MODE is "loose": not plain or forced'),
+    (3, ("truck,A,B,0,1,4", "leg,S1,A,B,0,5"), "8,24", "a leg can't stand after the truck of line 7"),
+    (4, ("table,2", "leaf,linear,0,forced"), "8,24", "this has to be table 1"),
+    (2, ("leg,S9,A,B,0,5",), "6,25", 'field SHIPMENT is "S9": no shipment'),
+    (2, ("leg,S1,B,A,0,5",), "6,25", 'no arc leads from "B" to "A"'),
+    (2, ("leg,S1,A,B,100001,5",), "6,28", 'field DEPART is "100001"'),
+    (4, ("leaf,7,0,plain",), "8,28", 'there is no table "7"'),
+    (5, (), "9,26", 'the line "end" is missing'),
+    (5, ("end", "end"), "10,27", "stands after the certificate's end"),
+)
+
+TWO_ARCS = "terminal,A\nterminal,B\nterminal,C\narc,A,B,4,10,100,0\narc,B,C,5,10,100,0\nshipment,S1,A,C,4,0,9\nshipment,S2,B,C,4,0,8\n"
+PROVED = (
+    "answer,optimal,300", "leg,S1,A,B,0,4", "leg,S2,B,C,0,5", "leg,S1,B,C,4,9", "truck,A,B,0,1,4", "truck,B,C,0,1,4",
+    "truck,B,C,4,1,4", "point,B,4,1", "table,1", "share,B,C,4,0", "weight,S1,100000000", "leaf,linear,1,forced", "end",
+)  # fmt: skip
+
+# Which line of the certificate over two arcs is another, the part that fails, and the place that is named.
+PARTS = (
+    (3, "leg,S2,B,C,1,5", 1, "line 10: the arc takes 5, so S2 arrives at 6"),
+    (4, "leg,S1,B,C,3,8", 1, "line 11: S1 leaves B at 3, and can at 4"),
+    (1, "answer,optimal,301", 2, "line 8: the plan costs 300 (trucks 300, flow 0), not 301"),
+    (5, "truck,A,B,0,2,4", 3, "line 12: the next departure is truck,A,B,0,1,4"),
+    (8, "point,C,8,1", 4, "line 15: 8 is an initial point of C"),
+    (11, "weight,S1,100000001", 5, "line 17: the share pays 100,000,001"),
+    (12, "split,arc,S1,A,B", 6, "2 more leaves are wanted"),
+    (12, "leaf,linear,0,forced", 7, "isn't looked for here"),
+)
+
+
+def said(words, status, data, answer):
+    return "\n".join(explanation([words], status, data, answer.encode() + b"\n"))
+
+
+class Explanations(unittest.TestCase):
+    def holds(self, text, *parts):
+        for part in parts:
+            self.assertIn(part, text)
+
+    def test_codes_of_the_input(self):
+        for record, refusal, *parts in INPUTS:
+            self.holds(said("direct", 21, (ENDS + record + "\n").encode(), f"refused,{refusal}"), *parts)
+
+    def test_too_many(self):
+        data = "".join(f"terminal,T{it}\n" for it in range(101)).encode()
+        self.holds(said("direct", 21, data, "refused,101,11"), "terminal number 101: there may be 100")
+
+    def test_first_records(self):
+        for data, part in FIRST_RECORDS:
+            self.holds(said("direct", 21, data, "refused,1,1"), part)
+
+    def test_codes_of_the_certificate(self):
+        for place, lines, refusal, part in LINES:
+            changed = CERTIFICATE[: place - 1] + lines + CERTIFICATE[place:]
+            data = (ONE_ARC + "\n".join(changed) + "\n").encode()
+            self.holds(said("check", 21, data, f"refused,{refusal}"), part)
+
+    def test_no_certificate(self):
+        self.holds(said("check", 21, ONE_ARC.encode(), "refused,5,26"), "no certificate comes")
+
+    def test_parts(self):
+        for place, line, part, words in PARTS:
+            lines = [*PROVED[: place - 1], line, *PROVED[place:]]
+            text = said("check", 12, (TWO_ARCS + "\n".join(lines) + "\n").encode(), f"rejected,{part}")
+            self.holds(text, f"part {part} of the certificate fails", words)
+
+    def test_part_of_an_infeasible_answer(self):
+        text = said("check", 12, (TWO_ARCS + "answer,infeasible,S1,9\nend\n").encode(), "rejected,8")
+        self.holds(text, "part 8", "S1 takes 9 at the fastest, and has 9")
+
+    def test_infeasible(self):
+        late = ENDS + "arc,A,B,5,10,100,1\nshipment,S1,A,B,4,0,4\n"
+        self.holds(said("direct", 11, late.encode(), "answer,infeasible,S1,5"), "line 4: S1 takes 5 at the fastest, and has 4")
+        back = ENDS + "arc,A,B,5,10,100,1\nshipment,S1,B,A,4,0,4\n"
+        self.holds(said("direct", 11, back.encode(), "answer,infeasible,S1,none"), "no way leads from B to A")
+
+    def test_other_ends(self):
+        self.holds(said("direct", 22, b"", "refused,long"), "more than 16,777,216 bytes")
+        self.holds(said("direct", 0, b"", "answer,direct,0"), "no shipments")
+        for status in (30, 31, 40, 41):
+            self.assertTrue(said("direct", status, b"", ""))
+        self.assertEqual(said("direct", 0, ONE_ARC.encode(), "answer,direct,104"), "")
+
+
+if __name__ == "__main__":
+    unittest.main()
