@@ -13,7 +13,8 @@ use Rattle.fp_flatnet.specs.Windows.{IsInside}
 use Rattle.fp_longestarcs.specs.Classes.{class_of}
 use Rattle.fp_tree.specs.declared.sides.Side.{Side}
 use Rattle.fp_tree.specs.Sides.{MeetsAll}
-use Rattle.fp_allowed.specs.Allowed.{exit_of, has_moment, is_allowed, is_moment, meets_all, some_below, tails_of}
+use Rattle.fp_allowed.specs.Allowed.{exit_of, has_moment, is_allowed, is_moment, meets_all, tails_of}
+use Rattle.fp_lists.specs.Below.{some_below}
 use Rattle.fp_allowed.proofs.Meeting.{meets_all-true}
 
 -- a number below n that passes a test

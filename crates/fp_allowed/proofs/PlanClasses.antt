@@ -4,7 +4,8 @@ use Rattle.std.specs.Prelude.{Option, slice_index_or}
 use Rattle.std.specs.List.{AllByRecursion, AllZip}
 use Rattle.fp_model.specs.declared.parts.Leg.{Leg}
 use Rattle.fp_model.specs.declared.parts.Shipment.{Shipment}
-use Rattle.fp_model.specs.Numbered.{AllFrom, AllZipFrom, no_shipment, route_at, shipment_at}
+use Rattle.fp_model.specs.Numbered.{no_shipment, route_at, shipment_at}
+use Rattle.fp_lists.specs.Numbered.{AllZipFrom, AllFrom}
 use Rattle.fp_model.specs.Plans.{IsPlan}
 use Rattle.fp_model.specs.Problem.{Problem, arc_at}
 use Rattle.fp_model.specs.Routes.{Carries, Leads, LeavesReady, arcs_of, step}

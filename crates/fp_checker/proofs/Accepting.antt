@@ -20,7 +20,8 @@ use Rattle.fp_tree.specs.declared.sides.Side.{Side}
 use Rattle.fp_tree.specs.declared.sides.Split.{Split}
 use Rattle.fp_tree.specs.declared.sides.Split.TheVariants.{ByArc, ByTime}
 use Rattle.fp_tree.specs.Sides.{IsTailOfSplit}
-use Rattle.fp_tree.specs.Trees.{AnyByRecursion, HaveTails, Leaf, tree_leaves}
+use Rattle.fp_tree.specs.Trees.{HaveTails, Leaf, tree_leaves}
+use Rattle.fp_lists.specs.Elements.{AnyByRecursion}
 use Rattle.fp_prices.specs.Leaves.{IsLeafEmpty, IsLeafValue, IsPlanOfLeaf}
 use Rattle.fp_prices.specs.Prices.{AllKeepRule}
 use Rattle.fp_prices.proofs.PlanBounds.{leaf-bounds, leaf-empty}

@@ -2,7 +2,7 @@
 use Rattle.std.proofs.Common.{◌≡◌, ℕ, zero, suc, ◌+◌, ◌-◌, ◌<◌, ◌≤◌, List, length, get_or, ⊎_elim, inl, inr, subst, arith}
 use Rattle.std.specs.Prelude.{AllPairs}
 use Rattle.std.specs.List.{AllAdjacentBelow}
-use Rattle.fp_timetable.specs.Lines.{Precedes}
+use Rattle.fp_lists.specs.Order.{Precedes}
 
 -- a relation that goes from element to element holds over any distance where it holds of neighbours
 over-distance : {X : Type 0} (R : X → X → Type 0) → ((x y z : X) → R x y → R y z → R x z) → (xs : List X) (i n : ℕ) (d : X) → AllAdjacentBelow R xs (length xs) → i + n + 1 < length xs →

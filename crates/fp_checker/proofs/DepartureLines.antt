@@ -10,7 +10,8 @@ use Rattle.fp_model.specs.Problem.{Problem, arc_at}
 use Rattle.fp_model.proofs.Distinct.{distinct_sum-occur, same_leg-refl, same_leg-true}
 use Rattle.fp_model.proofs.Sums.{sum_by-each, sum_by-map}
 use Rattle.fp_timetable.specs.declared.lines.TruckLine.{TruckLine}
-use Rattle.fp_timetable.specs.Lines.{AreTruckLines, Precedes, departure}
+use Rattle.fp_timetable.specs.Lines.{AreTruckLines, departure}
+use Rattle.fp_lists.specs.Order.{Precedes}
 use Rattle.fp_timetable.proofs.Pairs.{EachPair, EachPair-AllPairs}
 use Rattle.fp_checker.specs.Plans.{line_cost}
 

@@ -6,7 +6,8 @@ use Rattle.std.proofs.lemmas.List.{map_push}
 use Rattle.std.proofs.lemmas.List.Sums.{sum_by_push}
 use Rattle.fp_labels.specs.declared.graphs.Edge.{Edge}
 use Rattle.fp_labels.specs.Graphs.{edge_at}
-use Rattle.fp_labels.specs.Walks.{Leads, cost_of, nodes_on, AreApart, IsWalk}
+use Rattle.fp_labels.specs.Walks.{Leads, cost_of, nodes_on, IsWalk}
+use Rattle.fp_lists.specs.Distinct.{AreDistinct}
 
 -- what holds of each element and of one more
 pub all_push : {X : Type 0} (P : X → Type 0) (xs : List X) (x : X) → AllByRecursion P xs → P x → AllByRecursion P (xs ++ (x ∷ []))
@@ -19,7 +20,7 @@ all_weaker P Q weaker [] all = tt
 all_weaker P Q weaker (x ∷ xs) all = (weaker x all.0, all_weaker P Q weaker xs all.1)
 
 -- one more number that stands nowhere before
-pub apart_push : (xs : List ℕ) (x : ℕ) → AreApart xs → AllByRecursion (λ y. y ≢ x) xs → AreApart (xs ++ (x ∷ []))
+pub apart_push : (xs : List ℕ) (x : ℕ) → AreDistinct xs → AllByRecursion (λ y. y ≢ x) xs → AreDistinct (xs ++ (x ∷ []))
 apart_push [] x apart new = (tt, tt)
 apart_push (y ∷ xs) x apart new = (all_push (λ z. z ≢ y) xs x apart.0 (λ same. new.0 (sym same)), apart_push xs x apart.1 new.1)
 

@@ -13,7 +13,8 @@ use Rattle.fp_labels.specs.declared.graphs.Edge.{Edge}
 use Rattle.fp_labels.specs.declared.walks.Label.{Label}
 use Rattle.fp_labels.specs.declared.walks.Step.{Step}
 use Rattle.fp_labels.specs.Graphs.{Shape, edge_at}
-use Rattle.fp_labels.specs.Walks.{cost_of, nodes_on, AreApart, IsWalk}
+use Rattle.fp_labels.specs.Walks.{cost_of, nodes_on, IsWalk}
+use Rattle.fp_lists.specs.Distinct.{AreDistinct}
 use Rattle.fp_labels.specs.Rows.{IsRow}
 use Rattle.fp_labels.specs.Labels.{label_at, step_to, traced, greatest_cost, IsSmallFor}
 use Rattle.fp_labels.specs.Searches.{Entry, entry_cmp, is_settled, settled_count, IsWithin, AreBehind, IsQueue, Improves, IsTraced, AreWalked, IsRelaxed, AreRelaxed, IsSearch, IsLast}
@@ -120,7 +121,7 @@ module _ (graph : Shape) (costs : List (Option ℕ)) (start : ℕ) (labels : Lis
           simple = record {
             goes = subst (λ (m : ℕ). IsWalk graph.edges costs start m (walk ++ (e ∷ [])) (cost + more)) enters
                 (walk_push graph.edges costs start node walk cost e more t.simple.goes inside leaves unbarred);
-            apart = subst (λ (ns : List ℕ). AreApart ns) (sym nodes_are) (apart_push (nodes_on graph.edges start walk) to t.simple.apart
+            apart = subst (λ (ns : List ℕ). AreDistinct ns) (sym nodes_are) (apart_push (nodes_on graph.edges start walk) to t.simple.apart
                 (all_weaker (λ m. (m ≡ node) ⊎ (is_settled settled m ≡ true)) (λ m. m ≢ to)
                 (λ m so. ⊎_elim (λ (is : m ≡ node). λ same. node_apart (sym is ∙ same)) (λ (is : is_settled settled m ≡ true). settled_apart m is) so)
                 (nodes_on graph.edges start walk) t.inside));

@@ -4,7 +4,7 @@ use Rattle.std.specs.List.{range_with_len, insert}
 use Rattle.std.specs.declared.alloc.Global.{Global}
 use Rattle.std.specs.declared.vec.Vec.{Vec}
 use Rattle.std.proofs.lemmas.List.{map-append, take-map, drop-map, get_or-map}
-use Rattle.fp_longestarcs.specs.Vectors.{lists_of}
+use Rattle.fp_lists.specs.Vectors.{lists_of}
 
 -- what a function makes of a list with one more element
 pub map-insert : {X Y : Type 0} (f : X → Y) (xs : List X) (i : ℕ) (y : X) → map f (insert xs i y) ≡ insert (map f xs) i (f y)

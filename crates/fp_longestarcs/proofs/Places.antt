@@ -6,21 +6,23 @@ use Rattle.std.proofs.lemmas.Bool.{cases_lt, cases_eq, lt-ltb, le-ltb, le-leb, l
 use Rattle.std.proofs.lemmas.List.{get_or_default}
 use Rattle.std.proofs.lemmas.List.Edits.{length-insert, get_or-insert_below, get_or-insert_at, get_or-insert_above}
 use Rattle.std.proofs.lemmas.List.Sorted.{IsPermutation-insert, list_any-IsPermutation}
-use Rattle.fp_timenodes.specs.Floor.{has_point, floor_point}
+use Rattle.fp_timenodes.specs.Floor.{floor_point}
+use Rattle.fp_lists.specs.Membership.{list_has}
 use Rattle.fp_timenodes.specs.declared.places.TheConstants.{LATEST}
 use Rattle.fp_timenodes.proofs.Floors.{has-cases, has-first, has-rest, floor-is, floor-same}
-use Rattle.fp_longestarcs.specs.Ascending.{place_of, ArePoints, IsPlace}
+use Rattle.fp_longestarcs.specs.Ascending.{ArePoints}
+use Rattle.fp_lists.specs.Ascending.{IsPlaceIn, place_in}
 
 -- the place is how many points are before the time
-pub place-is : (qs : List ℕ) (at place : ℕ) → IsPlace qs at place → place_of qs at ≡ place
+pub place-is : (qs : List ℕ) (at place : ℕ) → IsPlaceIn qs at place → place_in qs at ≡ place
 place-is [] at place is = omega (arith, is.within)
 place-is (q ∷ qs) at zero is =
     let late : at ≤ q = is.above 0 0 (omega arith) (omega arith) in
-    let rest : place_of qs at ≡ 0 = place-is qs at 0 (record { within = omega arith; below = λ k d h. absurd (omega arith); above = λ k d from h. is.above (suc k) d (omega arith) (omega arith) }) in
+    let rest : place_in qs at ≡ 0 = place-is qs at 0 (record { within = omega arith; below = λ k d h. absurd (omega arith); above = λ k d from h. is.above (suc k) d (omega arith) (omega arith) }) in
     rw (le-ltb q at late) rest
 place-is (q ∷ qs) at (suc place) is =
     let early : q < at = is.below 0 0 (omega arith) in
-    let rest : place_of qs at ≡ place =
+    let rest : place_in qs at ≡ place =
     place-is qs at place (record { within = omega (arith, is.within); below = λ k d h. is.below (suc k) d (omega arith); above = λ k d from h. is.above (suc k) d (omega arith) (omega arith) }) in
     rw (lt-ltb q at early) (omega (arith, rest))
 
@@ -29,29 +31,29 @@ pub tail-ascends : (q : ℕ) (qs : List ℕ) → AllPairs (λ a b. a < b) (q ∷
 tail-ascends q qs up i j d less h = up (suc i) (suc j) d (omega arith) (omega arith)
 
 -- where all points from some place on are not before the time, none counts
-none-before : (qs : List ℕ) (at : ℕ) → ((k d : ℕ) → k < length qs → at ≤ get_or qs k d) → place_of qs at ≡ 0
+none-before : (qs : List ℕ) (at : ℕ) → ((k d : ℕ) → k < length qs → at ≤ get_or qs k d) → place_in qs at ≡ 0
 none-before qs at late = place-is qs at 0 (record { within = omega arith; below = λ k d h. absurd (omega arith); above = λ k d from h. late k d h })
 
 -- among ascending points, those before the time are the first ones
-pub place-of : (qs : List ℕ) (at : ℕ) → AllPairs (λ a b. a < b) qs → IsPlace qs at (place_of qs at)
+pub place-of : (qs : List ℕ) (at : ℕ) → AllPairs (λ a b. a < b) qs → IsPlaceIn qs at (place_in qs at)
 place-of [] at up = record { within = omega arith; below = λ k d h. absurd (omega arith); above = λ k d from h. absurd (omega arith) }
 place-of (q ∷ qs) at up =
-    let rest : IsPlace qs at (place_of qs at) = place-of qs at (tail-ascends q qs up) in
+    let rest : IsPlaceIn qs at (place_in qs at) = place-of qs at (tail-ascends q qs up) in
     ⊎_elim
     (λ (early : q < at). rw (lt-ltb q at early) (one-more early rest))
     (λ (late : at ≤ q).
-    let none : place_of qs at ≡ 0 = none-before qs at (λ k d h. omega (arith, up 0 (suc k) d (omega arith) (omega arith), late)) in
+    let none : place_in qs at ≡ 0 = none-before qs at (λ k d h. omega (arith, up 0 (suc k) d (omega arith) (omega arith), late)) in
     rw (le-ltb q at late, none) (record { within = omega arith; below = λ k d h. absurd (omega arith); above = from-first late }))
     (cases_lt q at)
   where
-    one-more : q < at → IsPlace qs at (place_of qs at) → IsPlace (q ∷ qs) at (suc (place_of qs at))
+    one-more : q < at → IsPlaceIn qs at (place_in qs at) → IsPlaceIn (q ∷ qs) at (suc (place_in qs at))
     one-more early rest = record { within = omega (arith, rest.within); below = first early rest; above = later rest }
       where
-        first : q < at → IsPlace qs at (place_of qs at) → (k d : ℕ) → k < suc (place_of qs at) → get_or (q ∷ qs) k d < at
+        first : q < at → IsPlaceIn qs at (place_in qs at) → (k d : ℕ) → k < suc (place_in qs at) → get_or (q ∷ qs) k d < at
         first e r zero d h = e
         first e r (suc k) d h = r.below k d (omega arith)
 
-        later : IsPlace qs at (place_of qs at) → (k d : ℕ) → suc (place_of qs at) ≤ k → k < length (q ∷ qs) → at ≤ get_or (q ∷ qs) k d
+        later : IsPlaceIn qs at (place_in qs at) → (k d : ℕ) → suc (place_in qs at) ≤ k → k < length (q ∷ qs) → at ≤ get_or (q ∷ qs) k d
         later r zero d from h = absurd (omega arith)
         later r (suc k) d from h = r.above k d (omega arith) (omega arith)
 
@@ -65,25 +67,25 @@ pub record StandsAt (qs : List ℕ) (at : ℕ) : Type 0 where
   pub within : place < length qs
   pub is : (d : ℕ) → get_or qs place d ≡ at
 
-pub stands : (qs : List ℕ) (at : ℕ) → has_point qs at ≡ true → StandsAt qs at
+pub stands : (qs : List ℕ) (at : ℕ) → list_has qs at ≡ true → StandsAt qs at
 stands [] at there = cc
 stands (q ∷ qs) at there =
     ⊎_elim
     (λ (same : q ≡ at). record { place = 0; within = omega arith; is = λ d. same })
-    (λ (rest : has_point qs at ≡ true). let w = stands qs at rest in record { place = suc w.place; within = omega (arith, w.within); is = λ d. w.is d })
+    (λ (rest : list_has qs at ≡ true). let w = stands qs at rest in record { place = suc w.place; within = omega (arith, w.within); is = λ d. w.is d })
     (has-cases q qs at there)
 
 -- and what stands in it is a point
-pub has-place : (qs : List ℕ) (k d : ℕ) → k < length qs → has_point qs (get_or qs k d) ≡ true
+pub has-place : (qs : List ℕ) (k d : ℕ) → k < length qs → list_has qs (get_or qs k d) ≡ true
 has-place [] k d h = absurd (omega arith)
 has-place (q ∷ qs) zero d h = has-first q qs
 has-place (q ∷ qs) (suc k) d h = has-rest q qs (get_or qs k d) (has-place qs k d (omega arith))
 
 -- a point stands at its place
-pub at-place : (qs : List ℕ) (at : ℕ) → AllPairs (λ a b. a < b) qs → has_point qs at ≡ true → (place_of qs at < length qs) × ((d : ℕ) → get_or qs (place_of qs at) d ≡ at)
+pub at-place : (qs : List ℕ) (at : ℕ) → AllPairs (λ a b. a < b) qs → list_has qs at ≡ true → (place_in qs at < length qs) × ((d : ℕ) → get_or qs (place_in qs at) d ≡ at)
 at-place qs at up there =
     let w = stands qs at there in
-    let same : place_of qs at ≡ w.place =
+    let same : place_in qs at ≡ w.place =
     place-is qs at w.place (record {
       within = omega (arith, w.within);
       below = λ k d h. omega (arith, up k w.place d h w.within, w.is d);
@@ -92,7 +94,7 @@ at-place qs at up there =
     (omega (arith, same, w.within), λ d. rw same (w.is d))
 
 -- the place of what stands at a place
-pub place-at : (qs : List ℕ) (k d : ℕ) → AllPairs (λ a b. a < b) qs → k < length qs → place_of qs (get_or qs k d) ≡ k
+pub place-at : (qs : List ℕ) (k d : ℕ) → AllPairs (λ a b. a < b) qs → k < length qs → place_in qs (get_or qs k d) ≡ k
 place-at qs k d up h =
     place-is qs (get_or qs k d) k (record {
       within = omega arith;
@@ -101,7 +103,7 @@ place-at qs k d up h =
     })
 
 -- one more point among the others
-pub has-insert : (qs : List ℕ) (k at m : ℕ) → has_point (insert qs k at) m ≡ has_point (at ∷ qs) m
+pub has-insert : (qs : List ℕ) (k at m : ℕ) → list_has (insert qs k at) m ≡ list_has (at ∷ qs) m
 has-insert qs k at m = sym (list_any-IsPermutation (λ q. nat_eq q m) (at ∷ qs) (insert qs k at) (IsPermutation-insert qs k at))
 
 -- with a point that is early enough the greatest is at least that point
@@ -117,7 +119,7 @@ floor-without qs k at n h =
     floor-same (insert qs k at) (at ∷ qs) 1 n (has-insert qs k at) ∙ omega (arith, skipped)
 
 -- a new point put in its place leaves the points in ascending order
-pub insert-points : (qs : List ℕ) (at : ℕ) → ArePoints qs → has_point qs at ≡ false → at ≤ LATEST → ArePoints (insert qs (place_of qs at) at)
+pub insert-points : (qs : List ℕ) (at : ℕ) → ArePoints qs → list_has qs at ≡ false → at ≤ LATEST → ArePoints (insert qs (place_in qs at) at)
 insert-points qs at are new in_time = record {
   ascending = up;
   zero = has-insert qs place at 0 ∙ has-rest at qs 0 are.zero;
@@ -125,9 +127,9 @@ insert-points qs at are new in_time = record {
 }
   where
     place : ℕ
-    place = place_of qs at
+    place = place_in qs at
 
-    is : IsPlace qs at place
+    is : IsPlaceIn qs at place
     is = place-of qs at are.ascending
 
     after : (k d : ℕ) → place ≤ k → k < length qs → at < get_or qs k d
@@ -136,7 +138,7 @@ insert-points qs at are new in_time = record {
         (λ (less : at < get_or qs k d). less)
         (λ (more : get_or qs k d ≤ at).
         let same : get_or qs k d ≡ at = omega (arith, is.above k d from h, more) in
-        absurd (let there : has_point qs at ≡ true = subst (λ (m : ℕ). has_point qs m ≡ true) same (has-place qs k d h) in cc))
+        absurd (let there : list_has qs at ≡ true = subst (λ (m : ℕ). list_has qs m ≡ true) same (has-place qs k d h) in cc))
         (cases_lt at (get_or qs k d))
 
     here : (d : ℕ) → get_or (insert qs place at) place d ≡ at
@@ -186,28 +188,28 @@ insert-points qs at are new in_time = record {
         (cases_lt k place)
 
 -- a time whose place has another point, or none, is no point
-pub not-at-place : (qs : List ℕ) (at k : ℕ) → AllPairs (λ a b. a < b) qs → IsPlace qs at k → (k < length qs → get_or qs k 0 ≡ at → ⊥) → has_point qs at ≡ false
+pub not-at-place : (qs : List ℕ) (at k : ℕ) → AllPairs (λ a b. a < b) qs → IsPlaceIn qs at k → (k < length qs → get_or qs k 0 ≡ at → ⊥) → list_has qs at ≡ false
 not-at-place qs at k up is other =
-    false_from_ne_true (has_point qs at)
+    false_from_ne_true (list_has qs at)
     (λ there.
-    let same : place_of qs at ≡ k = place-is qs at k is in
+    let same : place_in qs at ≡ k = place-is qs at k is in
     let stands_there = at-place qs at up there in
     other (omega (arith, same, stands_there.0)) (ap (λ (n : ℕ). get_or qs n 0) (sym same) ∙ stands_there.1 0))
 
 -- a point that is not after such a time stands before its place
-early-before : (qs : List ℕ) (at k q : ℕ) → IsPlace qs at k → has_point qs at ≡ false → (w : StandsAt qs q) → q ≤ at → w.place < k
+early-before : (qs : List ℕ) (at k q : ℕ) → IsPlaceIn qs at k → list_has qs at ≡ false → (w : StandsAt qs q) → q ≤ at → w.place < k
 early-before qs at k q is none w le =
     ⊎_elim
     (λ (less : w.place < k). less)
     (λ (more : k ≤ w.place).
     let same : q ≡ at = omega (arith, is.above w.place 0 more w.within, w.is 0) in
-    let there : has_point qs at ≡ true = subst (λ (m : ℕ). has_point qs m ≡ true) (w.is 0 ∙ same) (has-place qs w.place 0 w.within) in absurd (both_ways (has_point qs at) none there))
+    let there : list_has qs at ≡ true = subst (λ (m : ℕ). list_has qs m ≡ true) (w.is 0 ∙ same) (has-place qs w.place 0 w.within) in absurd (both_ways (list_has qs at) none there))
     (cases_lt w.place k)
 
 -- the last point before such a time is the greatest that is not after it
-pub floor-before : (qs : List ℕ) (at k : ℕ) → ArePoints qs → IsPlace qs at k → (k < length qs → get_or qs k 0 ≡ at → ⊥) → (0 < k) × (get_or qs (k - 1) 0 ≡ floor_point qs 1 at)
+pub floor-before : (qs : List ℕ) (at k : ℕ) → ArePoints qs → IsPlaceIn qs at k → (k < length qs → get_or qs k 0 ≡ at → ⊥) → (0 < k) × (get_or qs (k - 1) 0 ≡ floor_point qs 1 at)
 floor-before qs at k are is other =
-    let none : has_point qs at ≡ false = not-at-place qs at k are.ascending is other in
+    let none : list_has qs at ≡ false = not-at-place qs at k are.ascending is other in
     let zero_at : StandsAt qs 0 = stands qs 0 are.zero in
     let some : 0 < k = omega (arith, early-before qs at k 0 is none zero_at (omega arith)) in (
       some,
@@ -222,9 +224,9 @@ floor-before qs at k are is other =
     )
 
 -- whether what stands at its place is the time tells whether it is a point
-pub at-place-tells : (qs : List ℕ) (at k : ℕ) → ArePoints qs → IsPlace qs at k → k < length qs → nat_eq (get_or qs k 0) at ≡ has_point qs at
+pub at-place-tells : (qs : List ℕ) (at k : ℕ) → ArePoints qs → IsPlaceIn qs at k → k < length qs → nat_eq (get_or qs k 0) at ≡ list_has qs at
 at-place-tells qs at k are is h =
     ⊎_elim
-    (λ (same : get_or qs k 0 ≡ at). eq-eqb (get_or qs k 0) at same ∙ sym (subst (λ (m : ℕ). has_point qs m ≡ true) same (has-place qs k 0 h)))
+    (λ (same : get_or qs k 0 ≡ at). eq-eqb (get_or qs k 0) at same ∙ sym (subst (λ (m : ℕ). list_has qs m ≡ true) same (has-place qs k 0 h)))
     (λ (other : get_or qs k 0 ≡ at → ⊥). ne_eqb (get_or qs k 0) at other ∙ sym (not-at-place qs at k are.ascending is (λ within. other)))
     (cases_eq (get_or qs k 0) at)

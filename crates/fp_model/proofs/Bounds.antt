@@ -15,8 +15,10 @@ use Rattle.fp_model.specs.declared.parts.Arc.{Arc}
 use Rattle.fp_model.specs.declared.parts.Leg.{Leg}
 use Rattle.fp_model.specs.declared.parts.Shipment.{Shipment}
 use Rattle.fp_model.specs.Problem.{Problem, IsValid, no_arc, arc_at, truck_cost, alone_cost, alone_total}
-use Rattle.fp_model.specs.Routes.{AreApart, Leads, ArcsExist, Carries, arcs_of}
-use Rattle.fp_model.specs.Costs.{same_leg, has_leg, distinct, all_legs, load, flow_cost, flow_total, cost, lists_of}
+use Rattle.fp_model.specs.Routes.{Leads, ArcsExist, Carries, arcs_of}
+use Rattle.fp_lists.specs.Distinct.{AreDistinct}
+use Rattle.fp_model.specs.Costs.{same_leg, has_leg, distinct, all_legs, load, flow_cost, flow_total, cost}
+use Rattle.fp_lists.specs.Vectors.{lists_of}
 use Rattle.fp_model.specs.Plans.{IsPlan}
 use Rattle.fp_model.proofs.Distinct.{distinct_sum, distinct_sum-le, distinct_sum-le-sum_by}
 use Rattle.fp_model.proofs.Sums.{each-weaker, sum_by-both, sum_by-each, sum_by-map}
@@ -104,7 +106,7 @@ departures-le-alone p (s ∷ ss) (r ∷ R) long =
 
 -- the values at different places sum to at most the whole sum, where an element of value 0 can take a place
 pub sum_by-places-le : {X : Type 0} (g : X → ℕ) (d : X) → g d ≡ 0 → (places : List ℕ) (xs : List X) →
-    AllByRecursion (λ i. i < length xs) places → AreApart places → sum_by (λ i. g (get_or xs i d)) places ≤ sum_by g xs
+    AllByRecursion (λ i. i < length xs) places → AreDistinct places → sum_by (λ i. g (get_or xs i d)) places ≤ sum_by g xs
 sum_by-places-le g d none [] xs below apart = omega arith
 sum_by-places-le {X} g d none (i ∷ places) xs below apart =
     let ys : List X = set xs i d in
@@ -122,7 +124,7 @@ Leads-exist p here [] there leads = tt
 Leads-exist p here (a ∷ arcs) there leads = (leads.0, Leads-exist p (arc_at p a).to arcs there leads.2)
 
 -- numbers with different values are different
-pub AreApart-map : (f : ℕ → ℕ) (xs : List ℕ) → AreApart (map f xs) → AreApart xs
+pub AreApart-map : (f : ℕ → ℕ) (xs : List ℕ) → AreDistinct (map f xs) → AreDistinct xs
 AreApart-map f [] apart = tt
 AreApart-map f (x ∷ xs) apart = (others xs apart.0, AreApart-map f xs apart.1)
   where

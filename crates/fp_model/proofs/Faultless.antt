@@ -12,7 +12,8 @@ use Rattle.fp_model.specs.declared.faults.PlanKind.TheVariants.{Count, NotRoute,
 use Rattle.fp_model.specs.declared.parts.Leg.{Leg}
 use Rattle.fp_model.specs.declared.parts.Shipment.{Shipment}
 use Rattle.fp_model.specs.Problem.{Problem, arc_at}
-use Rattle.fp_model.specs.Routes.{AreApart, Carries, arcs_of, step}
+use Rattle.fp_model.specs.Routes.{Carries, arcs_of, step}
+use Rattle.fp_lists.specs.Distinct.{AreDistinct}
 use Rattle.fp_model.specs.Numbered.{leg_at, no_leg, route_at, shipment_at, no_shipment}
 use Rattle.fp_model.specs.Faults.{place_before, HasLegFault, AreFaultless, HasFault, IsFaultless}
 use Rattle.fp_model.specs.Plans.{IsPlan}
@@ -43,7 +44,7 @@ place_before-take : (p : Problem) (origin : ℕ) (legs : List Leg) (n j : ℕ) �
 place_before-take p origin legs n zero le = refl
 place_before-take p origin legs n (suc j) le = ap (λ (l : Leg). (arc_at p l.arc).to) (get_or-take n legs j no_leg (omega (arith, le)))
 
-distinct-apart : (xs : List ℕ) → AreApart xs → IsDistinct eqb xs
+distinct-apart : (xs : List ℕ) → AreDistinct xs → IsDistinct eqb xs
 unfolding IsDistinct
 distinct-apart [] apart = tt
 distinct-apart (x ∷ xs) apart = (
@@ -84,7 +85,7 @@ few_faultless p s legs n le none =
     λ i lt.
     let below : i < n = omega (arith, lt, long) in
     subst (λ (l : Leg). l.arc < length p.arcs) (sym (same i below)) (goes_on p s legs i (omega (arith, below, le)) (none NotRoute i below)).0 in
-    let apart : AreApart (arcs_of front) = AreApart-map (λ a. (arc_at p a).to) (arcs_of front) (AreApart-from_legs p s.from front returns).1 in
+    let apart : AreDistinct (arcs_of front) = AreApart-map (λ a. (arc_at p a).to) (arcs_of front) (AreApart-from_legs p s.from front returns).1 in
     let few : length (arcs_of front) ≤ length p.arcs =
     length-le_from_distinct_below (arcs_of front) (length p.arcs) (distinct-apart (arcs_of front) apart) (below-any (length p.arcs) (arcs_of front) (arcs-below p s.from front exist)) in
     omega (arith, few, long, length-arcs_of front)

@@ -2,7 +2,7 @@
 use Rattle.std.proofs.Common.{◌≡◌, ℕ, zero, suc, ◌+◌, ◌<◌, List, [], ◌∷◌, length, map, refl, subst, arith, add-one}
 use Rattle.std.specs.Prelude.{slice_index_or}
 use Rattle.std.specs.List.{AllByRecursion, AllZip}
-use Rattle.fp_model.specs.Numbered.{AllFrom, AllZipFrom}
+use Rattle.fp_lists.specs.Numbered.{AllZipFrom, AllFrom}
 
 pub next-at : {X : Type 0} (x : X) (xs : List X) (k : ℕ) (d : X) → slice_index_or (x ∷ xs) (k + 1) d ≡ slice_index_or xs k d
 next-at x xs k d = rw add-one refl

@@ -9,7 +9,7 @@ use Rattle.fp_model.specs.declared.parts.Arc.{Arc}
 use Rattle.fp_model.specs.declared.parts.Leg.{Leg}
 use Rattle.fp_model.specs.declared.parts.Shipment.{Shipment}
 use Rattle.fp_model.specs.Problem.{Problem, arc_at, truck_cost}
-use Rattle.fp_model.specs.Routes.{AreApart}
+use Rattle.fp_lists.specs.Distinct.{AreDistinct}
 use Rattle.fp_model.specs.Costs.{has_leg, all_legs, load}
 use Rattle.fp_model.proofs.Bounds.{departure_of, load-outside}
 use Rattle.fp_model.proofs.Ceilings.{div_ceil-zero}
@@ -55,7 +55,7 @@ share-at-keeps p tables id c keep = share-keeps p (table_at tables id) c (each-a
 
 -- different shipments pay at most for the trucks that they need
 pub trucks-fit : (p : Problem) (tables : List (List ClassShare)) (allowed : ℕ → Leg → Bool) (kind : Kind) (c : Leg) (size : ℕ → ℕ) (set : List ℕ) → AllKeepRule p tables →
-    0 < (arc_at p c.arc).capacity → AreApart set → 0 < sum_by size set → length set ≤ allowed_count (λ j. allowed j c) 0 p.shipments →
+    0 < (arc_at p c.arc).capacity → AreDistinct set → 0 < sum_by size set → length set ≤ allowed_count (λ j. allowed j c) 0 p.shipments →
     sum_by (λ k. truck_price p tables allowed kind c k (size k)) set ≤ p.scale * truck_cost (arc_at p c.arc) (sum_by size set)
 trucks-fit p tables allowed Linear c size set keep h apart some few = linear-fits p.scale (arc_at p c.arc) size set h
 trucks-fit p tables allowed Even c size set keep h apart some few =

@@ -6,7 +6,8 @@ use Rattle.std.proofs.Math.Nat.{mul-le-mul_left}
 use Rattle.fp_model.specs.Problem.{Problem}
 use Rattle.fp_longestarcs.specs.Networks.{TimedNetwork}
 use Rattle.fp_allowed.specs.Bits.{bit_of}
-use Rattle.fp_prices.specs.Forced.{row_cost, sum_below, truck_cost_at}
+use Rattle.fp_prices.specs.Forced.{row_cost, truck_cost_at}
+use Rattle.fp_lists.specs.Below.{sum_below}
 use Rattle.fp_prices.proofs.SetBits.{IsNextSet}
 
 -- numbers at which the function is 0 add nothing

@@ -10,7 +10,8 @@ use Rattle.std.proofs.lemmas.List.Sums.{sum_by-cons, sum_by-le}
 use Rattle.fp_labels.specs.declared.graphs.Edge.{Edge}
 use Rattle.fp_labels.specs.Graphs.{HasEnds, edge_at, no_edge}
 use Rattle.fp_labels.specs.Labels.{IsSimpleWalk}
-use Rattle.fp_labels.specs.Walks.{AreApart, IsDistance, IsWalk, cost_of, nodes_on, Leads as LeadsOver, walk_cost as edges_cost}
+use Rattle.fp_labels.specs.Walks.{IsDistance, IsWalk, cost_of, nodes_on, Leads as LeadsOver, walk_cost as edges_cost}
+use Rattle.fp_lists.specs.Distinct.{AreDistinct}
 use Rattle.fp_model.specs.declared.parts.Leg.{Leg}
 use Rattle.fp_model.specs.declared.parts.Shipment.{Shipment}
 use Rattle.fp_model.specs.Problem.{Problem}
@@ -65,7 +66,7 @@ least-over p net allowed price costs s are from to (Some n) least =
     }
 
 -- numbers below n that are all different are at most n
-few-apart : (n : ℕ) (places : List ℕ) → AllByRecursion (λ i. i < n) places → AreApart places → length places ≤ n
+few-apart : (n : ℕ) (places : List ℕ) → AllByRecursion (λ i. i < n) places → AreDistinct places → length places ≤ n
 few-apart n places below apart =
     let each : All (λ (i : ℕ). i ≤ 1) row = λ k d h. omega (arith, get_or-replicate {A = ℕ} n k 1 d (omega (arith, h, long))) in
     let inside : AllByRecursion (λ i. i < length row) places = each-weaker (λ i. i < n) (λ i. i < length row) (λ i h. omega (arith, h, long)) places below in

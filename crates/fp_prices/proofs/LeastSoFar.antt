@@ -6,7 +6,8 @@ use Rattle.std.proofs.lemmas.List.{get_or-take, length-take, take_all, take_more
 use Rattle.std.proofs.lemmas.List.Sums.{sum_by-append, sum_by-cons, sum_by_more_le}
 use Rattle.fp_model.specs.declared.parts.Leg.{Leg}
 use Rattle.fp_model.specs.declared.parts.Shipment.{Shipment}
-use Rattle.fp_model.specs.Numbered.{AllZipFrom, no_shipment, shipment_at}
+use Rattle.fp_model.specs.Numbered.{no_shipment, shipment_at}
+use Rattle.fp_lists.specs.Numbered.{AllZipFrom}
 use Rattle.fp_model.specs.Problem.{IsValid, Problem, alone_cost, alone_total}
 use Rattle.fp_model.proofs.Places.{zip-places}
 use Rattle.fp_longestarcs.specs.Networks.{points_in}

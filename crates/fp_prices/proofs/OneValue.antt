@@ -4,7 +4,8 @@ use Rattle.std.specs.Prelude.{sum_by, slice_index_or, Option}
 use Rattle.std.proofs.lemmas.Bool.{cases_order}
 use Rattle.fp_model.specs.declared.parts.Leg.{Leg}
 use Rattle.fp_model.specs.declared.parts.Shipment.{Shipment}
-use Rattle.fp_model.specs.Numbered.{AllZipFrom, no_shipment, shipment_at}
+use Rattle.fp_model.specs.Numbered.{no_shipment, shipment_at}
+use Rattle.fp_lists.specs.Numbered.{AllZipFrom}
 use Rattle.fp_model.specs.Problem.{Problem, arc_at}
 use Rattle.fp_model.specs.Costs.{all_legs, departures_cost}
 use Rattle.fp_model.proofs.Places.{zip-places}

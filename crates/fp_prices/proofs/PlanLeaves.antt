@@ -6,11 +6,13 @@ use Rattle.fp_model.specs.declared.parts.Leg.{Leg}
 use Rattle.fp_model.specs.declared.parts.Shipment.{Shipment}
 use Rattle.fp_model.specs.Plans.{IsPlan}
 use Rattle.fp_model.specs.Problem.{Problem, arc_at}
-use Rattle.fp_model.specs.Routes.{AreApart, Carries, Leads, arcs_of, ends_of}
+use Rattle.fp_model.specs.Routes.{Carries, Leads, arcs_of, ends_of}
+use Rattle.fp_lists.specs.Distinct.{AreDistinct}
 use Rattle.fp_model.proofs.Places.{at-map, from-places, unmapped}
 use Rattle.fp_tree.specs.declared.sides.Side.{Side}
 use Rattle.fp_tree.specs.Sides.{Exit, Fork, MeetsAll, Obeys}
-use Rattle.fp_tree.specs.Trees.{AnyByRecursion, HaveTails, IsTree, Leaf, LeaveApart, tree_leaves}
+use Rattle.fp_tree.specs.Trees.{HaveTails, IsTree, Leaf, LeaveApart, tree_leaves}
+use Rattle.fp_lists.specs.Elements.{AnyByRecursion}
 use Rattle.fp_tree.proofs.Covers.{covers}
 use Rattle.fp_allowed.specs.Allowed.{PlanObeys, exit_of, tails_of}
 use Rattle.fp_prices.proofs.ClassPrices.{each-at}
@@ -23,7 +25,7 @@ tails-among p P here there (l ∷ legs) leads first all =
     (subst P (sym leads.1) first, tails-among p P (arc_at p l.arc).to there legs leads.2 all.0 all.1)
 
 -- a route leaves each terminal once
-pub route-apart : (p : Problem) (here there : ℕ) (legs : List Leg) → Leads p here (arcs_of legs) there → AreApart (here ∷ ends_of p (arcs_of legs)) →
+pub route-apart : (p : Problem) (here there : ℕ) (legs : List Leg) → Leads p here (arcs_of legs) there → AreDistinct (here ∷ ends_of p (arcs_of legs)) →
     LeaveApart (tails_of p) (map (exit_of p) legs)
 route-apart p here there [] leads apart = tt
 route-apart p here there (l ∷ legs) leads apart =

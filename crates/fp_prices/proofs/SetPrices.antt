@@ -8,7 +8,7 @@ use Rattle.std.proofs.lemmas.Bool.{cases_Bool, cond-true, cond-false, eqb-true, 
 use Rattle.std.proofs.lemmas.List.Sums.{sum_by-cons, sum_by-le-sum_by}
 use Rattle.fp_model.specs.declared.parts.Arc.{Arc}
 use Rattle.fp_model.specs.Problem.{truck_cost}
-use Rattle.fp_model.specs.Routes.{AreApart}
+use Rattle.fp_lists.specs.Distinct.{AreDistinct}
 use Rattle.fp_model.proofs.Ceilings.{div_ceil-holds}
 use Rattle.fp_model.proofs.Sums.{same_sum, sum_by-both}
 use Rattle.fp_prices.specs.declared.tables.Weight.{Weight}
@@ -81,7 +81,7 @@ none-there x n [] others = refl
 none-there x n (k ∷ set) others =
     omega (arith, none-there x n set others.1, sum_by-cons (λ j. cond (nat_eq x j) n 0) k set, cond-false (nat_eq x k) n 0 (ne_eqb x k (λ e. others.0 (sym e))))
 
-once-there : (x n : ℕ) (set : List ℕ) → AreApart set → sum_by (λ k. cond (nat_eq x k) n 0) set ≤ n
+once-there : (x n : ℕ) (set : List ℕ) → AreDistinct set → sum_by (λ k. cond (nat_eq x k) n 0) set ≤ n
 once-there x n [] apart = omega arith
 once-there x n (k ∷ set) apart =
     ⊎_elim
@@ -104,7 +104,7 @@ weight-parts w weights k =
     (cases_Bool (nat_eq w.shipment k))
 
 -- the weights of different shipments sum to at most all weights
-pub weights-le : (weights : List Weight) (set : List ℕ) → AreApart set → sum_by (weight_in weights) set ≤ sum_by (λ (w : Weight). w.w) weights
+pub weights-le : (weights : List Weight) (set : List ℕ) → AreDistinct set → sum_by (weight_in weights) set ≤ sum_by (λ (w : Weight). w.w) weights
 weights-le [] set apart = omega (arith, sum_by-const 0 set)
 weights-le (w ∷ weights) set apart =
     let here : ℕ → ℕ = λ k. cond (nat_eq w.shipment k) w.w 0 in
@@ -120,7 +120,7 @@ weights-le (w ∷ weights) set apart =
     )
 
 -- prices by a share that keeps the price rule
-pub share-fits : (scale : ℕ) (arc : Arc) (share : ClassShare) (size : ℕ → ℕ) (set : List ℕ) → 0 < arc.capacity → KeepsRule scale arc share → AreApart set → 0 < sum_by size set →
+pub share-fits : (scale : ℕ) (arc : Arc) (share : ClassShare) (size : ℕ → ℕ) (set : List ℕ) → 0 < arc.capacity → KeepsRule scale arc share → AreDistinct set → 0 < sum_by size set →
     sum_by (λ k. share_price share k (size k)) set ≤ scale * truck_cost arc (sum_by size set)
 share-fits scale arc share size set h rule apart some =
     let most : ℕ = scale * arc.truck in

@@ -6,9 +6,10 @@ use Rattle.std.proofs.lemmas.Bool.{and_left, or_from, or_cases, ne_eqb, false≢
 use Rattle.std.proofs.lemmas.List.Folds.{list_any-append}
 use Rattle.fp_model.specs.declared.parts.Leg.{Leg}
 use Rattle.fp_model.specs.declared.parts.Shipment.{Shipment}
-use Rattle.fp_model.specs.Numbered.{AllFrom, AllZipFrom}
+use Rattle.fp_lists.specs.Numbered.{AllZipFrom, AllFrom}
 use Rattle.fp_model.specs.Problem.{Problem, arc_at}
-use Rattle.fp_model.specs.Routes.{AreApart, Carries, arcs_of}
+use Rattle.fp_model.specs.Routes.{Carries, arcs_of}
+use Rattle.fp_lists.specs.Distinct.{AreDistinct}
 use Rattle.fp_model.specs.Costs.{same_leg, has_leg, all_legs}
 use Rattle.fp_model.proofs.Bounds.{AreApart-map, Leads-exist}
 use Rattle.fp_model.proofs.Distinct.{same_leg-true}
@@ -30,7 +31,7 @@ not-among k (l ∷ legs) others =
     or_from (same_leg k l) (has_leg k legs) (and_left (k.arc == l.arc) (k.depart == l.depart) (ne_eqb k.arc l.arc (λ e. others.0 (sym e)))) (not-among k legs others.1)
 
 -- legs by different arcs are different
-pub none-twice : (legs : List Leg) → AreApart (arcs_of legs) → NoneTwice legs
+pub none-twice : (legs : List Leg) → AreDistinct (arcs_of legs) → NoneTwice legs
 none-twice [] apart = tt
 none-twice (k ∷ legs) apart = (not-among k legs apart.0, none-twice legs apart.1)
 
@@ -41,8 +42,8 @@ classes-once p points d [] [] is = tt
 classes-once p points d [] (r ∷ plan) is = absurd is
 classes-once p points d (s ∷ shipments) [] is = absurd is
 classes-once p points d (s ∷ shipments) (r ∷ plan) is =
-    let apart : AreApart (arcs_of r) = AreApart-map (λ a. (arc_at p a).to) (arcs_of r) is.0.route.once.1 in
-    (none-twice (map (class_of p points d) r) (subst AreApart (sym (arcs_of-classes p points d r)) apart), classes-once p points d shipments plan is.1)
+    let apart : AreDistinct (arcs_of r) = AreApart-map (λ a. (arc_at p a).to) (arcs_of r) is.0.route.once.1 in
+    (none-twice (map (class_of p points d) r) (subst AreDistinct (sym (arcs_of-classes p points d r)) apart), classes-once p points d shipments plan is.1)
 
 -- P of a leg that the legs have
 each-has : (P : Leg → Type 0) (legs : List Leg) (c : Leg) → AllByRecursion P legs → has_leg c legs ≡ true → P c

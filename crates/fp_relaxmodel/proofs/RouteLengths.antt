@@ -9,13 +9,14 @@ use Rattle.std.proofs.lemmas.Map.Steps.{length-le_from_distinct_below}
 use Rattle.fp_model.specs.declared.parts.Leg.{Leg}
 use Rattle.fp_model.specs.declared.parts.Shipment.{Shipment}
 use Rattle.fp_model.specs.Problem.{Problem, IsValid, arc_at}
-use Rattle.fp_model.specs.Routes.{AreApart, IsRoute, arcs_of}
+use Rattle.fp_model.specs.Routes.{IsRoute, arcs_of}
+use Rattle.fp_lists.specs.Distinct.{AreDistinct}
 use Rattle.fp_model.proofs.Bounds.{AreApart-map, Leads-exist}
 use Rattle.fp_model.proofs.Sums.{each-weaker}
 use Rattle.fp_relaxmodel.specs.Relaxed.{HasRoutes}
 use Rattle.fp_relaxmodel.proofs.RouteCosts.{HasRoutes-long}
 
-distinct-apart : (xs : List ℕ) → AreApart xs → IsDistinct eqb xs
+distinct-apart : (xs : List ℕ) → AreDistinct xs → IsDistinct eqb xs
 unfolding IsDistinct
 distinct-apart [] apart = tt
 distinct-apart (x ∷ xs) apart =
@@ -36,7 +37,7 @@ length-arcs_of (l ∷ walk) = omega (arith, length-arcs_of walk)
 -- a walk whose arcs are a route has at most as many legs as there are arcs
 pub IsRoute-short : (p : Problem) (s : Shipment) (walk : List Leg) → IsRoute p s (arcs_of walk) → length walk ≤ length p.arcs
 IsRoute-short p s walk route =
-    let apart : AreApart (arcs_of walk) = AreApart-map (λ a. (arc_at p a).to) (arcs_of walk) route.once.1 in
+    let apart : AreDistinct (arcs_of walk) = AreApart-map (λ a. (arc_at p a).to) (arcs_of walk) route.once.1 in
     let few : length (arcs_of walk) ≤ length p.arcs =
     length-le_from_distinct_below (arcs_of walk) (length p.arcs) (distinct-apart (arcs_of walk) apart) (below-any (length p.arcs) (arcs_of walk) (Leads-exist p s.from (arcs_of walk) s.to route.leads)) in
     omega (arith, few, length-arcs_of walk)

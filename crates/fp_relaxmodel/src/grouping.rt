@@ -1,7 +1,8 @@
 ghost use Rattle.std.specs.Prelude.{ℕ, List, ◌≡◌, ◌-◌, ◌<◌, ◌^◌, All, IfOk, OnOk, length};
 ghost use Rattle.fp_model.specs.declared.parts.Leg.{Leg};
 ghost use Rattle.fp_model.specs.declared.parts.Member.{Member};
-ghost use Rattle.fp_relaxmodel.specs.Groups.{AreGroups, lists_of};
+ghost use Rattle.fp_relaxmodel.specs.Groups.{AreGroups};
+ghost use Rattle.fp_lists.specs.Vectors.{lists_of};
 ghost use Rattle.fp_relaxmodel.specs.Grouping.{after, groups_so_far, with_member};
 ghost use Rattle.fp_relaxmodel.specs.Members.{placed_on};
 ghost use Rattle.fp_relaxmodel.specs.Stops.{leg_of, legs_of};

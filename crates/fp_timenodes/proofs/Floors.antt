@@ -3,18 +3,19 @@ use Rattle.std.proofs.Common.{◌≡◌, ℕ, ◌*◌, ◌/◌, ◌<◌, ◌≤�
 use Rattle.std.specs.Prelude.{nat_le, nat_eq}
 use Rattle.std.proofs.Math.Nat.{mul-le-mul_left, le-div_iff_mul-le}
 use Rattle.std.proofs.lemmas.Bool.{cases_lt, cond-true, cond-false, le-leb, lt-leb, or_cases, or_left, or_right, eqb-true, eq-eqb}
-use Rattle.fp_timenodes.specs.Floor.{has_point, floor_point, IsFloorPoint, HaveSamePoints}
+use Rattle.fp_timenodes.specs.Floor.{floor_point, IsFloorPoint, HaveSamePoints}
+use Rattle.fp_lists.specs.Membership.{list_has}
 
 -- a point of a list is its first or one of the rest
-pub has-cases : (q : ℕ) (qs : List ℕ) (m : ℕ) → has_point (q ∷ qs) m ≡ true → (q ≡ m) ⊎ (has_point qs m ≡ true)
+pub has-cases : (q : ℕ) (qs : List ℕ) (m : ℕ) → list_has (q ∷ qs) m ≡ true → (q ≡ m) ⊎ (list_has qs m ≡ true)
 has-cases q qs m h =
-    ⊎_elim (λ (e : nat_eq q m ≡ true). inl (eqb-true q m e)) (λ (r : has_point qs m ≡ true). inr r) (or_cases (nat_eq q m) (has_point qs m) h)
+    ⊎_elim (λ (e : nat_eq q m ≡ true). inl (eqb-true q m e)) (λ (r : list_has qs m ≡ true). inr r) (or_cases (nat_eq q m) (list_has qs m) h)
 
-pub has-first : (q : ℕ) (qs : List ℕ) → has_point (q ∷ qs) q ≡ true
-has-first q qs = or_left (nat_eq q q) (has_point qs q) (eq-eqb q q refl)
+pub has-first : (q : ℕ) (qs : List ℕ) → list_has (q ∷ qs) q ≡ true
+has-first q qs = or_left (nat_eq q q) (list_has qs q) (eq-eqb q q refl)
 
-pub has-rest : (q : ℕ) (qs : List ℕ) (m : ℕ) → has_point qs m ≡ true → has_point (q ∷ qs) m ≡ true
-has-rest q qs m h = or_right (nat_eq q m) (has_point qs m) h
+pub has-rest : (q : ℕ) (qs : List ℕ) (m : ℕ) → list_has qs m ≡ true → list_has (q ∷ qs) m ≡ true
+has-rest q qs m h = or_right (nat_eq q m) (list_has qs m) h
 
 -- the first point counts where it is not after the moment
 floor-early : (q : ℕ) (qs : List ℕ) (d n : ℕ) → d * q ≤ n → floor_point (q ∷ qs) d n ≡ max q (floor_point qs d n)
@@ -45,28 +46,28 @@ floor-le (q ∷ qs) d n =
     (cases_lt n (d * q))
 
 -- it is one of the points, or 0
-pub floor-reached : (qs : List ℕ) (d n : ℕ) → (floor_point qs d n ≡ 0) ⊎ (has_point qs (floor_point qs d n) ≡ true)
+pub floor-reached : (qs : List ℕ) (d n : ℕ) → (floor_point qs d n ≡ 0) ⊎ (list_has qs (floor_point qs d n) ≡ true)
 floor-reached [] d n = inl refl
 floor-reached (q ∷ qs) d n =
-    let Reached : ℕ → Type 0 = λ m. (m ≡ 0) ⊎ (has_point (q ∷ qs) m ≡ true) in
+    let Reached : ℕ → Type 0 = λ m. (m ≡ 0) ⊎ (list_has (q ∷ qs) m ≡ true) in
     let rest : Reached (floor_point qs d n) =
-    ⊎_elim (λ (e : floor_point qs d n ≡ 0). inl e) (λ (h : has_point qs (floor_point qs d n) ≡ true). inr (has-rest q qs (floor_point qs d n) h)) (floor-reached qs d n) in
+    ⊎_elim (λ (e : floor_point qs d n ≡ 0). inl e) (λ (h : list_has qs (floor_point qs d n) ≡ true). inr (has-rest q qs (floor_point qs d n) h)) (floor-reached qs d n) in
     ⊎_elim
     (λ (h : n < d * q). subst Reached (sym (floor-late q qs d n h)) rest)
     (λ (h : d * q ≤ n). subst Reached (sym (floor-early q qs d n h)) (max-has Reached q (floor_point qs d n) (inr (has-first q qs)) rest))
     (cases_lt n (d * q))
 
 -- no point that is not after the moment is greater
-pub floor-greatest : (qs : List ℕ) (d n q : ℕ) → has_point qs q ≡ true → d * q ≤ n → q ≤ floor_point qs d n
+pub floor-greatest : (qs : List ℕ) (d n q : ℕ) → list_has qs q ≡ true → d * q ≤ n → q ≤ floor_point qs d n
 floor-greatest [] d n q there h = cc
 floor-greatest (p ∷ qs) d n q there h =
     ⊎_elim
     (λ (e : p ≡ q). let early : d * p ≤ n = rw e h in omega (arith, floor-early p qs d n early))
-    (λ (r : has_point qs q ≡ true). omega (arith, floor-greatest qs d n q r h))
+    (λ (r : list_has qs q ≡ true). omega (arith, floor-greatest qs d n q r h))
     (has-cases p qs q there)
 
 -- what is at least each point that is not after the moment is at least the greatest
-pub floor-below : (qs : List ℕ) (d n m : ℕ) → ((q : ℕ) → has_point qs q ≡ true → d * q ≤ n → q ≤ m) → floor_point qs d n ≤ m
+pub floor-below : (qs : List ℕ) (d n m : ℕ) → ((q : ℕ) → list_has qs q ≡ true → d * q ≤ n → q ≤ m) → floor_point qs d n ≤ m
 floor-below [] d n m above = omega arith
 floor-below (q ∷ qs) d n m above =
     let rest : floor_point qs d n ≤ m = floor-below qs d n m (λ p there. above p (has-rest q qs p there)) in
@@ -76,26 +77,26 @@ floor-below (q ∷ qs) d n m above =
     (cases_lt n (d * q))
 
 -- so a point that is not after the moment, and that no such point exceeds, is the greatest
-pub floor-is : (qs : List ℕ) (d n m : ℕ) → has_point qs m ≡ true → d * m ≤ n → ((q : ℕ) → has_point qs q ≡ true → d * q ≤ n → q ≤ m) → floor_point qs d n ≡ m
+pub floor-is : (qs : List ℕ) (d n m : ℕ) → list_has qs m ≡ true → d * m ≤ n → ((q : ℕ) → list_has qs q ≡ true → d * q ≤ n → q ≤ m) → floor_point qs d n ≡ m
 floor-is qs d n m there h above = omega (arith, floor-greatest qs d n m there h, floor-below qs d n m above)
 
 -- where 0 is one of the points, the greatest is one too
-pub floor_point-is : (qs : List ℕ) (at : ℕ) → has_point qs 0 ≡ true → IsFloorPoint qs at (floor_point qs 1 at)
+pub floor_point-is : (qs : List ℕ) (at : ℕ) → list_has qs 0 ≡ true → IsFloorPoint qs at (floor_point qs 1 at)
 floor_point-is qs at zero = (
   ⊎_elim
-      (λ (e : floor_point qs 1 at ≡ 0). subst (λ (m : ℕ). has_point qs m ≡ true) (sym e) zero)
-      (λ (h : has_point qs (floor_point qs 1 at) ≡ true). h)
+      (λ (e : floor_point qs 1 at ≡ 0). subst (λ (m : ℕ). list_has qs m ≡ true) (sym e) zero)
+      (λ (h : list_has qs (floor_point qs 1 at) ≡ true). h)
       (floor-reached qs 1 at),
   omega (arith, floor-le qs 1 at),
   λ q there le. floor-greatest qs 1 at q there (omega (arith, le)),
 )
 
 -- a point is its own greatest
-pub floor-itself : (qs : List ℕ) (q : ℕ) → has_point qs q ≡ true → floor_point qs 1 q ≡ q
+pub floor-itself : (qs : List ℕ) (q : ℕ) → list_has qs q ≡ true → floor_point qs 1 q ≡ q
 floor-itself qs q there = floor-is qs 1 q q there (omega arith) (λ p h le. omega (arith, le))
 
 -- with more points the greatest is no earlier
-pub floor-more : (ps qs : List ℕ) (d n : ℕ) → ((q : ℕ) → has_point ps q ≡ true → has_point qs q ≡ true) → floor_point ps d n ≤ floor_point qs d n
+pub floor-more : (ps qs : List ℕ) (d n : ℕ) → ((q : ℕ) → list_has ps q ≡ true → list_has qs q ≡ true) → floor_point ps d n ≤ floor_point qs d n
 floor-more ps qs d n more = floor-below ps d n (floor_point qs d n) (λ q there h. floor-greatest qs d n q (more q there) h)
 
 -- lists with the same points have the same greatest

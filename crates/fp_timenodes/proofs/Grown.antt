@@ -9,7 +9,7 @@ use Rattle.std.proofs.lemmas.List.Sorted.{IsNonDecreasingBy-push}
 use Rattle.fp_timenodes.specs.declared.places.Place.{Place}
 use Rattle.fp_timenodes.specs.declared.places.AddedPoint.{AddedPoint}
 use Rattle.fp_timenodes.specs.declared.timelines.Stamp.{Stamp}
-use Rattle.fp_timenodes.specs.Floor.{has_point}
+use Rattle.fp_lists.specs.Membership.{list_has}
 use Rattle.fp_timenodes.specs.Points.{IsAddedPoint, times_at, added_at, points_at, greatest_round}
 use Rattle.fp_timenodes.specs.Stamps.{AreUpTo, IncludesPoint, points_of}
 use Rattle.fp_timenodes.specs.Timelines.{Show}
@@ -18,9 +18,9 @@ use Rattle.fp_timenodes.proofs.Shown.{seen_as, greatest_round-bound}
 
 -- the points of a terminal as of a round, by their kinds
 by-kinds : (first : List Place) (added : List AddedPoint) (timelines : List (List Stamp)) (t r q : ℕ) →
-    has_point (points_at (seen_as first added timelines) t r) q ≡ (has_point (times_at first t) q || (has_point (added_at added t r) q || has_point (0 ∷ []) q))
+    list_has (points_at (seen_as first added timelines) t r) q ≡ (list_has (times_at first t) q || (list_has (added_at added t r) q || list_has (0 ∷ []) q))
 by-kinds first added timelines t r q =
-    has_point-append (times_at first t) (added_at added t r ++ 0 ∷ []) q ∙ ap (λ (b : Bool). has_point (times_at first t) q || b) (has_point-append (added_at added t r) (0 ∷ []) q)
+    has_point-append (times_at first t) (added_at added t r ++ 0 ∷ []) q ∙ ap (λ (b : Bool). list_has (times_at first t) q || b) (has_point-append (added_at added t r) (0 ∷ []) q)
 
 greatest_round-push : (added : List AddedPoint) (p : AddedPoint) → greatest_round (added ++ p ∷ []) ≡ max (greatest_round added) p.round
 greatest_round-push [] p = omega arith
@@ -40,10 +40,10 @@ add-shows first added timelines p stamps shows valid order includes up = record 
   };
   points = λ t r h q.
       grown t r (rw (sym long) h) q ∙
-      or_assoc (has_point (times_at first t) q) (has_point (added_at added t r) q || has_point (0 ∷ []) q) ((nat_eq p.terminal t && nat_le p.round r) && nat_eq p.at q) ∙
-      ap (λ (b : Bool). has_point (times_at first t) q || b)
-      (or_right_comm (has_point (added_at added t r) q) (has_point (0 ∷ []) q) ((nat_eq p.terminal t && nat_le p.round r) && nat_eq p.at q) ∙
-      ap (λ (b : Bool). b || has_point (0 ∷ []) q)
+      or_assoc (list_has (times_at first t) q) (list_has (added_at added t r) q || list_has (0 ∷ []) q) ((nat_eq p.terminal t && nat_le p.round r) && nat_eq p.at q) ∙
+      ap (λ (b : Bool). list_has (times_at first t) q || b)
+      (or_right_comm (list_has (added_at added t r) q) (list_has (0 ∷ []) q) ((nat_eq p.terminal t && nat_le p.round r) && nat_eq p.at q) ∙
+      ap (λ (b : Bool). b || list_has (0 ∷ []) q)
       (sym (has-kept-push (λ (s : AddedPoint). nat_eq s.terminal t && nat_le s.round r) (λ (s : AddedPoint). s.at) added p q))) ∙
       sym (by-kinds first (added ++ p ∷ []) (set timelines p.terminal stamps) t r q);
   rounds = All-set (AreUpTo (greatest_round (added ++ p ∷ []))) timelines p.terminal stamps (later p.round stamps up (omega (arith, greatest_round-push added p)))
@@ -57,20 +57,20 @@ add-shows first added timelines p stamps shows valid order includes up = record 
     later n l h le k d within = omega (arith, h k d within)
 
     before : (t r q : ℕ) → t < length timelines →
-        has_point (points_of (get_or timelines t []) r) q ≡ (has_point (times_at first t) q || (has_point (added_at added t r) q || has_point (0 ∷ []) q))
+        list_has (points_of (get_or timelines t []) r) q ≡ (list_has (times_at first t) q || (list_has (added_at added t r) q || list_has (0 ∷ []) q))
     before t r q h = shows.points t r h q ∙ by-kinds first added timelines t r q
 
     grown : (t r : ℕ) → t < length timelines → (q : ℕ) →
-        has_point (points_of (get_or (set timelines p.terminal stamps) t []) r) q ≡
-        ((has_point (times_at first t) q || (has_point (added_at added t r) q || has_point (0 ∷ []) q)) || ((nat_eq p.terminal t && nat_le p.round r) && nat_eq p.at q))
+        list_has (points_of (get_or (set timelines p.terminal stamps) t []) r) q ≡
+        ((list_has (times_at first t) q || (list_has (added_at added t r) q || list_has (0 ∷ []) q)) || ((nat_eq p.terminal t && nat_le p.round r) && nat_eq p.at q))
     grown t r h q =
         ⊎_elim
         (λ (same : p.terminal ≡ t).
         let is : get_or (set timelines p.terminal stamps) t [] ≡ stamps = ap (λ (n : ℕ). get_or (set timelines p.terminal stamps) n []) (sym same) ∙ get_or-set_same timelines p.terminal stamps [] valid.0 in
-        let at-old = ap (λ (n : ℕ). has_point (points_of (get_or timelines n []) r) q) same ∙ before t r q h in
-        ap (λ (l : List Stamp). has_point (points_of l r) q) is ∙ includes r q ∙ ap (λ (b : Bool). b || (nat_le p.round r && nat_eq p.at q)) at-old ∙ rw (eq-eqb p.terminal t same) refl)
+        let at-old = ap (λ (n : ℕ). list_has (points_of (get_or timelines n []) r) q) same ∙ before t r q h in
+        ap (λ (l : List Stamp). list_has (points_of l r) q) is ∙ includes r q ∙ ap (λ (b : Bool). b || (nat_le p.round r && nat_eq p.at q)) at-old ∙ rw (eq-eqb p.terminal t same) refl)
         (λ (other : p.terminal ≢ t).
         let apart : t ≢ p.terminal = λ e. other (sym e) in
-        ap (λ (l : List Stamp). has_point (points_of l r) q) (get_or-set_other timelines p.terminal t stamps [] apart) ∙ before t r q h ∙
-        rw (ne_eqb p.terminal t other) (sym (or-false (has_point (times_at first t) q || (has_point (added_at added t r) q || has_point (0 ∷ []) q)))))
+        ap (λ (l : List Stamp). list_has (points_of l r) q) (get_or-set_other timelines p.terminal t stamps [] apart) ∙ before t r q h ∙
+        rw (ne_eqb p.terminal t other) (sym (or-false (list_has (times_at first t) q || (list_has (added_at added t r) q || list_has (0 ∷ []) q)))))
         (cases_eq p.terminal t)

@@ -8,7 +8,7 @@ use Rattle.std.proofs.lemmas.List.{take-append-drop, map-append}
 use Rattle.std.proofs.lemmas.List.Edits.{length-insert, get_or-insert_below, get_or-insert_at, get_or-insert_above}
 use Rattle.std.proofs.lemmas.List.Elements.{filter-append, All-append, All-take, All-drop, All-cons}
 use Rattle.fp_timenodes.specs.declared.timelines.Stamp.{Stamp}
-use Rattle.fp_timenodes.specs.Floor.{has_point}
+use Rattle.fp_lists.specs.Membership.{list_has}
 use Rattle.fp_timenodes.specs.Stamps.{IsAscending, IsCut, AreUpTo, points_of, IncludesPoint}
 use Rattle.fp_timenodes.proofs.Stamped.{StandsAt, stamp-of, has-stamp}
 use Rattle.fp_timenodes.proofs.Searched.{no_stamp}
@@ -18,18 +18,18 @@ pub or_right_comm : (a b c : Bool) → ((a || b) || c) ≡ ((a || c) || b)
 or_right_comm a b c = or_assoc a b c ∙ ap (λ (t : Bool). a || t) (or_comm b c) ∙ sym (or_assoc a c b)
 
 -- the points of two lists together
-pub has_point-append : (ps qs : List ℕ) (at : ℕ) → has_point (ps ++ qs) at ≡ (has_point ps at || has_point qs at)
+pub has_point-append : (ps qs : List ℕ) (at : ℕ) → list_has (ps ++ qs) at ≡ (list_has ps at || list_has qs at)
 has_point-append [] qs at = refl
-has_point-append (p ∷ ps) qs at = ap (λ (b : Bool). nat_eq p at || b) (has_point-append ps qs at) ∙ sym (or_assoc (nat_eq p at) (has_point ps at) (has_point qs at))
+has_point-append (p ∷ ps) qs at = ap (λ (b : Bool). nat_eq p at || b) (has_point-append ps qs at) ∙ sym (or_assoc (nat_eq p at) (list_has ps at) (list_has qs at))
 
 -- one more element at the end gives one more point where it is kept
 pub has-kept-push : {X : Type 0} (kept : X → Bool) (at : X → ℕ) (xs : List X) (x : X) (q : ℕ) →
-    has_point (map at (filter kept (xs ++ x ∷ []))) q ≡ (has_point (map at (filter kept xs)) q || (kept x && nat_eq (at x) q))
+    list_has (map at (filter kept (xs ++ x ∷ []))) q ≡ (list_has (map at (filter kept xs)) q || (kept x && nat_eq (at x) q))
 has-kept-push kept at xs x q =
-    ap (λ l. has_point (map at l) q) (filter-append kept xs (x ∷ [])) ∙ ap (λ (qs : List ℕ). has_point qs q) (map-append at (filter kept xs) (filter kept (x ∷ []))) ∙
-    has_point-append (map at (filter kept xs)) (map at (filter kept (x ∷ []))) q ∙ ap (λ (b : Bool). has_point (map at (filter kept xs)) q || b) one
+    ap (λ l. list_has (map at l) q) (filter-append kept xs (x ∷ [])) ∙ ap (λ (qs : List ℕ). list_has qs q) (map-append at (filter kept xs) (filter kept (x ∷ []))) ∙
+    has_point-append (map at (filter kept xs)) (map at (filter kept (x ∷ []))) q ∙ ap (λ (b : Bool). list_has (map at (filter kept xs)) q || b) one
   where
-    one : has_point (map at (filter kept (x ∷ []))) q ≡ (kept x && nat_eq (at x) q)
+    one : list_has (map at (filter kept (x ∷ []))) q ≡ (kept x && nat_eq (at x) q)
     one = ⊎_elim (λ (e : kept x ≡ true). rw e (or-false (nat_eq (at x) q))) (λ (e : kept x ≡ false). rw e refl) (cases_Bool (kept x))
 
 points_of-append : (ss ts : List Stamp) (round : ℕ) → points_of (ss ++ ts) round ≡ points_of ss round ++ points_of ts round
@@ -38,7 +38,7 @@ points_of-append ss ts round =
     map-append (λ (s : Stamp). s.at) (filter (λ (s : Stamp). nat_le s.round round) ss) (filter (λ (s : Stamp). nat_le s.round round) ts)
 
 -- the points of one stamp and others
-has-one-more : (s : Stamp) (stamps : List Stamp) (r q : ℕ) → has_point (points_of (s ∷ stamps) r) q ≡ ((nat_le s.round r && nat_eq s.at q) || has_point (points_of stamps r) q)
+has-one-more : (s : Stamp) (stamps : List Stamp) (r q : ℕ) → list_has (points_of (s ∷ stamps) r) q ≡ ((nat_le s.round r && nat_eq s.at q) || list_has (points_of stamps r) q)
 has-one-more s stamps r q =
     ⊎_elim (λ (e : nat_le s.round r ≡ true). rw e refl) (λ (e : nat_le s.round r ≡ false). rw e refl) (cases_Bool (nat_le s.round r))
 
@@ -47,38 +47,38 @@ pub insert-points : (stamps : List Stamp) (cut : ℕ) (s : Stamp) → IncludesPo
 insert-points stamps cut s r q =
     let front : List Stamp = take cut stamps in
     let back : List Stamp = drop cut stamps in
-    let new = ap (λ (ps : List ℕ). has_point ps q) (points_of-append front (s ∷ back) r) ∙ has_point-append (points_of front r) (points_of (s ∷ back) r) q in
-    let old = ap (λ (ps : List ℕ). has_point ps q) (sym (points_of-append front back r)) in
-    let split = ap (λ (l : List Stamp). has_point (points_of l r) q) (take-append-drop cut stamps) in
+    let new = ap (λ (ps : List ℕ). list_has ps q) (points_of-append front (s ∷ back) r) ∙ has_point-append (points_of front r) (points_of (s ∷ back) r) q in
+    let old = ap (λ (ps : List ℕ). list_has ps q) (sym (points_of-append front back r)) in
+    let split = ap (λ (l : List Stamp). list_has (points_of l r) q) (take-append-drop cut stamps) in
     let whole = sym (has_point-append (points_of front r) (points_of back r) q) ∙ old ∙ split in
-    new ∙ ap (λ (b : Bool). has_point (points_of front r) q || b) (has-one-more s back r q) ∙
-    sym (or_assoc (has_point (points_of front r) q) (nat_le s.round r && nat_eq s.at q) (has_point (points_of back r) q)) ∙
-    or_right_comm (has_point (points_of front r) q) (nat_le s.round r && nat_eq s.at q) (has_point (points_of back r) q) ∙
+    new ∙ ap (λ (b : Bool). list_has (points_of front r) q || b) (has-one-more s back r q) ∙
+    sym (or_assoc (list_has (points_of front r) q) (nat_le s.round r && nat_eq s.at q) (list_has (points_of back r) q)) ∙
+    or_right_comm (list_has (points_of front r) q) (nat_le s.round r && nat_eq s.at q) (list_has (points_of back r) q) ∙
     ap (λ (b : Bool). b || (nat_le s.round r && nat_eq s.at q)) whole
 
 -- a point that is there gives nothing new
-pub there-points : (stamps : List Stamp) (at round : ℕ) → has_point (points_of stamps round) at ≡ true → IncludesPoint stamps stamps at round
+pub there-points : (stamps : List Stamp) (at round : ℕ) → list_has (points_of stamps round) at ≡ true → IncludesPoint stamps stamps at round
 there-points stamps at round there r q =
     ⊎_elim
     (λ (h : (nat_le round r && nat_eq at q) ≡ true). rw (h, there-at h) refl)
-    (λ (h : (nat_le round r && nat_eq at q) ≡ false). rw h (sym (or-false (has_point (points_of stamps r) q))))
+    (λ (h : (nat_le round r && nat_eq at q) ≡ false). rw h (sym (or-false (list_has (points_of stamps r) q))))
     (cases_Bool (nat_le round r && nat_eq at q))
   where
-    there-at : (nat_le round r && nat_eq at q) ≡ true → has_point (points_of stamps r) q ≡ true
+    there-at : (nat_le round r && nat_eq at q) ≡ true → list_has (points_of stamps r) q ≡ true
     there-at h =
         let parts = and_parts (nat_le round r) (nat_eq at q) h in
         let w : StandsAt stamps round at no_stamp = stamp-of stamps round at no_stamp there in
-        subst (λ (n : ℕ). has_point (points_of stamps r) n ≡ true) (w.time ∙ eqb-true at q parts.1)
+        subst (λ (n : ℕ). list_has (points_of stamps r) n ≡ true) (w.time ∙ eqb-true at q parts.1)
         (has-stamp stamps r w.place no_stamp w.within (omega (arith, w.until, leb-true round r parts.0)))
 
 -- no stamp is later than the round, and the time is no point: then the stamps before the cut are before the time
-pub fresh-before : (stamps : List Stamp) (at round cut : ℕ) → IsCut stamps at cut → AreUpTo round stamps → has_point (points_of stamps round) at ≡ false → AllWithin (λ (s : Stamp). s.at < at) stamps 0 cut
+pub fresh-before : (stamps : List Stamp) (at round cut : ℕ) → IsCut stamps at cut → AreUpTo round stamps → list_has (points_of stamps round) at ≡ false → AllWithin (λ (s : Stamp). s.at < at) stamps 0 cut
 fresh-before stamps at round cut c up absent k d from h =
     ⊎_elim
     (λ (same : (get_or stamps k d).at ≡ at).
     let within : k < length stamps = omega (arith, c.within) in
     let there = has-stamp stamps round k d within (up k d within) in
-    absurd (both_ways (has_point (points_of stamps round) at) absent (subst (λ (n : ℕ). has_point (points_of stamps round) n ≡ true) same there)))
+    absurd (both_ways (list_has (points_of stamps round) at) absent (subst (λ (n : ℕ). list_has (points_of stamps round) n ≡ true) same there)))
     (λ (other : (get_or stamps k d).at ≢ at). omega (arith, c.until k d from h, other))
     (cases_eq (get_or stamps k d).at at)
 

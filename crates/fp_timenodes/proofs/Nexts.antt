@@ -1,7 +1,8 @@
 -- The least point after a time: what it is, and that only which points there are decides it.
 use Rattle.std.proofs.Common.{◌≡◌, ℕ, ◌<◌, ◌≤◌, true, min, List, [], ◌∷◌, ⊎_elim, refl, sym, ap, ◌∙◌, subst, Option, Some, None, arith}
 use Rattle.std.proofs.lemmas.Bool.{cases_lt, lt-ltb, le-ltb}
-use Rattle.fp_timenodes.specs.Floor.{has_point, next_point, earlier, IsNextPoint, HaveSamePoints}
+use Rattle.fp_timenodes.specs.Floor.{next_point, earlier, IsNextPoint, HaveSamePoints}
+use Rattle.fp_lists.specs.Membership.{list_has}
 use Rattle.fp_timenodes.proofs.Floors.{has-cases, has-first, has-rest}
 
 -- what holds of two numbers holds of the lesser
@@ -17,21 +18,21 @@ step-after : (q : ℕ) (qs : List ℕ) (at : ℕ) (o : Option ℕ) → at < q �
 step-after q qs at None h none = (
   has-first q qs,
   h,
-  λ p there after. ⊎_elim (λ (e : q ≡ p). omega arith) (λ (r : has_point qs p ≡ true). absurd (omega (arith, none p r))) (has-cases q qs p there),
+  λ p there after. ⊎_elim (λ (e : q ≡ p). omega arith) (λ (r : list_has qs p ≡ true). absurd (omega (arith, none p r))) (has-cases q qs p there),
 )
 step-after q qs at (Some m) h next = (
-  min-has (λ p. has_point (q ∷ qs) p ≡ true) q m (has-first q qs) (has-rest q qs m next.0),
+  min-has (λ p. list_has (q ∷ qs) p ≡ true) q m (has-first q qs) (has-rest q qs m next.0),
   omega (arith, next.1),
-  λ p there after. ⊎_elim (λ (e : q ≡ p). omega arith) (λ (r : has_point qs p ≡ true). omega (arith, next.2 p r after)) (has-cases q qs p there),
+  λ p there after. ⊎_elim (λ (e : q ≡ p). omega arith) (λ (r : list_has qs p ≡ true). omega (arith, next.2 p r after)) (has-cases q qs p there),
 )
 
 -- one more point, which is not after the time
 step-until : (q : ℕ) (qs : List ℕ) (at : ℕ) (o : Option ℕ) → q ≤ at → IsNextPoint qs at o → IsNextPoint (q ∷ qs) at o
-step-until q qs at None h none = λ p there. ⊎_elim (λ (e : q ≡ p). omega arith) (λ (r : has_point qs p ≡ true). none p r) (has-cases q qs p there)
+step-until q qs at None h none = λ p there. ⊎_elim (λ (e : q ≡ p). omega arith) (λ (r : list_has qs p ≡ true). none p r) (has-cases q qs p there)
 step-until q qs at (Some m) h next = (
   has-rest q qs m next.0,
   next.1,
-  λ p there after. ⊎_elim (λ (e : q ≡ p). omega arith) (λ (r : has_point qs p ≡ true). next.2 p r after) (has-cases q qs p there),
+  λ p there after. ⊎_elim (λ (e : q ≡ p). omega arith) (λ (r : list_has qs p ≡ true). next.2 p r after) (has-cases q qs p there),
 )
 
 -- the definition gives the next point

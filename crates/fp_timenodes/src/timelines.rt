@@ -1,5 +1,6 @@
 ghost use Rattle.std.specs.Prelude.{◌≡◌, [], ◌∷◌, false, IfOk, OnOk, OnErr, find, option_map, reverse, nat_le};
-ghost use Rattle.fp_timenodes.specs.Floor.{has_point, floor_point, next_point};
+ghost use Rattle.fp_timenodes.specs.Floor.{floor_point, next_point};
+ghost use Rattle.fp_lists.specs.Membership.{list_has};
 ghost use Rattle.fp_timenodes.specs.Stamps.{IsAscending, IsCut, points_of, AreUpTo, IncludesPoint};
 
 use crate::NoMemory;
@@ -43,7 +44,7 @@ impl Timeline {
 
     /// Whether there is a point at this time as of the round.
     pub fn has(&self, at: u32, round: u32) -> bool
-        ensures { result ≡ has_point (points_of self.now round) at }
+        ensures { result ≡ list_has (points_of self.now round) at }
     {
         let stamps = self.stamps.as_slice();
         let end = count_until(stamps, at);
@@ -75,7 +76,7 @@ impl Timeline {
     /// Adds the point as of the round. Without memory nothing changes.
     pub fn insert(&mut self, at: u32, round: u32) -> Result<(), NoMemory>
         requires rounds { AreUpTo round self.old }
-        requires absent { has_point (points_of self.old round) at ≡ false }
+        requires absent { list_has (points_of self.old round) at ≡ false }
         ensures points { OnOk result (IncludesPoint self.old self.new at round) }
         ensures rounds { OnOk result (AreUpTo round self.new) }
         ensures err { OnErr result (self.new ≡ self.old) }

@@ -12,7 +12,8 @@ use Rattle.fp_model.specs.Problem.{Problem}
 use Rattle.fp_model.proofs.Distinct.{same_leg-refl, same_leg-true}
 use Rattle.fp_model.proofs.Sums.{each-weaker}
 use Rattle.fp_timetable.specs.declared.lines.LegLine.{LegLine}
-use Rattle.fp_timetable.specs.Lines.{AreLegLines, IsLegLine, Precedes, leg_line, line_leg, route_of, routes_from}
+use Rattle.fp_timetable.specs.Lines.{AreLegLines, IsLegLine, leg_line, line_leg, route_of, routes_from}
+use Rattle.fp_lists.specs.Order.{Precedes}
 use Rattle.fp_timetable.proofs.Carried.{AllRise, not-later}
 use Rattle.fp_timetable.proofs.Gathered.{StandFrom, StandFrom-all, StandFrom-next, has_leg-get_or}
 use Rattle.fp_timetable.proofs.Merging.{no_leg_line}

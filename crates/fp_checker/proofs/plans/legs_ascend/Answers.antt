@@ -1,6 +1,6 @@
 use Rattle.std.proofs.Common.{refl, arith}
 use Rattle.fp_timetable.specs.declared.lines.LegLine.{LegLine}
-use Rattle.fp_timetable.specs.Lines.{Precedes}
+use Rattle.fp_lists.specs.Order.{Precedes}
 use Rattle.fp_checker.proofs.Ascents.{Precedes-trans, pairs-from_neighbours}
 use Rattle.fp_checker.proofs.plans.legs_ascend.Goals as goal
 

@@ -1,6 +1,6 @@
 use Rattle.std.proofs.Common.{refl, arith}
 use Rattle.fp_prices.specs.Shares.{ClassShare}
-use Rattle.fp_prices.specs.Tables.{Precedes}
+use Rattle.fp_lists.specs.Order.{Precedes}
 use Rattle.fp_checker.proofs.Ascents.{Precedes-trans, pairs-from_neighbours}
 use Rattle.fp_checker.proofs.price_tables.shares_ascend.Goals as goal
 

@@ -3,7 +3,7 @@ use Rattle.std.specs.declared.alloc.Global.{Global}
 use Rattle.std.specs.declared.vec.Vec.{Vec}
 use Rattle.fp_model.specs.declared.parts.Leg.{Leg}
 use Rattle.fp_model.specs.declared.parts.Shipment.{Shipment}
-use Rattle.fp_model.specs.Costs.{lists_of}
+use Rattle.fp_lists.specs.Vectors.{lists_of}
 use Rattle.fp_model.specs.Numbered.{no_shipment, shipment_at}
 use Rattle.fp_model.proofs.Places.{AllZip-from_places}
 use Rattle.fp_flatnet.specs.Directs.{IsDirect, IsDirectPlan}

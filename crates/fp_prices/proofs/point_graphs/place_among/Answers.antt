@@ -3,7 +3,8 @@ use Rattle.std.proofs.Common.{◌≡◌, ℕ, ◌<◌, ◌≤◌, ⊎_elim, List
 use Rattle.std.specs.List.Sorted.{IsNonDecreasingBy}
 use Rattle.std.proofs.lemmas.Bool.{cases_lt, ltb-true, ltb-false}
 use Rattle.std.proofs.lemmas.List.Sorted.{IsPartitionPoint-from_clause, IsPartitionedBy-ltb}
-use Rattle.fp_longestarcs.specs.Ascending.{ArePoints, IsPlace}
+use Rattle.fp_longestarcs.specs.Ascending.{ArePoints}
+use Rattle.fp_lists.specs.Ascending.{IsPlaceIn}
 use Rattle.fp_longestarcs.proofs.Places.{place-is}
 use Rattle.fp_prices.proofs.point_graphs.place_among.Goals as goal
 
@@ -20,7 +21,7 @@ returns-clause-place c =
     let qs : List ℕ = c.args.points.now in
     let parted = IsPartitionedBy-ltb (λ q. q) qs c.args.at (rising qs c.requires.points) in
     let point = IsPartitionPoint-from_clause (λ q. ltb q c.args.at) qs c.partition_point.result c.partition_point.ensures.partitioned parted (λ a r q k. search rules) in
-    let parts : IsPlace qs c.args.at c.partition_point.result =
+    let parts : IsPlaceIn qs c.args.at c.partition_point.result =
     record {
       within = c.partition_point.ensures.bound;
       below = λ k d h. ltb-true _ c.args.at (point.0 k d (omega arith) h);
