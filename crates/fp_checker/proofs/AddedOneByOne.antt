@@ -13,8 +13,8 @@ use Rattle.fp_timenodes.specs.declared.places.Place.{Place}
 use Rattle.fp_timenodes.specs.Floor.{HaveSamePoints}
 use Rattle.fp_lists.specs.Membership.{list_has}
 use Rattle.fp_timenodes.specs.Points.{TimePoints, added_at, greatest_round, points_at, times_at}
-use Rattle.fp_timenodes.proofs.Floors.{has-cases, has-first, has-rest}
-use Rattle.fp_timenodes.proofs.Included.{has_point-append, or_right_comm}
+use Rattle.fp_lists.proofs.Membership.{list_has-rest, list_has-first, list_has-cons_cases, list_has-append}
+use Rattle.fp_timenodes.proofs.Included.{or_right_comm}
 use Rattle.fp_flatnet.specs.Initial.{BeginAt, initial_points}
 use Rattle.fp_lines.specs.Ranges.{IsPointInRange}
 use Rattle.fp_checker.specs.Points.{AreAddedPoints, ArePointsOf, points_with}
@@ -42,11 +42,11 @@ added_at-has : (added : List AddedPoint) (terminal round : ℕ) (k : ℕ) (d : A
     list_has (added_at added terminal round) (get_or added k d).at ≡ true
 added_at-has [] terminal round k d lt own early = absurd (omega (arith, lt))
 added_at-has (q ∷ added) terminal round zero d lt own early =
-    rw (eq-eqb q.terminal terminal own, le-leb q.round round early) (has-first q.at (added_at added terminal round))
+    rw (eq-eqb q.terminal terminal own, le-leb q.round round early) (list_has-first q.at (added_at added terminal round))
 added_at-has (q ∷ added) terminal round (suc k) d lt own early =
     let later : list_has (added_at added terminal round) (get_or added k d).at ≡ true = added_at-has added terminal round k d (omega (arith, lt)) own early in
     ⊎_elim
-    (λ (h : (q.terminal == terminal && nat_le q.round round) ≡ true). rw h (has-rest q.at (added_at added terminal round) (get_or added k d).at later))
+    (λ (h : (q.terminal == terminal && nat_le q.round round) ≡ true). rw h (list_has-rest q.at (added_at added terminal round) (get_or added k d).at later))
     (λ (h : (q.terminal == terminal && nat_le q.round round) ≡ false). rw h later)
     (cases_Bool (q.terminal == terminal && nat_le q.round round))
 
@@ -70,7 +70,7 @@ was-added (q ∷ added) terminal round at d has =
     ⊎_elim
     (λ (same : q.at ≡ at). record { place = 0; within = omega arith; own = eqb-true q.terminal terminal parts.0; time = same })
     (λ (later : list_has (added_at added terminal round) at ≡ true). added-later q added terminal at d (was-added added terminal round at d later))
-    (has-cases q.at (added_at added terminal round) at here))
+    (list_has-cons_cases q.at (added_at added terminal round) at here))
     (λ (h : (q.terminal == terminal && nat_le q.round round) ≡ false).
     let rest : list_has (added_at added terminal round) at ≡ true = rw h at has in
     added-later q added terminal at d (was-added added terminal round at d rest))
@@ -86,11 +86,11 @@ made-same p anchors added v terminal round made lt at =
     ap (λ (qs : List AddedPoint). list_has (first ++ (added_at qs terminal round ++ 0 ∷ [])) at) made.added_is in
     known
     ∙ ap (λ (qs : List ℕ). list_has qs at) (sym (append_assoc first later (0 ∷ [])))
-    ∙ has_point-append (first ++ later) (0 ∷ []) at
-    ∙ ap (λ (b : Bool). b || list_has (0 ∷ []) at) (has_point-append first later at)
+    ∙ list_has-append (first ++ later) (0 ∷ []) at
+    ∙ ap (λ (b : Bool). b || list_has (0 ∷ []) at) (list_has-append first later at)
     ∙ or_right_comm (list_has first at) (list_has later at) (list_has (0 ∷ []) at)
-    ∙ ap (λ (b : Bool). b || list_has later at) (sym (has_point-append first (0 ∷ []) at) ∙ made.start terminal lt at)
-    ∙ sym (has_point-append (initial_points p anchors terminal) later at)
+    ∙ ap (λ (b : Bool). b || list_has later at) (sym (list_has-append first (0 ∷ []) at) ∙ made.start terminal lt at)
+    ∙ sym (list_has-append (initial_points p anchors terminal) later at)
 
 -- at first none is added
 pub made-first : (p : Problem) (anchors : List Place) (v : TimePoints) → BeginAt p anchors v → v.added ≡ [] → length v.first ≤ 31000 → AreMadeOf p anchors [] v
@@ -140,7 +140,7 @@ made-more p anchors added v w i d made rise lt exists none is =
     let q : AddedPoint = get_or added i d in
     let more : take (i + 1) added ≡ take i added ++ (q ∷ []) = take_more added i d lt in
     let both = neither (list_has (initial_points p anchors q.terminal) q.at) (list_has (added_at (take i added) q.terminal q.round) q.at)
-    (sym (made-same p anchors (take i added) v q.terminal q.round made exists q.at ∙ has_point-append (initial_points p anchors q.terminal) (added_at (take i added) q.terminal q.round) q.at) ∙ none) in
+    (sym (made-same p anchors (take i added) v q.terminal q.round made exists q.at ∙ list_has-append (initial_points p anchors q.terminal) (added_at (take i added) q.terminal q.round) q.at) ∙ none) in
     let differs : (k : ℕ) (e : AddedPoint) → k < length (take i added) → AreTwo (get_or (take i added) k e) q =
     λ k e less same_terminal same_at.
     let at = before-place added i k e lt less in
@@ -168,7 +168,7 @@ made-there p anchors added v i d made lt exists there are =
     let at = before-place added i was.place d lt was.within in
     are.once was.place i d at.0 lt (sym (ap (λ (r : AddedPoint). r.terminal) at.1) ∙ was.own) (sym (ap (λ (r : AddedPoint). r.at) at.1) ∙ was.time))
     (or_cases (list_has (initial_points p anchors q.terminal) q.at) (list_has (added_at (take i added) q.terminal q.round) q.at)
-    (sym (made-same p anchors (take i added) v q.terminal q.round made exists q.at ∙ has_point-append (initial_points p anchors q.terminal) (added_at (take i added) q.terminal q.round) q.at) ∙ there))
+    (sym (made-same p anchors (take i added) v q.terminal q.round made exists q.at ∙ list_has-append (initial_points p anchors q.terminal) (added_at (take i added) q.terminal q.round) q.at) ∙ there))
 
 -- all are added
 pub made-all : (p : Problem) (anchors : List Place) (added : List AddedPoint) (v : TimePoints) (i : ℕ) → IsValid p → AreMadeOf p anchors (take i added) v → length added ≤ i →

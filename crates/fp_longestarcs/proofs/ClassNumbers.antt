@@ -16,7 +16,7 @@ use Rattle.fp_lists.specs.Ascending.{IsCut, place_in}
 use Rattle.fp_longestarcs.specs.Networks.{TimedNetwork, points_in, tail_in, heads_in, kept_head, IsArcOfClass, IsClass, copy_count, class_count, first_class, class_number, IsNetwork}
 use Rattle.fp_longestarcs.specs.Vectors.{AreOffsets}
 use Rattle.fp_longestarcs.specs.Whole.{HasArcsOf, IsWhole}
-use Rattle.fp_longestarcs.proofs.Places.{at-place, place-at}
+use Rattle.fp_lists.proofs.Places.{place_in-get_or, get_or-place_in, place-le-get_or}
 use Rattle.fp_longestarcs.proofs.Lengthened.{arc-count, tail-of, whole-heads}
 
 -- the points of an arc's tail
@@ -28,7 +28,7 @@ pub class-place : (net : TimedNetwork) (c : Leg) → IsNetwork net → IsClass n
     (place_in (points_in net (tail_in net c.arc)) c.depart < length (points_in net (tail_in net c.arc))) × (get_or (points_in net (tail_in net c.arc)) (place_in (points_in net (tail_in net c.arc)) c.depart) 0 ≡ c.depart)
 class-place net c valid is =
     let are : ArePoints (points_in net (tail_in net c.arc)) = tail-points net c.arc valid is.0 in
-    let there = at-place (points_in net (tail_in net c.arc)) c.depart are.ascending is.1 in
+    let there = get_or-place_in (points_in net (tail_in net c.arc)) c.depart are.ascending is.1 in
     (there.0, there.1 0)
 
 -- an arc of the instance and a point of its tail are a class
@@ -93,16 +93,11 @@ class-unique net c e valid first second same =
     later : (a b : ℕ) → a < b → b < length net.tails → first_class net (a + 1) ≤ first_class net b
     later a b less h = let e : a + 1 + (b - (a + 1)) ≡ b = omega arith in subst (λ (n : ℕ). first_class net (a + 1) ≤ first_class net n) e (first-mono net (b - (a + 1)) (a + 1) (omega arith))
 
--- ascending points are at least their places
-rises : (qs : List ℕ) (k : ℕ) → AllPairs (λ a b. a < b) qs → k < length qs → k ≤ get_or qs k 0
-rises qs zero up h = omega arith
-rises qs (suc k) up h = omega (arith, rises qs k up (omega arith), up k (suc k) 0 (omega arith) h)
-
 -- so a terminal has no more points than there are times
 pub few-points : (qs : List ℕ) → ArePoints qs → length qs ≤ LATEST + 1
 few-points qs are =
     ⊎_elim
-    (λ (some : 0 < length qs). omega (arith, rises qs (length qs - 1) are.ascending (omega arith), are.in_time (length qs - 1) 0 (omega arith)))
+    (λ (some : 0 < length qs). omega (arith, place-le-get_or qs (length qs - 1) are.ascending (omega arith), are.in_time (length qs - 1) 0 (omega arith)))
     (λ (none : length qs ≤ 0). omega arith)
     (cases_lt 0 (length qs))
 
@@ -160,4 +155,4 @@ offsets-rise net offsets are i j d le h =
 pub number-of : (net : TimedNetwork) (class arc : ℕ) → IsNetwork net → IsArcOfClass net class arc →
     class_number net (record { arc = arc; depart = get_or (points_in net (tail_in net arc)) (class - first_class net arc) 0 }) ≡ class
 number-of net class arc valid is =
-    omega (arith, is.from, place-at (points_in net (tail_in net arc)) (class - first_class net arc) 0 (tail-points net arc valid is.exists).ascending (omega (arith, is.from, is.before)))
+    omega (arith, is.from, place_in-get_or (points_in net (tail_in net arc)) (class - first_class net arc) 0 (tail-points net arc valid is.exists).ascending (omega (arith, is.from, is.before)))

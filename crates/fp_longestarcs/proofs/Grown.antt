@@ -21,7 +21,8 @@ use Rattle.fp_longestarcs.specs.Vectors.{network_of}
 use Rattle.fp_lists.specs.Vectors.{lists_of}
 use Rattle.fp_longestarcs.specs.Whole.{IsWhole}
 use Rattle.fp_longestarcs.specs.Changes.{points_with, heads_with, refined, lifted_head, lifted, heads_to, restored}
-use Rattle.fp_longestarcs.proofs.Places.{place-of, insert-points}
+use Rattle.fp_longestarcs.proofs.Places.{insert-points}
+use Rattle.fp_lists.proofs.Places.{IsPlaceIn-place_in}
 use Rattle.fp_longestarcs.proofs.Lengthened.{points-same, points-other, all-restored}
 
 -- the points of a terminal of a network
@@ -46,7 +47,7 @@ refined-valid p net terminal at valid within new in_time = record {
     here = points-of net terminal valid within
 
     place : IsPlaceIn (points_in net terminal) at (place_in (points_in net terminal) at)
-    place = place-of (points_in net terminal) at here.ascending
+    place = IsPlaceIn-place_in (points_in net terminal) at here.ascending
 
     -- a terminal's points and an arc's heads get one more alike
     by_tail : (arc : ℕ) → arc < length net.tails → length (heads_with p net terminal at arc) ≡ length (get_or (points_with net terminal at) (tail_in net arc) [])

@@ -14,7 +14,7 @@ use Rattle.fp_lists.specs.Ascending.{place_in}
 use Rattle.fp_longestarcs.specs.Networks.{TimedNetwork, points_in, tail_in, heads_in}
 use Rattle.fp_longestarcs.specs.Whole.{HasArcsOf, IsWhole, heads_from, heads_of}
 use Rattle.fp_longestarcs.specs.Changes.{points_with, heads_with, refined, lifted, heads_to, restored}
-use Rattle.fp_longestarcs.proofs.Mapped.{map-insert, same-map}
+use Rattle.fp_lists.proofs.Maps.{map-same_on_range, map-insert}
 use Rattle.fp_longestarcs.proofs.Places.{floor-with, floor-without}
 
 -- the arcs of a network are as many as the instance's
@@ -129,5 +129,5 @@ pub all-restored : (p : Problem) (net : TimedNetwork) (terminal at : ℕ) → Is
     (restored p (refined p net terminal at) terminal at).heads ≡ heads_of p (points_in (restored p (refined p net terminal at) terminal at))
 all-restored p net terminal at whole within =
     ap (λ (n : ℕ). map (heads_to p (refined p net terminal at) terminal at) (range_with_len 0 n)) (arc-count p net whole.arcs) ∙
-    same-map (heads_to p (refined p net terminal at) terminal at) (heads_from p (points_in (refined p net terminal at))) 0 (length p.arcs)
+    map-same_on_range (heads_to p (refined p net terminal at) terminal at) (heads_from p (points_in (refined p net terminal at))) 0 (length p.arcs)
     (λ arc from below. restored-heads p net terminal at arc whole within (omega arith))

@@ -1,9 +1,6 @@
-pub mod Sums
 pub mod Distinct
-pub mod Ceilings
 pub mod Bounds
 pub mod Joins
-pub mod Places
 pub mod Steps
 pub mod LegByLeg
 pub mod Faultless

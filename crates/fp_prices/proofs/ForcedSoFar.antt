@@ -8,6 +8,7 @@ use Rattle.std.proofs.lemmas.Bool.{cases_eq, cases_lt, eq-eqb, false_from_ne_tru
 use Rattle.std.proofs.lemmas.List.{get_or-replicate, get_or_past, length-append, length-replicate, length-take, take_all, take_more}
 use Rattle.std.proofs.lemmas.List.Elements.{recursion_from_All}
 use Rattle.std.proofs.lemmas.List.Folds.{list_any-append}
+use Rattle.fp_lists.proofs.Numbered.{AllZipFrom-push}
 use Rattle.fp_model.specs.declared.parts.Leg.{Leg}
 use Rattle.fp_model.specs.declared.parts.Shipment.{Shipment}
 use Rattle.fp_model.specs.Costs.{all_legs, has_leg, load, same_leg}
@@ -15,7 +16,7 @@ use Rattle.fp_model.specs.Numbered.{no_shipment, shipment_at}
 use Rattle.fp_lists.specs.Numbered.{AllZipFrom}
 use Rattle.fp_model.specs.Routes.{arcs_of}
 use Rattle.fp_lists.specs.Distinct.{AreDistinct}
-use Rattle.fp_model.proofs.Bounds.{AreApart-map}
+use Rattle.fp_lists.proofs.Distinct.{AreDistinct-from_map}
 use Rattle.fp_model.proofs.Distinct.{same_leg-refl, same_leg-true}
 use Rattle.fp_lists.specs.Membership.{list_has}
 use Rattle.fp_flatnet.specs.Tables.{windows_in}
@@ -34,15 +35,6 @@ use Rattle.fp_prices.specs.Forced.{AreForcedOf, AreRowsUnder}
 use Rattle.fp_prices.specs.Leaves.{IsChain}
 use Rattle.fp_prices.proofs.NumberedClasses.{number-class}
 use Rattle.fp_prices.proofs.SmallBounds.{chain-arcs}
-
--- one more element at the end of both lists
-pub zip-push : {X Y : Type 0} (Q : ℕ → X → Y → Type 0) (i : ℕ) (xs : List X) (ys : List Y) (x : X) (y : Y) → AllZipFrom Q i xs ys → Q (i + length xs) x y → AllZipFrom Q i (xs ++ (x ∷ [])) (ys ++ (y ∷ []))
-zip-push Q i [] [] x y all one = let e : i + 0 ≡ i = omega arith in (subst (λ (n : ℕ). Q n x y) e one, tt)
-zip-push Q i [] (z ∷ ys) x y all one = absurd all
-zip-push Q i (z ∷ xs) [] x y all one = absurd all
-zip-push Q i (z ∷ xs) (w ∷ ys) x y all one =
-    let e : i + suc (length xs) ≡ i + 1 + length xs = omega arith in
-    (all.0, zip-push Q (i + 1) xs ys x y all.1 (subst (λ (n : ℕ). Q n x y) e one))
 
 -- a load with one more chain
 load-push : (shipments : List Shipment) (chains : List (List Leg)) (s : Shipment) (chain : List Leg) (c : Leg) → length chains ≡ length shipments →
@@ -167,7 +159,7 @@ numbers-apart s sides k chain is =
     let arc : ℕ → ℕ = λ n. (class_at s.network n).arc in
     let apart : AreDistinct (arcs_of (classes_at s.network chain.classes)) =
     (chain-arcs s.problem (allowed_in s sides k) true (shipment_at s.problem k) (classes_at s.network chain.classes) (λ c h. (is_allowed-parts s.problem (windows_in s.windows) (points_in s.network) sides k c h).0) is.forced).1 in
-    AreApart-map arc chain.classes (subst AreDistinct (joined chain.classes) apart)
+    AreDistinct-from_map arc chain.classes (subst AreDistinct (joined chain.classes) apart)
   where
     joined : (numbers : List ℕ) → arcs_of (classes_at s.network numbers) ≡ map (λ n. (class_at s.network n).arc) numbers
     joined [] = refl
@@ -185,7 +177,7 @@ so_far_more s rows i old new numbers valid exists within so_far in_net forced lo
   long = (let e : length (so_far.chains ++ (classes_at s.network numbers ∷ [])) ≡ i + 1 = omega (arith, length-append so_far.chains (classes_at s.network numbers ∷ []), so_far.long) in e);
   forced_all = λ sides are.
       subst (λ (l : List Shipment). AllZipFrom (λ k. IsChain s.problem (allowed_in s sides k) true) 0 l (so_far.chains ++ (classes_at s.network numbers ∷ []))) (sym more)
-      (zip-push (λ k. IsChain s.problem (allowed_in s sides k) true) 0 (take i s.problem.shipments) so_far.chains (shipment_at s.problem i) (classes_at s.network numbers) (so_far.forced_all sides are)
+      (AllZipFrom-push (λ k. IsChain s.problem (allowed_in s sides k) true) 0 (take i s.problem.shipments) so_far.chains (shipment_at s.problem i) (classes_at s.network numbers) (so_far.forced_all sides are)
       (subst (λ (k : ℕ). IsForcedChain s.problem (allowed_in s sides k) (shipment_at s.problem i) (classes_at s.network numbers)) (sym number) (forced sides are)));
   classes = legs-all-push (IsClass s.network) so_far.chains (classes_at s.network numbers) so_far.classes (are-classes s.network numbers valid (recursion_from_All (λ n. n < class_count s.network) numbers in_net));
   loads_long = loads_long ∙ so_far.loads_long;

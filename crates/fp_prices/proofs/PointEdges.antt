@@ -16,7 +16,7 @@ use Rattle.fp_longestarcs.specs.Whole.{IsWhole}
 use Rattle.fp_longestarcs.proofs.ClassNumbers.{class-place, few-classes, first-more, number-within}
 use Rattle.fp_longestarcs.proofs.Grown.{points-of}
 use Rattle.fp_longestarcs.proofs.Lengthened.{arc-count, tail-of}
-use Rattle.fp_longestarcs.proofs.Places.{at-place}
+use Rattle.fp_lists.proofs.Places.{get_or-place_in}
 use Rattle.fp_longestarcs.proofs.Shorter.{head-within}
 use Rattle.fp_allowed.specs.Listing.{class_at}
 use Rattle.fp_allowed.proofs.ListedClasses.{class_at-number, class_by, class_by-is, class_by-number}
@@ -176,7 +176,7 @@ class-joins p net c valid whole is =
     let there = class-place net c whole.valid is in
     let head : (arc_at p c.arc).to < length net.points = head-within p net c.arc valid whole is.0 in
     let ends : ArePoints (points_in net (arc_at p c.arc).to) = points-of net (arc_at p c.arc).to whole.valid head in
-    let enters = at-place (points_in net (arc_at p c.arc).to) (head_of p (points_in net) c) ends.ascending (floor_point-is (points_in net (arc_at p c.arc).to) _ ends.zero).0 in
+    let enters = get_or-place_in (points_in net (arc_at p c.arc).to) (head_of p (points_in net) c) ends.ascending (floor_point-is (points_in net (arc_at p c.arc).to) _ ends.zero).0 in
     record {
       exists = exists;
       tail = subst (λ (t : ℕ). t < length net.points) tail (whole.valid.tails c.arc 0 is.0);

@@ -3,19 +3,9 @@ use Rattle.std.proofs.Common.{◌≡◌, ℕ, ◌*◌, ◌/◌, ◌<◌, ◌≤�
 use Rattle.std.specs.Prelude.{nat_le, nat_eq}
 use Rattle.std.proofs.Math.Nat.{mul-le-mul_left, le-div_iff_mul-le}
 use Rattle.std.proofs.lemmas.Bool.{cases_lt, cond-true, cond-false, le-leb, lt-leb, or_cases, or_left, or_right, eqb-true, eq-eqb}
+use Rattle.fp_lists.proofs.Membership.{list_has-cons_cases, list_has-first, list_has-rest}
 use Rattle.fp_timenodes.specs.Floor.{floor_point, IsFloorPoint, HaveSamePoints}
 use Rattle.fp_lists.specs.Membership.{list_has}
-
--- a point of a list is its first or one of the rest
-pub has-cases : (q : ℕ) (qs : List ℕ) (m : ℕ) → list_has (q ∷ qs) m ≡ true → (q ≡ m) ⊎ (list_has qs m ≡ true)
-has-cases q qs m h =
-    ⊎_elim (λ (e : nat_eq q m ≡ true). inl (eqb-true q m e)) (λ (r : list_has qs m ≡ true). inr r) (or_cases (nat_eq q m) (list_has qs m) h)
-
-pub has-first : (q : ℕ) (qs : List ℕ) → list_has (q ∷ qs) q ≡ true
-has-first q qs = or_left (nat_eq q q) (list_has qs q) (eq-eqb q q refl)
-
-pub has-rest : (q : ℕ) (qs : List ℕ) (m : ℕ) → list_has qs m ≡ true → list_has (q ∷ qs) m ≡ true
-has-rest q qs m h = or_right (nat_eq q m) (list_has qs m) h
 
 -- the first point counts where it is not after the moment
 floor-early : (q : ℕ) (qs : List ℕ) (d n : ℕ) → d * q ≤ n → floor_point (q ∷ qs) d n ≡ max q (floor_point qs d n)
@@ -51,10 +41,10 @@ floor-reached [] d n = inl refl
 floor-reached (q ∷ qs) d n =
     let Reached : ℕ → Type 0 = λ m. (m ≡ 0) ⊎ (list_has (q ∷ qs) m ≡ true) in
     let rest : Reached (floor_point qs d n) =
-    ⊎_elim (λ (e : floor_point qs d n ≡ 0). inl e) (λ (h : list_has qs (floor_point qs d n) ≡ true). inr (has-rest q qs (floor_point qs d n) h)) (floor-reached qs d n) in
+    ⊎_elim (λ (e : floor_point qs d n ≡ 0). inl e) (λ (h : list_has qs (floor_point qs d n) ≡ true). inr (list_has-rest q qs (floor_point qs d n) h)) (floor-reached qs d n) in
     ⊎_elim
     (λ (h : n < d * q). subst Reached (sym (floor-late q qs d n h)) rest)
-    (λ (h : d * q ≤ n). subst Reached (sym (floor-early q qs d n h)) (max-has Reached q (floor_point qs d n) (inr (has-first q qs)) rest))
+    (λ (h : d * q ≤ n). subst Reached (sym (floor-early q qs d n h)) (max-has Reached q (floor_point qs d n) (inr (list_has-first q qs)) rest))
     (cases_lt n (d * q))
 
 -- no point that is not after the moment is greater
@@ -64,16 +54,16 @@ floor-greatest (p ∷ qs) d n q there h =
     ⊎_elim
     (λ (e : p ≡ q). let early : d * p ≤ n = rw e h in omega (arith, floor-early p qs d n early))
     (λ (r : list_has qs q ≡ true). omega (arith, floor-greatest qs d n q r h))
-    (has-cases p qs q there)
+    (list_has-cons_cases p qs q there)
 
 -- what is at least each point that is not after the moment is at least the greatest
 pub floor-below : (qs : List ℕ) (d n m : ℕ) → ((q : ℕ) → list_has qs q ≡ true → d * q ≤ n → q ≤ m) → floor_point qs d n ≤ m
 floor-below [] d n m above = omega arith
 floor-below (q ∷ qs) d n m above =
-    let rest : floor_point qs d n ≤ m = floor-below qs d n m (λ p there. above p (has-rest q qs p there)) in
+    let rest : floor_point qs d n ≤ m = floor-below qs d n m (λ p there. above p (list_has-rest q qs p there)) in
     ⊎_elim
     (λ (h : n < d * q). omega (arith, floor-late q qs d n h))
-    (λ (h : d * q ≤ n). omega (arith, floor-early q qs d n h, above q (has-first q qs) h))
+    (λ (h : d * q ≤ n). omega (arith, floor-early q qs d n h, above q (list_has-first q qs) h))
     (cases_lt n (d * q))
 
 -- so a point that is not after the moment, and that no such point exceeds, is the greatest

@@ -13,14 +13,15 @@ use Rattle.fp_lists.specs.Membership.{list_has}
 use Rattle.fp_timenodes.specs.Points.{IsAddedPoint, times_at, added_at, points_at, greatest_round}
 use Rattle.fp_timenodes.specs.Stamps.{AreUpTo, IncludesPoint, points_of}
 use Rattle.fp_timenodes.specs.Timelines.{Show}
-use Rattle.fp_timenodes.proofs.Included.{has_point-append, has-kept-push, or_right_comm}
+use Rattle.fp_timenodes.proofs.Included.{has-kept-push, or_right_comm}
+use Rattle.fp_lists.proofs.Membership.{list_has-append}
 use Rattle.fp_timenodes.proofs.Shown.{seen_as, greatest_round-bound}
 
 -- the points of a terminal as of a round, by their kinds
 by-kinds : (first : List Place) (added : List AddedPoint) (timelines : List (List Stamp)) (t r q : ℕ) →
     list_has (points_at (seen_as first added timelines) t r) q ≡ (list_has (times_at first t) q || (list_has (added_at added t r) q || list_has (0 ∷ []) q))
 by-kinds first added timelines t r q =
-    has_point-append (times_at first t) (added_at added t r ++ 0 ∷ []) q ∙ ap (λ (b : Bool). list_has (times_at first t) q || b) (has_point-append (added_at added t r) (0 ∷ []) q)
+    list_has-append (times_at first t) (added_at added t r ++ 0 ∷ []) q ∙ ap (λ (b : Bool). list_has (times_at first t) q || b) (list_has-append (added_at added t r) (0 ∷ []) q)
 
 greatest_round-push : (added : List AddedPoint) (p : AddedPoint) → greatest_round (added ++ p ∷ []) ≡ max (greatest_round added) p.round
 greatest_round-push [] p = omega arith

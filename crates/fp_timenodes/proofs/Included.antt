@@ -7,6 +7,7 @@ use Rattle.std.proofs.lemmas.Bool.{cases_Bool, cases_lt, cases_eq, and_parts, le
 use Rattle.std.proofs.lemmas.List.{take-append-drop, map-append}
 use Rattle.std.proofs.lemmas.List.Edits.{length-insert, get_or-insert_below, get_or-insert_at, get_or-insert_above}
 use Rattle.std.proofs.lemmas.List.Elements.{filter-append, All-append, All-take, All-drop, All-cons}
+use Rattle.fp_lists.proofs.Membership.{list_has-append}
 use Rattle.fp_timenodes.specs.declared.timelines.Stamp.{Stamp}
 use Rattle.fp_lists.specs.Membership.{list_has}
 use Rattle.fp_timenodes.specs.Stamps.{IsAscending, IsCut, AreUpTo, points_of, IncludesPoint}
@@ -17,17 +18,12 @@ use Rattle.fp_timenodes.proofs.Searched.{no_stamp}
 pub or_right_comm : (a b c : Bool) → ((a || b) || c) ≡ ((a || c) || b)
 or_right_comm a b c = or_assoc a b c ∙ ap (λ (t : Bool). a || t) (or_comm b c) ∙ sym (or_assoc a c b)
 
--- the points of two lists together
-pub has_point-append : (ps qs : List ℕ) (at : ℕ) → list_has (ps ++ qs) at ≡ (list_has ps at || list_has qs at)
-has_point-append [] qs at = refl
-has_point-append (p ∷ ps) qs at = ap (λ (b : Bool). nat_eq p at || b) (has_point-append ps qs at) ∙ sym (or_assoc (nat_eq p at) (list_has ps at) (list_has qs at))
-
 -- one more element at the end gives one more point where it is kept
 pub has-kept-push : {X : Type 0} (kept : X → Bool) (at : X → ℕ) (xs : List X) (x : X) (q : ℕ) →
     list_has (map at (filter kept (xs ++ x ∷ []))) q ≡ (list_has (map at (filter kept xs)) q || (kept x && nat_eq (at x) q))
 has-kept-push kept at xs x q =
     ap (λ l. list_has (map at l) q) (filter-append kept xs (x ∷ [])) ∙ ap (λ (qs : List ℕ). list_has qs q) (map-append at (filter kept xs) (filter kept (x ∷ []))) ∙
-    has_point-append (map at (filter kept xs)) (map at (filter kept (x ∷ []))) q ∙ ap (λ (b : Bool). list_has (map at (filter kept xs)) q || b) one
+    list_has-append (map at (filter kept xs)) (map at (filter kept (x ∷ []))) q ∙ ap (λ (b : Bool). list_has (map at (filter kept xs)) q || b) one
   where
     one : list_has (map at (filter kept (x ∷ []))) q ≡ (kept x && nat_eq (at x) q)
     one = ⊎_elim (λ (e : kept x ≡ true). rw e (or-false (nat_eq (at x) q))) (λ (e : kept x ≡ false). rw e refl) (cases_Bool (kept x))
@@ -47,10 +43,10 @@ pub insert-points : (stamps : List Stamp) (cut : ℕ) (s : Stamp) → IncludesPo
 insert-points stamps cut s r q =
     let front : List Stamp = take cut stamps in
     let back : List Stamp = drop cut stamps in
-    let new = ap (λ (ps : List ℕ). list_has ps q) (points_of-append front (s ∷ back) r) ∙ has_point-append (points_of front r) (points_of (s ∷ back) r) q in
+    let new = ap (λ (ps : List ℕ). list_has ps q) (points_of-append front (s ∷ back) r) ∙ list_has-append (points_of front r) (points_of (s ∷ back) r) q in
     let old = ap (λ (ps : List ℕ). list_has ps q) (sym (points_of-append front back r)) in
     let split = ap (λ (l : List Stamp). list_has (points_of l r) q) (take-append-drop cut stamps) in
-    let whole = sym (has_point-append (points_of front r) (points_of back r) q) ∙ old ∙ split in
+    let whole = sym (list_has-append (points_of front r) (points_of back r) q) ∙ old ∙ split in
     new ∙ ap (λ (b : Bool). list_has (points_of front r) q || b) (has-one-more s back r q) ∙
     sym (or_assoc (list_has (points_of front r) q) (nat_le s.round r && nat_eq s.at q) (list_has (points_of back r) q)) ∙
     or_right_comm (list_has (points_of front r) q) (nat_le s.round r && nat_eq s.at q) (list_has (points_of back r) q) ∙

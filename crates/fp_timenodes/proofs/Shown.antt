@@ -14,8 +14,7 @@ use Rattle.fp_timenodes.specs.Points.{TimePoints, IsValid, IsPlace, IsAddedPoint
 use Rattle.fp_timenodes.specs.Stamps.{points_of}
 use Rattle.fp_timenodes.specs.Timelines.{Show}
 use Rattle.fp_timenodes.specs.declared.places.TheConstants.{LATEST}
-use Rattle.fp_timenodes.proofs.Floors.{has-cases}
-use Rattle.fp_timenodes.proofs.Included.{has_point-append}
+use Rattle.fp_lists.proofs.Membership.{list_has-cons_cases, list_has-append}
 
 -- the points that these fields stand for
 abbrev pub seen_as : List Place → List AddedPoint → List (List Stamp) → TimePoints
@@ -42,7 +41,7 @@ kept-in-time kept at latest (x ∷ xs) q all h =
     ⊎_elim
     (λ (same : at x ≡ q). omega (arith, same, all 0 x (omega arith)))
     (λ (later : list_has (map at (filter kept xs)) q ≡ true). kept-in-time kept at latest xs q rest later)
-    (has-cases (at x) (map at (filter kept xs)) q (rw e at h)))
+    (list_has-cons_cases (at x) (map at (filter kept xs)) q (rw e at h)))
     (λ (e : kept x ≡ false). kept-in-time kept at latest xs q rest (rw e at h))
     (cases_Bool (kept x))
 
@@ -60,16 +59,16 @@ points-in-time v terminal round q valid h =
     (λ (f : list_has others q ≡ true).
     kept-in-time (λ (p : AddedPoint). nat_eq p.terminal terminal && nat_le p.round round) (λ (p : AddedPoint). p.at) LATEST v.added q
     (All-weaker (IsAddedPoint v.terminals) (λ (p : AddedPoint). p.at ≤ LATEST) (λ p g. g.1) v.added valid.added) f)
-    (λ (f : list_has (0 ∷ []) q ≡ true). ⊎_elim (λ (g : 0 ≡ q). omega arith) (λ (g : list_has [] q ≡ true). cc) (has-cases 0 [] q f))
-    (or_cases (list_has others q) (list_has (0 ∷ []) q) (sym (has_point-append others (0 ∷ []) q) ∙ e)))
-    (or_cases (list_has firsts q) (list_has (others ++ 0 ∷ []) q) (sym (has_point-append firsts (others ++ 0 ∷ []) q) ∙ h))
+    (λ (f : list_has (0 ∷ []) q ≡ true). ⊎_elim (λ (g : 0 ≡ q). omega arith) (λ (g : list_has [] q ≡ true). cc) (list_has-cons_cases 0 [] q f))
+    (or_cases (list_has others q) (list_has (0 ∷ []) q) (sym (list_has-append others (0 ∷ []) q) ∙ e)))
+    (or_cases (list_has firsts q) (list_has (others ++ 0 ∷ []) q) (sym (list_has-append firsts (others ++ 0 ∷ []) q) ∙ h))
 
 -- 0 is always a point
 pub zero-there : (v : TimePoints) (terminal round : ℕ) → list_has (points_at v terminal round) 0 ≡ true
 zero-there v terminal round =
-    has_point-append (times_at v.first terminal) (added_at v.added terminal round ++ 0 ∷ []) 0 ∙
+    list_has-append (times_at v.first terminal) (added_at v.added terminal round ++ 0 ∷ []) 0 ∙
     or_right (list_has (times_at v.first terminal) 0) (list_has (added_at v.added terminal round ++ 0 ∷ []) 0)
-    (has_point-append (added_at v.added terminal round) (0 ∷ []) 0 ∙ or_right (list_has (added_at v.added terminal round) 0) (list_has (0 ∷ []) 0) refl)
+    (list_has-append (added_at v.added terminal round) (0 ∷ []) 0 ∙ or_right (list_has (added_at v.added terminal round) 0) (list_has (0 ∷ []) 0) refl)
 
 -- no round is later than the greatest
 pub greatest_round-bound : (added : List AddedPoint) (d : AddedPoint) (k : ℕ) → k < length added → (get_or added k d).round ≤ greatest_round added

@@ -15,7 +15,8 @@ use Rattle.fp_lists.specs.Membership.{list_has}
 use Rattle.fp_timenodes.specs.Points.{IsPlace, times_at}
 use Rattle.fp_timenodes.specs.Stamps.{AreUpTo, IncludesPoint, points_of}
 use Rattle.fp_timenodes.specs.Timelines.{Show, StartAt, bare}
-use Rattle.fp_timenodes.proofs.Included.{has_point-append, has-kept-push, or_right_comm}
+use Rattle.fp_timenodes.proofs.Included.{has-kept-push, or_right_comm}
+use Rattle.fp_lists.proofs.Membership.{list_has-append}
 use Rattle.fp_timenodes.proofs.Shown.{seen_as}
 
 -- the timelines of the point 0 alone
@@ -45,7 +46,7 @@ start-more terminals places k d timelines stamps h within old includes up = reco
   count = length-set timelines next.terminal stamps ∙ old.count;
   points = λ terminal round t at.
       grown terminal round t at ∙ or_right_comm (list_has (times_at (take k places) terminal) at) (list_has (0 ∷ []) at) (nat_eq next.terminal terminal && nat_eq next.at at) ∙
-      ap (λ (b : Bool). b || list_has (0 ∷ []) at) (sym (times-more places k terminal at d h)) ∙ sym (has_point-append (times_at (take (k + 1) places) terminal) (0 ∷ []) at);
+      ap (λ (b : Bool). b || list_has (0 ∷ []) at) (sym (times-more places k terminal at d h)) ∙ sym (list_has-append (times_at (take (k + 1) places) terminal) (0 ∷ []) at);
   rounds = All-set (AreUpTo 0) timelines next.terminal stamps up old.rounds;
 }
   where
@@ -54,7 +55,7 @@ start-more terminals places k d timelines stamps h within old includes up = reco
 
     before : (terminal round : ℕ) → terminal < terminals → (at : ℕ) →
         list_has (points_of (get_or timelines terminal []) round) at ≡ (list_has (times_at (take k places) terminal) at || list_has (0 ∷ []) at)
-    before terminal round t at = old.points terminal round t at ∙ has_point-append (times_at (take k places) terminal) (0 ∷ []) at
+    before terminal round t at = old.points terminal round t at ∙ list_has-append (times_at (take k places) terminal) (0 ∷ []) at
 
     grown : (terminal round : ℕ) → terminal < terminals → (at : ℕ) →
         list_has (points_of (get_or (set timelines next.terminal stamps) terminal []) round) at ≡
@@ -98,7 +99,7 @@ start-shows first ascending terminals timelines same places start = record {
     rounds = λ i j d le h. absurd (omega arith);
   };
   points = λ terminal round h at.
-      start.points terminal round (rw (sym start.count) h) at ∙ has_point-append (times_at ascending terminal) (0 ∷ []) at ∙
-      ap (λ (b : Bool). b || list_has (0 ∷ []) at) (sym (times-permuted first ascending terminal at same)) ∙ sym (has_point-append (times_at first terminal) (0 ∷ []) at);
+      start.points terminal round (rw (sym start.count) h) at ∙ list_has-append (times_at ascending terminal) (0 ∷ []) at ∙
+      ap (λ (b : Bool). b || list_has (0 ∷ []) at) (sym (times-permuted first ascending terminal at same)) ∙ sym (list_has-append (times_at first terminal) (0 ∷ []) at);
   rounds = start.rounds;
 }

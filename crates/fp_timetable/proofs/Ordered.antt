@@ -27,7 +27,8 @@ use Rattle.fp_timetable.proofs.Apart.{leg_rank, rising-lines}
 use Rattle.fp_timetable.proofs.Carried.{AllRise, ShipmentsFrom, size_on-lines}
 use Rattle.fp_timetable.proofs.Gathered.{StandFrom-all, has_leg-get_or, lines_from-departures, lines_from-every, lines_from-legs}
 use Rattle.fp_timetable.proofs.OfPlans.{GoesByArc, IsReady, IsReady-plan}
-use Rattle.fp_timetable.proofs.Pairs.{EachPair, EachPair-AllPairs, at-each}
+use Rattle.fp_timetable.proofs.Pairs.{EachPair, EachPair-AllPairs}
+use Rattle.fp_lists.proofs.Elements.{AllByRecursion-get_or}
 
 precedes : (a b c d : ℕ) → b < 2 ^ 32 → d < 2 ^ 32 → rank_of a b < rank_of c d → Precedes a b c d
 precedes a b c d small other less =
@@ -111,7 +112,7 @@ load_on-one (t ∷ lines) zero d ascend lt =
     )
 load_on-one (t ∷ lines) (suc i) d ascend lt =
     let u : TruckLine = get_or lines i d in
-    let less : truck_rank t < truck_rank u = at-each (λ (v : TruckLine). truck_rank t < truck_rank v) lines i d ascend.0 (omega (arith, lt)) in
+    let less : truck_rank t < truck_rank u = AllByRecursion-get_or (λ (v : TruckLine). truck_rank t < truck_rank v) lines i d ascend.0 (omega (arith, lt)) in
     let other : same_leg (departure u) (departure t) ≡ false = other-departure u t (λ e. omega (arith, e, less)) in
     omega (
       arith,

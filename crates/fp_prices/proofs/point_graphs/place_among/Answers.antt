@@ -5,7 +5,7 @@ use Rattle.std.proofs.lemmas.Bool.{cases_lt, ltb-true, ltb-false}
 use Rattle.std.proofs.lemmas.List.Sorted.{IsPartitionPoint-from_clause, IsPartitionedBy-ltb}
 use Rattle.fp_longestarcs.specs.Ascending.{ArePoints}
 use Rattle.fp_lists.specs.Ascending.{IsPlaceIn}
-use Rattle.fp_longestarcs.proofs.Places.{place-is}
+use Rattle.fp_lists.proofs.Places.{place_in-unique}
 use Rattle.fp_prices.proofs.point_graphs.place_among.Goals as goal
 
 -- what ascends does not fall
@@ -27,4 +27,4 @@ returns-clause-place c =
       below = λ k d h. ltb-true _ c.args.at (point.0 k d (omega arith) h);
       above = λ k d from h. ltb-false _ c.args.at (point.1 k d from h);
     } in
-    sym (place-is qs c.args.at c.partition_point.result parts)
+    sym (place_in-unique qs c.args.at c.partition_point.result parts)
