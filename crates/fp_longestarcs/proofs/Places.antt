@@ -10,7 +10,7 @@ use Rattle.fp_lists.proofs.Places.{IsPlaceIn-place_in, list_has-not_at_place, St
 use Rattle.fp_timenodes.specs.Floor.{floor_point}
 use Rattle.fp_lists.specs.Membership.{list_has}
 use Rattle.fp_timenodes.specs.declared.places.TheConstants.{LATEST}
-use Rattle.fp_timenodes.proofs.Floors.{floor-is, floor-same}
+use Rattle.fp_timenodes.proofs.Floors.{floor_is, floor_same}
 use Rattle.fp_lists.proofs.Membership.{list_has-rest, list_has-first, list_has-cons_cases, StandsAt, StandsAt-from_list_has, list_has-get_or, list_has-insert}
 use Rattle.fp_longestarcs.specs.Ascending.{ArePoints}
 use Rattle.fp_lists.specs.Ascending.{IsPlaceIn, place_in}
@@ -18,14 +18,14 @@ use Rattle.fp_lists.specs.Ascending.{IsPlaceIn, place_in}
 -- with a point that is early enough the greatest is at least that point
 pub floor-with : (qs : List ℕ) (k at n : ℕ) → at ≤ n → floor_point (insert qs k at) 1 n ≡ max at (floor_point qs 1 n)
 floor-with qs k at n h =
-    floor-same (insert qs k at) (at ∷ qs) 1 n (list_has-insert qs k at) ∙
+    floor_same (insert qs k at) (at ∷ qs) 1 n (list_has-insert qs k at) ∙
     ap (λ (m : ℕ). max m (floor_point qs 1 n)) (cond-true (nat_le (1 * at) n) at 0 (le-leb (1 * at) n (omega arith)))
 
 -- a later point counts for nothing
 pub floor-without : (qs : List ℕ) (k at n : ℕ) → n < at → floor_point (insert qs k at) 1 n ≡ floor_point qs 1 n
 floor-without qs k at n h =
     let skipped = ap (λ (m : ℕ). max m (floor_point qs 1 n)) (cond-false (nat_le (1 * at) n) at 0 (lt-leb (1 * at) n (omega arith))) in
-    floor-same (insert qs k at) (at ∷ qs) 1 n (list_has-insert qs k at) ∙ omega (arith, skipped)
+    floor_same (insert qs k at) (at ∷ qs) 1 n (list_has-insert qs k at) ∙ omega (arith, skipped)
 
 -- a new point put in its place leaves the points in ascending order
 pub insert-points : (qs : List ℕ) (at : ℕ) → ArePoints qs → list_has qs at ≡ false → at ≤ LATEST → ArePoints (insert qs (place_in qs at) at)
@@ -103,7 +103,7 @@ floor-before qs at k are is other =
     let zero_at : StandsAt qs 0 = StandsAt-from_list_has qs 0 are.zero in
     let some : 0 < k = omega (arith, StandsAt-before_place qs at k 0 is none zero_at (omega arith)) in (
       some,
-      sym (floor-is qs 1 at (get_or qs (k - 1) 0) (list_has-get_or qs (k - 1) 0 (omega (arith, is.within))) (omega (arith, is.below (k - 1) 0 (omega arith)))
+      sym (floor_is qs 1 at (get_or qs (k - 1) 0) (list_has-get_or qs (k - 1) 0 (omega (arith, is.within))) (omega (arith, is.below (k - 1) 0 (omega arith)))
           (λ q there le.
           let w : StandsAt qs q = StandsAt-from_list_has qs q there in
           let less : w.place < k = StandsAt-before_place qs at k q is none w (omega (arith, le)) in

@@ -36,12 +36,12 @@ step-until q qs at (Some m) h next = (
 )
 
 -- the definition gives the next point
-pub next_point-is : (qs : List ℕ) (at : ℕ) → IsNextPoint qs at (next_point qs at)
-next_point-is [] at = λ p there. cc
-next_point-is (q ∷ qs) at =
+pub IsNextPoint-next_point : (qs : List ℕ) (at : ℕ) → IsNextPoint qs at (next_point qs at)
+IsNextPoint-next_point [] at = λ p there. cc
+IsNextPoint-next_point (q ∷ qs) at =
     ⊎_elim
-    (λ (h : at < q). rw (lt-ltb at q h) (step-after q qs at (next_point qs at) h (next_point-is qs at)))
-    (λ (h : q ≤ at). rw (le-ltb at q h) (step-until q qs at (next_point qs at) h (next_point-is qs at)))
+    (λ (h : at < q). rw (lt-ltb at q h) (step-after q qs at (next_point qs at) h (IsNextPoint-next_point qs at)))
+    (λ (h : q ≤ at). rw (le-ltb at q h) (step-until q qs at (next_point qs at) h (IsNextPoint-next_point qs at)))
     (cases_lt at q)
 
 -- and there is no other
@@ -51,12 +51,12 @@ next-unique qs at None (Some m) h k = absurd (omega (arith, h m k.0, k.1))
 next-unique qs at (Some m) None h k = absurd (omega (arith, k m h.0, h.1))
 next-unique qs at (Some m) (Some n) h k = let e : m ≡ n = omega (arith, h.2 n k.0 k.1, k.2 m h.0 h.1) in ap Some e
 
-pub next-is : (qs : List ℕ) (at : ℕ) (o : Option ℕ) → IsNextPoint qs at o → o ≡ next_point qs at
-next-is qs at o h = next-unique qs at o (next_point qs at) h (next_point-is qs at)
+pub next_is : (qs : List ℕ) (at : ℕ) (o : Option ℕ) → IsNextPoint qs at o → o ≡ next_point qs at
+next_is qs at o h = next-unique qs at o (next_point qs at) h (IsNextPoint-next_point qs at)
 
 -- lists with the same points have the same next point
-pub next-same : (ps qs : List ℕ) (at : ℕ) → HaveSamePoints ps qs → next_point ps at ≡ next_point qs at
-next-same ps qs at same = next-is qs at (next_point ps at) (moved (next_point ps at) (next_point-is ps at))
+pub next_same : (ps qs : List ℕ) (at : ℕ) → HaveSamePoints ps qs → next_point ps at ≡ next_point qs at
+next_same ps qs at same = next_is qs at (next_point ps at) (moved (next_point ps at) (IsNextPoint-next_point ps at))
   where
     moved : (o : Option ℕ) → IsNextPoint ps at o → IsNextPoint qs at o
     moved None h = λ q there. h q (same q ∙ there)

@@ -21,10 +21,10 @@ abbrev pub seen_as : List Place → List AddedPoint → List (List Stamp) → Ti
 seen_as first added timelines = record { terminals = length timelines; first = first; added = added }
 
 -- the timeline that an index reads has the points of its terminal
-pub timeline-points : (v : TimePoints) (first : List Place) (added : List AddedPoint) (timelines : List (List Stamp)) (terminal round : ℕ) (stamps : List Stamp) →
+pub HaveSamePoints-timeline : (v : TimePoints) (first : List Place) (added : List AddedPoint) (timelines : List (List Stamp)) (terminal round : ℕ) (stamps : List Stamp) →
     Show (seen_as first added timelines) timelines → seen_as first added timelines ≡ v → terminal < v.terminals → stamps ≡ get_or timelines terminal stamps →
     HaveSamePoints (points_of stamps round) (points_at v terminal round)
-timeline-points v first added timelines terminal round stamps shows is within read =
+HaveSamePoints-timeline v first added timelines terminal round stamps shows is within read =
     let some : terminal < length timelines = omega (arith, ap (λ (w : TimePoints). w.terminals) is) in
     let same : get_or timelines terminal [] ≡ stamps = get_or_default timelines terminal [] stamps some ∙ sym read in
     let points = shows.points terminal round some in
@@ -46,8 +46,8 @@ kept-in-time kept at latest (x ∷ xs) q all h =
     (cases_Bool (kept x))
 
 -- no point is later than the latest time
-pub points-in-time : (v : TimePoints) (terminal round q : ℕ) → IsValid v → list_has (points_at v terminal round) q ≡ true → q ≤ LATEST
-points-in-time v terminal round q valid h =
+pub points_at_latest : (v : TimePoints) (terminal round q : ℕ) → IsValid v → list_has (points_at v terminal round) q ≡ true → q ≤ LATEST
+points_at_latest v terminal round q valid h =
     let firsts : List ℕ = times_at v.first terminal in
     let others : List ℕ = added_at v.added terminal round in
     ⊎_elim
@@ -64,28 +64,28 @@ points-in-time v terminal round q valid h =
     (or_cases (list_has firsts q) (list_has (others ++ 0 ∷ []) q) (sym (list_has-append firsts (others ++ 0 ∷ []) q) ∙ h))
 
 -- 0 is always a point
-pub zero-there : (v : TimePoints) (terminal round : ℕ) → list_has (points_at v terminal round) 0 ≡ true
-zero-there v terminal round =
+pub has_point-zero : (v : TimePoints) (terminal round : ℕ) → list_has (points_at v terminal round) 0 ≡ true
+has_point-zero v terminal round =
     list_has-append (times_at v.first terminal) (added_at v.added terminal round ++ 0 ∷ []) 0 ∙
     or_right (list_has (times_at v.first terminal) 0) (list_has (added_at v.added terminal round ++ 0 ∷ []) 0)
     (list_has-append (added_at v.added terminal round) (0 ∷ []) 0 ∙ or_right (list_has (added_at v.added terminal round) 0) (list_has (0 ∷ []) 0) refl)
 
 -- no round is later than the greatest
-pub greatest_round-bound : (added : List AddedPoint) (d : AddedPoint) (k : ℕ) → k < length added → (get_or added k d).round ≤ greatest_round added
-greatest_round-bound [] d k h = absurd (omega arith)
-greatest_round-bound (p ∷ added) d zero h = omega arith
-greatest_round-bound (p ∷ added) d (suc k) h = omega (arith, greatest_round-bound added d k (omega arith))
+pub greatest_round_bound : (added : List AddedPoint) (d : AddedPoint) (k : ℕ) → k < length added → (get_or added k d).round ≤ greatest_round added
+greatest_round_bound [] d k h = absurd (omega arith)
+greatest_round_bound (p ∷ added) d zero h = omega arith
+greatest_round_bound (p ∷ added) d (suc k) h = omega (arith, greatest_round_bound added d k (omega arith))
 
 -- what is at least each round is at least the greatest
-greatest_round-least : (added : List AddedPoint) (d : AddedPoint) (n : ℕ) → ((k : ℕ) → k < length added → (get_or added k d).round ≤ n) → greatest_round added ≤ n
-greatest_round-least [] d n above = omega arith
-greatest_round-least (p ∷ added) d n above = omega (arith, above 0 (omega arith), greatest_round-least added d n (λ k h. above (suc k) (omega arith)))
+greatest_round_least : (added : List AddedPoint) (d : AddedPoint) (n : ℕ) → ((k : ℕ) → k < length added → (get_or added k d).round ≤ n) → greatest_round added ≤ n
+greatest_round_least [] d n above = omega arith
+greatest_round_least (p ∷ added) d n above = omega (arith, above 0 (omega arith), greatest_round_least added d n (λ k h. above (suc k) (omega arith)))
 
 -- where rounds do not fall, the last added point has the greatest
-pub greatest_round-last : (added : List AddedPoint) (p : AddedPoint) → IsNonDecreasingBy (λ (q : AddedPoint). q.round) added → 0 < length added → p ≡ get_or added (length added - 1) p → p.round ≡ greatest_round added
-greatest_round-last added p rises some read =
-    let bound = greatest_round-bound added p (length added - 1) (omega arith) in
-    let least = greatest_round-least added p p.round (λ k h. omega (arith, rises k (length added - 1) p (omega arith) (omega arith), last)) in
+pub greatest_round_last : (added : List AddedPoint) (p : AddedPoint) → IsNonDecreasingBy (λ (q : AddedPoint). q.round) added → 0 < length added → p ≡ get_or added (length added - 1) p → p.round ≡ greatest_round added
+greatest_round_last added p rises some read =
+    let bound = greatest_round_bound added p (length added - 1) (omega arith) in
+    let least = greatest_round_least added p p.round (λ k h. omega (arith, rises k (length added - 1) p (omega arith) (omega arith), last)) in
     omega (arith, bound, least, last)
   where
     last : p.round ≡ (get_or added (length added - 1) p).round
