@@ -8,7 +8,7 @@ use Rattle.fp_model.specs.Problem.{IsValid, Problem, arc_at, hold_at, no_arc}
 use Rattle.fp_timenodes.specs.declared.places.Place.{Place}
 use Rattle.fp_lists.specs.Membership.{list_has}
 use Rattle.fp_timenodes.specs.Points.{TimePoints, points_at, times_at}
-use Rattle.fp_lists.proofs.Membership.{list_has-rest, list_has-first, list_has-append}
+use Rattle.fp_lists.proofs.Membership.{list_has-append, list_has-rest, list_has-first, list_has-filter}
 use Rattle.fp_flatnet.specs.declared.window_tables.Window.{Window}
 use Rattle.fp_flatnet.specs.Belonging.{BelongsTo, IsNarrowed}
 use Rattle.fp_flatnet.specs.Initial.{BeginAt, dues_at, initial_points, releases_at}
@@ -19,17 +19,6 @@ use Rattle.fp_longestarcs.specs.Properties.{HasShipmentTimes}
 use Rattle.fp_longestarcs.proofs.Same.{has-with}
 use Rattle.fp_allowed.specs.InitialPoints.{HasInitialPoints}
 use Rattle.fp_allowed.specs.SamePoints.{AgreeOnPoints}
-
--- what is made of an element that passes a test is among what is made of those that pass
-has_point-filter : {X : Type 0} (test : X → Bool) (f : X → ℕ) (xs : List X) (k : ℕ) (d : X) → k < length xs → test (get_or xs k d) ≡ true → list_has (map f (filter test xs)) (f (get_or xs k d)) ≡ true
-has_point-filter test f [] k d h passes = absurd (omega (arith, h))
-has_point-filter test f (x ∷ xs) zero d h passes = rw passes (list_has-first (f x) (map f (filter test xs)))
-has_point-filter test f (x ∷ xs) (suc k) d h passes =
-    let rest : list_has (map f (filter test xs)) (f (get_or xs k d)) ≡ true = has_point-filter test f xs k d (omega (arith, h)) passes in
-    ⊎_elim
-    (λ (first : test x ≡ true). rw first (list_has-rest (f x) (map f (filter test xs)) (f (get_or xs k d)) rest))
-    (λ (other : test x ≡ false). rw other rest)
-    (cases_Bool (test x))
 
 -- the points as of the start have the initial ones
 pub HasInitialPoints-BeginAt : (p : Problem) (anchors : List Place) (v : TimePoints) → BeginAt p anchors v → HasInitialPoints p anchors (λ terminal. points_at v terminal 0)
@@ -62,7 +51,7 @@ module _ (p : Problem) (anchors : List Place) (points : ℕ → List ℕ) (initi
   initial-release k d h within =
       let s : Shipment = get_or p.shipments k d in
       let others : List ℕ = releases_at p s.from ++ dues_at p s.from in
-      let own : list_has (releases_at p s.from) s.release ≡ true = has_point-filter (λ (t : Shipment). nat_eq t.from s.from) (λ (t : Shipment). t.release) p.shipments k d h (eq-eqb s.from s.from refl) in
+      let own : list_has (releases_at p s.from) s.release ≡ true = list_has-filter (λ (t : Shipment). nat_eq t.from s.from) (λ (t : Shipment). t.release) p.shipments k d h (eq-eqb s.from s.from refl) in
       initial s.from s.release within
       (list_has-rest 0 (others ++ times_at anchors s.from) s.release
       (list_has-append others (times_at anchors s.from) s.release ∙
@@ -75,7 +64,7 @@ module _ (p : Problem) (anchors : List Place) (points : ℕ → List ℕ) (initi
   initial-due k d h within =
       let s : Shipment = get_or p.shipments k d in
       let others : List ℕ = releases_at p s.to ++ dues_at p s.to in
-      let own : list_has (dues_at p s.to) s.due ≡ true = has_point-filter (λ (t : Shipment). nat_eq t.to s.to) (λ (t : Shipment). t.due) p.shipments k d h (eq-eqb s.to s.to refl) in
+      let own : list_has (dues_at p s.to) s.due ≡ true = list_has-filter (λ (t : Shipment). nat_eq t.to s.to) (λ (t : Shipment). t.due) p.shipments k d h (eq-eqb s.to s.to refl) in
       initial s.to s.due within
       (list_has-rest 0 (others ++ times_at anchors s.to) s.due
       (list_has-append others (times_at anchors s.to) s.due ∙
@@ -93,7 +82,7 @@ module _ (p : Problem) (anchors : List Place) (points : ℕ → List ℕ) (initi
       let others : List ℕ = releases_at p terminal ++ dues_at p terminal in
       let same : get_or anchors among.0 place ≡ place = among.2 in
       let own : list_has (times_at anchors terminal) (get_or anchors among.0 place).at ≡ true =
-      has_point-filter (λ (q : Place). nat_eq q.terminal terminal) (λ (q : Place). q.at) anchors among.0 place among.1 (eq-eqb (get_or anchors among.0 place).terminal terminal (ap (λ (q : Place). q.terminal) same)) in
+      list_has-filter (λ (q : Place). nat_eq q.terminal terminal) (λ (q : Place). q.at) anchors among.0 place among.1 (eq-eqb (get_or anchors among.0 place).terminal terminal (ap (λ (q : Place). q.terminal) same)) in
       let there : list_has (times_at anchors terminal) place.at ≡ true = subst (λ (q : Place). list_has (times_at anchors terminal) q.at ≡ true) same own in
       initial terminal place.at within
       (list_has-rest 0 (others ++ times_at anchors terminal) place.at

@@ -13,8 +13,8 @@ use Rattle.fp_timenodes.specs.declared.places.Place.{Place}
 use Rattle.fp_timenodes.specs.Floor.{HaveSamePoints}
 use Rattle.fp_lists.specs.Membership.{list_has}
 use Rattle.fp_timenodes.specs.Points.{TimePoints, added_at, greatest_round, points_at, times_at}
-use Rattle.fp_lists.proofs.Membership.{list_has-rest, list_has-first, list_has-cons_cases, list_has-append}
-use Rattle.fp_timenodes.proofs.PointLists.{or_right_comm}
+use Rattle.fp_lists.proofs.Truth.{or_right_comm}
+use Rattle.fp_lists.proofs.Membership.{list_has-append, list_has-rest, list_has-first, list_has-cons_cases}
 use Rattle.fp_flatnet.specs.Initial.{BeginAt, initial_points}
 use Rattle.fp_lines.specs.Ranges.{IsPointInRange}
 use Rattle.fp_checker.specs.Points.{AreAddedPoints, ArePointsOf, points_with}

@@ -1,17 +1,18 @@
--- Where a time StandsAt-from_list_has among points in ascending order, and what putting it there does.
+-- Where a time stands among points in ascending order, and what putting it there does.
 use Rattle.std.proofs.Common.{◌≡◌, ℕ, zero, suc, ◌+◌, ◌-◌, ◌*◌, ◌<◌, ◌≤◌, true, false, max, List, [], ◌∷◌, length, get_or, ⊎_elim, sym, ap, ◌∙◌, subst, arith}
 use Rattle.std.specs.Prelude.{nat_le, nat_eq, All}
 use Rattle.std.specs.List.{insert, AllPairs}
 use Rattle.std.proofs.lemmas.Bool.{cases_lt, cases_eq, lt-ltb, le-ltb, le-leb, lt-leb, eq-eqb, ne_eqb, false_from_ne_true, both_ways, cond-true, cond-false}
 use Rattle.std.proofs.lemmas.List.{get_or_default}
 use Rattle.std.proofs.lemmas.List.Edits.{length-insert, get_or-insert_below, get_or-insert_at, get_or-insert_above}
-use Rattle.std.proofs.lemmas.List.Sorted.{IsPermutation-insert, list_any-IsPermutation}
-use Rattle.fp_lists.proofs.Places.{IsPlaceIn-place_in, list_has-not_at_place, StandsAt-before_place}
+use Rattle.std.proofs.lemmas.List.Sorted.{All-permutation, IsPermutation-insert}
+use Rattle.std.proofs.lemmas.List.Elements.{All-cons}
+use Rattle.fp_lists.proofs.Membership.{StandsAt, StandsAt-from_list_has, list_has-get_or, list_has-insert, list_has-cons_cases, list_has-first, list_has-rest}
+use Rattle.fp_lists.proofs.Places.{IsPlaceIn-place_in, ascending-insert, list_has-not_at_place, StandsAt-before_place}
 use Rattle.fp_timenodes.specs.Floor.{floor_point}
 use Rattle.fp_lists.specs.Membership.{list_has}
 use Rattle.fp_timenodes.specs.declared.places.TheConstants.{LATEST}
 use Rattle.fp_timenodes.proofs.Floors.{floor_is, floor_same}
-use Rattle.fp_lists.proofs.Membership.{list_has-rest, list_has-first, list_has-cons_cases, StandsAt, StandsAt-from_list_has, list_has-get_or, list_has-insert}
 use Rattle.fp_longestarcs.specs.Ascending.{ArePoints}
 use Rattle.fp_lists.specs.Ascending.{IsPlaceIn, place_in}
 
@@ -29,72 +30,15 @@ floor-without qs k at n h =
 
 -- a new point put in its place leaves the points in ascending order
 pub insert-points : (qs : List ℕ) (at : ℕ) → ArePoints qs → list_has qs at ≡ false → at ≤ LATEST → ArePoints (insert qs (place_in qs at) at)
-insert-points qs at are new in_time = record {
-  ascending = up;
-  zero = list_has-insert qs place at 0 ∙ list_has-rest at qs 0 are.zero;
-  in_time = early;
-}
-  where
-    place : ℕ
-    place = place_in qs at
-
-    is : IsPlaceIn qs at place
-    is = IsPlaceIn-place_in qs at are.ascending
-
-    after : (k d : ℕ) → place ≤ k → k < length qs → at < get_or qs k d
-    after k d from h =
-        ⊎_elim
-        (λ (less : at < get_or qs k d). less)
-        (λ (more : get_or qs k d ≤ at).
-        let same : get_or qs k d ≡ at = omega (arith, is.above k d from h, more) in
-        absurd (let there : list_has qs at ≡ true = subst (λ (m : ℕ). list_has qs m ≡ true) same (list_has-get_or qs k d h) in cc))
-        (cases_lt at (get_or qs k d))
-
-    here : (d : ℕ) → get_or (insert qs place at) place d ≡ at
-    here d = get_or-insert_at qs place at d is.within
-
-    long : length (insert qs place at) ≡ length qs + 1
-    long = length-insert qs place at is.within
-
-    -- what StandsAt-from_list_has before the place, at it and after it
-    low : (k d : ℕ) → k < place → get_or (insert qs place at) k d ≡ get_or qs k d
-    low k d h = get_or-insert_below qs place at d k h is.within
-
-    high : (k d : ℕ) → place < k → get_or (insert qs place at) k d ≡ get_or qs (k - 1) d
-    high k d h = let e : k ≡ (k - 1) + 1 = omega arith in ap (λ (n : ℕ). get_or (insert qs place at) n d) e ∙ get_or-insert_above qs place at d (k - 1) (omega arith) is.within
-
-    up : AllPairs (λ a b. a < b) (insert qs place at)
-    up i j d less h =
-        ⊎_elim
-        (λ (first : i < place).
-        ⊎_elim
-        (λ (second : j < place). omega (arith, low i d first, low j d second, are.ascending i j d less (omega (arith, is.within))))
-        (λ (second : place ≤ j).
-        ⊎_elim
-        (λ (same : j ≡ place). rw same (omega (arith, low i d first, here d, is.below i d first)))
-        (λ (other : j ≡ place → ⊥). let past : place < j = omega (arith, other) in omega (arith, low i d first, high j d past, is.below i d first, after (j - 1) d (omega arith) (omega (arith, long))))
-        (cases_eq j place))
-        (cases_lt j place))
-        (λ (first : place ≤ i).
-        ⊎_elim
-        (λ (same : i ≡ place).
-        let past : place < j = omega arith in rw same (omega (arith, here d, high j d past, after (j - 1) d (omega arith) (omega (arith, long)))))
-        (λ (other : i ≡ place → ⊥).
-        let past : place < i = omega (arith, other) in
-        let far : place < j = omega arith in omega (arith, high i d past, high j d far, are.ascending (i - 1) (j - 1) d (omega arith) (omega (arith, long))))
-        (cases_eq i place))
-        (cases_lt i place)
-
-    early : All (λ q. q ≤ LATEST) (insert qs place at)
-    early k d h =
-        ⊎_elim
-        (λ (first : k < place). omega (arith, low k d first, are.in_time k d (omega (arith, is.within))))
-        (λ (rest : place ≤ k).
-        ⊎_elim
-        (λ (same : k ≡ place). rw same (omega (arith, here d, in_time)))
-        (λ (other : k ≡ place → ⊥). let past : place < k = omega (arith, other) in omega (arith, high k d past, are.in_time (k - 1) d (omega (arith, long))))
-        (cases_eq k place))
-        (cases_lt k place)
+insert-points qs at are new in_time =
+    let place : ℕ = place_in qs at in
+    record {
+      ascending = ascending-insert qs at are.ascending new;
+      zero = list_has-insert qs place at 0 ∙ list_has-rest at qs 0 are.zero;
+      in_time =
+          All-permutation (λ q. q ≤ LATEST) (at ∷ qs) (insert qs place at) (IsPermutation-insert qs place at)
+          (All-cons (λ q. q ≤ LATEST) at qs in_time are.in_time);
+    }
 
 -- the last point before such a time is the greatest that is not after it
 pub floor-before : (qs : List ℕ) (at k : ℕ) → ArePoints qs → IsPlaceIn qs at k → (k < length qs → get_or qs k 0 ≡ at → ⊥) → (0 < k) × (get_or qs (k - 1) 0 ≡ floor_point qs 1 at)
@@ -113,7 +57,7 @@ floor-before qs at k are is other =
           (cases_lt w.place (k - 1)))),
     )
 
--- whether what StandsAt-from_list_has at its place is the time tells whether it is a point
+-- whether what stands at its place is the time tells whether it is a point
 pub at-place-tells : (qs : List ℕ) (at k : ℕ) → ArePoints qs → IsPlaceIn qs at k → k < length qs → nat_eq (get_or qs k 0) at ≡ list_has qs at
 at-place-tells qs at k are is h =
     ⊎_elim

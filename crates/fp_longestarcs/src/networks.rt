@@ -12,10 +12,11 @@ ghost use Rattle.fp_longestarcs.specs.Changes.{HasAlso, points_with, refined, re
 ghost use Rattle.fp_longestarcs.specs.Properties.{HasProperties};
 
 use crate::NoMemory;
-use crate::ascending::{count_until, floor_among, is_among, place_among};
+use crate::ascending::{floor_among, is_among};
 use crate::copies::{add_point, lift_copies};
 use crate::listing::{all_heads, all_tails, all_times, count_classes, step_of};
 use crate::lists::{copied, list_at};
+use fp_lists::{count_until, place_among};
 use fp_model::Instance;
 use fp_timenodes::{LATEST, Place, Points};
 use std::alloc::Global;

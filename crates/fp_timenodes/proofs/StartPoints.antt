@@ -15,28 +15,16 @@ use Rattle.fp_lists.specs.Membership.{list_has}
 use Rattle.fp_timenodes.specs.Points.{IsPlace, times_at}
 use Rattle.fp_timenodes.specs.Stamps.{AreUpTo, IncludesPoint, points_of}
 use Rattle.fp_timenodes.specs.Timelines.{Show, StartAt, bare}
-use Rattle.fp_timenodes.proofs.PointLists.{has_point-kept_push, or_right_comm}
-use Rattle.fp_lists.proofs.Membership.{list_has-append}
+use Rattle.fp_lists.proofs.Truth.{or_right_comm}
+use Rattle.fp_lists.proofs.Membership.{list_has-filter_push, list_has-append}
 use Rattle.fp_timenodes.proofs.TimelinePoints.{seen_as}
-
--- the timelines of the point 0 alone
-pub start-none : (terminals : ℕ) → StartAt terminals [] (replicate terminals bare)
-start-none terminals = record {
-  count = length-replicate terminals bare;
-  points = λ terminal round h. subst (λ (l : List Stamp). HaveSamePoints (points_of l round) (0 ∷ [])) (sym (get_or-replicate terminals terminal bare [] h)) (λ at. rw (le-leb 0 round (omega arith)) refl);
-  rounds = All-replicate (AreUpTo 0) terminals bare up;
-}
-  where
-    up : AreUpTo 0 bare
-    up zero d h = omega arith
-    up (suc k) d h = absurd (omega arith)
 
 -- one more place
 times-more : (places : List Place) (k terminal at : ℕ) (d : Place) → k < length places →
     list_has (times_at (take (k + 1) places) terminal) at ≡ (list_has (times_at (take k places) terminal) at || (nat_eq (get_or places k d).terminal terminal && nat_eq (get_or places k d).at at))
 times-more places k terminal at d h =
     ap (λ (l : List Place). list_has (times_at l terminal) at) (take_more places k d h) ∙
-    has_point-kept_push (λ (p : Place). nat_eq p.terminal terminal) (λ (p : Place). p.at) (take k places) (get_or places k d) at
+    list_has-filter_push (λ (p : Place). nat_eq p.terminal terminal) (λ (p : Place). p.at) (take k places) (get_or places k d) at
 
 -- and its timeline includes it
 pub StartAt-one_more : (terminals : ℕ) (places : List Place) (k : ℕ) (d : Place) (timelines : List (List Stamp)) (stamps : List Stamp) → k < length places → (get_or places k d).terminal < terminals →

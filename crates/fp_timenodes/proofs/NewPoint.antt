@@ -13,20 +13,16 @@ use Rattle.fp_lists.specs.Membership.{list_has}
 use Rattle.fp_timenodes.specs.Points.{IsAddedPoint, times_at, added_at, points_at, greatest_round}
 use Rattle.fp_timenodes.specs.Stamps.{AreUpTo, IncludesPoint, points_of}
 use Rattle.fp_timenodes.specs.Timelines.{Show}
-use Rattle.fp_timenodes.proofs.PointLists.{has_point-kept_push, or_right_comm}
-use Rattle.fp_lists.proofs.Membership.{list_has-append}
+use Rattle.fp_lists.proofs.Truth.{or_right_comm}
+use Rattle.fp_lists.proofs.Membership.{list_has-filter_push, list_has-append}
 use Rattle.fp_timenodes.proofs.TimelinePoints.{seen_as}
-use Rattle.fp_timenodes.proofs.Rounds.{greatest_round_bound}
+use Rattle.fp_timenodes.proofs.Rounds.{greatest_round_bound, greatest_round_push}
 
 -- the points of a terminal as of a round, by their kinds
 by-kinds : (first : List Place) (added : List AddedPoint) (timelines : List (List Stamp)) (t r q : ℕ) →
     list_has (points_at (seen_as first added timelines) t r) q ≡ (list_has (times_at first t) q || (list_has (added_at added t r) q || list_has (0 ∷ []) q))
 by-kinds first added timelines t r q =
     list_has-append (times_at first t) (added_at added t r ++ 0 ∷ []) q ∙ ap (λ (b : Bool). list_has (times_at first t) q || b) (list_has-append (added_at added t r) (0 ∷ []) q)
-
-greatest_round_push : (added : List AddedPoint) (p : AddedPoint) → greatest_round (added ++ p ∷ []) ≡ max (greatest_round added) p.round
-greatest_round_push [] p = omega arith
-greatest_round_push (q ∷ added) p = omega (arith, greatest_round_push added p)
 
 -- the timelines with the new point show it among the added ones
 pub Show-one_added : (first : List Place) (added : List AddedPoint) (timelines : List (List Stamp)) (p : AddedPoint) (stamps : List Stamp) →
@@ -46,7 +42,7 @@ Show-one_added first added timelines p stamps shows valid order includes up = re
       ap (λ (b : Bool). list_has (times_at first t) q || b)
       (or_right_comm (list_has (added_at added t r) q) (list_has (0 ∷ []) q) ((nat_eq p.terminal t && nat_le p.round r) && nat_eq p.at q) ∙
       ap (λ (b : Bool). b || list_has (0 ∷ []) q)
-      (sym (has_point-kept_push (λ (s : AddedPoint). nat_eq s.terminal t && nat_le s.round r) (λ (s : AddedPoint). s.at) added p q))) ∙
+      (sym (list_has-filter_push (λ (s : AddedPoint). nat_eq s.terminal t && nat_le s.round r) (λ (s : AddedPoint). s.at) added p q))) ∙
       sym (by-kinds first (added ++ p ∷ []) (set timelines p.terminal stamps) t r q);
   rounds = All-set (AreUpTo (greatest_round (added ++ p ∷ []))) timelines p.terminal stamps (later p.round stamps up (omega (arith, greatest_round_push added p)))
       (All-weaker (AreUpTo (greatest_round added)) (AreUpTo (greatest_round (added ++ p ∷ []))) (λ l h. later (greatest_round added) l h (omega (arith, greatest_round_push added p))) timelines shows.rounds);
