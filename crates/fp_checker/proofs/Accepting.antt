@@ -12,7 +12,7 @@ use Rattle.fp_model.specs.Plans.{PlanExists}
 use Rattle.fp_model.specs.Problem.{Problem, IsValid, arc_at}
 use Rattle.fp_model.specs.Routes.{Carries, arcs_of}
 use Rattle.fp_lists.proofs.Ceilings.{div_ceil-least}
-use Rattle.std.proofs.lemmas.List.Elements.{AllZip-get_or}
+use Rattle.fp_lists.proofs.Numbered.{AllZip-get_or}
 use Rattle.fp_flatnet.specs.Tables.{WindowTable, windows_in}
 use Rattle.fp_flatnet.specs.Windows.{AreWindows, CoverPlans}
 use Rattle.fp_flatnet.proofs.InTime.{carried-time}

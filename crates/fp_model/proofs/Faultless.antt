@@ -12,7 +12,7 @@ use Rattle.fp_model.specs.declared.faults.PlanKind.TheVariants.{Count, NotRoute,
 use Rattle.fp_model.specs.declared.parts.Leg.{Leg}
 use Rattle.fp_model.specs.declared.parts.Shipment.{Shipment}
 use Rattle.fp_model.specs.Problem.{Problem, arc_at}
-use Rattle.fp_model.specs.Routes.{Carries, arcs_of, step}
+use Rattle.fp_model.specs.Routes.{Carries, arcs_of, step, ends_of}
 use Rattle.fp_lists.specs.Distinct.{AreDistinct}
 use Rattle.fp_model.specs.Numbered.{leg_at, no_leg, route_at, shipment_at, no_shipment}
 use Rattle.fp_model.specs.Faults.{place_before, HasLegFault, AreFaultless, HasFault, IsFaultless}
@@ -20,7 +20,7 @@ use Rattle.fp_model.specs.Plans.{IsPlan}
 use Rattle.fp_lists.proofs.Distinct.{AreDistinct-from_map, AreDistinct-tail}
 use Rattle.fp_lists.proofs.Elements.{AllByRecursion-weaker}
 use Rattle.fp_model.proofs.LegByLeg.{GoesOn, Leads-from_legs, Leads-legs, Leads-last, NeverReturns, AreDistinct-from_legs, AreDistinct-legs, StartsFrom, KeepsSteps, LeavesReady-from_legs, LeavesReady-first, LeavesReady-legs}
-use Rattle.std.proofs.lemmas.List.Elements.{AllZip-get_or}
+use Rattle.fp_lists.proofs.Numbered.{AllZip-get_or}
 use Rattle.fp_lists.proofs.DistinctSums.{length-distinct-le}
 use Rattle.fp_lists.proofs.Numbered.{AllZip-from_get_or}
 use Rattle.fp_model.proofs.Steps.{arrives_at_last}
