@@ -6,6 +6,7 @@ use Rattle.std.proofs.lemmas.Bool.{cases_Bool, cases_eq, eq-eqb, ne_eqb, eqb-tru
 use Rattle.std.proofs.lemmas.List.{length-append, length-map}
 use Rattle.std.proofs.lemmas.List.Edits.{length-insert}
 use Rattle.std.proofs.lemmas.List.Sums.{sum_by-set, sum_by-cons, sum_by-le-sum_by}
+use Rattle.fp_lists.proofs.Pairs.{AllPairs-tail}
 use Rattle.fp_lists.proofs.Sums.{sum_by-both}
 use Rattle.fp_timenodes.specs.declared.places.Place.{Place}
 use Rattle.fp_timenodes.specs.declared.places.AddedPoint.{AddedPoint}
