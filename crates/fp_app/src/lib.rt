@@ -17,6 +17,3 @@ pub use words::{Order, WordFault, read_words};
 
 /// Memory wasn't found.
 pub type NoMemory = std::alloc::AllocError;
-
-#[cfg(test)]
-mod tests;

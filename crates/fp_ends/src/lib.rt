@@ -23,6 +23,3 @@ pub use writing::{WriteFault, write_all};
 
 /// There was not enough memory.
 pub type NoMemory = std::alloc::AllocError;
-
-#[cfg(test)]
-mod tests;

@@ -17,6 +17,3 @@ pub use networks::Network;
 
 /// What a call that allocates can fail with.
 pub type NoMemory = std::alloc::AllocError;
-
-#[cfg(test)]
-mod tests;

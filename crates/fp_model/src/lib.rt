@@ -25,6 +25,3 @@ pub use weights::{SCALE, weight};
 
 /// The error of a call that finds no memory.
 pub type NoMemory = std::alloc::AllocError;
-
-#[cfg(test)]
-mod tests;

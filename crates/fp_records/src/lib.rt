@@ -14,6 +14,3 @@ pub use reading::{Record, records};
 
 /// There was not enough memory.
 pub type NoMemory = std::alloc::AllocError;
-
-#[cfg(test)]
-mod tests;
