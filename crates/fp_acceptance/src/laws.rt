@@ -1,4 +1,5 @@
-ghost use Rattle.fp_checker.specs.Claims.{AcceptedClaims};
+//! The law on accepted certificates, without a body: any crate may cite it.
+ghost use Rattle.fp_acceptance.specs.Claims.{AcceptedClaims};
 
 /// What an accepted certificate claims is true: of all plans that lie within the windows,
 /// whatever these are, and of all plans where the windows are the instance's own.

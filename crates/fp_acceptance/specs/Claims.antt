@@ -1,5 +1,6 @@
 -- What an accepted certificate claims.
--- The problem: Boland, Hewitt, Marshall and Savelsbergh, "The Continuous-Time Service Network Design Problem", Operations Research 65, 2017.
+-- The problem: Boland, Hewitt, Marshall and Savelsbergh, "The Continuous-Time Service Network
+-- Design Problem", Operations Research 65, 2017.
 use Rattle.std.specs.Prelude.{ℕ, ◌≤◌, List, Option}
 use Rattle.fp_model.specs.declared.parts.Leg.{Leg}
 use Rattle.fp_model.specs.Costs.{cost}
@@ -12,7 +13,7 @@ use Rattle.fp_lines.specs.declared.certificates.Answer.{Answer}
 use Rattle.fp_lines.specs.declared.certificates.Answer.TheVariants.{Direct, Optimal, Unfinished, Infeasible}
 use Rattle.fp_lines.specs.Ranges.{IsInRange}
 use Rattle.fp_lines.specs.Statements.{Statement}
-use Rattle.fp_checker.specs.Accepted.{IsAccepted}
+use Rattle.fp_acceptance.specs.Accepted.{IsAccepted}
 
 -- over every denominator, no plan that lies within the windows costs less than c
 abbrev pub NoPlanWithinCheaper : Problem → (ℕ → ℕ → Option Window) → ℕ → Type 0
@@ -32,7 +33,8 @@ Claims p (Optimal cost) = NoPlanCheaper p cost
 Claims p (Unfinished cost bound spent) = NoPlanCheaper p bound
 Claims p (Infeasible shipment time) = PlanExists p → ⊥
 
--- what an accepted certificate claims is true, of the plans within the windows, and of all plans where these are the instance's own
+-- what an accepted certificate claims is true, of the plans within the windows, and of all plans
+-- where these are the instance's own
 pub record AcceptedClaims : Type 0 where
   pub within : (p : Problem) (table : WindowTable) (c : Statement) → IsValid p → IsInRange p c → IsAccepted p table c → ClaimsWithin p (windows_in table) c.answer
   pub whole : (p : Problem) (table : WindowTable) (c : Statement) → IsValid p → IsInRange p c → IsAccepted p table c → AreWindows p (windows_in table) → Claims p c.answer

@@ -31,10 +31,10 @@ use Rattle.fp_lines.specs.declared.certificates.Node.{Node}
 use Rattle.fp_lines.specs.declared.certificates.Node.TheVariants as node
 use Rattle.fp_lines.specs.Ranges.{IsAnswerInRange, IsInRange}
 use Rattle.fp_lines.specs.Statements.{Statement}
-use Rattle.fp_checker.specs.Accepted.{Applies, IsAccepted, IsBlockedAs, IsTooLate, Part, claim_of}
-use Rattle.fp_checker.specs.Claims.{AcceptedClaims, Claims, ClaimsWithin, NoPlanWithinCheaper}
-use Rattle.fp_checker.specs.Leaves.{AreLeavesWorth, HasTree, IsLeafWorth, fork_of, split_tail}
-use Rattle.fp_checker.specs.Points.{points_as_of}
+use Rattle.fp_acceptance.specs.Accepted.{Applies, IsAccepted, IsBlockedAs, IsTooLate, Part, claim_of}
+use Rattle.fp_acceptance.specs.Claims.{AcceptedClaims, Claims, ClaimsWithin, NoPlanWithinCheaper}
+use Rattle.fp_acceptance.specs.Leaves.{AreLeavesWorth, HasTree, IsLeafWorth, fork_of, split_tail}
+use Rattle.fp_acceptance.specs.Points.{points_as_of}
 
 -- where some element is one and all are the other, one is both
 any-of-all : {X : Type 0} (P Q : X → Type 0) (goal : Type 0) → ((x : X) → P x → Q x → goal) → (xs : List X) → AnyByRecursion P xs → AllByRecursion Q xs → goal
@@ -119,13 +119,13 @@ claims-whole p windows (Unfinished cost bound spent) cover within = λ d plan so
 claims-whole p windows (Infeasible shipment time) cover within = within
 
 -- what an accepted certificate claims of the plans within the windows is true
-pub accepted-claims-within : (p : Problem) (table : WindowTable) (c : Statement) → IsValid p → IsInRange p c → IsAccepted p table c → ClaimsWithin p (windows_in table) c.answer
-accepted-claims-within p table c valid range accepted = claims-within p table c c.answer refl valid range.answer accepted
+pub IsAccepted-ClaimsWithin : (p : Problem) (table : WindowTable) (c : Statement) → IsValid p → IsInRange p c → IsAccepted p table c → ClaimsWithin p (windows_in table) c.answer
+IsAccepted-ClaimsWithin p table c valid range accepted = claims-within p table c c.answer refl valid range.answer accepted
 
 -- and where the windows are the instance's own, so is what it claims of all plans
-pub accepted-claims-whole : (p : Problem) (table : WindowTable) (c : Statement) → IsValid p → IsInRange p c → IsAccepted p table c → AreWindows p (windows_in table) → Claims p c.answer
-accepted-claims-whole p table c valid range accepted are =
-    claims-whole p table c.answer (CoverPlans-from_windows p (windows_in table) are) (accepted-claims-within p table c valid range accepted)
+pub IsAccepted-Claims : (p : Problem) (table : WindowTable) (c : Statement) → IsValid p → IsInRange p c → IsAccepted p table c → AreWindows p (windows_in table) → Claims p c.answer
+IsAccepted-Claims p table c valid range accepted are =
+    claims-whole p table c.answer (CoverPlans-from_windows p (windows_in table) are) (IsAccepted-ClaimsWithin p table c valid range accepted)
 
-pub accepted-claims : AcceptedClaims
-accepted-claims = record { within = accepted-claims-within; whole = accepted-claims-whole }
+pub AcceptedClaims_hold : AcceptedClaims
+AcceptedClaims_hold = record { within = IsAccepted-ClaimsWithin; whole = IsAccepted-Claims }
