@@ -1,5 +1,6 @@
 -- What `check` shows.
 use Rattle.std.specs.Prelude.{ℕ, ◌≡◌, [], Option, Some, None}
+use Rattle.fp_model.specs.declared.limits.TheConstants.{SCALE}
 use Rattle.fp_model.specs.Problem.{Problem}
 use Rattle.fp_flatnet.specs.Belonging.{BelongsTo}
 use Rattle.fp_flatnet.specs.Tables.{WindowTable, windows_in}
@@ -22,9 +23,9 @@ answer_kind (answer.Optimal cost) = kind.Optimal
 answer_kind (answer.Unfinished cost bound spent) = kind.Unfinished
 answer_kind (answer.Infeasible shipment time) = kind.Infeasible
 
--- the scale that a certificate names, and 1,000,000 where it names none
+-- the scale that a certificate names, and the usual one where it names none
 abbrev pub scale_of : Option ℕ → ℕ
-scale_of None = 1000000
+scale_of None = SCALE
 scale_of (Some scale) = scale
 
 -- the instance with a certificate's scale

@@ -42,11 +42,11 @@ Takes limit old new result =
     (input : List ℕ) × TellsInput old input
     × MatchBool (nat_lt limit (length input)) (result ≡ None) (IsAtEnd new × IsSomeAnd result (λ bytes. bytes.items ≡ input))
 
--- No more bytes came than the limit.
+-- No more bytes were taken than the limit.
 abbrev pub TakesWithin : ℕ → Option (List ℕ) → Option (List ℕ) → Type 0
 TakesWithin limit old new = (taken : List ℕ) × Consumes old new taken × (length taken ≤ limit)
 
--- One byte more than the limit came.
+-- One byte more than the limit was taken.
 abbrev pub TakesOneMore : ℕ → Option (List ℕ) → Option (List ℕ) → Type 0
 TakesOneMore limit old new = (taken : List ℕ) × Consumes old new taken × (length taken ≡ limit + 1)
 

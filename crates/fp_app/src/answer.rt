@@ -1,5 +1,5 @@
 //! The answer to an order, from the source's bytes.
-ghost use Rattle.std.specs.Prelude.{◌≡◌, ◌≤◌, IfOk, Some, IsErrOf, Ok};
+ghost use Rattle.std.specs.Prelude.{◌≡◌, ◌+◌, ◌≤◌, IfOk, Some, IsErrOf, Ok};
 ghost use Rattle.fp_ends.specs.Causes.{Rose};
 ghost use Rattle.fp_app.specs.Inputs.{limit_of};
 ghost use Rattle.fp_app.specs.declared.limits.TheConstants.{CHECK_LIMIT, DIRECT_LIMIT};
@@ -21,6 +21,7 @@ pub fn answer<S: Source>(alloc: Global, words: &[String], source: &mut S) -> Res
     ensures shown { IfOk result (λ shown. Answers (order_of (texts words.now)) (S.left source.old) (S.left source.new) shown) }
     ensures printable { IfOk result IsPrintable }
     ensures later { S.faults source.old ≤ S.faults source.new }
+    ensures within { TakesWithin (limit_of (order_of (texts words.now)) + 1) (S.left source.old) (S.left source.new) }
     ensures fault { IsErrOf result Failure.ReadFault
         → Rose (S.faults source.old) (S.faults source.new) }
     ensures fault_within { IsErrOf result Failure.ReadFault
@@ -42,6 +43,7 @@ fn answer_direct<S: Source>(alloc: Global, source: &mut S) -> Result<Shown, Fail
     ensures shown { IfOk result (Answers (Some Order.Direct) (S.left source.old) (S.left source.new)) }
     ensures printable { IfOk result IsPrintable }
     ensures later { S.faults source.old ≤ S.faults source.new }
+    ensures within { TakesWithin (DIRECT_LIMIT + 1) (S.left source.old) (S.left source.new) }
     ensures fault { IsErrOf result Failure.ReadFault
         → Rose (S.faults source.old) (S.faults source.new) }
     ensures fault_within { IsErrOf result Failure.ReadFault
@@ -60,6 +62,7 @@ fn answer_check<S: Source>(alloc: Global, source: &mut S) -> Result<Shown, Failu
     ensures shown { IfOk result (Answers (Some Order.Check) (S.left source.old) (S.left source.new)) }
     ensures printable { IfOk result IsPrintable }
     ensures later { S.faults source.old ≤ S.faults source.new }
+    ensures within { TakesWithin (CHECK_LIMIT + 1) (S.left source.old) (S.left source.new) }
     ensures fault { IsErrOf result Failure.ReadFault
         → Rose (S.faults source.old) (S.faults source.new) }
     ensures fault_within { IsErrOf result Failure.ReadFault

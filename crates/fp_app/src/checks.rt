@@ -10,13 +10,10 @@ use crate::{NoMemory, Shown};
 use fp_certificate::{CertFault, Certificate, read};
 use fp_checker::{Rejected, check};
 use fp_flatnet::Windows;
-use fp_model::Instance;
+use fp_model::{Instance, SCALE};
 use fp_reader::{InputFault, Read, Tail, instance};
 use fp_records::{Record, records};
 use std::alloc::{AllocError, Global};
-
-// The scale of a certificate that names none.
-const DEFAULT_SCALE: u32 = 1_000_000;
 
 /// What an input gives.
 #[derive(Drop)]
@@ -108,6 +105,6 @@ fn scale_of(certificate: &Certificate) -> u32
 {
     match certificate.scale {
         Some(scale) => scale,
-        None => DEFAULT_SCALE,
+        None => SCALE as u32,
     }
 }

@@ -1,5 +1,5 @@
 //! The bytes of an input.
-ghost use Rattle.std.specs.Prelude.{◌≡◌, ◌≤◌, IfOk, IsErrOf, None, Ok};
+ghost use Rattle.std.specs.Prelude.{◌≡◌, ◌+◌, ◌≤◌, IfOk, IsErrOf, None, Ok};
 ghost use Rattle.fp_ends.specs.Causes.{Rose};
 ghost use Rattle.fp_app.specs.Runs.{Takes, TakesOneMore, TakesWithin};
 
@@ -8,7 +8,7 @@ use fp_ends::{ReadEnd, Source, read_all};
 use std::alloc::Global;
 
 /// All bytes of the source, or `None` where there are more than the limit. Then one more than the
-/// limit was taken, and before a failed read no more than the limit.
+/// limit was taken, and before a failed read no more than the limit; never more than one past it.
 pub fn take_input<S: Source>(
     alloc: Global,
     source: &mut S,
@@ -16,6 +16,7 @@ pub fn take_input<S: Source>(
 ) -> Result<Option<Vec<u8>>, Failure>
     ensures taken { IfOk result (Takes limit (S.left source.old) (S.left source.new)) }
     ensures later { S.faults source.old ≤ S.faults source.new }
+    ensures within { TakesWithin (limit + 1) (S.left source.old) (S.left source.new) }
     ensures fault { IsErrOf result Failure.ReadFault
         → Rose (S.faults source.old) (S.faults source.new) }
     ensures fault_within { IsErrOf result Failure.ReadFault

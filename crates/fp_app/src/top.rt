@@ -1,5 +1,5 @@
 //! The top call.
-ghost use Rattle.std.specs.Prelude.{◌≡◌, ◌⊎◌, ◌<◌, ◌≤◌, ℕ, List, length, None, Some};
+ghost use Rattle.std.specs.Prelude.{◌≡◌, ◌⊎◌, ◌+◌, ◌<◌, ◌≤◌, ℕ, List, length, None, Some};
 ghost use Rattle.fp_ends.specs.Causes.{Rose};
 ghost use Rattle.fp_app.specs.Causes.{ShowsDone, ShowsFault, ShowsNo, ShowsNone, StatusOf};
 ghost use Rattle.fp_app.specs.Inputs.{limit_of};
@@ -44,7 +44,9 @@ pub fn run<S: Source, K: Sink>(alloc: Global, words: &[String], source: &mut S, 
     ensures reads_later { S.faults source.old ≤ S.faults source.new }
     ensures writes_later { K.faults sink.old ≤ K.faults sink.new }
 
-    // A failed read comes before the limit is passed, and one byte past it is enough to refuse.
+    // At most one byte past the limit is taken: none before a failed read, and one where the input is
+    // too long.
+    ensures takes_within { TakesWithin (limit_of (order_of (texts words.now)) + 1) (S.left source.old) (S.left source.new) }
     ensures fault_within { result.status ≡ Status.ReadFault
         → TakesWithin (limit_of (order_of (texts words.now))) (S.left source.old) (S.left source.new) }
     ensures long_within { result.shown ≡ Shown.TooLong
