@@ -14,8 +14,8 @@ use Rattle.fp_model.proofs.Ceilings.{div_ceil-least}
 use Rattle.fp_model.proofs.Places.{AllZip-places}
 use Rattle.fp_flatnet.specs.Tables.{WindowTable, windows_in}
 use Rattle.fp_flatnet.specs.Windows.{AreWindows, CoverPlans}
-use Rattle.fp_flatnet.proofs.InTime.{carried-time}
-use Rattle.fp_flatnet.proofs.Within.{CoverPlans-from_windows}
+use Rattle.fp_flatnet.proofs.PlanExistence.{carried_time}
+use Rattle.fp_flatnet.proofs.PlansInWindows.{CoverPlans-from_windows}
 use Rattle.fp_tree.specs.declared.sides.Side.{Side}
 use Rattle.fp_tree.specs.declared.sides.Split.{Split}
 use Rattle.fp_tree.specs.declared.sides.Split.TheVariants.{ByArc, ByTime}
@@ -84,7 +84,7 @@ worth-within p table c claim valid keep tree worth d plan some is within =
 too-late : (p : Problem) (s : Shipment) (time : Option ℕ) (d : ℕ) (legs : List Leg) → IsTooLate p s time → 1 ≤ d → Carries p d s legs → ⊥
 too-late p s None d legs is some carries = is.fastest (arcs_of legs) carries.route.leads
 too-late p s (Some t) d legs is some carries =
-    absurd (omega (arith, is.late, carried-time p d s legs some carries, is.fastest.least (arcs_of legs) carries.route.leads))
+    absurd (omega (arith, is.late, carried_time p d s legs some carries, is.fastest.least (arcs_of legs) carries.route.leads))
 
 no-plan : (p : Problem) (k : ℕ) (time : Option ℕ) → k < length p.shipments → IsTooLate p (shipment_at p k) time → PlanExists p → ⊥
 no-plan p k time exists is plan =

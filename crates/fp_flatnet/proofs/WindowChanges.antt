@@ -9,10 +9,11 @@ use Rattle.fp_model.specs.Numbered.{no_shipment, shipment_at}
 use Rattle.fp_model.specs.Problem.{Problem, no_arc, arc_at}
 use Rattle.fp_timenodes.specs.declared.places.Place.{Place}
 use Rattle.fp_timenodes.specs.Points.{IsPlace}
+use Rattle.fp_flatnet.specs.declared.window_tables.TheConstants.{MOST_ANCHORS}
 use Rattle.fp_flatnet.specs.declared.window_tables.Window.{Window}
 use Rattle.fp_flatnet.specs.Belonging.{BelongsTo, IsNarrowed}
 use Rattle.fp_flatnet.specs.Tables.{WindowTable, CanNarrow, tail_of, windows_in, with_entry, narrowed, closed}
-use Rattle.fp_flatnet.proofs.Entries.{entry-exists, entry-set_same, entry-set_other}
+use Rattle.fp_flatnet.proofs.WindowEntries.{entry-exists, entry-set_same, entry-set_other}
 
 -- what was narrowed still is where there are more anchors
 more-anchors : (p : Problem) (s : Shipment) (a : ℕ) (anchors others : List Place) (o : Option Window) → ((x : Place) → Contains anchors x → Contains others x) →
@@ -28,8 +29,8 @@ more-anchors p s a anchors others (Some w) keeps is = record {
 }
 
 -- a table with another entry, whose window has its anchor, belongs too
-pub BelongsTo-with_entry : (p : Problem) (table : WindowTable) (k a : ℕ) (o : Option Window) (anchors : List Place) → BelongsTo p table → k < length table.rows → a < length (slice_index_or table.rows k []) →
-    ((x : Place) → Contains table.anchors x → Contains anchors x) → length anchors ≤ 30000 → All (IsPlace (length p.terminals)) anchors →
+BelongsTo-with_entry : (p : Problem) (table : WindowTable) (k a : ℕ) (o : Option Window) (anchors : List Place) → BelongsTo p table → k < length table.rows → a < length (slice_index_or table.rows k []) →
+    ((x : Place) → Contains table.anchors x → Contains anchors x) → length anchors ≤ MOST_ANCHORS → All (IsPlace (length p.terminals)) anchors →
     IfSome o (IsNarrowed p (shipment_at p k) a anchors) → BelongsTo p (record { tails = table.tails; rows = with_entry table.rows k a o; anchors = anchors })
 BelongsTo-with_entry p table k a o anchors belongs shipment arc keeps few places new =
     let row : List (Option Window) = slice_index_or table.rows k [] in
@@ -85,7 +86,7 @@ narrowed-due : (p : Problem) (s : Shipment) (a lo hi : ℕ) (anchors : List Plac
 narrowed-due p s a lo hi anchors None can is = absurd can
 narrowed-due p s a lo hi anchors (Some w) can is = omega (arith, can.1, can.2, is.hi, is.is_window.hi)
 
-pub BelongsTo-narrowed : (p : Problem) (table : WindowTable) (k a lo hi : ℕ) → BelongsTo p table → CanNarrow table k a lo hi → length table.anchors < 30000 →
+pub BelongsTo-narrowed : (p : Problem) (table : WindowTable) (k a lo hi : ℕ) → BelongsTo p table → CanNarrow table k a lo hi → length table.anchors < MOST_ANCHORS →
     BelongsTo p (narrowed table k a lo hi)
 BelongsTo-narrowed p table k a lo hi belongs can few =
     let there = entry-exists table k a (λ w. (w.lo ≤ lo) × (lo ≤ hi) × (hi ≤ w.hi)) can in

@@ -4,18 +4,18 @@ use Rattle.fp_model.specs.declared.parts.Leg.{Leg}
 use Rattle.fp_model.specs.declared.parts.Shipment.{Shipment}
 use Rattle.fp_model.specs.Problem.{Problem, IsValid}
 use Rattle.fp_model.specs.Routes.{Leads, LeavesReady, ArrivesBy, Carries, walk_time, step, arcs_of}
-use Rattle.fp_flatnet.proofs.Walks.{IsLeastWalk, least-apart}
+use Rattle.fp_flatnet.proofs.LeastWalks.{IsLeastWalk, least-apart}
 
 -- legs along a walk: the first leaves when ready, each next one a step after the one before
 abbrev pub at_once : Problem → ℕ → List ℕ → List Leg
 at_once p ready [] = []
 at_once p ready (a ∷ arcs) = record { arc = a; depart = ready } ∷ at_once p (ready + step p a) arcs
 
-pub arcs_of-at_once : (p : Problem) (ready : ℕ) (arcs : List ℕ) → arcs_of (at_once p ready arcs) ≡ arcs
+arcs_of-at_once : (p : Problem) (ready : ℕ) (arcs : List ℕ) → arcs_of (at_once p ready arcs) ≡ arcs
 arcs_of-at_once p ready [] = refl
 arcs_of-at_once p ready (a ∷ arcs) = ap (λ (xs : List ℕ). a ∷ xs) (arcs_of-at_once p (ready + step p a) arcs)
 
-pub leaves-at_once : (p : Problem) (ready : ℕ) (arcs : List ℕ) → LeavesReady p 1 ready (at_once p ready arcs)
+leaves-at_once : (p : Problem) (ready : ℕ) (arcs : List ℕ) → LeavesReady p 1 ready (at_once p ready arcs)
 leaves-at_once p ready [] = tt
 leaves-at_once p ready (a ∷ arcs) =
     let same : ready + step p a ≡ ready + 1 * step p a = omega arith in (
@@ -23,7 +23,7 @@ leaves-at_once p ready (a ∷ arcs) =
       subst (λ (n : ℕ). LeavesReady p 1 n (at_once p (ready + step p a) arcs)) same (leaves-at_once p (ready + step p a) arcs),
     )
 
-pub arrives-at_once : (p : Problem) (ready due : ℕ) (arcs : List ℕ) → ready + walk_time p arcs ≤ due → ArrivesBy p 1 due (at_once p ready arcs)
+arrives-at_once : (p : Problem) (ready due : ℕ) (arcs : List ℕ) → ready + walk_time p arcs ≤ due → ArrivesBy p 1 due (at_once p ready arcs)
 arrives-at_once p ready due [] within = tt
 arrives-at_once p ready due (a ∷ []) within = omega (arith, within)
 arrives-at_once p ready due (a ∷ b ∷ arcs) within = arrives-at_once p (ready + step p a) due (b ∷ arcs) (omega (arith, within))
