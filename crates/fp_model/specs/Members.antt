@@ -1,15 +1,9 @@
 -- Legs that are named by their shipment and their place in its route, and groups of them.
 use Rattle.std.specs.Prelude.{ℕ, ◌+◌, ◌<◌, ◌≡◌, ◌⊎◌, List, [], ◌∷◌, ◌++◌, map, filter, All, AllPairs, Contains, length, slice_index_or}
-use Rattle.std.specs.declared.alloc.Global.{Global}
-use Rattle.std.specs.declared.vec.Vec.{Vec}
 use Rattle.fp_model.specs.declared.parts.Leg.{Leg}
 use Rattle.fp_model.specs.declared.parts.Member.{Member}
 use Rattle.fp_model.specs.Costs.{same_leg}
 use Rattle.fp_model.specs.Numbered.{leg_at, route_at}
-
--- groups, each as the list of its members
-abbrev pub group_lists : List (Vec Member Global) → List (List Member)
-group_lists groups = map (λ (g : Vec Member Global). g.items) groups
 
 -- a member comes before another: by its shipment, and then by its leg
 abbrev pub MemberComesBefore : Member → Member → Type 0

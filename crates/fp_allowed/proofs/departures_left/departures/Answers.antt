@@ -74,3 +74,6 @@ returns c =
     let p = c.args.instance.now in
     let all : c.loop-arc.arc ≡ length p.arcs = omega (arith, c.loop-arc-test.false, c.loop-arc.auto.arc-end, ap (λ (l : List Arc). length l) c.arcs.ensures.same) in
     c.loop-arc.invariant.0 ∙ ap (λ (n : ℕ). departures_below p (windows_in c.args.windows.now) c.args.sides.now c.args.shipment c.args.terminal n) all
+
+pub overflow_cast-arc-end : goal.overflow_cast-arc-end
+overflow_cast-arc-end c = omega (arith, c.requires.belongs.valid.parts.few_arcs, ap (λ (l : List Arc). length l) c.arcs.ensures.same)
