@@ -6,7 +6,7 @@ use Rattle.std.proofs.Math.Nat.{mul-le-mul}
 use Rattle.std.proofs.lemmas.List.{get_or-map, length-map, take_more}
 use Rattle.fp_labels.specs.Graphs.{HasEnds}
 use Rattle.fp_labels.specs.Labels.{IsSmallFor}
-use Rattle.fp_model.specs.declared.limits.TheConstants.{LONGEST_STEP}
+use Rattle.fp_model.specs.declared.limits.TheConstants.{LONGEST_STEP, MOST_TERMINALS}
 use Rattle.fp_flatnet.specs.declared.least_times.TheConstants.{LONGEST_LEAST_TIME}
 use Rattle.fp_model.specs.declared.parts.Arc.{Arc}
 use Rattle.fp_model.specs.Problem.{Problem, IsValid, no_arc, arc_at, hold_at}
@@ -36,8 +36,8 @@ costs-small p nodes valid same =
     λ k d lt.
     let there : k < length p.arcs = omega (arith, lt, length-map p.arcs (λ (x : Arc). Some (arc_step p x))) in
     let small : step p k ≤ LONGEST_STEP = omega (arith, (arc-valid p k valid there).within.time.1, hold-small p (arc_at p k).to valid) in
-    let few : nodes ≤ 100 = omega (arith, same, valid.few_terminals) in
-    let product : nodes * step p k ≤ 100 * LONGEST_STEP = mul-le-mul few small in
+    let few : nodes ≤ MOST_TERMINALS = omega (arith, same, valid.parts.few_terminals) in
+    let product : nodes * step p k ≤ MOST_TERMINALS * LONGEST_STEP = mul-le-mul few small in
     let P : Option ℕ → Type 0 = λ o. IsSmallFor nodes o in
     subst P (sym (get_or-map (λ (x : Arc). Some (arc_step p x)) p.arcs k no_arc d there)) (omega (arith, product))
 
