@@ -5,6 +5,8 @@ use Rattle.std.specs.List.{AllByRecursion}
 use Rattle.std.proofs.lemmas.Bool.{cases_lt}
 use Rattle.std.proofs.lemmas.List.{get_or_past}
 use Rattle.std.proofs.lemmas.List.Sums.{sum_by-cons, sum_by-le}
+use Rattle.fp_model.specs.declared.limits.TheConstants.{LONGEST_STEP}
+use Rattle.fp_flatnet.specs.declared.least_times.TheConstants.{LONGEST_LEAST_TIME}
 use Rattle.fp_model.specs.declared.parts.Arc.{Arc}
 use Rattle.fp_model.specs.Problem.{Problem, IsValid, IsArc, no_arc, arc_at, hold_at}
 use Rattle.fp_model.specs.Routes.{Leads, AreApart, walk_time, step, ends_of}
@@ -36,12 +38,12 @@ time-steps p here there [] apart leads = absurd (apart leads)
 time-steps p here there (a ∷ arcs) apart leads = steps-held p here there a arcs leads
 
 pub arc-valid : (p : Problem) (a : ℕ) → IsValid p → a < length p.arcs → IsArc (length p.terminals) (arc_at p a)
-arc-valid p a valid exists = valid.arcs a no_arc exists
+arc-valid p a valid exists = valid.parts.arcs a no_arc exists
 
 pub hold-small : (p : Problem) (terminal : ℕ) → IsValid p → hold_at p terminal ≤ 1000
 hold-small p terminal valid =
     ⊎_elim
-    (λ (inside : terminal < length p.holds). valid.holds terminal 0 inside)
+    (λ (inside : terminal < length p.holds). valid.parts.holds terminal 0 inside)
     (λ (past : length p.holds ≤ terminal).
     let none : hold_at p terminal ≡ 0 = get_or_past p.holds terminal 0 past in
     omega (arith, none))
@@ -119,16 +121,16 @@ abbrev capped_step : Problem → Arc → ℕ
 capped_step p a = min (1001 * a.time) (a.time + hold_at p a.to)
 
 -- walks of least time are short
-pub steps-small : (p : Problem) (here there : ℕ) (arcs : List ℕ) → IsValid p → IsLeastWalk p here there arcs → steps p arcs ≤ 101000000
+pub steps-small : (p : Problem) (here there : ℕ) (arcs : List ℕ) → IsValid p → IsLeastWalk p here there arcs → steps p arcs ≤ LONGEST_LEAST_TIME
 steps-small p here there arcs valid least =
     let at : ℕ → ℕ = λ a. capped_step p (get_or p.arcs a no_arc) in
     let exist : AllByRecursion (λ a. a < length p.arcs) arcs = Leads-exist p here arcs there least.leads in
     let once : AreApart arcs = AreApart-map (λ a. (arc_at p a).to) arcs (least-apart p here there arcs valid least).1 in
     let within : sum_by at arcs ≤ sum_by (capped_step p) p.arcs = sum_by-places-le (capped_step p) no_arc (omega arith) arcs p.arcs exist once in
-    let each : All (λ (x : Arc). capped_step p x ≤ 101000) p.arcs =
-    λ k d lt. omega (arith, hold-small p (get_or p.arcs k d).to valid, (valid.arcs k d lt).within.time.1) in
-    let few : length p.arcs * 101000 ≤ 101000000 = omega (arith, valid.few_arcs) in
-    omega (arith, within, few, sum_by-le (capped_step p) 101000 p.arcs each, all_steps arcs exist)
+    let each : All (λ (x : Arc). capped_step p x ≤ LONGEST_STEP) p.arcs =
+    λ k d lt. omega (arith, hold-small p (get_or p.arcs k d).to valid, (valid.parts.arcs k d lt).within.time.1) in
+    let few : length p.arcs * LONGEST_STEP ≤ LONGEST_LEAST_TIME = omega (arith, valid.parts.few_arcs) in
+    omega (arith, within, few, sum_by-le (capped_step p) LONGEST_STEP p.arcs each, all_steps arcs exist)
   where
     all_steps : (arcs : List ℕ) → AllByRecursion (λ a. a < length p.arcs) arcs → steps p arcs ≡ sum_by (λ a. capped_step p (get_or p.arcs a no_arc)) arcs
     all_steps [] exist = refl
@@ -137,12 +139,12 @@ steps-small p here there arcs valid least =
         let held : hold_at p (arc_at p a).to ≤ 1000 = hold-small p (arc_at p a).to valid in
         omega (arith, within, held, all_steps arcs exist.1, sum_by-cons (λ b. capped_step p (get_or p.arcs b no_arc)) a arcs)
 
-pub time-le-steps : (p : Problem) (arcs : List ℕ) → walk_time p arcs ≤ steps p arcs
+time-le-steps : (p : Problem) (arcs : List ℕ) → walk_time p arcs ≤ steps p arcs
 time-le-steps p [] = omega arith
 time-le-steps p (a ∷ []) = omega arith
 time-le-steps p (a ∷ b ∷ arcs) = omega (arith, time-le-steps p (b ∷ arcs))
 
-pub time-small : (p : Problem) (here there t : ℕ) → IsValid p → IsLeastTime p here there t → t ≤ 101000000
+pub time-small : (p : Problem) (here there t : ℕ) → IsValid p → IsLeastTime p here there t → t ≤ LONGEST_LEAST_TIME
 time-small p here there t valid least =
     omega (arith, least.time, time-le-steps p least.arcs, steps-small p here there least.arcs valid (IsLeastWalk-from_time p here there t valid least))
 
@@ -152,7 +154,7 @@ IsLeastTime-unique p here there t u one two =
     omega (arith, one.least two.arcs two.leads, two.least one.arcs one.leads, one.time, two.time)
 
 -- a distance is short
-pub distance-small : (p : Problem) (here there : ℕ) (o : Option ℕ) (t : ℕ) → IsValid p → IsDistance p here there o → o ≡ Some t → t ≤ 101000000
+pub distance-small : (p : Problem) (here there : ℕ) (o : Option ℕ) (t : ℕ) → IsValid p → IsDistance p here there o → o ≡ Some t → t ≤ LONGEST_LEAST_TIME
 distance-small p here there o t valid is same =
     let least : IsLeastTime p here there t = subst (λ (x : Option ℕ). IsDistance p here there x) same is in
     time-small p here there t valid least

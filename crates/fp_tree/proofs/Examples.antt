@@ -5,7 +5,7 @@ use Rattle.fp_tree.specs.declared.sides.Split.TheVariants.{ByArc, ByTime}
 use Rattle.fp_tree.specs.declared.sides.Side.TheVariants.{Without, Only, Before, From}
 use Rattle.fp_tree.specs.declared.ways.Step.{Step}
 use Rattle.fp_tree.specs.Sides.{Exit, Fork, Meets}
-use Rattle.fp_tree.specs.Trees.{Leaf, IsTree, tree_leaves, tree_splits, with_leaf}
+use Rattle.fp_tree.specs.Trees.{Branch, Leaf, IsTree, splits_before, tree_branches, tree_leaves, tree_splits, with_leaf}
 use Rattle.fp_tree.specs.Ways.{way_sides, pending_on}
 
 -- A node is its fork, if it has one.
@@ -40,11 +40,21 @@ by_time : tree_leaves itself (with_leaf itself (λ x. Some (record { split = ByT
     ≡ (record { node = None; sides = Without 0 4 ∷ [] }) ∷ (record { node = None; sides = Only 0 4 9 ∷ Before 1 7 30 ∷ [] }) ∷ (record { node = None; sides = Only 0 4 9 ∷ From 1 7 30 ∷ [] }) ∷ []
 by_time = refl
 
+-- The two splits of the tree after that: the first at the root, the new one below its second side.
+by_time_splits : tree_branches itself (with_leaf itself (λ x. Some (record { split = ByTime 1 7 30; tail = 0 }) ∷ None ∷ None ∷ []) 1 (by_arc 0 ∷ None ∷ None ∷ []))
+    ≡ (record { node = by_arc 0; sides = [] }) ∷ (record { node = Some (record { split = ByTime 1 7 30; tail = 0 }); sides = Only 0 4 9 ∷ [] }) ∷ []
+by_time_splits = refl
+
+-- The new one stands after the one split before the leaf.
+one_before : splits_before itself 1 (by_arc 0 ∷ None ∷ None ∷ []) ≡ 1
+one_before = refl
+
 -- A step at the split by the arc.
 abbrev step_by : ℕ → Bool → Step
 step_by shipment later = record { split = ByArc shipment 4; tail = 9; later = later }
 
--- First side, second side, first side: the nearest tree to come is under the last step, the other under the first.
+-- First side, second side, first side: the nearest tree to come is under the last step, the other
+-- under the first.
 abbrev mixed : List Step
 mixed = step_by 0 false ∷ step_by 1 true ∷ step_by 2 false ∷ []
 

@@ -17,7 +17,7 @@ use Rattle.fp_flatnet.proofs.LeastWalks.{IsLeastWalk-from_time, IsLeastTime-uniq
 use Rattle.fp_flatnet.proofs.PromptLegs.{at_once, carries-at_once}
 
 -- a shipment in time can be carried
-pub carries_in-time : (p : Problem) (s : Shipment) → IsValid p → s.from ≢ s.to → IsInTime p s → (legs : List Leg) × Carries p 1 s legs
+carries_in-time : (p : Problem) (s : Shipment) → IsValid p → s.from ≢ s.to → IsInTime p s → (legs : List Leg) × Carries p 1 s legs
 carries_in-time p s valid ends in_time =
     let least : IsLeastTime p s.from s.to in_time.0 = in_time.1 in (
       at_once p s.release least.arcs,
@@ -36,7 +36,7 @@ carried-all p n valid (s ∷ ss) shipments in_time =
 
 pub PlanExists-from_in_time : (p : Problem) → IsValid p → AllInTime p → PlanExists p
 PlanExists-from_in_time p valid in_time =
-    let plan = carried-all p (length p.terminals) valid p.shipments (λ k lt. valid.shipments k no_shipment lt) (λ k lt. in_time k no_shipment lt) in
+    let plan = carried-all p (length p.terminals) valid p.shipments (λ k lt. valid.parts.shipments k no_shipment lt) (λ k lt. in_time k no_shipment lt) in
     (1, plan.0, omega arith, plan.1)
 
 -- what leaves ready and arrives by the due time has the time of its walk

@@ -5,6 +5,7 @@ use Rattle.std.proofs.lemmas.List.{take_at, drop_at, set_at, get_or_at, drop_mor
 use Rattle.fp_tree.specs.declared.layout.Kind.{Kind}
 use Rattle.fp_tree.specs.declared.layout.Kind.TheVariants.{Divided as DividedKind, Leaf as LeafKind}
 use Rattle.fp_tree.specs.declared.layout.LeafState.{LeafState}
+use Rattle.fp_tree.specs.declared.layout.TheConstants.{MOST_SPLITS}
 use Rattle.fp_tree.specs.declared.sides.Split.{Split}
 use Rattle.fp_tree.specs.Trees.{with_leaf}
 use Rattle.fp_tree.specs.Nodes.{Node, fork_of, divide_leaf}
@@ -13,18 +14,18 @@ use Rattle.fp_tree.proofs.JoinedNodes.{count_by-kinds}
 use Rattle.fp_tree.proofs.StateChanges.{Cut, cut, AreMatched-append, AreTrees-divided, joined-divided}
 
 -- an insert between two parts
-pub insert_at : {X : Type 0} (front back : List X) (n : ℕ) (x : X) → length front ≡ n → insert (front ++ back) n x ≡ front ++ x ∷ back
+insert_at : {X : Type 0} (front back : List X) (n : ℕ) (x : X) → length front ≡ n → insert (front ++ back) n x ≡ front ++ x ∷ back
 insert_at {X} front back n x is =
     ap (λ (xs : List X). xs ++ x ∷ drop n (front ++ back)) (take_at front back n is) ∙ ap (λ (xs : List X). front ++ x ∷ xs) (drop_at front back n is)
 
 -- the kinds round a leaf
-pub round_leaf : (kinds : List Kind) (k place : ℕ) → IsPlaceOfLeaf kinds k place → kinds ≡ take place kinds ++ (LeafKind ∷ drop (place + 1) kinds)
+round_leaf : (kinds : List Kind) (k place : ℕ) → IsPlaceOfLeaf kinds k place → kinds ≡ take place kinds ++ (LeafKind ∷ drop (place + 1) kinds)
 round_leaf kinds k place at =
     sym (take-append-drop place kinds)
     ∙ ap (λ (rest : List Kind). take place kinds ++ rest) (drop_more kinds place LeafKind at.there ∙ ap (λ (kind : Kind). kind ∷ drop (place + 1) kinds) at.is_leaf)
 
 -- two inserts at a leaf
-pub kinds_divided : (kinds before after : List Kind) (place : ℕ) (by : Kind) → kinds ≡ before ++ (LeafKind ∷ after) → length before ≡ place →
+kinds_divided : (kinds before after : List Kind) (place : ℕ) (by : Kind) → kinds ≡ before ++ (LeafKind ∷ after) → length before ≡ place →
     insert (insert kinds place by) (place + 1) LeafKind ≡ before ++ (by ∷ LeafKind ∷ LeafKind ∷ after)
 kinds_divided kinds before after place by are is =
     ap (λ (ks : List Kind). insert (insert ks place by) (place + 1) LeafKind) are
@@ -34,24 +35,24 @@ kinds_divided kinds before after place by are is =
 
 module _ {T : Type 0} where
   -- two states in place of one
-  pub states_divided : (states front back : List (LeafState T)) (k : ℕ) (s one two : LeafState T) → states ≡ front ++ (s ∷ back) → length front ≡ k →
+  states_divided : (states front back : List (LeafState T)) (k : ℕ) (s one two : LeafState T) → states ≡ front ++ (s ∷ back) → length front ≡ k →
       insert (set states k two) k one ≡ front ++ (one ∷ two ∷ back)
   states_divided states front back k s one two are is =
       ap (λ (ss : List (LeafState T)). insert (set ss k two) k one) are
       ∙ ap (λ (ss : List (LeafState T)). insert ss k one) (set_at front s back two k is) ∙ insert_at front (two ∷ back) k one is
 
   -- one payload more
-  pub payloads_divided : (payloads fore aft : List T) (n : ℕ) (p q : T) → payloads ≡ fore ++ aft → length fore ≡ n → p ≡ q → insert payloads n p ≡ fore ++ (q ∷ aft)
+  payloads_divided : (payloads fore aft : List T) (n : ℕ) (p q : T) → payloads ≡ fore ++ aft → length fore ≡ n → p ≡ q → insert payloads n p ≡ fore ++ (q ∷ aft)
   payloads_divided payloads fore aft n p q are is same =
       ap (λ (ps : List T). insert ps n p) are ∙ insert_at fore aft n p is ∙ ap (λ (r : T). fore ++ (r ∷ aft)) same
 
   -- the payload of the state at a number
-  pub payload_at : (states front back : List (LeafState T)) (k : ℕ) (s d : LeafState T) (payload : T) → states ≡ front ++ (s ∷ back) → length front ≡ k → (get_or states k d).payload ≡ payload → payload ≡ s.payload
+  payload_at : (states front back : List (LeafState T)) (k : ℕ) (s d : LeafState T) (payload : T) → states ≡ front ++ (s ∷ back) → length front ≡ k → (get_or states k d).payload ≡ payload → payload ≡ s.payload
   payload_at states front back k s d payload are is read =
       sym read ∙ ap (λ (ss : List (LeafState T)). (get_or ss k d).payload) are ∙ ap (λ (x : LeafState T). x.payload) (get_or_at front s back d k is)
 
   -- the first state of a leaf that begins the kinds
-  pub first_state : (after : List Kind) (states : List (LeafState T)) (payloads : List T) → AreMatched (LeafKind ∷ after) states payloads →
+  first_state : (after : List Kind) (states : List (LeafState T)) (payloads : List T) → AreMatched (LeafKind ∷ after) states payloads →
       (s : LeafState T) × (back : List (LeafState T)) × (states ≡ s ∷ back) × AreMatched after back payloads
   first_state after [] payloads m = absurd m
   first_state after (s ∷ back) payloads m = (s, back, refl, m)
@@ -69,9 +70,9 @@ module _ {T : Type 0} where
       (subst (λ (ss : List (LeafState T)). IsSeen kinds ss those nodes) (sym f) (subst (λ (ps : List T). IsSeen kinds states ps nodes) (sym g) h))
 
   -- a leaf becomes a split, where the lists have these parts
-  pub IsSeen-parts : (kinds before after : List Kind) (states front back : List (LeafState T)) (payloads fore aft : List T) (s one two : LeafState T) (split : Split) (tail k : ℕ) (nodes : List (Node T)) →
+  IsSeen-parts : (kinds before after : List Kind) (states front back : List (LeafState T)) (payloads fore aft : List T) (s one two : LeafState T) (split : Split) (tail k : ℕ) (nodes : List (Node T)) →
       IsSeen kinds states payloads nodes → kinds ≡ before ++ (LeafKind ∷ after) → states ≡ front ++ (s ∷ back) → payloads ≡ fore ++ aft →
-      AreMatched before front fore → AreMatched after back aft → length front ≡ k → length payloads < 100000 →
+      AreMatched before front fore → AreMatched after back aft → length front ≡ k → length payloads < MOST_SPLITS →
       IsSeen (before ++ (DividedKind split tail ∷ LeafKind ∷ LeafKind ∷ after)) (front ++ (one ∷ two ∷ back)) (fore ++ (s.payload ∷ aft))
       (with_leaf fork_of (divide_leaf (record { split = split; tail = tail }) (leaf_node one) (leaf_node two)) k nodes)
   IsSeen-parts kinds before after states front back payloads fore aft s one two split tail k nodes whole kinds_are states_are payloads_are m n number few =
@@ -100,7 +101,7 @@ module _ {T : Type 0} where
 
   -- the lists once the leaf k at a place has become a split
   pub IsSeen-divided : (kinds : List Kind) (states : List (LeafState T)) (payloads : List T) (nodes : List (Node T)) (k place : ℕ) (one two d : LeafState T) (split : Split) (tail : ℕ) (payload : T) →
-      IsSeen kinds states payloads nodes → length payloads < 100000 → IsPlaceOfLeaf kinds k place → (get_or states k d).payload ≡ payload →
+      IsSeen kinds states payloads nodes → length payloads < MOST_SPLITS → IsPlaceOfLeaf kinds k place → (get_or states k d).payload ≡ payload →
       IsSeen (insert (insert kinds place (DividedKind split tail)) (place + 1) LeafKind) (insert (set states k two) k one) (insert payloads (place - k) payload)
       (with_leaf fork_of (divide_leaf (record { split = split; tail = tail }) (leaf_node one) (leaf_node two)) k nodes)
   IsSeen-divided kinds states payloads nodes k place one two d split tail payload old few at is =

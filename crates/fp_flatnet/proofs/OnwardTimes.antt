@@ -26,7 +26,7 @@ onward-le p there a rest t leads least =
     walked (b ∷ arcs) h away = omega (arith, least.least (b ∷ arcs) h)
 
 -- the arc and a least walk from its head take just that time
-pub onward-is : (p : Problem) (there a t : ℕ) → IsValid p → (least : IsLeastTime p (arc_at p a).to there t) → walk_time p (a ∷ least.arcs) ≡ time_onward p there a t
+onward-is : (p : Problem) (there a t : ℕ) → IsValid p → (least : IsLeastTime p (arc_at p a).to there t) → walk_time p (a ∷ least.arcs) ≡ time_onward p there a t
 onward-is p there a t valid least =
     ⊎_elim
     (λ (last : (nat_eq (arc_at p a).to there ≡ true) × ((arc_at p a).to ≡ there)).
@@ -47,7 +47,7 @@ onward-is p there a t valid least =
     walked (b ∷ arcs) leads time away = omega (arith, time)
 
 -- an arc whose time onward is the least time begins a least walk
-pub BeginsLeast-from_onward : (p : Problem) (there a t u : ℕ) → IsValid p → a < length p.arcs → IsLeastTime p (arc_at p a).from there t → IsLeastTime p (arc_at p a).to there u →
+BeginsLeast-from_onward : (p : Problem) (there a t u : ℕ) → IsValid p → a < length p.arcs → IsLeastTime p (arc_at p a).from there t → IsLeastTime p (arc_at p a).to there u →
     time_onward p there a u ≡ t → BeginsLeast p (arc_at p a).from there a
 BeginsLeast-from_onward p there a t u valid exists least onward same = record {
   rest = onward.arcs;
@@ -56,7 +56,7 @@ BeginsLeast-from_onward p there a t u valid exists least onward same = record {
 }
 
 -- only such an arc does
-pub onward-from_begins : (p : Problem) (here there a t u : ℕ) → IsValid p → IsLeastTime p here there t → IsLeastTime p (arc_at p a).to there u →
+onward-from_begins : (p : Problem) (here there a t u : ℕ) → IsValid p → IsLeastTime p here there t → IsLeastTime p (arc_at p a).to there u →
     BeginsLeast p here there a → time_onward p there a u ≡ t
 onward-from_begins p here there a t u valid least onward begins =
     let from_tail : Leads p here (a ∷ onward.arcs) there = (begins.leads.0, begins.leads.1, onward.leads) in
@@ -110,7 +110,3 @@ pub begins-tells : (p : Problem) (there a t u : ℕ) → IsValid p → a < lengt
     (time_onward p there a u ≡ t ↔ BeginsLeast p (arc_at p a).from there a)
 begins-tells p there a t u valid exists least onward =
     (BeginsLeast-from_onward p there a t u valid exists least onward, onward-from_begins p (arc_at p a).from there a t u valid least onward)
-
--- without a walk from its head the arc begins none
-pub begins-none_from_head : (p : Problem) (there a : ℕ) → IsDistance p (arc_at p a).to there None → BeginsLeast p (arc_at p a).from there a → ⊥
-begins-none_from_head p there a none begins = none begins.rest begins.leads.2

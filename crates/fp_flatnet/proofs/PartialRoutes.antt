@@ -22,17 +22,8 @@ pub record IsUnderway (p : Problem) (s : Shipment) (here ready : ℕ) (legs : Li
   pub in_time : here ≢ s.to → ready + left ≤ s.due
   pub so_far : (rest : List Leg) → IsDirectRoute p s.to here ready rest → IsDirectRoute p s.to s.from s.release (legs ++ rest)
 
-pub underway-start : (p : Problem) (s : Shipment) → IsShipment (length p.terminals) s → IsInTime p s → IsUnderway p s s.from s.release []
-underway-start p s shipment in_time = record {
-  inside = shipment.from;
-  left = in_time.0;
-  least = in_time.1;
-  in_time = λ away. in_time.2;
-  so_far = λ rest direct. direct;
-}
-
 -- an arc that begins a least walk to there does not leave from there
-pub begins-away : (p : Problem) (here there a : ℕ) → IsValid p → BeginsLeast p here there a → here ≢ there
+begins-away : (p : Problem) (here there a : ℕ) → IsValid p → BeginsLeast p here there a → here ≢ there
 begins-away p here there a valid begins =
     λ same.
     let within : 1 ≤ (arc_at p a).time = (arc-valid p a valid begins.leads.0).within.time.0 in
@@ -81,7 +72,7 @@ none-begins p there n here None none first = first
 none-begins p there n here (Some a) none first = absurd (none a refl)
 
 -- how much time is left
-pub time-left : (p : Problem) (s : Shipment) (here ready : ℕ) (legs : List Leg) (times : List (Option ℕ)) → AreTimesTo p s.to times → (under : IsUnderway p s here ready legs) →
+time-left : (p : Problem) (s : Shipment) (here ready : ℕ) (legs : List Leg) (times : List (Option ℕ)) → AreTimesTo p s.to times → (under : IsUnderway p s here ready legs) →
     time_at times here ≡ Some under.left
 time-left p s here ready legs times are under = IsDistance-unique p here s.to (time_at times here) (Some under.left) (are.exact here under.inside) under.least
 

@@ -67,7 +67,8 @@ module _ {T : Type 0} where
   length-states (DividedKind split tail ∷ kinds) states [] (suc n) m trees = absurd m
   length-states (DividedKind split tail ∷ kinds) states (p ∷ payloads) (suc n) m trees = omega (arith, length-states kinds states payloads (suc (suc n)) m trees)
 
-  -- the leaves among the kinds are as many as the states, and the kinds as many as states and payloads
+  -- the leaves among the kinds are as many as the states, and the kinds as many as states and
+  -- payloads
   pub count_by-kinds : (kinds : List Kind) (states : List (LeafState T)) (payloads : List T) → AreMatched kinds states payloads →
       (count_by is_leaf_kind kinds ≡ length states) × (length kinds ≡ length states + length payloads)
   count_by-kinds [] [] [] m = (refl, refl)

@@ -23,7 +23,7 @@ module _ {T : Type 0} where
   AreMatched-set (DividedKind split tail ∷ kinds) states (p ∷ payloads) k s m = AreMatched-set kinds states payloads k s m
 
   -- another state changes that leaf
-  pub joined-set : (kinds : List Kind) (states : List (LeafState T)) (payloads : List T) (k : ℕ) (s new : LeafState T) (change : Node T → List (Node T)) → AreMatched kinds states payloads →
+  joined-set : (kinds : List Kind) (states : List (LeafState T)) (payloads : List T) (k : ℕ) (s new : LeafState T) (change : Node T → List (Node T)) → AreMatched kinds states payloads →
       slice_get states k ≡ Some s → change (leaf_node s) ≡ leaf_node new ∷ [] → joined_nodes kinds (set states k new) payloads ≡ with_leaf fork_of change k (joined_nodes kinds states payloads)
   joined-set [] [] payloads k s new change m is changed = absurd (none-some s is)
   joined-set [] (x ∷ states) payloads k s new change m is changed = absurd m

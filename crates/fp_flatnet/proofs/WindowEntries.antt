@@ -20,7 +20,7 @@ rows_of-set rows k a o v lt =
     ∙ ap (λ (row : List (Option Window)). slice_set (rows_of rows) k (slice_set row a o)) (sym (get_or-map items rows k v [] lt))
 
 -- full rows as lists
-pub full-row : (tails : List ℕ) (rows : List (Vec (Option Window) Global)) (k : ℕ) (v : Vec (Option Window) Global) → AreFull tails rows → k < length rows →
+full-row : (tails : List ℕ) (rows : List (Vec (Option Window) Global)) (k : ℕ) (v : Vec (Option Window) Global) → AreFull tails rows → k < length rows →
     length (slice_index_or (rows_of rows) k []) ≡ length tails
 full-row tails rows k v full lt =
     let items : Vec (Option Window) Global → List (Option Window) = λ r. r.items in

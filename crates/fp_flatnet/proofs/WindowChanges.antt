@@ -9,6 +9,7 @@ use Rattle.fp_model.specs.Numbered.{no_shipment, shipment_at}
 use Rattle.fp_model.specs.Problem.{Problem, no_arc, arc_at}
 use Rattle.fp_timenodes.specs.declared.places.Place.{Place}
 use Rattle.fp_timenodes.specs.Points.{IsPlace}
+use Rattle.fp_flatnet.specs.declared.window_tables.TheConstants.{MOST_ANCHORS}
 use Rattle.fp_flatnet.specs.declared.window_tables.Window.{Window}
 use Rattle.fp_flatnet.specs.Belonging.{BelongsTo, IsNarrowed}
 use Rattle.fp_flatnet.specs.Tables.{WindowTable, CanNarrow, tail_of, windows_in, with_entry, narrowed, closed}
@@ -28,8 +29,8 @@ more-anchors p s a anchors others (Some w) keeps is = record {
 }
 
 -- a table with another entry, whose window has its anchor, belongs too
-pub BelongsTo-with_entry : (p : Problem) (table : WindowTable) (k a : ℕ) (o : Option Window) (anchors : List Place) → BelongsTo p table → k < length table.rows → a < length (slice_index_or table.rows k []) →
-    ((x : Place) → Contains table.anchors x → Contains anchors x) → length anchors ≤ 30000 → All (IsPlace (length p.terminals)) anchors →
+BelongsTo-with_entry : (p : Problem) (table : WindowTable) (k a : ℕ) (o : Option Window) (anchors : List Place) → BelongsTo p table → k < length table.rows → a < length (slice_index_or table.rows k []) →
+    ((x : Place) → Contains table.anchors x → Contains anchors x) → length anchors ≤ MOST_ANCHORS → All (IsPlace (length p.terminals)) anchors →
     IfSome o (IsNarrowed p (shipment_at p k) a anchors) → BelongsTo p (record { tails = table.tails; rows = with_entry table.rows k a o; anchors = anchors })
 BelongsTo-with_entry p table k a o anchors belongs shipment arc keeps few places new =
     let row : List (Option Window) = slice_index_or table.rows k [] in
@@ -85,7 +86,7 @@ narrowed-due : (p : Problem) (s : Shipment) (a lo hi : ℕ) (anchors : List Plac
 narrowed-due p s a lo hi anchors None can is = absurd can
 narrowed-due p s a lo hi anchors (Some w) can is = omega (arith, can.1, can.2, is.hi, is.is_window.hi)
 
-pub BelongsTo-narrowed : (p : Problem) (table : WindowTable) (k a lo hi : ℕ) → BelongsTo p table → CanNarrow table k a lo hi → length table.anchors < 30000 →
+pub BelongsTo-narrowed : (p : Problem) (table : WindowTable) (k a lo hi : ℕ) → BelongsTo p table → CanNarrow table k a lo hi → length table.anchors < MOST_ANCHORS →
     BelongsTo p (narrowed table k a lo hi)
 BelongsTo-narrowed p table k a lo hi belongs can few =
     let there = entry-exists table k a (λ w. (w.lo ≤ lo) × (lo ≤ hi) × (hi ≤ w.hi)) can in
@@ -97,8 +98,8 @@ BelongsTo-narrowed p table k a lo hi belongs can few =
     let anchor : Place = record { terminal = slice_index table.tails a; at = lo } in
     let in_time : lo ≤ (shipment_at p k).due = narrowed-due p (shipment_at p k) a lo hi table.anchors (windows_in table k a) can was in
     let is_place : IsPlace (length p.terminals) anchor = (
-      omega (arith, tail, (belongs.valid.arcs a no_arc arc).from),
-      omega (arith, in_time, (belongs.valid.shipments k no_shipment shipment).within.due),
+      omega (arith, tail, (belongs.valid.parts.arcs a no_arc arc).from),
+      omega (arith, in_time, (belongs.valid.parts.shipments k no_shipment shipment).within.due),
     ) in
     BelongsTo-with_entry p table k a (Some (record { lo = lo; hi = hi })) (table.anchors ++ (anchor ∷ [])) belongs there.0 there.1
     (λ x contains. Contains-append_left table.anchors (anchor ∷ []) x contains)

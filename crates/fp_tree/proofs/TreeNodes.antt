@@ -23,7 +23,7 @@ module _ {T : Type 0} (kinds : List Kind) (states : List (LeafState T)) (payload
   leaves-kinds = length-leaves_of-kinds kinds states payloads ([] ∷ []) sound.matched sound.tree
 
   -- the leaves are those of the kinds, with their states
-  pub tree_leaves-seen : tree_leaves fork_of nodes ≡ with_states states (tree_leaves fork_of_kind kinds)
+  tree_leaves-seen : tree_leaves fork_of nodes ≡ with_states states (tree_leaves fork_of_kind kinds)
   tree_leaves-seen = ap (λ (ns : List (Node T)). tree_leaves fork_of ns) (sym seen) ∙ leaves_of-joined kinds states payloads ([] ∷ []) sound.matched
 
   -- there are as many leaves as states

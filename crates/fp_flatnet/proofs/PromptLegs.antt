@@ -11,11 +11,11 @@ abbrev pub at_once : Problem → ℕ → List ℕ → List Leg
 at_once p ready [] = []
 at_once p ready (a ∷ arcs) = record { arc = a; depart = ready } ∷ at_once p (ready + step p a) arcs
 
-pub arcs_of-at_once : (p : Problem) (ready : ℕ) (arcs : List ℕ) → arcs_of (at_once p ready arcs) ≡ arcs
+arcs_of-at_once : (p : Problem) (ready : ℕ) (arcs : List ℕ) → arcs_of (at_once p ready arcs) ≡ arcs
 arcs_of-at_once p ready [] = refl
 arcs_of-at_once p ready (a ∷ arcs) = ap (λ (xs : List ℕ). a ∷ xs) (arcs_of-at_once p (ready + step p a) arcs)
 
-pub leaves-at_once : (p : Problem) (ready : ℕ) (arcs : List ℕ) → LeavesReady p 1 ready (at_once p ready arcs)
+leaves-at_once : (p : Problem) (ready : ℕ) (arcs : List ℕ) → LeavesReady p 1 ready (at_once p ready arcs)
 leaves-at_once p ready [] = tt
 leaves-at_once p ready (a ∷ arcs) =
     let same : ready + step p a ≡ ready + 1 * step p a = omega arith in (
@@ -23,7 +23,7 @@ leaves-at_once p ready (a ∷ arcs) =
       subst (λ (n : ℕ). LeavesReady p 1 n (at_once p (ready + step p a) arcs)) same (leaves-at_once p (ready + step p a) arcs),
     )
 
-pub arrives-at_once : (p : Problem) (ready due : ℕ) (arcs : List ℕ) → ready + walk_time p arcs ≤ due → ArrivesBy p 1 due (at_once p ready arcs)
+arrives-at_once : (p : Problem) (ready due : ℕ) (arcs : List ℕ) → ready + walk_time p arcs ≤ due → ArrivesBy p 1 due (at_once p ready arcs)
 arrives-at_once p ready due [] within = tt
 arrives-at_once p ready due (a ∷ []) within = omega (arith, within)
 arrives-at_once p ready due (a ∷ b ∷ arcs) within = arrives-at_once p (ready + step p a) due (b ∷ arcs) (omega (arith, within))
