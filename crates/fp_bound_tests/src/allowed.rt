@@ -1,8 +1,6 @@
 //! The classes of two shipments over an arc, under no side and under sides.
 
-ghost use Rattle.std.specs.Prelude.{◌≡◌, ◌<◌, length};
 ghost use Rattle.fp_flatnet.specs.Belonging.{BelongsTo};
-ghost use Rattle.fp_longestarcs.specs.Networks.{class_count};
 ghost use Rattle.fp_longestarcs.specs.Whole.{IsWhole};
 
 use fp_allowed::{Allowed, ChainEnd, NoMemory, departures};
@@ -14,6 +12,9 @@ use fp_tree::{Side, Split};
 use std::alloc::Global;
 use std::test::Fail;
 
+// The bits of two classes, the end of a chain, a split at the first terminal, and departures there.
+type Found = ((bool, bool), ChainEnd, Option<Split>, u32);
+
 // What is found of a shipment under sides where there are two classes: the bits of both, the end
 // of its chain, its split at the first terminal, and its departures there.
 fn found(
@@ -23,25 +24,25 @@ fn found(
     network: &Network,
     shipment: u32,
     sides: &[Side],
-) -> Result<((bool, bool), ChainEnd, Option<Split>, u32), NoMemory>
+) -> Result<Option<Found>, NoMemory>
     requires belongs { BelongsTo instance.now windows.now }
     requires whole { IsWhole instance.now network.now }
-    requires two { class_count network.now ≡ 2 }
-    requires shipment { shipment < length instance.now.shipments }
 {
+    if shipment as usize >= instance.shipments().len() || network.classes() != 2 {
+        return Ok(None);
+    }
     let allowed = Allowed::new(instance, windows, network);
     let row = allowed.row(alloc, shipment, sides)?;
     let chain = allowed.forced(alloc, shipment, &row)?;
     let split = allowed.choice(shipment, &row, 0);
     let left = departures(alloc, instance, windows, shipment, 0, sides)?;
-    Ok(((row.get(0), row.get(1)), chain.end, split, left))
+    Ok(Some(((row.get(0), row.get(1)), chain.end, split, left)))
 }
 
 #[test]
 fn one_arc_under_sides(rt: HostRuntime) -> Result<(), Fail> {
     let alloc = rt.alloc();
     let instance = instance_of(alloc, PAIR)?;
-    assert!(rt; instance.shipments().len() == 2);
     let windows = Windows::of(alloc, &instance)?;
     let network = Network::of(alloc, &instance, &initial(alloc, &instance, &windows)?, 0)?;
     assert!(rt; network.classes() == 2);
@@ -55,12 +56,12 @@ fn one_arc_under_sides(rt: HostRuntime) -> Result<(), Fail> {
         terminal: 0,
         at: 3,
     };
-    let until_2 = Side::Before {
+    let early = Side::Before {
         shipment: 0,
         terminal: 0,
         at: 2,
     };
-    let from_2 = Side::From {
+    let later = Side::From {
         shipment: 0,
         terminal: 0,
         at: 2,
@@ -76,13 +77,13 @@ fn one_arc_under_sides(rt: HostRuntime) -> Result<(), Fail> {
     };
     let several = ChainEnd::Several { terminal: 0 };
     let stuck = ChainEnd::Stuck { terminal: 0 };
-    let at_3 = Some(Split::ByTime {
+    let at_three = Some(Split::ByTime {
         shipment: 0,
         terminal: 0,
         at: 3,
     });
     for (shipment, sides, want) in [
-        (0, [].as_slice(), ((true, true), several, at_3, 6)),
+        (0, [].as_slice(), ((true, true), several, at_three, 6)),
         (
             1,
             [].as_slice(),
@@ -100,20 +101,28 @@ fn one_arc_under_sides(rt: HostRuntime) -> Result<(), Fail> {
         ),
         (
             0,
-            [until_2, from_2].as_slice(),
+            [early, later].as_slice(),
             ((false, false), stuck, None, 0),
         ),
         (0, [without].as_slice(), ((false, false), stuck, None, 0)),
-        (0, [elsewhere].as_slice(), ((true, true), several, at_3, 6)),
+        (
+            0,
+            [elsewhere].as_slice(),
+            ((true, true), several, at_three, 6),
+        ),
         (
             1,
             [before].as_slice(),
             ((false, true), ChainEnd::Reached, None, 5),
         ),
     ] {
-        assert!(rt; shipment < 2);
         let is = found(alloc, &instance, &windows, &network, shipment, sides)?;
-        assert_eq!(rt; is, want, "shipment {shipment} under {} sides", sides.len());
+        assert_eq!(rt;
+            is,
+            Some(want),
+            "shipment {shipment} under {} sides",
+            sides.len()
+        );
     }
     Ok(())
 }

@@ -60,26 +60,58 @@ fn costs(rt: HostRuntime) -> Result<(), Fail> {
     Ok(())
 }
 
+// The load and the trucks of an arc at a time.
+fn departure_of(instance: &Instance, plan: &Plan, arc: u32, depart: u32) -> Option<(u128, u128)> {
+    if arc as usize >= instance.arcs().len() || test_plan(instance, plan).is_err() {
+        return None;
+    }
+    let carried = load(instance, plan, arc, depart);
+    Some((carried, trucks(instance, plan, arc, depart)))
+}
+
+// The time and the step of the arc, the hold of the terminal, and the size of the shipment with a
+// number.
+fn numbers_of(instance: &Instance, number: u32) -> Option<(u32, u32, u32, u64)> {
+    if number as usize >= instance.arcs().len()
+        || number as usize >= instance.terminals().len()
+        || number as usize >= instance.shipments().len()
+    {
+        return None;
+    }
+    let arc = instance.arc(number);
+    let shipment = instance.shipment(number);
+    Some((
+        arc.time,
+        instance.step(number),
+        instance.hold(number),
+        shipment.size,
+    ))
+}
+
+// The scale of the instance at another scale, where it fits.
+fn scaled_to(instance: Instance, scale: u32) -> Option<u32> {
+    if scale == 0 || scale > 1_000_000_000 || !instance.fits(scale) {
+        return None;
+    }
+    Some(instance.with_scale(scale).scale())
+}
+
 #[test]
 fn departures(rt: HostRuntime) -> Result<(), Fail> {
     let alloc = rt.alloc();
     let text =
-        "terminal,A\nterminal,B\narc,A,B,5,10,100,1\nshipment,S1,A,B,6,0,10\nshipment,S2,A,B,5,0,10\n";
+        "terminal,A,1\nterminal,B,2\narc,A,B,5,10,100,1\nshipment,S1,A,B,6,0,10\nshipment,S2,A,B,5,0,10\n";
     let instance = instance_of(alloc, text)?.copy(alloc)?;
-    assert!(rt; instance.terminals().len() == 2 && instance.arcs().len() == 1);
-    assert!(rt; instance.shipments().len() == 2);
     let routes = vec![in alloc; route_of(alloc, &[(0, 5)])?, route_of(alloc, &[(0, 5)])?]?;
     let plan = Plan { routes };
-    assert!(rt; test_plan(&instance, &plan).is_ok());
-    assert!(rt; load(&instance, &plan, 0, 5) == 11 && load(&instance, &plan, 0, 4) == 0);
-    assert!(rt; trucks(&instance, &plan, 0, 5) == 2 && trucks(&instance, &plan, 0, 4) == 0);
+    assert!(rt; departure_of(&instance, &plan, 0, 5) == Some((11, 2)));
+    assert!(rt; departure_of(&instance, &plan, 0, 4) == Some((0, 0)));
+    assert!(rt; numbers_of(&instance, 0) == Some((5, 7, 1, 6)));
+    assert!(rt; instance.horizon() == 10);
     let heavy = weight(instance.arcs(), instance.shipments());
     assert!(rt; heavy == Some(13_828_096_000_000));
-    assert!(rt; instance.horizon() == 10 && instance.hold(1) == 0);
-    assert!(rt; instance.arc(0).time == 5 && instance.shipment(1).size == 5);
-    assert!(rt; u128::from(instance.scale()) == SCALE && instance.fits(4_294_967_295));
-    assert!(rt; instance.fits(7));
-    assert!(rt; instance.with_scale(7).scale() == 7);
+    assert!(rt; u128::from(instance.scale()) == SCALE);
+    assert!(rt; scaled_to(instance, 7) == Some(7));
     Ok(())
 }
 

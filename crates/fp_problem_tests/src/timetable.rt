@@ -1,8 +1,8 @@
 //! The leg lines and truck lines of two plans over two arcs.
 
 use fp_examples::instance_of;
-use fp_model::{Leg, NoMemory, Plan, test_plan};
-use fp_timetable::{LegLine, TruckLine, legs, trucks};
+use fp_model::{Instance, Leg, NoMemory, Plan, test_plan};
+use fp_timetable::{LegLine, TruckLine, cost, legs, plan_cost, trucks};
 use std::alloc::Global;
 use std::test::Fail;
 
@@ -39,20 +39,49 @@ fn plan_with(alloc: Global, depart: u32) -> Result<Plan, NoMemory> {
     })
 }
 
+// The leg lines and the truck lines of a plan, and what it costs by both of the calls.
+#[derive(Drop)]
+struct Timetable {
+    legs: Vec<LegLine>,
+    trucks: Vec<TruckLine>,
+    costs: (u128, u128),
+}
+
+fn timetable_of(
+    alloc: Global,
+    instance: &Instance,
+    plan: &Plan,
+) -> Result<Option<Timetable>, NoMemory> {
+    if test_plan(instance, plan).is_err() {
+        return Ok(None);
+    }
+    let trucks = trucks(alloc, instance, plan)?;
+    let costs = (
+        cost(alloc, instance, plan)?,
+        plan_cost(instance, plan, &trucks),
+    );
+    let legs = legs(alloc, instance, plan)?;
+    Ok(Some(Timetable {
+        legs,
+        trucks,
+        costs,
+    }))
+}
+
 #[test]
 fn departures_apart(rt: HostRuntime) -> Result<(), Fail> {
     let alloc = rt.alloc();
     let instance = instance_of(alloc, TWO_ARCS)?;
-    let plan = plan_with(alloc, 2)?;
-    assert!(rt; test_plan(&instance, &plan).is_ok());
+    let told = timetable_of(alloc, &instance, &plan_with(alloc, 2)?)?.expect(&rt, "a plan");
     let leg_lines = [line(0, 0, 1, 6), line(1, 1, 2, 7), line(0, 1, 8, 13)];
-    assert!(rt; legs(alloc, &instance, &plan)?.as_slice() == leg_lines.as_slice());
+    assert!(rt; told.legs.as_slice() == leg_lines.as_slice());
     let truck_lines = [
         departure(0, 1, 1, 4),
         departure(1, 2, 1, 7),
         departure(1, 8, 1, 4),
     ];
-    assert!(rt; trucks(alloc, &instance, &plan)?.as_slice() == truck_lines.as_slice());
+    assert!(rt; told.trucks.as_slice() == truck_lines.as_slice());
+    assert_eq!(rt; told.costs, (315, 315));
     Ok(())
 }
 
@@ -60,11 +89,11 @@ fn departures_apart(rt: HostRuntime) -> Result<(), Fail> {
 fn departures_joined(rt: HostRuntime) -> Result<(), Fail> {
     let alloc = rt.alloc();
     let instance = instance_of(alloc, TWO_ARCS)?;
-    let plan = plan_with(alloc, 8)?;
-    assert!(rt; test_plan(&instance, &plan).is_ok());
+    let told = timetable_of(alloc, &instance, &plan_with(alloc, 8)?)?.expect(&rt, "a plan");
     let leg_lines = [line(0, 0, 1, 6), line(0, 1, 8, 13), line(1, 1, 8, 13)];
-    assert!(rt; legs(alloc, &instance, &plan)?.as_slice() == leg_lines.as_slice());
+    assert!(rt; told.legs.as_slice() == leg_lines.as_slice());
     let truck_lines = [departure(0, 1, 1, 4), departure(1, 8, 2, 11)];
-    assert!(rt; trucks(alloc, &instance, &plan)?.as_slice() == truck_lines.as_slice());
+    assert!(rt; told.trucks.as_slice() == truck_lines.as_slice());
+    assert_eq!(rt; told.costs, (315, 315));
     Ok(())
 }
