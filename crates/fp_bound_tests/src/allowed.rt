@@ -1,7 +1,7 @@
 //! The classes of two shipments over an arc, under no side and under sides.
 
 ghost use Rattle.fp_flatnet.specs.Belonging.{BelongsTo};
-ghost use Rattle.fp_longestarcs.specs.Whole.{IsWhole};
+ghost use Rattle.fp_longestarcs.specs.Whole.{IsWholeNetwork};
 
 use fp_allowed::{Allowed, ChainEnd, NoMemory, departures};
 use fp_examples::{PAIR, instance_of};
@@ -26,7 +26,7 @@ fn found(
     sides: &[Side],
 ) -> Result<Option<Found>, NoMemory>
     requires belongs { BelongsTo instance.now windows.now }
-    requires whole { IsWhole instance.now network.now }
+    requires whole { IsWholeNetwork instance.now network.now }
 {
     if shipment as usize >= instance.shipments().len() || network.classes() != 2 {
         return Ok(None);

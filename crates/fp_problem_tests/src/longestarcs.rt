@@ -1,6 +1,6 @@
 //! The network of a line of two arcs, refined, restored and lengthened.
 
-ghost use Rattle.fp_longestarcs.specs.Whole.{HasArcsOf, IsWhole};
+ghost use Rattle.fp_longestarcs.specs.Whole.{HasArcsOf, IsWholeNetwork};
 
 use fp_examples::{LINE, instance_of};
 use fp_flatnet::{Windows, initial};
@@ -56,8 +56,8 @@ fn lengthened(
     arc: u32,
     point: u32,
 ) -> Result<Option<Place>, NoMemory>
-    requires { IsWhole instance.now network.old }
-    ensures { IsWhole instance.now network.new }
+    requires { IsWholeNetwork instance.now network.old }
+    ensures { IsWholeNetwork instance.now network.new }
 {
     if arc as usize >= instance.arcs().len()
         || point > 1000
