@@ -31,10 +31,10 @@ use Rattle.fp_lines.specs.declared.certificates.Node.{Node}
 use Rattle.fp_lines.specs.declared.certificates.Node.TheVariants as node
 use Rattle.fp_lines.specs.Ranges.{IsAnswerInRange, IsInRange}
 use Rattle.fp_lines.specs.Statements.{Statement}
-use Rattle.fp_checker.specs.Accepted.{Applies, IsAccepted, IsBlockedAs, IsTooLate, Part, claim_of}
-use Rattle.fp_checker.specs.Claims.{AcceptedClaims, Claims, ClaimsWithin, NoPlanWithinCheaper}
-use Rattle.fp_checker.specs.Leaves.{AreLeavesWorth, HasTree, IsLeafWorth, fork_of, split_tail}
-use Rattle.fp_checker.specs.Points.{points_as_of}
+use Rattle.fp_acceptance.specs.Accepted.{Applies, IsAccepted, IsBlockedAs, IsTooLate, Part, claim_of}
+use Rattle.fp_acceptance.specs.Claims.{AcceptedClaims, Claims, ClaimsWithin, NoPlanWithinCheaper}
+use Rattle.fp_acceptance.specs.Leaves.{AreLeavesWorth, HasTree, IsLeafWorth, fork_of, split_tail}
+use Rattle.fp_acceptance.specs.Points.{points_as_of}
 
 -- where some element is one and all are the other, one is both
 any-of-all : {X : Type 0} (P Q : X → Type 0) (goal : Type 0) → ((x : X) → P x → Q x → goal) → (xs : List X) → AnyByRecursion P xs → AllByRecursion Q xs → goal
