@@ -1,3 +1,4 @@
+//! The law on accepted certificates, without a body: any crate may cite it.
 ghost use Rattle.fp_acceptance.specs.Claims.{AcceptedClaims};
 
 /// What an accepted certificate claims is true: of all plans that lie within the windows,

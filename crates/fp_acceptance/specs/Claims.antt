@@ -1,5 +1,6 @@
 -- What an accepted certificate claims.
--- The problem: Boland, Hewitt, Marshall and Savelsbergh, "The Continuous-Time Service Network Design Problem", Operations Research 65, 2017.
+-- The problem: Boland, Hewitt, Marshall and Savelsbergh, "The Continuous-Time Service Network
+-- Design Problem", Operations Research 65, 2017.
 use Rattle.std.specs.Prelude.{ℕ, ◌≤◌, List, Option}
 use Rattle.fp_model.specs.declared.parts.Leg.{Leg}
 use Rattle.fp_model.specs.Costs.{cost}
@@ -32,7 +33,8 @@ Claims p (Optimal cost) = NoPlanCheaper p cost
 Claims p (Unfinished cost bound spent) = NoPlanCheaper p bound
 Claims p (Infeasible shipment time) = PlanExists p → ⊥
 
--- what an accepted certificate claims is true, of the plans within the windows, and of all plans where these are the instance's own
+-- what an accepted certificate claims is true, of the plans within the windows, and of all plans
+-- where these are the instance's own
 pub record AcceptedClaims : Type 0 where
   pub within : (p : Problem) (table : WindowTable) (c : Statement) → IsValid p → IsInRange p c → IsAccepted p table c → ClaimsWithin p (windows_in table) c.answer
   pub whole : (p : Problem) (table : WindowTable) (c : Statement) → IsValid p → IsInRange p c → IsAccepted p table c → AreWindows p (windows_in table) → Claims p c.answer

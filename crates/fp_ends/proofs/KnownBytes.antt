@@ -22,31 +22,31 @@ Appends-append (Some u) (Some v) (Some w) xs ys first second =
     second ∙ ap (λ t. t ++ ys) first ∙ append_assoc u xs ys
 
 -- One more write of a text's front.
-pub Appends-more : (a b c : Option (List ℕ)) (i n : ℕ) (text : List ℕ) → Appends a b (take i text) → Appends b c (take n (drop i text)) → Appends a c (take (i + n) text)
-Appends-more a b c i n text first second =
+pub Appends_more : (a b c : Option (List ℕ)) (i n : ℕ) (text : List ℕ) → Appends a b (take i text) → Appends b c (take n (drop i text)) → Appends a c (take (i + n) text)
+Appends_more a b c i n text first second =
     rw (take-add i n text) (Appends-append a b c (take i text) (take n (drop i text)) first second)
 
 -- What a copy of the front of the rest gave and what is left then make up the rest.
-pub given : (at n most : ℕ) (bytes rest old new : List ℕ) → rest ≡ drop at bytes → 1 ≤ most → n ≡ min most (min (length old) (length rest)) → take n new ≡ take n rest → length new ≡ length old →
+pub drop-copy_front : (at n most : ℕ) (bytes rest old new : List ℕ) → rest ≡ drop at bytes → 1 ≤ most → n ≡ min most (min (length old) (length rest)) → take n new ≡ take n rest → length new ≡ length old →
     (drop at bytes ≡ take n new ++ drop (at + n) bytes) × (n ≡ 0 → 0 < length new → drop (at + n) bytes ≡ [])
-given at n most bytes rest old new is step count front len = (
+drop-copy_front at n most bytes rest old new is step count front len = (
   sym is ∙ sym (take-append-drop n rest) ∙ ap (λ t. t ++ drop n rest) (sym front) ∙ ap (λ t. take n new ++ drop n t) is ∙ ap (λ t. take n new ++ t) (drop-drop n at bytes),
   λ none room. drop_all (at + n) bytes (omega (arith, length-drop at bytes, ap length is)),
 )
 
 -- What an error of one read says of the whole.
-pub stopped : (limit room : ℕ) (left : Option (List ℕ)) (old new taken : List ℕ) (e : ReadEnd) → length old ≤ limit → room ≡ limit - length old → ExplainsPiece room left old new taken (Err e) → ExplainsEnd limit left (old ++ taken) (Err e)
-stopped limit room left old new taken ReadFault within is came = rw (came, append-nil) within
-stopped limit room left old new taken TooLong within is came = absurd came
-stopped limit room left old new taken NoMemory within is came = omega (arith, length-append old taken)
+pub ExplainsPiece-ExplainsEnd : (limit room : ℕ) (left : Option (List ℕ)) (old new taken : List ℕ) (e : ReadEnd) → length old ≤ limit → room ≡ limit - length old → ExplainsPiece room left old new taken (Err e) → ExplainsEnd limit left (old ++ taken) (Err e)
+ExplainsPiece-ExplainsEnd limit room left old new taken ReadFault within is came = rw (came, append-nil) within
+ExplainsPiece-ExplainsEnd limit room left old new taken TooLong within is came = absurd came
+ExplainsPiece-ExplainsEnd limit room left old new taken NoMemory within is came = omega (arith, length-append old taken)
 
-pub stopped_whole : (limit room : ℕ) (before after : Option (List ℕ)) (old new taken : List ℕ) (e : ReadEnd) → ExplainsPiece room after old new taken (Err e) → IsWholeInput limit before after (Err e)
-stopped_whole limit room before after old new taken ReadFault came = tt
-stopped_whole limit room before after old new taken TooLong came = absurd came
-stopped_whole limit room before after old new taken NoMemory came = tt
+pub ExplainsPiece-IsWholeInput : (limit room : ℕ) (before after : Option (List ℕ)) (old new taken : List ℕ) (e : ReadEnd) → ExplainsPiece room after old new taken (Err e) → IsWholeInput limit before after (Err e)
+ExplainsPiece-IsWholeInput limit room before after old new taken ReadFault came = tt
+ExplainsPiece-IsWholeInput limit room before after old new taken TooLong came = absurd came
+ExplainsPiece-IsWholeInput limit room before after old new taken NoMemory came = tt
 
 -- Where more than the limit was taken, more was there.
-pub too_long : (limit : ℕ) (before after : Option (List ℕ)) (taken : List ℕ) → Consumes before after taken → limit < length taken → (input : List ℕ) × TellsInput before input × (limit < length input)
-too_long limit None after taken took long = (taken, tt, long)
-too_long limit (Some u) None taken took long = absurd took
-too_long limit (Some u) (Some v) taken took long = (u, refl, omega (arith, ap length took, length-append taken v))
+pub Consumes_longer : (limit : ℕ) (before after : Option (List ℕ)) (taken : List ℕ) → Consumes before after taken → limit < length taken → (input : List ℕ) × TellsInput before input × (limit < length input)
+Consumes_longer limit None after taken took long = (taken, tt, long)
+Consumes_longer limit (Some u) None taken took long = absurd took
+Consumes_longer limit (Some u) (Some v) taken took long = (u, refl, omega (arith, ap length took, length-append taken v))

@@ -1,13 +1,11 @@
 -- Points that are added one by one to the initial ones.
 use Rattle.std.proofs.Common.{◌≡◌, ◌≢◌, ℕ, zero, suc, ◌+◌, ◌<◌, ◌≤◌, Bool, true, false, ◌||◌, ◌&&◌, List, [], ◌∷◌, ◌++◌, length, get_or, take, ⊎_elim, refl, sym, ap, ◌∙◌, subst, arith, eqb-true, eq-eqb, append_assoc}
-use Rattle.std.specs.Prelude.{All, AllPairs, Ok, Result, ◌==◌, nat_le}
+use Rattle.std.specs.Prelude.{All, AllPairs, ◌==◌, nat_le}
 use Rattle.std.proofs.lemmas.Bool.{and_parts, cases_Bool, false≢true, le-leb, or_cases}
 use Rattle.std.proofs.lemmas.List.{get_or-take, get_or_default, length-take-le, take_all, take_more}
 use Rattle.std.proofs.lemmas.List.Elements.{All-more}
 use Rattle.std.proofs.lemmas.List.Quantifiers.{all_pairs_push}
 use Rattle.fp_model.specs.Problem.{Problem, IsValid}
-use Rattle.fp_timenodes.specs.declared.places.Added.{Added}
-use Rattle.fp_timenodes.specs.declared.places.Added.TheVariants as added
 use Rattle.fp_timenodes.specs.declared.places.AddedPoint.{AddedPoint}
 use Rattle.fp_timenodes.specs.declared.places.Place.{Place}
 use Rattle.fp_timenodes.specs.Floor.{HaveSamePoints, has_point}
@@ -26,8 +24,8 @@ IsNew p anchors q = has_point (initial_points p anchors q.terminal) q.at ≡ fal
 abbrev pub AreTwo : AddedPoint → AddedPoint → Type 0
 AreTwo q r = q.terminal ≡ r.terminal → q.at ≢ r.at
 
--- points to which these were added, after the initial ones
-pub record AreMadeOf (p : Problem) (anchors : List Place) (added : List AddedPoint) (v : TimePoints) : Type 0 where
+-- points that are the initial ones and these, added one by one
+pub record HaveAdded (p : Problem) (anchors : List Place) (added : List AddedPoint) (v : TimePoints) : Type 0 where
   pub terminals : v.terminals ≡ length p.terminals
   pub few_first : length v.first ≤ 31000
   pub added_is : v.added ≡ added
@@ -74,10 +72,10 @@ was-added (q ∷ added) terminal round at d has =
     added-later q added terminal at d (was-added added terminal round at d rest))
     (cases_Bool (q.terminal == terminal && nat_le q.round round))
 
--- the points that were made are, as of each round, the initial ones and the added ones
-pub made-same : (p : Problem) (anchors : List Place) (added : List AddedPoint) (v : TimePoints) (terminal round : ℕ) → AreMadeOf p anchors added v → terminal < length p.terminals →
+-- they are, as of each round, the initial points and the added ones
+pub HaveAdded-points_at : (p : Problem) (anchors : List Place) (added : List AddedPoint) (v : TimePoints) (terminal round : ℕ) → HaveAdded p anchors added v → terminal < length p.terminals →
     HaveSamePoints (points_at v terminal round) (points_with_added p anchors added round terminal)
-made-same p anchors added v terminal round made lt at =
+HaveAdded-points_at p anchors added v terminal round made lt at =
     let first : List ℕ = times_at v.first terminal in
     let later : List ℕ = added_at added terminal round in
     let known : has_point (points_at v terminal round) at ≡ has_point (first ++ (later ++ 0 ∷ [])) at =
@@ -91,8 +89,8 @@ made-same p anchors added v terminal round made lt at =
     ∙ sym (has_point-append (initial_points p anchors terminal) later at)
 
 -- at first none is added
-pub made-first : (p : Problem) (anchors : List Place) (v : TimePoints) → BeginAt p anchors v → v.added ≡ [] → length v.first ≤ 31000 → AreMadeOf p anchors [] v
-made-first p anchors v begins unadded few = record {
+pub HaveAdded_none : (p : Problem) (anchors : List Place) (v : TimePoints) → BeginAt p anchors v → v.added ≡ [] → length v.first ≤ 31000 → HaveAdded p anchors [] v
+HaveAdded_none p anchors v begins unadded few = record {
   terminals = begins.terminals;
   few_first = few;
   added_is = unadded;
@@ -118,10 +116,10 @@ greatest-least : (added : List AddedPoint) (d : AddedPoint) (n : ℕ) → ((k : 
 greatest-least [] d n above = omega arith
 greatest-least (q ∷ added) d n above = omega (arith, above 0 (omega arith), greatest-least added d n (λ k h. above (suc k) (omega (arith, h))))
 
--- what adding a point asks for
-pub made-order : (p : Problem) (anchors : List Place) (added : List AddedPoint) (v : TimePoints) (i : ℕ) (d : AddedPoint) → AreMadeOf p anchors (take i added) v → RoundsAscend added → i < length added →
+-- rounds that don't fall are what adding one more point asks for
+pub HaveAdded-greatest_round : (p : Problem) (anchors : List Place) (added : List AddedPoint) (v : TimePoints) (i : ℕ) (d : AddedPoint) → HaveAdded p anchors (take i added) v → RoundsAscend added → i < length added →
     greatest_round v.added ≤ (get_or added i d).round
-made-order p anchors added v i d made rise lt =
+HaveAdded-greatest_round p anchors added v i d made rise lt =
     subst (λ (qs : List AddedPoint). greatest_round qs ≤ (get_or added i d).round) (sym made.added_is)
     (greatest-least (take i added) d (get_or added i d).round (λ k less. earlier-round added i k d rise lt less))
 
@@ -130,15 +128,15 @@ neither : (a b : Bool) → (a || b) ≡ false → (a ≡ false) × (b ≡ false)
 neither true b h = absurd (false≢true (sym h))
 neither false b h = (refl, h)
 
--- one more point, where it is new
-pub made-more : (p : Problem) (anchors : List Place) (added : List AddedPoint) (v w : TimePoints) (i : ℕ) (d : AddedPoint) → AreMadeOf p anchors (take i added) v → RoundsAscend added → i < length added →
+-- one more point is added, where it is new
+pub HaveAdded_push : (p : Problem) (anchors : List Place) (added : List AddedPoint) (v w : TimePoints) (i : ℕ) (d : AddedPoint) → HaveAdded p anchors (take i added) v → RoundsAscend added → i < length added →
     (get_or added i d).terminal < length p.terminals → has_point (points_at v (get_or added i d).terminal (get_or added i d).round) (get_or added i d).at ≡ false →
-    w ≡ record v { added = v.added ++ (get_or added i d ∷ []) } → AreMadeOf p anchors (take (i + 1) added) w
-made-more p anchors added v w i d made rise lt exists none is =
+    w ≡ record v { added = v.added ++ (get_or added i d ∷ []) } → HaveAdded p anchors (take (i + 1) added) w
+HaveAdded_push p anchors added v w i d made rise lt exists none is =
     let q : AddedPoint = get_or added i d in
     let more : take (i + 1) added ≡ take i added ++ (q ∷ []) = take_more added i d lt in
     let both = neither (has_point (initial_points p anchors q.terminal) q.at) (has_point (added_at (take i added) q.terminal q.round) q.at)
-    (sym (made-same p anchors (take i added) v q.terminal q.round made exists q.at ∙ has_point-append (initial_points p anchors q.terminal) (added_at (take i added) q.terminal q.round) q.at) ∙ none) in
+    (sym (HaveAdded-points_at p anchors (take i added) v q.terminal q.round made exists q.at ∙ has_point-append (initial_points p anchors q.terminal) (added_at (take i added) q.terminal q.round) q.at) ∙ none) in
     let differs : (k : ℕ) (e : AddedPoint) → k < length (take i added) → AreTwo (get_or (take i added) k e) q =
     λ k e less same_terminal same_at.
     let at = before-place added i k e lt less in
@@ -154,10 +152,10 @@ made-more p anchors added v w i d made rise lt exists none is =
       once = subst (AllPairs AreTwo) (sym more) (all_pairs_push AreTwo (take i added) q made.once differs);
     }
 
--- a point that is there already is initial, or stands twice
-pub made-there : (p : Problem) (anchors : List Place) (added : List AddedPoint) (v : TimePoints) (i : ℕ) (d : AddedPoint) → AreMadeOf p anchors (take i added) v → i < length added →
+-- where the next point is there already, it is an initial one or stands twice
+pub HaveAdded-has_point : (p : Problem) (anchors : List Place) (added : List AddedPoint) (v : TimePoints) (i : ℕ) (d : AddedPoint) → HaveAdded p anchors (take i added) v → i < length added →
     (get_or added i d).terminal < length p.terminals → has_point (points_at v (get_or added i d).terminal (get_or added i d).round) (get_or added i d).at ≡ true → AreAddedPoints p anchors added → ⊥
-made-there p anchors added v i d made lt exists there are =
+HaveAdded-has_point p anchors added v i d made lt exists there are =
     let q : AddedPoint = get_or added i d in
     ⊎_elim
     (λ (first : has_point (initial_points p anchors q.terminal) q.at ≡ true). false≢true (sym (are.new i d lt) ∙ first))
@@ -166,13 +164,13 @@ made-there p anchors added v i d made lt exists there are =
     let at = before-place added i was.place d lt was.within in
     are.once was.place i d at.0 lt (sym (ap (λ (r : AddedPoint). r.terminal) at.1) ∙ was.own) (sym (ap (λ (r : AddedPoint). r.at) at.1) ∙ was.time))
     (or_cases (has_point (initial_points p anchors q.terminal) q.at) (has_point (added_at (take i added) q.terminal q.round) q.at)
-    (sym (made-same p anchors (take i added) v q.terminal q.round made exists q.at ∙ has_point-append (initial_points p anchors q.terminal) (added_at (take i added) q.terminal q.round) q.at) ∙ there))
+    (sym (HaveAdded-points_at p anchors (take i added) v q.terminal q.round made exists q.at ∙ has_point-append (initial_points p anchors q.terminal) (added_at (take i added) q.terminal q.round) q.at) ∙ there))
 
--- all are added
-pub made-all : (p : Problem) (anchors : List Place) (added : List AddedPoint) (v : TimePoints) (i : ℕ) → IsValid p → AreMadeOf p anchors (take i added) v → length added ≤ i →
+-- once all are added, they are the points of the certificate, few enough for a bound
+pub HaveAdded-ArePointsOf : (p : Problem) (anchors : List Place) (added : List AddedPoint) (v : TimePoints) (i : ℕ) → IsValid p → HaveAdded p anchors (take i added) v → length added ≤ i →
     All (IsPointInRange p) added → ((round : ℕ) → count_in round added ≤ 8) → ArePointsOf p anchors added v
-made-all p anchors added v i valid made long range few =
-    let whole : AreMadeOf p anchors added v = subst (λ (qs : List AddedPoint). AreMadeOf p anchors qs v) (take_all i added long) made in
+HaveAdded-ArePointsOf p anchors added v i valid made long range few =
+    let whole : HaveAdded p anchors added v = subst (λ (qs : List AddedPoint). HaveAdded p anchors qs v) (take_all i added long) made in
     record {
       terminals = whole.terminals;
       few = omega (
@@ -183,18 +181,12 @@ made-all p anchors added v i valid made long range few =
         valid.parts.few_terminals,
         few-in_all 4001 added few (λ k d lt. omega (arith, (range k d lt).round.1)),
       );
-      same = λ terminal round lt. made-same p anchors added v terminal round whole lt;
+      same = λ terminal round lt. HaveAdded-points_at p anchors added v terminal round whole lt;
     }
 
-pub made-holds : (p : Problem) (anchors : List Place) (added : List AddedPoint) (v : TimePoints) (i : ℕ) → AreMadeOf p anchors (take i added) v → length added ≤ i →
+-- and they are points that can be added
+pub HaveAdded-AreAddedPoints : (p : Problem) (anchors : List Place) (added : List AddedPoint) (v : TimePoints) (i : ℕ) → HaveAdded p anchors (take i added) v → length added ≤ i →
     RoundsAscend added → ((round : ℕ) → count_in round added ≤ 8) → AreAddedPoints p anchors added
-made-holds p anchors added v i made long rise few =
-    let whole : AreMadeOf p anchors added v = subst (λ (qs : List AddedPoint). AreMadeOf p anchors qs v) (take_all i added long) made in
+HaveAdded-AreAddedPoints p anchors added v i made long rise few =
+    let whole : HaveAdded p anchors added v = subst (λ (qs : List AddedPoint). HaveAdded p anchors qs v) (take_all i added long) made in
     record { rounds = rise; few = few; new = whole.new; once = whole.once }
-
--- what was added as new was not there
-pub new-there : {E : Type 0} (r : Result Added E) (a : Added) → r ≡ Ok a → a ≡ added.New → r ≡ Ok added.There → ⊥
-new-there r a is new there = new-or-there (cc)
-  where
-    new-or-there : added.New ≡ added.There → ⊥
-    new-or-there e = cc

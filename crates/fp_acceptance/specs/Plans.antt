@@ -1,13 +1,12 @@
 -- The plan that the leg lines of a certificate tell, with its cost and its trucks.
-use Rattle.std.specs.Prelude.{ℕ, ◌+◌, ◌*◌, ◌≡◌, List, All, AllPairs, IsSomeAnd, Option}
+use Rattle.std.specs.Prelude.{ℕ, ◌+◌, ◌≡◌, List, All, AllPairs, Option}
 use Rattle.fp_model.specs.declared.parts.Leg.{Leg}
 use Rattle.fp_model.specs.Costs.{cost}
 use Rattle.fp_model.specs.Plans.{IsPlan}
 use Rattle.fp_model.specs.Problem.{Problem, arc_at}
 use Rattle.fp_flatnet.specs.declared.window_tables.Window.{Window}
-use Rattle.fp_flatnet.specs.Windows.{IsInside, PlanLiesWithin}
+use Rattle.fp_flatnet.specs.Windows.{PlanLiesWithin}
 use Rattle.fp_timetable.specs.declared.lines.LegLine.{LegLine}
-use Rattle.fp_timetable.specs.declared.lines.TruckLine.{TruckLine}
 use Rattle.fp_timetable.specs.Lines.{AreTruckLines, Precedes, routes_from}
 use Rattle.fp_lines.specs.declared.certificates.Answer.{Answer}
 use Rattle.fp_lines.specs.declared.certificates.Answer.TheVariants.{Direct, Optimal, Unfinished, Infeasible}
@@ -17,11 +16,8 @@ use Rattle.fp_lines.specs.Statements.{Statement}
 abbrev pub routes_of : Problem → Statement → List (List Leg)
 routes_of p c = routes_from c.legs 0 p.shipments
 
--- a leg leaves within the window of its shipment and its arc
-abbrev pub LeavesInside : (ℕ → ℕ → Option Window) → LegLine → Type 0
-LeavesInside windows l = IsSomeAnd (windows l.shipment l.arc) (IsInside 1 l.depart)
-
--- the leg lines are in order, each arrives a travel time after it left, and they are a plan in whole units within the windows
+-- the leg lines are in order, each arrives a travel time after it left, and they are a plan in
+-- whole units within the windows
 pub record HasPlan (p : Problem) (windows : ℕ → ℕ → Option Window) (c : Statement) : Type 0 where
   pub ascending : AllPairs (λ (k l : LegLine). Precedes k.depart k.shipment l.depart l.shipment) c.legs
   pub arrivals : All (λ (l : LegLine). l.arrive ≡ l.depart + (arc_at p l.arc).time) c.legs
@@ -42,10 +38,6 @@ HasCost p c = stated_cost c.answer ≡ cost p (routes_of p c)
 -- the truck lines are the plan's distinct departures in order, each with its trucks and its load
 abbrev pub HasTrucks : Problem → Statement → Type 0
 HasTrucks p c = AreTruckLines p (routes_of p c) c.trucks
-
--- what the trucks of a truck line cost
-abbrev pub line_cost : Problem → TruckLine → ℕ
-line_cost p t = (arc_at p t.arc).truck * t.trucks
 
 -- the plan is told by the leg lines, its cost by the answer, and its departures by the truck lines
 pub record HasTimetable (p : Problem) (windows : ℕ → ℕ → Option Window) (c : Statement) : Type 0 where

@@ -9,12 +9,11 @@ use Rattle.fp_tree.specs.declared.sides.Split.{Split}
 use Rattle.fp_tree.specs.declared.sides.Split.TheVariants.{ByArc, ByTime}
 use Rattle.fp_tree.specs.Sides.{Fork}
 use Rattle.fp_tree.specs.Trees.{Leaf, IsTree, tree_leaves, tree_splits}
-use Rattle.fp_prices.specs.declared.bounds.LeafBound.{LeafBound}
-use Rattle.fp_prices.specs.declared.bounds.LeafBound.TheVariants.{Empty, Value}
 use Rattle.fp_prices.specs.Leaves.{IsLeafEmpty, IsLeafValue}
 use Rattle.fp_lines.specs.declared.certificates.Node.{Node}
 use Rattle.fp_lines.specs.declared.certificates.Node.TheVariants as node
 use Rattle.fp_lines.specs.Statements.{Statement}
+use Rattle.fp_acceptance.specs.declared.limits.TheConstants.{MOST_SPLITS}
 use Rattle.fp_acceptance.specs.Points.{points_as_of}
 
 -- the terminal that the arc of a split leaves, and 0 for a split by time
@@ -27,10 +26,10 @@ abbrev pub fork_of : Problem → Node → Option Fork
 fork_of p (node.Branch split) = Some (record { split = split; tail = split_tail p split })
 fork_of p (node.Leaf price) = None
 
--- the lines of the tree are exactly one tree in preorder, of at most 100,000 splits
+-- the lines of the tree are exactly one tree in preorder, of no more splits than the limit
 pub record HasTree (p : Problem) (c : Statement) : Type 0 where
   pub tree : IsTree (fork_of p) c.tree
-  pub few : length (tree_splits (fork_of p) c.tree) ≤ 100000
+  pub few : length (tree_splits (fork_of p) c.tree) ≤ MOST_SPLITS
 
 -- a leaf is empty, or its bound in whole units of money is at least the claim
 abbrev pub IsLeafWorth : Problem → WindowTable → Statement → (claim : ℕ) → Node → List Side → Type 0
@@ -39,11 +38,6 @@ IsLeafWorth p table c claim (node.Leaf price) sides =
     IsLeafEmpty p (windows_in table) (points_as_of p table.anchors c price.round) sides
     ⊎ ((value : ℕ) × IsLeafValue p (windows_in table) (points_as_of p table.anchors c price.round) sides c.tables price.kind price.forced value
     × (claim ≤ div_ceil value p.scale))
-
--- a bound tells that a leaf is empty, or that it is worth the claim in whole units of money
-abbrev pub IsBoundWorth : (scale claim : ℕ) → LeafBound → Type 0
-IsBoundWorth scale claim (Empty shipment) = Unit {0}
-IsBoundWorth scale claim (Value value) = claim ≤ div_ceil value scale
 
 -- each leaf of the tree is worth the claim under the sides on its way from the root
 abbrev pub AreLeavesWorth : Problem → WindowTable → Statement → (claim : ℕ) → Type 0

@@ -119,13 +119,13 @@ claims-whole p windows (Unfinished cost bound spent) cover within = λ d plan so
 claims-whole p windows (Infeasible shipment time) cover within = within
 
 -- what an accepted certificate claims of the plans within the windows is true
-pub accepted-claims-within : (p : Problem) (table : WindowTable) (c : Statement) → IsValid p → IsInRange p c → IsAccepted p table c → ClaimsWithin p (windows_in table) c.answer
-accepted-claims-within p table c valid range accepted = claims-within p table c c.answer refl valid range.answer accepted
+pub IsAccepted-ClaimsWithin : (p : Problem) (table : WindowTable) (c : Statement) → IsValid p → IsInRange p c → IsAccepted p table c → ClaimsWithin p (windows_in table) c.answer
+IsAccepted-ClaimsWithin p table c valid range accepted = claims-within p table c c.answer refl valid range.answer accepted
 
 -- and where the windows are the instance's own, so is what it claims of all plans
-pub accepted-claims-whole : (p : Problem) (table : WindowTable) (c : Statement) → IsValid p → IsInRange p c → IsAccepted p table c → AreWindows p (windows_in table) → Claims p c.answer
-accepted-claims-whole p table c valid range accepted are =
-    claims-whole p table c.answer (CoverPlans-from_windows p (windows_in table) are) (accepted-claims-within p table c valid range accepted)
+pub IsAccepted-Claims : (p : Problem) (table : WindowTable) (c : Statement) → IsValid p → IsInRange p c → IsAccepted p table c → AreWindows p (windows_in table) → Claims p c.answer
+IsAccepted-Claims p table c valid range accepted are =
+    claims-whole p table c.answer (CoverPlans-from_windows p (windows_in table) are) (IsAccepted-ClaimsWithin p table c valid range accepted)
 
-pub accepted-claims : AcceptedClaims
-accepted-claims = record { within = accepted-claims-within; whole = accepted-claims-whole }
+pub AcceptedClaims_hold : AcceptedClaims
+AcceptedClaims_hold = record { within = IsAccepted-ClaimsWithin; whole = IsAccepted-Claims }
