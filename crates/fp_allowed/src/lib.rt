@@ -23,6 +23,3 @@ pub use departures_left::departures;
 
 /// What a call that allocates can fail with.
 pub type NoMemory = std::alloc::AllocError;
-
-#[cfg(test)]
-mod tests;

@@ -1,7 +1,4 @@
-pub mod Accepting
-pub mod Failing
-pub mod RoundCounts
-pub mod AddedOneByOne
+pub mod Results
 pub mod RoutesOfLines
 pub mod ToldPlans
 pub mod DepartureLines

@@ -16,7 +16,8 @@ use Rattle.fp_longestarcs.specs.Properties.{IsTimedArc, HasProperties}
 use Rattle.fp_lists.proofs.Membership.{list_has-get_or, StandsAt-from_list_has, StandsAt}
 use Rattle.fp_longestarcs.proofs.HeadLists.{whole-heads}
 
--- a timed arc of a whole network ends at the greatest point that is not after its start and the arc's step
+-- a timed arc of a whole network ends at the greatest point that is not after its start and the
+-- arc's step
 ends-greatest : (p : Problem) (net : TimedNetwork) (arc start end : ℕ) → IsWholeNetwork p net → IsTimedArc p net arc start end → end ≡ floor_point (points_in net (arc_at p arc).to) 1 (start + step p arc)
 ends-greatest p net arc start end whole timed =
     let head : ℕ → ℕ = λ q. head_of p (points_in net) (record { arc = arc; depart = q }) in
@@ -26,7 +27,7 @@ ends-greatest p net arc start end whole timed =
 -- and it leads to a point
 ends-at-point : (p : Problem) (net : TimedNetwork) (arc start end : ℕ) → IsValid p → IsWholeNetwork p net → IsTimedArc p net arc start end → list_has (points_in net (arc_at p arc).to) end ≡ true
 ends-at-point p net arc start end valid whole timed =
-    let is : IsArc (length p.terminals) (arc_at p arc) = valid.arcs arc no_arc timed.exists in
+    let is : IsArc (length p.terminals) (arc_at p arc) = valid.parts.arcs arc no_arc timed.exists in
     let are : ArePoints (points_in net (arc_at p arc).to) = whole.valid.points (arc_at p arc).to [] (omega (arith, is.to, whole.arcs.terminals)) in
     subst (λ (n : ℕ). list_has (points_in net (arc_at p arc).to) n ≡ true) (sym (ends-greatest p net arc start end whole timed))
     (IsFloorPoint-floor_point (points_in net (arc_at p arc).to) (start + step p arc) are.zero).0
@@ -36,7 +37,7 @@ pub HasProperties-network : (p : Problem) (v : TimePoints) (round : ℕ) (net : 
 HasProperties-network p v round net valid made = record {
   shipment_times = λ there k d h.
       let s : Shipment = get_or p.shipments k d in
-      let is : IsShipment (length p.terminals) s = valid.shipments k d h in (
+      let is : IsShipment (length p.terminals) s = valid.parts.shipments k d h in (
         made.points s.from is.from s.release ∙ (there k d h).0,
         made.points s.to is.to s.due ∙ (there k d h).1,
       );

@@ -1,6 +1,8 @@
 pub mod Distinct
 pub mod Bounds
 pub mod Joins
+pub mod Members
+pub mod Together
 pub mod Steps
 pub mod LegByLeg
 pub mod Faultless

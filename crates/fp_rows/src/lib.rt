@@ -14,6 +14,3 @@ pub use rows::Row;
 
 /// What a call that allocates can fail with.
 pub type NoMemory = std::alloc::AllocError;
-
-#[cfg(test)]
-mod tests;
