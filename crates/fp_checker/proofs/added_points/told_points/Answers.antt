@@ -1,6 +1,6 @@
 use Rattle.std.proofs.Common.{Ok, ap, ◌∙◌, arith}
 use Rattle.std.proofs.lemmas.Bool.{false_from_ne_true}
-use Rattle.fp_acceptance.proofs.AddedPoints.{new-there, HaveAdded-greatest_round, HaveAdded_push, HaveAdded-list_has, HaveAdded-ArePointsOf, HaveAdded-AreAddedPoints}
+use Rattle.fp_acceptance.proofs.AddedPoints.{HaveAdded-greatest_round, HaveAdded_push, HaveAdded-list_has, HaveAdded-ArePointsOf, HaveAdded-AreAddedPoints}
 use Rattle.fp_checker.proofs.Results.{Part_injective, New-not_There}
 use Rattle.fp_checker.proofs.added_points.told_points.Goals as goal
 
