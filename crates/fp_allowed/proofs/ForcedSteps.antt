@@ -126,6 +126,7 @@ module _ (p : Problem) (net : TimedNetwork) (allowed : Leg → Bool) (s : Shipme
     forced = stops-at classes met here so_far (λ c away out only. away at);
     ends = so_far.stop ∙ at;
     within = so_far.within;
+    terminal = tt;
   }
 
   pub chain_met : (classes : List ℕ) (met : List Bool) (here : ℕ) → ChainSoFar classes met here → here ≢ s.to → get_or met here false ≡ true → IsForced p net allowed s (record { classes = classes; end = Stuck here })
@@ -135,6 +136,7 @@ module _ (p : Problem) (net : TimedNetwork) (allowed : Leg → Bool) (s : Shipme
         forced = stops-at classes met here so_far (λ c other out only. all-out so_far.seen here out seen);
         ends = (so_far.stop, away, inl (is-in (terminals_left p (classes_at net classes)) here (sym (so_far.same here) ∙ seen)));
         within = so_far.within;
+        terminal = so_far.place;
       }
 
   pub chain_alone : (classes : List ℕ) (met : List Bool) (here : ℕ) → ChainSoFar classes met here → here ≢ s.to → NoneLeaves p allowed here → IsForced p net allowed s (record { classes = classes; end = Stuck here })
@@ -142,6 +144,7 @@ module _ (p : Problem) (net : TimedNetwork) (allowed : Leg → Bool) (s : Shipme
     forced = stops-at classes met here so_far (λ c other out only. none c only.is_allowed only.leaves);
     ends = (so_far.stop, away, inr none);
     within = so_far.within;
+    terminal = so_far.place;
   }
 
   pub chain_several : (classes : List ℕ) (met : List Bool) (here : ℕ) → ChainSoFar classes met here → here ≢ s.to → get_or met here false ≡ false → SeveralLeave p allowed here →
@@ -152,6 +155,7 @@ module _ (p : Problem) (net : TimedNetwork) (allowed : Leg → Bool) (s : Shipme
         forced = stops-at classes met here so_far (λ c other out only. several.differ (only.alone several.one several.one_allowed several.one_leaves ∙ sym (only.alone several.two several.two_allowed several.two_leaves)));
         ends = (so_far.stop, away, is-out (terminals_left p (classes_at net classes)) here (sym (so_far.same here) ∙ unseen), several);
         within = so_far.within;
+        terminal = so_far.place;
       }
 
 -- one terminal more was met

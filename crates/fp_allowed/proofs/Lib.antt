@@ -21,6 +21,7 @@ pub mod FirstBits
 pub mod ArcExits
 pub mod TerminalExits
 pub mod ForcedSteps
+pub mod ForcedWalks
 pub mod Picking
 pub mod Parting
 pub mod Choosing

@@ -1,5 +1,5 @@
 -- How a forced chain ends.
-use Rattle.std.specs.Prelude.{ℕ, ◌≡◌, ◌≢◌, ◌<◌, ◌⊎◌, List, [], ◌∷◌, map, Bool, true, All, Contains}
+use Rattle.std.specs.Prelude.{ℕ, ◌≡◌, ◌≢◌, ◌<◌, ◌⊎◌, List, [], ◌∷◌, length, map, Bool, true, All, Contains}
 use Rattle.std.specs.List.{AllByRecursion}
 use Rattle.fp_model.specs.declared.parts.Leg.{Leg}
 use Rattle.fp_model.specs.declared.parts.Shipment.{Shipment}
@@ -42,8 +42,15 @@ EndsAs p allowed s chain (Several terminal) =
 EndsAs p allowed s chain (Stuck terminal) =
     (chain_stop p s.from chain ≡ terminal) × (terminal ≢ s.to) × (Contains (terminals_left p chain) terminal ⊎ NoneLeaves p allowed terminal)
 
+-- where the chain does not reach the destination, it ends at a terminal that exists
+abbrev pub EndsAtTerminal : Problem → ChainEnd → Type 0
+EndsAtTerminal p Reached = Unit {0}
+EndsAtTerminal p (Several terminal) = terminal < length p.terminals
+EndsAtTerminal p (Stuck terminal) = terminal < length p.terminals
+
 -- the numbers are those of the forced chain of a shipment, which ends so
 pub record IsForced (p : Problem) (net : TimedNetwork) (allowed : Leg → Bool) (s : Shipment) (chain : ForcedChain) : Type 0 where
   pub forced : IsForcedChain p allowed s (classes_at net chain.classes)
   pub ends : EndsAs p allowed s (classes_at net chain.classes) chain.end
   pub within : All (λ n. n < class_count net) chain.classes
+  pub terminal : EndsAtTerminal p chain.end
