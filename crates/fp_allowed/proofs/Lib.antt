@@ -17,6 +17,7 @@ pub mod Counting
 pub mod MomentRows
 pub mod Departing
 pub mod Dividing
+pub mod Slack
 pub mod FirstBits
 pub mod ArcExits
 pub mod TerminalExits
