@@ -5,7 +5,7 @@ use Rattle.fp_model.specs.declared.parts.Leg.{Leg}
 use Rattle.fp_model.specs.Numbered.{shipment_at}
 use Rattle.fp_model.specs.Problem.{Problem, arc_at}
 use Rattle.fp_timenodes.specs.Floor.{floor_point, has_point}
-use Rattle.fp_timenodes.proofs.Floors.{floor-greatest, floor-le}
+use Rattle.fp_timenodes.proofs.Floors.{floor_le, floor_greatest}
 use Rattle.fp_flatnet.specs.declared.window_tables.Window.{Window}
 use Rattle.fp_flatnet.specs.Belonging.{BelongsTo, IsNarrowed}
 use Rattle.fp_flatnet.specs.Tables.{WindowTable, windows_in}
@@ -40,13 +40,13 @@ module _ (p : Problem) (windows : ℕ → ℕ → Option Window) (points : ℕ �
   pub allowed-hi : (w : Window) → windows k c.arc ≡ Some w → c.depart ≤ w.hi
   allowed-hi w is =
       let has : HasMoment p points sides k c w = moment-in (Some w) is in
-      omega (arith, has.falls, has.before, floor-le (points (tails_of p c.arc)) 1 has.moment)
+      omega (arith, has.falls, has.before, floor_le (points (tails_of p c.arc)) 1 has.moment)
 
   -- nor before its start, where that is a point of the tail
   pub allowed-lo : (w : Window) → windows k c.arc ≡ Some w → has_point (points (tails_of p c.arc)) w.lo ≡ true → w.lo ≤ c.depart
   allowed-lo w is starts =
       let has : HasMoment p points sides k c w = moment-in (Some w) is in
-      omega (arith, has.falls, floor-greatest (points (tails_of p c.arc)) 1 has.moment w.lo starts (omega (arith, has.after)))
+      omega (arith, has.falls, floor_greatest (points (tails_of p c.arc)) 1 has.moment w.lo starts (omega (arith, has.after)))
 
 -- so out of the shipment's origin it does not stand before the release
 pub allowed-release : (p : Problem) (table : WindowTable) (points : ℕ → List ℕ) (sides : List Side) (k : ℕ) (c : Leg) → BelongsTo p table → HasInitialPoints p table.anchors points → k < length p.shipments →

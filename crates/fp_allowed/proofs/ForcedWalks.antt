@@ -10,7 +10,7 @@ use Rattle.fp_model.specs.Problem.{Problem, arc_at}
 use Rattle.fp_model.specs.Routes.{AreApart, IsRoute, Leads, arcs_of, ends_of}
 use Rattle.fp_model.proofs.Sums.{each-weaker}
 use Rattle.fp_timenodes.specs.Floor.{has_point}
-use Rattle.fp_timenodes.proofs.Floors.{has-cases, has-first, has-rest}
+use Rattle.fp_timenodes.proofs.PointLists.{has_point_rest, has_point_first, has_point_cases}
 use Rattle.fp_flatnet.specs.declared.window_tables.Window.{Window}
 use Rattle.fp_flatnet.specs.Belonging.{BelongsTo, IsNarrowed}
 use Rattle.fp_flatnet.specs.Tables.{WindowTable, windows_in}
@@ -131,17 +131,17 @@ module _ (p : Problem) (allowed : Leg → Bool) where
         away = on.away;
         class = on.class;
         only = on.only;
-        next = ⊎_elim (λ (h : has_point left (arc_at p on.class.arc).to ≡ true). inl (has-rest (tails_of p c.arc) left (arc_at p on.class.arc).to h)) (λ (e : (arc_at p on.class.arc).to ≡ stop). inr e) on.next;
+        next = ⊎_elim (λ (h : has_point left (arc_at p on.class.arc).to ≡ true). inl (has_point_rest (tails_of p c.arc) left (arc_at p on.class.arc).to h)) (λ (e : (arc_at p on.class.arc).to ≡ stop). inr e) on.next;
       })
-      (has-cases (tails_of p c.arc) left t has)
+      (has_point_cases (tails_of p c.arc) left t has)
     where
       next : (rest : List Leg) → AreForced p allowed there (here ∷ met) (arc_at p c.arc).to rest →
           (has_point (tails_of p c.arc ∷ terminals_left p rest) (arc_at p c.arc).to ≡ true) ⊎ ((arc_at p c.arc).to ≡ chain_stop p (arc_at p c.arc).to rest)
       next [] on = inr refl
       next (d ∷ rest) on =
           inl
-          (has-rest (tails_of p c.arc) (tails_of p d.arc ∷ terminals_left p rest) (arc_at p c.arc).to
-          (subst (λ (n : ℕ). has_point (tails_of p d.arc ∷ terminals_left p rest) n ≡ true) on.2.leaves (has-first (tails_of p d.arc) (terminals_left p rest))))
+          (has_point_rest (tails_of p c.arc) (tails_of p d.arc ∷ terminals_left p rest) (arc_at p c.arc).to
+          (subst (λ (n : ℕ). has_point (tails_of p d.arc ∷ terminals_left p rest) n ≡ true) on.2.leaves (has_point_first (tails_of p d.arc) (terminals_left p rest))))
 
   -- no walk leads away from terminals whose only allowed classes go on among them and to one more that none leaves or is among them
   never-there : (there stop : ℕ) (left : List ℕ) → ((t : ℕ) → has_point left t ≡ true → GoesOn there left stop t) → stop ≢ there → (has_point left stop ≡ true) ⊎ NoneLeaves p allowed stop →
@@ -177,7 +177,7 @@ module _ (p : Problem) (allowed : Leg → Bool) where
 
       starts : (legs : List Leg) → AreForced p allowed s.to [] s.from legs → (has_point (terminals_left p legs) s.from ≡ true) ⊎ (s.from ≡ chain_stop p s.from legs)
       starts [] forced = inr refl
-      starts (c ∷ legs) forced = inl (subst (λ (n : ℕ). has_point (tails_of p c.arc ∷ terminals_left p legs) n ≡ true) forced.2.leaves (has-first (tails_of p c.arc) (terminals_left p legs)))
+      starts (c ∷ legs) forced = inl (subst (λ (n : ℕ). has_point (tails_of p c.arc ∷ terminals_left p legs) n ≡ true) forced.2.leaves (has_point_first (tails_of p c.arc) (terminals_left p legs)))
 
 -- in a setting, of the forced chain of a shipment
 module _ (s : Setting) (sides : List Side) (k : ℕ) (chain : ForcedChain) (is : IsSetting s) (exists : k < length s.problem.shipments)

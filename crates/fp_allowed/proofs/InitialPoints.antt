@@ -8,8 +8,7 @@ use Rattle.fp_model.specs.Problem.{IsValid, Problem, arc_at, hold_at, no_arc}
 use Rattle.fp_timenodes.specs.declared.places.Place.{Place}
 use Rattle.fp_timenodes.specs.Floor.{has_point}
 use Rattle.fp_timenodes.specs.Points.{TimePoints, points_at, times_at}
-use Rattle.fp_timenodes.proofs.Floors.{has-first, has-rest}
-use Rattle.fp_timenodes.proofs.Included.{has_point-append}
+use Rattle.fp_timenodes.proofs.PointLists.{has_point_rest, has_point_first, has_point-append}
 use Rattle.fp_flatnet.specs.declared.window_tables.Window.{Window}
 use Rattle.fp_flatnet.specs.Belonging.{BelongsTo, IsNarrowed}
 use Rattle.fp_flatnet.specs.Initial.{BeginAt, dues_at, initial_points, releases_at}
@@ -24,11 +23,11 @@ use Rattle.fp_allowed.specs.SamePoints.{AgreeOnPoints}
 -- what is made of an element that passes a test is among what is made of those that pass
 has_point-filter : {X : Type 0} (test : X → Bool) (f : X → ℕ) (xs : List X) (k : ℕ) (d : X) → k < length xs → test (get_or xs k d) ≡ true → has_point (map f (filter test xs)) (f (get_or xs k d)) ≡ true
 has_point-filter test f [] k d h passes = absurd (omega (arith, h))
-has_point-filter test f (x ∷ xs) zero d h passes = rw passes (has-first (f x) (map f (filter test xs)))
+has_point-filter test f (x ∷ xs) zero d h passes = rw passes (has_point_first (f x) (map f (filter test xs)))
 has_point-filter test f (x ∷ xs) (suc k) d h passes =
     let rest : has_point (map f (filter test xs)) (f (get_or xs k d)) ≡ true = has_point-filter test f xs k d (omega (arith, h)) passes in
     ⊎_elim
-    (λ (first : test x ≡ true). rw first (has-rest (f x) (map f (filter test xs)) (f (get_or xs k d)) rest))
+    (λ (first : test x ≡ true). rw first (has_point_rest (f x) (map f (filter test xs)) (f (get_or xs k d)) rest))
     (λ (other : test x ≡ false). rw other rest)
     (cases_Bool (test x))
 
@@ -55,7 +54,7 @@ HasInitialPoints-points_with p anchors old new terminal at within grown =
 module _ (p : Problem) (anchors : List Place) (points : ℕ → List ℕ) (initial : HasInitialPoints p anchors points) where
   -- the time 0 is a point of each terminal
   pub initial-zero : (terminal : ℕ) → terminal < length p.terminals → has_point (points terminal) 0 ≡ true
-  initial-zero terminal h = initial terminal 0 h (has-first 0 (releases_at p terminal ++ dues_at p terminal ++ times_at anchors terminal))
+  initial-zero terminal h = initial terminal 0 h (has_point_first 0 (releases_at p terminal ++ dues_at p terminal ++ times_at anchors terminal))
 
   -- each shipment's release is a point of its origin
   pub initial-release : (k : ℕ) (d : Shipment) → k < length p.shipments → (get_or p.shipments k d).from < length p.terminals →
@@ -65,7 +64,7 @@ module _ (p : Problem) (anchors : List Place) (points : ℕ → List ℕ) (initi
       let others : List ℕ = releases_at p s.from ++ dues_at p s.from in
       let own : has_point (releases_at p s.from) s.release ≡ true = has_point-filter (λ (t : Shipment). nat_eq t.from s.from) (λ (t : Shipment). t.release) p.shipments k d h (eq-eqb s.from s.from refl) in
       initial s.from s.release within
-      (has-rest 0 (others ++ times_at anchors s.from) s.release
+      (has_point_rest 0 (others ++ times_at anchors s.from) s.release
       (has_point-append others (times_at anchors s.from) s.release ∙
       or_left (has_point others s.release) (has_point (times_at anchors s.from) s.release)
       (has_point-append (releases_at p s.from) (dues_at p s.from) s.release ∙ or_left (has_point (releases_at p s.from) s.release) (has_point (dues_at p s.from) s.release) own)))
@@ -78,7 +77,7 @@ module _ (p : Problem) (anchors : List Place) (points : ℕ → List ℕ) (initi
       let others : List ℕ = releases_at p s.to ++ dues_at p s.to in
       let own : has_point (dues_at p s.to) s.due ≡ true = has_point-filter (λ (t : Shipment). nat_eq t.to s.to) (λ (t : Shipment). t.due) p.shipments k d h (eq-eqb s.to s.to refl) in
       initial s.to s.due within
-      (has-rest 0 (others ++ times_at anchors s.to) s.due
+      (has_point_rest 0 (others ++ times_at anchors s.to) s.due
       (has_point-append others (times_at anchors s.to) s.due ∙
       or_left (has_point others s.due) (has_point (times_at anchors s.to) s.due)
       (has_point-append (releases_at p s.to) (dues_at p s.to) s.due ∙ or_right (has_point (releases_at p s.to) s.due) (has_point (dues_at p s.to) s.due) own)))
@@ -97,7 +96,7 @@ module _ (p : Problem) (anchors : List Place) (points : ℕ → List ℕ) (initi
       has_point-filter (λ (q : Place). nat_eq q.terminal terminal) (λ (q : Place). q.at) anchors among.0 place among.1 (eq-eqb (get_or anchors among.0 place).terminal terminal (ap (λ (q : Place). q.terminal) same)) in
       let there : has_point (times_at anchors terminal) place.at ≡ true = subst (λ (q : Place). has_point (times_at anchors terminal) q.at ≡ true) same own in
       initial terminal place.at within
-      (has-rest 0 (others ++ times_at anchors terminal) place.at
+      (has_point_rest 0 (others ++ times_at anchors terminal) place.at
       (has_point-append others (times_at anchors terminal) place.at ∙ or_right (has_point others place.at) (has_point (times_at anchors terminal) place.at) there))
 
 -- a window for an arc out of the shipment's origin begins at a point
