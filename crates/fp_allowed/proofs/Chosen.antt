@@ -11,7 +11,7 @@ use Rattle.fp_tree.specs.declared.sides.Split.TheVariants.{ByArc, ByTime}
 use Rattle.fp_allowed.specs.Allowed.{tails_of}
 use Rattle.fp_allowed.specs.Bits.{IsRowUnder, allowed_in, row_allows}
 use Rattle.fp_allowed.specs.Chains.{IsForced, SeveralLeave}
-use Rattle.fp_allowed.specs.Choices.{OneAtMost, PartsClasses}
+use Rattle.fp_allowed.specs.Choices.{IsTaken, OneAtMost, PartsClasses}
 use Rattle.fp_allowed.specs.Departures.{DividesDepartures, IsSplitAt}
 use Rattle.fp_allowed.specs.ForcedChains.{ForcedChain}
 use Rattle.fp_allowed.specs.Settings.{IsSetting, Setting}
@@ -88,3 +88,13 @@ divides_under s v sides k terminal row (Some split) same is parts under =
     subst (λ (x : Setting). DividesDepartures x.problem (windows_in x.windows) sides k terminal split) same
     (divides s sides k terminal is split (split-at s row k terminal split is parts) (parts-under s sides k terminal row (Some split) is under_s parts)
     (λ c h. allowed-class s sides k c is h))
+
+-- which split is taken by the bits is taken by the sides
+pub taken_under : (s v : Setting) (sides : List Side) (k terminal : ℕ) (row : List Bool) (o : Option Split) → s ≡ v → IsSetting s →
+    IfSome o (IsTaken s.problem (windows_in s.windows) s.network (row_allows s.network row) k terminal) → IsRowUnder v sides k row →
+    IfSome o (IsTaken v.problem (windows_in v.windows) v.network (allowed_in v sides k) k terminal)
+taken_under s v sides k terminal row None same is taken under = tt
+taken_under s v sides k terminal row (Some split) same is taken under =
+    let under_s : IsRowUnder s sides k row = subst (λ (x : Setting). IsRowUnder x sides k row) (sym same) under in
+    subst (λ (x : Setting). IsTaken x.problem (windows_in x.windows) x.network (allowed_in x sides k) k terminal split) same
+    (subst (λ (allowed : Leg → Bool). IsTaken s.problem (windows_in s.windows) s.network allowed k terminal split) (row_allows-under s sides k row is under_s) taken)

@@ -8,6 +8,7 @@ use Rattle.fp_model.specs.Problem.{IsValid, Problem, arc_at, hold_at, no_arc}
 use Rattle.fp_timenodes.specs.declared.places.Place.{Place}
 use Rattle.fp_timenodes.specs.Floor.{has_point}
 use Rattle.fp_timenodes.specs.Points.{TimePoints, points_at, times_at}
+use Rattle.fp_timenodes.proofs.Rounds.{points_at_mono}
 use Rattle.fp_timenodes.proofs.PointLists.{has_point_rest, has_point_first, has_point-append}
 use Rattle.fp_flatnet.specs.declared.window_tables.Window.{Window}
 use Rattle.fp_flatnet.specs.Belonging.{BelongsTo, IsNarrowed}
@@ -15,6 +16,7 @@ use Rattle.fp_flatnet.specs.Initial.{BeginAt, dues_at, initial_points, releases_
 use Rattle.fp_flatnet.specs.Tables.{WindowTable, windows_in}
 use Rattle.fp_longestarcs.specs.Changes.{points_with}
 use Rattle.fp_longestarcs.specs.Networks.{TimedNetwork, points_in}
+use Rattle.fp_longestarcs.specs.Whole.{IsNetworkOf}
 use Rattle.fp_longestarcs.specs.Properties.{HasShipmentTimes}
 use Rattle.fp_longestarcs.proofs.Same.{has-with}
 use Rattle.fp_allowed.specs.InitialPoints.{HasInitialPoints}
@@ -44,7 +46,15 @@ HasInitialPoints_more p anchors points others more initial = λ terminal at h ha
 pub HasInitialPoints_same : (p : Problem) (anchors : List Place) (points others : ℕ → List ℕ) → AgreeOnPoints p points others → HasInitialPoints p anchors points → HasInitialPoints p anchors others
 HasInitialPoints_same p anchors points others same initial = λ terminal at h has. sym (same terminal h at) ∙ initial terminal at h has
 
--- and a network with one more point, as `lengthen` leaves it
+-- a network with the points as of any round
+pub HasInitialPoints-IsNetworkOf : (p : Problem) (anchors : List Place) (v : TimePoints) (round : ℕ) (net : TimedNetwork) → BeginAt p anchors v → IsNetworkOf p v round net →
+    HasInitialPoints p anchors (points_in net)
+HasInitialPoints-IsNetworkOf p anchors v round net begins is =
+    HasInitialPoints_more p anchors (λ terminal. points_at v terminal 0) (points_in net)
+    (λ terminal at h has. is.points terminal h at ∙ points_at_mono v terminal 0 round at (omega arith) has)
+    (HasInitialPoints-BeginAt p anchors v begins)
+
+-- and one with one more point, as `lengthen` leaves it
 pub HasInitialPoints-points_with : (p : Problem) (anchors : List Place) (old new : TimedNetwork) (terminal at : ℕ) → terminal < length old.points → new.points ≡ points_with old terminal at →
     HasInitialPoints p anchors (points_in old) → HasInitialPoints p anchors (points_in new)
 HasInitialPoints-points_with p anchors old new terminal at within grown =

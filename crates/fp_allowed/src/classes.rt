@@ -8,7 +8,7 @@ ghost use Rattle.fp_tree.specs.declared.sides.Side.{Side};
 ghost use Rattle.fp_allowed.specs.Allowed.{tails_of};
 ghost use Rattle.fp_allowed.specs.Bits.{AllowsPlans, IsRowUnder, allowed_in};
 ghost use Rattle.fp_allowed.specs.Chains.{IsForced, SeveralLeave};
-ghost use Rattle.fp_allowed.specs.Choices.{OneAtMost};
+ghost use Rattle.fp_allowed.specs.Choices.{IsTaken, OneAtMost};
 ghost use Rattle.fp_allowed.specs.Departures.{DividesDepartures, IsSplitAt};
 ghost use Rattle.fp_allowed.specs.Settings.{IsSetting};
 
@@ -98,10 +98,12 @@ impl<'a> Allowed<'a> {
     /// A split of a shipment at a terminal, under a row of its, that leaves something on both sides. `None` exactly where
     /// fewer than two allowed classes leave the terminal.
     ///
-    /// Where several arcs with allowed classes leave the terminal, it is by the arc whose window ends last, the least
-    /// number at a tie. Where one does, it is by the point of the middle one of its allowed classes. `row` has one bit
-    /// per class. For each list of sides under which it is the shipment's row, each side of the split, added to that
-    /// list, leaves the shipment some departures at the terminal, and together they leave those that the list alone
+    /// Where several arcs with allowed classes leave the terminal, it is by the arc whose window
+    /// ends last, the least number at a tie. Where one does, it is by the point of the middle one
+    /// of its allowed classes: of those from the half of the least and the greatest of their
+    /// numbers on, rounded up, the first. `row` has one bit per class. For each list of sides under
+    /// which it is the shipment's row, each side of the split, added to that list, leaves the
+    /// shipment some departures at the terminal, and together they leave those that the list alone
     /// leaves. Takes no memory.
     pub fn choice(&self, shipment: u32, row: &Row, terminal: u32) -> Option<Split>
         requires shipment { shipment < length self.now.problem.shipments }
@@ -113,6 +115,8 @@ impl<'a> Allowed<'a> {
         ensures at { IfSome result (IsSplitAt self.now.problem shipment terminal) }
         ensures divides { (sides : List Side) → IsRowUnder self.now sides shipment row.now →
             IfSome result (DividesDepartures self.now.problem (windows_in self.now.windows) sides shipment terminal) }
+        ensures taken { (sides : List Side) → IsRowUnder self.now sides shipment row.now →
+            IfSome result (IsTaken self.now.problem (windows_in self.now.windows) self.now.network (allowed_in self.now sides shipment) shipment terminal) }
     {
         parting_split(
             self.instance,
