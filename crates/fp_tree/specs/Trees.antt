@@ -20,6 +20,21 @@ leaves_of {X} fork_of (sides ∷ pending) (x ∷ nodes) =
       | Some f ↦ leaves_of fork_of ((sides ++ (first f ∷ [])) ∷ (sides ++ (second f ∷ [])) ∷ pending) nodes
     ]
 
+-- A node that is a split, with the sides on its way from the root.
+pub record Branch (X : Type 0) : Type 0 where
+  pub node : X
+  pub sides : List Side
+
+-- The splits among nodes, with their sides, where `pending` has the sides of the trees that the nodes make.
+abbrev pub branches_of : {X : Type 0} → (X → Option Fork) → List (List Side) → List X → List (Branch X)
+branches_of fork_of pending [] = []
+branches_of fork_of [] (x ∷ nodes) = []
+branches_of {X} fork_of (sides ∷ pending) (x ∷ nodes) =
+    elim (fork_of x) as (λ o. List (Branch X)) [
+      | None ↦ branches_of fork_of pending nodes
+      | Some f ↦ (record { node = x; sides = sides }) ∷ branches_of fork_of ((sides ++ (first f ∷ [])) ∷ (sides ++ (second f ∷ [])) ∷ pending) nodes
+    ]
+
 -- The nodes are exactly so many trees, one after another.
 abbrev pub AreTrees : {X : Type 0} → (X → Option Fork) → ℕ → List X → Type 0
 AreTrees fork_of pending [] = pending ≡ 0
@@ -38,6 +53,24 @@ tree_leaves fork_of nodes = leaves_of fork_of ([] ∷ []) nodes
 -- The nodes of a tree that are splits, in preorder.
 abbrev pub tree_splits : {X : Type 0} → (X → Option Fork) → List X → List X
 tree_splits fork_of nodes = filter (λ x. is_some (fork_of x)) nodes
+
+-- The splits of a tree, each with the sides on its way, in preorder.
+abbrev pub tree_branches : {X : Type 0} → (X → Option Fork) → List X → List (Branch X)
+tree_branches fork_of nodes = branches_of fork_of ([] ∷ []) nodes
+
+-- How many splits stand before leaf number k in preorder. Where there is no such leaf, all of them do.
+abbrev pub splits_before : {X : Type 0} → (X → Option Fork) → ℕ → List X → ℕ
+splits_before fork_of k [] = 0
+splits_before fork_of zero (x ∷ nodes) = elim (fork_of x) as (λ o. ℕ) [ None ↦ 0 | Some f ↦ suc (splits_before fork_of zero nodes) ]
+splits_before fork_of (suc k) (x ∷ nodes) =
+    elim (fork_of x) as (λ o. ℕ) [ None ↦ splits_before fork_of k nodes | Some f ↦ suc (splits_before fork_of (suc k) nodes) ]
+
+-- Both are leaves, or both split, with the same two sides.
+abbrev pub SplitAlike : Option Fork → Option Fork → Type 0
+SplitAlike None None = Unit {0}
+SplitAlike None (Some g) = ⊥
+SplitAlike (Some f) None = ⊥
+SplitAlike (Some f) (Some g) = (first f ≡ first g) × (second f ≡ second g)
 
 -- The nodes with leaf number k replaced by what `change` makes of it.
 abbrev pub with_leaf : {X : Type 0} → (X → Option Fork) → (X → List X) → ℕ → List X → List X
