@@ -180,7 +180,7 @@ made-all p anchors added v i valid made long range few =
         whole.terminals,
         whole.few_first,
         ap (λ (qs : List AddedPoint). length qs) whole.added_is,
-        valid.few_terminals,
+        valid.parts.few_terminals,
         few-in_all 4001 added few (λ k d lt. omega (arith, (range k d lt).round.1)),
       );
       same = λ terminal round lt. made-same p anchors added v terminal round whole lt;

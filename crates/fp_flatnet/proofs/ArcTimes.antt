@@ -34,7 +34,7 @@ costs-small p nodes valid same =
     λ k d lt.
     let there : k < length p.arcs = omega (arith, lt, length-map p.arcs (λ (x : Arc). Some (arc_step p x))) in
     let small : step p k ≤ 101000 = omega (arith, (arc-valid p k valid there).within.time.1, hold-small p (arc_at p k).to valid) in
-    let few : nodes ≤ 100 = omega (arith, same, valid.few_terminals) in
+    let few : nodes ≤ 100 = omega (arith, same, valid.parts.few_terminals) in
     let product : nodes * step p k ≤ 100 * 101000 = mul-le-mul few small in
     let P : Option ℕ → Type 0 = λ o. IsSmallFor nodes o in
     subst P (sym (get_or-map (λ (x : Arc). Some (arc_step p x)) p.arcs k no_arc d there)) (omega (arith, product))

@@ -97,8 +97,8 @@ BelongsTo-narrowed p table k a lo hi belongs can few =
     let anchor : Place = record { terminal = slice_index table.tails a; at = lo } in
     let in_time : lo ≤ (shipment_at p k).due = narrowed-due p (shipment_at p k) a lo hi table.anchors (windows_in table k a) can was in
     let is_place : IsPlace (length p.terminals) anchor = (
-      omega (arith, tail, (belongs.valid.arcs a no_arc arc).from),
-      omega (arith, in_time, (belongs.valid.shipments k no_shipment shipment).within.due),
+      omega (arith, tail, (belongs.valid.parts.arcs a no_arc arc).from),
+      omega (arith, in_time, (belongs.valid.parts.shipments k no_shipment shipment).within.due),
     ) in
     BelongsTo-with_entry p table k a (Some (record { lo = lo; hi = hi })) (table.anchors ++ (anchor ∷ [])) belongs there.0 there.1
     (λ x contains. Contains-append_left table.anchors (anchor ∷ []) x contains)

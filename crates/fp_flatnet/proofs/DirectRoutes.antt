@@ -44,7 +44,7 @@ direct-carries p s legs valid ends in_time direct =
 -- direct routes of shipments that are in time are a plan
 pub IsPlan-from_direct : (p : Problem) (routes : List (List Leg)) → IsValid p → AllInTime p → IsDirectPlan p routes → IsPlan p 1 routes
 IsPlan-from_direct p routes valid in_time direct =
-    each p.shipments routes (λ k lt. valid.shipments k no_shipment lt) (λ k lt. in_time k no_shipment lt) direct
+    each p.shipments routes (λ k lt. valid.parts.shipments k no_shipment lt) (λ k lt. in_time k no_shipment lt) direct
   where
     each : (ss : List Shipment) (routes : List (List Leg)) → ((k : ℕ) → k < length ss → IsShipment (length p.terminals) (slice_index_or ss k no_shipment)) →
         ((k : ℕ) → k < length ss → IsInTime p (slice_index_or ss k no_shipment)) → AllZip (IsDirect p) ss routes → AllZip (Carries p 1) ss routes

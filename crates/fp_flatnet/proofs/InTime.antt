@@ -36,7 +36,7 @@ carried-all p n valid (s ∷ ss) shipments in_time =
 
 pub PlanExists-from_in_time : (p : Problem) → IsValid p → AllInTime p → PlanExists p
 PlanExists-from_in_time p valid in_time =
-    let plan = carried-all p (length p.terminals) valid p.shipments (λ k lt. valid.shipments k no_shipment lt) (λ k lt. in_time k no_shipment lt) in
+    let plan = carried-all p (length p.terminals) valid p.shipments (λ k lt. valid.parts.shipments k no_shipment lt) (λ k lt. in_time k no_shipment lt) in
     (1, plan.0, omega arith, plan.1)
 
 -- what leaves ready and arrives by the due time has the time of its walk

@@ -36,12 +36,12 @@ time-steps p here there [] apart leads = absurd (apart leads)
 time-steps p here there (a ∷ arcs) apart leads = steps-held p here there a arcs leads
 
 pub arc-valid : (p : Problem) (a : ℕ) → IsValid p → a < length p.arcs → IsArc (length p.terminals) (arc_at p a)
-arc-valid p a valid exists = valid.arcs a no_arc exists
+arc-valid p a valid exists = valid.parts.arcs a no_arc exists
 
 pub hold-small : (p : Problem) (terminal : ℕ) → IsValid p → hold_at p terminal ≤ 1000
 hold-small p terminal valid =
     ⊎_elim
-    (λ (inside : terminal < length p.holds). valid.holds terminal 0 inside)
+    (λ (inside : terminal < length p.holds). valid.parts.holds terminal 0 inside)
     (λ (past : length p.holds ≤ terminal).
     let none : hold_at p terminal ≡ 0 = get_or_past p.holds terminal 0 past in
     omega (arith, none))
@@ -126,8 +126,8 @@ steps-small p here there arcs valid least =
     let once : AreApart arcs = AreApart-map (λ a. (arc_at p a).to) arcs (least-apart p here there arcs valid least).1 in
     let within : sum_by at arcs ≤ sum_by (capped_step p) p.arcs = sum_by-places-le (capped_step p) no_arc (omega arith) arcs p.arcs exist once in
     let each : All (λ (x : Arc). capped_step p x ≤ 101000) p.arcs =
-    λ k d lt. omega (arith, hold-small p (get_or p.arcs k d).to valid, (valid.arcs k d lt).within.time.1) in
-    let few : length p.arcs * 101000 ≤ 101000000 = omega (arith, valid.few_arcs) in
+    λ k d lt. omega (arith, hold-small p (get_or p.arcs k d).to valid, (valid.parts.arcs k d lt).within.time.1) in
+    let few : length p.arcs * 101000 ≤ 101000000 = omega (arith, valid.parts.few_arcs) in
     omega (arith, within, few, sum_by-le (capped_step p) 101000 p.arcs each, all_steps arcs exist)
   where
     all_steps : (arcs : List ℕ) → AllByRecursion (λ a. a < length p.arcs) arcs → steps p arcs ≡ sum_by (λ a. capped_step p (get_or p.arcs a no_arc)) arcs

@@ -32,7 +32,7 @@ are-ends : (p : Problem) (net : TimedNetwork) (k : ℕ) (firsts : List ℕ) (tak
     start ≡ get_or firsts taken.from start → end ≡ last_node net taken.to → AreEnds net (shipment_at p k) start end
 are-ends p net k firsts taken start end valid whole exists are same begin finish =
     let s : Shipment = shipment_at p k in
-    let is : IsShipment (length p.terminals) s = valid.shipments k no_shipment exists in
+    let is : IsShipment (length p.terminals) s = valid.parts.shipments k no_shipment exists in
     let from : s.from < length net.points = omega (arith, is.from, whole.arcs.terminals) in
     let to : s.to < length net.points = omega (arith, is.to, whole.arcs.terminals) in
     let read : start ≡ get_or firsts s.from start = begin ∙ ap (λ (t : Shipment). get_or firsts t.from start) same in
