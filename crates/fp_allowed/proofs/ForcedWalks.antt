@@ -1,4 +1,5 @@
--- What the end of a forced chain says of the walks over allowed classes: each begins with the chain.
+-- What the end of a forced chain says of the walks over allowed classes: each begins with the
+-- chain.
 use Rattle.std.proofs.Common.{◌≡◌, ◌≢◌, ℕ, ◌<◌, Bool, true, ◌⊎◌, List, [], ◌∷◌, ◌++◌, length, ⊎_elim, inl, inr, refl, sym, ap, ◌∙◌, subst}
 use Rattle.std.specs.Prelude.{Contains, IfSome, Option, map}
 use Rattle.std.specs.List.{AllByRecursion}
@@ -26,14 +27,14 @@ use Rattle.fp_allowed.specs.ForcedChains.{ForcedChain}
 use Rattle.fp_allowed.specs.Listing.{classes_at}
 use Rattle.fp_allowed.specs.Settings.{IsSetting, Setting}
 use Rattle.fp_allowed.specs.Walks.{IsTimedWalk}
-use Rattle.fp_allowed.proofs.ClassTimes.{HasWindow, allowed-exists, allowed-window}
+use Rattle.fp_allowed.proofs.ClassTimes.{HasWindow, allowed_exists, allowed_window}
 
 -- no allowed class leaves a shipment's destination
 pub NoneLeaves-destination : (p : Problem) (table : WindowTable) (points : ℕ → List ℕ) (sides : List Side) (k : ℕ) → BelongsTo p table → k < length p.shipments →
     NoneLeaves p (is_allowed p (windows_in table) points sides k) (shipment_at p k).to
 NoneLeaves-destination p table points sides k belongs shipment = λ c allowed leaves.
-    let has : HasWindow (windows_in table) k c = allowed-window p (windows_in table) points sides k c allowed in
-    let exists : c.arc < length p.arcs = allowed-exists p (windows_in table) points sides k c allowed in
+    let has : HasWindow (windows_in table) k c = allowed_window p (windows_in table) points sides k c allowed in
+    let exists : c.arc < length p.arcs = allowed_exists p (windows_in table) points sides k c allowed in
     let narrowed : IsNarrowed p (shipment_at p k) c.arc table.anchors has.window = subst (λ (o : Option Window). IfSome o (IsNarrowed p (shipment_at p k) c.arc table.anchors)) has.is (belongs.narrowed k c.arc shipment exists) in
     narrowed.is_window.leaves leaves
 
@@ -80,17 +81,18 @@ module _ (p : Problem) (allowed : Leg → Bool) where
   abbrev IsOutside : List ℕ → ℕ → Type 0
   IsOutside met t = AllByRecursion (λ m. m ≢ t) met
 
-  -- the terminals on the way of forced classes to the destination differ, and none of them was met before
+  -- the terminals on the way of forced classes to the destination differ, and none of them was met
+  -- before
   record AreNew (met on_way : List ℕ) : Type 0 where
     apart : AreApart on_way
     outside : AllByRecursion (IsOutside met) on_way
 
-  terminals-new : (there : ℕ) (met : List ℕ) (here : ℕ) (chain : List Leg) → AreForced p allowed there met here chain → chain_stop p here chain ≡ there → IsOutside met there →
+  terminals_new : (there : ℕ) (met : List ℕ) (here : ℕ) (chain : List Leg) → AreForced p allowed there met here chain → chain_stop p here chain ≡ there → IsOutside met there →
       AreNew met (here ∷ ends_of p (arcs_of chain))
-  terminals-new there met here [] forced stop outside = record { apart = (tt, tt); outside = (subst (λ (t : ℕ). IsOutside met t) (sym stop) outside, tt) }
-  terminals-new there met here (c ∷ chain) forced stop outside =
+  terminals_new there met here [] forced stop outside = record { apart = (tt, tt); outside = (subst (λ (t : ℕ). IsOutside met t) (sym stop) outside, tt) }
+  terminals_new there met here (c ∷ chain) forced stop outside =
       let on_way : List ℕ = (arc_at p c.arc).to ∷ ends_of p (arcs_of chain) in
-      let new : AreNew (here ∷ met) on_way = terminals-new there (here ∷ met) (arc_at p c.arc).to chain forced.3 stop (forced.0, outside) in
+      let new : AreNew (here ∷ met) on_way = terminals_new there (here ∷ met) (arc_at p c.arc).to chain forced.3 stop (forced.0, outside) in
       record {
         apart = (each-weaker (IsOutside (here ∷ met)) (λ t. t ≢ here) (λ t out e. out.0 (sym e)) on_way new.outside, new.apart);
         outside = (forced.1, each-weaker (IsOutside (here ∷ met)) (IsOutside met) (λ t out. out.1) on_way new.outside);
@@ -102,14 +104,15 @@ module _ (p : Problem) (allowed : Leg → Bool) where
   Reached-IsRoute s chain exist differ is ends = record {
     some = some chain ends;
     leads = subst (λ (t : ℕ). Leads p s.from (arcs_of chain) t) ends (AreForced-Leads s.to [] s.from chain exist is.forced);
-    once = (terminals-new s.to [] s.from chain is.forced ends tt).apart;
+    once = (terminals_new s.to [] s.from chain is.forced ends tt).apart;
   }
     where
       some : (legs : List Leg) → chain_stop p s.from legs ≡ s.to → arcs_of legs ≢ []
       some [] stop none = differ stop
       some (c ∷ legs) stop none = absurd (cc none)
 
-  -- the only allowed class that leaves a terminal, which goes to one that the chain leaves or where it ends
+  -- the only allowed class that leaves a terminal, which goes to one that the chain leaves or where
+  -- it ends
   record GoesOn (there : ℕ) (left : List ℕ) (stop t : ℕ) : Type 0 where
     away : t ≢ there
     class : Leg
@@ -117,16 +120,16 @@ module _ (p : Problem) (allowed : Leg → Bool) where
     next : (has_point left (arc_at p class.arc).to ≡ true) ⊎ ((arc_at p class.arc).to ≡ stop)
 
   -- each terminal that a chain leaves has such a class
-  goes-on : (there : ℕ) (met : List ℕ) (here : ℕ) (chain : List Leg) (t : ℕ) → AreForced p allowed there met here chain → has_point (terminals_left p chain) t ≡ true →
+  goes_on : (there : ℕ) (met : List ℕ) (here : ℕ) (chain : List Leg) (t : ℕ) → AreForced p allowed there met here chain → has_point (terminals_left p chain) t ≡ true →
       GoesOn there (terminals_left p chain) (chain_stop p here chain) t
-  goes-on there met here [] t forced has = absurd (cc has)
-  goes-on there met here (c ∷ chain) t forced has =
+  goes_on there met here [] t forced has = absurd (cc has)
+  goes_on there met here (c ∷ chain) t forced has =
       let left : List ℕ = terminals_left p chain in
       let stop : ℕ = chain_stop p (arc_at p c.arc).to chain in
       ⊎_elim
       (λ (first : tails_of p c.arc ≡ t). subst (λ (n : ℕ). GoesOn there (tails_of p c.arc ∷ left) stop n) (sym forced.2.leaves ∙ first) (record { away = forced.0; class = c; only = forced.2; next = next chain forced.3 }))
       (λ (later : has_point left t ≡ true).
-      let on : GoesOn there left stop t = goes-on there (here ∷ met) (arc_at p c.arc).to chain t forced.3 later in
+      let on : GoesOn there left stop t = goes_on there (here ∷ met) (arc_at p c.arc).to chain t forced.3 later in
       record {
         away = on.away;
         class = on.class;
@@ -143,12 +146,13 @@ module _ (p : Problem) (allowed : Leg → Bool) where
           (has_point_rest (tails_of p c.arc) (tails_of p d.arc ∷ terminals_left p rest) (arc_at p c.arc).to
           (subst (λ (n : ℕ). has_point (tails_of p d.arc ∷ terminals_left p rest) n ≡ true) on.2.leaves (has_point_first (tails_of p d.arc) (terminals_left p rest))))
 
-  -- no walk leads away from terminals whose only allowed classes go on among them and to one more that none leaves or is among them
-  never-there : (there stop : ℕ) (left : List ℕ) → ((t : ℕ) → has_point left t ≡ true → GoesOn there left stop t) → stop ≢ there → (has_point left stop ≡ true) ⊎ NoneLeaves p allowed stop →
+  -- no walk leads away from terminals whose only allowed classes go on among them and to one more
+  -- that none leaves or is among them
+  never_there : (there stop : ℕ) (left : List ℕ) → ((t : ℕ) → has_point left t ≡ true → GoesOn there left stop t) → stop ≢ there → (has_point left stop ≡ true) ⊎ NoneLeaves p allowed stop →
       (here : ℕ) (walk : List Leg) → (has_point left here ≡ true) ⊎ (here ≡ stop) → Leads p here (arcs_of walk) there → AllByRecursion (λ c. allowed c ≡ true) walk → ⊥
-  never-there there stop left on away held here [] (inl has) leads all = (on here has).away leads
-  never-there there stop left on away held here [] (inr at) leads all = away (sym at ∙ leads)
-  never-there there stop left on away held here (w ∷ walk) place leads all = never-there there stop left on away held (arc_at p w.arc).to walk (step-on place) leads.2 all.1
+  never_there there stop left on away held here [] (inl has) leads all = (on here has).away leads
+  never_there there stop left on away held here [] (inr at) leads all = away (sym at ∙ leads)
+  never_there there stop left on away held here (w ∷ walk) place leads all = never_there there stop left on away held (arc_at p w.arc).to walk (step-on place) leads.2 all.1
     where
       from-left : has_point left here ≡ true → (has_point left (arc_at p w.arc).to ≡ true) ⊎ ((arc_at p w.arc).to ≡ stop)
       from-left has =
@@ -167,7 +171,7 @@ module _ (p : Problem) (allowed : Leg → Bool) where
   pub Stuck-no_walk : (s : Shipment) (chain walk : List Leg) (terminal : ℕ) → IsForcedChain p allowed s chain → EndsAs p allowed s chain (Stuck terminal) → Leads p s.from (arcs_of walk) s.to →
       AllByRecursion (λ c. allowed c ≡ true) walk → ⊥
   Stuck-no_walk s chain walk terminal is ends leads all =
-      never-there s.to (chain_stop p s.from chain) (terminals_left p chain) (λ t has. goes-on s.to [] s.from chain t is.forced has) (λ e. ends.1 (sym ends.0 ∙ e)) (held ends.2) s.from walk (starts chain is.forced) leads all
+      never_there s.to (chain_stop p s.from chain) (terminals_left p chain) (λ t has. goes_on s.to [] s.from chain t is.forced has) (λ e. ends.1 (sym ends.0 ∙ e)) (held ends.2) s.from walk (starts chain is.forced) leads all
     where
       held : (Contains (terminals_left p chain) terminal) ⊎ NoneLeaves p allowed terminal → (has_point (terminals_left p chain) (chain_stop p s.from chain) ≡ true) ⊎ NoneLeaves p allowed (chain_stop p s.from chain)
       held (inl back) =
@@ -195,10 +199,10 @@ module _ (s : Setting) (sides : List Side) (k : ℕ) (chain : ForcedChain) (is :
       (NoneLeaves-destination s.problem s.windows (points_in s.network) sides k is.belongs exists) timed.leads timed.allowed_all
 
   -- and its arcs are a route
-  pub Reached-chain_route : chain.end ≡ Reached → IsRoute s.problem (shipment_at s.problem k) (arcs_of (classes_at s.network chain.classes))
-  Reached-chain_route at =
-      Reached-IsRoute s.problem (allowed_in s sides k) (shipment_at s.problem k) legs (λ c allowed. allowed-exists s.problem (windows_in s.windows) (points_in s.network) sides k c allowed)
-      (is.belongs.valid.shipments k no_shipment exists).ends forced.forced (ended Reached at)
+  pub Reached_chain_route : chain.end ≡ Reached → IsRoute s.problem (shipment_at s.problem k) (arcs_of (classes_at s.network chain.classes))
+  Reached_chain_route at =
+      Reached-IsRoute s.problem (allowed_in s sides k) (shipment_at s.problem k) legs (λ c allowed. allowed_exists s.problem (windows_in s.windows) (points_in s.network) sides k c allowed)
+      (is.belongs.valid.parts.shipments k no_shipment exists).ends forced.forced (ended Reached at)
 
   -- where it is stuck there is no timed walk
   pub Stuck-no_timed_walk : (terminal : ℕ) → chain.end ≡ Stuck terminal → (walk : List Leg) → IsTimedWalk s.problem (points_in s.network) (allowed_in s sides k) (shipment_at s.problem k) walk → ⊥
@@ -206,6 +210,6 @@ module _ (s : Setting) (sides : List Side) (k : ℕ) (chain : ForcedChain) (is :
       Stuck-no_walk s.problem (allowed_in s sides k) (shipment_at s.problem k) legs walk terminal forced.forced (ended (Stuck terminal) at) timed.leads timed.allowed_all
 
   -- and each timed walk begins with the chain
-  pub timed_walk-chain : (walk : List Leg) → IsTimedWalk s.problem (points_in s.network) (allowed_in s sides k) (shipment_at s.problem k) walk →
+  pub timed_walk_chain : (walk : List Leg) → IsTimedWalk s.problem (points_in s.network) (allowed_in s sides k) (shipment_at s.problem k) walk →
       BeginsWith s.problem (allowed_in s sides k) (shipment_at s.problem k).to (chain_stop s.problem (shipment_at s.problem k).from (classes_at s.network chain.classes)) (classes_at s.network chain.classes) walk
-  timed_walk-chain walk timed = AreForced-walk s.problem (allowed_in s sides k) (shipment_at s.problem k).to [] (shipment_at s.problem k).from legs walk forced.forced.forced timed.leads timed.allowed_all
+  timed_walk_chain walk timed = AreForced-walk s.problem (allowed_in s sides k) (shipment_at s.problem k).to [] (shipment_at s.problem k).from legs walk forced.forced.forced timed.leads timed.allowed_all

@@ -1,4 +1,5 @@
--- The departures left and the slack never grow under more sides, and the slack falls on both sides of a split that divides departures.
+-- The departures left and the slack never grow under more sides, and the slack falls on both sides
+-- of a split that divides departures.
 use Rattle.std.proofs.Common.{◌≡◌, ℕ, zero, suc, ◌+◌, ◌<◌, ◌≤◌, Bool, true, false, ◌&&◌, List, [], ◌∷◌, ◌++◌, length, ⊎_elim, refl, sym, ap, ◌∙◌, subst, arith}
 use Rattle.std.specs.Prelude.{nat_eq, nat_le, Option, Some, None}
 use Rattle.std.proofs.lemmas.Bool.{and_from, and_parts, cases_Bool, cases_eq, cond-false, cond-true, eqb-true, false≢true}
@@ -11,7 +12,7 @@ use Rattle.fp_tree.specs.Sides.{Exit, first_of_split, second_of_split}
 use Rattle.fp_allowed.specs.Allowed.{AreAmong, exit_of, meets_all, tails_of}
 use Rattle.fp_allowed.specs.Departures.{DividesDepartures, count_below, departures_below, departures_in, departures_left, is_departure}
 use Rattle.fp_allowed.specs.Slack.{slack, slack_at}
-use Rattle.fp_allowed.proofs.Counting.{one_if}
+use Rattle.fp_allowed.proofs.CountsBelow.{one_if}
 use Rattle.fp_allowed.proofs.FewerSides.{AreAmong_append, meets_all_fewer}
 
 -- a test that passes wherever another does counts at least as many numbers
@@ -90,21 +91,21 @@ module _ (p : Problem) (windows : ℕ → ℕ → Option Window) where
   slack_push sides side = slack_fewer sides (sides ++ (side ∷ [])) (AreAmong_append sides (side ∷ []))
 
   -- where departures are left, an arc of the problem leaves the terminal
-  leaving-arc : (sides : List Side) (k terminal a : ℕ) → 1 ≤ departures_below p windows sides k terminal a → (arc : ℕ) × (arc < a) × (tails_of p arc ≡ terminal)
-  leaving-arc sides k terminal zero some = absurd (omega (arith, some))
-  leaving-arc sides k terminal (suc a) some =
+  leaving_arc : (sides : List Side) (k terminal a : ℕ) → 1 ≤ departures_below p windows sides k terminal a → (arc : ℕ) × (arc < a) × (tails_of p arc ≡ terminal)
+  leaving_arc sides k terminal zero some = absurd (omega (arith, some))
+  leaving_arc sides k terminal (suc a) some =
       ⊎_elim
       (λ (here : nat_eq (tails_of p a) terminal ≡ true). (a, omega arith, eqb-true (tails_of p a) terminal here))
       (λ (away : nat_eq (tails_of p a) terminal ≡ false).
-      let earlier = leaving-arc sides k terminal a (omega (arith, some, cond-false (nat_eq (tails_of p a) terminal) (departures_in p sides k a (windows k a)) 0 away)) in
+      let earlier = leaving_arc sides k terminal a (omega (arith, some, cond-false (nat_eq (tails_of p a) terminal) (departures_in p sides k a (windows k a)) 0 away)) in
       (earlier.0, omega (arith, earlier.1), earlier.2))
       (cases_Bool (nat_eq (tails_of p a) terminal))
 
   -- so the terminal exists
   pub departures_left-terminal : (sides : List Side) (k terminal : ℕ) → IsValid p → 1 ≤ departures_left p windows sides k terminal → terminal < length p.terminals
   departures_left-terminal sides k terminal valid some =
-      let arc = leaving-arc sides k terminal (length p.arcs) some in
-      subst (λ (t : ℕ). t < length p.terminals) arc.2 (valid.arcs arc.0 no_arc arc.1).from
+      let arc = leaving_arc sides k terminal (length p.arcs) some in
+      subst (λ (t : ℕ). t < length p.terminals) arc.2 (valid.parts.arcs arc.0 no_arc arc.1).from
 
   module _ (sides : List Side) (k terminal : ℕ) (split : Split) (valid : IsValid p) (shipment : k < length p.shipments) (divides : DividesDepartures p windows sides k terminal split) where
     place : terminal < length p.terminals

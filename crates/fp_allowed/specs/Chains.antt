@@ -34,7 +34,8 @@ chain_stop p here (c ∷ chain) = chain_stop p (arc_at p c.arc).to chain
 abbrev pub terminals_left : Problem → List Leg → List ℕ
 terminals_left p chain = map (λ (c : Leg). tails_of p c.arc) chain
 
--- how the forced chain of a shipment ends: at the destination, where several classes are allowed, or where none is or the terminal was met before
+-- how the forced chain of a shipment ends: at the destination, where several classes are allowed,
+-- or where none is or the terminal was met before
 abbrev pub EndsAs : Problem → (Leg → Bool) → Shipment → List Leg → ChainEnd → Type 0
 EndsAs p allowed s chain Reached = chain_stop p s.from chain ≡ s.to
 EndsAs p allowed s chain (Several terminal) =

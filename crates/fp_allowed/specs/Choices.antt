@@ -19,7 +19,8 @@ end_of (Some w) = w.hi
 abbrev pub last_moment : (ℕ → ℕ → Option Window) → ℕ → ℕ → ℕ
 last_moment windows k arc = end_of (windows k arc)
 
--- an arc is preferred to another: its window ends later, or both end together and its number is less
+-- an arc is preferred to another: its window ends later, or both end together and its number is
+-- less
 abbrev pub IsPreferred : (ℕ → ℕ) → ℕ → ℕ → Type 0
 IsPreferred ends arc other = (ends other < ends arc) ⊎ ((ends other ≡ ends arc) × (arc < other))
 
@@ -27,7 +28,8 @@ IsPreferred ends arc other = (ends other < ends arc) ⊎ ((ends other ≡ ends a
 abbrev pub IsPreferredToAll : (ℕ → ℕ) → (Leg → Bool) → (Leg → Type 0) → ℕ → Type 0
 IsPreferredToAll ends allowed Leaves arc = (other : Leg) → OneLeaves allowed Leaves other → other.arc ≢ arc → IsPreferred ends arc other.arc
 
--- an allowed class leaves so by the arc, which is preferred to all others, and it is told whether all that leave so are by this arc
+-- an allowed class leaves so by the arc, which is preferred to all others, and it is told whether
+-- all that leave so are by this arc
 pub record IsPicked (ends : ℕ → ℕ) (allowed : Leg → Bool) (Leaves : Leg → Type 0) (pick : Pick) : Type 0 where
   pub one : Leg
   pub leaves : OneLeaves allowed Leaves one
@@ -40,7 +42,8 @@ pub record IsPicked (ends : ℕ → ℕ) (allowed : Leg → Bool) (Leaves : Leg 
 abbrev pub Picks : (ℕ → ℕ) → (Leg → Bool) → (Leg → Type 0) → Option Pick → Type 0
 Picks ends allowed Leaves o = MatchOption o ((c : Leg) → OneLeaves allowed Leaves c → ⊥) (IsPicked ends allowed Leaves)
 
--- a pick is by one more arc, and by no arc before it, or it is by the one of two arcs that ends later, the old one at a tie
+-- a pick is by one more arc, and by no arc before it, or it is by the one of two arcs that ends
+-- later, the old one at a tie
 abbrev pub IsBetter : (ℕ → ℕ) → Option Pick → ℕ → Pick → Type 0
 IsBetter ends None arc pick = (pick.arc ≡ arc) × (pick.alone ≡ true)
 IsBetter ends (Some old) arc pick =
@@ -55,7 +58,8 @@ pub record IsParted (allowed : Leg → Bool) (Leaves : Leg → Type 0) (at : ℕ
   pub before : one.depart < at
   pub from : two.depart ≡ at
 
--- a point is that of the middle one of an arc's allowed classes: the first one whose number is not below the half of the first and the last one's, rounded up
+-- a point is that of the middle one of an arc's allowed classes: the first one whose number is not
+-- below the half of the first and the last one's, rounded up
 pub record IsMiddle (net : TimedNetwork) (allowed : Leg → Bool) (arc at : ℕ) : Type 0 where
   pub first : Leg
   pub last : Leg
@@ -88,7 +92,8 @@ PartsClasses p allowed k terminal (ByArc shipment arc) = (shipment ≡ k) × Are
 PartsClasses p allowed k terminal (ByTime shipment place at) =
     (shipment ≡ k) × (place ≡ terminal) × IsParted allowed (λ c. tails_of p c.arc ≡ terminal) at
 
--- which split is taken at a terminal: by the arc that is preferred to all others, or, where all allowed classes leave it by one arc, by the point of the middle one
+-- which split is taken at a terminal: by the arc that is preferred to all others, or, where all
+-- allowed classes leave it by one arc, by the point of the middle one
 abbrev pub IsTaken : Problem → (ℕ → ℕ → Option Window) → TimedNetwork → (Leg → Bool) → ℕ → ℕ → Split → Type 0
 IsTaken p windows net allowed k terminal (ByArc shipment arc) =
     AreByTwo allowed (λ c. tails_of p c.arc ≡ terminal) arc × IsPreferredToAll (last_moment windows k) allowed (λ c. tails_of p c.arc ≡ terminal) arc

@@ -10,6 +10,7 @@ use Rattle.fp_allowed.specs.Departures.{departures_left}
 abbrev pub slack_at : Problem → (ℕ → ℕ → Option Window) → List Side → ℕ → ℕ → ℕ
 slack_at p windows sides k terminal = departures_left p windows sides k terminal - 1
 
--- the slack of sides: that of all shipments at all terminals together; without sides it is the instance's
+-- the slack of sides: that of all shipments at all terminals together; without sides it is the
+-- instance's
 abbrev pub slack : Problem → (ℕ → ℕ → Option Window) → List Side → ℕ
 slack p windows sides = sum_below (length p.shipments) (λ k. sum_below (length p.terminals) (slack_at p windows sides k))

@@ -1,3 +1,5 @@
+//! The split of a shipment at a terminal that parts the allowed classes that leave it.
+
 ghost use Rattle.std.specs.Prelude.{ℕ, ◌≡◌, ◌<◌, ◌≤◌, true, false, IfSome, MatchBool, MatchOption, length};
 ghost use Rattle.fp_model.specs.declared.parts.Leg.{Leg};
 ghost use Rattle.fp_flatnet.specs.Belonging.{BelongsTo};
@@ -16,7 +18,8 @@ use fp_model::Instance;
 use fp_rows::Row;
 use fp_tree::Split;
 
-/// An arc with allowed classes, and whether it is the only one that leaves its terminal and has some.
+/// An arc with allowed classes, and whether it is the only one that leaves its terminal and has
+/// some.
 #[derive(Clone, Copy)]
 pub struct Pick {
     pub arc: u32,
@@ -129,8 +132,9 @@ fn middle_point(network: &Network, arc: u32, tail: u32, row: &Row) -> Option<u32
     Some(network.points(tail)[(middle - start) as usize])
 }
 
-#[tactic(auto, using(crate::proofs::Picking::taken_by_arc, crate::proofs::Picking::taken_by_time))]
-// A split of a shipment at a terminal that parts the allowed classes that leave it, where there are two or more.
+#[tactic(auto, using(crate::proofs::ArcPicks::taken_by_arc, crate::proofs::ArcPicks::taken_by_time))]
+// A split of a shipment at a terminal that parts the allowed classes that leave it, where there are
+// two or more.
 pub(crate) fn parting_split(
     instance: &Instance,
     windows: &Windows,

@@ -1,5 +1,5 @@
 use Rattle.std.proofs.Common.{ℕ, ◌+◌, ◌-◌, ◌/◌, ◌<◌, arith}
-use Rattle.fp_allowed.proofs.Parting.{IsLastSet, IsLater, later_or, middle_at, none_at_most, one_at_most, parted_at}
+use Rattle.fp_allowed.proofs.MiddleClasses.{IsLastSet, IsLater, later_or, middle_at, none_at_most, one_at_most, parted_at}
 use Rattle.fp_allowed.proofs.choices.middle_point.Goals as goal
 
 pub returns-in_err-first-clause-parted : goal.returns-in_err-first-clause-parted

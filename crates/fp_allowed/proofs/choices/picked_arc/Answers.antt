@@ -7,7 +7,7 @@ use Rattle.fp_allowed.specs.Allowed.{tails_of}
 use Rattle.fp_allowed.specs.Bits.{row_allows}
 use Rattle.fp_allowed.specs.Choices.{last_moment}
 use Rattle.fp_allowed.specs.Leaving.{OneLeaves}
-use Rattle.fp_allowed.proofs.Picking.{picks_all, picks_away, picks_more}
+use Rattle.fp_allowed.proofs.ArcPicks.{picks_all, picks_away, picks_more}
 use Rattle.fp_allowed.proofs.choices.picked_arc.Goals as goal
 use Rattle.fp_allowed.proofs.choices.picked_arc.Goals.{then-arc-terminal+then-has_allowed, else-arc-terminal, else-arc-terminal-via-then-arc-terminal+else-has_allowed, else-arc-terminal-via-else-arc-terminal}
 

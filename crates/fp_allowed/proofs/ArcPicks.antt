@@ -16,7 +16,7 @@ use Rattle.fp_allowed.specs.Choices.{IsBetter, IsMiddle, IsPicked, IsPreferred, 
 use Rattle.fp_allowed.specs.Leaving.{IsFirstSet, IsRange, OneLeaves}
 use Rattle.fp_allowed.proofs.ArcExits.{bit-of_class, class-of_bit}
 use Rattle.fp_allowed.proofs.ListedClasses.{class_by}
-use Rattle.fp_allowed.proofs.RowClasses.{is_class-parts}
+use Rattle.fp_allowed.proofs.RowClasses.{is_class_parts}
 
 -- an arc has an allowed class where some bit among its numbers is set
 pub has_allowed_is : (net : TimedNetwork) (row : List Bool) (arc start end : ℕ) (o : Option ℕ) → IsNetwork net → arc < length net.tails → IsRange net arc start end → IsFirstSet row start end o →
@@ -34,19 +34,19 @@ module _ (ends : ℕ → ℕ) (allowed : Leg → Bool) (P R : Leg → Type 0) (t
   from : (c : Leg) → OneLeaves allowed R c → OneLeaves allowed P c
   from c one = record { allowed_it = one.allowed_it; leaves = back c one.allowed_it one.leaves }
 
-  others-same : (b : Bool) (arc : ℕ) → MatchBool b ((other : Leg) → OneLeaves allowed P other → other.arc ≡ arc) ((other : Leg) × OneLeaves allowed P other × (other.arc ≢ arc)) →
+  others_same : (b : Bool) (arc : ℕ) → MatchBool b ((other : Leg) → OneLeaves allowed P other → other.arc ≡ arc) ((other : Leg) × OneLeaves allowed P other × (other.arc ≢ arc)) →
       MatchBool b ((other : Leg) → OneLeaves allowed R other → other.arc ≡ arc) ((other : Leg) × OneLeaves allowed R other × (other.arc ≢ arc))
-  others-same true arc all = λ other one. all other (from other one)
-  others-same false arc some = (some.0, to some.0 some.1, some.2)
+  others_same true arc all = λ other one. all other (from other one)
+  others_same false arc some = (some.0, to some.0 some.1, some.2)
 
-  pub picks-same : (o : Option Pick) → Picks ends allowed P o → Picks ends allowed R o
-  picks-same None none = λ c one. none c (from c one)
-  picks-same (Some pick) picked = record {
+  picks_same : (o : Option Pick) → Picks ends allowed P o → Picks ends allowed R o
+  picks_same None none = λ c one. none c (from c one)
+  picks_same (Some pick) picked = record {
     one = picked.one;
     leaves = to picked.one picked.leaves;
     by = picked.by;
     preferred = λ other one apart. picked.preferred other (from other one) apart;
-    others = others-same pick.alone pick.arc picked.others;
+    others = others_same pick.alone pick.arc picked.others;
   }
 
 module _ (p : Problem) (net : TimedNetwork) (row : List Bool) (terminal : ℕ) (ends : ℕ → ℕ) where
@@ -55,42 +55,42 @@ module _ (p : Problem) (net : TimedNetwork) (row : List Bool) (terminal : ℕ) (
   Below a c = (c.arc < a) × (tails_of p c.arc ≡ terminal)
 
   -- what leaves by an arc before the next number
-  below-cases : (a : ℕ) (c : Leg) → OneLeaves (row_allows net row) (Below (a + 1)) c → (c.arc ≡ a) ⊎ OneLeaves (row_allows net row) (Below a) c
-  below-cases a c one =
+  below_cases : (a : ℕ) (c : Leg) → OneLeaves (row_allows net row) (Below (a + 1)) c → (c.arc ≡ a) ⊎ OneLeaves (row_allows net row) (Below a) c
+  below_cases a c one =
       ⊎_elim
       (λ (same : c.arc ≡ a). inl same)
       (λ (other : c.arc ≡ a → ⊥). inr (record { allowed_it = one.allowed_it; leaves = (omega (arith, one.leaves.0, other), one.leaves.1) }))
       (cases_eq c.arc a)
 
-  below-next : (a : ℕ) (c : Leg) → OneLeaves (row_allows net row) (Below a) c → OneLeaves (row_allows net row) (Below (a + 1)) c
-  below-next a c one = record { allowed_it = one.allowed_it; leaves = (omega (arith, one.leaves.0), one.leaves.1) }
+  below_next : (a : ℕ) (c : Leg) → OneLeaves (row_allows net row) (Below a) c → OneLeaves (row_allows net row) (Below (a + 1)) c
+  below_next a c one = record { allowed_it = one.allowed_it; leaves = (omega (arith, one.leaves.0), one.leaves.1) }
 
-  below-here : (a : ℕ) (c : Leg) → tails_of p a ≡ terminal → OneLeaves (row_allows net row) (λ k. k.arc ≡ a) c → OneLeaves (row_allows net row) (Below (a + 1)) c
-  below-here a c here one = record { allowed_it = one.allowed_it; leaves = (omega (arith, one.leaves), ap (tails_of p) one.leaves ∙ here) }
+  below_here : (a : ℕ) (c : Leg) → tails_of p a ≡ terminal → OneLeaves (row_allows net row) (λ k. k.arc ≡ a) c → OneLeaves (row_allows net row) (Below (a + 1)) c
+  below_here a c here one = record { allowed_it = one.allowed_it; leaves = (omega (arith, one.leaves), ap (tails_of p) one.leaves ∙ here) }
 
   -- the first arc with an allowed class is picked
-  picks-first : (a : ℕ) (pick : Pick) → tails_of p a ≡ terminal → (c : Leg) × OneLeaves (row_allows net row) (λ k. k.arc ≡ a) c → ((c : Leg) → OneLeaves (row_allows net row) (Below a) c → ⊥) → IsBetter ends None a pick →
+  picks_first : (a : ℕ) (pick : Pick) → tails_of p a ≡ terminal → (c : Leg) × OneLeaves (row_allows net row) (λ k. k.arc ≡ a) c → ((c : Leg) → OneLeaves (row_allows net row) (Below a) c → ⊥) → IsBetter ends None a pick →
       IsPicked ends (row_allows net row) (Below (a + 1)) pick
-  picks-first a pick here has none better = record {
+  picks_first a pick here has none better = record {
     one = has.0;
-    leaves = below-here a has.0 here has.1;
+    leaves = below_here a has.0 here has.1;
     by = has.1.leaves ∙ sym better.0;
     preferred = λ other one apart. absurd (apart (only other one));
     others = rw better.1 only;
   }
     where
       only : (other : Leg) → OneLeaves (row_allows net row) (Below (a + 1)) other → other.arc ≡ pick.arc
-      only other one = ⊎_elim (λ (same : other.arc ≡ a). same ∙ sym better.0) (λ (before : OneLeaves (row_allows net row) (Below a) other). absurd (none other before)) (below-cases a other one)
+      only other one = ⊎_elim (λ (same : other.arc ≡ a). same ∙ sym better.0) (λ (before : OneLeaves (row_allows net row) (Below a) other). absurd (none other before)) (below_cases a other one)
 
   -- one more arc is picked where its window ends later
-  picks-later : (a : ℕ) (old pick : Pick) → tails_of p a ≡ terminal → (c : Leg) × OneLeaves (row_allows net row) (λ k. k.arc ≡ a) c → IsPicked ends (row_allows net row) (Below a) old →
+  picks_later : (a : ℕ) (old pick : Pick) → tails_of p a ≡ terminal → (c : Leg) × OneLeaves (row_allows net row) (λ k. k.arc ≡ a) c → IsPicked ends (row_allows net row) (Below a) old →
       pick.arc ≡ a → ends old.arc < ends a → pick.alone ≡ false → IsPicked ends (row_allows net row) (Below (a + 1)) pick
-  picks-later a old pick here has picked is later two = record {
+  picks_later a old pick here has picked is later two = record {
     one = has.0;
-    leaves = below-here a has.0 here has.1;
+    leaves = below_here a has.0 here has.1;
     by = has.1.leaves ∙ sym is;
-    preferred = λ other one apart. subst (λ (n : ℕ). IsPreferred ends n other.arc) (sym is) (over other (below-cases a other one) (λ e. apart (e ∙ sym is)));
-    others = rw two (picked.one, below-next a picked.one picked.leaves, λ e. absurd (omega (arith, picked.leaves.leaves.0, e, is)));
+    preferred = λ other one apart. subst (λ (n : ℕ). IsPreferred ends n other.arc) (sym is) (over other (below_cases a other one) (λ e. apart (e ∙ sym is)));
+    others = rw two (picked.one, below_next a picked.one picked.leaves, λ e. absurd (omega (arith, picked.leaves.leaves.0, e, is)));
   }
     where
       than_old : (other : Leg) → OneLeaves (row_allows net row) (Below a) other → ends other.arc < ends a
@@ -109,14 +109,14 @@ module _ (p : Problem) (net : TimedNetwork) (row : List Bool) (terminal : ℕ) (
       over other (inr one) apart = inl (than_old other one)
 
   -- and the old one stays where it does not
-  picks-old : (a : ℕ) (old pick : Pick) → tails_of p a ≡ terminal → (c : Leg) × OneLeaves (row_allows net row) (λ k. k.arc ≡ a) c → IsPicked ends (row_allows net row) (Below a) old →
+  picks_old : (a : ℕ) (old pick : Pick) → tails_of p a ≡ terminal → (c : Leg) × OneLeaves (row_allows net row) (λ k. k.arc ≡ a) c → IsPicked ends (row_allows net row) (Below a) old →
       pick.arc ≡ old.arc → ends a ≤ ends old.arc → pick.alone ≡ false → IsPicked ends (row_allows net row) (Below (a + 1)) pick
-  picks-old a old pick here has picked is not_later two = record {
+  picks_old a old pick here has picked is not_later two = record {
     one = picked.one;
-    leaves = below-next a picked.one picked.leaves;
+    leaves = below_next a picked.one picked.leaves;
     by = picked.by ∙ sym is;
-    preferred = λ other one apart. subst (λ (n : ℕ). IsPreferred ends n other.arc) (sym is) (over other (below-cases a other one) (λ e. apart (e ∙ sym is)));
-    others = rw two (has.0, below-here a has.0 here has.1, λ e. absurd (omega (arith, before, e, is, has.1.leaves)));
+    preferred = λ other one apart. subst (λ (n : ℕ). IsPreferred ends n other.arc) (sym is) (over other (below_cases a other one) (λ e. apart (e ∙ sym is)));
+    others = rw two (has.0, below_here a has.0 here has.1, λ e. absurd (omega (arith, before, e, is, has.1.leaves)));
   }
     where
       before : old.arc < a
@@ -132,18 +132,18 @@ module _ (p : Problem) (net : TimedNetwork) (row : List Bool) (terminal : ℕ) (
   pub picks_more : (a : ℕ) (found : Option Pick) (pick : Pick) → tails_of p a ≡ terminal → (c : Leg) × OneLeaves (row_allows net row) (λ k. k.arc ≡ a) c →
       Picks ends (row_allows net row) (λ c. (c.arc < a) × (tails_of p c.arc ≡ terminal)) found → IsBetter ends found a pick →
       Picks ends (row_allows net row) (λ c. (c.arc < a + 1) × (tails_of p c.arc ≡ terminal)) (Some pick)
-  picks_more a None pick here has none better = picks-first a pick here has none better
+  picks_more a None pick here has none better = picks_first a pick here has none better
   picks_more a (Some old) pick here has picked better =
       ⊎_elim
-      (λ (new : (pick.arc ≡ a) × (ends old.arc < ends a)). picks-later a old pick here has picked new.0 new.1 better.1)
-      (λ (same : (pick.arc ≡ old.arc) × (ends a ≤ ends old.arc)). picks-old a old pick here has picked same.0 same.1 better.1)
+      (λ (new : (pick.arc ≡ a) × (ends old.arc < ends a)). picks_later a old pick here has picked new.0 new.1 better.1)
+      (λ (same : (pick.arc ≡ old.arc) × (ends a ≤ ends old.arc)). picks_old a old pick here has picked same.0 same.1 better.1)
       better.0
 
   -- another arc changes nothing
   pub picks_away : (a : ℕ) (o : Option Pick) → ((c : Leg) → OneLeaves (row_allows net row) (λ k. k.arc ≡ a) c → tails_of p c.arc ≡ terminal → ⊥) →
       Picks ends (row_allows net row) (λ c. (c.arc < a) × (tails_of p c.arc ≡ terminal)) o → Picks ends (row_allows net row) (λ c. (c.arc < a + 1) × (tails_of p c.arc ≡ terminal)) o
   picks_away a o away picks =
-      picks-same ends (row_allows net row) (Below a) (Below (a + 1))
+      picks_same ends (row_allows net row) (Below a) (Below (a + 1))
       (λ c is below. (omega (arith, below.0), below.1))
       (λ c is below.
       ⊎_elim (λ (same : c.arc ≡ a). absurd (away c (record { allowed_it = is; leaves = same }) below.1)) (λ (other : c.arc ≡ a → ⊥). (omega (arith, below.0, other), below.1)) (cases_eq c.arc a))
@@ -153,9 +153,9 @@ module _ (p : Problem) (net : TimedNetwork) (row : List Bool) (terminal : ℕ) (
   pub picks_all : (a : ℕ) (o : Option Pick) → HasArcsOf p net → length p.arcs ≤ a → Picks ends (row_allows net row) (λ c. (c.arc < a) × (tails_of p c.arc ≡ terminal)) o →
       Picks ends (row_allows net row) (λ c. tails_of p c.arc ≡ terminal) o
   picks_all a o has all picks =
-      picks-same ends (row_allows net row) (Below a) (λ c. tails_of p c.arc ≡ terminal)
+      picks_same ends (row_allows net row) (Below a) (λ c. tails_of p c.arc ≡ terminal)
       (λ c is below. below.1)
-      (λ c is leaves. (omega (arith, (is_class-parts net row c is).0.0, arc-count p net has, all), leaves))
+      (λ c is leaves. (omega (arith, (is_class_parts net row c is).0.0, arc-count p net has, all), leaves))
       o picks
 
 -- where not all that leave the terminal are by the picked arc, the split by it is taken

@@ -14,8 +14,8 @@ use Rattle.fp_tree.specs.declared.sides.Side.{Side}
 use Rattle.fp_allowed.specs.Allowed.{exit_of, tails_of}
 use Rattle.fp_allowed.specs.Departures.{count_below, departures_below, departures_in, is_departure}
 use Rattle.fp_allowed.specs.Moments.{all_let, concerned}
-use Rattle.fp_allowed.proofs.Counting.{count_below-le, count_below-same}
-use Rattle.fp_allowed.proofs.Narrowing.{meets_all-concerned}
+use Rattle.fp_allowed.proofs.CountsBelow.{count_below_le, count_below_same}
+use Rattle.fp_allowed.proofs.OpenMoments.{meets_all-concerned}
 
 -- the window is some time up to the latest
 abbrev pub IsInTime : Window → Type 0
@@ -34,7 +34,7 @@ windows_in_time p table k a belongs shipment arc =
 departures-let : (p : Problem) (k arc : ℕ) (sides own : List Side) (w : Window) → own ≡ concerned p k (tails_of p arc) sides →
     count_below (w.hi + 1) (λ m. nat_le w.lo m && all_let arc m own) ≡ departures_in p sides k arc (Some w)
 departures-let p k arc sides own w is =
-    count_below-same (w.hi + 1) (λ m. nat_le w.lo m && all_let arc m own) (is_departure p sides k arc w)
+    count_below_same (w.hi + 1) (λ m. nat_le w.lo m && all_let arc m own) (is_departure p sides k arc w)
     (λ m h. ap (λ (b : Bool). nat_le w.lo m && b) (ap (λ (l : List Side). all_let arc m l) is ∙ sym (meets_all-concerned p k (exit_of p (record { arc = arc; depart = m })) sides refl)))
 
 pub departures_some : (p : Problem) (k arc lo hi n : ℕ) (sides own : List Side) (o : Option Window) → option_map {U = ℕ × ℕ} (λ w. (w.lo, w.hi)) o ≡ Some (lo, hi) → own ≡ concerned p k (tails_of p arc) sides →
@@ -51,9 +51,9 @@ departures_none p k arc sides None is = refl
 departures_none p k arc sides (Some w) is = cc is
 
 -- at each arc there are at most as many departures as moments
-pub departures_in-le : (p : Problem) (k arc : ℕ) (sides : List Side) (o : Option Window) → IfSome o IsInTime → departures_in p sides k arc o ≤ 100001
-departures_in-le p k arc sides None in_time = omega arith
-departures_in-le p k arc sides (Some w) in_time = omega (arith, count_below-le (w.hi + 1) (is_departure p sides k arc w), in_time.1)
+pub departures_in_le : (p : Problem) (k arc : ℕ) (sides : List Side) (o : Option Window) → IfSome o IsInTime → departures_in p sides k arc o ≤ 100001
+departures_in_le p k arc sides None in_time = omega arith
+departures_in_le p k arc sides (Some w) in_time = omega (arith, count_below_le (w.hi + 1) (is_departure p sides k arc w), in_time.1)
 
 -- one arc more
 pub departures_here : (p : Problem) (windows : ℕ → ℕ → Option Window) (sides : List Side) (k terminal a n : ℕ) → tails_of p a ≡ terminal → n ≡ departures_in p sides k a (windows k a) →
@@ -71,12 +71,12 @@ pub departures_at : (p : Problem) (windows : ℕ → ℕ → Option Window) (sid
 departures_at p windows sides k terminal a n total so_far here is = omega (arith, so_far, departures_here p windows sides k terminal a n here is)
 
 -- so there are few in all
-pub departures_below-le : (p : Problem) (table : WindowTable) (sides : List Side) (k terminal a : ℕ) → BelongsTo p table → k < length p.shipments → a ≤ length p.arcs →
+pub departures_below_le : (p : Problem) (table : WindowTable) (sides : List Side) (k terminal a : ℕ) → BelongsTo p table → k < length p.shipments → a ≤ length p.arcs →
     departures_below p (windows_in table) sides k terminal a ≤ a * 100001
-departures_below-le p table sides k terminal zero belongs shipment within = omega arith
-departures_below-le p table sides k terminal (suc a) belongs shipment within =
-    let rest : departures_below p (windows_in table) sides k terminal a ≤ a * 100001 = departures_below-le p table sides k terminal a belongs shipment (omega arith) in
-    let here : departures_in p sides k a (windows_in table k a) ≤ 100001 = departures_in-le p k a sides (windows_in table k a) (windows_in_time p table k a belongs shipment (omega arith)) in
+departures_below_le p table sides k terminal zero belongs shipment within = omega arith
+departures_below_le p table sides k terminal (suc a) belongs shipment within =
+    let rest : departures_below p (windows_in table) sides k terminal a ≤ a * 100001 = departures_below_le p table sides k terminal a belongs shipment (omega arith) in
+    let here : departures_in p sides k a (windows_in table k a) ≤ 100001 = departures_in_le p k a sides (windows_in table k a) (windows_in_time p table k a belongs shipment (omega arith)) in
     omega (arith, rest, here, at-most (nat_eq (tails_of p a) terminal) (departures_in p sides k a (windows_in table k a)))
   where
     at-most : (b : Bool) (n : ℕ) → cond b n 0 ≤ n

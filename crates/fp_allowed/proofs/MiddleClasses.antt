@@ -55,7 +55,8 @@ module _ (net : TimedNetwork) (row : List Bool) (arc start end : ℕ) (valid : I
         from = refl;
       })
 
-  -- the point of the first allowed class from the middle of the first and the last on is that of the middle one
+  -- the point of the first allowed class from the middle of the first and the last on is that of
+  -- the middle one
   pub middle_at : (first last second tail : ℕ) (o : Option ℕ) → IsFirstSet row start end (Some first) → IsLastSet row first end last → IsFirstSet row (first + (last - first + 1) / 2) end o → tail ≡ tail_in net arc →
       IsMiddle net (row_allows net row) arc (get_or (points_in net tail) (unwrap_or o second - start) 0)
   middle_at first last second tail None is ends none leaves =

@@ -17,8 +17,8 @@ use Rattle.fp_labels.specs.Walks.{cost_of, nodes_on, AreApart, IsWalk}
 use Rattle.fp_labels.specs.Rows.{IsRow}
 use Rattle.fp_labels.specs.Labels.{label_at, step_to, traced, greatest_cost, IsSmallFor}
 use Rattle.fp_labels.specs.Searches.{Entry, entry_cmp, is_settled, settled_count, IsWithin, AreBehind, IsQueue, Improves, IsTraced, AreWalked, IsRelaxed, AreRelaxed, IsSearch, IsLast}
-use Rattle.fp_labels.proofs.Apart.{all_push, all_weaker, apart_push, nodes_push, walk_push}
-use Rattle.fp_labels.proofs.Tracing.{traced_step, traced_elsewhere}
+use Rattle.fp_labels.proofs.LongerWalks.{all_push, all_weaker, apart_push, nodes_push, walk_push}
+use Rattle.fp_labels.proofs.WalksBack.{traced_step, traced_elsewhere}
 use Rattle.fp_labels.proofs.Queues.{cons_cases}
 
 -- a node at most so dear is at most dearer
