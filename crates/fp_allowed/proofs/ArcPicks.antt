@@ -7,7 +7,7 @@ use Rattle.fp_model.specs.Problem.{Problem}
 use Rattle.fp_flatnet.specs.declared.window_tables.Window.{Window}
 use Rattle.fp_longestarcs.specs.Networks.{IsNetwork, TimedNetwork, class_number}
 use Rattle.fp_longestarcs.specs.Whole.{HasArcsOf}
-use Rattle.fp_longestarcs.proofs.Lengthened.{arc-count}
+use Rattle.fp_longestarcs.proofs.HeadLists.{arc-count}
 use Rattle.fp_tree.specs.declared.sides.Split.TheVariants.{ByArc, ByTime}
 use Rattle.fp_allowed.specs.declared.choices.Pick.{Pick}
 use Rattle.fp_allowed.specs.Allowed.{tails_of}

@@ -15,11 +15,11 @@ use Rattle.fp_flatnet.specs.declared.window_tables.Window.{Window}
 use Rattle.fp_flatnet.specs.Belonging.{BelongsTo, IsNarrowed}
 use Rattle.fp_flatnet.specs.Initial.{BeginAt, dues_at, initial_points, releases_at}
 use Rattle.fp_flatnet.specs.Tables.{WindowTable, windows_in}
-use Rattle.fp_longestarcs.specs.Changes.{points_with}
+use Rattle.fp_longestarcs.specs.Changes.{extended_points}
 use Rattle.fp_longestarcs.specs.Networks.{TimedNetwork, points_in}
 use Rattle.fp_longestarcs.specs.Whole.{IsNetworkOf}
 use Rattle.fp_longestarcs.specs.Properties.{HasShipmentTimes}
-use Rattle.fp_longestarcs.proofs.Same.{has-with}
+use Rattle.fp_longestarcs.proofs.EqualNetworks.{has-with}
 use Rattle.fp_allowed.specs.InitialPoints.{HasInitialPoints}
 use Rattle.fp_allowed.specs.SamePoints.{AgreeOnPoints}
 
@@ -56,7 +56,7 @@ HasInitialPoints-IsNetworkOf p anchors v round net begins is =
     (HasInitialPoints-BeginAt p anchors v begins)
 
 -- and one with one more point, as `lengthen` leaves it
-pub HasInitialPoints-points_with : (p : Problem) (anchors : List Place) (old new : TimedNetwork) (terminal at : ℕ) → terminal < length old.points → new.points ≡ points_with old terminal at →
+pub HasInitialPoints-points_with : (p : Problem) (anchors : List Place) (old new : TimedNetwork) (terminal at : ℕ) → terminal < length old.points → new.points ≡ extended_points old terminal at →
     HasInitialPoints p anchors (points_in old) → HasInitialPoints p anchors (points_in new)
 HasInitialPoints-points_with p anchors old new terminal at within grown =
     HasInitialPoints_more p anchors (points_in old) (points_in new) (λ t q h has.
