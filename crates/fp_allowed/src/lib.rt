@@ -24,6 +24,3 @@ pub use departures_left::departures;
 
 /// The error of a call that finds no memory.
 pub type NoMemory = std::alloc::AllocError;
-
-#[cfg(test)]
-mod tests;

@@ -8,8 +8,6 @@ ghost use Rattle.fp_labels.specs.Labels.{IsSmallFor, AreLabels};
 mod counting;
 mod graphs;
 mod settling;
-#[cfg(test)]
-mod tests;
 mod walks;
 
 pub use graphs::{Edge, Graph};
