@@ -9,13 +9,13 @@ use Rattle.std.proofs.lemmas.Nat.Bits.{bit_at-lt}
 use Rattle.std.proofs.lemmas.Simd.{length-chunk, get_or-chunk, get_or-zip2, put_chunk_is}
 use Rattle.fp_rows.specs.Words.{bits, word_bits}
 use Rattle.fp_rows.specs.Bits.{as_one, added_bits}
-use Rattle.fp_rows.proofs.AddedBits.{get_or-word_bits}
+use Rattle.fp_rows.proofs.WordLanes.{get_or-word_bits}
 use Rattle.fp_rows.proofs.BitsIn.{length-bits, get_or-bits}
-use Rattle.fp_rows.proofs.Combined.{Combines, combines-chunk, combines-all, length-zip2-le}
-use Rattle.fp_rows.proofs.Masked.{bit_in-at}
+use Rattle.fp_rows.proofs.WordPairs.{Combines, combines-chunk, combines-all, length-zip2-le}
+use Rattle.fp_rows.proofs.RangeMasks.{bit_in-at}
 
 -- a bit of 0 or 1 is that of its truth value
-pub as_one-bit : (n : ℕ) → n < 2 → as_one (nat_eq n 1) ≡ n
+as_one-bit : (n : ℕ) → n < 2 → as_one (nat_eq n 1) ≡ n
 as_one-bit zero h = refl
 as_one-bit (suc zero) h = refl
 as_one-bit (suc (suc n)) h = absurd (omega arith)

@@ -16,7 +16,7 @@ use Rattle.fp_rows.specs.Words.{bit_in, bits, is_set, IsTidy}
 use Rattle.fp_rows.specs.Bits.{count_true, as_one}
 use Rattle.fp_rows.proofs.OneBit.{has_bit}
 use Rattle.fp_rows.proofs.BitsIn.{length-bits, get_or-bits}
-use Rattle.fp_rows.proofs.Masked.{bit_in-at}
+use Rattle.fp_rows.proofs.RangeMasks.{bit_in-at}
 
 -- how many of the first places pass a test
 abbrev count_below : (ℕ → Bool) → ℕ → ℕ

@@ -7,21 +7,21 @@ use Rattle.std.proofs.Math.Bool.{and-true}
 use Rattle.std.proofs.lemmas.Nat.Bits.{bit_at-trailing_zeros, bit_at-zero}
 use Rattle.fp_rows.specs.Words.{bit_in, is_within, IsFirstWithin}
 use Rattle.fp_rows.proofs.OneBit.{has_bit, has_bit-and}
-use Rattle.fp_rows.proofs.Masked.{bit_in-at, has_bit-cond}
+use Rattle.fp_rows.proofs.RangeMasks.{bit_in-at, has_bit-cond}
 
 -- no bit of a range is set before a place
 abbrev pub NoneBefore : List ℕ → ℕ → ℕ → ℕ → Type 0
 NoneBefore words from to end = (i : ℕ) → from ≤ i → i < to → i < end → bit_in words i ≡ false
 
 -- what is left of a word under its mask
-pub left-bit : (words : List ℕ) (from to word mask j : ℕ) → j < 64 → bit_at mask j ≡ cond (is_within from to (64 * word + j)) 1 0 →
+left-bit : (words : List ℕ) (from to word mask j : ℕ) → j < 64 → bit_at mask j ≡ cond (is_within from to (64 * word + j)) 1 0 →
     has_bit (bit_and (get_or words word 0) mask) j ≡ (bit_in words (64 * word + j) && is_within from to (64 * word + j))
 left-bit words from to word mask j h masks =
     has_bit-and (get_or words word 0) mask j ∙ ap (λ (b : Bool). b && has_bit mask j) (sym (bit_in-at words word j h)) ∙
     ap (λ (b : Bool). bit_in words (64 * word + j) && b) (has_bit-cond mask j (is_within from to (64 * word + j)) masks)
 
 -- the bits of a word before place n of which nothing is left
-pub none-more : (words : List ℕ) (from to word mask n : ℕ) → n ≤ 64 → ((j : ℕ) → j < 64 → bit_at mask j ≡ cond (is_within from to (64 * word + j)) 1 0) →
+none-more : (words : List ℕ) (from to word mask n : ℕ) → n ≤ 64 → ((j : ℕ) → j < 64 → bit_at mask j ≡ cond (is_within from to (64 * word + j)) 1 0) →
     ((j : ℕ) → j < n → bit_at (bit_and (get_or words word 0) mask) j ≡ 0) → NoneBefore words from to (64 * word) → NoneBefore words from to (64 * word + n)
 none-more words from to word mask n small masks none before i first last h =
     ⊎_elim (λ (early : i < 64 * word). before i first last early)

@@ -1,5 +1,5 @@
--- The definitions at one arc from A to B of time 5, where A has the points 0 and 3: the first shipment can leave from 0 to 5,
--- the second from 3 to 7.
+-- The definitions at one arc from A to B of time 5, where A has the points 0 and 3: the first
+-- shipment can leave from 0 to 5, the second from 3 to 7.
 use Rattle.std.proofs.Common.{◌≡◌, ℕ, Bool, true, false, List, [], ◌∷◌, refl, ap, arith}
 use Rattle.std.specs.Prelude.{Option, Some}
 use Rattle.fp_model.specs.declared.parts.Leg.{Leg}

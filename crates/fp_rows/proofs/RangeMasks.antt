@@ -13,7 +13,7 @@ use Rattle.fp_rows.proofs.OneBit.{has_bit}
 use Rattle.fp_rows.proofs.BitsIn.{bit_in-set_same, bit_in-set_other}
 
 -- the ones below one place without those below another
-pub mask-bit : (low high i : ℕ) → low ≤ 64 → i < 64 → bit_at (bit_and (2 ^ high - 1) (bit_not w64 (2 ^ low - 1))) i ≡ cond (is_within low high i) 1 0
+mask-bit : (low high i : ℕ) → low ≤ 64 → i < 64 → bit_at (bit_and (2 ^ high - 1) (bit_not w64 (2 ^ low - 1))) i ≡ cond (is_within low high i) 1 0
 mask-bit low high i h k =
     let fits : 2 ^ low - 1 < 2 ^ 64 = omega (arith, pow_mono {i = low} {j = 64} h, pow_pos low) in
     let parts = bit_at_and (2 ^ high - 1) (bit_not w64 (2 ^ low - 1)) i in
@@ -27,7 +27,8 @@ mask-bit low high i h k =
     (cases_lt i high))
     (cases_lt i low)
 
--- a place of a word lies in a range of all bits where it lies in the part of the range that the word has
+-- a place of a word lies in a range of all bits where it lies in the part of the range that the
+-- word has
 within-word : (from to word i : ℕ) → i < 64 → is_within (min (from - 64 * word) 64) (min (to - 64 * word) 64) i ≡ is_within from to (64 * word + i)
 within-word from to word i h = ap (λ (b : Bool). b && nat_lt i (min (to - 64 * word) 64)) starts ∙ ap (λ (b : Bool). nat_le from (64 * word + i) && b) ends
   where
@@ -63,7 +64,8 @@ bit_in-at words k j h =
     let rest : (64 * k + j) % 64 ≡ j = omega arith in
     ap (λ (n : ℕ). has_bit (get_or words n 0) ((64 * k + j) % 64)) place ∙ ap (λ (n : ℕ). has_bit (get_or words k 0) n) rest
 
--- the bits of the first n words are changed within a range, by a function of the old bit and of whether it lies within, and the others are as they were
+-- the bits of the first n words are changed within a range, by a function of the old bit and of
+-- whether it lies within, and the others are as they were
 pub record Changes (g : Bool → Bool → Bool) (from to : ℕ) (old now : List ℕ) (n : ℕ) : Type 0 where
   pub long : length now ≡ length old
   pub done : (i : ℕ) → i < 64 * n → bit_in now i ≡ g (bit_in old i) (is_within from to i)

@@ -1,4 +1,5 @@
--- A list in which, place by place, the elements become a function of themselves and of another list's.
+-- A list in which, place by place, the elements become a function of themselves and of another
+-- list's.
 use Rattle.std.proofs.Common.{◌≡◌, ℕ, suc, ◌+◌, ◌-◌, ◌<◌, ◌≤◌, ◌≢◌, List, [], ◌∷◌, length, get_or, set, ⊎_elim, refl, sym, ap, ◌∙◌, arith}
 use Rattle.std.specs.Simd.Lanes.{zip2, put_chunk}
 use Rattle.std.proofs.lemmas.Bool.{cases_lt, cases_eq}

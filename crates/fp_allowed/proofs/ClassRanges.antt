@@ -46,16 +46,16 @@ module _ (net : TimedNetwork) (arc : ℕ) (valid : IsNetwork net) (exists : arc 
   are : ArePoints (points_in net (tail_in net arc))
   are = tail-points net arc valid exists
 
-  pub class_until-is : (at : ℕ) → IsClass net (class_until net arc at)
+  class_until-is : (at : ℕ) → IsClass net (class_until net arc at)
   class_until-is at = (exists, (IsFloorPoint-floor_point (points_in net (tail_in net arc)) at are.zero).0)
 
-  pub numbers-order : (w : Window) → w.lo ≤ w.hi → class_number net (class_until net arc w.lo) ≤ class_number net (class_until net arc w.hi) + 1
-  numbers-order w some =
+  numbers_order : (w : Window) → w.lo ≤ w.hi → class_number net (class_until net arc w.lo) ≤ class_number net (class_until net arc w.hi) + 1
+  numbers_order w some =
       let qs : List ℕ = points_in net (tail_in net arc) in
       omega (arith, place_in_mono qs (floor_point qs 1 w.lo) (floor_point qs 1 w.hi) are.ascending (class_until-is w.lo).1 (class_until-is w.hi).1 (floor_mono qs 1 w.lo w.hi (omega (arith, some))))
 
-  pub numbers-within : (w : Window) → class_number net (class_until net arc w.hi) + 1 ≤ class_count net
-  numbers-within w = omega (arith, number-within net (class_until net arc w.hi) valid (class_until-is w.hi))
+  numbers_within : (w : Window) → class_number net (class_until net arc w.hi) + 1 ≤ class_count net
+  numbers_within w = omega (arith, number-within net (class_until net arc w.hi) valid (class_until-is w.hi))
 
   -- whether the number of a class is in the range
   range-tells : (w : Window) (c : Leg) → IsClass net c →
@@ -105,8 +105,8 @@ module _ (net : TimedNetwork) (arc : ℕ) (valid : IsNetwork net) (exists : arc 
   fills w row some long =
       let first : ℕ = class_number net (class_until net arc w.lo) in
       let end : ℕ = class_number net (class_until net arc w.hi) + 1 in
-      let order : first ≤ end = numbers-order w some in
-      let within : end ≤ length row = omega (arith, numbers-within w, long) in
+      let order : first ≤ end = numbers_order w some in
+      let within : end ≤ length row = omega (arith, numbers_within w, long) in
       record {
         long = length-with_range row first end true order within;
         bits = λ c is.
@@ -123,7 +123,8 @@ pub fills_between : (net : TimedNetwork) (arc tail first last : ℕ) (w : Window
 fills_between net arc tail first last w old new valid exists leaves some long first_is last_is is =
     rw (is, first_is, last_is, leaves) (fills net arc valid exists w old some long)
 
--- the class of an arc that leaves at the greatest point not after a time, where the time's point is given
+-- the class of an arc that leaves at the greatest point not after a time, where the time's point is
+-- given
 pub is_class-until : (net : TimedNetwork) (arc tail at point : ℕ) → IsNetwork net → arc < length net.tails → tail ≡ tail_in net arc → point ≡ floor_point (points_in net tail) 1 at →
     IsClass net (record { arc = arc; depart = point })
 is_class-until net arc tail at point valid exists leaves is = rw (is, leaves) (class_until-is net arc valid exists at)
@@ -133,4 +134,4 @@ pub range_within : (net : TimedNetwork) (arc tail first last : ℕ) (w : Window)
     first ≡ class_number net (record { arc = arc; depart = floor_point (points_in net tail) 1 w.lo }) →
     last ≡ class_number net (record { arc = arc; depart = floor_point (points_in net tail) 1 w.hi }) → (first ≤ last + 1) × (last + 1 ≤ class_count net)
 range_within net arc tail first last w valid exists leaves some first_is last_is =
-    rw (first_is, last_is, leaves) (numbers-order net arc valid exists w some, numbers-within net arc valid exists w)
+    rw (first_is, last_is, leaves) (numbers_order net arc valid exists w some, numbers_within net arc valid exists w)

@@ -15,12 +15,12 @@ use Rattle.fp_labels.specs.Graphs.{Shape, edge_at}
 use Rattle.fp_labels.specs.Walks.{Leads, IsOpen, cost_of, walk_cost, IsDistance}
 use Rattle.fp_labels.specs.Labels.{label_at, step_to, traced, distances_of, walk_to, AreLabels, AreSound, IsSound, IsSimpleWalk}
 use Rattle.fp_labels.specs.Searches.{Entry, is_settled, settled_count, IsWithin, IsRelaxed, AreSettled, IsSearch, AreFound}
-use Rattle.fp_labels.proofs.Tracing.{cost_told, walk_told}
-use Rattle.fp_labels.proofs.Improving.{within_weaker}
-use Rattle.fp_labels.proofs.Next.{settled_count-le, small_cost}
+use Rattle.fp_labels.proofs.WalksBack.{cost_told, walk_told}
+use Rattle.fp_labels.proofs.EdgeRelaxation.{within_weaker}
+use Rattle.fp_labels.proofs.NextNode.{settled_count-le, small_cost}
 
 -- where each edge is relaxed, no walk over open edges leads below a label
-pub reached_along : (edges : List Edge) (costs : List (Option ℕ)) (labels : List (Option Label)) →
+reached_along : (edges : List Edge) (costs : List (Option ℕ)) (labels : List (Option Label)) →
     ((e : ℕ) (l : Label) → e < length edges → label_at labels (edge_at edges e).from ≡ Some l → IsRelaxed edges costs labels e) →
     (walk : List ℕ) (here there cost : ℕ) → IsWithin labels here cost → Leads edges here walk there → IsOpen costs walk → IsWithin labels there (cost + walk_cost costs walk)
 reached_along edges costs labels relaxed [] here there cost within leads is_open =

@@ -13,7 +13,7 @@ pub get_or-word_bits : (word i : ℕ) → i < 64 → get_or (word_bits word) i 0
 get_or-word_bits word i h = get_or-map-range_with_len (bit_at word) 0 64 i i 0 h (omega arith)
 
 -- a bit of what is left of a word after its n lowest bits
-pub bit_at-shifted : (word n j : ℕ) → bit_at (word / 2 ^ n) j ≡ bit_at word (n + j)
+bit_at-shifted : (word n j : ℕ) → bit_at (word / 2 ^ n) j ≡ bit_at word (n + j)
 bit_at-shifted word n j = ap (λ (m : ℕ). m % 2) (div-div-eq-div-mul word (2 ^ n) (2 ^ j) ∙ ap (λ (m : ℕ). word / m) (sym (pow-add 2 n j)))
 
 -- a lane: bit j of the byte from place n on

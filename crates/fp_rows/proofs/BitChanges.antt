@@ -10,7 +10,7 @@ use Rattle.fp_rows.specs.Words.{bit_in, bits, is_within, IsTidy, without}
 use Rattle.fp_rows.specs.Bits.{with_range}
 use Rattle.fp_rows.proofs.OneBit.{has_bit, has_bit-and, has_bit-not}
 use Rattle.fp_rows.proofs.BitsIn.{length-bits, get_or-bits, bits-are, bit_in-zip2, bit_in-set_same, bit_in-set_other}
-use Rattle.fp_rows.proofs.Masked.{after-range}
+use Rattle.fp_rows.proofs.RangeMasks.{after-range}
 
 length-with_range : (bs : List Bool) (from to : ℕ) (value : Bool) → from ≤ to → to ≤ length bs → length (with_range bs from to value) ≡ length bs
 length-with_range bs from to value order within =

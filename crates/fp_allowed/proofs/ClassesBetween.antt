@@ -1,4 +1,5 @@
--- The classes of an arc that are allowed are those between the points of the first and the last moment at which a leg can leave.
+-- The classes of an arc that are allowed are those between the points of the first and the last
+-- moment at which a leg can leave.
 use Rattle.std.proofs.Common.{◌≡◌, ℕ, ◌<◌, ◌≤◌, Bool, true, ◌&&◌, List, length, ⊎_elim, sym, ◌∙◌, arith}
 use Rattle.std.specs.Prelude.{nat_le, Option, Some, None, IfSome, IsSomeAnd}
 use Rattle.std.specs.Bool.{Decides}
@@ -13,7 +14,7 @@ use Rattle.fp_flatnet.specs.declared.window_tables.Window.{Window}
 use Rattle.fp_tree.specs.declared.sides.Side.{Side}
 use Rattle.fp_allowed.specs.Allowed.{exit_of, is_allowed, meets_all, tails_of}
 use Rattle.fp_allowed.specs.Moments.{is_between, is_open}
-use Rattle.fp_allowed.proofs.AllowedClasses.{HasMoment, is_allowed-from, is_allowed_parts}
+use Rattle.fp_allowed.proofs.AllowedClasses.{HasMoment, is_allowed_from, is_allowed_parts}
 
 -- a moment of the class of a point lies in a window, if there is one
 pub record HasOpen (qs : List ℕ) (q : ℕ) (o : Option Window) : Type 0 where
@@ -61,7 +62,7 @@ allowed-decides : (p : Problem) (windows : ℕ → ℕ → Option Window) (point
     Decides (is_allowed p windows points sides k c) (HasOpen (points (tails_of p c.arc)) c.depart o)
 allowed-decides p windows points sides k c o exists same = (
   λ h. there (windows k c.arc) (is_allowed_parts p windows points sides k c h).1 same,
-  λ has. is_allowed-from p windows points sides k c exists (back (windows k c.arc) has same),
+  λ has. is_allowed_from p windows points sides k c exists (back (windows k c.arc) has same),
 )
   where
     met : ℕ → Bool
@@ -94,10 +95,10 @@ allowed-decides p windows points sides k c o exists same = (
         }
 
 -- so it is allowed exactly where its point is between
-pub allowed-between : (p : Problem) (windows : ℕ → ℕ → Option Window) (points : ℕ → List ℕ) (sides : List Side) (k : ℕ) (c : Leg) (o : Option Window) → c.arc < length p.arcs →
+pub allowed_between : (p : Problem) (windows : ℕ → ℕ → Option Window) (points : ℕ → List ℕ) (sides : List Side) (k : ℕ) (c : Leg) (o : Option Window) → c.arc < length p.arcs →
     list_has (points (tails_of p c.arc)) c.depart ≡ true → IfSome o (λ w. w.lo ≤ w.hi) →
     ((m : ℕ) → is_open o m ≡ (is_open (windows k c.arc) m && meets_all k sides (exit_of p (record { arc = c.arc; depart = m })))) →
     is_between (points (tails_of p c.arc)) o c.depart ≡ is_allowed p windows points sides k c
-allowed-between p windows points sides k c o exists there some same =
+allowed_between p windows points sides k c o exists there some same =
     same_from_decides (is_between (points (tails_of p c.arc)) o c.depart) (is_allowed p windows points sides k c)
     (is_between-decides (points (tails_of p c.arc)) c.depart o there some) (allowed-decides p windows points sides k c o exists same)

@@ -16,7 +16,7 @@ use Rattle.fp_allowed.specs.Departures.{departures_below, departures_in, is_depa
 use Rattle.fp_lists.specs.Below.{count_below}
 use Rattle.fp_allowed.specs.Moments.{all_let, concerned}
 use Rattle.fp_lists.proofs.CountsBelow.{count_below-same, count_below-le}
-use Rattle.fp_allowed.proofs.Narrowing.{meets_all-concerned}
+use Rattle.fp_allowed.proofs.OpenMoments.{meets_all-concerned}
 
 -- the window is some time up to the latest
 abbrev pub IsInTime : Window → Type 0
@@ -52,9 +52,9 @@ departures_none p k arc sides None is = refl
 departures_none p k arc sides (Some w) is = cc is
 
 -- at each arc there are at most as many departures as moments
-pub departures_in-le : (p : Problem) (k arc : ℕ) (sides : List Side) (o : Option Window) → IfSome o IsInTime → departures_in p sides k arc o ≤ 100001
-departures_in-le p k arc sides None in_time = omega arith
-departures_in-le p k arc sides (Some w) in_time = omega (arith, count_below-le (w.hi + 1) (is_departure p sides k arc w), in_time.1)
+pub departures_in_le : (p : Problem) (k arc : ℕ) (sides : List Side) (o : Option Window) → IfSome o IsInTime → departures_in p sides k arc o ≤ 100001
+departures_in_le p k arc sides None in_time = omega arith
+departures_in_le p k arc sides (Some w) in_time = omega (arith, count_below-le (w.hi + 1) (is_departure p sides k arc w), in_time.1)
 
 -- one arc more
 pub departures_here : (p : Problem) (windows : ℕ → ℕ → Option Window) (sides : List Side) (k terminal a n : ℕ) → tails_of p a ≡ terminal → n ≡ departures_in p sides k a (windows k a) →
@@ -72,12 +72,12 @@ pub departures_at : (p : Problem) (windows : ℕ → ℕ → Option Window) (sid
 departures_at p windows sides k terminal a n total so_far here is = omega (arith, so_far, departures_here p windows sides k terminal a n here is)
 
 -- so there are few in all
-pub departures_below-le : (p : Problem) (table : WindowTable) (sides : List Side) (k terminal a : ℕ) → BelongsTo p table → k < length p.shipments → a ≤ length p.arcs →
+pub departures_below_le : (p : Problem) (table : WindowTable) (sides : List Side) (k terminal a : ℕ) → BelongsTo p table → k < length p.shipments → a ≤ length p.arcs →
     departures_below p (windows_in table) sides k terminal a ≤ a * 100001
-departures_below-le p table sides k terminal zero belongs shipment within = omega arith
-departures_below-le p table sides k terminal (suc a) belongs shipment within =
-    let rest : departures_below p (windows_in table) sides k terminal a ≤ a * 100001 = departures_below-le p table sides k terminal a belongs shipment (omega arith) in
-    let here : departures_in p sides k a (windows_in table k a) ≤ 100001 = departures_in-le p k a sides (windows_in table k a) (windows_in_time p table k a belongs shipment (omega arith)) in
+departures_below_le p table sides k terminal zero belongs shipment within = omega arith
+departures_below_le p table sides k terminal (suc a) belongs shipment within =
+    let rest : departures_below p (windows_in table) sides k terminal a ≤ a * 100001 = departures_below_le p table sides k terminal a belongs shipment (omega arith) in
+    let here : departures_in p sides k a (windows_in table k a) ≤ 100001 = departures_in_le p k a sides (windows_in table k a) (windows_in_time p table k a belongs shipment (omega arith)) in
     omega (arith, rest, here, at-most (nat_eq (tails_of p a) terminal) (departures_in p sides k a (windows_in table k a)))
   where
     at-most : (b : Bool) (n : ℕ) → cond b n 0 ≤ n

@@ -14,7 +14,7 @@ use Rattle.fp_labels.specs.declared.walks.Step.{Step}
 use Rattle.fp_labels.specs.Graphs.{Shape}
 use Rattle.fp_labels.specs.Labels.{label_at, step_to, greatest_cost}
 use Rattle.fp_labels.specs.Searches.{Entry, is_settled, settled_count, IsWithin, IsTraced, IsFresh, IsSearch, start_label}
-use Rattle.fp_labels.proofs.Tracing.{traced_end}
+use Rattle.fp_labels.proofs.WalksBack.{traced_end}
 
 module _ (graph : Shape) (costs : List (Option ℕ)) (start : ℕ) (labels : List (Option Label)) (settled : List Bool) (queue : List Entry)
     (fresh : IsFresh graph.nodes start labels settled queue) where

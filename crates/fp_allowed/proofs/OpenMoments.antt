@@ -1,4 +1,5 @@
--- Narrowing a window side by side leaves the moments at which all sides let a leg leave, and only concerned sides count.
+-- Narrowing a window side by side leaves the moments at which all sides let a leg leave, and only
+-- concerned sides count.
 use Rattle.std.proofs.Common.{◌≡◌, ◌≢◌, ℕ, ◌+◌, ◌<◌, Bool, true, false, ◌&&◌, ◌||◌, List, [], ◌∷◌, length, drop, get_or, ⊎_elim, refl, sym, ap, ◌∙◌, add-one, drop-cons}
 use Rattle.std.specs.Prelude.{nat_eq, not, Option, Some}
 use Rattle.std.proofs.Math.Bool.{and_assoc}
@@ -13,9 +14,9 @@ use Rattle.fp_allowed.specs.Allowed.{meets, meets_all, tails_of}
 use Rattle.fp_allowed.specs.Moments.{all_let, concerned, concerns, is_open, lets}
 
 -- one side more, where what is left after it is what it leaves of what was left before
-pub all_let-step : (arc m : ℕ) (sides : List Side) (i : ℕ) (d : Side) (before after : Bool) → i < length sides → after ≡ (before && lets arc m (get_or sides i d)) →
+pub all_let_step : (arc m : ℕ) (sides : List Side) (i : ℕ) (d : Side) (before after : Bool) → i < length sides → after ≡ (before && lets arc m (get_or sides i d)) →
     (after && all_let arc m (drop (i + 1) sides)) ≡ (before && all_let arc m (drop i sides))
-all_let-step arc m sides i d before after h is =
+all_let_step arc m sides i d before after h is =
     let rest : Bool = all_let arc m (drop (i + 1) sides) in
     let here : drop i sides ≡ get_or sides i d ∷ drop (i + 1) sides = rw add-one (drop-cons sides i d h) in
     ap (λ (b : Bool). b && rest) is ∙ and_assoc before (lets arc m (get_or sides i d)) rest ∙ ap (λ (l : List Side). before && all_let arc m l) (sym here)
@@ -23,7 +24,7 @@ all_let-step arc m sides i d before after h is =
 pub narrow_step : (arc m : ℕ) (sides : List Side) (i : ℕ) (d : Side) (open_now : Window) (o : Option Window) → i < length sides →
     is_open o m ≡ (is_open (Some open_now) m && lets arc m (get_or sides i d)) →
     (is_open o m && all_let arc m (drop (i + 1) sides)) ≡ (is_open (Some open_now) m && all_let arc m (drop i sides))
-narrow_step arc m sides i d open_now o h is = all_let-step arc m sides i d (is_open (Some open_now) m) (is_open o m) h is
+narrow_step arc m sides i d open_now o h is = all_let_step arc m sides i d (is_open (Some open_now) m) (is_open o m) h is
 
 -- a leg that leaves its arc's tail meets a side where the side does not concern it, or lets it
 meets-concerned : (p : Problem) (k : ℕ) (e : Exit) (side : Side) → e.tail ≡ tails_of p e.arc → meets k e side ≡ (not (concerns p k e.tail side) || lets e.arc e.moment side)
