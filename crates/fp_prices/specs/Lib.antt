@@ -11,3 +11,6 @@ pub mod Points
 pub mod PointGraphs
 pub mod Forced
 pub mod Found
+pub mod Rounds
+pub mod LeastWalks
+pub mod FoundWalks

@@ -28,7 +28,7 @@ overflow_mul-linear c =
     let exists : c.args.arc < length p.arcs = class-exists p net here priced.is.whole c.requires.class in
     let linear : c.from.result * c.index.result.now ≡ linear_price p.scale (arc_at p c.args.arc) (shipment_at p c.args.shipment).size =
     ap (λ (n : ℕ). n * c.index.result.now) (c.from.ensures ∙ c.requires.size)
-    ∙ ap (λ (n : ℕ). (shipment_at p c.args.shipment).size * n) (rate-at p pricing.rates.items c.args.arc c.index.result.now priced.is.rates exists c.index.ensures) in
+    ∙ ap (λ (n : ℕ). (shipment_at p c.args.shipment).size * n) (rate-at p pricing.rates.now c.args.arc c.index.result.now priced.is.rates exists c.index.ensures) in
     let fits = priced-fits pricing c.args.shipment c.args.class here Linear c.requires.shipment priced at exists in
     omega (arith, linear, fits)
 
@@ -106,7 +106,7 @@ returns-in-InParts c = λ tables allowed kind chains is.
     let are = rule-users p net tables allowed kind users rule in
     let exists : c.args.arc < length p.arcs = class-exists p net here is.whole c.requires.class in
     let linear : c.from.result * c.index.result.now ≡ linear_price p.scale (arc_at p c.args.arc) c.args.size =
-    ap (λ (n : ℕ). n * c.index.result.now) c.from.ensures ∙ ap (λ (n : ℕ). c.args.size * n) (rate-at p pricing.rates.items c.args.arc c.index.result.now is.rates exists c.index.ensures) in
+    ap (λ (n : ℕ). n * c.index.result.now) c.from.ensures ∙ ap (λ (n : ℕ). c.args.size * n) (rate-at p pricing.rates.now c.args.arc c.index.result.now is.rates exists c.index.ensures) in
     let within : c.args.class < class_count net = omega (arith, c.requires.number, number-within net here is.whole.valid c.requires.class) in
     let count = get_or_read users.counts.items c.args.class c.index-in-InParts.result.now (omega (arith, within, are.counts_long)) c.index-in-InParts.ensures 0 in
     let all = get_or_read users.sizes.items c.args.class c.index-in-InParts-2.result.now (omega (arith, within, are.sizes_long)) c.index-in-InParts-2.ensures 0 in
