@@ -7,7 +7,7 @@ use Rattle.std.proofs.lemmas.Bool.Decides.{eqb_tells}
 use Rattle.fp_model.specs.declared.parts.Leg.{Leg}
 use Rattle.fp_model.specs.Problem.{Problem}
 use Rattle.fp_timenodes.specs.Floor.{floor_point}
-use Rattle.fp_timenodes.proofs.Floors.{floor-whole}
+use Rattle.fp_timenodes.proofs.Floors.{floor_whole}
 use Rattle.fp_flatnet.specs.declared.window_tables.Window.{Window}
 use Rattle.fp_flatnet.specs.Windows.{IsInside}
 use Rattle.fp_longestarcs.specs.Classes.{class_of}
@@ -91,7 +91,7 @@ class-allowed p windows points sides d k l h exists inside meets = is_allowed-fr
         let until : l.depart / d < w.hi + 1 = (div-lt_iff_lt-mul h).1 (let e : l.depart < (w.hi + 1) * d = omega (arith, within.1, h) in e) in
         record {
           moment = l.depart / d;
-          falls = floor-whole (points (tails_of p l.arc)) d l.depart h;
+          falls = floor_whole (points (tails_of p l.arc)) d l.depart h;
           after = (le-div_iff_mul-le h).1 (let e : w.lo * d ≤ l.depart = omega (arith, within.0) in e);
           before = omega (arith, until);
           met = meets_all-true d k (exit_of p l) sides h meets;

@@ -6,7 +6,7 @@ use Rattle.fp_model.specs.declared.parts.Leg.{Leg}
 use Rattle.fp_model.specs.Problem.{Problem}
 use Rattle.fp_timenodes.specs.declared.places.TheConstants.{LATEST}
 use Rattle.fp_timenodes.specs.Floor.{floor_point, has_point}
-use Rattle.fp_timenodes.proofs.Floors.{floor-greatest, floor-le}
+use Rattle.fp_timenodes.proofs.Floors.{floor_le, floor_greatest}
 use Rattle.fp_flatnet.specs.declared.window_tables.Window.{Window}
 use Rattle.fp_flatnet.specs.Tables.{windows_in}
 use Rattle.fp_longestarcs.specs.Ascending.{ArePoints}
@@ -103,11 +103,11 @@ module _ (s : Setting) (sides : List Side) (k terminal : ℕ) (is : IsSetting s)
         second = left-with (From shipment place time) parted.two parted.two_leaves
             (λ m falls.
             or_right (not (nat_eq k shipment && nat_eq (tails_of s.problem parted.two.arc) place)) (nat_le time m)
-            (le-leb time m (omega (arith, falls, parted.from, floor-le (points_in s.network (tails_of s.problem parted.two.arc)) 1 m))));
+            (le-leb time m (omega (arith, falls, parted.from, floor_le (points_in s.network (tails_of s.problem parted.two.arc)) 1 m))));
         together = left-divided s.problem (windows_in s.windows) sides k terminal (ByTime shipment place time) at;
       }
     where
       -- a moment of a class before a point is before the point
       early : (m : ℕ) (qs : List ℕ) (q : ℕ) → floor_point qs 1 m ≡ q → q < time → has_point qs time ≡ true → m < time
       early m qs q falls before there =
-          ⊎_elim (λ (less : m < time). less) (λ (late : time ≤ m). absurd (omega (arith, falls, before, floor-greatest qs 1 m time there (omega arith)))) (cases_lt m time)
+          ⊎_elim (λ (less : m < time). less) (λ (late : time ≤ m). absurd (omega (arith, falls, before, floor_greatest qs 1 m time there (omega arith)))) (cases_lt m time)

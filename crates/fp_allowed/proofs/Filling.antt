@@ -5,7 +5,7 @@ use Rattle.std.specs.List.{AllPairs}
 use Rattle.std.proofs.lemmas.Bool.{cases_lt, cases_order, eq-eqb, le-leb, le-ltb, lt-leb, lt-ltb, ne_eqb}
 use Rattle.fp_model.specs.declared.parts.Leg.{Leg}
 use Rattle.fp_timenodes.specs.Floor.{floor_point, has_point}
-use Rattle.fp_timenodes.proofs.Floors.{floor-mono, floor_point-is}
+use Rattle.fp_timenodes.proofs.Floors.{IsFloorPoint-floor_point, floor_mono}
 use Rattle.fp_flatnet.specs.declared.window_tables.Window.{Window}
 use Rattle.fp_longestarcs.specs.Ascending.{ArePoints, place_of}
 use Rattle.fp_longestarcs.specs.Networks.{IsClass, IsNetwork, TimedNetwork, class_count, class_number, first_class, points_in, tail_in}
@@ -69,12 +69,12 @@ module _ (net : TimedNetwork) (arc : ℕ) (valid : IsNetwork net) (exists : arc 
   are = tail-points net arc valid exists
 
   pub class_until-is : (at : ℕ) → IsClass net (class_until net arc at)
-  class_until-is at = (exists, (floor_point-is (points_in net (tail_in net arc)) at are.zero).0)
+  class_until-is at = (exists, (IsFloorPoint-floor_point (points_in net (tail_in net arc)) at are.zero).0)
 
   pub numbers-order : (w : Window) → w.lo ≤ w.hi → class_number net (class_until net arc w.lo) ≤ class_number net (class_until net arc w.hi) + 1
   numbers-order w some =
       let qs : List ℕ = points_in net (tail_in net arc) in
-      omega (arith, place-until qs (floor_point qs 1 w.lo) (floor_point qs 1 w.hi) are.ascending (class_until-is w.lo).1 (class_until-is w.hi).1 (floor-mono qs 1 w.lo w.hi (omega (arith, some))))
+      omega (arith, place-until qs (floor_point qs 1 w.lo) (floor_point qs 1 w.hi) are.ascending (class_until-is w.lo).1 (class_until-is w.hi).1 (floor_mono qs 1 w.lo w.hi (omega (arith, some))))
 
   pub numbers-within : (w : Window) → class_number net (class_until net arc w.hi) + 1 ≤ class_count net
   numbers-within w = omega (arith, number-within net (class_until net arc w.hi) valid (class_until-is w.hi))

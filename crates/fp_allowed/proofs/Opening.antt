@@ -7,7 +7,7 @@ use Rattle.std.proofs.lemmas.Bool.Decides.{same_from_decides}
 use Rattle.fp_model.specs.declared.parts.Leg.{Leg}
 use Rattle.fp_model.specs.Problem.{Problem}
 use Rattle.fp_timenodes.specs.Floor.{floor_point, has_point}
-use Rattle.fp_timenodes.proofs.Floors.{floor-greatest, floor-itself, floor-le, floor-mono}
+use Rattle.fp_timenodes.proofs.Floors.{floor_le, floor_greatest, floor_itself, floor_mono}
 use Rattle.fp_flatnet.specs.declared.window_tables.Window.{Window}
 use Rattle.fp_tree.specs.declared.sides.Side.{Side}
 use Rattle.fp_allowed.specs.Allowed.{exit_of, is_allowed, meets_all, tails_of}
@@ -30,16 +30,16 @@ is_between-decides qs q (Some w) there some = (to, from)
         let parts = and_parts (nat_le (floor_point qs 1 w.lo) q) (nat_le q (floor_point qs 1 w.hi)) h in
         let least : floor_point qs 1 w.lo ≤ q = leb-true (floor_point qs 1 w.lo) q parts.0 in
         let most : q ≤ floor_point qs 1 w.hi = leb-true q (floor_point qs 1 w.hi) parts.1 in
-        let until : q ≤ w.hi = omega (arith, most, floor-le qs 1 w.hi) in
+        let until : q ≤ w.hi = omega (arith, most, floor_le qs 1 w.hi) in
         ⊎_elim
         (λ (late : w.lo < q). record {
           moment = q;
-          falls = floor-itself qs q there;
+          falls = floor_itself qs q there;
           is_in = and_from (nat_le w.lo q) (nat_le q w.hi) (le-leb w.lo q (omega arith)) (le-leb q w.hi until);
         })
         (λ (early : q ≤ w.lo). record {
           moment = w.lo;
-          falls = omega (arith, least, floor-greatest qs 1 w.lo q there (omega arith));
+          falls = omega (arith, least, floor_greatest qs 1 w.lo q there (omega arith));
           is_in = and_from (nat_le w.lo w.lo) (nat_le w.lo w.hi) (le-leb w.lo w.lo (omega arith)) (le-leb w.lo w.hi some);
         })
         (cases_lt w.lo q)
@@ -50,8 +50,8 @@ is_between-decides qs q (Some w) there some = (to, from)
         let parts = and_parts (nat_le w.lo m) (nat_le m w.hi) has.is_in in
         let after : w.lo ≤ m = leb-true w.lo m parts.0 in
         let before : m ≤ w.hi = leb-true m w.hi parts.1 in
-        let least : floor_point qs 1 w.lo ≤ q = omega (arith, has.falls, floor-mono qs 1 w.lo m (omega arith)) in
-        let most : q ≤ floor_point qs 1 w.hi = omega (arith, has.falls, floor-mono qs 1 m w.hi (omega arith)) in
+        let least : floor_point qs 1 w.lo ≤ q = omega (arith, has.falls, floor_mono qs 1 w.lo m (omega arith)) in
+        let most : q ≤ floor_point qs 1 w.hi = omega (arith, has.falls, floor_mono qs 1 m w.hi (omega arith)) in
         and_from (nat_le (floor_point qs 1 w.lo) q) (nat_le q (floor_point qs 1 w.hi)) (le-leb (floor_point qs 1 w.lo) q least) (le-leb q (floor_point qs 1 w.hi) most)
 
 -- a class is allowed exactly where it has a moment in its window that meets the sides

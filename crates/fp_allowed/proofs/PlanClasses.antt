@@ -11,7 +11,7 @@ use Rattle.fp_model.specs.Routes.{Carries, Leads, LeavesReady, arcs_of, step}
 use Rattle.fp_model.proofs.Bounds.{Leads-exist}
 use Rattle.fp_model.proofs.Places.{at-map, zip-places}
 use Rattle.fp_timenodes.specs.Floor.{floor_point}
-use Rattle.fp_timenodes.proofs.Floors.{floor-le, floor-mono}
+use Rattle.fp_timenodes.proofs.Floors.{floor_le, floor_mono}
 use Rattle.fp_flatnet.specs.declared.window_tables.Window.{Window}
 use Rattle.fp_flatnet.specs.Windows.{LiesWithin, PlanLiesWithin}
 use Rattle.fp_longestarcs.specs.Classes.{class_of}
@@ -28,8 +28,8 @@ classes-follow p points d here there [] a ready leads leaves h = tt
 classes-follow p points d here there (l ∷ legs) a ready leads leaves h =
     let qs : List ℕ = points (tails_of p l.arc) in
     let q : ℕ = floor_point qs d l.depart in
-    let first : floor_point qs 1 a ≤ q = floor-mono qs d a l.depart (omega (arith, leaves.0, h)) in
-    let after : d * (q + step p l.arc) ≤ l.depart + d * step p l.arc = omega (arith, floor-le qs d l.depart) in (
+    let first : floor_point qs 1 a ≤ q = floor_mono qs d a l.depart (omega (arith, leaves.0, h)) in
+    let after : d * (q + step p l.arc) ≤ l.depart + d * step p l.arc = omega (arith, floor_le qs d l.depart) in (
       subst (λ (t : ℕ). floor_point (points t) 1 a ≤ q) leads.1 first,
       classes-follow p points d (arc_at p l.arc).to there legs (q + step p l.arc) (l.depart + d * step p l.arc) leads.2 leaves.1 after,
     )

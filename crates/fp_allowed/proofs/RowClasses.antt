@@ -6,7 +6,7 @@ use Rattle.std.proofs.lemmas.Bool.{and_from, and_parts, cases_Bool, both_ways, f
 use Rattle.fp_model.specs.declared.parts.Leg.{Leg}
 use Rattle.fp_model.specs.Numbered.{route_at, shipment_at}
 use Rattle.fp_timenodes.specs.Floor.{floor_point, has_point}
-use Rattle.fp_timenodes.proofs.Floors.{floor_point-is}
+use Rattle.fp_timenodes.proofs.Floors.{IsFloorPoint-floor_point}
 use Rattle.fp_flatnet.specs.declared.window_tables.Window.{Window}
 use Rattle.fp_flatnet.specs.Tables.{windows_in}
 use Rattle.fp_longestarcs.specs.Classes.{class_of}
@@ -35,7 +35,7 @@ allowed-class s sides k c is h =
         points_in s.network (tails_of s.problem c.arc) ≡ qs → has_point qs c.depart ≡ true
     point None has qs zero same = absurd has
     point (Some w) has qs zero same =
-        subst (λ (q : ℕ). has_point qs q ≡ true) (ap (λ (l : List ℕ). floor_point l 1 has.moment) (sym same) ∙ has.falls) (floor_point-is qs has.moment zero).0
+        subst (λ (q : ℕ). has_point qs q ≡ true) (ap (λ (l : List ℕ). floor_point l 1 has.moment) (sym same) ∙ has.falls) (IsFloorPoint-floor_point qs has.moment zero).0
 
 is_class-true : (net : TimedNetwork) (c : Leg) → IsClass net c → (nat_lt c.arc (length net.tails) && has_point (points_in net (tail_in net c.arc)) c.depart) ≡ true
 is_class-true net c is = and_from (nat_lt c.arc (length net.tails)) (has_point (points_in net (tail_in net c.arc)) c.depart) (lt-ltb c.arc (length net.tails) is.0) is.1

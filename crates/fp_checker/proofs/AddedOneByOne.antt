@@ -12,8 +12,7 @@ use Rattle.fp_timenodes.specs.declared.places.AddedPoint.{AddedPoint}
 use Rattle.fp_timenodes.specs.declared.places.Place.{Place}
 use Rattle.fp_timenodes.specs.Floor.{HaveSamePoints, has_point}
 use Rattle.fp_timenodes.specs.Points.{TimePoints, added_at, greatest_round, points_at, times_at}
-use Rattle.fp_timenodes.proofs.Floors.{has-cases, has-first, has-rest}
-use Rattle.fp_timenodes.proofs.Included.{has_point-append, or_right_comm}
+use Rattle.fp_timenodes.proofs.PointLists.{has_point_rest, has_point_first, has_point_cases, has_point-append, or_right_comm}
 use Rattle.fp_flatnet.specs.Initial.{BeginAt, initial_points}
 use Rattle.fp_lines.specs.Ranges.{IsPointInRange}
 use Rattle.fp_checker.specs.Points.{AreAddedPoints, ArePointsOf, points_with}
@@ -41,11 +40,11 @@ added_at-has : (added : List AddedPoint) (terminal round : ℕ) (k : ℕ) (d : A
     has_point (added_at added terminal round) (get_or added k d).at ≡ true
 added_at-has [] terminal round k d lt own early = absurd (omega (arith, lt))
 added_at-has (q ∷ added) terminal round zero d lt own early =
-    rw (eq-eqb q.terminal terminal own, le-leb q.round round early) (has-first q.at (added_at added terminal round))
+    rw (eq-eqb q.terminal terminal own, le-leb q.round round early) (has_point_first q.at (added_at added terminal round))
 added_at-has (q ∷ added) terminal round (suc k) d lt own early =
     let later : has_point (added_at added terminal round) (get_or added k d).at ≡ true = added_at-has added terminal round k d (omega (arith, lt)) own early in
     ⊎_elim
-    (λ (h : (q.terminal == terminal && nat_le q.round round) ≡ true). rw h (has-rest q.at (added_at added terminal round) (get_or added k d).at later))
+    (λ (h : (q.terminal == terminal && nat_le q.round round) ≡ true). rw h (has_point_rest q.at (added_at added terminal round) (get_or added k d).at later))
     (λ (h : (q.terminal == terminal && nat_le q.round round) ≡ false). rw h later)
     (cases_Bool (q.terminal == terminal && nat_le q.round round))
 
@@ -69,7 +68,7 @@ was-added (q ∷ added) terminal round at d has =
     ⊎_elim
     (λ (same : q.at ≡ at). record { place = 0; within = omega arith; own = eqb-true q.terminal terminal parts.0; time = same })
     (λ (later : has_point (added_at added terminal round) at ≡ true). added-later q added terminal at d (was-added added terminal round at d later))
-    (has-cases q.at (added_at added terminal round) at here))
+    (has_point_cases q.at (added_at added terminal round) at here))
     (λ (h : (q.terminal == terminal && nat_le q.round round) ≡ false).
     let rest : has_point (added_at added terminal round) at ≡ true = rw h at has in
     added-later q added terminal at d (was-added added terminal round at d rest))

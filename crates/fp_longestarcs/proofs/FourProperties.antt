@@ -6,7 +6,7 @@ use Rattle.fp_model.specs.Problem.{Problem, arc_at, no_arc, IsArc, IsShipment, I
 use Rattle.fp_model.specs.Routes.{step}
 use Rattle.fp_timenodes.specs.Floor.{has_point, floor_point}
 use Rattle.fp_timenodes.specs.Points.{TimePoints, points_at}
-use Rattle.fp_timenodes.proofs.Floors.{floor-le, floor-greatest, floor_point-is}
+use Rattle.fp_timenodes.proofs.Floors.{floor_le, floor_greatest, IsFloorPoint-floor_point}
 use Rattle.fp_longestarcs.specs.Classes.{head_of}
 use Rattle.fp_longestarcs.specs.Ascending.{ArePoints}
 use Rattle.fp_longestarcs.specs.Networks.{TimedNetwork, points_in, heads_in}
@@ -28,7 +28,7 @@ ends-at-point p net arc start end valid whole timed =
     let is : IsArc (length p.terminals) (arc_at p arc) = valid.arcs arc no_arc timed.exists in
     let are : ArePoints (points_in net (arc_at p arc).to) = whole.valid.points (arc_at p arc).to [] (omega (arith, is.to, whole.arcs.terminals)) in
     subst (λ (n : ℕ). has_point (points_in net (arc_at p arc).to) n ≡ true) (sym (ends-greatest p net arc start end whole timed))
-    (floor_point-is (points_in net (arc_at p arc).to) (start + step p arc) are.zero).0
+    (IsFloorPoint-floor_point (points_in net (arc_at p arc).to) (start + step p arc) are.zero).0
 
 -- the network with the points as of a round has the properties
 pub has-properties : (p : Problem) (v : TimePoints) (round : ℕ) (net : TimedNetwork) → IsValid p → IsNetworkOf p v round net → HasProperties p (λ t. points_at v t round) net
@@ -40,12 +40,12 @@ has-properties p v round net valid made = record {
         made.points s.to is.to s.due ∙ (there k d h).1,
       );
   not_longer = λ arc start end timed.
-      omega (arith, ends-greatest p net arc start end made.whole timed, floor-le (points_in net (arc_at p arc).to) 1 (start + step p arc));
+      omega (arith, ends-greatest p net arc start end made.whole timed, floor_le (points_in net (arc_at p arc).to) 1 (start + step p arc));
   copies = λ arc start exists there.
       let w : StandsAt (points_in net (arc_at p arc).from) start = stands (points_in net (arc_at p arc).from) start there in
       (get_or (heads_in net arc) w.place 0, record { place = w.place; exists = exists; within = w.within; starts = w.is 0; ends = refl });
   longest = λ arc start end later timed after before there.
-      omega (arith, ends-greatest p net arc start end made.whole timed, floor-greatest (points_in net (arc_at p arc).to) 1 (start + step p arc) later there (omega arith), after);
+      omega (arith, ends-greatest p net arc start end made.whole timed, floor_greatest (points_in net (arc_at p arc).to) 1 (start + step p arc) later there (omega arith), after);
   between = λ arc start end timed. (
     subst (λ (n : ℕ). has_point (points_in net (arc_at p arc).from) n ≡ true) timed.starts (has-place (points_in net (arc_at p arc).from) timed.place 0 timed.within),
     ends-at-point p net arc start end valid made.whole timed,

@@ -8,7 +8,8 @@ use Rattle.std.proofs.lemmas.List.Edits.{length-insert, get_or-insert_below, get
 use Rattle.std.proofs.lemmas.List.Sorted.{IsPermutation-insert, list_any-IsPermutation}
 use Rattle.fp_timenodes.specs.Floor.{has_point, floor_point}
 use Rattle.fp_timenodes.specs.declared.places.TheConstants.{LATEST}
-use Rattle.fp_timenodes.proofs.Floors.{has-cases, has-first, has-rest, floor-is, floor-same}
+use Rattle.fp_timenodes.proofs.Floors.{floor_is, floor_same}
+use Rattle.fp_timenodes.proofs.PointLists.{has_point_rest, has_point_first, has_point_cases}
 use Rattle.fp_longestarcs.specs.Ascending.{place_of, ArePoints, IsPlace}
 
 -- the place is how many points are before the time
@@ -71,13 +72,13 @@ stands (q ∷ qs) at there =
     ⊎_elim
     (λ (same : q ≡ at). record { place = 0; within = omega arith; is = λ d. same })
     (λ (rest : has_point qs at ≡ true). let w = stands qs at rest in record { place = suc w.place; within = omega (arith, w.within); is = λ d. w.is d })
-    (has-cases q qs at there)
+    (has_point_cases q qs at there)
 
 -- and what stands in it is a point
 pub has-place : (qs : List ℕ) (k d : ℕ) → k < length qs → has_point qs (get_or qs k d) ≡ true
 has-place [] k d h = absurd (omega arith)
-has-place (q ∷ qs) zero d h = has-first q qs
-has-place (q ∷ qs) (suc k) d h = has-rest q qs (get_or qs k d) (has-place qs k d (omega arith))
+has-place (q ∷ qs) zero d h = has_point_first q qs
+has-place (q ∷ qs) (suc k) d h = has_point_rest q qs (get_or qs k d) (has-place qs k d (omega arith))
 
 -- a point stands at its place
 pub at-place : (qs : List ℕ) (at : ℕ) → AllPairs (λ a b. a < b) qs → has_point qs at ≡ true → (place_of qs at < length qs) × ((d : ℕ) → get_or qs (place_of qs at) d ≡ at)
@@ -107,20 +108,20 @@ has-insert qs k at m = sym (list_any-IsPermutation (λ q. nat_eq q m) (at ∷ qs
 -- with a point that is early enough the greatest is at least that point
 pub floor-with : (qs : List ℕ) (k at n : ℕ) → at ≤ n → floor_point (insert qs k at) 1 n ≡ max at (floor_point qs 1 n)
 floor-with qs k at n h =
-    floor-same (insert qs k at) (at ∷ qs) 1 n (has-insert qs k at) ∙
+    floor_same (insert qs k at) (at ∷ qs) 1 n (has-insert qs k at) ∙
     ap (λ (m : ℕ). max m (floor_point qs 1 n)) (cond-true (nat_le (1 * at) n) at 0 (le-leb (1 * at) n (omega arith)))
 
 -- a later point counts for nothing
 pub floor-without : (qs : List ℕ) (k at n : ℕ) → n < at → floor_point (insert qs k at) 1 n ≡ floor_point qs 1 n
 floor-without qs k at n h =
     let skipped = ap (λ (m : ℕ). max m (floor_point qs 1 n)) (cond-false (nat_le (1 * at) n) at 0 (lt-leb (1 * at) n (omega arith))) in
-    floor-same (insert qs k at) (at ∷ qs) 1 n (has-insert qs k at) ∙ omega (arith, skipped)
+    floor_same (insert qs k at) (at ∷ qs) 1 n (has-insert qs k at) ∙ omega (arith, skipped)
 
 -- a new point put in its place leaves the points in ascending order
 pub insert-points : (qs : List ℕ) (at : ℕ) → ArePoints qs → has_point qs at ≡ false → at ≤ LATEST → ArePoints (insert qs (place_of qs at) at)
 insert-points qs at are new in_time = record {
   ascending = up;
-  zero = has-insert qs place at 0 ∙ has-rest at qs 0 are.zero;
+  zero = has-insert qs place at 0 ∙ has_point_rest at qs 0 are.zero;
   in_time = early;
 }
   where
@@ -211,7 +212,7 @@ floor-before qs at k are is other =
     let zero_at : StandsAt qs 0 = stands qs 0 are.zero in
     let some : 0 < k = omega (arith, early-before qs at k 0 is none zero_at (omega arith)) in (
       some,
-      sym (floor-is qs 1 at (get_or qs (k - 1) 0) (has-place qs (k - 1) 0 (omega (arith, is.within))) (omega (arith, is.below (k - 1) 0 (omega arith)))
+      sym (floor_is qs 1 at (get_or qs (k - 1) 0) (has-place qs (k - 1) 0 (omega (arith, is.within))) (omega (arith, is.below (k - 1) 0 (omega arith)))
           (λ q there le.
           let w : StandsAt qs q = stands qs q there in
           let less : w.place < k = early-before qs at k q is none w (omega (arith, le)) in

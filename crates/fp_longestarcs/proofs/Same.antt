@@ -7,7 +7,7 @@ use Rattle.std.proofs.lemmas.List.{same_lists, get_or_default}
 use Rattle.fp_model.specs.Problem.{Problem}
 use Rattle.fp_timenodes.specs.Floor.{has_point, HaveSamePoints}
 use Rattle.fp_timenodes.specs.Points.{TimePoints}
-use Rattle.fp_timenodes.proofs.Floors.{has-cases, has-first, has-rest}
+use Rattle.fp_timenodes.proofs.PointLists.{has_point_rest, has_point_first, has_point_cases}
 use Rattle.fp_longestarcs.specs.Ascending.{place_of, ArePoints}
 use Rattle.fp_longestarcs.specs.Networks.{TimedNetwork, points_in}
 use Rattle.fp_longestarcs.specs.Whole.{HasArcsOf, IsWhole, IsNetworkOf, heads_of}
@@ -31,13 +31,13 @@ rest-of x y xs ys m up is same there =
     ⊎_elim
     (λ (first : y ≡ m). absurd (omega (arith, first-before x xs m up there, first, is)))
     (λ (rest : has_point ys m ≡ true). rest)
-    (has-cases y ys m (sym (same m) ∙ has-rest x xs m there))
+    (has_point_cases y ys m (sym (same m) ∙ has_point_rest x xs m there))
 
 -- ascending lists with the same points are the same
 pub ascending-same : (xs ys : List ℕ) → AllPairs (λ a b. a < b) xs → AllPairs (λ a b. a < b) ys → HaveSamePoints xs ys → xs ≡ ys
 ascending-same [] [] up upper same = refl
-ascending-same [] (y ∷ ys) up upper same = let there : has_point [] y ≡ true = same y ∙ has-first y ys in cc
-ascending-same (x ∷ xs) [] up upper same = let there : has_point [] x ≡ true = sym (same x) ∙ has-first x xs in cc
+ascending-same [] (y ∷ ys) up upper same = let there : has_point [] y ≡ true = same y ∙ has_point_first y ys in cc
+ascending-same (x ∷ xs) [] up upper same = let there : has_point [] x ≡ true = sym (same x) ∙ has_point_first x xs in cc
 ascending-same (x ∷ xs) (y ∷ ys) up upper same =
     let first : x ≡ y =
     ⊎_elim
@@ -46,8 +46,8 @@ ascending-same (x ∷ xs) (y ∷ ys) up upper same =
     ⊎_elim
     (λ (e : x ≡ y). e)
     (λ (late : has_point xs y ≡ true). absurd (omega (arith, first-before y ys x upper later, first-before x xs y up late)))
-    (has-cases x xs y (same y ∙ has-first y ys)))
-    (has-cases y ys x (sym (same x) ∙ has-first x xs)) in
+    (has_point_cases x xs y (same y ∙ has_point_first y ys)))
+    (has_point_cases y ys x (sym (same x) ∙ has_point_first x xs)) in
     let rest : xs ≡ ys =
     ascending-same xs ys (tail-ascends x xs up) (tail-ascends y ys upper)
     (λ m. same-truth (has_point xs m) (has_point ys m) (rest-of x y xs ys m up first same) (rest-of y x ys xs m upper (sym first) (λ n. sym (same n)))) in

@@ -5,7 +5,7 @@ use Rattle.fp_model.specs.Problem.{Problem, arc_at, no_arc, IsArc, IsValid}
 use Rattle.fp_model.specs.Routes.{step}
 use Rattle.fp_timenodes.specs.declared.places.TheConstants.{LATEST}
 use Rattle.fp_timenodes.specs.Floor.{has_point}
-use Rattle.fp_timenodes.proofs.Floors.{floor-greatest}
+use Rattle.fp_timenodes.proofs.Floors.{floor_greatest}
 use Rattle.fp_longestarcs.specs.Networks.{TimedNetwork, points_in, kept_head, IsClass}
 use Rattle.fp_longestarcs.specs.Whole.{IsWhole}
 use Rattle.fp_longestarcs.specs.Changes.{refined, restored}
@@ -19,7 +19,7 @@ pub short-new : (p : Problem) (net : TimedNetwork) (arc point : ℕ) → IsWhole
 short-new p net arc point whole is short =
     let end : ℕ = point + step p arc in
     false_from_ne_true (has_point (points_in net (arc_at p arc).to) end)
-    (λ there. absurd (omega (arith, floor-greatest (points_in net (arc_at p arc).to) 1 end end there (omega arith), kept-greatest p net (record { arc = arc; depart = point }) whole is, short)))
+    (λ there. absurd (omega (arith, floor_greatest (points_in net (arc_at p arc).to) 1 end end there (omega arith), kept-greatest p net (record { arc = arc; depart = point }) whole is, short)))
 
 -- an arc's head is a terminal
 pub head-within : (p : Problem) (net : TimedNetwork) (arc : ℕ) → IsValid p → IsWhole p net → arc < length net.tails → (arc_at p arc).to < length net.points

@@ -7,7 +7,7 @@ use Rattle.fp_labels.specs.declared.graphs.Edge.{Edge}
 use Rattle.fp_labels.specs.Graphs.{edge_at, no_edge, HasEnds}
 use Rattle.fp_model.specs.declared.parts.Leg.{Leg}
 use Rattle.fp_model.specs.Problem.{Problem, arc_at, IsValid}
-use Rattle.fp_timenodes.proofs.Floors.{floor_point-is}
+use Rattle.fp_timenodes.proofs.Floors.{IsFloorPoint-floor_point}
 use Rattle.fp_longestarcs.specs.Ascending.{ArePoints, place_of}
 use Rattle.fp_longestarcs.specs.Classes.{head_of}
 use Rattle.fp_longestarcs.specs.Networks.{TimedNetwork, IsArcOfClass, IsClass, IsNetwork, class_count, class_number, copy_count, first_class, point_count, points_in, tail_in}
@@ -175,7 +175,7 @@ class-joins p net c valid whole is =
     let there = class-place net c whole.valid is in
     let head : (arc_at p c.arc).to < length net.points = head-within p net c.arc valid whole is.0 in
     let ends : ArePoints (points_in net (arc_at p c.arc).to) = points-of net (arc_at p c.arc).to whole.valid head in
-    let enters = at-place (points_in net (arc_at p c.arc).to) (head_of p (points_in net) c) ends.ascending (floor_point-is (points_in net (arc_at p c.arc).to) _ ends.zero).0 in
+    let enters = at-place (points_in net (arc_at p c.arc).to) (head_of p (points_in net) c) ends.ascending (IsFloorPoint-floor_point (points_in net (arc_at p c.arc).to) _ ends.zero).0 in
     record {
       exists = exists;
       tail = subst (λ (t : ℕ). t < length net.points) tail (whole.valid.tails c.arc 0 is.0);

@@ -8,7 +8,7 @@ use Rattle.fp_model.specs.Numbered.{AllZipFrom, shipment_at}
 use Rattle.fp_model.specs.Problem.{IsValid, Problem, arc_at, no_arc}
 use Rattle.fp_model.specs.Routes.{Leads, arcs_of, step}
 use Rattle.fp_timenodes.specs.Floor.{HaveSamePoints}
-use Rattle.fp_timenodes.proofs.Floors.{floor-same}
+use Rattle.fp_timenodes.proofs.Floors.{floor_same}
 use Rattle.fp_flatnet.specs.declared.window_tables.Window.{Window}
 use Rattle.fp_longestarcs.specs.Classes.{head_of}
 use Rattle.fp_tree.specs.declared.sides.Side.{Side}
@@ -47,7 +47,7 @@ module _ (p : Problem) (valid : IsValid p) where
   moments-same points others same sides k c (Some w) h =
       some_below-same (w.hi + 1) (is_moment p points sides k c w) (is_moment p others sides k c w) (λ m.
       ap (λ (n : ℕ). nat_eq n c.depart && nat_le w.lo m && nat_le m w.hi && meets_all k sides (exit_of p (record { arc = c.arc; depart = m })))
-      (floor-same (points (tails_of p c.arc)) (others (tails_of p c.arc)) 1 m (same (tails_of p c.arc) (valid.arcs c.arc no_arc h).from)))
+      (floor_same (points (tails_of p c.arc)) (others (tails_of p c.arc)) 1 m (same (tails_of p c.arc) (valid.arcs c.arc no_arc h).from)))
 
   -- and is allowed for the same shipments
   allowed-same : (windows : ℕ → ℕ → Option Window) (points others : ℕ → List ℕ) → AreSame points others → (sides : List Side) (k : ℕ) (c : Leg) → is_allowed p windows points sides k c ≡ is_allowed p windows others sides k c
@@ -67,7 +67,7 @@ module _ (p : Problem) (valid : IsValid p) where
   follows-same points others same here there ready [] leads follows = tt
   follows-same points others same here there ready (c ∷ walk) leads follows =
       let head : head_of p points c ≡ head_of p others c =
-      floor-same (points (arc_at p c.arc).to) (others (arc_at p c.arc).to) 1 (c.depart + step p c.arc) (same (arc_at p c.arc).to (valid.arcs c.arc no_arc leads.0).to) in
+      floor_same (points (arc_at p c.arc).to) (others (arc_at p c.arc).to) 1 (c.depart + step p c.arc) (same (arc_at p c.arc).to (valid.arcs c.arc no_arc leads.0).to) in
       (follows.0, subst (λ (n : ℕ). FollowsHeads p others n walk) head (follows-same points others same (arc_at p c.arc).to there (head_of p points c) walk leads.2 follows.1))
 
   timed-same : (points others : ℕ → List ℕ) → AreSame points others → (allowed : Leg → Bool) (s : Shipment) (walk : List Leg) → IsTimedWalk p points allowed s walk → IsTimedWalk p others allowed s walk

@@ -10,7 +10,7 @@ use Rattle.csv.specs.declared.parser.State.TheVariants as st
 use Rattle.csv.proofs.RoundTrip.{plain-run, record-same, rest-run, start-same}
 use Rattle.fp_records.specs.Fields.{is_empty, kept_records, records_of}
 use Rattle.fp_records.specs.Text.{comma, is_plain, is_plain_field, is_plain_record, joined, line_feed, line_of, lines_of}
-use Rattle.fp_records.proofs.Plain.{kept_records-plain, plain-byte}
+use Rattle.fp_records.proofs.PlainFields.{kept_records-plain, plain-byte}
 use Rattle.fp_records.proofs.RowFacts.{all-records}
 
 -- A field of plain bytes needs no quotes.

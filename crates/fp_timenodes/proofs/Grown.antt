@@ -13,8 +13,9 @@ use Rattle.fp_timenodes.specs.Floor.{has_point}
 use Rattle.fp_timenodes.specs.Points.{IsAddedPoint, times_at, added_at, points_at, greatest_round}
 use Rattle.fp_timenodes.specs.Stamps.{AreUpTo, IncludesPoint, points_of}
 use Rattle.fp_timenodes.specs.Timelines.{Show}
-use Rattle.fp_timenodes.proofs.Included.{has_point-append, has-kept-push, or_right_comm}
-use Rattle.fp_timenodes.proofs.Shown.{seen_as, greatest_round-bound}
+use Rattle.fp_timenodes.proofs.PointLists.{has_point-kept_push, or_right_comm, has_point-append}
+use Rattle.fp_timenodes.proofs.TimelinePoints.{seen_as}
+use Rattle.fp_timenodes.proofs.Rounds.{greatest_round_bound}
 
 -- the points of a terminal as of a round, by their kinds
 by-kinds : (first : List Place) (added : List AddedPoint) (timelines : List (List Stamp)) (t r q : ℕ) →
@@ -22,21 +23,21 @@ by-kinds : (first : List Place) (added : List AddedPoint) (timelines : List (Lis
 by-kinds first added timelines t r q =
     has_point-append (times_at first t) (added_at added t r ++ 0 ∷ []) q ∙ ap (λ (b : Bool). has_point (times_at first t) q || b) (has_point-append (added_at added t r) (0 ∷ []) q)
 
-greatest_round-push : (added : List AddedPoint) (p : AddedPoint) → greatest_round (added ++ p ∷ []) ≡ max (greatest_round added) p.round
-greatest_round-push [] p = omega arith
-greatest_round-push (q ∷ added) p = omega (arith, greatest_round-push added p)
+greatest_round_push : (added : List AddedPoint) (p : AddedPoint) → greatest_round (added ++ p ∷ []) ≡ max (greatest_round added) p.round
+greatest_round_push [] p = omega arith
+greatest_round_push (q ∷ added) p = omega (arith, greatest_round_push added p)
 
 -- the timelines with the new point show it among the added ones
-pub add-shows : (first : List Place) (added : List AddedPoint) (timelines : List (List Stamp)) (p : AddedPoint) (stamps : List Stamp) →
+pub Show-one_added : (first : List Place) (added : List AddedPoint) (timelines : List (List Stamp)) (p : AddedPoint) (stamps : List Stamp) →
     Show (seen_as first added timelines) timelines → IsAddedPoint (length timelines) p → greatest_round added ≤ p.round →
     IncludesPoint (get_or timelines p.terminal []) stamps p.at p.round → AreUpTo p.round stamps →
     Show (seen_as first (added ++ p ∷ []) (set timelines p.terminal stamps)) (set timelines p.terminal stamps)
-add-shows first added timelines p stamps shows valid order includes up = record {
+Show-one_added first added timelines p stamps shows valid order includes up = record {
   valid = record {
     first = rw long shows.valid.first;
     added = rw long (All-push (IsAddedPoint (length timelines)) added p shows.valid.added valid);
     rounds = IsNonDecreasingBy-push (λ (q : AddedPoint). q.round) added p shows.valid.rounds
-        (λ d some. omega (arith, greatest_round-bound added d (length added - 1) (omega arith)));
+        (λ d some. omega (arith, greatest_round_bound added d (length added - 1) (omega arith)));
   };
   points = λ t r h q.
       grown t r (rw (sym long) h) q ∙
@@ -44,10 +45,10 @@ add-shows first added timelines p stamps shows valid order includes up = record 
       ap (λ (b : Bool). has_point (times_at first t) q || b)
       (or_right_comm (has_point (added_at added t r) q) (has_point (0 ∷ []) q) ((nat_eq p.terminal t && nat_le p.round r) && nat_eq p.at q) ∙
       ap (λ (b : Bool). b || has_point (0 ∷ []) q)
-      (sym (has-kept-push (λ (s : AddedPoint). nat_eq s.terminal t && nat_le s.round r) (λ (s : AddedPoint). s.at) added p q))) ∙
+      (sym (has_point-kept_push (λ (s : AddedPoint). nat_eq s.terminal t && nat_le s.round r) (λ (s : AddedPoint). s.at) added p q))) ∙
       sym (by-kinds first (added ++ p ∷ []) (set timelines p.terminal stamps) t r q);
-  rounds = All-set (AreUpTo (greatest_round (added ++ p ∷ []))) timelines p.terminal stamps (later p.round stamps up (omega (arith, greatest_round-push added p)))
-      (All-weaker (AreUpTo (greatest_round added)) (AreUpTo (greatest_round (added ++ p ∷ []))) (λ l h. later (greatest_round added) l h (omega (arith, greatest_round-push added p))) timelines shows.rounds);
+  rounds = All-set (AreUpTo (greatest_round (added ++ p ∷ []))) timelines p.terminal stamps (later p.round stamps up (omega (arith, greatest_round_push added p)))
+      (All-weaker (AreUpTo (greatest_round added)) (AreUpTo (greatest_round (added ++ p ∷ []))) (λ l h. later (greatest_round added) l h (omega (arith, greatest_round_push added p))) timelines shows.rounds);
 }
   where
     long : length (set timelines p.terminal stamps) ≡ length timelines

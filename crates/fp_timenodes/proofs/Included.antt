@@ -10,8 +10,8 @@ use Rattle.std.proofs.lemmas.List.Elements.{filter-append, All-append, All-take,
 use Rattle.fp_timenodes.specs.declared.timelines.Stamp.{Stamp}
 use Rattle.fp_timenodes.specs.Floor.{has_point}
 use Rattle.fp_timenodes.specs.Stamps.{IsAscending, IsCut, AreUpTo, points_of, IncludesPoint}
-use Rattle.fp_timenodes.proofs.Stamped.{StandsAt, stamp-of, has-stamp}
-use Rattle.fp_timenodes.proofs.Searched.{no_stamp}
+use Rattle.fp_timenodes.proofs.StampPlaces.{StandsAt, stamp-of, has-stamp}
+use Rattle.fp_timenodes.proofs.StampSearch.{no_stamp}
 
 -- of three tests the last two may change places
 pub or_right_comm : (a b c : Bool) → ((a || b) || c) ≡ ((a || c) || b)
@@ -23,9 +23,9 @@ has_point-append [] qs at = refl
 has_point-append (p ∷ ps) qs at = ap (λ (b : Bool). nat_eq p at || b) (has_point-append ps qs at) ∙ sym (or_assoc (nat_eq p at) (has_point ps at) (has_point qs at))
 
 -- one more element at the end gives one more point where it is kept
-pub has-kept-push : {X : Type 0} (kept : X → Bool) (at : X → ℕ) (xs : List X) (x : X) (q : ℕ) →
+pub has_point-kept_push : {X : Type 0} (kept : X → Bool) (at : X → ℕ) (xs : List X) (x : X) (q : ℕ) →
     has_point (map at (filter kept (xs ++ x ∷ []))) q ≡ (has_point (map at (filter kept xs)) q || (kept x && nat_eq (at x) q))
-has-kept-push kept at xs x q =
+has_point-kept_push kept at xs x q =
     ap (λ l. has_point (map at l) q) (filter-append kept xs (x ∷ [])) ∙ ap (λ (qs : List ℕ). has_point qs q) (map-append at (filter kept xs) (filter kept (x ∷ []))) ∙
     has_point-append (map at (filter kept xs)) (map at (filter kept (x ∷ []))) q ∙ ap (λ (b : Bool). has_point (map at (filter kept xs)) q || b) one
   where
@@ -43,8 +43,8 @@ has-one-more s stamps r q =
     ⊎_elim (λ (e : nat_le s.round r ≡ true). rw e refl) (λ (e : nat_le s.round r ≡ false). rw e refl) (cases_Bool (nat_le s.round r))
 
 -- a stamp that is put in gives its point from its round on
-pub insert-points : (stamps : List Stamp) (cut : ℕ) (s : Stamp) → IncludesPoint stamps (insert stamps cut s) s.at s.round
-insert-points stamps cut s r q =
+pub IncludesPoint-insert : (stamps : List Stamp) (cut : ℕ) (s : Stamp) → IncludesPoint stamps (insert stamps cut s) s.at s.round
+IncludesPoint-insert stamps cut s r q =
     let front : List Stamp = take cut stamps in
     let back : List Stamp = drop cut stamps in
     let new = ap (λ (ps : List ℕ). has_point ps q) (points_of-append front (s ∷ back) r) ∙ has_point-append (points_of front r) (points_of (s ∷ back) r) q in
@@ -57,8 +57,8 @@ insert-points stamps cut s r q =
     ap (λ (b : Bool). b || (nat_le s.round r && nat_eq s.at q)) whole
 
 -- a point that is there gives nothing new
-pub there-points : (stamps : List Stamp) (at round : ℕ) → has_point (points_of stamps round) at ≡ true → IncludesPoint stamps stamps at round
-there-points stamps at round there r q =
+pub IncludesPoint-there : (stamps : List Stamp) (at round : ℕ) → has_point (points_of stamps round) at ≡ true → IncludesPoint stamps stamps at round
+IncludesPoint-there stamps at round there r q =
     ⊎_elim
     (λ (h : (nat_le round r && nat_eq at q) ≡ true). rw (h, there-at h) refl)
     (λ (h : (nat_le round r && nat_eq at q) ≡ false). rw h (sym (or-false (has_point (points_of stamps r) q))))
@@ -72,8 +72,8 @@ there-points stamps at round there r q =
         (has-stamp stamps r w.place no_stamp w.within (omega (arith, w.until, leb-true round r parts.0)))
 
 -- no stamp is later than the round, and the time is no point: then the stamps before the cut are before the time
-pub fresh-before : (stamps : List Stamp) (at round cut : ℕ) → IsCut stamps at cut → AreUpTo round stamps → has_point (points_of stamps round) at ≡ false → AllWithin (λ (s : Stamp). s.at < at) stamps 0 cut
-fresh-before stamps at round cut c up absent k d from h =
+pub IsCut-absent : (stamps : List Stamp) (at round cut : ℕ) → IsCut stamps at cut → AreUpTo round stamps → has_point (points_of stamps round) at ≡ false → AllWithin (λ (s : Stamp). s.at < at) stamps 0 cut
+IsCut-absent stamps at round cut c up absent k d from h =
     ⊎_elim
     (λ (same : (get_or stamps k d).at ≡ at).
     let within : k < length stamps = omega (arith, c.within) in
@@ -83,8 +83,8 @@ fresh-before stamps at round cut c up absent k d from h =
     (cases_eq (get_or stamps k d).at at)
 
 -- a stamp that is put in between the earlier and the later keeps the stamps ascending
-pub insert-ascending : (stamps : List Stamp) (cut : ℕ) (s : Stamp) → IsCut stamps s.at cut → AllWithin (λ (t : Stamp). t.at < s.at) stamps 0 cut → IsAscending (insert stamps cut s)
-insert-ascending stamps cut s c before i j d less h =
+pub IsAscending-insert : (stamps : List Stamp) (cut : ℕ) (s : Stamp) → IsCut stamps s.at cut → AllWithin (λ (t : Stamp). t.at < s.at) stamps 0 cut → IsAscending (insert stamps cut s)
+IsAscending-insert stamps cut s c before i j d less h =
     ⊎_elim
     (λ (early : i < cut).
     rw (get_or-insert_below stamps cut s d i early c.within)

@@ -8,9 +8,9 @@ use Rattle.std.proofs.lemmas.List.{get_or-reverse, length-reverse, get_or-take, 
 use Rattle.fp_timenodes.specs.declared.timelines.Stamp.{Stamp}
 use Rattle.fp_timenodes.specs.Floor.{has_point, floor_point, next_point, IsNextPoint}
 use Rattle.fp_timenodes.specs.Stamps.{points_of, IsCut}
-use Rattle.fp_timenodes.proofs.Floors.{floor-is, floor-below}
-use Rattle.fp_timenodes.proofs.Nexts.{next-is}
-use Rattle.fp_timenodes.proofs.Stamped.{StandsAt, stamp-of, has-stamp}
+use Rattle.fp_timenodes.proofs.Floors.{floor_below, floor_is}
+use Rattle.fp_timenodes.proofs.Nexts.{next_is}
+use Rattle.fp_timenodes.proofs.StampPlaces.{StandsAt, stamp-of, has-stamp}
 
 -- no stamp that a list has at all
 abbrev pub no_stamp : Stamp
@@ -67,7 +67,7 @@ last-until : (stamps : List Stamp) (at round cut i : ℕ) → IsCut stamps at cu
 last-until stamps at round cut i c h le none =
     let it : ℕ = (get_or stamps i no_stamp).at in
     let early : it ≤ at = c.until i no_stamp (omega arith) h in
-    floor-is (points_of stamps round) 1 at it (has-stamp stamps round i no_stamp (omega (arith, c.within)) le) (omega (arith, early))
+    floor_is (points_of stamps round) 1 at it (has-stamp stamps round i no_stamp (omega (arith, c.within)) le) (omega (arith, early))
     (λ q there late.
     let w : StandsAt stamps round q no_stamp = stamp-of stamps round q no_stamp there in
     let l : w.place < cut = before-cut stamps at cut w.place c w.within (rw w.time (let e : q ≤ at = omega (arith, late) in e)) in
@@ -112,7 +112,7 @@ found-until stamps at round cut c = by-find (find up (reverse front)) (found up 
         unwrap_or (option_map (λ s. s.at) o) 0 ≡ floor_point (points_of stamps round) 1 at
     by-find None none =
         let early : (q : ℕ) → has_point (points_of stamps round) q ≡ true → at < q = none-until stamps at round cut c (λ k h. late k h (none (cut - 1 - k) (omega (arith, long-back)))) in
-        omega (arith, floor-below (points_of stamps round) 1 at 0 (λ q there le. absurd (omega (arith, early q there))))
+        omega (arith, floor_below (points_of stamps round) 1 at 0 (λ q there le. absurd (omega (arith, early q there))))
     by-find (Some s) w =
         let i : ℕ = cut - 1 - w.place in
         let h : i < cut = omega (arith, w.within, long-back) in
@@ -149,7 +149,7 @@ first-after stamps at round cut i c from within le none = (
 -- what is found among the stamps from the cut on is the least point after the time
 pub found-after : (stamps : List Stamp) (at round cut : ℕ) → IsCut stamps at cut →
     option_map (λ s. s.at) (find (λ s. nat_le s.round round) (drop cut stamps)) ≡ next_point (points_of stamps round) at
-found-after stamps at round cut c = next-is (points_of stamps round) at (option_map (λ s. s.at) (find up (drop cut stamps))) (by-find (find up (drop cut stamps)) (found up (drop cut stamps) no_stamp))
+found-after stamps at round cut c = next_is (points_of stamps round) at (option_map (λ s. s.at) (find up (drop cut stamps))) (by-find (find up (drop cut stamps)) (found up (drop cut stamps) no_stamp))
   where
     up : Stamp → Bool
     up s = nat_le s.round round

@@ -13,18 +13,17 @@ use Rattle.fp_timenodes.specs.Points.{TimePoints, IsValid, IsPlace, IsAddedPoint
 use Rattle.fp_timenodes.specs.Stamps.{points_of}
 use Rattle.fp_timenodes.specs.Timelines.{Show}
 use Rattle.fp_timenodes.specs.declared.places.TheConstants.{LATEST}
-use Rattle.fp_timenodes.proofs.Floors.{has-cases}
-use Rattle.fp_timenodes.proofs.Included.{has_point-append}
+use Rattle.fp_timenodes.proofs.PointLists.{has_point_cases, has_point-append}
 
 -- the points that these fields stand for
 abbrev pub seen_as : List Place → List AddedPoint → List (List Stamp) → TimePoints
 seen_as first added timelines = record { terminals = length timelines; first = first; added = added }
 
 -- the timeline that an index reads has the points of its terminal
-pub timeline-points : (v : TimePoints) (first : List Place) (added : List AddedPoint) (timelines : List (List Stamp)) (terminal round : ℕ) (stamps : List Stamp) →
+pub HaveSamePoints-timeline : (v : TimePoints) (first : List Place) (added : List AddedPoint) (timelines : List (List Stamp)) (terminal round : ℕ) (stamps : List Stamp) →
     Show (seen_as first added timelines) timelines → seen_as first added timelines ≡ v → terminal < v.terminals → stamps ≡ get_or timelines terminal stamps →
     HaveSamePoints (points_of stamps round) (points_at v terminal round)
-timeline-points v first added timelines terminal round stamps shows is within read =
+HaveSamePoints-timeline v first added timelines terminal round stamps shows is within read =
     let some : terminal < length timelines = omega (arith, ap (λ (w : TimePoints). w.terminals) is) in
     let same : get_or timelines terminal [] ≡ stamps = get_or_default timelines terminal [] stamps some ∙ sym read in
     let points = shows.points terminal round some in
@@ -41,13 +40,13 @@ kept-in-time kept at latest (x ∷ xs) q all h =
     ⊎_elim
     (λ (same : at x ≡ q). omega (arith, same, all 0 x (omega arith)))
     (λ (later : has_point (map at (filter kept xs)) q ≡ true). kept-in-time kept at latest xs q rest later)
-    (has-cases (at x) (map at (filter kept xs)) q (rw e at h)))
+    (has_point_cases (at x) (map at (filter kept xs)) q (rw e at h)))
     (λ (e : kept x ≡ false). kept-in-time kept at latest xs q rest (rw e at h))
     (cases_Bool (kept x))
 
 -- no point is later than the latest time
-pub points-in-time : (v : TimePoints) (terminal round q : ℕ) → IsValid v → has_point (points_at v terminal round) q ≡ true → q ≤ LATEST
-points-in-time v terminal round q valid h =
+pub points_at_latest : (v : TimePoints) (terminal round q : ℕ) → IsValid v → has_point (points_at v terminal round) q ≡ true → q ≤ LATEST
+points_at_latest v terminal round q valid h =
     let firsts : List ℕ = times_at v.first terminal in
     let others : List ℕ = added_at v.added terminal round in
     ⊎_elim
@@ -59,33 +58,33 @@ points-in-time v terminal round q valid h =
     (λ (f : has_point others q ≡ true).
     kept-in-time (λ (p : AddedPoint). nat_eq p.terminal terminal && nat_le p.round round) (λ (p : AddedPoint). p.at) LATEST v.added q
     (All-weaker (IsAddedPoint v.terminals) (λ (p : AddedPoint). p.at ≤ LATEST) (λ p g. g.1) v.added valid.added) f)
-    (λ (f : has_point (0 ∷ []) q ≡ true). ⊎_elim (λ (g : 0 ≡ q). omega arith) (λ (g : has_point [] q ≡ true). cc) (has-cases 0 [] q f))
+    (λ (f : has_point (0 ∷ []) q ≡ true). ⊎_elim (λ (g : 0 ≡ q). omega arith) (λ (g : has_point [] q ≡ true). cc) (has_point_cases 0 [] q f))
     (or_cases (has_point others q) (has_point (0 ∷ []) q) (sym (has_point-append others (0 ∷ []) q) ∙ e)))
     (or_cases (has_point firsts q) (has_point (others ++ 0 ∷ []) q) (sym (has_point-append firsts (others ++ 0 ∷ []) q) ∙ h))
 
 -- 0 is always a point
-pub zero-there : (v : TimePoints) (terminal round : ℕ) → has_point (points_at v terminal round) 0 ≡ true
-zero-there v terminal round =
+pub has_point-zero : (v : TimePoints) (terminal round : ℕ) → has_point (points_at v terminal round) 0 ≡ true
+has_point-zero v terminal round =
     has_point-append (times_at v.first terminal) (added_at v.added terminal round ++ 0 ∷ []) 0 ∙
     or_right (has_point (times_at v.first terminal) 0) (has_point (added_at v.added terminal round ++ 0 ∷ []) 0)
     (has_point-append (added_at v.added terminal round) (0 ∷ []) 0 ∙ or_right (has_point (added_at v.added terminal round) 0) (has_point (0 ∷ []) 0) refl)
 
 -- no round is later than the greatest
-pub greatest_round-bound : (added : List AddedPoint) (d : AddedPoint) (k : ℕ) → k < length added → (get_or added k d).round ≤ greatest_round added
-greatest_round-bound [] d k h = absurd (omega arith)
-greatest_round-bound (p ∷ added) d zero h = omega arith
-greatest_round-bound (p ∷ added) d (suc k) h = omega (arith, greatest_round-bound added d k (omega arith))
+pub greatest_round_bound : (added : List AddedPoint) (d : AddedPoint) (k : ℕ) → k < length added → (get_or added k d).round ≤ greatest_round added
+greatest_round_bound [] d k h = absurd (omega arith)
+greatest_round_bound (p ∷ added) d zero h = omega arith
+greatest_round_bound (p ∷ added) d (suc k) h = omega (arith, greatest_round_bound added d k (omega arith))
 
 -- what is at least each round is at least the greatest
-greatest_round-least : (added : List AddedPoint) (d : AddedPoint) (n : ℕ) → ((k : ℕ) → k < length added → (get_or added k d).round ≤ n) → greatest_round added ≤ n
-greatest_round-least [] d n above = omega arith
-greatest_round-least (p ∷ added) d n above = omega (arith, above 0 (omega arith), greatest_round-least added d n (λ k h. above (suc k) (omega arith)))
+greatest_round_least : (added : List AddedPoint) (d : AddedPoint) (n : ℕ) → ((k : ℕ) → k < length added → (get_or added k d).round ≤ n) → greatest_round added ≤ n
+greatest_round_least [] d n above = omega arith
+greatest_round_least (p ∷ added) d n above = omega (arith, above 0 (omega arith), greatest_round_least added d n (λ k h. above (suc k) (omega arith)))
 
 -- where rounds do not fall, the last added point has the greatest
-pub greatest_round-last : (added : List AddedPoint) (p : AddedPoint) → IsNonDecreasingBy (λ (q : AddedPoint). q.round) added → 0 < length added → p ≡ get_or added (length added - 1) p → p.round ≡ greatest_round added
-greatest_round-last added p rises some read =
-    let bound = greatest_round-bound added p (length added - 1) (omega arith) in
-    let least = greatest_round-least added p p.round (λ k h. omega (arith, rises k (length added - 1) p (omega arith) (omega arith), last)) in
+pub greatest_round_last : (added : List AddedPoint) (p : AddedPoint) → IsNonDecreasingBy (λ (q : AddedPoint). q.round) added → 0 < length added → p ≡ get_or added (length added - 1) p → p.round ≡ greatest_round added
+greatest_round_last added p rises some read =
+    let bound = greatest_round_bound added p (length added - 1) (omega arith) in
+    let least = greatest_round_least added p p.round (λ k h. omega (arith, rises k (length added - 1) p (omega arith) (omega arith), last)) in
     omega (arith, bound, least, last)
   where
     last : p.round ≡ (get_or added (length added - 1) p).round

@@ -5,16 +5,16 @@ use Rattle.std.proofs.lemmas.Bool.{cases_Bool, leb-true, le-leb}
 use Rattle.fp_timenodes.specs.declared.timelines.Stamp.{Stamp}
 use Rattle.fp_timenodes.specs.Floor.{has_point}
 use Rattle.fp_timenodes.specs.Stamps.{points_of}
-use Rattle.fp_timenodes.proofs.Floors.{has-cases, has-first, has-rest}
+use Rattle.fp_timenodes.proofs.PointLists.{has_point_rest, has_point_first, has_point_cases}
 
 -- a stamp up to the round gives a point
 pub has-stamp : (stamps : List Stamp) (round k : ℕ) (d : Stamp) → k < length stamps → (get_or stamps k d).round ≤ round → has_point (points_of stamps round) (get_or stamps k d).at ≡ true
 has-stamp [] round k d h le = absurd (omega arith)
-has-stamp (s ∷ stamps) round zero d h le = rw (le-leb s.round round le) (has-first s.at (points_of stamps round))
+has-stamp (s ∷ stamps) round zero d h le = rw (le-leb s.round round le) (has_point_first s.at (points_of stamps round))
 has-stamp (s ∷ stamps) round (suc k) d h le =
     let rest : has_point (points_of stamps round) (get_or stamps k d).at ≡ true = has-stamp stamps round k d (omega arith) le in
     ⊎_elim
-    (λ (e : nat_le s.round round ≡ true). rw e (has-rest s.at (points_of stamps round) (get_or stamps k d).at rest))
+    (λ (e : nat_le s.round round ≡ true). rw e (has_point_rest s.at (points_of stamps round) (get_or stamps k d).at rest))
     (λ (e : nat_le s.round round ≡ false). rw e rest)
     (cases_Bool (nat_le s.round round))
 
@@ -34,7 +34,7 @@ stamp-of (s ∷ stamps) round at d h =
     ⊎_elim
     (λ (same : s.at ≡ at). record { place = 0; within = omega arith; time = same; until = leb-true s.round round e })
     (λ (rest : has_point (points_of stamps round) at ≡ true). later (stamp-of stamps round at d rest))
-    (has-cases s.at (points_of stamps round) at (rw e at h)))
+    (has_point_cases s.at (points_of stamps round) at (rw e at h)))
     (λ (e : nat_le s.round round ≡ false). later (stamp-of stamps round at d (rw e at h)))
     (cases_Bool (nat_le s.round round))
   where

@@ -14,8 +14,8 @@ use Rattle.fp_timenodes.specs.Floor.{has_point, HaveSamePoints}
 use Rattle.fp_timenodes.specs.Points.{IsPlace, times_at}
 use Rattle.fp_timenodes.specs.Stamps.{AreUpTo, IncludesPoint, points_of}
 use Rattle.fp_timenodes.specs.Timelines.{Show, StartAt, bare}
-use Rattle.fp_timenodes.proofs.Included.{has_point-append, has-kept-push, or_right_comm}
-use Rattle.fp_timenodes.proofs.Shown.{seen_as}
+use Rattle.fp_timenodes.proofs.PointLists.{has_point-kept_push, or_right_comm, has_point-append}
+use Rattle.fp_timenodes.proofs.TimelinePoints.{seen_as}
 
 -- the timelines of the point 0 alone
 pub start-none : (terminals : ℕ) → StartAt terminals [] (replicate terminals bare)
@@ -34,13 +34,13 @@ times-more : (places : List Place) (k terminal at : ℕ) (d : Place) → k < len
     has_point (times_at (take (k + 1) places) terminal) at ≡ (has_point (times_at (take k places) terminal) at || (nat_eq (get_or places k d).terminal terminal && nat_eq (get_or places k d).at at))
 times-more places k terminal at d h =
     ap (λ (l : List Place). has_point (times_at l terminal) at) (take_more places k d h) ∙
-    has-kept-push (λ (p : Place). nat_eq p.terminal terminal) (λ (p : Place). p.at) (take k places) (get_or places k d) at
+    has_point-kept_push (λ (p : Place). nat_eq p.terminal terminal) (λ (p : Place). p.at) (take k places) (get_or places k d) at
 
 -- and its timeline includes it
-pub start-more : (terminals : ℕ) (places : List Place) (k : ℕ) (d : Place) (timelines : List (List Stamp)) (stamps : List Stamp) → k < length places → (get_or places k d).terminal < terminals →
+pub StartAt-one_more : (terminals : ℕ) (places : List Place) (k : ℕ) (d : Place) (timelines : List (List Stamp)) (stamps : List Stamp) → k < length places → (get_or places k d).terminal < terminals →
     StartAt terminals (take k places) timelines → IncludesPoint (get_or timelines (get_or places k d).terminal []) stamps (get_or places k d).at 0 → AreUpTo 0 stamps →
     StartAt terminals (take (k + 1) places) (set timelines (get_or places k d).terminal stamps)
-start-more terminals places k d timelines stamps h within old includes up = record {
+StartAt-one_more terminals places k d timelines stamps h within old includes up = record {
   count = length-set timelines next.terminal stamps ∙ old.count;
   points = λ terminal round t at.
       grown terminal round t at ∙ or_right_comm (has_point (times_at (take k places) terminal) at) (has_point (0 ∷ []) at) (nat_eq next.terminal terminal && nat_eq next.at at) ∙
@@ -88,9 +88,9 @@ times-permuted ps qs terminal at same = any ps ∙ list_any-IsPermutation here p
         (cases_Bool (nat_eq p.terminal terminal))
 
 -- they show the points of the start
-pub start-shows : (first ascending : List Place) (terminals : ℕ) (timelines : List (List Stamp)) → IsPermutation first ascending → All (IsPlace terminals) first → StartAt terminals ascending timelines →
+pub Show-start : (first ascending : List Place) (terminals : ℕ) (timelines : List (List Stamp)) → IsPermutation first ascending → All (IsPlace terminals) first → StartAt terminals ascending timelines →
     Show (seen_as first [] timelines) timelines
-start-shows first ascending terminals timelines same places start = record {
+Show-start first ascending terminals timelines same places start = record {
   valid = record {
     first = rw start.count places;
     added = λ k d h. absurd (omega arith);

@@ -3,7 +3,7 @@ use Rattle.std.proofs.Common.{◌≡◌, ◌<◌, ◌-◌, get_or, sym, subst, a
 use Rattle.std.specs.Prelude.{ℕ}
 use Rattle.std.proofs.lemmas.Bool.{ne_eqb, eq-eqb}
 use Rattle.fp_timenodes.specs.Stamps.{IsCut}
-use Rattle.fp_timenodes.proofs.Searched.{no_stamp, has-at-cut, none-at-cut}
+use Rattle.fp_timenodes.proofs.StampSearch.{no_stamp, has-at-cut, none-at-cut}
 use Rattle.fp_timenodes.proofs.timelines.Timeline.has.Goals as goal
 
 pub returns-then-end-eq0 : goal.returns-then-end-eq0
