@@ -1,5 +1,9 @@
 pub mod Meeting
 pub mod AllowedClasses
+pub mod SamePoints
+pub mod InitialPoints
+pub mod FewerSides
+pub mod ClassTimes
 pub mod PlanClasses
 pub mod ListedClasses
 pub mod RowClasses

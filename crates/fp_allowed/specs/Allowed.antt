@@ -2,7 +2,7 @@
 -- that leaves at that point.
 -- The source of classes, as timed arcs: Boland, Hewitt, Marshall and Savelsbergh, "The Continuous-Time Service Network Design
 -- Problem", Operations Research 65, 2017. Sides and forced chains are this project's own.
-use Rattle.std.specs.Prelude.{ℕ, zero, suc, ◌+◌, ◌≡◌, ◌≢◌, List, [], ◌∷◌, ◌++◌, length, Bool, true, false, ◌&&◌, ◌||◌, not, nat_eq, nat_lt, nat_le, Option, Some, None}
+use Rattle.std.specs.Prelude.{ℕ, zero, suc, ◌+◌, ◌≡◌, ◌≢◌, List, [], ◌∷◌, ◌++◌, length, Bool, true, false, ◌&&◌, ◌||◌, not, nat_eq, nat_lt, nat_le, Option, Some, None, All, Contains}
 use Rattle.std.specs.List.{AllByRecursion, list_all}
 use Rattle.fp_model.specs.declared.parts.Leg.{Leg}
 use Rattle.fp_model.specs.declared.parts.Shipment.{Shipment}
@@ -32,6 +32,10 @@ meets k e (From shipment terminal at) = not (nat_eq k shipment && nat_eq e.tail 
 -- whether it meets all of the sides
 abbrev pub meets_all : ℕ → List Side → Exit → Bool
 meets_all k sides e = list_all (meets k e) sides
+
+-- each of some sides is one of others
+abbrev pub AreAmong : List Side → List Side → Type 0
+AreAmong fewer sides = All (λ side. Contains sides side) fewer
 
 -- whether some number below n passes the test
 abbrev pub some_below : ℕ → (ℕ → Bool) → Bool

@@ -1,5 +1,7 @@
 pub mod Allowed
 pub mod Walks
+pub mod SamePoints
+pub mod InitialPoints
 pub mod Listing
 pub mod Settings
 pub mod Bits

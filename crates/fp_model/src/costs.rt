@@ -6,6 +6,7 @@ ghost use Rattle.fp_model.specs.Plans.{IsPlan};
 ghost use Rattle.fp_model.specs.Routes.{ArcsExist};
 
 use crate::instances::Instance;
+use crate::limits::MOST_SHIPMENTS;
 use crate::parts::{Leg, Shipment};
 use crate::plans::Plan;
 
@@ -31,7 +32,7 @@ fn any_goes_by(routes: &[Vec<Leg>], leg: Leg) -> bool
 // The sizes of the shipments whose routes have the leg.
 fn load_on(shipments: &[Shipment], routes: &[Vec<Leg>], leg: Leg) -> u128
     requires routes { length routes.now ≡ length shipments.now }
-    requires few { length shipments.now ≤ 500 }
+    requires few { length shipments.now ≤ MOST_SHIPMENTS }
     ensures { result ≡ load_of shipments.now (lists_of routes.now) leg }
 {
     let mut total: u128 = 0;

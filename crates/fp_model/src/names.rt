@@ -2,6 +2,7 @@ ghost use Rattle.std.specs.Prelude.{◌≡◌, ◌↔◌, IfOk, IsTrue};
 ghost use Rattle.fp_model.specs.Names.{IsName, is_name_byte};
 
 use crate::NoMemory;
+use crate::limits::LONGEST_NAME;
 use std::alloc::Global;
 use std::marker::Model;
 
@@ -16,7 +17,7 @@ fn is_name_byte(b: u8) -> bool
 pub fn is_name(bytes: &[u8]) -> bool
     ensures { IsTrue result ↔ IsName bytes.now }
 {
-    if bytes.is_empty() || bytes.len() > 32 {
+    if bytes.is_empty() || bytes.len() > LONGEST_NAME {
         return false;
     }
     bytes.iter().all(|b| is_name_byte(*b))

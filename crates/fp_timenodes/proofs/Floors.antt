@@ -4,17 +4,7 @@ use Rattle.std.specs.Prelude.{nat_le, nat_eq}
 use Rattle.std.proofs.Math.Nat.{mul-le-mul_left, le-div_iff_mul-le}
 use Rattle.std.proofs.lemmas.Bool.{cases_lt, cond-true, cond-false, le-leb, lt-leb, or_cases, or_left, or_right, eqb-true, eq-eqb}
 use Rattle.fp_timenodes.specs.Floor.{has_point, floor_point, IsFloorPoint, HaveSamePoints}
-
--- a point of a list is its first or one of the rest
-pub has_point_cases : (q : ℕ) (qs : List ℕ) (m : ℕ) → has_point (q ∷ qs) m ≡ true → (q ≡ m) ⊎ (has_point qs m ≡ true)
-has_point_cases q qs m h =
-    ⊎_elim (λ (e : nat_eq q m ≡ true). inl (eqb-true q m e)) (λ (r : has_point qs m ≡ true). inr r) (or_cases (nat_eq q m) (has_point qs m) h)
-
-pub has_point_first : (q : ℕ) (qs : List ℕ) → has_point (q ∷ qs) q ≡ true
-has_point_first q qs = or_left (nat_eq q q) (has_point qs q) (eq-eqb q q refl)
-
-pub has_point_rest : (q : ℕ) (qs : List ℕ) (m : ℕ) → has_point qs m ≡ true → has_point (q ∷ qs) m ≡ true
-has_point_rest q qs m h = or_right (nat_eq q m) (has_point qs m) h
+use Rattle.fp_timenodes.proofs.PointLists.{has_point_cases, has_point_first, has_point_rest}
 
 -- the first point counts where it is not after the moment
 floor-early : (q : ℕ) (qs : List ℕ) (d n : ℕ) → d * q ≤ n → floor_point (q ∷ qs) d n ≡ max q (floor_point qs d n)

@@ -1,5 +1,5 @@
 -- The points of all terminals, and which of them stand as of a round.
-use Rattle.std.specs.Prelude.{ℕ, ◌<◌, ◌≤◌, List, [], ◌∷◌, ◌++◌, map, filter, max, nat_le, ◌==◌, ◌&&◌, All}
+use Rattle.std.specs.Prelude.{ℕ, ◌≡◌, ◌≢◌, ◌<◌, ◌≤◌, List, [], ◌∷◌, ◌++◌, map, filter, max, nat_le, ◌==◌, ◌&&◌, All, AllPairs}
 use Rattle.std.specs.List.Sorted.{IsNonDecreasingBy}
 use Rattle.fp_timenodes.specs.declared.places.Place.{Place}
 use Rattle.fp_timenodes.specs.declared.places.AddedPoint.{AddedPoint}
@@ -24,10 +24,22 @@ added_at added terminal round =
 abbrev pub points_at : TimePoints → ℕ → ℕ → List ℕ
 points_at v terminal round = times_at v.first terminal ++ (added_at v.added terminal round ++ 0 ∷ [])
 
+-- the points with more that are added after all of them
+abbrev pub with_added : TimePoints → List AddedPoint → TimePoints
+with_added v more = record v { added = v.added ++ more }
+
 -- the greatest round that added a point, and 0 where none did
 abbrev pub greatest_round : List AddedPoint → ℕ
 greatest_round [] = 0
 greatest_round (p ∷ added) = max p.round (greatest_round added)
+
+-- all of them are of rounds after this one
+abbrev pub AreAfter : ℕ → List AddedPoint → Type 0
+AreAfter round added = All (λ (p : AddedPoint). round < p.round) added
+
+-- no two of them are at one terminal and at one time
+abbrev pub HaveDistinctPlaces : List AddedPoint → Type 0
+HaveDistinctPlaces added = AllPairs (λ (p q : AddedPoint). p.terminal ≡ q.terminal → p.at ≢ q.at) added
 
 -- a place is at one of the terminals, and in time
 abbrev pub IsPlace : ℕ → Place → Type 0

@@ -1,3 +1,4 @@
+//! What a point is: a place in time at a terminal, with the round that added it.
 /// The latest time at which a point may stand, in the input's unit.
 pub const LATEST: u32 = 100_000;
 

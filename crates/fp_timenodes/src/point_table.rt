@@ -1,3 +1,4 @@
+//! The points of all terminals as of every round: look-ups, and one more point.
 ghost use Rattle.std.specs.Prelude.{ℕ, ◌≡◌, ◌<◌, ◌≤◌, ◌↔◌, ◌++◌, [], ◌∷◌, All, IsTrue, IfOk, IfSome, OnErr, length, replicate};
 ghost use Rattle.fp_timenodes.specs.Floor.{has_point, floor_point, next_point, IsFloorPoint, IsNextPoint};
 ghost use Rattle.fp_timenodes.specs.Points.{TimePoints, IsPlace, IsAddedPoint, IsValid, points_at, greatest_round};
@@ -11,13 +12,13 @@ use std::marker::Model;
 
 /// The points of all terminals, with the rounds that added them.
 ///
-/// In every call a terminal is a number below the number of terminals; a time to look up and a round may be any
-/// number. Times are in the input's unit. Look-ups take time that grows with the logarithm of a terminal's points,
-/// and with the points of later rounds that they pass; they take no memory.
+/// In every call a terminal is a number below the number of terminals; a time to look up and a
+/// round may be any number. Times are in the input's unit. Look-ups take time that grows with the
+/// logarithm of a terminal's points, and with the points of later rounds that they pass; they take no memory.
 ///
-/// A contract sees the number of terminals, the places that have a point from the start, and the points added since,
-/// in the order of adding. The points of a terminal as of a round are 0, its places of the start and every added
-/// point of it whose round is at most that round.
+/// A contract sees the number of terminals, the places that have a point from the start, and the
+/// points added since, in the order of adding. The points of a terminal as of a round are 0, its
+/// places of the start and every added point of it whose round is at most that round.
 #[derive(Drop)]
 pub struct Points {
     first: Vec<Place>,
@@ -38,9 +39,9 @@ impl Model for Points {
 }
 
 impl Points {
-    /// The points of so many terminals at the start: 0 at each, and the places of `first`, in whatever order and
-    /// however often each is named. Each place is at one of the terminals, and no later than [`LATEST`].
-    /// `NoMemory` where memory is wanting.
+    /// The points of so many terminals at the start: 0 at each, and the places of `first`, in
+    /// whatever order and however often each is named. Each place is at one of the terminals, and
+    /// no later than [`LATEST`]. `NoMemory` only where no memory is found.
     pub fn new(alloc: Global, terminals: u32, first: &[Place]) -> Result<Points, NoMemory>
         requires { All (IsPlace terminals) first.now }
         ensures { IfOk result (λ p. p ≡ (record { terminals = terminals; first = first.now; added = [] })) }
@@ -64,7 +65,8 @@ impl Points {
         timeline.has(at, round)
     }
 
-    /// The greatest point of the terminal as of the round that is not after `at`. There is one, since 0 is a point.
+    /// The greatest point of the terminal as of the round that is not after `at`. There is one,
+    /// since 0 is a point.
     pub fn floor(&self, terminal: u32, at: u32, round: u32) -> u32
         requires { terminal < self.now.terminals }
         ensures value { result ≡ floor_point (points_at self.now terminal round) 1 at }
@@ -75,7 +77,8 @@ impl Points {
         timeline.floor(at, round)
     }
 
-    /// The least point of the terminal as of the round that is after `at`, `None` exactly where there is none.
+    /// The least point of the terminal as of the round that is after `at`, `None` exactly where
+    /// there is none.
     pub fn next(&self, terminal: u32, at: u32, round: u32) -> Option<u32>
         requires { terminal < self.now.terminals }
         ensures value { result ≡ next_point (points_at self.now terminal round) at }
@@ -104,9 +107,9 @@ impl Points {
         }
     }
 
-    /// Adds the point as of the round, and says whether it was there already, in which case nothing changes. The
-    /// round is at least 1 and at least that of every point added before; `at` is no later than [`LATEST`].
-    /// `NoMemory` where memory is wanting: then nothing changes either.
+    /// Adds the point as of the round, and says whether it was there already, in which case nothing
+    /// changes. The round is at least 1 and at least that of every point added before; `at` is no
+    /// later than [`LATEST`]. `NoMemory` only where no memory is found: then nothing changes either.
     pub fn add(
         &mut self,
         _alloc: Global,
@@ -125,7 +128,7 @@ impl Points {
         if self.has(terminal, at, round) {
             return Ok(Added::There);
         }
-        // Room first, so that nothing has changed where memory is wanting.
+        // Room first, so that nothing has changed where no memory is found.
         self.added.reserve(1)?;
         let timeline = &mut self.timelines[terminal as usize];
         timeline.insert(at, round)?;
@@ -137,7 +140,7 @@ impl Points {
         Ok(Added::New)
     }
 
-    /// An equal set of points. `NoMemory` where memory is wanting.
+    /// An equal set of points. `NoMemory` only where no memory is found.
     pub fn copy(&self, alloc: Global) -> Result<Points, NoMemory>
         ensures { IfOk result (λ p. p ≡ self.now) }
     {

@@ -1,3 +1,4 @@
+//! The points of one terminal in ascending order, and the search among them.
 ghost use Rattle.std.specs.Prelude.{◌≡◌, [], ◌∷◌, false, IfOk, OnOk, OnErr, find, option_map, reverse, nat_le};
 ghost use Rattle.fp_timenodes.specs.Floor.{has_point, floor_point, next_point};
 ghost use Rattle.fp_timenodes.specs.Stamps.{IsAscending, IsCut, points_of, AreUpTo, IncludesPoint};
@@ -32,7 +33,7 @@ impl Model for Timeline {
 }
 
 impl Timeline {
-    /// The timeline with the point 0 of the start alone.
+    /// The timeline with the point 0 of the start alone. `NoMemory` only where no memory is found.
     pub fn new(alloc: Global) -> Result<Timeline, NoMemory>
         ensures { IfOk result (λ t. t ≡ (record { at = 0; round = 0 } ∷ [])) }
     {
@@ -72,7 +73,8 @@ impl Timeline {
         first_by(&stamps[end..], round)
     }
 
-    /// Adds the point as of the round. Without memory nothing changes.
+    /// Adds the point as of the round. `NoMemory` only where no memory is found: then nothing
+    /// changes.
     pub fn insert(&mut self, at: u32, round: u32) -> Result<(), NoMemory>
         requires rounds { AreUpTo round self.old }
         requires absent { has_point (points_of self.old round) at ≡ false }
@@ -85,7 +87,8 @@ impl Timeline {
         Ok(())
     }
 
-    /// Has the point from the start, whether it was there or not. Without memory nothing changes.
+    /// Has the point from the start, whether it was there or not. `NoMemory` only where no memory is
+    /// found: then nothing changes.
     pub fn include(&mut self, at: u32) -> Result<(), NoMemory>
         requires { AreUpTo 0 self.old }
         ensures points { OnOk result (IncludesPoint self.old self.new at 0) }
@@ -98,7 +101,7 @@ impl Timeline {
         self.insert(at, 0)
     }
 
-    /// An equal timeline.
+    /// An equal timeline. `NoMemory` only where no memory is found.
     pub fn copy(&self, alloc: Global) -> Result<Timeline, NoMemory>
         ensures { IfOk result (λ t. t ≡ self.now) }
     {

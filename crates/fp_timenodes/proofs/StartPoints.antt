@@ -17,18 +17,6 @@ use Rattle.fp_timenodes.specs.Timelines.{Show, StartAt, bare}
 use Rattle.fp_timenodes.proofs.PointLists.{has_point-kept_push, or_right_comm, has_point-append}
 use Rattle.fp_timenodes.proofs.TimelinePoints.{seen_as}
 
--- the timelines of the point 0 alone
-pub start-none : (terminals : ℕ) → StartAt terminals [] (replicate terminals bare)
-start-none terminals = record {
-  count = length-replicate terminals bare;
-  points = λ terminal round h. subst (λ (l : List Stamp). HaveSamePoints (points_of l round) (0 ∷ [])) (sym (get_or-replicate terminals terminal bare [] h)) (λ at. rw (le-leb 0 round (omega arith)) refl);
-  rounds = All-replicate (AreUpTo 0) terminals bare up;
-}
-  where
-    up : AreUpTo 0 bare
-    up zero d h = omega arith
-    up (suc k) d h = absurd (omega arith)
-
 -- one more place
 times-more : (places : List Place) (k terminal at : ℕ) (d : Place) → k < length places →
     has_point (times_at (take (k + 1) places) terminal) at ≡ (has_point (times_at (take k places) terminal) at || (nat_eq (get_or places k d).terminal terminal && nat_eq (get_or places k d).at at))

@@ -10,27 +10,9 @@ use Rattle.std.proofs.lemmas.List.Elements.{filter-append, All-append, All-take,
 use Rattle.fp_timenodes.specs.declared.timelines.Stamp.{Stamp}
 use Rattle.fp_timenodes.specs.Floor.{has_point}
 use Rattle.fp_timenodes.specs.Stamps.{IsAscending, IsCut, AreUpTo, points_of, IncludesPoint}
+use Rattle.fp_timenodes.proofs.PointLists.{has_point-append, or_right_comm}
 use Rattle.fp_timenodes.proofs.StampPlaces.{StandsAt, stamp-of, has-stamp}
 use Rattle.fp_timenodes.proofs.StampSearch.{no_stamp}
-
--- of three tests the last two may change places
-pub or_right_comm : (a b c : Bool) → ((a || b) || c) ≡ ((a || c) || b)
-or_right_comm a b c = or_assoc a b c ∙ ap (λ (t : Bool). a || t) (or_comm b c) ∙ sym (or_assoc a c b)
-
--- the points of two lists together
-pub has_point-append : (ps qs : List ℕ) (at : ℕ) → has_point (ps ++ qs) at ≡ (has_point ps at || has_point qs at)
-has_point-append [] qs at = refl
-has_point-append (p ∷ ps) qs at = ap (λ (b : Bool). nat_eq p at || b) (has_point-append ps qs at) ∙ sym (or_assoc (nat_eq p at) (has_point ps at) (has_point qs at))
-
--- one more element at the end gives one more point where it is kept
-pub has_point-kept_push : {X : Type 0} (kept : X → Bool) (at : X → ℕ) (xs : List X) (x : X) (q : ℕ) →
-    has_point (map at (filter kept (xs ++ x ∷ []))) q ≡ (has_point (map at (filter kept xs)) q || (kept x && nat_eq (at x) q))
-has_point-kept_push kept at xs x q =
-    ap (λ l. has_point (map at l) q) (filter-append kept xs (x ∷ [])) ∙ ap (λ (qs : List ℕ). has_point qs q) (map-append at (filter kept xs) (filter kept (x ∷ []))) ∙
-    has_point-append (map at (filter kept xs)) (map at (filter kept (x ∷ []))) q ∙ ap (λ (b : Bool). has_point (map at (filter kept xs)) q || b) one
-  where
-    one : has_point (map at (filter kept (x ∷ []))) q ≡ (kept x && nat_eq (at x) q)
-    one = ⊎_elim (λ (e : kept x ≡ true). rw e (or-false (nat_eq (at x) q))) (λ (e : kept x ≡ false). rw e refl) (cases_Bool (kept x))
 
 points_of-append : (ss ts : List Stamp) (round : ℕ) → points_of (ss ++ ts) round ≡ points_of ss round ++ points_of ts round
 points_of-append ss ts round =
@@ -111,9 +93,3 @@ IsAscending-insert stamps cut s c before i j d less h =
     shifted k l =
         let back : k - 1 + 1 ≡ k = omega arith in
         ap (λ (n : ℕ). get_or (insert stamps cut s) n d) (sym back) ∙ get_or-insert_above stamps cut s d (k - 1) (omega arith) c.within
-
--- and no stamp is of a later round than before
-pub insert-up-to : (stamps : List Stamp) (cut : ℕ) (s : Stamp) → AreUpTo s.round stamps → AreUpTo s.round (insert stamps cut s)
-insert-up-to stamps cut s up =
-    let P : Stamp → Type 0 = λ t. t.round ≤ s.round in
-    All-append P (take cut stamps) (s ∷ drop cut stamps) (All-take P cut stamps up) (All-cons P s (drop cut stamps) (omega arith) (All-drop P cut stamps up))

@@ -5,7 +5,8 @@ use Rattle.csv.specs.Reading.{records_from, strip_bom}
 use Rattle.fp_records.specs.Fields.{records_of}
 use Rattle.fp_records.specs.Text.{lines_of}
 
--- A spreadsheet writes a byte order mark, quotes, commas up to a fixed number of fields, and a blank line.
+-- A spreadsheet writes a byte order mark, quotes, commas up to a fixed number of fields, and a
+-- blank line.
 spreadsheet : records_of (239 ∷ 187 ∷ 191 ∷ codes "terminal,\"A\",,,,,\r\narc,\"A\",\"B\",5,10,100,1\r\n,,,,,,\r\n\r\n")
     ≡ (codes "terminal" ∷ codes "A" ∷ []) ∷ (codes "arc" ∷ codes "A" ∷ codes "B" ∷ codes "5" ∷ codes "10" ∷ codes "100" ∷ codes "1" ∷ []) ∷ []
 unfolding next_record records_from strip_bom

@@ -15,17 +15,13 @@ use Rattle.fp_timenodes.specs.Stamps.{AreUpTo, IncludesPoint, points_of}
 use Rattle.fp_timenodes.specs.Timelines.{Show}
 use Rattle.fp_timenodes.proofs.PointLists.{has_point-kept_push, or_right_comm, has_point-append}
 use Rattle.fp_timenodes.proofs.TimelinePoints.{seen_as}
-use Rattle.fp_timenodes.proofs.Rounds.{greatest_round_bound}
+use Rattle.fp_timenodes.proofs.Rounds.{greatest_round_bound, greatest_round_push}
 
 -- the points of a terminal as of a round, by their kinds
 by-kinds : (first : List Place) (added : List AddedPoint) (timelines : List (List Stamp)) (t r q : ℕ) →
     has_point (points_at (seen_as first added timelines) t r) q ≡ (has_point (times_at first t) q || (has_point (added_at added t r) q || has_point (0 ∷ []) q))
 by-kinds first added timelines t r q =
     has_point-append (times_at first t) (added_at added t r ++ 0 ∷ []) q ∙ ap (λ (b : Bool). has_point (times_at first t) q || b) (has_point-append (added_at added t r) (0 ∷ []) q)
-
-greatest_round_push : (added : List AddedPoint) (p : AddedPoint) → greatest_round (added ++ p ∷ []) ≡ max (greatest_round added) p.round
-greatest_round_push [] p = omega arith
-greatest_round_push (q ∷ added) p = omega (arith, greatest_round_push added p)
 
 -- the timelines with the new point show it among the added ones
 pub Show-one_added : (first : List Place) (added : List AddedPoint) (timelines : List (List Stamp)) (p : AddedPoint) (stamps : List Stamp) →

@@ -68,24 +68,3 @@ has_point-zero v terminal round =
     has_point-append (times_at v.first terminal) (added_at v.added terminal round ++ 0 ∷ []) 0 ∙
     or_right (has_point (times_at v.first terminal) 0) (has_point (added_at v.added terminal round ++ 0 ∷ []) 0)
     (has_point-append (added_at v.added terminal round) (0 ∷ []) 0 ∙ or_right (has_point (added_at v.added terminal round) 0) (has_point (0 ∷ []) 0) refl)
-
--- no round is later than the greatest
-pub greatest_round_bound : (added : List AddedPoint) (d : AddedPoint) (k : ℕ) → k < length added → (get_or added k d).round ≤ greatest_round added
-greatest_round_bound [] d k h = absurd (omega arith)
-greatest_round_bound (p ∷ added) d zero h = omega arith
-greatest_round_bound (p ∷ added) d (suc k) h = omega (arith, greatest_round_bound added d k (omega arith))
-
--- what is at least each round is at least the greatest
-greatest_round_least : (added : List AddedPoint) (d : AddedPoint) (n : ℕ) → ((k : ℕ) → k < length added → (get_or added k d).round ≤ n) → greatest_round added ≤ n
-greatest_round_least [] d n above = omega arith
-greatest_round_least (p ∷ added) d n above = omega (arith, above 0 (omega arith), greatest_round_least added d n (λ k h. above (suc k) (omega arith)))
-
--- where rounds do not fall, the last added point has the greatest
-pub greatest_round_last : (added : List AddedPoint) (p : AddedPoint) → IsNonDecreasingBy (λ (q : AddedPoint). q.round) added → 0 < length added → p ≡ get_or added (length added - 1) p → p.round ≡ greatest_round added
-greatest_round_last added p rises some read =
-    let bound = greatest_round_bound added p (length added - 1) (omega arith) in
-    let least = greatest_round_least added p p.round (λ k h. omega (arith, rises k (length added - 1) p (omega arith) (omega arith), last)) in
-    omega (arith, bound, least, last)
-  where
-    last : p.round ≡ (get_or added (length added - 1) p).round
-    last = ap (λ (q : AddedPoint). q.round) read
