@@ -10,3 +10,4 @@ pub mod TreeNodes
 pub mod SharesInOrder
 pub mod LeavesPassed
 pub mod FirstParts
+pub mod KeptRounds

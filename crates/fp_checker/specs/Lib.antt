@@ -3,3 +3,4 @@ pub mod Points
 pub mod Leaves
 pub mod Accepted
 pub mod Claims
+pub mod KeptRounds

@@ -9,6 +9,7 @@ mod added_points;
 mod checks;
 mod departures;
 mod fastest_times;
+mod kept_rounds;
 mod laws;
 mod leaves;
 mod orders;

@@ -1,6 +1,7 @@
 pub mod LeafFound
 pub mod LeastSoFar
 pub mod ShipmentCosts
+pub mod WalksSoFar
 pub mod BasesCost
 pub mod SamePoints
 pub mod Searched
@@ -26,6 +27,9 @@ pub mod SmallPrices
 pub mod SmallBounds
 mod Worked
 pub mod Nodes
+pub mod NodesMet
+pub mod OriginLabels
+pub mod WalkEdges
 pub mod PointEdges
 pub mod GraphWalks
 pub mod TimedInGraph

@@ -1,10 +1,11 @@
 -- Walks of least cost, and the timed nodes that they meet. A timed node is a terminal and a point of it.
 -- Timed nodes and arcs: Boland, Hewitt, Marshall and Savelsbergh, "The Continuous-Time Service Network Design Problem",
 -- Operations Research 65, 2017.
-use Rattle.std.specs.Prelude.{ℕ, ◌≡◌, ◌≢◌, ◌<◌, ◌≤◌, List, [], ◌∷◌, length, Bool, AllPairs, ◌&&◌, nat_eq, nat_lt, Option, None, Some, MatchOption, if◌then◌else◌}
+use Rattle.std.specs.Prelude.{ℕ, ◌≡◌, ◌<◌, ◌≤◌, List, [], ◌∷◌, length, Bool, ◌&&◌, nat_eq, nat_lt, Option, None, Some, MatchOption, if◌then◌else◌}
+use Rattle.fp_lists.specs.Distinct.{AreDistinct}
+use Rattle.fp_lists.specs.Numbered.{AllZipFrom}
 use Rattle.fp_model.specs.declared.parts.Leg.{Leg}
 use Rattle.fp_model.specs.declared.parts.Shipment.{Shipment}
-use Rattle.fp_model.specs.Numbered.{AllZipFrom}
 use Rattle.fp_model.specs.Problem.{Problem, arc_at}
 use Rattle.fp_flatnet.specs.declared.window_tables.Window.{Window}
 use Rattle.fp_longestarcs.specs.Classes.{head_of}
@@ -43,7 +44,7 @@ nodes_met p points here (c ∷ walk) =
 
 -- a walk of a shipment, which stands at its origin from 0 on, repeats no timed node
 abbrev pub RepeatsNoNode : Problem → (ℕ → List ℕ) → Shipment → List Leg → Type 0
-RepeatsNoNode p points s walk = AllPairs (λ (m n : ℕ × ℕ). m ≢ n) (nodes_met p points (s.from, 0) walk)
+RepeatsNoNode p points s walk = AreDistinct (nodes_met p points (s.from, 0) walk)
 
 -- an allowed timed walk of least cost of a shipment that repeats no timed node
 pub record IsLeastWalk (p : Problem) (points : ℕ → List ℕ) (allowed : Leg → Bool) (s : Shipment) (price : Leg → ℕ) (walk : List Leg) : Type 0 where

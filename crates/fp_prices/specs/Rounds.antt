@@ -17,8 +17,8 @@ pub record RoundModel : Type 0 where
 -- the graph is that of the network's points, and the rates are those of the instance's arcs
 pub record IsRoundNetwork (r : RoundModel) (graph : PointGraph) (rates : List ℕ) : Type 0 where
   pub valid : IsValid r.problem
-  pub graph : IsPointGraph r.problem r.network graph
-  pub rates : rates ≡ map (rate_of r.problem.scale) r.problem.arcs
+  pub of_points : IsPointGraph r.problem r.network graph
+  pub of_arcs : rates ≡ map (rate_of r.problem.scale) r.problem.arcs
 
 -- an instance, its windows and a network of it, and the sides of a leaf
 pub record LeafModel : Type 0 where

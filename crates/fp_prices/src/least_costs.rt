@@ -4,6 +4,7 @@ ghost use Rattle.std.specs.Prelude.{ℕ, ◌≡◌, ◌*◌, ◌<◌, ◌≤◌,
 ghost use Rattle.fp_labels.specs.Labels.{IsSmallFor};
 ghost use Rattle.fp_model.specs.declared.parts.Leg.{Leg};
 ghost use Rattle.fp_model.specs.Numbered.{shipment_at};
+ghost use Rattle.fp_model.specs.Problem.{IsValid};
 ghost use Rattle.fp_longestarcs.specs.Networks.{class_count, point_count, points_in};
 ghost use Rattle.fp_prices.specs.ClassCosts.{AllowsClasses, HoldsClassCosts, IsFree, IsLeastOver};
 ghost use Rattle.fp_prices.specs.LeastWalks.{IsLeastWalkOver};
@@ -43,6 +44,7 @@ fn origin_labels(
 fn end_node(instance: &Instance, network: &Network, graph: &PointGraph, shipment: u32) -> u32
     requires graph { IsPointGraph instance.now network.now graph.now }
     requires shipment { shipment < length instance.now.shipments }
+    ensures valid { IsValid instance.now }
     ensures node { result ≡ last_node network.now (shipment_at instance.now shipment).to }
     ensures exists { result < point_count network.now }
 {
