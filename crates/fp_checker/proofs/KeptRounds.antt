@@ -9,10 +9,10 @@ use Rattle.fp_prices.specs.declared.leaf_prices.LeafPrice.{LeafPrice}
 use Rattle.fp_lines.specs.declared.certificates.Node.TheVariants as node
 use Rattle.fp_lines.specs.Statements.{Statement}
 use Rattle.fp_checker.specs.declared.kept_rounds.KeptRound.{KeptRound}
-use Rattle.fp_checker.specs.Accepted.{claim_of}
+use Rattle.fp_acceptance.specs.Accepted.{claim_of}
 use Rattle.fp_checker.specs.KeptRounds.{IsKeptRound}
-use Rattle.fp_checker.specs.Leaves.{IsLeafWorth}
-use Rattle.fp_checker.specs.Points.{ArePointsOf}
+use Rattle.fp_acceptance.specs.Leaves.{IsLeafWorth}
+use Rattle.fp_acceptance.specs.Points.{ArePointsOf}
 
 -- what a flag tells of a leaf of the kept network's instance, it tells of the instance
 pub kept-worth : (p : Problem) (table : WindowTable) (c : Statement) (v : TimePoints) (kept : KeptRound) (price : LeafPrice) (sides : List Side) (flag : Type 0) → IsKeptRound p v kept → ArePointsOf p table.anchors c.points v →

@@ -10,8 +10,8 @@ use Rattle.fp_prices.specs.Tables.{AreTables}
 use Rattle.fp_prices.proofs.LeafFound.{leaf-is}
 use Rattle.fp_prices.proofs.SamePoints.{bound-same}
 use Rattle.fp_lines.specs.Statements.{Statement}
-use Rattle.fp_checker.specs.Accepted.{claim_of}
-use Rattle.fp_checker.specs.Leaves.{IsBoundWorth}
+use Rattle.fp_acceptance.specs.Accepted.{claim_of}
+use Rattle.fp_checker.specs.Bounds.{IsBoundWorth}
 use Rattle.fp_checker.proofs.LeavesPassed.{bound-worth}
 use Rattle.fp_checker.proofs.leaves.is_leaf_worth.Goals as goal
 
