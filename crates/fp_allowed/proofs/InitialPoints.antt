@@ -84,7 +84,7 @@ module _ (p : Problem) (anchors : List Place) (points : ℕ → List ℕ) (initi
 
   -- so the points have each shipment's times
   pub HasInitialPoints-HasShipmentTimes : IsValid p → HasShipmentTimes p points
-  HasInitialPoints-HasShipmentTimes valid = λ k d h. (initial-release k d h (valid.shipments k d h).from, initial-due k d h (valid.shipments k d h).to)
+  HasInitialPoints-HasShipmentTimes valid = λ k d h. (initial-release k d h (valid.parts.shipments k d h).from, initial-due k d h (valid.parts.shipments k d h).to)
 
   -- each anchor is a point
   pub initial-anchor : (place : Place) → place.terminal < length p.terminals → Contains anchors place → has_point (points place.terminal) place.at ≡ true
@@ -113,7 +113,7 @@ window-begins p table points k a w belongs initial shipment arc has leaves = beg
         let at_once : narrowed.wide.lo ≡ s.release =
         omega (arith, narrowed.is_window.lo, cond-true (nat_eq (arc_at p a).from s.from) 0 (narrowed.is_window.before + hold_at p (arc_at p a).from) test) in
         subst (λ (n : ℕ). has_point (points (arc_at p a).from) n ≡ true) (sym (same ∙ at_once))
-        (subst (λ (t : ℕ). has_point (points t) s.release ≡ true) (sym leaves) (initial-release p table.anchors points initial k no_shipment shipment (belongs.valid.shipments k no_shipment shipment).from)))
+        (subst (λ (t : ℕ). has_point (points t) s.release ≡ true) (sym leaves) (initial-release p table.anchors points initial k no_shipment shipment (belongs.valid.parts.shipments k no_shipment shipment).from)))
         (λ (other : w.lo ≢ narrowed.wide.lo).
-        initial-anchor p table.anchors points initial (record { terminal = (arc_at p a).from; at = w.lo }) (belongs.valid.arcs a no_arc arc).from (narrowed.anchored other))
+        initial-anchor p table.anchors points initial (record { terminal = (arc_at p a).from; at = w.lo }) (belongs.valid.parts.arcs a no_arc arc).from (narrowed.anchored other))
         (cases_eq w.lo narrowed.wide.lo)

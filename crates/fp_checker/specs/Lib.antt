@@ -1,6 +1,4 @@
-pub mod Plans
-pub mod Points
-pub mod Leaves
-pub mod Accepted
-pub mod Claims
+pub mod Lines
+pub mod Bounds
+pub mod Rejections
 pub mod KeptRounds

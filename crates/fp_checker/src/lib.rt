@@ -10,7 +10,6 @@ mod checks;
 mod departures;
 mod fastest_times;
 mod kept_rounds;
-mod laws;
 mod leaves;
 mod orders;
 mod plans;
@@ -19,7 +18,6 @@ mod rejections;
 mod trees;
 
 pub use checks::{check, plan_of};
-pub use laws::accepted_claims;
 pub use rejections::Rejected;
 
 /// The error of a call that finds no memory.

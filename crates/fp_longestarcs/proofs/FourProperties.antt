@@ -25,7 +25,7 @@ ends-greatest p net arc start end whole timed =
 -- and it leads to a point
 ends-at-point : (p : Problem) (net : TimedNetwork) (arc start end : ℕ) → IsValid p → IsWhole p net → IsTimedArc p net arc start end → has_point (points_in net (arc_at p arc).to) end ≡ true
 ends-at-point p net arc start end valid whole timed =
-    let is : IsArc (length p.terminals) (arc_at p arc) = valid.arcs arc no_arc timed.exists in
+    let is : IsArc (length p.terminals) (arc_at p arc) = valid.parts.arcs arc no_arc timed.exists in
     let are : ArePoints (points_in net (arc_at p arc).to) = whole.valid.points (arc_at p arc).to [] (omega (arith, is.to, whole.arcs.terminals)) in
     subst (λ (n : ℕ). has_point (points_in net (arc_at p arc).to) n ≡ true) (sym (ends-greatest p net arc start end whole timed))
     (IsFloorPoint-floor_point (points_in net (arc_at p arc).to) (start + step p arc) are.zero).0
@@ -35,7 +35,7 @@ pub has-properties : (p : Problem) (v : TimePoints) (round : ℕ) (net : TimedNe
 has-properties p v round net valid made = record {
   shipment_times = λ there k d h.
       let s : Shipment = get_or p.shipments k d in
-      let is : IsShipment (length p.terminals) s = valid.shipments k d h in (
+      let is : IsShipment (length p.terminals) s = valid.parts.shipments k d h in (
         made.points s.from is.from s.release ∙ (there k d h).0,
         made.points s.to is.to s.due ∙ (there k d h).1,
       );

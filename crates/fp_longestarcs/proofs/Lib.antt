@@ -12,3 +12,5 @@ pub mod Made
 pub mod PointCounts
 pub mod ClassCosts
 mod TwoArcs
+pub mod HeadBounds
+pub mod NetworkRounds

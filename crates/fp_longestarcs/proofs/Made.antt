@@ -15,7 +15,7 @@ use Rattle.fp_longestarcs.proofs.Lengthened.{arc-count, tail-of}
 pub tails-within : (p : Problem) → IsValid p → All (λ t. t < length p.terminals) (tails_of p.arcs)
 tails-within p valid k d h =
     let exists : k < length p.arcs = omega (arith, length-map p.arcs (λ (a : Arc). a.from)) in
-    let is : IsArc (length p.terminals) (arc_at p k) = valid.arcs k no_arc exists in
+    let is : IsArc (length p.terminals) (arc_at p k) = valid.parts.arcs k no_arc exists in
     omega (arith, get_or-map (λ (a : Arc). a.from) p.arcs k no_arc d exists, is.from)
 
 -- a network with the greatest heads is whole
@@ -23,7 +23,7 @@ pub made-whole : (p : Problem) (net : TimedNetwork) → IsValid p → HasArcsOf 
 made-whole p net valid has are heads = record {
   valid = record {
     points = are;
-    few = omega (arith, arc-count p net has, valid.few_arcs);
+    few = omega (arith, arc-count p net has, valid.parts.few_arcs);
     tails = λ k d h. subst (λ (l : List ℕ). get_or l k d < length net.points) (sym has.tails)
         (omega (arith, tails-within p valid k d (omega (arith, ap (λ (l : List ℕ). length l) has.tails)), has.terminals));
     arcs = ap (λ (l : List (List ℕ)). length l) heads ∙ length-map-range_with_len (heads_from p (points_in net)) 0 (length p.arcs) ∙ sym (arc-count p net has);

@@ -24,7 +24,7 @@ short-new p net arc point whole is short =
 -- an arc's head is a terminal
 pub head-within : (p : Problem) (net : TimedNetwork) (arc : ℕ) → IsValid p → IsWhole p net → arc < length net.tails → (arc_at p arc).to < length net.points
 head-within p net arc valid whole exists =
-    let is : IsArc (length p.terminals) (arc_at p arc) = valid.arcs arc no_arc (omega (arith, arc-count p net whole.arcs)) in
+    let is : IsArc (length p.terminals) (arc_at p arc) = valid.parts.arcs arc no_arc (omega (arith, arc-count p net whole.arcs)) in
     omega (arith, is.to, whole.arcs.terminals)
 
 -- so the network with that point is whole

@@ -32,7 +32,7 @@ pub record AreEnds (net : TimedNetwork) (s : Shipment) : Type 0 where
 pub are-ends : (p : Problem) (net : TimedNetwork) (k : ℕ) → IsValid p → IsWhole p net → k < length p.shipments → AreEnds net (shipment_at p k)
 are-ends p net k valid whole exists =
     let s : Shipment = shipment_at p k in
-    let is : IsShipment (length p.terminals) s = valid.shipments k no_shipment exists in
+    let is : IsShipment (length p.terminals) s = valid.parts.shipments k no_shipment exists in
     let from : s.from < length net.points = omega (arith, is.from, whole.arcs.terminals) in
     let to : s.to < length net.points = omega (arith, is.to, whole.arcs.terminals) in
     let some = first-point (points_in net s.from) (points-of net s.from whole.valid from) in
