@@ -15,8 +15,8 @@ use Rattle.fp_model.specs.Problem.{IsValid, Problem, arc_at}
 use Rattle.fp_longestarcs.specs.Ascending.{place_of}
 use Rattle.fp_longestarcs.specs.Classes.{head_of}
 use Rattle.fp_longestarcs.specs.Networks.{TimedNetwork, IsClass, class_count, class_number, points_in}
-use Rattle.fp_longestarcs.specs.Whole.{IsWhole}
-use Rattle.fp_longestarcs.proofs.Grown.{points-of}
+use Rattle.fp_longestarcs.specs.Whole.{IsWholeNetwork}
+use Rattle.fp_longestarcs.proofs.NewPoints.{points-of}
 use Rattle.fp_longestarcs.proofs.Places.{place-at}
 use Rattle.fp_prices.specs.LeastWalks.{classes_on, node_entered, node_left, nodes_met, same_node}
 use Rattle.fp_prices.specs.Points.{class_edge, edges_of, first_node, point_node}
@@ -96,7 +96,7 @@ module _ (p : Problem) (points : ℕ → List ℕ) where
           (AreDistinct-cons first (node_left p c ∷ nodes_met p points (node_entered p points c) walk) (left, rest) (AreDistinct-cons (node_left p c) (nodes_met p points (node_entered p points c) walk) own apart)))
           (cases_Bool (same_node first (node_left p c)))
 
-module _ (p : Problem) (net : TimedNetwork) (valid : IsValid p) (whole : IsWhole p net) where
+module _ (p : Problem) (net : TimedNetwork) (valid : IsValid p) (whole : IsWholeNetwork p net) where
   -- the node of a timed node
   abbrev number_of : Node → ℕ
   number_of n = point_node net n.0 n.1

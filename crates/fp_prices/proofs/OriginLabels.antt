@@ -10,8 +10,8 @@ use Rattle.fp_model.specs.declared.parts.Shipment.{Shipment}
 use Rattle.fp_model.specs.Numbered.{no_shipment, shipment_at}
 use Rattle.fp_model.specs.Problem.{IsShipment, IsValid, Problem}
 use Rattle.fp_longestarcs.specs.Networks.{TimedNetwork, point_count, points_in}
-use Rattle.fp_longestarcs.specs.Whole.{IsWhole}
-use Rattle.fp_longestarcs.proofs.Grown.{points-of}
+use Rattle.fp_longestarcs.specs.Whole.{IsWholeNetwork}
+use Rattle.fp_longestarcs.proofs.NewPoints.{points-of}
 use Rattle.fp_allowed.specs.Walks.{IsTimedWalk}
 use Rattle.fp_prices.specs.ClassCosts.{IsLeastOver}
 use Rattle.fp_prices.specs.LeastWalks.{IsLeastWalk, classes_on}
@@ -29,7 +29,7 @@ pub record AreEnds (net : TimedNetwork) (s : Shipment) : Type 0 where
   pub first : first_node net s.from < point_count net
   pub last : last_node net s.to < point_count net
 
-pub are-ends : (p : Problem) (net : TimedNetwork) (k : ℕ) → IsValid p → IsWhole p net → k < length p.shipments → AreEnds net (shipment_at p k)
+pub are-ends : (p : Problem) (net : TimedNetwork) (k : ℕ) → IsValid p → IsWholeNetwork p net → k < length p.shipments → AreEnds net (shipment_at p k)
 are-ends p net k valid whole exists =
     let s : Shipment = shipment_at p k in
     let is : IsShipment (length p.terminals) s = valid.parts.shipments k no_shipment exists in
@@ -48,7 +48,7 @@ are-ends p net k valid whole exists =
 pub first-read : (net : TimedNetwork) (firsts : List ℕ) (terminal start : ℕ) → AreFirstNodes net firsts → terminal < length net.points → start ≡ get_or firsts terminal start → start ≡ first_node net terminal
 first-read net firsts terminal start are exists is = get_or_read firsts terminal start (omega (arith, exists, are.count)) is 0 ∙ are.each terminal exists
 
-module _ (p : Problem) (net : TimedNetwork) (k : ℕ) (costs : List (Option ℕ)) (labels : Distances) (valid : IsValid p) (whole : IsWhole p net) (exists : k < length p.shipments) (are : AreOriginLabels p net costs k labels)
+module _ (p : Problem) (net : TimedNetwork) (k : ℕ) (costs : List (Option ℕ)) (labels : Distances) (valid : IsValid p) (whole : IsWholeNetwork p net) (exists : k < length p.shipments) (are : AreOriginLabels p net costs k labels)
     (end : ℕ) (is_end : end ≡ last_node net (shipment_at p k).to) where
   abbrev own : Shipment
   own = shipment_at p k

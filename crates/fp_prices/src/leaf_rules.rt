@@ -2,7 +2,7 @@ ghost use Rattle.std.specs.Prelude.{ℕ, ◌≡◌, All, Bool, IfOk, List, lengt
 ghost use Rattle.fp_model.specs.declared.parts.Leg.{Leg};
 ghost use Rattle.fp_model.specs.Problem.{IsValid};
 ghost use Rattle.fp_longestarcs.specs.Networks.{class_count};
-ghost use Rattle.fp_longestarcs.specs.Whole.{IsWhole};
+ghost use Rattle.fp_longestarcs.specs.Whole.{IsWholeNetwork};
 ghost use Rattle.fp_prices.specs.Pricings.{IsPricing, IsRuleOf, TellsForced};
 ghost use Rattle.fp_prices.specs.Rates.{rate_of};
 ghost use Rattle.fp_prices.specs.Rows.{AreRowsOf};
@@ -60,7 +60,7 @@ pub(crate) fn leaf_pricing<'a>(
     forced: &'a Row,
 ) -> Result<LeafPricing<'a>, NoMemory>
     requires valid { IsValid instance.now }
-    requires whole { IsWhole instance.now network.now }
+    requires whole { IsWholeNetwork instance.now network.now }
     requires rates { rates.now ≡ map (rate_of instance.now.scale) instance.now.arcs }
     requires tables { AreTables instance.now tables.now }
     requires kind { HasKind tables.now kind }

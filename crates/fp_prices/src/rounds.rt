@@ -4,7 +4,7 @@ ghost use Rattle.std.specs.Prelude.{◌≡◌, ◌+◌, ◌<◌, ◌≤◌, IfOk
 ghost use Rattle.fp_model.specs.Numbered.{shipment_at};
 ghost use Rattle.fp_model.specs.Problem.{IsValid};
 ghost use Rattle.fp_longestarcs.specs.Networks.{point_count};
-ghost use Rattle.fp_longestarcs.specs.Whole.{IsNetworkOf, IsWhole};
+ghost use Rattle.fp_longestarcs.specs.Whole.{IsNetworkOf, IsWholeNetwork};
 ghost use Rattle.fp_prices.specs.Points.{first_node, last_node, shape_of};
 ghost use Rattle.fp_prices.specs.PointGraphs.{IsPointGraph};
 ghost use Rattle.fp_prices.specs.Rates.{rate_of};
@@ -69,7 +69,7 @@ impl<'a> RoundNetwork<'a> {
         instance: &'a Instance,
         network: Network,
     ) -> Result<RoundNetwork<'a>, NoMemory>
-        requires whole { IsWhole instance.now network }
+        requires whole { IsWholeNetwork instance.now network }
         requires few { point_count network ≤ 65000 }
         ensures { IfOk result (λ made. made ≡ record { problem = instance.now; network = network }) }
     {
@@ -94,7 +94,7 @@ impl<'a> RoundNetwork<'a> {
     /// The network.
     pub fn network(&self) -> &Network
         ensures same { result.now ≡ self.now.network }
-        ensures whole { IsWhole self.now.problem self.now.network }
+        ensures whole { IsWholeNetwork self.now.problem self.now.network }
         ensures few { point_count self.now.network ≤ 65000 }
     {
         &self.network
