@@ -13,7 +13,8 @@ use Rattle.fp_model.specs.Routes.{Leads, AreApart, walk_time, step, ends_of}
 use Rattle.fp_model.specs.Times.{IsLeastTime, IsDistance}
 use Rattle.fp_model.proofs.Bounds.{sum_by-places-le, AreApart-map, Leads-exist}
 
--- the sum of the steps of a walk: so long after its first departure a shipment can leave the walk's end
+-- the sum of the steps of a walk: so long after its first departure a shipment can leave the walk's
+-- end
 abbrev pub steps : Problem → List ℕ → ℕ
 steps p [] = 0
 steps p (a ∷ arcs) = step p a + steps p arcs

@@ -46,7 +46,8 @@ arrives-after p d due ready l [] leaves arrives = arrives
 arrives-after p d due ready l (m ∷ legs) leaves arrives =
     omega (arith, arrives-after p d due (l.depart + d * step p l.arc) m legs leaves.1 arrives, leaves.1.0)
 
--- over whatever denominator, what carries a shipment takes the time of its walk between release and due time
+-- over whatever denominator, what carries a shipment takes the time of its walk between release and
+-- due time
 pub carried_time : (p : Problem) (d : ℕ) (s : Shipment) (legs : List Leg) → 1 ≤ d → Carries p d s legs → s.release + walk_time p (arcs_of legs) ≤ s.due
 carried_time p d s [] h carries = absurd (carries.route.some refl)
 carried_time p d s (l ∷ legs) h carries =

@@ -10,6 +10,7 @@ use Rattle.fp_model.specs.declared.parts.Leg.{Leg}
 use Rattle.fp_model.specs.Problem.{Problem, arc_at}
 use Rattle.fp_timenodes.specs.declared.places.TheConstants.{LATEST}
 use Rattle.fp_timenodes.specs.Floor.{has_point}
+use Rattle.fp_longestarcs.specs.declared.networks.TheConstants.{MOST_CLASSES}
 use Rattle.fp_longestarcs.specs.Classes.{head_of}
 use Rattle.fp_longestarcs.specs.Ascending.{place_of, ArePoints, IsCut}
 use Rattle.fp_longestarcs.specs.Networks.{TimedNetwork, points_in, tail_in, heads_in, kept_head, IsArcOfClass, IsClass, copy_count, class_count, first_class, class_number, IsNetwork}
@@ -119,7 +120,7 @@ few-copies points (tail ∷ tails) are =
         (cases_lt tail (length points))
 
 -- so all classes have numbers of 32 bits
-pub few-classes : (net : TimedNetwork) → IsNetwork net → class_count net ≤ 100001000
+pub few-classes : (net : TimedNetwork) → IsNetwork net → class_count net ≤ MOST_CLASSES
 few-classes net valid = omega (arith, few-copies net.points net.tails valid.points, valid.few)
 
 -- the last arc whose first class is not after a number is the arc of the class

@@ -1,4 +1,5 @@
--- How far the head of a class reaches: at most its point and its arc's step, and less where that time is no point.
+-- How far the head of a class reaches: at most its point and its arc's step, and less where that
+-- time is no point.
 use Rattle.std.proofs.Common.{◌≡◌, ℕ, ◌+◌, ◌<◌, ◌≤◌, true, false, List, ⊎_elim, subst, arith}
 use Rattle.std.proofs.lemmas.Bool.{both_ways, cases_lt}
 use Rattle.fp_model.specs.declared.parts.Leg.{Leg}

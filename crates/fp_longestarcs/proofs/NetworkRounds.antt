@@ -59,7 +59,8 @@ HasAlso-with_added p v new round net from is t q h =
     held : has_point (points_in net t) q ≡ known
     held = is.points t (omega (arith, h, is.whole.arcs.terminals)) q
 
--- a whole network with that point beside those of the old one is the network of the points with one more
+-- a whole network with that point beside those of the old one is the network of the points with one
+-- more
 pub IsNetworkOf-with_added : (p : Problem) (v : TimePoints) (new : AddedPoint) (round : ℕ) (old net : TimedNetwork) → new.round ≤ round → new.terminal < length p.terminals → IsNetworkOf p v round old →
     IsWholeNetwork p net → net.points ≡ extended_points old new.terminal new.at → IsNetworkOf p (with_added v (new ∷ [])) round net
 IsNetworkOf-with_added p v new round old net from within is whole points = record {
@@ -70,7 +71,8 @@ IsNetworkOf-with_added p v new round old net from within is whole points = recor
       ∙ sym (HasAlso-with_added p v new round old from is t q (omega (arith, h, is.whole.arcs.terminals)));
 }
 
--- so the network that a short class was lengthened in is that of the points with what the class reaches added
+-- so the network that a short class was lengthened in is that of the points with what the class
+-- reaches added
 pub IsNetworkOf-lengthened : (p : Problem) (v : TimePoints) (added round : ℕ) (old : TimedNetwork) (arc point : ℕ) → IsValid p → added ≤ round → IsNetworkOf p v round old →
     IsClass old (record { arc = arc; depart = point }) → kept_head old (record { arc = arc; depart = point }) < point + step p arc → point + step p arc ≤ LATEST →
     IsNetworkOf p (with_added v ((record { terminal = (arc_at p arc).to; at = point + step p arc; round = added }) ∷ [])) round

@@ -15,10 +15,6 @@ pub record AreWritten (f : ℕ → List ℕ) (old now : List (Vec ℕ Global)) (
   pub written : (k : ℕ) (d : Vec ℕ Global) → k < n → (get_or now k d).items ≡ f k
   pub kept : (k : ℕ) (d : Vec ℕ Global) → n ≤ k → get_or now k d ≡ get_or old k d
 
--- none is written yet
-pub written-none : (f : ℕ → List ℕ) (old : List (Vec ℕ Global)) → AreWritten f old old 0
-written-none f old = record { written = λ k d h. absurd (omega arith); kept = λ k d h. refl }
-
 -- the next one is written
 pub written-more : (f : ℕ → List ℕ) (old now : List (Vec ℕ Global)) (i : ℕ) (v : Vec ℕ Global) → AreWritten f old now i → i < length now → v.items ≡ f i → AreWritten f old (set now i v) (i + 1)
 written-more f old now i v are within holds = record {

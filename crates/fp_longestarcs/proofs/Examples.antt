@@ -1,5 +1,5 @@
--- The definitions at two arcs in a line: the step of the first is 4, with a hold of 1, that of the second 5, and the last
--- terminal has the points 8 and 9 too.
+-- The definitions at two arcs in a line: the step of the first is 4, with a hold of 1, that of the
+-- second 5, and the last terminal has the points 8 and 9 too.
 use Rattle.std.proofs.Common.{◌≡◌, ℕ, List, [], ◌∷◌, refl}
 use Rattle.fp_model.specs.declared.parts.Arc.{Arc}
 use Rattle.fp_model.specs.declared.parts.Leg.{Leg}
