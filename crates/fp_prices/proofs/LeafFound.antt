@@ -11,11 +11,7 @@ use Rattle.fp_model.specs.Problem.{IsValid, Problem, alone_total}
 use Rattle.fp_flatnet.specs.Belonging.{BelongsTo}
 use Rattle.fp_flatnet.specs.Tables.{WindowTable, windows_in}
 use Rattle.fp_longestarcs.specs.Networks.{TimedNetwork, class_count, points_in}
-<<<<<<< HEAD
 use Rattle.fp_longestarcs.specs.Whole.{IsWholeNetwork}
-=======
-use Rattle.fp_longestarcs.specs.Whole.{IsNetworkOf, IsWholeNetwork}
->>>>>>> ground
 use Rattle.fp_tree.specs.declared.sides.Side.{Side}
 use Rattle.fp_allowed.specs.Bits.{allowed_in}
 use Rattle.fp_allowed.specs.Settings.{IsSetting, Setting}

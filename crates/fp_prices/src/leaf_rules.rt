@@ -59,13 +59,9 @@ pub(crate) fn leaf_pricing<'a>(
     rows: &[Row],
     forced: &'a Row,
 ) -> Result<LeafPricing<'a>, NoMemory>
-<<<<<<< HEAD
     requires valid { IsValid instance.now }
     requires whole { IsWholeNetwork instance.now network.now }
     requires rates { rates.now ≡ map (rate_of instance.now.scale) instance.now.arcs }
-=======
-    requires whole { IsWholeNetwork instance.now network.now }
->>>>>>> ground
     requires tables { AreTables instance.now tables.now }
     requires kind { HasKind tables.now kind }
     requires rows { length rows.now ≡ length instance.now.shipments }
