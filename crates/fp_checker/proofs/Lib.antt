@@ -7,4 +7,3 @@ pub mod TreeNodes
 pub mod SharesInOrder
 pub mod LeavesPassed
 pub mod FirstParts
-pub mod KeptRounds

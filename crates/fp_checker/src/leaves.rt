@@ -1,22 +1,19 @@
 //! What the leaves of a certificate's tree are worth.
 ghost use Rattle.std.specs.Prelude.{◌≡◌, ◌≤◌, ◌↔◌, IfOk, IsTrue};
-ghost use Rattle.fp_timenodes.specs.Points.{TimePoints};
 ghost use Rattle.fp_flatnet.specs.Belonging.{BelongsTo};
 ghost use Rattle.fp_prices.specs.Tables.{AreTables, HasKind};
 ghost use Rattle.fp_lines.specs.declared.certificates.Node.TheVariants as node;
 ghost use Rattle.fp_lines.specs.Ranges.{IsInRange, IsSplitInRange};
 ghost use Rattle.fp_acceptance.specs.Accepted.{claim_of as claim_of_answer};
-ghost use Rattle.fp_checker.specs.KeptRounds.{IsKeptRound};
 ghost use Rattle.fp_acceptance.specs.Leaves.{AreLeavesWorth, IsLeafWorth, split_tail as tail_of_split};
 ghost use Rattle.fp_checker.specs.Bounds.{IsBoundWorth};
 ghost use Rattle.fp_acceptance.specs.Points.{ArePointsOf};
 
 use crate::NoMemory;
-use crate::kept_rounds::KeptRound;
 use fp_certificate::{Answer, Certificate, Node};
 use fp_flatnet::Windows;
 use fp_model::Instance;
-use fp_prices::{Leaf, LeafBound, LeafPrice};
+use fp_prices::{LeafBound, LeafPrice, bound};
 use fp_timenodes::Points;
 use fp_tree::{Side, Split, Way};
 use std::alloc::Global;
@@ -54,28 +51,26 @@ fn is_bound_worth(bound: LeafBound, scale: u32, claim: u128) -> bool
     }
 }
 
-// Whether a leaf under sides is worth what the certificate claims, with the network kept for its
-// round.
+// Whether a leaf under sides is worth what the certificate claims.
 fn is_leaf_worth(
     alloc: Global,
+    instance: &Instance,
     windows: &Windows,
     certificate: &Certificate,
-    kept: &KeptRound,
+    points: &Points,
     sides: &[Side],
     price: LeafPrice,
 ) -> Result<bool, NoMemory>
-    requires belongs { BelongsTo kept.now.network.problem windows.now }
-    requires tables { AreTables kept.now.network.problem certificate.now.tables }
+    requires belongs { BelongsTo instance.now windows.now }
+    requires points { ArePointsOf instance.now windows.now.anchors certificate.now.points
+        points.now }
+    requires tables { AreTables instance.now certificate.now.tables }
     requires kind { HasKind certificate.now.tables price.kind }
-    ensures { (points : TimePoints) → ArePointsOf kept.now.network.problem windows.now.anchors certificate.now.points points →
-        IsKeptRound kept.now.network.problem points kept.now → kept.now.round ≡ price.round →
-        IfOk result (λ worth. IsTrue worth
-        ↔ IsLeafWorth kept.now.network.problem windows.now certificate.now (claim_of_answer certificate.now.answer) (node.Leaf price) sides.now) }
+    ensures { IfOk result (λ worth. IsTrue worth
+        ↔ IsLeafWorth instance.now windows.now certificate.now (claim_of_answer certificate.now.answer) (node.Leaf price) sides.now) }
 {
-    let leaf = Leaf::of(alloc, &kept.network, windows, sides)?;
     let tables = certificate.tables.as_slice();
-    let bound = leaf.bound(alloc, tables, price.kind, price.forced)?;
-    let instance = kept.network.instance();
+    let bound = bound(alloc, instance, windows, points, tables, sides, price)?;
     Ok(is_bound_worth(bound, instance.scale(), claim_of(certificate.answer)))
 }
 
@@ -97,14 +92,20 @@ pub(crate) fn are_leaves_worth(
         ↔ AreLeavesWorth instance.now windows.now certificate.now (claim_of_answer certificate.now.answer)) }
 {
     let mut way = Way::new(alloc);
-    let mut kept = KeptRound::of(alloc, instance, points, 0)?;
     for node in certificate.tree.as_slice() {
         match *node {
             Node::Branch { split } => way.descend(split, split_tail(instance, split))?,
             Node::Leaf { price } => {
                 let sides = way.sides(alloc)?;
-                kept = kept.as_of(alloc, instance, points, price.round)?;
-                if !is_leaf_worth(alloc, windows, certificate, &kept, sides.as_slice(), price)? {
+                if !is_leaf_worth(
+                    alloc,
+                    instance,
+                    windows,
+                    certificate,
+                    points,
+                    sides.as_slice(),
+                    price,
+                )? {
                     return Ok(false);
                 }
                 if !way.advance() {

@@ -9,7 +9,6 @@ mod added_points;
 mod checks;
 mod departures;
 mod fastest_times;
-mod kept_rounds;
 mod leaves;
 mod orders;
 mod plans;
@@ -22,6 +21,3 @@ pub use rejections::Rejected;
 
 /// The error of a call that finds no memory.
 pub type NoMemory = std::alloc::AllocError;
-
-#[cfg(test)]
-mod tests;

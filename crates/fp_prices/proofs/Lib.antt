@@ -19,6 +19,9 @@ pub mod Users
 pub mod ForcedClasses
 pub mod ClassPrices
 pub mod LeafSums
+pub mod FlatBounds
+pub mod TableAppends
+pub mod EarnedLeaves
 pub mod WalkClasses
 pub mod PlanBounds
 pub mod PlanLeaves

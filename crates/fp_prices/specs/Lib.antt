@@ -14,3 +14,5 @@ pub mod Found
 pub mod Rounds
 pub mod LeastWalks
 pub mod FoundWalks
+pub mod FlatBounds
+pub mod EarnedLeaves

@@ -64,13 +64,13 @@ impl<'a> Model for Leaf<'a> {
     ghost Value = { LeafModel };
 
     ghost view = { λ l. record {
-        setting = record { problem = l.round.now.problem; windows = l.windows.now; network = l.round.now.network };
-        sides = l.sides.now;
+      setting = record { problem = l.round.now.problem; windows = l.windows.now; network = l.round.now.network };
+      sides = l.sides.now;
     } };
 
     ghost invariant = { λ l. IsLeafOver (record {
-        setting = record { problem = l.round.now.problem; windows = l.windows.now; network = l.round.now.network };
-        sides = l.sides.now;
+      setting = record { problem = l.round.now.problem; windows = l.windows.now; network = l.round.now.network };
+      sides = l.sides.now;
     }) l.rows.items };
 }
 
@@ -160,7 +160,14 @@ impl<'a> Leaf<'a> {
         let instance = self.round.instance();
         let network = self.round.network();
         let classes = network.classes();
-        let paid = forced_classes(alloc, instance, &self.allowed(), classes, &self.rows, forced)?;
+        let paid = forced_classes(
+            alloc,
+            instance,
+            &self.allowed(),
+            classes,
+            &self.rows,
+            forced,
+        )?;
         let pricing = leaf_pricing(
             alloc,
             instance,
@@ -198,7 +205,14 @@ impl<'a> Leaf<'a> {
         let instance = self.round.instance();
         let network = self.round.network();
         let classes = network.classes();
-        let paid = forced_classes(alloc, instance, &self.allowed(), classes, &self.rows, forced)?;
+        let paid = forced_classes(
+            alloc,
+            instance,
+            &self.allowed(),
+            classes,
+            &self.rows,
+            forced,
+        )?;
         let pricing = leaf_pricing(
             alloc,
             instance,

@@ -1,16 +1,12 @@
 use Rattle.std.proofs.Common.{drop}
 use Rattle.std.specs.Prelude.{◌↔◌}
 use Rattle.fp_acceptance.specs.Accepted.{claim_of}
-use Rattle.fp_checker.specs.KeptRounds.{IsKeptRound}
 use Rattle.fp_acceptance.specs.Leaves.{AreLeavesWorth}
 use Rattle.fp_checker.proofs.LeavesPassed.{AreWorthFrom}
 use Rattle.fp_checker.proofs.leaves.are_leaves_worth.Given as goal
 
 -- all leaves are worth the claim exactly where those that are left are
 abbrev pub invariant-loop-node : goal.invariant-loop-node
-invariant-loop-node l = record {
-  left :
-      AreWorthFrom l.instance l.windows l.certificate l.way (drop l.node-index l.certificate.tree)
-      ↔ AreLeavesWorth l.instance l.windows l.certificate (claim_of l.certificate.answer);
-  kept : IsKeptRound l.instance l.points l.kept;
-}
+invariant-loop-node l =
+    AreWorthFrom l.instance l.windows l.certificate l.way (drop l.node-index l.certificate.tree)
+    ↔ AreLeavesWorth l.instance l.windows l.certificate (claim_of l.certificate.answer)

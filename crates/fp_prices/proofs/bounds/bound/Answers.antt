@@ -13,8 +13,8 @@ use Rattle.fp_prices.proofs.LeafFound.{leaf-is}
 use Rattle.fp_prices.proofs.SamePoints.{bound-as_of}
 use Rattle.fp_prices.proofs.bounds.bound.Goals as goal
 
-pub of-2-requires : goal.of-2-requires
-of-2-requires c = subst (λ (p : Problem). BelongsTo p c.args.windows.now) (sym c.in_ok-network.ensures.instance) c.requires.belongs
+pub of-requires-2 : goal.of-requires-2
+of-requires-2 c = subst (λ (p : Problem). BelongsTo p c.args.windows.now) (sym c.in_ok-network.ensures.instance) c.requires.belongs
 
 pub bound-requires-clause-tables : goal.bound-requires-clause-tables
 bound-requires-clause-tables c =

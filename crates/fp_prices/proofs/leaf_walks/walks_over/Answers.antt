@@ -35,7 +35,7 @@ returns-in-None c =
     let inside : i < length c.args.rows.now = omega (arith, c.requires.rows, exists) in
     record {
       none = walks_end c.args.pricing.now c.args.rows.now i c.index-rows-shipment.result c.in_ok-walk.field-0 c.in-None.is exists inside
-    (get_or_read c.args.rows.now i c.index-rows-shipment.result inside c.index-rows-shipment.is []) c.in_ok-walk.ensures.exact;
+          (get_or_read c.args.rows.now i c.index-rows-shipment.result inside c.index-rows-shipment.is []) c.in_ok-walk.ensures.exact;
       walks = tt;
     }
 

@@ -17,7 +17,7 @@ returns c = λ allowed price classes holds.
     let p = c.args.instance.now in
     let net = c.args.network.now in
     let g = c.requires.graph in
-    subst (λ (walk : List Leg). IsLeastWalk p (points_in net) allowed (shipment_at p c.args.shipment) price walk) (sym c.in_ok-class_walk.ensures)
+    subst (λ (walk : List Leg). IsLeastWalk p (points_in net) allowed (shipment_at p c.args.shipment) price walk) (sym c.in_ok-class_walk-in-Some.ensures)
     (walk-least p net c.args.shipment c.args.costs.now c.in_ok-labels.labels c.end_node-end.ensures.valid g.whole c.requires.shipment c.in_ok-labels.ensures c.end_node-end.result c.end_node-end.ensures.node
     allowed price (record { valid = c.end_node-end.ensures.valid; whole = g.whole; count = c.requires.count ∙ g.count; free = c.requires.free; classes = classes; holds = holds }) c.to.result _ c.deref.result.now
-    c.to.ensures.label c.in-Some.is (c.deref.ensures.value ∙ c.in_ok-edges.ensures))
+    c.to.ensures.label c.in-Some.is (c.deref.ensures.value ∙ c.in_ok-edges-in-Some.ensures))

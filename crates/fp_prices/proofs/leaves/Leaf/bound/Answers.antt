@@ -18,8 +18,7 @@ use Rattle.fp_prices.proofs.leaves.Leaf.bound.Goals as goal
 pub forced_classes-requires-clause-under : goal.forced_classes-requires-clause-under
 forced_classes-requires-clause-under c =
     let sides : List Side = c.self.inside.sides.now in
-    let allowed_is : c.allowed.result ≡ setting_of c.self.inside.round.now.problem c.self.inside.windows.now c.self.inside.round.now.network = c.allowed.ensures ∙ ap (λ (l : LeafModel). l.setting) (sym c.self.view_is) in
-    (
+    let allowed_is : c.allowed.result ≡ setting_of c.self.inside.round.now.problem c.self.inside.windows.now c.self.inside.round.now.network = c.allowed.ensures ∙ ap (λ (l : LeafModel). l.setting) (sym c.self.view_is) in (
       sides,
       subst (λ (l : List (List Bool)). AreRowsUnder c.allowed.result sides l) (sym c.deref.ensures.value)
           (subst (λ (s : Setting). AreRowsUnder s sides c.self.inside.rows.items) (sym allowed_is) c.self.invariant.under),
