@@ -15,7 +15,7 @@ use Rattle.fp_longestarcs.specs.Whole.{IsWholeNetwork}
 use Rattle.fp_tree.specs.declared.sides.Side.{Side}
 use Rattle.fp_allowed.specs.Bits.{allowed_in}
 use Rattle.fp_allowed.specs.Settings.{IsSetting, Setting}
-use Rattle.fp_allowed.proofs.RowClasses.{allowed-class}
+use Rattle.fp_allowed.proofs.RowClasses.{allowed_in-IsClass}
 use Rattle.fp_prices.specs.declared.bases.ForcedClasses.{ForcedClasses}
 use Rattle.fp_prices.specs.declared.bounds.LeafBound.{LeafBound}
 use Rattle.fp_prices.specs.declared.bounds.LeafBound.TheVariants.{Empty, Value}
@@ -116,7 +116,7 @@ module _ (p : Problem) (windows : WindowTable) (net : TimedNetwork) (sides : Lis
   tells-forced = record { long = is.forced_of.are.row_long; exact = is.forced_of.are.told }
 
   allows-classes : (k : ℕ) → AllowsClasses net (allowed_of k)
-  allows-classes k c h = allowed-class (setting_of p windows net) sides k c is.setting h
+  allows-classes k c h = allowed_in-IsClass (setting_of p windows net) sides k c is.setting h
 
   module _ (tables : List (List ClassShare)) (kind : Kind) (pricing : LeafPricing) (same : pricing.instance.now ≡ p) (same_net : pricing.network.now ≡ net)
       (prices : (allowed : ℕ → Leg → Bool) (chains : List (List Leg)) → AreRowsOf net allowed rows → TellsForced net chains forced.row → IsPricing tables allowed kind chains pricing) where

@@ -18,7 +18,7 @@ use Rattle.fp_longestarcs.proofs.HeadLists.{arc-count, tail-of}
 use Rattle.fp_longestarcs.proofs.Places.{at-place}
 use Rattle.fp_longestarcs.proofs.ShortCopies.{head-within}
 use Rattle.fp_allowed.specs.Listing.{class_at}
-use Rattle.fp_allowed.proofs.ListedClasses.{class_at-number, class_by, class_by-is, class_by-number}
+use Rattle.fp_allowed.proofs.ListedClasses.{class_at-number, class_by, class_by-number, IsClass-class_by}
 use Rattle.fp_prices.specs.Points.{class_edge, class_edges, edges_of, first_node, holding_at, holding_below, next_edge}
 use Rattle.fp_prices.proofs.Nodes.{nodes-more, nodes-within, node-within}
 
@@ -42,7 +42,7 @@ class-numbered net n valid h =
     let place : ℕ = n - first_class net arc in
     let within : place < length (points_in net (tail_in net arc)) = omega (arith, found.1.from, found.1.before) in (
       class_by net arc place,
-      class_by-is net arc place found.1.exists within,
+      IsClass-class_by net arc place found.1.exists within,
       omega (arith, class_by-number net arc place valid found.1.exists within, found.1.from),
     )
 
