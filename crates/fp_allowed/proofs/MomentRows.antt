@@ -11,8 +11,8 @@ use Rattle.fp_allowed.specs.declared.departures_left.TheConstants.{MOMENTS}
 use Rattle.fp_allowed.specs.Bits.{bit_of}
 use Rattle.fp_allowed.specs.Departures.{count_below}
 use Rattle.fp_allowed.specs.Moments.{all_let, in_range, is_open, lets}
-use Rattle.fp_allowed.proofs.Counting.{count_below-more, count_below-same, count_true-below}
-use Rattle.fp_allowed.proofs.Narrowing.{all_let-step}
+use Rattle.fp_allowed.proofs.CountsBelow.{count_below_more, count_below_same, count_true-below}
+use Rattle.fp_allowed.proofs.OpenMoments.{all_let_step}
 use Rattle.fp_allowed.proofs.RowBits.{bit_of-with_range, length-with_range}
 
 -- the bits and the sides that are left, from one on, tell what the window and all sides tell
@@ -69,7 +69,7 @@ module _ (w : Window) (arc : ℕ) (sides : List Side) where
             let cut : bit_of new m ≡ (bit_of old m && lets arc m (get_or sides i d)) =
             ap (λ (r : List Bool). bit_of r m) is ∙ bit_of-with_range old from to false order in_row m ∙
             ap (λ (b : Bool). cond b false (bit_of old m)) (forbids m early) ∙ cut-off (bit_of old m) (lets arc m (get_or sides i d)) in
-            all_let-step arc m sides i d (bit_of old m) (bit_of new m) h cut ∙ left.bits m early;
+            all_let_step arc m sides i d (bit_of old m) (bit_of new m) h cut ∙ left.bits m early;
       }
     where
       cut-off : (b t : Bool) → cond (not t) false b ≡ (b && t)
@@ -90,8 +90,8 @@ module _ (w : Window) (arc : ℕ) (sides : List Side) where
   open-counted in_time =
       let test : ℕ → Bool = λ m. is_open (Some w) m && all_let arc m sides in
       let apart : w.hi + 1 + (MOMENTS - (w.hi + 1)) ≡ MOMENTS = omega arith in
-      ap (λ (n : ℕ). count_below n test) (sym apart) ∙ count_below-more (w.hi + 1) (MOMENTS - (w.hi + 1)) test closed-after ∙
-      count_below-same (w.hi + 1) test (λ m. nat_le w.lo m && all_let arc m sides) open-until
+      ap (λ (n : ℕ). count_below n test) (sym apart) ∙ count_below_more (w.hi + 1) (MOMENTS - (w.hi + 1)) test closed-after ∙
+      count_below_same (w.hi + 1) test (λ m. nat_le w.lo m && all_let arc m sides) open-until
 
   -- where all sides were taken, the bits are the open moments
   bits-open : (i : ℕ) (row : List Bool) → length sides ≤ i → MomentsLeft w arc sides i row → (m : ℕ) → m < MOMENTS → bit_of row m ≡ (is_open (Some w) m && all_let arc m sides)
@@ -103,4 +103,4 @@ module _ (w : Window) (arc : ℕ) (sides : List Side) where
       count_true row ≡ count_below (w.hi + 1) (λ m. nat_le w.lo m && all_let arc m sides)
   moments_counted i row in_time all left =
       count_true-below row ∙ ap (λ (n : ℕ). count_below n (bit_of row)) left.long ∙
-      count_below-same MOMENTS (bit_of row) (λ m. is_open (Some w) m && all_let arc m sides) (bits-open i row all left) ∙ open-counted in_time
+      count_below_same MOMENTS (bit_of row) (λ m. is_open (Some w) m && all_let arc m sides) (bits-open i row all left) ∙ open-counted in_time

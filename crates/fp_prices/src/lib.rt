@@ -36,6 +36,3 @@ pub use tables::{Share, Table, TableFault, Weight};
 
 /// What a call that allocates can fail with.
 pub type NoMemory = std::alloc::AllocError;
-
-#[cfg(test)]
-mod tests;
