@@ -1,7 +1,7 @@
 -- Trees of splits as lists of nodes in preorder: a split, the nodes below its first side, the nodes
 -- below its second. X is any type of nodes. `fork_of` tells at what a node splits, and None at a
 -- leaf.
-use Rattle.std.specs.Prelude.{ℕ, zero, suc, ◌≡◌, ◌≢◌, List, [], ◌∷◌, ◌++◌, filter, is_some, Option, Some, None, IfSome, ◌⊎◌, slice_index_or}
+use Rattle.std.specs.Prelude.{ℕ, zero, suc, ◌≡◌, ◌≢◌, ◌<◌, List, [], ◌∷◌, ◌++◌, filter, is_some, Option, Some, None, IfSome, ◌⊎◌, slice_index_or}
 use Rattle.std.specs.List.{AllByRecursion}
 use Rattle.fp_lists.specs.Elements.{AnyByRecursion}
 use Rattle.fp_tree.specs.declared.sides.Side.{Side}
@@ -61,6 +61,11 @@ tree_splits fork_of nodes = filter (λ x. is_some (fork_of x)) nodes
 -- The splits of a tree, each with the sides on its way, in preorder.
 abbrev pub tree_branches : {X : Type 0} → (X → Option Fork) → List X → List (Branch X)
 tree_branches fork_of nodes = branches_of fork_of ([] ∷ []) nodes
+
+-- The measure of the sides below a split falls at both of its children.
+abbrev pub FallsBelow : {X : Type 0} → (X → Option Fork) → (List Side → ℕ) → Branch X → Type 0
+FallsBelow fork_of measure b =
+    IfSome (fork_of b.node) (λ f. (measure (b.sides ++ (first f ∷ [])) < measure b.sides) × (measure (b.sides ++ (second f ∷ [])) < measure b.sides))
 
 -- How many splits stand before leaf number k in preorder. Where there is no such leaf, all of them
 -- do.

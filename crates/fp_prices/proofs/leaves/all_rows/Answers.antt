@@ -2,7 +2,7 @@ use Rattle.std.proofs.Common.{◌≡◌, ◌+◌, List, [], ◌∷◌, ◌++◌,
 use Rattle.std.specs.Prelude.{Bool}
 use Rattle.std.proofs.lemmas.List.{length-append}
 use Rattle.fp_prices.proofs.ShipmentCosts.{rows_under-push}
-use Rattle.fp_prices.proofs.bounds.all_rows.Goals as goal
+use Rattle.fp_prices.proofs.leaves.all_rows.Goals as goal
 
 pub loop-shipment-preserved : goal.loop-shipment-preserved
 loop-shipment-preserved c =

@@ -1,6 +1,6 @@
 use Rattle.std.proofs.Common.{◌≡◌, length}
 use Rattle.fp_prices.specs.Forced.{AreRowsUnder}
-use Rattle.fp_prices.proofs.bounds.all_rows.Given as goal
+use Rattle.fp_prices.proofs.leaves.all_rows.Given as goal
 
 -- the rows of the shipments so far
 abbrev pub invariant-loop-shipment : goal.invariant-loop-shipment
