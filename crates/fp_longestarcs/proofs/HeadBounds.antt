@@ -8,21 +8,21 @@ use Rattle.fp_timenodes.specs.Floor.{floor_point, has_point}
 use Rattle.fp_timenodes.proofs.Floors.{IsFloorPoint-floor_point, floor_le}
 use Rattle.fp_longestarcs.specs.Classes.{head_of}
 use Rattle.fp_longestarcs.specs.Networks.{IsClass, TimedNetwork, kept_head, points_in}
-use Rattle.fp_longestarcs.specs.Whole.{IsWhole}
+use Rattle.fp_longestarcs.specs.Whole.{IsWholeNetwork}
 use Rattle.fp_longestarcs.proofs.ClassNumbers.{kept-greatest}
-use Rattle.fp_longestarcs.proofs.Grown.{points-of}
-use Rattle.fp_longestarcs.proofs.Shorter.{head-within}
+use Rattle.fp_longestarcs.proofs.NewPoints.{points-of}
+use Rattle.fp_longestarcs.proofs.ShortCopies.{head-within}
 
 -- the head of a class is not after its point and its arc's step
 pub head_of_le : (p : Problem) (points : ℕ → List ℕ) (c : Leg) → head_of p points c ≤ c.depart + step p c.arc
 head_of_le p points c = omega (arith, floor_le (points (arc_at p c.arc).to) 1 (c.depart + step p c.arc))
 
 -- nor is the head that a whole network keeps for it
-pub kept_head_le : (p : Problem) (net : TimedNetwork) (c : Leg) → IsWhole p net → IsClass net c → kept_head net c ≤ c.depart + step p c.arc
+pub kept_head_le : (p : Problem) (net : TimedNetwork) (c : Leg) → IsWholeNetwork p net → IsClass net c → kept_head net c ≤ c.depart + step p c.arc
 kept_head_le p net c whole is = omega (arith, kept-greatest p net c whole is, head_of_le p (points_in net) c)
 
 -- where what a class could reach is no point, its head lies before that
-pub kept_head_short : (p : Problem) (net : TimedNetwork) (arc point : ℕ) → IsValid p → IsWhole p net → IsClass net (record { arc = arc; depart = point }) →
+pub kept_head_short : (p : Problem) (net : TimedNetwork) (arc point : ℕ) → IsValid p → IsWholeNetwork p net → IsClass net (record { arc = arc; depart = point }) →
     has_point (points_in net (arc_at p arc).to) (point + step p arc) ≡ false → kept_head net (record { arc = arc; depart = point }) < point + step p arc
 kept_head_short p net arc point valid whole is new =
     ⊎_elim

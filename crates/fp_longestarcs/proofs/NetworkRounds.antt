@@ -11,10 +11,10 @@ use Rattle.fp_timenodes.specs.Floor.{has_point}
 use Rattle.fp_timenodes.specs.Points.{AreAfter, TimePoints, greatest_round, points_at, with_added}
 use Rattle.fp_timenodes.proofs.Rounds.{has_point-with_added, points_at-with_added, points_at_from_greatest}
 use Rattle.fp_longestarcs.specs.Networks.{IsClass, TimedNetwork, kept_head, points_in}
-use Rattle.fp_longestarcs.specs.Whole.{IsNetworkOf, IsWhole}
-use Rattle.fp_longestarcs.specs.Changes.{HasAlso, points_with, refined, restored}
-use Rattle.fp_longestarcs.proofs.Same.{has-with}
-use Rattle.fp_longestarcs.proofs.Shorter.{head-within, lengthened-arc}
+use Rattle.fp_longestarcs.specs.Whole.{IsNetworkOf, IsWholeNetwork}
+use Rattle.fp_longestarcs.specs.Changes.{HasAlso, refined, restored, extended_points}
+use Rattle.fp_longestarcs.proofs.EqualNetworks.{has-with}
+use Rattle.fp_longestarcs.proofs.ShortCopies.{head-within, lengthened-arc}
 
 -- points of later rounds, added after all of them, change nothing
 pub IsNetworkOf_after : (p : Problem) (v : TimePoints) (more : List AddedPoint) (round : ℕ) (net : TimedNetwork) → AreAfter round more → IsNetworkOf p v round net → IsNetworkOf p (with_added v more) round net
@@ -61,7 +61,7 @@ HasAlso-with_added p v new round net from is t q h =
 
 -- a whole network with that point beside those of the old one is the network of the points with one more
 pub IsNetworkOf-with_added : (p : Problem) (v : TimePoints) (new : AddedPoint) (round : ℕ) (old net : TimedNetwork) → new.round ≤ round → new.terminal < length p.terminals → IsNetworkOf p v round old →
-    IsWhole p net → net.points ≡ points_with old new.terminal new.at → IsNetworkOf p (with_added v (new ∷ [])) round net
+    IsWholeNetwork p net → net.points ≡ extended_points old new.terminal new.at → IsNetworkOf p (with_added v (new ∷ [])) round net
 IsNetworkOf-with_added p v new round old net from within is whole points = record {
   whole = whole;
   points = λ t h q.

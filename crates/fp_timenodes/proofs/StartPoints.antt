@@ -13,7 +13,7 @@ use Rattle.fp_timenodes.specs.declared.timelines.Stamp.{Stamp}
 use Rattle.fp_timenodes.specs.Floor.{has_point, HaveSamePoints}
 use Rattle.fp_timenodes.specs.Points.{IsPlace, times_at}
 use Rattle.fp_timenodes.specs.Stamps.{AreUpTo, IncludesPoint, points_of}
-use Rattle.fp_timenodes.specs.Timelines.{Show, StartAt, bare}
+use Rattle.fp_timenodes.specs.Timelines.{Show, StartAt, bare_timeline}
 use Rattle.fp_timenodes.proofs.PointLists.{has_point-kept_push, or_right_comm, has_point-append}
 use Rattle.fp_timenodes.proofs.TimelinePoints.{seen_as}
 
