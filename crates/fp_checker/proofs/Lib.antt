@@ -1,4 +1,3 @@
-pub mod Ascents
 pub mod Results
 pub mod RoutesOfLines
 pub mod ToldPlans

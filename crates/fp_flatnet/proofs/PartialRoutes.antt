@@ -14,7 +14,8 @@ use Rattle.fp_flatnet.proofs.PlanExistence.{IsDistance-unique}
 use Rattle.fp_flatnet.proofs.OnwardTimes.{GoesOnWithin, begun-next}
 use Rattle.fp_flatnet.proofs.LeastWalks.{arc-valid, first-time, hold-small}
 
--- the shipment is here and ready, can still be in time, and what is a direct route from here on is one with the legs before it
+-- the shipment is here and ready, can still be in time, and what is a direct route from here on is
+-- one with the legs before it
 pub record IsUnderway (p : Problem) (s : Shipment) (here ready : ℕ) (legs : List Leg) : Type 0 where
   pub inside : here < length p.terminals
   pub left : ℕ

@@ -11,7 +11,7 @@ use Rattle.fp_model.specs.Plans.{PlanExists}
 use Rattle.fp_model.specs.Problem.{Problem, IsValid, IsShipment}
 use Rattle.fp_model.specs.Routes.{Leads, LeavesReady, ArrivesBy, Carries, walk_time, step, arcs_of}
 use Rattle.fp_model.specs.Times.{IsLeastTime, IsDistance}
-use Rattle.fp_model.proofs.Places.{AllZip-places}
+use Rattle.fp_lists.proofs.Numbered.{AllZip-get_or}
 use Rattle.fp_flatnet.specs.Verdicts.{IsInTime, AllInTime, IsBlocked}
 use Rattle.fp_flatnet.proofs.LeastWalks.{IsLeastWalk-from_time, IsLeastTime-unique}
 use Rattle.fp_flatnet.proofs.PromptLegs.{at_once, carries-at_once}
@@ -46,7 +46,8 @@ arrives-after p d due ready l [] leaves arrives = arrives
 arrives-after p d due ready l (m ∷ legs) leaves arrives =
     omega (arith, arrives-after p d due (l.depart + d * step p l.arc) m legs leaves.1 arrives, leaves.1.0)
 
--- over whatever denominator, what carries a shipment takes the time of its walk between release and due time
+-- over whatever denominator, what carries a shipment takes the time of its walk between release and
+-- due time
 pub carried_time : (p : Problem) (d : ℕ) (s : Shipment) (legs : List Leg) → 1 ≤ d → Carries p d s legs → s.release + walk_time p (arcs_of legs) ≤ s.due
 carried_time p d s [] h carries = absurd (carries.route.some refl)
 carried_time p d s (l ∷ legs) h carries =
@@ -57,7 +58,7 @@ carried_time p d s (l ∷ legs) h carries =
 pub no_plan-blocked : (p : Problem) (k : ℕ) (o : Option ℕ) → IsBlocked p k o → PlanExists p → ⊥
 no_plan-blocked p k o blocked plan =
     let carries : Carries p plan.0 (shipment_at p k) (slice_index_or plan.1 k []) =
-    AllZip-places (Carries p plan.0) p.shipments plan.1 no_shipment [] plan.3 k blocked.exists in
+    AllZip-get_or (Carries p plan.0) p.shipments plan.1 k no_shipment [] plan.3 blocked.exists in
     late o blocked.fastest blocked.late (slice_index_or plan.1 k []) carries.route.leads
     (carried_time p plan.0 (shipment_at p k) (slice_index_or plan.1 k []) plan.2 carries)
   where

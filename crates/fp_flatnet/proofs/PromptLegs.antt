@@ -1,4 +1,5 @@
--- Legs along a walk that each leave as soon as they can, and that they carry a shipment which is in time.
+-- Legs along a walk that each leave as soon as they can, and that they carry a shipment which is in
+-- time.
 use Rattle.std.proofs.Common.{◌≡◌, ◌≢◌, ℕ, ◌+◌, ◌*◌, ◌≤◌, List, [], ◌∷◌, refl, sym, ap, subst, arith, le_refl}
 use Rattle.fp_model.specs.declared.parts.Leg.{Leg}
 use Rattle.fp_model.specs.declared.parts.Shipment.{Shipment}

@@ -1,4 +1,5 @@
--- When a shipment can leave by an arc, and be at its head, where the windows belong to the instance.
+-- When a shipment can leave by an arc, and be at its head, where the windows belong to the
+-- instance.
 use Rattle.std.proofs.Common.{◌≡◌, ◌≢◌, ℕ, zero, suc, ◌+◌, ◌<◌, ◌≤◌, Some, None, Option, List, [], ◌∷◌, length, get_or, refl, sym, ap, ◌∙◌, subst, max, arith}
 use Rattle.std.specs.Prelude.{IfSome, IsSomeAnd, nat_eq}
 use Rattle.std.proofs.lemmas.Bool.{cond-false, cond-true, eq-eqb, ne_eqb}
@@ -53,7 +54,8 @@ due_le_horizon [] k h = absurd (omega arith)
 due_le_horizon (s ∷ shipments) zero h = omega arith
 due_le_horizon (s ∷ shipments) (suc k) h = omega (arith, due_le_horizon shipments k (omega arith))
 
--- a window that belongs is that of a shipment and an arc of the instance, and lies inside the problem's
+-- a window that belongs is that of a shipment and an arc of the instance, and lies inside the
+-- problem's
 pub record IsBelonging (p : Problem) (table : WindowTable) (k a : ℕ) (w : Window) : Type 0 where
   pub shipment : k < length p.shipments
   pub arc : a < length p.arcs

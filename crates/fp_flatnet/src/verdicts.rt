@@ -11,8 +11,8 @@ use crate::least_times::fastest_time;
 use fp_model::{Instance, Shipment};
 use std::alloc::Global;
 
-/// Whether all shipments of an instance can arrive in time, each by itself. Then there is a plan, and
-/// otherwise there is none.
+/// Whether all shipments of an instance can arrive in time, each by itself. Then there is a plan,
+/// and otherwise there is none.
 #[derive(Clone, Copy, PartialEq, Eq, Debug)]
 pub enum Verdict {
     /// Each shipment that leaves at its release and takes a fastest walk arrives by its due time.
@@ -26,7 +26,8 @@ pub enum Verdict {
 }
 
 /// The fastest time of a shipment: the least time of a walk from its origin to its destination, in
-/// the input's unit. `None` exactly where there is no route. `NoMemory` only where no memory is found.
+/// the input's unit. `None` exactly where there is no route. `NoMemory` only where no memory is
+/// found.
 pub fn fastest(alloc: Global, instance: &Instance, shipment: u32) -> Result<Option<u32>, NoMemory>
     requires { shipment < length instance.now.shipments }
     ensures { IfOk result (IsFastest instance.now (shipment_at instance.now shipment)) }
@@ -35,8 +36,8 @@ pub fn fastest(alloc: Global, instance: &Instance, shipment: u32) -> Result<Opti
     fastest_time(alloc, instance, &forward, instance.shipment(shipment))
 }
 
-/// Decides whether a plan exists: `All` where each shipment is in time by itself, and `Blocked` with
-/// the first shipment that is not. `NoMemory` only where no memory is found.
+/// Decides whether a plan exists: `All` where each shipment is in time by itself, and `Blocked`
+/// with the first shipment that is not. `NoMemory` only where no memory is found.
 pub fn feasible(alloc: Global, instance: &Instance) -> Result<Verdict, NoMemory>
     ensures verdict { IfOk result (IsVerdict instance.now) }
     ensures some_plan { IfOk result (λ v. v ≡ Verdict.All → PlanExists instance.now) }

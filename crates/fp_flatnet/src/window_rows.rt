@@ -44,8 +44,8 @@ pub(crate) fn time_onward(instance: &Instance, there: u32, number: u32, from_hea
     instance.step(number) + from_head
 }
 
-// The window of a shipment and an arc, where the least times to the arc's tail and from its head are
-// known.
+// The window of a shipment and an arc, where the least times to the arc's tail and from its head
+// are known.
 fn window_of(
     instance: &Instance,
     shipment: &Shipment,
