@@ -1,7 +1,7 @@
 //! What leaves are worth: by each kind of prices, in both modes, with a table, and under sides.
 
-ghost use Rattle.std.specs.Prelude.{◌≡◌, ◌≤◌, [], ◌∷◌, IfOk, length};
-ghost use Rattle.fp_prices.specs.Tables.{HasKind};
+ghost use Rattle.std.specs.Prelude.{◌≡◌, ◌≤◌, [], ◌∷◌, All, IfOk, length};
+ghost use Rattle.fp_prices.specs.Tables.{AreCountable, HasKind, IsAscendingTable};
 
 use fp_examples::{DETOUR, LINE, PAIR, instance_of};
 use fp_flatnet::{Windows, initial};
@@ -99,25 +99,43 @@ fn leaves_without_tables(rt: HostRuntime) -> Result<(), Fail> {
     Ok(())
 }
 
+// What a leaf of an instance with three terminals is worth by a table, as of a round, where a
+// point stands at the second terminal at 4 from the first round on. `None` where the table breaks
+// the price rule.
+fn bound_by(
+    alloc: Global,
+    instance: &Instance,
+    tables: &[Table],
+    round: u32,
+) -> Result<Option<LeafBound>, NoMemory>
+    requires three { length instance.now.terminals ≡ 3 }
+    requires countable { AreCountable instance.now tables.now }
+    requires ascending { All IsAscendingTable tables.now }
+    requires one { length tables.now ≡ 1 }
+{
+    if check_tables(instance, tables).is_err() {
+        return Ok(None);
+    }
+    let windows = Windows::of(alloc, instance)?;
+    let mut points = initial(alloc, instance, &windows)?;
+    points.add(alloc, 1, 4, 1)?;
+    let price = LeafPrice {
+        kind: Kind::Table { id: 1 },
+        round,
+        forced: false,
+    };
+    Ok(Some(bound(alloc, instance, &windows, &points, tables, &[], price)?))
+}
+
 #[test]
 fn leaves_with_a_table(rt: HostRuntime) -> Result<(), Fail> {
     let alloc = rt.alloc();
     let instance = instance_of(alloc, LINE)?;
     assert!(rt; instance.terminals().len() == 3 && instance.arcs().len() == 2);
-    let windows = Windows::of(alloc, &instance)?;
-    let mut points = initial(alloc, &instance, &windows)?;
-    points.add(alloc, 1, 4, 1)?;
     let tables = vec![in alloc; line_table(alloc, 100_000_000)?]?;
-    let kept = check_tables(&instance, &tables);
-    assert!(rt; kept.is_ok());
     for (round, value) in [(0, 200_000_000), (1, 300_000_000)] {
-        let price = LeafPrice {
-            kind: Kind::Table { id: 1 },
-            round,
-            forced: false,
-        };
-        let is = bound(alloc, &instance, &windows, &points, &tables, &[], price)?;
-        assert_eq!(rt; is, LeafBound::Value { value }, "as of round {round}");
+        let is = bound_by(alloc, &instance, &tables, round)?;
+        assert_eq!(rt; is, Some(LeafBound::Value { value }), "as of round {round}");
     }
     Ok(())
 }
