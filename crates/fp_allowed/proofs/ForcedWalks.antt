@@ -11,7 +11,6 @@ use Rattle.fp_model.specs.Numbered.{no_shipment, shipment_at}
 use Rattle.fp_model.specs.Problem.{Problem, arc_at}
 use Rattle.fp_model.specs.Routes.{IsRoute, Leads, arcs_of, ends_of}
 use Rattle.fp_lists.specs.Distinct.{AreDistinct}
-use Rattle.fp_lists.proofs.Distinct.{AreDistinct-cons, AreDistinct-nil}
 use Rattle.fp_lists.proofs.Elements.{AllByRecursion-weaker}
 use Rattle.fp_lists.specs.Membership.{list_has}
 use Rattle.fp_lists.proofs.Membership.{list_has-rest, list_has-first, list_has-cons_cases, list_has-get_or}
