@@ -7,7 +7,8 @@ use fp_examples::{DETOUR, LINE, PAIR, instance_of};
 use fp_flatnet::{Windows, initial};
 use fp_model::Instance;
 use fp_prices::{
-    Kind, LeafBound, LeafPrice, NoMemory, Share, Table, TableFault, Weight, bound, check_tables,
+    ClassWalk, Kind, Leaf, LeafBound, LeafPrice, NoMemory, RoundNetwork, Share, Table, TableFault,
+    Weight, bound, check_tables,
 };
 use fp_tree::Side;
 use std::alloc::Global;
@@ -96,6 +97,101 @@ fn leaves_without_tables(rt: HostRuntime) -> Result<(), Fail> {
         let is = initial_bound(alloc, &instance, sides, kind, forced)?;
         assert_eq!(rt; is, want, "by {kind:?}: {text}");
     }
+    Ok(())
+}
+
+// What the classes of walks are: a shipment, an arc and a point each.
+fn classes_of(alloc: Global, walks: &[ClassWalk]) -> Result<Vec<(usize, u32, u32)>, NoMemory> {
+    let mut classes = Vec::new(alloc);
+    for (shipment, walk) in walks.iter().enumerate() {
+        for class in &walk.classes {
+            classes.push((shipment, class.arc, class.depart))?;
+        }
+    }
+    Ok(classes)
+}
+
+// A leaf with the initial points, made once: what it is worth by a kind without a table, and the
+// classes of a cheapest walk of each shipment.
+#[derive(Drop)]
+struct PricedLeaf {
+    bound: LeafBound,
+    classes: Option<Vec<(usize, u32, u32)>>,
+}
+
+fn priced_leaf(
+    alloc: Global,
+    instance: &Instance,
+    sides: &[Side],
+    kind: Kind,
+    forced: bool,
+) -> Result<PricedLeaf, NoMemory>
+    requires kind { HasKind [] kind }
+    requires few { length instance.now.terminals ≤ 100 }
+{
+    let windows = Windows::of(alloc, instance)?;
+    let points = initial(alloc, instance, &windows)?;
+    let round = RoundNetwork::of(alloc, instance, &points, 0)?;
+    let leaf = Leaf::of(alloc, &round, &windows, sides)?;
+    let bound = leaf.bound(alloc, &[], kind, forced)?;
+    let classes = match leaf.walks(alloc, &[], kind, forced)? {
+        Some(walks) => Some(classes_of(alloc, &walks)?),
+        None => None,
+    };
+    Ok(PricedLeaf { bound, classes })
+}
+
+#[test]
+fn cheapest_walks(rt: HostRuntime) -> Result<(), Fail> {
+    let alloc = rt.alloc();
+    let barred = [Side::Without {
+        shipment: 0,
+        arc: 0,
+    }];
+    for (text, sides, kind, forced, value, classes) in [
+        (
+            LINE,
+            [].as_slice(),
+            Kind::Linear,
+            true,
+            200_000_000,
+            [(0, 0, 0), (0, 1, 0), (1, 1, 0)].as_slice(),
+        ),
+        (DETOUR, &[], Kind::Even, false, 100_000_000, &[(0, 0, 0)]),
+        (
+            DETOUR,
+            &barred,
+            Kind::Linear,
+            false,
+            48_000_000,
+            &[(0, 1, 0), (0, 2, 0)],
+        ),
+        // S2 pays the truck at 3, and S1 waits for it.
+        (
+            PAIR,
+            &[],
+            Kind::Linear,
+            true,
+            109_000_000,
+            &[(0, 0, 3), (1, 0, 3)],
+        ),
+    ] {
+        assert!(rt; text.len() < 2000);
+        let instance = instance_of(alloc, text)?;
+        assert!(rt; instance.terminals().len() <= 100);
+        let leaf = priced_leaf(alloc, &instance, sides, kind, forced)?;
+        assert_eq!(rt;
+            leaf.bound,
+            LeafBound::Value { value },
+            "by {kind:?}: {text}"
+        );
+        let found = leaf.classes.as_ref().map(|found| found.as_slice());
+        assert!(rt; found == Some(classes), "by {kind:?}: {text}");
+    }
+    let instance = instance_of(alloc, LINE)?;
+    assert!(rt; instance.terminals().len() <= 100);
+    let empty = priced_leaf(alloc, &instance, &barred, Kind::Linear, false)?;
+    assert!(rt; empty.classes.is_none());
     Ok(())
 }
 
