@@ -13,9 +13,9 @@ use Rattle.fp_model.specs.declared.parts.Shipment.{Shipment}
 use Rattle.fp_model.specs.Problem.{EndsDiffer}
 use Rattle.fp_reader.specs.Drafts.{ends_in, names_of}
 use Rattle.fp_reader.specs.Faults.{joins}
-use Rattle.fp_reader.specs.Names.{is_taken}
+use Rattle.fp_fields.specs.Names.{is_taken}
 use Rattle.fp_reader.proofs.Indexes.{same_ends}
-use Rattle.fp_reader.proofs.Places.{list_any-map}
+use Rattle.fp_fields.proofs.MappedLists.{list_any-map}
 
 -- where each two elements differ, a test of difference fails at those before a place
 none-before : {X : Type 0} (test : X → X → Bool) (R : X → X → Type 0) (xs : List X) (i : ℕ) (d : X)

@@ -7,17 +7,17 @@ use Rattle.std.proofs.lemmas.List.Quantifiers.{position-Some}
 use Rattle.fp_model.specs.declared.parts.Shipment.{Shipment}
 use Rattle.fp_model.specs.Problem.{Problem, no_arc}
 use Rattle.fp_reader.specs.Faults.{joins, shipment_names}
-use Rattle.fp_reader.specs.Fields.{field, number_at}
+use Rattle.fp_fields.specs.Fields.{field, number_at}
 use Rattle.fp_reader.proofs.Fits.{between, there}
-use Rattle.fp_lines.specs.Ranges.{largest}
-use Rattle.fp_certificate.specs.Answers.{is_small}
-use Rattle.fp_certificate.specs.Places.{arc_between, arc_in, lacks_arc, lacks_shipment, lacks_terminal, shipment_in, terminal_in, terminal_named}
+use Rattle.fp_lines.specs.Ranges.{largest_figure}
+use Rattle.fp_certificate.specs.Answers.{is_figure}
+use Rattle.fp_fields.specs.NamedParts.{arc_between, arc_in, lacks_arc, lacks_shipment, lacks_terminal, shipment_in, terminal_in, terminal_named}
 use Rattle.fp_certificate.specs.Tables.{with_last}
 use Rattle.fp_certificate.specs.Timetables.{is_time}
 
 -- a number that is no larger than a field may be
-pub small : (fields : List (List ℕ)) (place : ℕ) → is_small fields place ≡ true → number_at fields place ≤ largest
-small fields place h = (between 0 largest fields place h).1
+pub small : (fields : List (List ℕ)) (place : ℕ) → is_figure fields place ≡ true → number_at fields place ≤ largest_figure
+small fields place h = (between 0 largest_figure fields place h).1
 
 -- a time
 pub in-time : (fields : List (List ℕ)) (place : ℕ) → is_time fields place ≡ true → number_at fields place ≤ 100000

@@ -11,8 +11,8 @@ use Rattle.fp_model.specs.declared.parts.Shipment.{Shipment}
 use Rattle.fp_model.specs.Numbered.{no_shipment}
 use Rattle.fp_model.specs.Problem.{IsArc, IsValid, Problem, arc_at, no_arc}
 use Rattle.fp_reader.specs.Faults.{joins, shipment_names}
-use Rattle.fp_reader.specs.Names.{number_of}
-use Rattle.fp_certificate.specs.Places.{arc_named, shipment_named, terminal_named}
+use Rattle.fp_fields.specs.Names.{number_of}
+use Rattle.fp_fields.specs.NamedParts.{arc_named, shipment_named, terminal_named}
 use Rattle.fp_lines.specs.Rows.{head_name, shipment_name, tail_name, terminal_name}
 
 -- the first place that passes

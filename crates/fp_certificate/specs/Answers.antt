@@ -3,8 +3,9 @@
 use Rattle.std.specs.Prelude.{ℕ, ◌^◌, List, [], ◌∷◌, length, Bool, ◌&&◌, ◌||◌, not, ◌==◌, nat_lt, is_some, if◌then◌else◌, Option, Some, None, codes}
 use Rattle.std.specs.Str.{bytes_eq}
 use Rattle.fp_model.specs.Problem.{Problem, weight_at}
-use Rattle.fp_reader.specs.Faults.{Finding, fault}
-use Rattle.fp_reader.specs.Fields.{field, has_number, is_between, number_at}
+use Rattle.fp_reader.specs.Faults.{fault}
+use Rattle.fp_fields.specs.Findings.{Finding}
+use Rattle.fp_fields.specs.Fields.{field, has_number, is_between, number_at}
 use Rattle.fp_lines.specs.declared.certificates.Answer.{Answer}
 use Rattle.fp_lines.specs.declared.certificates.Answer.TheVariants as answer
 use Rattle.fp_lines.specs.declared.certificates.Spent.{Spent}
@@ -12,12 +13,12 @@ use Rattle.fp_lines.specs.declared.certificates.Spent.TheVariants.{Rounds, Branc
 use Rattle.fp_certificate.specs.declared.drafts.Draft.{Draft}
 use Rattle.fp_certificate.specs.declared.groups.Group.TheVariants as group
 use Rattle.fp_certificate.specs.Groups.{is_misplaced}
-use Rattle.fp_lines.specs.Ranges.{largest}
-use Rattle.fp_certificate.specs.Places.{lacks_shipment, shipment_in}
+use Rattle.fp_lines.specs.Ranges.{largest_figure}
+use Rattle.fp_fields.specs.NamedParts.{lacks_shipment, shipment_in}
 
 -- whether the number in the field at a place is no larger
-abbrev pub is_small : List (List ℕ) → ℕ → Bool
-is_small fields place = is_between 0 largest fields place
+abbrev pub is_figure : List (List ℕ) → ℕ → Bool
+is_figure fields place = is_between 0 largest_figure fields place
 
 -- whether the field at a place is a word
 abbrev pub has_word : List ℕ → List (List ℕ) → ℕ → Bool
@@ -29,7 +30,7 @@ cost_faults before fields =
     fault 22 (not (length fields == 3))
     ∷ fault 23 (not (has_number fields 2))
     ∷ fault 24 (is_misplaced before group.Answer)
-    ∷ fault 28 (not (is_small fields 2))
+    ∷ fault 28 (not (is_figure fields 2))
     ∷ []
 
 -- whether the numbers and the word of an unfinished answer are such
@@ -43,7 +44,7 @@ unfinished_faults before fields =
     fault 22 (not (length fields == 5))
     ∷ fault 23 (not (has_unfinished_digits fields))
     ∷ fault 24 (is_misplaced before group.Answer)
-    ∷ fault 28 (not (is_small fields 2 && is_small fields 3))
+    ∷ fault 28 (not (is_figure fields 2 && is_figure fields 3))
     ∷ []
 
 -- whether a fastest time is `none` or a number

@@ -1,6 +1,6 @@
 -- What the steps of reading answer where they fail: a fault, or want of memory, of which nothing is said.
 use Rattle.std.specs.Prelude.{◌≡◌, ℕ, Option, Some, Result, Err}
-use Rattle.fp_reader.specs.Input.{Fault}
+use Rattle.fp_fields.specs.Faults.{Fault}
 use Rattle.fp_certificate.specs.declared.faults.CertFault.{CertFault}
 use Rattle.fp_certificate.specs.declared.faults.CertFault.TheVariants as cert
 use Rattle.fp_certificate.specs.declared.line_faults.AddFault.{AddFault}

@@ -2,8 +2,8 @@
 use Rattle.std.specs.Prelude.{ℕ, List, Bool, Option, Some, None, is_none, unwrap_or, position}
 use Rattle.fp_model.specs.Problem.{Problem}
 use Rattle.fp_reader.specs.Faults.{joins, shipment_names}
-use Rattle.fp_reader.specs.Fields.{field}
-use Rattle.fp_reader.specs.Names.{number_of}
+use Rattle.fp_fields.specs.Fields.{field}
+use Rattle.fp_fields.specs.Names.{number_of}
 
 -- the number of the shipment with a name, if there is one
 abbrev pub shipment_named : Problem → List ℕ → Option ℕ

@@ -3,14 +3,15 @@ use Rattle.std.specs.Prelude.{ℕ, ◌+◌, List, [], ◌∷◌, ◌++◌, lengt
 use Rattle.fp_model.specs.Problem.{Problem}
 use Rattle.fp_prices.specs.declared.tables.Weight.{Weight}
 use Rattle.fp_prices.specs.Shares.{ClassShare}
-use Rattle.fp_reader.specs.Faults.{Finding, fault}
-use Rattle.fp_reader.specs.Fields.{has_number, number_at}
+use Rattle.fp_reader.specs.Faults.{fault}
+use Rattle.fp_fields.specs.Findings.{Finding}
+use Rattle.fp_fields.specs.Fields.{has_number, number_at}
 use Rattle.fp_records.specs.Fields.{is_empty}
 use Rattle.fp_certificate.specs.declared.drafts.Draft.{Draft}
 use Rattle.fp_certificate.specs.declared.groups.Group.TheVariants as group
-use Rattle.fp_certificate.specs.Answers.{is_small}
+use Rattle.fp_certificate.specs.Answers.{is_figure}
 use Rattle.fp_certificate.specs.Groups.{is_misplaced}
-use Rattle.fp_certificate.specs.Places.{arc_in, lacks_arc, lacks_shipment, shipment_in}
+use Rattle.fp_fields.specs.NamedParts.{arc_in, lacks_arc, lacks_shipment, shipment_in}
 use Rattle.fp_certificate.specs.Timetables.{is_time}
 
 -- a list with what a function makes of its last element
@@ -48,7 +49,7 @@ share_faults p before fields =
     ∷ fault 23 (not (has_number fields 3 && has_number fields 4))
     ∷ fault 24 (is_misplaced before group.Tables || is_empty before.certificate.tables)
     ∷ fault 25 (lacks_arc p fields 1 2)
-    ∷ fault 28 (not (is_time fields 3 && is_small fields 4))
+    ∷ fault 28 (not (is_time fields 3 && is_figure fields 4))
     ∷ []
 
 -- the share of a line, which has no weights yet
@@ -70,7 +71,7 @@ weight_faults p before fields =
     ∷ fault 23 (not (has_number fields 2))
     ∷ fault 24 (is_misplaced before group.Tables || lacks_share before.certificate.tables)
     ∷ fault 25 (lacks_shipment p fields 1)
-    ∷ fault 28 (not (is_small fields 2))
+    ∷ fault 28 (not (is_figure fields 2))
     ∷ []
 
 -- the weight of a line

@@ -1,15 +1,16 @@
 -- The lines of legs and of trucks: their faults in the order in which they are looked for, and what they give.
 use Rattle.std.specs.Prelude.{ℕ, List, [], ◌∷◌, ◌++◌, length, Bool, ◌&&◌, ◌||◌, not, ◌==◌, Some}
 use Rattle.fp_model.specs.Problem.{Problem}
-use Rattle.fp_reader.specs.Faults.{Finding, fault}
-use Rattle.fp_reader.specs.Fields.{has_number, is_between, number_at}
+use Rattle.fp_reader.specs.Faults.{fault}
+use Rattle.fp_fields.specs.Findings.{Finding}
+use Rattle.fp_fields.specs.Fields.{has_number, is_between, number_at}
 use Rattle.fp_timetable.specs.declared.lines.LegLine.{LegLine}
 use Rattle.fp_timetable.specs.declared.lines.TruckLine.{TruckLine}
 use Rattle.fp_certificate.specs.declared.drafts.Draft.{Draft}
 use Rattle.fp_certificate.specs.declared.groups.Group.TheVariants as group
-use Rattle.fp_certificate.specs.Answers.{is_small}
+use Rattle.fp_certificate.specs.Answers.{is_figure}
 use Rattle.fp_certificate.specs.Groups.{is_misplaced}
-use Rattle.fp_certificate.specs.Places.{arc_in, lacks_arc, lacks_shipment, shipment_in}
+use Rattle.fp_fields.specs.NamedParts.{arc_in, lacks_arc, lacks_shipment, shipment_in}
 
 -- whether the field at a place is a time in range
 abbrev pub is_time : List (List ℕ) → ℕ → Bool
@@ -46,7 +47,7 @@ truck_faults p before fields =
     ∷ fault 23 (not (has_number fields 3 && has_number fields 4 && has_number fields 5))
     ∷ fault 24 (is_misplaced before group.Trucks)
     ∷ fault 25 (lacks_arc p fields 1 2)
-    ∷ fault 28 (not (is_time fields 3 && is_small fields 4 && is_small fields 5))
+    ∷ fault 28 (not (is_time fields 3 && is_figure fields 4 && is_figure fields 5))
     ∷ []
 
 -- the truck line of a line

@@ -1,7 +1,7 @@
 // Lines of answers.
 ghost use Rattle.std.specs.Prelude.{◌≡◌, ◌<◌, false, Some, None, true, MatchOption, MatchResult};
-ghost use Rattle.fp_reader.specs.Faults.{first_code};
-ghost use Rattle.fp_reader.specs.Fields.{has_number, number_at};
+ghost use Rattle.fp_fields.specs.Findings.{first_code};
+ghost use Rattle.fp_fields.specs.Fields.{has_number, number_at};
 ghost use Rattle.fp_certificate.specs.Answers.{cost_faults, has_time, has_time_in_range, has_unfinished_digits, infeasible_faults, infeasible_in, spent_in, time_in, unfinished_faults, unfinished_in, with_answer};
 ghost use Rattle.fp_certificate.specs.Codes.{code_of};
 ghost use Rattle.fp_certificate.specs.Outcomes.{IsLeast};

@@ -1,6 +1,6 @@
 // The line `end`.
 ghost use Rattle.std.specs.Prelude.{◌≡◌, Some, None, MatchResult};
-ghost use Rattle.fp_reader.specs.Faults.{first_code};
+ghost use Rattle.fp_fields.specs.Findings.{first_code};
 ghost use Rattle.fp_certificate.specs.Codes.{code_of};
 ghost use Rattle.fp_certificate.specs.Outcomes.{IsLeast};
 ghost use Rattle.fp_certificate.specs.Trees.{end_faults, with_end};

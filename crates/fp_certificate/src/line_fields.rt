@@ -1,8 +1,8 @@
 // The words, numbers and names in the fields of a line that is read.
 ghost use Rattle.std.specs.Prelude.{◌≡◌, true, false, MatchOption};
-ghost use Rattle.fp_reader.specs.Fields.{has_number, number_at};
-ghost use Rattle.fp_certificate.specs.Answers.{has_word, is_small};
-ghost use Rattle.fp_certificate.specs.Places.{arc_in, lacks_arc, lacks_shipment, lacks_terminal, shipment_in, terminal_in};
+ghost use Rattle.fp_fields.specs.Fields.{has_number, number_at, has_word};
+ghost use Rattle.fp_certificate.specs.Answers.{is_figure};
+ghost use Rattle.fp_fields.specs.NamedParts.{arc_in, lacks_arc, lacks_shipment, lacks_terminal, shipment_in, terminal_in};
 ghost use Rattle.fp_certificate.specs.Timetables.{is_time};
 
 use crate::lookups::Lookup;
@@ -24,7 +24,7 @@ pub fn has_word(line: &Record, place: usize, word: &[u8]) -> bool
 /// The number in the field at a place; `None` exactly where it is above `2^127 - 1`.
 pub fn small_at(line: &Record, place: usize) -> Option<u128>
     requires { has_number line.now place ≡ true }
-    ensures { MatchOption result (is_small line.now place ≡ false) (λ n. (is_small line.now place ≡ true) × (n ≡ number_at line.now place)) }
+    ensures { MatchOption result (is_figure line.now place ≡ false) (λ n. (is_figure line.now place ≡ true) × (n ≡ number_at line.now place)) }
 {
     number_between(field_at(line, place), 0, LARGEST)
 }

@@ -3,7 +3,7 @@ ghost use Rattle.std.specs.Prelude.{◌≡◌, ◌≢◌, ◌^◌, AllPairs, IfO
 ghost use Rattle.fp_model.specs.declared.parts.Shipment.{Shipment};
 ghost use Rattle.fp_model.specs.Problem.{EndsDiffer, weight_at};
 ghost use Rattle.fp_reader.specs.Drafts.{ends_in, names_of};
-ghost use Rattle.fp_certificate.specs.Places.{arc_between, arc_named, shipment_named, terminal_named};
+ghost use Rattle.fp_fields.specs.NamedParts.{arc_between, arc_named, shipment_named, terminal_named};
 
 use crate::NoMemory;
 use fp_model::{Arc, Instance, Name, Shipment};

@@ -1,7 +1,7 @@
 // Lines `point,TERMINAL,TIME,ROUND`.
 ghost use Rattle.std.specs.Prelude.{◌≡◌, ◌<◌, false, ◌&&◌, Some, None, true, MatchOption, MatchResult};
-ghost use Rattle.fp_reader.specs.Faults.{first_code};
-ghost use Rattle.fp_reader.specs.Fields.{has_number, is_between, number_at};
+ghost use Rattle.fp_fields.specs.Findings.{first_code};
+ghost use Rattle.fp_fields.specs.Fields.{has_number, is_between, number_at};
 ghost use Rattle.fp_certificate.specs.Codes.{code_of};
 ghost use Rattle.fp_certificate.specs.Outcomes.{IsLeast};
 ghost use Rattle.fp_certificate.specs.Points.{point_faults, point_in, with_point};

@@ -1,7 +1,7 @@
 // Reads a certificate.
 ghost use Rattle.std.specs.Prelude.{◌≡◌, ◌≤◌, ◌+◌, ◌-◌, ◌^◌, ◌<◌, ℕ, drop, length, Err, IfOk, MatchResult, None, Ok};
 ghost use Rattle.fp_prices.specs.Tables.{AreCountable};
-ghost use Rattle.fp_reader.specs.Faults.{first_code};
+ghost use Rattle.fp_fields.specs.Findings.{first_code};
 ghost use Rattle.fp_certificate.specs.Outcomes.{IsFirst, IsLeast};
 ghost use Rattle.fp_lines.specs.Ranges.{IsInRange};
 ghost use Rattle.fp_certificate.specs.Reading.{certificate_from, certificate_of, faults_of, finished, line_code, nothing_read, with_kind, with_line};

@@ -1,7 +1,7 @@
 // Lines `scale,N`.
 ghost use Rattle.std.specs.Prelude.{◌≡◌, false, Some, None, true, MatchOption, MatchResult};
-ghost use Rattle.fp_reader.specs.Faults.{first_code};
-ghost use Rattle.fp_reader.specs.Fields.{has_number, number_at};
+ghost use Rattle.fp_fields.specs.Findings.{first_code};
+ghost use Rattle.fp_fields.specs.Fields.{has_number, number_at};
 ghost use Rattle.fp_certificate.specs.Answers.{has_bad_scale, scale_faults, with_scale};
 ghost use Rattle.fp_certificate.specs.Codes.{code_of};
 ghost use Rattle.fp_certificate.specs.Outcomes.{IsLeast};

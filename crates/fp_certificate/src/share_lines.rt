@@ -1,7 +1,7 @@
 // Lines `share,FROM,TO,POINT,V`, each followed by its weights.
 ghost use Rattle.std.specs.Prelude.{◌≡◌, ◌<◌, length, OnOk, ◌&&◌, Some, None, MatchResult};
-ghost use Rattle.fp_reader.specs.Faults.{first_code};
-ghost use Rattle.fp_reader.specs.Fields.{has_number};
+ghost use Rattle.fp_fields.specs.Findings.{first_code};
+ghost use Rattle.fp_fields.specs.Fields.{has_number};
 ghost use Rattle.fp_certificate.specs.Codes.{code_of};
 ghost use Rattle.fp_certificate.specs.Outcomes.{IsLeast};
 ghost use Rattle.fp_certificate.specs.Tables.{share_faults, share_in, with_share};

@@ -1,7 +1,7 @@
 // Lines `weight,SHIPMENT,W`.
 ghost use Rattle.std.specs.Prelude.{◌≡◌, false, OnOk, Some, None, MatchResult};
-ghost use Rattle.fp_reader.specs.Faults.{first_code};
-ghost use Rattle.fp_reader.specs.Fields.{has_number};
+ghost use Rattle.fp_fields.specs.Findings.{first_code};
+ghost use Rattle.fp_fields.specs.Fields.{has_number};
 ghost use Rattle.fp_certificate.specs.Codes.{code_of};
 ghost use Rattle.fp_certificate.specs.Outcomes.{IsLeast};
 ghost use Rattle.fp_certificate.specs.Tables.{lacks_share, weight_faults, weight_in, with_weight};

@@ -10,7 +10,7 @@ use Rattle.fp_model.specs.Members.{IsMemberOf, LeaveTogether, member_leg, member
 use Rattle.fp_model.specs.Numbered.{leg_at, no_leg, route_at}
 use Rattle.fp_model.specs.Problem.{Problem}
 use Rattle.fp_model.specs.Routes.{arcs_of}
-use Rattle.fp_model.proofs.Joins.{cost-joins}
+use Rattle.fp_model.proofs.Joins.{cost_joins}
 use Rattle.fp_model.proofs.Members.{IsMemberAt, members_in-contain, members_in-each}
 
 -- when the first of some members leaves, or a leg's own time where there is none
@@ -74,4 +74,4 @@ module _ (others routes : List (List Leg)) (same : map arcs_of routes ≡ map ar
 pub cost-together : (p : Problem) (others routes : List (List Leg)) → map arcs_of routes ≡ map arcs_of others → LeaveTogether others routes →
     cost p routes ≤ cost p others
 cost-together p others routes same together =
-    subst (λ (R : List (List Leg)). cost p R ≤ cost p others) (routes-moved others routes same together) (cost-joins p (moved others routes) (λ k. refl) others)
+    subst (λ (R : List (List Leg)). cost p R ≤ cost p others) (routes-moved others routes same together) (cost_joins p (moved others routes) (λ k. refl) others)

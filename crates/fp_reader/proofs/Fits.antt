@@ -6,12 +6,13 @@ use Rattle.std.proofs.lemmas.Bool.{and_parts, eqb-false, leb-false, leb-true, lt
 use Rattle.std.proofs.lemmas.List.Quantifiers.{position-Some}
 use Rattle.fp_model.specs.Names.{IsName}
 use Rattle.fp_model.specs.Problem.{Problem, IsArc, IsShipment}
-use Rattle.fp_reader.specs.Faults.{arc_faults, first_code, has_arc, has_arc_digits, has_arc_names, has_arc_ranges, has_bad_hold, has_same_ends, has_shipment_digits, has_shipment_names, has_shipment_ranges, has_terminal_fields, lacks_terminal, names_no_terminal, shipment_faults, shipment_names, terminal_faults}
-use Rattle.fp_reader.specs.Fields.{field, has_name, is_between, number_at}
-use Rattle.fp_reader.specs.Names.{is_taken, number_of}
+use Rattle.fp_reader.specs.Faults.{arc_faults, has_arc, has_arc_digits, has_arc_names, has_arc_ranges, has_bad_hold, has_same_ends, has_shipment_digits, has_shipment_names, has_shipment_ranges, has_terminal_fields, lacks_terminal, names_no_terminal, shipment_faults, shipment_names, terminal_faults}
+use Rattle.fp_fields.specs.Findings.{first_code}
+use Rattle.fp_fields.specs.Fields.{field, has_name, is_between, number_at}
+use Rattle.fp_fields.specs.Names.{is_taken, number_of}
 use Rattle.fp_reader.specs.Parts.{arc_in, hold_in, shipment_in, terminal_in}
-use Rattle.fp_reader.proofs.NameForm.{name-form}
-use Rattle.fp_reader.proofs.Tables.{clear}
+use Rattle.fp_fields.proofs.NameForm.{name-form}
+use Rattle.fp_fields.proofs.FaultTables.{clear}
 
 -- a terminal that may be added
 pub record IsTerminalFit (p : Problem) (fields : List (List ℕ)) : Type 0 where

@@ -13,9 +13,9 @@ use Rattle.fp_model.specs.Names.{IsName}
 use Rattle.fp_model.specs.Problem.{Problem, HasSoundParts, IsArc, IsShipment, EndsDiffer}
 use Rattle.fp_reader.specs.Drafts.{names_of}
 use Rattle.fp_reader.specs.Faults.{has_arc, joins}
-use Rattle.fp_reader.specs.Names.{is_taken}
+use Rattle.fp_fields.specs.Names.{is_taken}
 use Rattle.fp_reader.specs.Parts.{with_arc, with_shipment, with_terminal}
-use Rattle.fp_reader.proofs.Places.{list_any-map}
+use Rattle.fp_fields.proofs.MappedLists.{list_any-map}
 
 -- a name that is not taken differs from each of the names
 fresh-name : (names : List (List ℕ)) (name : List ℕ) → is_taken names name ≡ false

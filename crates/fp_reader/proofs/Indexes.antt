@@ -10,10 +10,10 @@ use Rattle.fp_model.specs.Names.{IsName}
 use Rattle.fp_model.specs.Problem.{Problem, IsArc, IsShipment}
 use Rattle.fp_reader.specs.Drafts.{IsIndexed, ends_in, names_of}
 use Rattle.fp_reader.specs.Faults.{has_arc}
-use Rattle.fp_reader.specs.Names.{is_taken}
+use Rattle.fp_fields.specs.Names.{is_taken}
 use Rattle.fp_reader.specs.Parts.{with_arc, with_shipment, with_terminal}
 use Rattle.fp_reader.proofs.Growth.{more-arcs, more-shipments, more-terminals}
-use Rattle.fp_reader.proofs.Places.{list_any-map}
+use Rattle.fp_fields.proofs.MappedLists.{list_any-map}
 
 -- whether two pairs of ends are the same
 abbrev pub same_ends : ℕ × ℕ → ℕ × ℕ → Bool

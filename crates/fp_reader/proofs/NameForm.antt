@@ -6,7 +6,7 @@ use Rattle.std.specs.Bool.{Decides}
 use Rattle.std.proofs.lemmas.Bool.{and_from, and_parts, eqb-false, le-leb, leb-true, ne_eqb, not-true, not_from_false}
 use Rattle.std.proofs.lemmas.Bool.Decides.{Decides-by_and}
 use Rattle.fp_model.specs.Names.{IsName, is_name_byte}
-use Rattle.fp_reader.specs.Fields.{is_name}
+use Rattle.fp_fields.specs.Fields.{is_name}
 
 -- the test of each byte
 each-letter : (bytes : List ℕ) → Decides (list_all is_name_byte bytes) (All (λ b. IsTrue (is_name_byte b)) bytes)

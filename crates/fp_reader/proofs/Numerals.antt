@@ -7,7 +7,7 @@ use Rattle.std.specs.Str.Parse.{digits_value_after}
 use Rattle.std.proofs.lemmas.Bool.{and_parts, both_ways, cases_Bool, le-ltb, leb-true, lt-ltb}
 use Rattle.std.proofs.lemmas.List.{drop_more}
 use Rattle.std.proofs.lemmas.List.Folds.{list_all_at}
-use Rattle.fp_reader.specs.Fields.{is_number}
+use Rattle.fp_fields.specs.Fields.{is_number}
 
 -- more digits never make a number smaller
 pub value-grows : (n : ℕ) (digits : List ℕ) → n ≤ digits_value_after 10 n digits

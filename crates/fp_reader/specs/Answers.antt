@@ -6,7 +6,7 @@ use Rattle.fp_reader.specs.declared.additions.AddFault.TheVariants as add
 use Rattle.fp_reader.specs.declared.faults.InputFault.{InputFault}
 use Rattle.fp_reader.specs.declared.faults.InputFault.TheVariants as input
 use Rattle.fp_reader.specs.Codes.{code_of}
-use Rattle.fp_reader.specs.Input.{Fault}
+use Rattle.fp_fields.specs.Faults.{Fault}
 
 -- a record was not added for the fault with this code
 abbrev pub IsLeast : AddFault → Option ℕ → Type 0

@@ -5,8 +5,8 @@ use Rattle.std.specs.List.{list_any}
 use Rattle.fp_model.specs.declared.parts.Arc.{Arc}
 use Rattle.fp_model.specs.declared.parts.Shipment.{Shipment}
 use Rattle.fp_model.specs.Problem.{Problem}
-use Rattle.fp_reader.specs.Fields.{field, has_name, has_number, is_between, is_kind, number_at}
-use Rattle.fp_reader.specs.Names.{is_taken, number_of}
+use Rattle.fp_fields.specs.Fields.{field, has_name, has_number, is_between, is_kind, number_at}
+use Rattle.fp_fields.specs.Names.{is_taken, number_of}
 use Rattle.fp_reader.specs.Parts.{hold_in, terminal_in}
 
 -- a fault: its code, and whether the record has it

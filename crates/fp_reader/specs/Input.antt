@@ -4,7 +4,7 @@ use Rattle.fp_model.specs.Problem.{Problem, weight}
 use Rattle.fp_reader.specs.declared.reading.Tail.{Tail}
 use Rattle.fp_reader.specs.declared.reading.Tail.TheVariants.{Alone, Certificate}
 use Rattle.fp_reader.specs.Faults.{record_code}
-use Rattle.fp_reader.specs.Fields.{is_kind}
+use Rattle.fp_fields.specs.Fields.{is_kind}
 use Rattle.fp_reader.specs.Parts.{nothing_read, with_record}
 
 -- a fault of an input: the ordinal of its record, from 1, or 0 for the input as a whole, and its code

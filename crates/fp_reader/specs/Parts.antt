@@ -3,8 +3,8 @@ use Rattle.std.specs.Prelude.{ℕ, List, [], ◌∷◌, ◌++◌, length, if◌t
 use Rattle.fp_model.specs.declared.parts.Arc.{Arc}
 use Rattle.fp_model.specs.declared.parts.Shipment.{Shipment}
 use Rattle.fp_model.specs.Problem.{Problem}
-use Rattle.fp_reader.specs.Fields.{field, is_kind, number_at}
-use Rattle.fp_reader.specs.Names.{number_of}
+use Rattle.fp_fields.specs.Fields.{field, is_kind, number_at}
+use Rattle.fp_fields.specs.Names.{number_of}
 
 -- nothing read so far; the scale of prices is the default
 abbrev pub nothing_read : Problem

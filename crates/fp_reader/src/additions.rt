@@ -1,8 +1,9 @@
 // A draft with one more record.
 ghost use Rattle.std.specs.Prelude.{◌≡◌, MatchResult};
 ghost use Rattle.fp_reader.specs.Answers.{IsLeast};
-ghost use Rattle.fp_reader.specs.Faults.{arc_faults, first_code, record_code, shipment_faults, terminal_faults};
-ghost use Rattle.fp_reader.specs.Fields.{field};
+ghost use Rattle.fp_reader.specs.Faults.{arc_faults, record_code, shipment_faults, terminal_faults};
+ghost use Rattle.fp_fields.specs.Findings.{first_code};
+ghost use Rattle.fp_fields.specs.Fields.{field};
 ghost use Rattle.fp_reader.specs.Parts.{arc_in, hold_in, shipment_in, with_arc, with_record, with_shipment, with_terminal};
 
 use crate::arc_records::read_arc;

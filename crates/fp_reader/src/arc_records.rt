@@ -1,8 +1,9 @@
 // Records `arc,FROM,TO,TIME,CAPACITY,TRUCK,FREIGHT`.
 ghost use Rattle.std.specs.Prelude.{◌≡◌, true, false, MatchOption, MatchResult};
 ghost use Rattle.fp_reader.specs.Codes.{code_of};
-ghost use Rattle.fp_reader.specs.Faults.{arc_faults, first_code, has_arc_digits, has_arc_names, has_arc_ranges};
-ghost use Rattle.fp_reader.specs.Fields.{number_at};
+ghost use Rattle.fp_reader.specs.Faults.{arc_faults, has_arc_digits, has_arc_names, has_arc_ranges};
+ghost use Rattle.fp_fields.specs.Findings.{first_code};
+ghost use Rattle.fp_fields.specs.Fields.{number_at};
 ghost use Rattle.fp_reader.specs.Parts.{arc_in};
 
 use crate::codes::RecordFault;

@@ -2,7 +2,7 @@
 ghost use Rattle.std.specs.Prelude.{◌≡◌, ◌+◌, ◌-◌, ◌*◌, ◌<◌, ◌≤◌, ◌^◌, MatchOption, true, false};
 ghost use Rattle.std.specs.List.{list_all};
 ghost use Rattle.std.specs.Char.{is_ascii_digit};
-ghost use Rattle.fp_reader.specs.Fields.{is_number, is_within, number};
+ghost use Rattle.fp_fields.specs.Fields.{is_number, is_within, number};
 
 // Whether each byte is an ASCII digit.
 fn are_digits(bytes: &[u8]) -> bool

@@ -3,7 +3,7 @@ ghost use Rattle.std.specs.Prelude.{◌≡◌, ◌≤◌, ◌<◌, ◌^◌, ◌�
 ghost use Rattle.fp_model.specs.Names.{IsName};
 ghost use Rattle.fp_model.specs.Problem.{IsArc, IsShipment, weight};
 ghost use Rattle.fp_reader.specs.Faults.{has_arc, shipment_names};
-ghost use Rattle.fp_reader.specs.Names.{is_taken, number_of};
+ghost use Rattle.fp_fields.specs.Names.{is_taken, number_of};
 ghost use Rattle.fp_reader.specs.Parts.{nothing_read, with_arc, with_shipment, with_terminal};
 
 use crate::NoMemory;

@@ -1,6 +1,6 @@
 // The fields of a record.
 ghost use Rattle.std.specs.Prelude.{◌≡◌, ◌==◌, length};
-ghost use Rattle.fp_reader.specs.Fields.{field, has_name, has_number, is_kind};
+ghost use Rattle.fp_fields.specs.Fields.{field, has_name, has_number, is_kind};
 
 use crate::digits::is_number;
 use fp_model::is_name;

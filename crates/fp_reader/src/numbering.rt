@@ -1,6 +1,6 @@
 // Names, numbered in the order in which they come.
 ghost use Rattle.std.specs.Prelude.{◌≡◌, ◌<◌, ◌++◌, ◌∷◌, [], length, false, IfSome, OnErr, OnOk};
-ghost use Rattle.fp_reader.specs.Names.{is_taken, number_of};
+ghost use Rattle.fp_fields.specs.Names.{is_taken, number_of};
 
 use crate::NoMemory;
 use indexmap::IndexSet;

@@ -1,8 +1,9 @@
 // Records `shipment,NAME,FROM,TO,SIZE,RELEASE,DUE`.
 ghost use Rattle.std.specs.Prelude.{◌≡◌, true, false, MatchOption, MatchResult};
 ghost use Rattle.fp_reader.specs.Codes.{code_of};
-ghost use Rattle.fp_reader.specs.Faults.{first_code, has_shipment_digits, has_shipment_names, has_shipment_ranges, shipment_faults};
-ghost use Rattle.fp_reader.specs.Fields.{number_at};
+ghost use Rattle.fp_reader.specs.Faults.{has_shipment_digits, has_shipment_names, has_shipment_ranges, shipment_faults};
+ghost use Rattle.fp_fields.specs.Findings.{first_code};
+ghost use Rattle.fp_fields.specs.Fields.{number_at};
 ghost use Rattle.fp_reader.specs.Parts.{terminal_in};
 
 use crate::codes::RecordFault;

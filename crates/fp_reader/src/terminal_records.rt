@@ -1,7 +1,8 @@
 // Records `terminal,NAME` and `terminal,NAME,HOLD`.
 ghost use Rattle.std.specs.Prelude.{◌≡◌, nat_lt, true, false, MatchOption, MatchResult};
 ghost use Rattle.fp_reader.specs.Codes.{code_of};
-ghost use Rattle.fp_reader.specs.Faults.{first_code, has_bad_hold, has_terminal_fields, terminal_faults};
+ghost use Rattle.fp_reader.specs.Faults.{has_bad_hold, has_terminal_fields, terminal_faults};
+ghost use Rattle.fp_fields.specs.Findings.{first_code};
 ghost use Rattle.fp_reader.specs.Parts.{hold_in};
 
 use crate::codes::RecordFault;

@@ -13,8 +13,8 @@ use Rattle.fp_lists.proofs.Elements.{AllByRecursion-weaker, AllByRecursion-get_o
 use Rattle.fp_timetable.specs.declared.lines.LegLine.{LegLine}
 use Rattle.fp_timetable.specs.Lines.{leg_line}
 use Rattle.fp_timetable.specs.Order.{lines_from, rank_of}
-use Rattle.fp_timetable.proofs.Carried.{AllRise}
-use Rattle.fp_timetable.proofs.Rising.{Rise}
+use Rattle.fp_timetable.proofs.DepartureLoads.{AllRise}
+use Rattle.fp_timetable.proofs.LegTimes.{Rise}
 
 -- the place of a leg line in the order
 abbrev pub leg_rank : LegLine → ℕ

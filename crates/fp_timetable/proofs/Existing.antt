@@ -13,8 +13,8 @@ use Rattle.fp_model.specs.Problem.{Problem, IsValid}
 use Rattle.fp_timetable.specs.declared.lines.LegLine.{LegLine}
 use Rattle.fp_timetable.specs.declared.lines.TruckLine.{TruckLine}
 use Rattle.fp_timetable.specs.Lines.{AreLegLines, AreTruckLines, IsLegLine, LegExists, TruckExists, departure, line_leg}
-use Rattle.fp_timetable.proofs.OfPlans.{GoesByArc, IsReady, IsReady-plan}
-use Rattle.fp_timetable.proofs.Ordered.{arcs-of, has-each}
+use Rattle.fp_timetable.proofs.PlanLegs.{GoesByArc, IsReady, IsReady-plan}
+use Rattle.fp_timetable.proofs.OrderedLines.{arcs-of, has-each}
 
 -- a leg of one route is a leg of all routes
 in-all : (routes : List (List Leg)) (j : ℕ) (k : Leg) → has_leg k (route_at routes j) ≡ true → has_leg k (all_legs routes) ≡ true

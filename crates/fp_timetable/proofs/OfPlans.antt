@@ -16,8 +16,8 @@ use Rattle.fp_model.specs.Routes.{Carries, arcs_of}
 use Rattle.fp_model.proofs.Bounds.{Leads-exist, length-lists_of}
 use Rattle.fp_timetable.specs.Order.{ArriveWithin}
 use Rattle.fp_lists.proofs.Elements.{AllByRecursion-append}
-use Rattle.fp_timetable.proofs.Carried.{AllRise}
-use Rattle.fp_timetable.proofs.Rising.{ArriveWithin-ready, Rise-ready}
+use Rattle.fp_timetable.proofs.DepartureLoads.{AllRise}
+use Rattle.fp_timetable.proofs.LegTimes.{ArriveWithin-ready, Rise-ready}
 
 -- each shipment is due within 32 bits
 abbrev AreDue : List Shipment → Type 0

@@ -23,10 +23,10 @@ use Rattle.fp_timetable.specs.declared.lines.TruckLine.{TruckLine}
 use Rattle.fp_timetable.specs.Lines.{AreLegLines, AreTruckLines, IsLegLine, departure, leg_line, line_leg}
 use Rattle.fp_lists.specs.Order.{Precedes}
 use Rattle.fp_timetable.specs.Order.{AreMerged, LineExists, lines_from, load_on, no_line, rank_of, size_on, truck_rank, with_trucks}
-use Rattle.fp_timetable.proofs.Apart.{leg_rank, rising-lines}
-use Rattle.fp_timetable.proofs.Carried.{AllRise, ShipmentsFrom, size_on-lines}
-use Rattle.fp_timetable.proofs.Gathered.{StandFrom-all, has_leg-get_or, lines_from-departures, lines_from-every, lines_from-legs}
-use Rattle.fp_timetable.proofs.OfPlans.{GoesByArc, IsReady, IsReady-plan}
+use Rattle.fp_timetable.proofs.LineRanks.{leg_rank, rising-lines}
+use Rattle.fp_timetable.proofs.DepartureLoads.{AllRise, ShipmentsFrom, size_on-lines}
+use Rattle.fp_timetable.proofs.AllLines.{StandFrom-all, has_leg-get_or, lines_from-departures, lines_from-every, lines_from-legs}
+use Rattle.fp_timetable.proofs.PlanLegs.{GoesByArc, IsReady, IsReady-plan}
 use Rattle.fp_timetable.proofs.Pairs.{EachPair, EachPair-AllPairs}
 use Rattle.fp_lists.proofs.Elements.{AllByRecursion-get_or}
 

@@ -1,5 +1,5 @@
 use Rattle.std.proofs.Common.{◌∙◌}
-use Rattle.fp_certificate.proofs.Differing.{ends-after}
+use Rattle.fp_fields.proofs.DistinctParts.{ends-after}
 use Rattle.fp_certificate.proofs.lookups.arc_ends.Goals as goal
 
 pub loop-arc-preserved : goal.loop-arc-preserved

@@ -1,4 +1,4 @@
-use Rattle.fp_certificate.proofs.Differing.{fresh-shipment}
+use Rattle.fp_fields.proofs.DistinctParts.{fresh-shipment}
 use Rattle.fp_certificate.proofs.lookups.shipment_names.Goals as goal
 
 pub add-requires : goal.add-requires

@@ -1,4 +1,4 @@
-use Rattle.fp_certificate.proofs.Differing.{fresh-name}
+use Rattle.fp_fields.proofs.DistinctParts.{fresh-name}
 use Rattle.fp_certificate.proofs.lookups.terminal_names.Goals as goal
 
 pub add-requires : goal.add-requires

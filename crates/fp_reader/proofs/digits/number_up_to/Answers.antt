@@ -1,8 +1,8 @@
 use Rattle.std.proofs.Common.{◌<◌, ◌-◌, ◌+◌, ◌*◌, get_or, drop, sym, ◌∙◌, arith, leb}
 use Rattle.std.proofs.lemmas.Bool.{and_right, lt-leb}
-use Rattle.fp_reader.specs.Fields.{number}
-use Rattle.fp_reader.proofs.Numerals.{value-grows, value-step}
-use Rattle.fp_reader.proofs.digits.number_up_to.Goals as goal
+use Rattle.fp_fields.specs.Fields.{number}
+use Rattle.fp_fields.proofs.Numerals.{value-grows, value-step}
+use Rattle.fp_fields.proofs.digits.number_up_to.Goals as goal
 
 pub returns-in_err-value : goal.returns-in_err-value
 returns-in_err-value c =

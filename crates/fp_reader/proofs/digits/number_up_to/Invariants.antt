@@ -1,7 +1,7 @@
 use Rattle.std.proofs.Common.{◌≡◌, ◌≤◌, drop}
 use Rattle.std.specs.Str.Parse.{digits_value_after}
-use Rattle.fp_reader.specs.Fields.{number}
-use Rattle.fp_reader.proofs.digits.number_up_to.Given as goal
+use Rattle.fp_fields.specs.Fields.{number}
+use Rattle.fp_fields.proofs.digits.number_up_to.Given as goal
 
 abbrev pub invariant-loop-digit : goal.invariant-loop-digit
 invariant-loop-digit l = record {

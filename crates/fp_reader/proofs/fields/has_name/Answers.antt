@@ -1,6 +1,6 @@
 use Rattle.std.proofs.lemmas.Bool.Decides.{same_from_decides}
-use Rattle.fp_reader.specs.Fields.{is_name}
-use Rattle.fp_reader.proofs.NameForm.{name-form, name-test}
+use Rattle.fp_fields.specs.Fields.{is_name}
+use Rattle.fp_fields.proofs.NameForm.{name-form, name-test}
 use Rattle.fp_reader.proofs.fields.has_name.Goals as goal
 
 pub returns : goal.returns

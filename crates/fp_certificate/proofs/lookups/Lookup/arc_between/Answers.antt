@@ -4,7 +4,7 @@ use Rattle.fp_model.specs.declared.parts.Arc.{Arc}
 use Rattle.fp_model.specs.Problem.{Problem}
 use Rattle.fp_reader.specs.Faults.{joins}
 use Rattle.fp_reader.proofs.Indexes.{same_ends}
-use Rattle.fp_reader.proofs.Places.{position-map}
+use Rattle.fp_fields.proofs.MappedLists.{position-map}
 use Rattle.fp_certificate.proofs.lookups.Lookup.arc_between.Goals as goal
 
 pub returns-in_err-number : goal.returns-in_err-number

@@ -3,8 +3,8 @@ use Rattle.std.specs.Prelude.{map}
 use Rattle.std.specs.Str.{bytes_eq}
 use Rattle.std.proofs.lemmas.List.{map-append}
 use Rattle.indexmap.specs.IndexSet.{insert_key}
-use Rattle.fp_reader.specs.Names.{is_taken}
-use Rattle.fp_reader.proofs.Places.{list_any-map}
+use Rattle.fp_fields.specs.Names.{is_taken}
+use Rattle.fp_fields.proofs.MappedLists.{list_any-map}
 use Rattle.fp_reader.proofs.numbering.Names.add.Goals as goal
 
 -- the names after one that was not taken

@@ -1,7 +1,7 @@
 use Rattle.std.proofs.Common.{◌∙◌, ap, Bor, List, ℕ}
 use Rattle.std.specs.Str.{bytes_eq}
-use Rattle.fp_reader.specs.Names.{number_of}
-use Rattle.fp_reader.proofs.Places.{position-map}
+use Rattle.fp_fields.specs.Names.{number_of}
+use Rattle.fp_fields.proofs.MappedLists.{position-map}
 use Rattle.fp_reader.proofs.numbering.Names.find.Goals as goal
 
 pub returns-clause-number : goal.returns-clause-number

@@ -1,7 +1,7 @@
 use Rattle.std.proofs.Common.{◌∙◌, ap, Bor, List, ℕ}
 use Rattle.std.specs.Str.{bytes_eq}
-use Rattle.fp_reader.specs.Names.{is_taken}
-use Rattle.fp_reader.proofs.Places.{list_any-map}
+use Rattle.fp_fields.specs.Names.{is_taken}
+use Rattle.fp_fields.proofs.MappedLists.{list_any-map}
 use Rattle.fp_reader.proofs.numbering.Names.has.Goals as goal
 
 pub returns : goal.returns
