@@ -16,7 +16,7 @@ use Rattle.fp_lists.proofs.Membership.{list_has-append, list_has-rest, list_has-
 use Rattle.fp_flatnet.specs.Initial.{BeginAt, initial_points}
 use Rattle.fp_lines.specs.Ranges.{IsPointInRange}
 use Rattle.fp_acceptance.specs.Points.{AreAddedPoints, ArePointsOf, points_with_added}
-use Rattle.fp_acceptance.proofs.RoundCounts.{RoundsAscend, count_in, few-in_all}
+use Rattle.fp_acceptance.proofs.RoundCounts.{RoundsAscend, count_in, length-count_in}
 
 -- a point is none of the initial ones
 abbrev pub IsNew : Problem → List Place → AddedPoint → Type 0
@@ -181,7 +181,7 @@ HaveAdded-ArePointsOf p anchors added v i valid made long range few =
         whole.few_first,
         ap (λ (qs : List AddedPoint). length qs) whole.added_is,
         valid.parts.few_terminals,
-        few-in_all 4001 added few (λ k d lt. omega (arith, (range k d lt).round.1)),
+        length-count_in 4001 added few (λ k d lt. omega (arith, (range k d lt).round.1)),
       );
       same = λ terminal round lt. HaveAdded-points_at p anchors added v terminal round whole lt;
     }
