@@ -1,7 +1,6 @@
 pub mod Results
 pub mod RoutesOfLines
 pub mod ToldPlans
-pub mod DepartureLines
 pub mod TreeNodes
 pub mod SharesInOrder
 pub mod LeavesPassed
