@@ -10,7 +10,7 @@ use Rattle.fp_prices.specs.declared.leaf_prices.LeafPrice.{LeafPrice}
 use Rattle.fp_prices.specs.declared.tables.Weight.{Weight}
 use Rattle.fp_prices.specs.Shares.{ClassShare}
 use Rattle.fp_prices.specs.Tables.{HasKind}
-use Rattle.fp_reader.specs.Fields.{is_number, is_within, number}
+use Rattle.fp_fields.specs.Fields.{is_number, is_within, number}
 use Rattle.fp_records.specs.Fields.{is_empty}
 use Rattle.fp_timenodes.specs.declared.places.AddedPoint.{AddedPoint}
 use Rattle.fp_timetable.specs.declared.lines.LegLine.{LegLine}
@@ -28,7 +28,7 @@ use Rattle.fp_certificate.specs.declared.groups.Group.TheVariants as group
 use Rattle.fp_certificate.specs.Answers.{with_answer, with_scale}
 use Rattle.fp_certificate.specs.Groups.{has_ended, is_misplaced}
 use Rattle.fp_certificate.specs.Points.{with_point}
-use Rattle.fp_lines.specs.Ranges.{IsAnswerInRange, IsLeafInRange, IsLegInRange, IsNodeInRange, IsPointInRange, IsScaleInRange, IsShareInRange, IsSplitInRange, IsTruckInRange, IsWeightInRange, largest}
+use Rattle.fp_lines.specs.Ranges.{IsAnswerInRange, IsLeafInRange, IsLegInRange, IsNodeInRange, IsPointInRange, IsScaleInRange, IsShareInRange, IsSplitInRange, IsTruckInRange, IsWeightInRange, largest_figure}
 use Rattle.fp_certificate.specs.Reading.{line_code, nothing_read, with_line}
 use Rattle.fp_lines.specs.Rows.{answer_fields, end_fields, kind_text, leaf_fields, leg_fields, mode_text, node_fields, point_fields, scale_fields, share_fields, split_fields, table_fields, truck_fields, weight_fields}
 use Rattle.fp_certificate.specs.Tables.{lacks_share, with_share, with_table, with_weight}
@@ -71,8 +71,8 @@ truck-step p before t v r open_still placed =
             load.is,
             arc,
             within-back 0 100000 t.depart (omega arith) r.depart depart,
-            within-back 0 largest t.trucks (omega arith) r.trucks trucks,
-            within-back 0 largest t.load (omega arith) r.load load,
+            within-back 0 largest_figure t.trucks (omega arith) r.trucks trucks,
+            within-back 0 largest_figure t.load (omega arith) r.load load,
           ) refl;
       gives = rw (arc, depart.value, trucks.value, load.value) refl;
     }
@@ -135,7 +135,7 @@ share-step p before s v r open_still placed some =
             v-back.is,
             arc,
             within-back 0 100000 s.point (omega arith) r.point point,
-            within-back 0 largest s.v (omega arith) r.price v-back,
+            within-back 0 largest_figure s.v (omega arith) r.price v-back,
           ) refl;
       gives = rw (arc, point.value, v-back.value) refl;
     }
@@ -147,7 +147,7 @@ weight-step p before w v r open_still placed some =
     let shipment = shipment-back p w.shipment v r.shipment in
     let back = large-back w.w r.small in
     record {
-      clean = rw (open_still, placed, some, back.is, shipment, within-back 0 largest w.w (omega arith) r.small back) refl;
+      clean = rw (open_still, placed, some, back.is, shipment, within-back 0 largest_figure w.w (omega arith) r.small back) refl;
       gives = rw (shipment, back.value) refl;
     }
 
@@ -223,20 +223,20 @@ pub end-step : (p : Problem) (before : Draft) → has_ended before ≡ false →
 end-step p before open_still placed = record { clean = rw (open_still, placed) refl; gives = refl }
 
 -- the answer, which stands first
-unfinished-step : (p : Problem) (cost bound : ℕ) (s : Spent) → cost ≤ largest → bound ≤ largest
+unfinished-step : (p : Problem) (cost bound : ℕ) (s : Spent) → cost ≤ largest_figure → bound ≤ largest_figure
     → IsStep p nothing_read (answer_fields p (answer.Unfinished cost bound s)) (with_answer nothing_read (answer.Unfinished cost bound s))
 unfinished-step p cost bound spent.Rounds costs bounds =
     let cost-is = large-back cost costs in
     let bound-is = large-back bound bounds in
     record {
-      clean = rw (cost-is.is, bound-is.is, within-back 0 largest cost (omega arith) costs cost-is, within-back 0 largest bound (omega arith) bounds bound-is) refl;
+      clean = rw (cost-is.is, bound-is.is, within-back 0 largest_figure cost (omega arith) costs cost-is, within-back 0 largest_figure bound (omega arith) bounds bound-is) refl;
       gives = rw (cost-is.value, bound-is.value) refl;
     }
 unfinished-step p cost bound spent.Branches costs bounds =
     let cost-is = large-back cost costs in
     let bound-is = large-back bound bounds in
     record {
-      clean = rw (cost-is.is, bound-is.is, within-back 0 largest cost (omega arith) costs cost-is, within-back 0 largest bound (omega arith) bounds bound-is) refl;
+      clean = rw (cost-is.is, bound-is.is, within-back 0 largest_figure cost (omega arith) costs cost-is, within-back 0 largest_figure bound (omega arith) bounds bound-is) refl;
       gives = rw (cost-is.value, bound-is.value) refl;
     }
 
@@ -257,9 +257,9 @@ infeasible-step p shipment (Some time) v there fast =
 pub answer-step : (p : Problem) (a : Answer) → IsValid p → IsAnswerInRange p a → IsStep p nothing_read (answer_fields p a) (with_answer nothing_read a)
 answer-step p (answer.Direct cost) v r =
     let back = large-back cost r in
-    record { clean = rw (back.is, within-back 0 largest cost (omega arith) r back) refl; gives = rw back.value refl }
+    record { clean = rw (back.is, within-back 0 largest_figure cost (omega arith) r back) refl; gives = rw back.value refl }
 answer-step p (answer.Optimal cost) v r =
     let back = large-back cost r in
-    record { clean = rw (back.is, within-back 0 largest cost (omega arith) r back) refl; gives = rw back.value refl }
+    record { clean = rw (back.is, within-back 0 largest_figure cost (omega arith) r back) refl; gives = rw back.value refl }
 answer-step p (answer.Unfinished cost bound s) v r = unfinished-step p cost bound s r.0 r.1
 answer-step p (answer.Infeasible shipment time) v r = infeasible-step p shipment time v r.0 r.1

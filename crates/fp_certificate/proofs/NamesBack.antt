@@ -10,9 +10,10 @@ use Rattle.std.proofs.lemmas.Slice.Eq.{bytes_eq-Decides}
 use Rattle.fp_model.specs.declared.parts.Shipment.{Shipment}
 use Rattle.fp_model.specs.Numbered.{no_shipment}
 use Rattle.fp_model.specs.Problem.{IsArc, IsValid, Problem, arc_at, no_arc}
-use Rattle.fp_reader.specs.Faults.{joins, shipment_names}
-use Rattle.fp_reader.specs.Names.{number_of}
-use Rattle.fp_certificate.specs.Places.{arc_named, shipment_named, terminal_named}
+use Rattle.fp_fields.specs.Indexes.{shipment_names}
+use Rattle.fp_fields.specs.NamedParts.{joins}
+use Rattle.fp_fields.specs.Names.{number_of}
+use Rattle.fp_fields.specs.NamedParts.{arc_named, shipment_named, terminal_named}
 use Rattle.fp_lines.specs.Rows.{head_name, shipment_name, tail_name, terminal_name}
 
 -- the first place that passes
@@ -33,14 +34,14 @@ pub terminal-back : (p : Problem) (terminal : ℕ) → IsValid p → terminal < 
 terminal-back p terminal v within = name-back p.terminals terminal v.terminals_differ within
 
 -- the name of a shipment, in the list of names
-name-at : (p : Problem) (k : ℕ) → get_or (shipment_names p) k [] ≡ shipment_name p k
+name-at : (p : Problem) (k : ℕ) → get_or (shipment_names p.shipments) k [] ≡ shipment_name p k
 name-at p k = get_or-map (λ (s : Shipment). s.name) p.shipments k no_shipment
 
 pub shipment-back : (p : Problem) (shipment : ℕ) → IsValid p → shipment < length p.shipments → shipment_named p (shipment_name p shipment) ≡ Some shipment
 shipment-back p shipment v within =
     let name = shipment_name p shipment in
-    let there : shipment < length (shipment_names p) = rw length-map within in
-    first-place (bytes_eq name) (shipment_names p) shipment [] there (rw (name-at p shipment) ((bytes_eq-Decides name name).1 refl))
+    let there : shipment < length (shipment_names p.shipments) = rw length-map within in
+    first-place (bytes_eq name) (shipment_names p.shipments) shipment [] there (rw (name-at p shipment) ((bytes_eq-Decides name name).1 refl))
     (λ k before. rw (name-at p k) (false_from_ne_true (bytes_eq name (shipment_name p k)) (λ same.
     v.shipments_differ k shipment no_shipment before within (sym ((bytes_eq-Decides name (shipment_name p k)).0 same)))))
 

@@ -13,7 +13,7 @@ use Rattle.fp_prices.specs.declared.leaf_prices.Kind.TheVariants as price
 use Rattle.fp_prices.specs.declared.tables.Weight.{Weight}
 use Rattle.fp_prices.specs.Shares.{ClassShare}
 use Rattle.fp_prices.specs.Tables.{HasKind}
-use Rattle.fp_reader.proofs.NameForm.{name-test}
+use Rattle.fp_fields.proofs.NameForm.{name-test}
 use Rattle.fp_records.specs.Fields.{is_empty}
 use Rattle.fp_records.specs.Text.{is_plain, is_plain_field, is_plain_record}
 use Rattle.fp_timenodes.specs.declared.places.AddedPoint.{AddedPoint}

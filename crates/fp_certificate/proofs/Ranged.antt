@@ -9,11 +9,11 @@ use Rattle.fp_prices.specs.declared.leaf_prices.Kind.{Kind}
 use Rattle.fp_prices.specs.declared.leaf_prices.Kind.TheVariants as price
 use Rattle.fp_prices.specs.Shares.{ClassShare}
 use Rattle.fp_prices.specs.Tables.{AreCountable, HasKind}
-use Rattle.fp_reader.specs.Faults.{first_code}
-use Rattle.fp_reader.specs.Fields.{has_number, is_between, number_at}
-use Rattle.fp_reader.specs.Input.{Fault, first_fault}
-use Rattle.fp_reader.proofs.Fits.{between}
-use Rattle.fp_reader.proofs.Tables.{clear}
+use Rattle.fp_fields.specs.Findings.{first_code}
+use Rattle.fp_fields.specs.Fields.{has_number, is_between, number_at, has_word}
+use Rattle.fp_fields.specs.Faults.{first_fault, Fault}
+use Rattle.fp_fields.proofs.Numerals.{is_between-limits}
+use Rattle.fp_fields.proofs.FaultTables.{clear}
 use Rattle.fp_lines.specs.declared.certificates.Answer.{Answer}
 use Rattle.fp_lines.specs.declared.certificates.Node.{Node}
 use Rattle.fp_lines.specs.declared.certificates.Node.TheVariants.{Branch}
@@ -22,10 +22,10 @@ use Rattle.fp_certificate.specs.declared.drafts.Draft.{Draft}
 use Rattle.fp_certificate.specs.declared.groups.Group.TheVariants as group
 use Rattle.fp_certificate.specs.declared.kinds.LineKind.{LineKind}
 use Rattle.fp_certificate.specs.declared.kinds.LineKind.TheVariants.{Direct, Optimal, Unfinished, Infeasible, Scale, Leg, Truck, Point, Table, Share, Weight, ByArc, ByTime, Leaf, End}
-use Rattle.fp_certificate.specs.Answers.{has_bad_scale, has_time, has_time_in_range, has_unfinished_digits, has_word, is_small, time_in}
+use Rattle.fp_certificate.specs.Answers.{has_bad_scale, has_time, has_time_in_range, has_unfinished_digits, time_in, is_figure}
 use Rattle.fp_certificate.specs.Groups.{has_ended, is_misplaced}
 use Rattle.fp_certificate.specs.Kinds.{kind_of}
-use Rattle.fp_certificate.specs.Places.{lacks_arc, lacks_shipment, lacks_terminal}
+use Rattle.fp_fields.specs.NamedParts.{lacks_arc, lacks_shipment, lacks_terminal}
 use Rattle.fp_certificate.specs.Points.{point_in}
 use Rattle.fp_lines.specs.Ranges.{IsAnswerInRange, IsInRange, IsLegInRange, IsNodeInRange, IsPointInRange, IsScaleInRange, IsShareInRange, IsTruckInRange, IsWeightInRange}
 use Rattle.fp_certificate.specs.Reading.{certificate_from, faults_of, finished, kind_code, line_code, nothing_read, with_kind, with_kind_of, with_line}
@@ -81,7 +81,7 @@ time-range fields h = elim (cases_Bool (has_word (codes "none") fields 3)) [
   | inl none ↦ rw none tt
   | inr some ↦
       let limit : is_between 0 10000000 fields 3 ≡ true = rw some at h in
-      rw some (between 0 10000000 fields 3 limit).1
+      rw some (is_between-limits 0 10000000 fields 3 limit).1
 ]
 
 -- a scale
@@ -90,7 +90,7 @@ scale-range p fields h =
     let limits = is_between 1 (10 ^ 9) fields 1 in
     let weight = weight_at (number_at fields 1) p.arcs p.shipments in
     let parts = and_parts limits (nat_lt weight (2 ^ 127)) (not-false (limits && nat_lt weight (2 ^ 127)) h) in
-    let range = between 1 (10 ^ 9) fields 1 parts.0 in
+    let range = is_between-limits 1 (10 ^ 9) fields 1 parts.0 in
     record { least = range.0; most = range.1; fits = ltb-true weight (2 ^ 127) parts.1 }
 
 -- the kind of a leaf's prices
@@ -101,7 +101,7 @@ kind-range tables fields h = elim (cases_Bool (has_word (codes "linear") fields 
     | inl even ↦ rw (other, even) tt
     | inr table ↦
         let limit : is_between 1 (length tables) fields 1 ≡ true = rw (other, table) at h in
-        rw (other, table) (between 1 (length tables) fields 1 limit)
+        rw (other, table) (is_between-limits 1 (length tables) fields 1 limit)
   ]
 ]
 
@@ -112,20 +112,20 @@ kind-ranged p before Direct fields h r =
     let count = clear 22 (not (length fields == 3)) h in
     let digits = clear 23 (not (has_number fields 2)) count.later in
     let order = clear 24 (is_misplaced before group.Answer) digits.later in
-    let range = clear 28 (not (is_small fields 2)) order.later in
-    with-answer p before.certificate _ (small fields 2 (not-false (is_small fields 2) range.here)) r
+    let range = clear 28 (not (is_figure fields 2)) order.later in
+    with-answer p before.certificate _ (small fields 2 (not-false (is_figure fields 2) range.here)) r
 kind-ranged p before Optimal fields h r =
     let count = clear 22 (not (length fields == 3)) h in
     let digits = clear 23 (not (has_number fields 2)) count.later in
     let order = clear 24 (is_misplaced before group.Answer) digits.later in
-    let range = clear 28 (not (is_small fields 2)) order.later in
-    with-answer p before.certificate _ (small fields 2 (not-false (is_small fields 2) range.here)) r
+    let range = clear 28 (not (is_figure fields 2)) order.later in
+    with-answer p before.certificate _ (small fields 2 (not-false (is_figure fields 2) range.here)) r
 kind-ranged p before Unfinished fields h r =
     let count = clear 22 (not (length fields == 5)) h in
     let digits = clear 23 (not (has_unfinished_digits fields)) count.later in
     let order = clear 24 (is_misplaced before group.Answer) digits.later in
-    let range = clear 28 (not (is_small fields 2 && is_small fields 3)) order.later in
-    let parts = and_parts (is_small fields 2) (is_small fields 3) (not-false (is_small fields 2 && is_small fields 3) range.here) in
+    let range = clear 28 (not (is_figure fields 2 && is_figure fields 3)) order.later in
+    let parts = and_parts (is_figure fields 2) (is_figure fields 3) (not-false (is_figure fields 2 && is_figure fields 3) range.here) in
     with-answer p before.certificate _ (small fields 2 parts.0, small fields 3 parts.1) r
 kind-ranged p before Infeasible fields h r =
     let count = clear 22 (not (length fields == 4)) h in
@@ -167,9 +167,9 @@ kind-ranged p before Truck fields h r =
     let digits = clear 23 (not (has_number fields 3 && has_number fields 4 && has_number fields 5)) count.later in
     let order = clear 24 (is_misplaced before group.Trucks) digits.later in
     let name = clear 25 (lacks_arc p fields 1 2) order.later in
-    let range = clear 28 (not (is_time fields 3 && is_small fields 4 && is_small fields 5)) name.later in
-    let three = and_parts (is_time fields 3 && is_small fields 4) (is_small fields 5) (not-false (is_time fields 3 && is_small fields 4 && is_small fields 5) range.here) in
-    let two = and_parts (is_time fields 3) (is_small fields 4) three.0 in
+    let range = clear 28 (not (is_time fields 3 && is_figure fields 4 && is_figure fields 5)) name.later in
+    let three = and_parts (is_time fields 3 && is_figure fields 4) (is_figure fields 5) (not-false (is_time fields 3 && is_figure fields 4 && is_figure fields 5) range.here) in
+    let two = and_parts (is_time fields 3) (is_figure fields 4) three.0 in
     let truck : IsTruckInRange p (truck_in p fields) = record {
       exists = arc-there p fields 1 2 name.here;
       depart = in-time fields 3 two.0;
@@ -195,7 +195,7 @@ kind-ranged p before Point fields h r =
     let point : IsPointInRange p (point_in p fields) = record {
       terminal = terminal-there p fields 1 name.here;
       time = in-time fields 2 limits.0;
-      round = between 1 4000 fields 3 limits.1;
+      round = is_between-limits 1 4000 fields 3 limits.1;
     } in
     record {
       answer = r.answer;
@@ -218,8 +218,8 @@ kind-ranged p before Share fields h r =
     let digits = clear 23 (not (has_number fields 3 && has_number fields 4)) count.later in
     let order = clear 24 _ digits.later in
     let name = clear 25 (lacks_arc p fields 1 2) order.later in
-    let range = clear 28 (not (is_time fields 3 && is_small fields 4)) name.later in
-    let limits = and_parts (is_time fields 3) (is_small fields 4) (not-false (is_time fields 3 && is_small fields 4) range.here) in
+    let range = clear 28 (not (is_time fields 3 && is_figure fields 4)) name.later in
+    let limits = and_parts (is_time fields 3) (is_figure fields 4) (not-false (is_time fields 3 && is_figure fields 4) range.here) in
     let fits : IsShareInRange p share = record {
       arc = arc-there p fields 1 2 name.here;
       point = in-time fields 3 limits.0;
@@ -236,10 +236,10 @@ kind-ranged p before Weight fields h r =
     let digits = clear 23 (not (has_number fields 2)) count.later in
     let order = clear 24 _ digits.later in
     let name = clear 25 (lacks_shipment p fields 1) order.later in
-    let range = clear 28 (not (is_small fields 2)) name.later in
+    let range = clear 28 (not (is_figure fields 2)) name.later in
     let fits : IsWeightInRange p weight = record {
       shipment = shipment-there p fields 1 name.here;
-      small = small fields 2 (not-false (is_small fields 2) range.here);
+      small = small fields 2 (not-false (is_figure fields 2) range.here);
     } in
     let more : (share : ClassShare) → IsShareInRange p share → IsShareInRange p (and_weight weight share) = λ share s. record {
       arc = s.arc;
@@ -274,7 +274,7 @@ kind-ranged p before Leaf fields h r =
     (not-false (has_leaf_ranges (length tables) fields) range.here) in
     let fits : IsNodeInRange p tables (leaf_in fields) = record {
       kind = kind-range tables fields limits.0;
-      round = (between 0 4000 fields 2 limits.1).1;
+      round = (is_between-limits 0 4000 fields 2 limits.1).1;
     } in
     with-node p before.certificate (leaf_in fields) fits r
 kind-ranged p before End fields h r = r

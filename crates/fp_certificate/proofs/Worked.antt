@@ -1,7 +1,7 @@
 -- What reading says of a worked certificate and of altered ones.
 use Rattle.std.proofs.Common.{◌≡◌, ℕ, List, [], ◌∷◌, ◌++◌, refl}
 use Rattle.std.specs.Prelude.{Result, Ok, Err, codes}
-use Rattle.fp_reader.specs.Input.{Fault}
+use Rattle.fp_fields.specs.Faults.{Fault}
 use Rattle.fp_certificate.specs.Reading.{certificate_of}
 use Rattle.fp_lines.specs.Statements.{Statement}
 use Rattle.fp_lines.proofs.Worked.{answer, best, last, leaf, leg, records, small, truck, whole}

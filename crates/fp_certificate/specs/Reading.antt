@@ -1,9 +1,9 @@
 -- The certificate that records give, or their first fault.
 use Rattle.std.specs.Prelude.{ℕ, ◌+◌, List, [], ◌∷◌, if◌then◌else◌, Option, Some, None, Result, Ok, Err}
 use Rattle.fp_model.specs.Problem.{Problem}
-use Rattle.fp_reader.specs.Faults.{Finding, first_code}
-use Rattle.fp_reader.specs.Fields.{number_at}
-use Rattle.fp_reader.specs.Input.{Fault, first_fault}
+use Rattle.fp_fields.specs.Findings.{Finding, first_code}
+use Rattle.fp_fields.specs.Fields.{number_at}
+use Rattle.fp_fields.specs.Faults.{first_fault, Fault}
 use Rattle.fp_lines.specs.declared.certificates.Answer.TheVariants as answer
 use Rattle.fp_certificate.specs.declared.drafts.Draft.{Draft}
 use Rattle.fp_certificate.specs.declared.kinds.LineKind.{LineKind}

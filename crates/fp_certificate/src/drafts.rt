@@ -1,4 +1,4 @@
-// What the lines of a certificate have given so far.
+//! What the lines of a certificate have given so far.
 ghost use Rattle.std.specs.Prelude.{◌≡◌, ◌<◌, false, length, MatchResult, Ok, OnOk};
 ghost use Rattle.fp_certificate.specs.Answers.{with_answer, with_scale};
 ghost use Rattle.fp_certificate.specs.Groups.{has_ended, is_misplaced};

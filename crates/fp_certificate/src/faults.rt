@@ -1,4 +1,4 @@
-// Why records give no certificate.
+//! Why records give no certificate.
 use std::alloc::AllocError;
 use thiserror::Error;
 

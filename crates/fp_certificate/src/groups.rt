@@ -1,4 +1,4 @@
-// The groups of a certificate's lines, and where they can stand.
+//! The groups of a certificate's lines, and where they can stand.
 ghost use Rattle.std.specs.Prelude.{◌≡◌};
 ghost use Rattle.fp_certificate.specs.Groups.{is_after_answer, is_before_end, is_beyond_direct, is_forbidden, is_misplaced_after, place_of};
 

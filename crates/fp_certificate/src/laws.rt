@@ -1,4 +1,4 @@
-// That a written certificate is read back.
+//! That a written certificate is read back.
 ghost use Rattle.std.specs.Prelude.{All};
 ghost use Rattle.fp_model.specs.declared.parts.Shipment.{Shipment};
 ghost use Rattle.fp_model.specs.Names.{IsName};

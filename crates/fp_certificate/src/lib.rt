@@ -13,7 +13,6 @@ mod leaf_lines;
 mod leg_lines;
 mod line_faults;
 mod line_fields;
-mod lookups;
 mod open_tables;
 mod point_lines;
 mod reading;
@@ -27,9 +26,9 @@ mod weight_lines;
 pub use faults::CertFault;
 pub use fp_lines::{Answer, Certificate, Node, Spent, write};
 pub use laws::written_reads_back;
-pub use reading::read;
+pub use reading::{read, read_with_index};
 
-/// No memory was found.
+/// The error of a call that finds no memory.
 pub type NoMemory = std::alloc::AllocError;
 
 #[cfg(test)]

@@ -17,15 +17,15 @@ use Rattle.fp_lines.specs.declared.certificates.Node.{Node}
 use Rattle.fp_lines.specs.declared.certificates.Node.TheVariants.{Branch, Leaf}
 use Rattle.fp_lines.specs.Statements.{Statement}
 
--- the largest number that a field may have where no other limit is named
-abbrev pub largest : ℕ
-largest = 2 ^ 127 - 1
+-- the largest_figure number that a field may have where no other limit is named
+abbrev pub largest_figure : ℕ
+largest_figure = 2 ^ 127 - 1
 
 -- costs and bounds are no larger than a field may be, a shipment exists, and a fastest time is at most 10,000,000
 abbrev pub IsAnswerInRange : Problem → Answer → Type 0
-IsAnswerInRange p (Direct cost) = cost ≤ largest
-IsAnswerInRange p (Optimal cost) = cost ≤ largest
-IsAnswerInRange p (Unfinished cost bound spent) = (cost ≤ largest) × (bound ≤ largest)
+IsAnswerInRange p (Direct cost) = cost ≤ largest_figure
+IsAnswerInRange p (Optimal cost) = cost ≤ largest_figure
+IsAnswerInRange p (Unfinished cost bound spent) = (cost ≤ largest_figure) × (bound ≤ largest_figure)
 IsAnswerInRange p (Infeasible shipment time) = (shipment < length p.shipments) × IfSome time (λ t. t ≤ 10000000)
 
 -- a scale is 1 to 1,000,000,000 and fits the instance
@@ -44,8 +44,8 @@ pub record IsLegInRange (p : Problem) (l : LegLine) : Type 0 where
 pub record IsTruckInRange (p : Problem) (t : TruckLine) : Type 0 where
   pub exists : TruckExists p t
   pub depart : t.depart ≤ 100000
-  pub trucks : t.trucks ≤ largest
-  pub load : t.load ≤ largest
+  pub trucks : t.trucks ≤ largest_figure
+  pub load : t.load ≤ largest_figure
 
 -- a point's terminal exists, its time is at most 100,000, and its round is 1 to 4,000
 pub record IsPointInRange (p : Problem) (point : AddedPoint) : Type 0 where
@@ -56,13 +56,13 @@ pub record IsPointInRange (p : Problem) (point : AddedPoint) : Type 0 where
 -- a weight's shipment exists, and it is no larger than a field may be
 pub record IsWeightInRange (p : Problem) (weight : Weight) : Type 0 where
   pub shipment : weight.shipment < length p.shipments
-  pub small : weight.w ≤ largest
+  pub small : weight.w ≤ largest_figure
 
 -- a share's arc exists, its point is at most 100,000, its price is no larger than a field may be, and its weights are in range
 pub record IsShareInRange (p : Problem) (share : ClassShare) : Type 0 where
   pub arc : share.arc < length p.arcs
   pub point : share.point ≤ 100000
-  pub price : share.v ≤ largest
+  pub price : share.v ≤ largest_figure
   pub weights : All (IsWeightInRange p) share.weights
 
 -- a split's shipment, arc and terminal exist, and its time is at most 100,000

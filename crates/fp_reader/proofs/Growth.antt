@@ -11,11 +11,13 @@ use Rattle.fp_model.specs.declared.parts.Arc.{Arc}
 use Rattle.fp_model.specs.declared.parts.Shipment.{Shipment}
 use Rattle.fp_model.specs.Names.{IsName}
 use Rattle.fp_model.specs.Problem.{Problem, IsArc, IsShipment, EndsDiffer}
-use Rattle.fp_reader.specs.Drafts.{IsSound, names_of}
-use Rattle.fp_reader.specs.Faults.{has_arc, joins}
-use Rattle.fp_reader.specs.Names.{is_taken}
+use Rattle.fp_fields.specs.Indexes.{shipment_names}
+use Rattle.fp_fields.specs.NamedParts.{joins}
+use Rattle.fp_reader.specs.Drafts.{IsSound}
+use Rattle.fp_reader.specs.Faults.{has_arc}
+use Rattle.fp_fields.specs.Names.{is_taken}
 use Rattle.fp_reader.specs.Parts.{with_arc, with_shipment, with_terminal}
-use Rattle.fp_reader.proofs.Places.{list_any-map}
+use Rattle.fp_fields.proofs.MappedLists.{list_any-map}
 
 -- a name that is not taken differs from each of the names
 fresh-name : (names : List (List ℕ)) (name : List ℕ) → is_taken names name ≡ false
@@ -83,15 +85,15 @@ more-arcs p arc s within fresh room =
     }
 
 -- a shipment whose name is not taken differs from each of the shipments by its name
-fresh-shipment : (shipments : List Shipment) (s : Shipment) → is_taken (names_of shipments) s.name ≡ false
+fresh-shipment : (shipments : List Shipment) (s : Shipment) → is_taken (shipment_names shipments) s.name ≡ false
     → (k : ℕ) (d : Shipment) → k < length shipments → (get_or shipments k d).name ≢ s.name
 fresh-shipment shipments s h k d lt same =
-    both_ways (is_taken (names_of shipments) s.name) h
+    both_ways (is_taken (shipment_names shipments) s.name) h
     (sym (list_any-map (bytes_eq s.name) (λ (t : Shipment). t.name) shipments)
     ∙ list_any_at (λ (t : Shipment). bytes_eq s.name t.name) shipments k d lt ((bytes_eq-Decides s.name (get_or shipments k d).name).1 (sym same)))
 
 -- one more shipment
-pub more-shipments : (p : Problem) (t : Shipment) → IsSound p → IsShipment (length p.terminals) t → is_taken (names_of p.shipments) t.name ≡ false
+pub more-shipments : (p : Problem) (t : Shipment) → IsSound p → IsShipment (length p.terminals) t → is_taken (shipment_names p.shipments) t.name ≡ false
     → length p.shipments < 500 → IsSound (with_shipment p t)
 more-shipments p t s within fresh room =
     let more : length (p.shipments ++ (t ∷ [])) ≡ length p.shipments + 1 = length-append p.shipments (t ∷ []) in

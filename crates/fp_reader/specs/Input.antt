@@ -1,21 +1,12 @@
 -- The instance that records give, or their first fault.
-use Rattle.std.specs.Prelude.{ℕ, ◌+◌, ◌^◌, List, [], ◌∷◌, Bool, not, nat_le, if◌then◌else◌, Option, Some, None, Result, Ok, Err, codes, take_while}
+use Rattle.std.specs.Prelude.{ℕ, ◌+◌, ◌^◌, List, [], ◌∷◌, Bool, not, nat_le, if◌then◌else◌, Result, Ok, Err, codes, take_while}
 use Rattle.fp_model.specs.Problem.{Problem, weight}
 use Rattle.fp_reader.specs.declared.reading.Tail.{Tail}
 use Rattle.fp_reader.specs.declared.reading.Tail.TheVariants.{Alone, Certificate}
 use Rattle.fp_reader.specs.Faults.{record_code}
-use Rattle.fp_reader.specs.Fields.{is_kind}
+use Rattle.fp_fields.specs.Faults.{Fault, first_fault}
+use Rattle.fp_fields.specs.Fields.{is_kind}
 use Rattle.fp_reader.specs.Parts.{nothing_read, with_record}
-
--- a fault of an input: the ordinal of its record, from 1, or 0 for the input as a whole, and its code
-pub record Fault : Type 0 where
-  pub ordinal : ℕ
-  pub code : ℕ
-
--- the fault of the record with this ordinal, if it has a code, or else what is read with the records after it
-abbrev pub first_fault : {A : Type 0} → ℕ → Option ℕ → Result A Fault → Result A Fault
-first_fault ordinal (Some code) rest = Err (record { ordinal = ordinal; code = code })
-first_fault ordinal None rest = rest
 
 -- what records give, where `ordinal` is that of the first of them and `before` is what those before it have given:
 -- the first record with a fault decides

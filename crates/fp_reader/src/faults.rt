@@ -1,4 +1,4 @@
-// Why an input gives no instance.
+//! Why an input gives no instance.
 use thiserror::Error;
 
 /// Why an input gives no instance.

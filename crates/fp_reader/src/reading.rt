@@ -1,14 +1,16 @@
-// Reads an instance.
+//! Reads an instance.
 ghost use Rattle.std.specs.Prelude.{◌≡◌, ◌≤◌, ◌-◌, ◌^◌, ◌<◌, ℕ, length, not, take, Ok, Err, IfOk, MatchResult};
 ghost use Rattle.std.specs.List.{prefix_len};
+ghost use Rattle.fp_fields.specs.Indexes.{entries_of};
 ghost use Rattle.fp_reader.specs.Answers.{IsFirst};
 ghost use Rattle.fp_reader.specs.Input.{input_of, instance_records, is_answer, parts_from};
 ghost use Rattle.fp_reader.specs.Parts.{nothing_read};
 
-use crate::additions::{AddFault, add_record};
+use crate::additions::add_record;
 use crate::drafts::Draft;
 use crate::faults::InputFault;
-use crate::fields::is_of_kind;
+use fp_fields::fields::is_of_kind;
+use fp_fields::{Index, RecordError};
 use fp_model::Instance;
 use fp_records::Record;
 use std::alloc::Global;
@@ -27,6 +29,18 @@ pub enum Tail {
 pub struct Read {
     /// The instance.
     pub instance: Instance,
+    /// The number of its records: all that were given, or those before the certificate.
+    pub used: usize,
+}
+
+/// An instance with the index of its names and ends, which keeps the names as they stand in the
+/// records, and how many records it took.
+#[derive(Drop)]
+pub struct IndexedRead<'a> {
+    /// The instance.
+    pub instance: Instance,
+    /// Its index.
+    pub index: Index<'a>,
     /// The number of its records: all that were given, or those before the certificate.
     pub used: usize,
 }
@@ -65,13 +79,13 @@ fn draft_of(alloc: Global, lines: &[Record]) -> Result<Draft<'_>, InputFault>
     for (place, line) in lines.iter().enumerate() {
         draft = match add_record(alloc, draft, line) {
             Ok(more) => more,
-            Err(AddFault::Record(fault)) => {
+            Err(RecordError::Fault(fault)) => {
                 return Err(InputFault::Bad {
                     ordinal: place as u32 + 1,
                     code: fault.code(),
                 });
             }
-            Err(AddFault::NoMemory) => return Err(InputFault::NoMemory),
+            Err(RecordError::NoMemory) => return Err(InputFault::NoMemory),
         };
     }
     Ok(draft)
@@ -99,10 +113,33 @@ pub fn instance(alloc: Global, lines: &[Record], tail: Tail) -> Result<Read, Inp
     ensures read { IfOk result (λ r. (input_of tail lines.now ≡ Ok r.instance) × (r.used ≡ length (instance_records tail lines.now))) }
     ensures bad { (ordinal code : ℕ) → result ≡ Err (InputFault.Bad ordinal code) → input_of tail lines.now ≡ Err (record { ordinal = ordinal; code = code }) }
 {
+    let read = instance_with_index(alloc, lines, tail)?;
+    Ok(Read {
+        instance: read.instance,
+        used: read.used,
+    })
+}
+
+/// What [`instance`] reads, with the index of the instance's names and ends, for a reader of what
+/// follows.
+pub fn instance_with_index(
+    alloc: Global,
+    lines: &[Record],
+    tail: Tail,
+) -> Result<IndexedRead<'_>, InputFault>
+    requires { length lines.now < 2 ^ 32 - 1 }
+    ensures read { IfOk result (λ r. (input_of tail lines.now ≡ Ok r.instance) × (r.used ≡ length (instance_records tail lines.now))) }
+    ensures index { IfOk result (λ r. r.index ≡ entries_of r.instance) }
+    ensures bad { (ordinal code : ℕ) → result ≡ Err (InputFault.Bad ordinal code) → input_of tail lines.now ≡ Err (record { ordinal = ordinal; code = code }) }
+{
     let used = instance_len(lines, tail);
     let draft = draft_of(alloc, &lines[..used])?;
     match draft.into_instance() {
-        Some(instance) => Ok(Read { instance, used }),
+        Some((instance, index)) => Ok(IndexedRead {
+            instance,
+            index,
+            used,
+        }),
         None => Err(InputFault::Bad {
             ordinal: 0,
             code: 12,

@@ -6,10 +6,9 @@ use Rattle.fp_reader.proofs.drafts.Draft.with_arc.Goals as goal
 
 pub invariant_of-result : goal.invariant_of-result
 invariant_of-result c =
-    let d = c.self.inside in
     let arc = c.args.arc in
-    rw (c.in_ok-push.ensures.items, c.in_ok-insert.ensures.keys)
-    (index-arc _ d.terminal_names d.arc_ends.keys d.shipment_names arc c.self.invariant
+    rw (c.in_ok-push.ensures.items, c.in_ok-add_arc.ensures.ok)
+    (index-arc _ c.self.inside.index arc c.self.invariant
     (subst (λ (p : Problem). IsArc (length p.terminals) arc) (sym c.self.view_is) c.requires.arc)
     (subst (λ (p : Problem). has_arc p arc.from arc.to ≡ false) (sym c.self.view_is) c.requires.fresh)
     (rw (ap (λ (p : Problem). p.arcs) c.self.view_is) c.requires.room))
