@@ -12,7 +12,7 @@ use Rattle.fp_model.proofs.Sums.{sum_by-each, sum_by-map}
 use Rattle.fp_timetable.specs.declared.lines.TruckLine.{TruckLine}
 use Rattle.fp_timetable.specs.Lines.{AreTruckLines, Precedes, departure}
 use Rattle.fp_timetable.proofs.Pairs.{EachPair, EachPair-AllPairs}
-use Rattle.fp_checker.specs.Plans.{line_cost}
+use Rattle.fp_checker.specs.Lines.{line_cost}
 
 -- one departure stands before another
 abbrev IsBefore : Leg → Leg → Type 0

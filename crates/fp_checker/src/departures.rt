@@ -6,7 +6,7 @@ ghost use Rattle.fp_model.specs.Costs.{cost, flow_cost, flow_total, lists_of};
 ghost use Rattle.fp_model.specs.Plans.{IsPlan};
 ghost use Rattle.fp_model.specs.Routes.{ArcsExist};
 ghost use Rattle.fp_timetable.specs.Lines.{AreTruckLines, TruckExists};
-ghost use Rattle.fp_checker.specs.Plans.{line_cost};
+ghost use Rattle.fp_checker.specs.Lines.{line_cost};
 
 use fp_model::{Instance, Leg, Plan};
 use fp_timetable::TruckLine;

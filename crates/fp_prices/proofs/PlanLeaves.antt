@@ -11,7 +11,7 @@ use Rattle.fp_model.proofs.Places.{at-map, from-places, unmapped}
 use Rattle.fp_tree.specs.declared.sides.Side.{Side}
 use Rattle.fp_tree.specs.Sides.{Exit, Fork, MeetsAll, Obeys}
 use Rattle.fp_tree.specs.Trees.{AnyByRecursion, HaveTails, IsTree, Leaf, LeaveApart, tree_leaves}
-use Rattle.fp_tree.proofs.Covers.{covers}
+use Rattle.fp_tree.proofs.Cover.{CoversAll-tree_leaves}
 use Rattle.fp_allowed.specs.Allowed.{PlanObeys, exit_of, tails_of}
 use Rattle.fp_prices.proofs.ClassPrices.{each-at}
 
@@ -61,4 +61,4 @@ plan-obeys-leaf {X} p fork_of nodes d plan told tree is =
     let routes : List (List Exit) = map (map (exit_of p)) plan in
     any-weaker (λ (l : Leaf X). Obeys d routes l.sides) (λ (l : Leaf X). PlanObeys p d l.sides plan) (λ l. obeys-plan p d l.sides plan)
     (tree_leaves fork_of nodes)
-    (covers (tails_of p) fork_of nodes told tree d routes (λ k. each-at (LeaveApart (tails_of p)) routes k [] (plan-apart p d p.shipments plan is) tt))
+    (CoversAll-tree_leaves (tails_of p) fork_of nodes told tree d routes (λ k. each-at (LeaveApart (tails_of p)) routes k [] (plan-apart p d p.shipments plan is) tt))

@@ -1,4 +1,4 @@
-use Rattle.fp_flatnet.proofs.Entries.{rows_of-set}
+use Rattle.fp_flatnet.proofs.WindowEntries.{rows_of-set}
 use Rattle.fp_flatnet.proofs.window_tables.set_entry.Goals as goal
 
 pub returns-clause-set : goal.returns-clause-set

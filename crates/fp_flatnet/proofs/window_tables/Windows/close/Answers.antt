@@ -2,8 +2,8 @@ use Rattle.std.proofs.Common.{◌≡◌, ◌<◌, length, sym, ap, subst, arith}
 use Rattle.std.proofs.lemmas.Grind.{common_steps}
 use Rattle.fp_flatnet.specs.Belonging.{BelongsTo}
 use Rattle.fp_flatnet.specs.Tables.{WindowTable, rows_of}
-use Rattle.fp_flatnet.proofs.Belonging.{BelongsTo-closed}
-use Rattle.fp_flatnet.proofs.Entries.{full-rows, length-rows_of}
+use Rattle.fp_flatnet.proofs.WindowChanges.{BelongsTo-closed}
+use Rattle.fp_flatnet.proofs.WindowEntries.{full-rows, length-rows_of}
 use Rattle.fp_flatnet.proofs.window_tables.Windows.close.Goals as goal
 
 pub set_entry-requires-clause-arc : goal.set_entry-requires-clause-arc

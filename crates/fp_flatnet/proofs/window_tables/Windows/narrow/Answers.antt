@@ -7,8 +7,8 @@ use Rattle.std.specs.declared.vec.Vec.{Vec}
 use Rattle.fp_flatnet.specs.declared.window_tables.Window.{Window}
 use Rattle.fp_flatnet.specs.Belonging.{BelongsTo}
 use Rattle.fp_flatnet.specs.Tables.{WindowTable, CanNarrow, rows_of, with_entry}
-use Rattle.fp_flatnet.proofs.Belonging.{BelongsTo-narrowed}
-use Rattle.fp_flatnet.proofs.Entries.{can_narrow-exists, table_of}
+use Rattle.fp_flatnet.proofs.WindowChanges.{BelongsTo-narrowed}
+use Rattle.fp_flatnet.proofs.WindowEntries.{can_narrow-exists, table_of}
 use Rattle.fp_flatnet.proofs.window_tables.Windows.narrow.Goals as goal
 
 pub index-terminal-requires : goal.index-terminal-requires
