@@ -12,7 +12,7 @@ use Rattle.fp_flatnet.specs.Tables.{windows_in}
 use Rattle.fp_longestarcs.specs.Ascending.{ArePoints}
 use Rattle.fp_longestarcs.specs.Networks.{IsClass, TimedNetwork, points_in, tail_in}
 use Rattle.fp_longestarcs.proofs.ClassNumbers.{tail-points}
-use Rattle.fp_longestarcs.proofs.Lengthened.{arc-count, tail-of}
+use Rattle.fp_longestarcs.proofs.HeadLists.{arc-count, tail-of}
 use Rattle.fp_longestarcs.proofs.Places.{StandsAt, stands}
 use Rattle.fp_tree.specs.declared.sides.Side.{Side}
 use Rattle.fp_tree.specs.declared.sides.Side.TheVariants.{Without, Only, Before, From}

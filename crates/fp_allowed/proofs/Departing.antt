@@ -28,7 +28,7 @@ narrowed-in_time p s a anchors (Some w) due is = (is.some, omega (arith, is.hi, 
 -- windows that belong to an instance are in time
 pub windows_in_time : (p : Problem) (table : WindowTable) (k a : ℕ) → BelongsTo p table → k < length p.shipments → a < length p.arcs → IfSome (windows_in table k a) IsInTime
 windows_in_time p table k a belongs shipment arc =
-    narrowed-in_time p (shipment_at p k) a table.anchors (windows_in table k a) (belongs.valid.shipments k no_shipment shipment).within.due (belongs.narrowed k a shipment arc)
+    narrowed-in_time p (shipment_at p k) a table.anchors (windows_in table k a) (belongs.valid.parts.shipments k no_shipment shipment).within.due (belongs.narrowed k a shipment arc)
 
 -- what the concerned sides let leave in a window are the departures in it
 departures-let : (p : Problem) (k arc : ℕ) (sides own : List Side) (w : Window) → own ≡ concerned p k (tails_of p arc) sides →

@@ -13,10 +13,10 @@ use Rattle.fp_flatnet.specs.declared.window_tables.Window.{Window}
 use Rattle.fp_flatnet.specs.Belonging.{BelongsTo, IsNarrowed}
 use Rattle.fp_flatnet.specs.Initial.{BeginAt, dues_at, initial_points, releases_at}
 use Rattle.fp_flatnet.specs.Tables.{WindowTable, windows_in}
-use Rattle.fp_longestarcs.specs.Changes.{points_with}
+use Rattle.fp_longestarcs.specs.Changes.{extended_points}
 use Rattle.fp_longestarcs.specs.Networks.{TimedNetwork, points_in}
 use Rattle.fp_longestarcs.specs.Properties.{HasShipmentTimes}
-use Rattle.fp_longestarcs.proofs.Same.{has-with}
+use Rattle.fp_longestarcs.proofs.EqualNetworks.{has-with}
 use Rattle.fp_allowed.specs.InitialPoints.{HasInitialPoints}
 use Rattle.fp_allowed.specs.SamePoints.{AgreeOnPoints}
 
@@ -45,7 +45,7 @@ pub HasInitialPoints_same : (p : Problem) (anchors : List Place) (points others 
 HasInitialPoints_same p anchors points others same initial = λ terminal at h has. sym (same terminal h at) ∙ initial terminal at h has
 
 -- and a network with one more point, as `lengthen` leaves it
-pub HasInitialPoints-points_with : (p : Problem) (anchors : List Place) (old new : TimedNetwork) (terminal at : ℕ) → terminal < length old.points → new.points ≡ points_with old terminal at →
+pub HasInitialPoints-points_with : (p : Problem) (anchors : List Place) (old new : TimedNetwork) (terminal at : ℕ) → terminal < length old.points → new.points ≡ extended_points old terminal at →
     HasInitialPoints p anchors (points_in old) → HasInitialPoints p anchors (points_in new)
 HasInitialPoints-points_with p anchors old new terminal at within grown =
     HasInitialPoints_more p anchors (points_in old) (points_in new) (λ t q h has.
@@ -84,7 +84,7 @@ module _ (p : Problem) (anchors : List Place) (points : ℕ → List ℕ) (initi
 
   -- so the points have each shipment's times
   pub HasInitialPoints-HasShipmentTimes : IsValid p → HasShipmentTimes p points
-  HasInitialPoints-HasShipmentTimes valid = λ k d h. (initial-release k d h (valid.shipments k d h).from, initial-due k d h (valid.shipments k d h).to)
+  HasInitialPoints-HasShipmentTimes valid = λ k d h. (initial-release k d h (valid.parts.shipments k d h).from, initial-due k d h (valid.parts.shipments k d h).to)
 
   -- each anchor is a point
   pub initial-anchor : (place : Place) → place.terminal < length p.terminals → Contains anchors place → has_point (points place.terminal) place.at ≡ true
@@ -113,7 +113,7 @@ window-begins p table points k a w belongs initial shipment arc has leaves = beg
         let at_once : narrowed.wide.lo ≡ s.release =
         omega (arith, narrowed.is_window.lo, cond-true (nat_eq (arc_at p a).from s.from) 0 (narrowed.is_window.before + hold_at p (arc_at p a).from) test) in
         subst (λ (n : ℕ). has_point (points (arc_at p a).from) n ≡ true) (sym (same ∙ at_once))
-        (subst (λ (t : ℕ). has_point (points t) s.release ≡ true) (sym leaves) (initial-release p table.anchors points initial k no_shipment shipment (belongs.valid.shipments k no_shipment shipment).from)))
+        (subst (λ (t : ℕ). has_point (points t) s.release ≡ true) (sym leaves) (initial-release p table.anchors points initial k no_shipment shipment (belongs.valid.parts.shipments k no_shipment shipment).from)))
         (λ (other : w.lo ≢ narrowed.wide.lo).
-        initial-anchor p table.anchors points initial (record { terminal = (arc_at p a).from; at = w.lo }) (belongs.valid.arcs a no_arc arc).from (narrowed.anchored other))
+        initial-anchor p table.anchors points initial (record { terminal = (arc_at p a).from; at = w.lo }) (belongs.valid.parts.arcs a no_arc arc).from (narrowed.anchored other))
         (cases_eq w.lo narrowed.wide.lo)

@@ -30,7 +30,7 @@ module _ (p : Problem) (valid : IsValid p) (points others : ℕ → List ℕ) (s
   has_moment_same sides k c (Some w) h =
       some_below_same (w.hi + 1) (is_moment p points sides k c w) (is_moment p others sides k c w) (λ m.
       ap (λ (n : ℕ). nat_eq n c.depart && nat_le w.lo m && nat_le m w.hi && meets_all k sides (exit_of p (record { arc = c.arc; depart = m })))
-      (floor_same (points (tails_of p c.arc)) (others (tails_of p c.arc)) 1 m (same (tails_of p c.arc) (valid.arcs c.arc no_arc h).from)))
+      (floor_same (points (tails_of p c.arc)) (others (tails_of p c.arc)) 1 m (same (tails_of p c.arc) (valid.parts.arcs c.arc no_arc h).from)))
 
   one_allowed : (windows : ℕ → ℕ → Option Window) (sides : List Side) (k : ℕ) (c : Leg) → is_allowed p windows points sides k c ≡ is_allowed p windows others sides k c
   one_allowed windows sides k c =
@@ -49,11 +49,11 @@ module _ (p : Problem) (valid : IsValid p) (points others : ℕ → List ℕ) (s
   pub class_of_same : (d : ℕ) (l : Leg) → l.arc < length p.arcs → class_of p points d l ≡ class_of p others d l
   class_of_same d l h =
       ap (λ (n : ℕ). let c : Leg = record { arc = l.arc; depart = n } in c)
-      (floor_same (points (arc_at p l.arc).from) (others (arc_at p l.arc).from) d l.depart (same (arc_at p l.arc).from (valid.arcs l.arc no_arc h).from))
+      (floor_same (points (arc_at p l.arc).from) (others (arc_at p l.arc).from) d l.depart (same (arc_at p l.arc).from (valid.parts.arcs l.arc no_arc h).from))
 
   -- a class has the same head
   pub head_of_same : (c : Leg) → c.arc < length p.arcs → head_of p points c ≡ head_of p others c
-  head_of_same c h = floor_same (points (arc_at p c.arc).to) (others (arc_at p c.arc).to) 1 (c.depart + step p c.arc) (same (arc_at p c.arc).to (valid.arcs c.arc no_arc h).to)
+  head_of_same c h = floor_same (points (arc_at p c.arc).to) (others (arc_at p c.arc).to) 1 (c.depart + step p c.arc) (same (arc_at p c.arc).to (valid.parts.arcs c.arc no_arc h).to)
 
   -- so a walk follows the same heads
   pub FollowsHeads_same : (here there ready : ℕ) (walk : List Leg) → Leads p here (arcs_of walk) there → FollowsHeads p points ready walk → FollowsHeads p others ready walk

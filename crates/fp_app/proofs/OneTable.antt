@@ -68,15 +68,15 @@ row-long p table belongs k ship = long table.rows k belongs.arcs (omega (arith, 
     long rows k all lt = search rules
 
 -- so the tables are one
-pub windows-one : (p : Problem) (one two : WindowTable) → AreWindowsOf p one → AreWindowsOf p two → one ≡ two
-windows-one p one two first second =
+pub AreWindowsOf_unique : (p : Problem) (one two : WindowTable) → AreWindowsOf p one → AreWindowsOf p two → one ≡ two
+AreWindowsOf_unique p one two first second =
     let long : length one.rows ≡ length two.rows = omega (arith, first.belongs.shipments, second.belongs.shipments) in
     let rows : one.rows ≡ two.rows = ext_get_or [] one.rows two.rows long (λ k lt.
     let ship : k < length p.shipments = omega (arith, lt, first.belongs.shipments) in
     ext_get_or None (slice_index_or one.rows k []) (slice_index_or two.rows k [])
     (row-long p one first.belongs k ship ∙ sym (row-long p two second.belongs k ship))
     (λ a at. entry-same p one two first second k a ship (omega (arith, at, row-long p one first.belongs k ship)))) in
-    same-table one two (first.belongs.tails ∙ sym second.belongs.tails) rows (first.bare ∙ sym second.bare)
+    same-table one two (first.belongs.tails ∙ sym second.belongs.tails) rows (first.unanchored ∙ sym second.unanchored)
   where
     same-table : (one two : WindowTable) → one.tails ≡ two.tails → one.rows ≡ two.rows → one.anchors ≡ two.anchors → one ≡ two
     same-table one two tails rows anchors =

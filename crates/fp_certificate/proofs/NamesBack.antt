@@ -31,7 +31,7 @@ name-back names i differ within =
     (λ k before. false_from_ne_true (bytes_eq name (get_or names k [])) (λ same. differ k i [] before within (sym ((bytes_eq-Decides name (get_or names k [])).0 same))))
 
 pub terminal-back : (p : Problem) (terminal : ℕ) → IsValid p → terminal < length p.terminals → terminal_named p (terminal_name p terminal) ≡ Some terminal
-terminal-back p terminal v within = name-back p.terminals terminal v.terminals_differ within
+terminal-back p terminal v within = name-back p.terminals terminal v.parts.terminals_differ within
 
 -- the name of a shipment, in the list of names
 name-at : (p : Problem) (k : ℕ) → get_or (shipment_names p.shipments) k [] ≡ shipment_name p k
@@ -43,11 +43,11 @@ shipment-back p shipment v within =
     let there : shipment < length (shipment_names p.shipments) = rw length-map within in
     first-place (bytes_eq name) (shipment_names p.shipments) shipment [] there (rw (name-at p shipment) ((bytes_eq-Decides name name).1 refl))
     (λ k before. rw (name-at p k) (false_from_ne_true (bytes_eq name (shipment_name p k)) (λ same.
-    v.shipments_differ k shipment no_shipment before within (sym ((bytes_eq-Decides name (shipment_name p k)).0 same)))))
+    v.parts.shipments_differ k shipment no_shipment before within (sym ((bytes_eq-Decides name (shipment_name p k)).0 same)))))
 
 -- an arc of a valid instance
 pub arc-valid : (p : Problem) (arc : ℕ) → IsValid p → arc < length p.arcs → IsArc (length p.terminals) (arc_at p arc)
-arc-valid p arc v within = v.arcs arc no_arc within
+arc-valid p arc v within = v.parts.arcs arc no_arc within
 
 pub arc-back : (p : Problem) (arc : ℕ) → IsValid p → arc < length p.arcs → arc_named p (tail_name p arc) (head_name p arc) ≡ Some arc
 arc-back p arc v within =
@@ -57,5 +57,5 @@ arc-back p arc v within =
     let fails : (k : ℕ) → k < arc → joins a.from a.to (arc_at p k) ≡ false = λ k before. false_from_ne_true (joins a.from a.to (arc_at p k)) (λ same.
     let b = arc_at p k in
     let parts = and_parts (eqb a.from b.from) (eqb a.to b.to) same in
-    v.arcs_differ k arc no_arc before within (sym (eqb-true a.from b.from parts.0)) (sym (eqb-true a.to b.to parts.1))) in
+    v.parts.arcs_differ k arc no_arc before within (sym (eqb-true a.from b.from parts.0)) (sym (eqb-true a.to b.to parts.1))) in
     rw (terminal-back p a.from v is.from, terminal-back p a.to v is.to) (first-place (joins a.from a.to) p.arcs arc no_arc within passes fails)

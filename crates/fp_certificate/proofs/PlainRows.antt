@@ -59,7 +59,7 @@ plain-name name is =
 
 -- what a terminal, a shipment and the ends of an arc are called
 terminal-plain : (p : Problem) (terminal : ℕ) → IsValid p → terminal < length p.terminals → is_plain_field (terminal_name p terminal) ≡ true
-terminal-plain p terminal v there = plain-name (terminal_name p terminal) (v.names terminal [] there)
+terminal-plain p terminal v there = plain-name (terminal_name p terminal) (v.parts.names terminal [] there)
 
 shipment-plain : (p : Problem) (shipment : ℕ) → HaveNames p → shipment < length p.shipments → is_plain_field (shipment_name p shipment) ≡ true
 shipment-plain p shipment named there = plain-name (shipment_name p shipment) (named shipment no_shipment there)

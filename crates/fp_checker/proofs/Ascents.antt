@@ -22,10 +22,6 @@ pairs-from_neighbours {X} R goes xs n near long i j d less lt =
     subst (λ (k : ℕ). R (get_or xs i d) (get_or xs k d)) on
     (over-distance R goes xs i (j - i - 1) d (λ k e h. near k e (omega (arith, h, long))) (omega (arith, on, lt)))
 
--- it doesn't where two neighbours are out of order
-pub no-pairs : {X : Type 0} (R : X → X → Type 0) (xs : List X) (i : ℕ) (d : X) → 0 < i → i < length xs → (R (get_or xs (i - 1) d) (get_or xs i d) → ⊥) → AllPairs R xs → ⊥
-no-pairs R xs i d some lt out pairs = out (pairs (i - 1) i d (omega (arith, some)) lt)
-
 -- the order of pairs goes from pair to pair
 pub Precedes-trans : (a b c d e f : ℕ) → Precedes a b c d → Precedes c d e f → Precedes a b e f
 Precedes-trans a b c d e f first second =

@@ -1,8 +1,5 @@
-pub mod Accepting
 pub mod Ascents
-pub mod Failing
-pub mod RoundCounts
-pub mod AddedOneByOne
+pub mod Results
 pub mod RoutesOfLines
 pub mod ToldPlans
 pub mod DepartureLines

@@ -1,4 +1,4 @@
-// What a plan costs, from its departures and their trucks.
+//! What a plan costs, from its departures and their trucks.
 ghost use Rattle.std.specs.Prelude.{◌≡◌, ◌*◌, ◌<◌, ◌^◌, ◌↔◌, All, IsTrue, length, sum_by};
 ghost use Rattle.std.specs.declared.alloc.Global.{Global};
 ghost use Rattle.std.specs.declared.vec.Vec.{Vec};

@@ -9,7 +9,6 @@ mod added_points;
 mod checks;
 mod departures;
 mod fastest_times;
-mod laws;
 mod leaves;
 mod orders;
 mod plans;
@@ -18,7 +17,6 @@ mod rejections;
 mod trees;
 
 pub use checks::{check, plan_of};
-pub use laws::accepted_claims;
 pub use rejections::Rejected;
 
 /// The error of a call that finds no memory.

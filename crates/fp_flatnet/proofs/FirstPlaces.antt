@@ -61,17 +61,17 @@ BeginAt-first_places p anchors = record {
 }
 
 -- they are at terminals of the instance, and in time
-pub first_places-are : (p : Problem) (table : WindowTable) → BelongsTo p table → All (IsPlace (length p.terminals)) (first_places p table.anchors)
+first_places-are : (p : Problem) (table : WindowTable) → BelongsTo p table → All (IsPlace (length p.terminals)) (first_places p table.anchors)
 first_places-are p table belongs =
     All-append (IsPlace (length p.terminals)) (map release_place p.shipments ++ map due_place p.shipments) table.anchors
     (All-append (IsPlace (length p.terminals)) (map release_place p.shipments) (map due_place p.shipments)
     (λ k d lt.
     let there : k < length p.shipments = omega (arith, lt, length-map p.shipments release_place) in
-    let shipment = belongs.valid.shipments k no_shipment there in
+    let shipment = belongs.valid.parts.shipments k no_shipment there in
     rw (get_or-map release_place p.shipments k no_shipment d there) (shipment.from, omega (arith, shipment.window, shipment.within.due)))
     (λ k d lt.
     let there : k < length p.shipments = omega (arith, lt, length-map p.shipments due_place) in
-    let shipment = belongs.valid.shipments k no_shipment there in
+    let shipment = belongs.valid.parts.shipments k no_shipment there in
     rw (get_or-map due_place p.shipments k no_shipment d there) (shipment.to, omega (arith, shipment.within.due))))
     belongs.places
 
@@ -100,6 +100,6 @@ length-places p table places belongs same =
       length-append (map release_place p.shipments) (map due_place p.shipments),
       length-map p.shipments release_place,
       length-map p.shipments due_place,
-      belongs.valid.few_shipments,
+      belongs.valid.parts.few_shipments,
       belongs.few_anchors,
     )

@@ -10,13 +10,14 @@ use Rattle.fp_model.specs.declared.parts.Leg.{Leg}
 use Rattle.fp_model.specs.Problem.{Problem, arc_at}
 use Rattle.fp_timenodes.specs.declared.places.TheConstants.{LATEST}
 use Rattle.fp_timenodes.specs.Floor.{has_point}
+use Rattle.fp_longestarcs.specs.declared.networks.TheConstants.{MOST_CLASSES}
 use Rattle.fp_longestarcs.specs.Classes.{head_of}
 use Rattle.fp_longestarcs.specs.Ascending.{place_of, ArePoints, IsCut}
 use Rattle.fp_longestarcs.specs.Networks.{TimedNetwork, points_in, tail_in, heads_in, kept_head, IsArcOfClass, IsClass, copy_count, class_count, first_class, class_number, IsNetwork}
 use Rattle.fp_longestarcs.specs.Vectors.{AreOffsets}
-use Rattle.fp_longestarcs.specs.Whole.{HasArcsOf, IsWhole}
+use Rattle.fp_longestarcs.specs.Whole.{HasArcsOf, IsWholeNetwork}
 use Rattle.fp_longestarcs.proofs.Places.{at-place, place-at}
-use Rattle.fp_longestarcs.proofs.Lengthened.{arc-count, tail-of, whole-heads}
+use Rattle.fp_longestarcs.proofs.HeadLists.{arc-count, tail-of, whole-heads}
 
 -- the points of an arc's tail
 pub tail-points : (net : TimedNetwork) (arc : ℕ) → IsNetwork net → arc < length net.tails → ArePoints (points_in net (tail_in net arc))
@@ -38,7 +39,7 @@ class-of-arc p net arc point has exists there = (
 )
 
 -- in a whole network the head that is kept is the greatest
-pub kept-greatest : (p : Problem) (net : TimedNetwork) (c : Leg) → IsWhole p net → IsClass net c → kept_head net c ≡ head_of p (points_in net) c
+pub kept-greatest : (p : Problem) (net : TimedNetwork) (c : Leg) → IsWholeNetwork p net → IsClass net c → kept_head net c ≡ head_of p (points_in net) c
 kept-greatest p net c whole is =
     let there = class-place net c whole.valid is in
     let here : c.arc < length p.arcs = omega (arith, is.0, arc-count p net whole.arcs) in
@@ -119,7 +120,7 @@ few-copies points (tail ∷ tails) are =
         (cases_lt tail (length points))
 
 -- so all classes have numbers of 32 bits
-pub few-classes : (net : TimedNetwork) → IsNetwork net → class_count net ≤ 100001000
+pub few-classes : (net : TimedNetwork) → IsNetwork net → class_count net ≤ MOST_CLASSES
 few-classes net valid = omega (arith, few-copies net.points net.tails valid.points, valid.few)
 
 -- the last arc whose first class is not after a number is the arc of the class

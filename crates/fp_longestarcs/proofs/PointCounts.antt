@@ -14,12 +14,12 @@ use Rattle.fp_timenodes.specs.Floor.{has_point, HaveSamePoints}
 use Rattle.fp_timenodes.specs.Points.{TimePoints, points_at, times_at, added_at}
 use Rattle.fp_longestarcs.specs.Ascending.{ArePoints, IsPlace, place_of}
 use Rattle.fp_longestarcs.specs.Networks.{TimedNetwork, IsNetwork, points_in, point_count}
-use Rattle.fp_longestarcs.specs.Changes.{points_with}
+use Rattle.fp_longestarcs.specs.Changes.{extended_points}
 use Rattle.fp_longestarcs.proofs.Places.{place-of, tail-ascends}
-use Rattle.fp_longestarcs.proofs.Same.{first-before}
+use Rattle.fp_longestarcs.proofs.EqualNetworks.{first-before}
 
 -- a new point is one more
-pub count-with : (net : TimedNetwork) (terminal at : ℕ) → IsNetwork net → terminal < length net.points → sum_by (λ (qs : List ℕ). length qs) (points_with net terminal at) ≡ point_count net + 1
+pub count-with : (net : TimedNetwork) (terminal at : ℕ) → IsNetwork net → terminal < length net.points → sum_by (λ (qs : List ℕ). length qs) (extended_points net terminal at) ≡ point_count net + 1
 count-with net terminal at valid within =
     let qs : List ℕ = points_in net terminal in
     let are : ArePoints qs = valid.points terminal [] within in
@@ -149,7 +149,8 @@ sum-lengths (l ∷ lists) g a each =
       sum-lengths lists g (a + 1) (λ k t h e. each (suc k) t (omega arith) (omega arith)),
     )
 
--- a network with the points as of a round has no more points than there are zeros, places of the start and added points
+-- a network with the points as of a round has no more points than there are zeros, places of the
+-- start and added points
 pub count-made : (v : TimePoints) (round : ℕ) (net : TimedNetwork) → IsNetwork net → ((terminal : ℕ) → terminal < length net.points → HaveSamePoints (points_in net terminal) (points_at v terminal round)) →
     point_count net ≤ length net.points + length v.first + length v.added
 count-made v round net valid same =

@@ -1,3 +1,4 @@
+//! Look-ups among points in ascending order.
 ghost use Rattle.std.specs.Prelude.{◌≡◌};
 ghost use Rattle.std.specs.List.Sorted.{IsNonDecreasing};
 ghost use Rattle.fp_timenodes.specs.Floor.{has_point, floor_point};

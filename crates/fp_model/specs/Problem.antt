@@ -79,8 +79,8 @@ pub record IsShipment (terminals : ℕ) (s : Shipment) : Type 0 where
 abbrev pub EndsDiffer : Arc → Arc → Type 0
 EndsDiffer a b = a.from ≡ b.from → a.to ≢ b.to
 
--- every limit holds, there is one hold per terminal, names and ordered ends differ, and the weight and the scale are within their limits
-pub record IsValid (p : Problem) : Type 0 where
+-- the parts are sound in themselves: every limit on them holds, there is one hold per terminal, and names and ordered ends differ
+pub record HasSoundParts (p : Problem) : Type 0 where
   pub few_terminals : length p.terminals ≤ MOST_TERMINALS
   pub few_arcs : length p.arcs ≤ MOST_ARCS
   pub few_shipments : length p.shipments ≤ MOST_SHIPMENTS
@@ -90,9 +90,13 @@ pub record IsValid (p : Problem) : Type 0 where
   pub terminals_differ : AllPairs (λ m n. m ≢ n) p.terminals
   pub arcs_differ : AllPairs EndsDiffer p.arcs
   pub shipments_differ : AllPairs (λ (s t : Shipment). s.name ≢ t.name) p.shipments
-  pub weight : weight p.arcs p.shipments < 2 ^ 127
   pub one_each : length p.holds ≡ length p.terminals
   pub holds : All (λ h. h ≤ GREATEST_HOLD) p.holds
+
+-- the parts are sound, and the weight and the scale are within their limits
+pub record IsValid (p : Problem) : Type 0 where
+  pub parts : HasSoundParts p
+  pub weight : weight p.arcs p.shipments < 2 ^ 127
   pub scale : (1 ≤ p.scale) × (p.scale ≤ GREATEST_SCALE)
   pub fits : weight_at p.scale p.arcs p.shipments < 2 ^ 127
 

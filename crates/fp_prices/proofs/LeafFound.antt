@@ -12,7 +12,7 @@ use Rattle.fp_timenodes.specs.Points.{TimePoints, points_at}
 use Rattle.fp_flatnet.specs.Belonging.{BelongsTo}
 use Rattle.fp_flatnet.specs.Tables.{WindowTable, windows_in}
 use Rattle.fp_longestarcs.specs.Networks.{TimedNetwork, class_count, points_in}
-use Rattle.fp_longestarcs.specs.Whole.{IsNetworkOf, IsWhole}
+use Rattle.fp_longestarcs.specs.Whole.{IsNetworkOf, IsWholeNetwork}
 use Rattle.fp_tree.specs.declared.sides.Side.{Side}
 use Rattle.fp_allowed.specs.Bits.{allowed_in}
 use Rattle.fp_allowed.specs.Settings.{IsSetting, Setting}
@@ -52,7 +52,7 @@ pub record IsPrepared (p : Problem) (windows : WindowTable) (net : TimedNetwork)
   pub forced_of : AreForcedOf (setting_of p windows net) rows is_forced forced
 
 pub prepared : (p : Problem) (windows : WindowTable) (net : TimedNetwork) (sides : List Side) (rows others : List (List Bool)) (is_forced : Bool) (forced : ForcedClasses) (s : Setting) → s ≡ setting_of p windows net →
-    BelongsTo p windows → IsWhole p net → AreRowsUnder s sides rows → others ≡ rows → AreForcedOf s others is_forced forced → IsPrepared p windows net sides rows is_forced forced
+    BelongsTo p windows → IsWholeNetwork p net → AreRowsUnder s sides rows → others ≡ rows → AreForcedOf s others is_forced forced → IsPrepared p windows net sides rows is_forced forced
 prepared p windows net sides rows others is_forced forced s is belongs whole under same forced_of = record {
   valid = belongs.valid;
   setting = record { belongs = belongs; whole = whole };

@@ -63,8 +63,8 @@ leaf-walks p windows points sides tables kind forced value walks valid leaf long
     record {
       long = long;
       sizes = sizes-agree p;
-      sized = sizes-some (length p.terminals) p.shipments valid.shipments;
-      capacity = λ c h. (All-get_or (IsArc (length p.terminals)) p.arcs c.arc no_arc (used-exist p points allowed 0 p.shipments walks c timed h) valid.arcs).within.capacity.0;
+      sized = sizes-some (length p.terminals) p.shipments valid.parts.shipments;
+      capacity = λ c h. (All-get_or (IsArc (length p.terminals)) p.arcs c.arc no_arc (used-exist p points allowed 0 p.shipments walks c timed h) valid.parts.arcs).within.capacity.0;
       few = λ c. users-few (λ j. allowed j c) 0 p.shipments walks c long (used-allowed p points allowed 0 p.shipments walks c timed);
       among = chains-among p points allowed forced 0 p.shipments leaf.chains walks leaf.are_chains timed;
     }

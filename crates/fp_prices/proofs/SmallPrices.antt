@@ -39,8 +39,8 @@ pub price-small : (p : Problem) (tables : List (List ClassShare)) (allowed : ℕ
 price-small p tables allowed kind c k valid keep exists arc_exists is =
     let size : ℕ = (shipment_at p k).size in
     let price : ℕ → ℕ = λ j. truck_price p tables allowed kind c j size in
-    let some : 1 ≤ size = (All-get_or (IsShipment (length p.terminals)) p.shipments k no_shipment exists valid.shipments).within.size.0 in
-    let capacity : 1 ≤ (arc_at p c.arc).capacity = (All-get_or (IsArc (length p.terminals)) p.arcs c.arc no_arc arc_exists valid.arcs).within.capacity.0 in
+    let some : 1 ≤ size = (All-get_or (IsShipment (length p.terminals)) p.shipments k no_shipment exists valid.parts.shipments).within.size.0 in
+    let capacity : 1 ≤ (arc_at p c.arc).capacity = (All-get_or (IsArc (length p.terminals)) p.arcs c.arc no_arc arc_exists valid.parts.arcs).within.capacity.0 in
     let number : 0 + k ≡ k = omega arith in
     let few : 1 ≤ allowed_count (λ j. allowed j c) 0 p.shipments =
     allowed_count-some (λ j. allowed j c) 0 k p.shipments exists (subst (λ (n : ℕ). allowed n c ≡ true) (sym number) is) in

@@ -293,18 +293,20 @@ empty = record { shipment = 0; exists = lit< tt; none = none }
 -- the instance is valid, so no plan within the windows costs less than 300
 valid : IsValid crossing
 valid = record {
-  few_terminals = lit≤ tt;
-  few_arcs = lit≤ tt;
-  few_shipments = lit≤ tt;
-  names = search rules;
-  arcs = search rules;
-  shipments = search rules;
-  terminals_differ = search rules;
-  arcs_differ = search rules;
-  shipments_differ = search rules;
+  parts = record {
+    few_terminals = lit≤ tt;
+    few_arcs = lit≤ tt;
+    few_shipments = lit≤ tt;
+    names = search rules;
+    arcs = search rules;
+    shipments = search rules;
+    terminals_differ = search rules;
+    arcs_differ = search rules;
+    shipments_differ = search rules;
+    one_each = refl;
+    holds = search rules;
+  };
   weight = lit< tt;
-  one_each = refl;
-  holds = search rules;
   scale = (lit≤ tt, lit≤ tt);
   fits = lit< tt;
 }

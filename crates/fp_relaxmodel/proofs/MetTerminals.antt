@@ -72,7 +72,7 @@ entered-next p stops i d lt =
 
 -- the ends of an arc are among the terminals, of which there are at most a hundred
 pub arc-within : (p : Problem) (a : ℕ) → IsValid p → a < length p.arcs → ((arc_at p a).from < length p.terminals) × ((arc_at p a).to < 100)
-arc-within p a valid lt = ((valid.arcs a no_arc lt).from, omega (arith, (valid.arcs a no_arc lt).to, valid.few_terminals))
+arc-within p a valid lt = ((valid.parts.arcs a no_arc lt).from, omega (arith, (valid.parts.arcs a no_arc lt).to, valid.parts.few_terminals))
 
 -- terminals are apart exactly where those that are entered from the next class on are new
 pub decides-next : (A : Type 0) (p : Problem) (met : List Bool) (stops : List Stop) (i : ℕ) (d : Stop) (to : ℕ) → i < length stops → to ≡ (arc_at p (get_or stops i d).arc).to → to < length met → get_or met to false ≡ false →

@@ -53,8 +53,8 @@ walks-short p (s ∷ ss) (w ∷ walks) few routes = All-cons IsShort w walks (om
 
 -- walks that are routes of the shipments are short enough
 pub HasRoutes-few_legs : (p : Problem) (walks : List (List Leg)) → IsValid p → HasRoutes p walks → All (λ walk. length walk < 2 ^ 32 - 1) walks
-HasRoutes-few_legs p walks valid routes = walks-short p p.shipments walks valid.few_arcs routes
+HasRoutes-few_legs p walks valid routes = walks-short p p.shipments walks valid.parts.few_arcs routes
 
 -- and few enough
 pub HasRoutes-few_walks : (p : Problem) (walks : List (List Leg)) → IsValid p → HasRoutes p walks → length walks < 2 ^ 32 - 1
-HasRoutes-few_walks p walks valid routes = omega (arith, HasRoutes-long p walks routes, valid.few_shipments)
+HasRoutes-few_walks p walks valid routes = omega (arith, HasRoutes-long p walks routes, valid.parts.few_shipments)

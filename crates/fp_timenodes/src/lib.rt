@@ -9,7 +9,7 @@ mod places;
 mod point_table;
 mod timelines;
 
-pub use places::{Added, AddedPoint, LATEST, Place};
+pub use places::{Added, AddedPoint, LATEST, MOST_POINTS, Place};
 pub use point_table::Points;
 
 /// The error of a call that finds no memory.

@@ -8,5 +8,6 @@ pub mod OfPlans
 pub mod Merging
 pub mod Ordered
 pub mod Existing
+pub mod DepartureLines
 pub mod ReadBack
 pub mod Worked

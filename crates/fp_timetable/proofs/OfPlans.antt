@@ -75,15 +75,15 @@ pub AreReady-plan : (p : Problem) (routes : List (Vec Leg Global)) (plan : List 
 AreReady-plan p routes plan same valid is_plan =
     let here : IsPlan p 1 (lists_of routes) = subst (λ (R : List (List Leg)). IsPlan p 1 R) (sym same) is_plan in
     record {
-      few = omega (arith, AllZip-long (Carries p 1) p.shipments (lists_of routes) here, length-lists_of routes, valid.few_shipments);
-      arrive = arrive p p.shipments routes (due-small (length p.terminals) p.shipments valid.shipments) here;
+      few = omega (arith, AllZip-long (Carries p 1) p.shipments (lists_of routes) here, length-lists_of routes, valid.parts.few_shipments);
+      arrive = arrive p p.shipments routes (due-small (length p.terminals) p.shipments valid.parts.shipments) here;
     }
 
 pub IsReady-plan : (p : Problem) (plan : List (List Leg)) → IsValid p → IsPlan p 1 plan → IsReady p plan
 IsReady-plan p plan valid is_plan =
     let long : length plan ≡ length p.shipments = AllZip-long (Carries p 1) p.shipments plan is_plan in
     record {
-      few = omega (arith, long, valid.few_shipments);
+      few = omega (arith, long, valid.parts.few_shipments);
       long = long;
       rise = rises p p.shipments plan valid is_plan;
       exist = exist p p.shipments plan is_plan;

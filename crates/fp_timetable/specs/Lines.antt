@@ -1,5 +1,5 @@
 -- What the lines of a timetable are.
-use Rattle.std.specs.Prelude.{ℕ, ◌+◌, ◌<◌, ◌≡◌, ◌⊎◌, List, [], ◌∷◌, nat_eq, if◌then◌else◌, length, map, IsTrue, All, AllPairs, Contains}
+use Rattle.std.specs.Prelude.{ℕ, ◌+◌, ◌*◌, ◌<◌, ◌≡◌, ◌⊎◌, List, [], ◌∷◌, nat_eq, if◌then◌else◌, length, map, IsTrue, All, AllPairs, Contains}
 use Rattle.fp_model.specs.declared.parts.Leg.{Leg}
 use Rattle.fp_model.specs.declared.parts.Shipment.{Shipment}
 use Rattle.fp_model.specs.Costs.{all_legs, has_leg, load, trucks}
@@ -52,6 +52,10 @@ pub record AreTruckLines (p : Problem) (routes : List (List Leg)) (lines : List 
   pub departures : (k : Leg) → has_leg k (map departure lines) ≡ has_leg k (all_legs routes)
   pub trucks : All (λ (t : TruckLine). t.trucks ≡ trucks p routes (departure t)) lines
   pub loads : All (λ (t : TruckLine). t.load ≡ load p.shipments routes (departure t)) lines
+
+-- what the trucks of a truck line cost
+abbrev pub line_cost : Problem → TruckLine → ℕ
+line_cost p t = (arc_at p t.arc).truck * t.trucks
 
 -- the shipment and the arc of a leg line exist
 abbrev pub LegExists : Problem → LegLine → Type 0

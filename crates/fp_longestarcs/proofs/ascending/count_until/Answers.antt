@@ -1,4 +1,5 @@
--- The numbers do not fall, so `partition_point` parts those that are at most this one from the others.
+-- The numbers do not fall, so `partition_point` parts those that are at most this one from the
+-- others.
 use Rattle.std.proofs.Common.{ℕ, List, leb, arith, rules}
 use Rattle.std.proofs.lemmas.Bool.{leb-true, leb-false}
 use Rattle.std.proofs.lemmas.List.Sorted.{IsPartitionPoint-from_clause, IsPartitionedBy-leb}

@@ -74,7 +74,7 @@ loop-shipment-preserved c =
     let row_is = get_or_read c.args.rows.now i c.index-rows-shipment.result inside c.index-rows-shipment.is [] in
     let numbers : c.deref.result.now ≡ c.in_ok-chain.chain.classes = c.deref.ensures.value ∙ ap (λ (x : ForcedChain). x.classes) c.chain.view_is in
     let size_is : c.shipment.result.now.size ≡ (shipment_at s.problem i).size = ap (λ (x : Shipment). x.size) c.shipment.ensures.same ∙ ap (λ (p : Problem). (shipment_at p i).size) c.requires.same in
-    let small : (shipment_at c.args.instance.now i).size ≤ 10 ^ 18 = (c.shipments.ensures.valid.shipments i no_shipment (omega (arith, ap (λ (l : List Shipment). length l) c.shipments.ensures.same))).within.size.1 in
+    let small : (shipment_at c.args.instance.now i).size ≤ 10 ^ 18 = (c.shipments.ensures.valid.parts.shipments i no_shipment (omega (arith, ap (λ (l : List Shipment). length l) c.shipments.ensures.same))).within.size.1 in
     let forced : (sides : List Side) → AreRowsUnder s sides c.args.rows.now → IsForced s.problem s.network (allowed_in s sides i) (shipment_at s.problem i) c.in_ok-chain.chain =
     λ sides are. c.in_ok-chain.ensures sides (subst (λ (r : List Bool). IsRowUnder s sides i r) (sym row_is) (are i inside)) in
     let known = forced c.requires.under.0 c.requires.under.1 in

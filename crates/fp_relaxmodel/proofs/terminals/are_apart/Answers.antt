@@ -9,7 +9,7 @@ use Rattle.fp_relaxmodel.proofs.terminals.are_apart.Goals as goal
 pub loop-stop-init : goal.loop-stop-init
 loop-stop-init c = record {
   long = length-set (replicate 100 false) c.args.tail true;
-  decides = new-first 100 c.args.tail (entered_by c.args.instance.now c.args.stops.now) (omega (arith, c.requires.tail, c.terminals-known.ensures.valid.few_terminals)) refl;
+  decides = new-first 100 c.args.tail (entered_by c.args.instance.now c.args.stops.now) (omega (arith, c.requires.tail, c.terminals-known.ensures.valid.parts.few_terminals)) refl;
 }
 
 pub arc-entered-requires : goal.arc-entered-requires

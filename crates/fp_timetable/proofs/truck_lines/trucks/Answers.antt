@@ -27,7 +27,7 @@ returns-clause-lines c =
     c.set_trucks.ensures ∙ ap (map (with_trucks c.args.instance.now)) c.as_mut_slice.ensures.value in
     let all : AreTruckLines c.args.instance.now c.args.plan.now c.set_trucks.new.lines =
     subst (λ (xs : List TruckLine). AreTruckLines c.args.instance.now c.args.plan.now xs) (sym set)
-    (AreTruckLines-gathered c.args.instance.now c.args.plan.now lines c.in_ok-legs.ensures.valid.few_arcs gathered) in
+    (AreTruckLines-gathered c.args.instance.now c.args.plan.now lines c.in_ok-legs.ensures.valid.parts.few_arcs gathered) in
     let long : length (map (with_trucks c.args.instance.now) lines) ≡ length lines = rw length-map refl in
     subst (λ (xs : List TruckLine). AreTruckLines c.args.instance.now c.args.plan.now xs)
     (sym (whole c.in_ok-lines.lines.len c.set_trucks.new.lines lines (ap length set ∙ long) (omega (arith, c.in_ok-lines.lines.ok))))

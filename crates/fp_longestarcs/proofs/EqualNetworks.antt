@@ -1,0 +1,94 @@
+-- Whole networks of an instance that have the same points are equal.
+use Rattle.std.proofs.Common.{◌≡◌, ℕ, suc, ◌<◌, ◌≢◌, Bool, true, false, ◌||◌, ◌&&◌, List, [], ◌∷◌, length, get_or, ⊎_elim, refl, sym, ap, ◌∙◌, arith}
+use Rattle.std.specs.Prelude.{nat_eq}
+use Rattle.std.specs.List.{AllPairs}
+use Rattle.std.proofs.lemmas.Bool.{cases_eq, eq-eqb, ne_eqb}
+use Rattle.std.proofs.lemmas.List.{same_lists, get_or_default}
+use Rattle.fp_model.specs.Problem.{Problem}
+use Rattle.fp_timenodes.specs.Floor.{has_point, HaveSamePoints}
+use Rattle.fp_timenodes.specs.Points.{TimePoints}
+use Rattle.fp_timenodes.proofs.PointLists.{has_point_rest, has_point_first, has_point_cases}
+use Rattle.fp_longestarcs.specs.Ascending.{place_of, ArePoints}
+use Rattle.fp_longestarcs.specs.Networks.{TimedNetwork, points_in}
+use Rattle.fp_longestarcs.specs.Whole.{HasArcsOf, IsNetworkOf, heads_of, IsWholeNetwork}
+use Rattle.fp_longestarcs.specs.Changes.{refined, restored, HasAlso, extended_points}
+use Rattle.fp_longestarcs.proofs.Places.{tail-ascends, stands, has-insert}
+use Rattle.fp_longestarcs.proofs.HeadLists.{points-same, points-other}
+
+-- the first of ascending points is before the others
+pub first-before : (q : ℕ) (qs : List ℕ) (m : ℕ) → AllPairs (λ a b. a < b) (q ∷ qs) → has_point qs m ≡ true → q < m
+first-before q qs m up there = let w = stands qs m there in omega (arith, up 0 (suc w.place) 0 (omega arith) (omega (arith, w.within)), w.is 0)
+
+-- two tests that are true together are the same
+same-truth : (a b : Bool) → (a ≡ true → b ≡ true) → (b ≡ true → a ≡ true) → a ≡ b
+same-truth true b h k = sym (h refl)
+same-truth false true h k = k refl
+same-truth false false h k = refl
+
+-- what is a point of both lists beside their equal first ones is a point of the rest
+rest-of : (x y : ℕ) (xs ys : List ℕ) (m : ℕ) → AllPairs (λ a b. a < b) (x ∷ xs) → x ≡ y → HaveSamePoints (x ∷ xs) (y ∷ ys) → has_point xs m ≡ true → has_point ys m ≡ true
+rest-of x y xs ys m up is same there =
+    ⊎_elim
+    (λ (first : y ≡ m). absurd (omega (arith, first-before x xs m up there, first, is)))
+    (λ (rest : has_point ys m ≡ true). rest)
+    (has_point_cases y ys m (sym (same m) ∙ has_point_rest x xs m there))
+
+-- ascending lists with the same points are the same
+pub ascending-same : (xs ys : List ℕ) → AllPairs (λ a b. a < b) xs → AllPairs (λ a b. a < b) ys → HaveSamePoints xs ys → xs ≡ ys
+ascending-same [] [] up upper same = refl
+ascending-same [] (y ∷ ys) up upper same = let there : has_point [] y ≡ true = same y ∙ has_point_first y ys in cc
+ascending-same (x ∷ xs) [] up upper same = let there : has_point [] x ≡ true = sym (same x) ∙ has_point_first x xs in cc
+ascending-same (x ∷ xs) (y ∷ ys) up upper same =
+    let first : x ≡ y =
+    ⊎_elim
+    (λ (e : y ≡ x). sym e)
+    (λ (later : has_point ys x ≡ true).
+    ⊎_elim
+    (λ (e : x ≡ y). e)
+    (λ (late : has_point xs y ≡ true). absurd (omega (arith, first-before y ys x upper later, first-before x xs y up late)))
+    (has_point_cases x xs y (same y ∙ has_point_first y ys)))
+    (has_point_cases y ys x (sym (same x) ∙ has_point_first x xs)) in
+    let rest : xs ≡ ys =
+    ascending-same xs ys (tail-ascends x xs up) (tail-ascends y ys upper)
+    (λ m. same-truth (has_point xs m) (has_point ys m) (rest-of x y xs ys m up first same) (rest-of y x ys xs m upper (sym first) (λ n. sym (same n)))) in
+    ap (λ (n : ℕ). n ∷ xs) first ∙ ap (λ (l : List ℕ). y ∷ l) rest
+
+-- whole networks of an instance with the same points are equal
+pub IsWholeNetwork-unique : (p : Problem) (m n : TimedNetwork) → IsWholeNetwork p m → IsWholeNetwork p n → ((terminal : ℕ) → terminal < length p.terminals → HaveSamePoints (points_in m terminal) (points_in n terminal)) → m ≡ n
+IsWholeNetwork-unique p m n first second same =
+    let net : List ℕ → List (List ℕ) → List (List ℕ) → TimedNetwork = λ tails points heads. record { tails = tails; points = points; heads = heads } in
+    let points : m.points ≡ n.points =
+    same_lists m.points n.points (omega (arith, first.arcs.terminals, second.arcs.terminals))
+    (λ k d h. get_or_default m.points k d [] h ∙ each k h ∙ get_or_default n.points k [] d (omega (arith, first.arcs.terminals, second.arcs.terminals))) in
+    ap (λ (t : List ℕ). net t m.points m.heads) (first.arcs.tails ∙ sym second.arcs.tails) ∙
+    ap (λ (l : List (List ℕ)). net n.tails l m.heads) points ∙
+    ap (λ (l : List (List ℕ)). net n.tails n.points l) (first.heads ∙ ap (λ (l : List (List ℕ)). heads_of p (λ t. get_or l t [])) points ∙ sym second.heads)
+  where
+    each : (k : ℕ) → k < length m.points → points_in m k ≡ points_in n k
+    each k h =
+        let mine : ArePoints (points_in m k) = first.valid.points k [] h in
+        let other : ArePoints (points_in n k) = second.valid.points k [] (omega (arith, first.arcs.terminals, second.arcs.terminals)) in
+        ascending-same (points_in m k) (points_in n k) mine.ascending other.ascending (same k (omega (arith, first.arcs.terminals)))
+
+-- which points there are with one more
+pub has-with : (net : TimedNetwork) (terminal at t q : ℕ) → terminal < length net.points →
+    has_point (get_or (extended_points net terminal at) t []) q ≡ (nat_eq t terminal && nat_eq at q || has_point (points_in net t) q)
+has-with net terminal at t q within =
+    ⊎_elim
+    (λ (same : t ≡ terminal).
+    ap (λ (n : ℕ). has_point (get_or (extended_points net terminal at) n []) q) same ∙
+    ap (λ (l : List ℕ). has_point l q) (points-same net terminal at within) ∙
+    has-insert (points_in net terminal) (place_of (points_in net terminal) at) at q ∙
+    ap (λ (n : ℕ). nat_eq at q || has_point (points_in net n) q) (sym same) ∙
+    ap (λ (b : Bool). b && nat_eq at q || has_point (points_in net t) q) (sym (eq-eqb t terminal same)))
+    (λ (other : t ≢ terminal).
+    ap (λ (l : List ℕ). has_point l q) (points-other net terminal at t other) ∙
+    ap (λ (b : Bool). b && nat_eq at q || has_point (points_in net t) q) (sym (ne_eqb t terminal other)))
+    (cases_eq t terminal)
+
+-- so a network whose new point was refined and restored is the one that is made with that point
+pub lengthened-equal : (p : Problem) (old net : TimedNetwork) (terminal at round : ℕ) (v : TimePoints) → terminal < length old.points → HasArcsOf p old →
+    IsWholeNetwork p (restored p (refined p old terminal at) terminal at) → IsNetworkOf p v round net → HasAlso old terminal at v round → restored p (refined p old terminal at) terminal at ≡ net
+lengthened-equal p old net terminal at round v within has whole made also =
+    IsWholeNetwork-unique p (restored p (refined p old terminal at) terminal at) net whole made.whole
+    (λ t h q. has-with old terminal at t q within ∙ sym (also t q (omega (arith, has.terminals))) ∙ sym (made.points t h q))
