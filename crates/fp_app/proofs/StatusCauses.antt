@@ -4,7 +4,7 @@ use Rattle.std.specs.Prelude.{Option, Some, None, Result, Ok, Err, MatchBool, Ma
 use Rattle.std.specs.Io.KnownBytes.{IsAtEnd}
 use Rattle.fp_model.specs.declared.parts.Leg.{Leg}
 use Rattle.fp_model.specs.Problem.{Problem}
-use Rattle.fp_reader.specs.Input.{Fault}
+use Rattle.fp_fields.specs.Faults.{Fault}
 use Rattle.fp_lines.specs.Statements.{Statement}
 use Rattle.fp_app.specs.declared.words.Order.{Order}
 use Rattle.fp_app.specs.declared.words.Order.TheVariants.{Direct, Check}

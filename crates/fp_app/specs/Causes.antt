@@ -3,7 +3,7 @@ use Rattle.std.specs.Prelude.{◌≡◌, ◌⊎◌, ℕ, List, length, nat_lt, M
 use Rattle.fp_model.specs.declared.parts.Leg.{Leg}
 use Rattle.fp_model.specs.Plans.{IsPlan, PlanExists}
 use Rattle.fp_model.specs.Problem.{Problem}
-use Rattle.fp_reader.specs.Input.{Fault}
+use Rattle.fp_fields.specs.Faults.{Fault}
 use Rattle.fp_flatnet.specs.Directs.{IsDirectPlan}
 use Rattle.fp_flatnet.specs.Verdicts.{IsBlocked}
 use Rattle.fp_lines.specs.Statements.{Statement}

@@ -3,7 +3,8 @@ use Rattle.std.specs.Prelude.{ℕ, ◌+◌, ◌≡◌, List, length, drop, Match
 use Rattle.fp_model.specs.Problem.{Problem}
 use Rattle.fp_records.specs.Fields.{records_of}
 use Rattle.fp_reader.specs.declared.reading.Tail.TheVariants.{Alone, Certificate}
-use Rattle.fp_reader.specs.Input.{Fault, input_of, instance_records}
+use Rattle.fp_reader.specs.Input.{input_of, instance_records}
+use Rattle.fp_fields.specs.Faults.{Fault}
 use Rattle.fp_certificate.specs.Reading.{certificate_of}
 use Rattle.fp_lines.specs.Statements.{Statement}
 use Rattle.fp_app.specs.declared.limits.TheConstants.{CHECK_LIMIT, DIRECT_LIMIT}
