@@ -1,5 +1,5 @@
--- The lines of answers and of a scale: their faults, each with its code, in the order in which they are looked for, and what they
--- give. The first fault decides.
+-- The lines of answers and of a scale: their faults, each with its code, in the order in which they
+-- are looked for, and what they give. The first fault decides.
 use Rattle.std.specs.Prelude.{ℕ, ◌^◌, List, [], ◌∷◌, length, Bool, ◌&&◌, ◌||◌, not, ◌==◌, nat_lt, is_some, if◌then◌else◌, Option, Some, None, codes}
 use Rattle.fp_model.specs.declared.limits.TheConstants.{GREATEST_SCALE, LONGEST_FASTEST}
 use Rattle.fp_model.specs.Problem.{Problem, weight_at}

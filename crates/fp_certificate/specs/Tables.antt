@@ -1,4 +1,5 @@
--- The lines of tables, shares and weights: their faults in the order in which they are looked for, and what they give.
+-- The lines of tables, shares and weights: their faults in the order in which they are looked for,
+-- and what they give.
 use Rattle.std.specs.Prelude.{ℕ, ◌+◌, List, [], ◌∷◌, ◌++◌, length, Bool, true, ◌&&◌, ◌||◌, not, ◌==◌, Some}
 use Rattle.fp_model.specs.Problem.{Problem}
 use Rattle.fp_prices.specs.declared.tables.Weight.{Weight}

@@ -1,4 +1,5 @@
--- The lines of legs and of trucks: their faults in the order in which they are looked for, and what they give.
+-- The lines of legs and of trucks: their faults in the order in which they are looked for, and what
+-- they give.
 use Rattle.std.specs.Prelude.{ℕ, List, [], ◌∷◌, ◌++◌, length, Bool, ◌&&◌, ◌||◌, not, ◌==◌, Some}
 use Rattle.fp_model.specs.declared.limits.TheConstants.{LATEST}
 use Rattle.fp_model.specs.Problem.{Problem}

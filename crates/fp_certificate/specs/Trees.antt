@@ -1,4 +1,5 @@
--- The lines of a tree and of the end: their faults in the order in which they are looked for, and what they give.
+-- The lines of a tree and of the end: their faults in the order in which they are looked for, and
+-- what they give.
 use Rattle.std.specs.Prelude.{ℕ, List, [], ◌∷◌, ◌++◌, length, Bool, ◌&&◌, ◌||◌, not, ◌==◌, if◌then◌else◌, Some, codes}
 use Rattle.fp_model.specs.declared.limits.TheConstants.{LAST_ROUND}
 use Rattle.fp_model.specs.Problem.{Problem}
@@ -51,7 +52,8 @@ abbrev pub has_leaf_digits : List (List ℕ) → Bool
 has_leaf_digits fields =
     (has_kind_word fields || has_number fields 1) && has_number fields 2 && (has_word (codes "plain") fields 3 || has_word (codes "forced") fields 3)
 
--- whether a leaf's table exists, where it is priced by one, among so many tables, and its round is in range
+-- whether a leaf's table exists, where it is priced by one, among so many tables, and its round is
+-- in range
 abbrev pub has_leaf_ranges : ℕ → List (List ℕ) → Bool
 has_leaf_ranges tables fields = (has_kind_word fields || is_between 1 tables fields 1) && is_between 0 LAST_ROUND fields 2
 

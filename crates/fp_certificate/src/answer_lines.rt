@@ -10,11 +10,11 @@ use crate::drafts::Draft;
 use crate::groups::Group;
 use crate::line_faults::LineFault;
 use crate::line_fields::figure_at;
+use fp_fields::digits::short_between;
+use fp_fields::fields::{field_at, has_fields, has_number, has_word};
 use fp_fields::{Lookup, RecordError};
 use fp_lines::{Answer, Spent};
 use fp_model::limits::LONGEST_FASTEST;
-use fp_fields::digits::short_between;
-use fp_fields::fields::{field_at, has_fields, has_number, has_word};
 use fp_records::Record;
 
 /// The cost of a direct or of an optimal answer's line, or the first of the line's faults.
@@ -108,7 +108,8 @@ fn unfinished_of(draft: &Draft, line: &Record) -> Result<Answer, LineFault>
     })
 }
 
-/// Takes the answer of `answer,unfinished,COST,BOUND,SPENT`, or tells the first of the line's faults.
+/// Takes the answer of `answer,unfinished,COST,BOUND,SPENT`, or tells the first of the line's
+/// faults.
 pub fn read_unfinished(draft: &mut Draft, line: &Record) -> Result<(), RecordError<LineFault>>
     ensures { MatchResult result
         (λ _. (first_code (unfinished_faults draft.old line.now) ≡ None) × (draft.new ≡ with_answer draft.old (unfinished_in line.now)))

@@ -158,7 +158,8 @@ impl Draft {
         self.latest = Some(Group::End);
     }
 
-    /// The certificate, or, where the lines have not ended, that the record with this ordinal is missing.
+    /// The certificate, or, where the lines have not ended, that the record with this ordinal is
+    /// missing.
     pub fn finish(self, ordinal: u32) -> Result<Certificate, CertFault>
         ensures { MatchResult result (λ c. finished self ordinal ≡ Ok c) (λ e. IsFirst e (finished self ordinal)) }
     {

@@ -70,8 +70,8 @@ impl Group {
         }
     }
 
-    /// Whether a line of the group can't stand after lines of which the latest is of one group, `None` where there are none,
-    /// and the first has the answer.
+    /// Whether a line of the group can't stand after lines of which the latest is of one group,
+    /// `None` where there are none, and the first has the answer.
     pub fn is_misplaced_after(self, latest: Option<Group>, answer: Answer) -> bool
         ensures { result ≡ is_misplaced_after latest answer self }
     {

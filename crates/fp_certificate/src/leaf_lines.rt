@@ -10,11 +10,11 @@ use crate::drafts::Draft;
 use crate::groups::Group;
 use crate::line_faults::LineFault;
 use fp_fields::RecordError;
+use fp_fields::digits::short_between;
+use fp_fields::fields::{field_at, has_fields, has_number, has_word};
 use fp_lines::Node;
 use fp_model::limits::LAST_ROUND;
 use fp_prices::{Kind, LeafPrice};
-use fp_fields::digits::short_between;
-use fp_fields::fields::{field_at, has_fields, has_number, has_word};
 use fp_records::Record;
 
 // Whether the kind of a leaf's prices is a word.

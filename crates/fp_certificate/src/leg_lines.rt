@@ -9,8 +9,8 @@ use crate::drafts::Draft;
 use crate::groups::Group;
 use crate::line_faults::LineFault;
 use crate::line_fields::time_at;
-use fp_fields::{Lookup, RecordError};
 use fp_fields::fields::{has_fields, has_number};
+use fp_fields::{Lookup, RecordError};
 use fp_records::Record;
 use fp_timetable::LegLine;
 
@@ -57,7 +57,11 @@ fn leg_of(lookup: &Lookup<'_>, draft: &Draft, line: &Record) -> Result<LegLine, 
 }
 
 /// Adds the leg of a line, or tells the first of the line's faults.
-pub fn read_leg(lookup: &Lookup<'_>, draft: &mut Draft, line: &Record) -> Result<(), RecordError<LineFault>>
+pub fn read_leg(
+    lookup: &Lookup<'_>,
+    draft: &mut Draft,
+    line: &Record,
+) -> Result<(), RecordError<LineFault>>
     ensures { MatchResult result
         (λ _. (first_code (leg_faults lookup.now draft.old line.now) ≡ None) × (draft.new ≡ with_leg draft.old (leg_in lookup.now line.now)))
         (λ e. IsFirstFault code_of e (first_code (leg_faults lookup.now draft.old line.now))) }

@@ -1,5 +1,5 @@
-//! The certificate of an answer, and its text both ways. What it is made of and how it is written stand in `fp_lines`; here it
-//! is read from the records of its text, or the first fault is named.
+//! The certificate of an answer, and its text both ways. What it is made of and how it is written
+//! stand in `fp_lines`; here it is read from the records of its text, or the first fault is named.
 #![tactic(auto)]
 
 mod answer_lines;

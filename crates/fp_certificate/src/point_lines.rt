@@ -10,9 +10,9 @@ use crate::drafts::Draft;
 use crate::groups::Group;
 use crate::line_faults::LineFault;
 use crate::line_fields::time_at;
-use fp_fields::{Lookup, RecordError};
 use fp_fields::digits::short_between;
 use fp_fields::fields::{field_at, has_fields, has_number};
+use fp_fields::{Lookup, RecordError};
 use fp_model::limits::LAST_ROUND;
 use fp_records::Record;
 use fp_timenodes::AddedPoint;
@@ -65,7 +65,11 @@ fn point_of(lookup: &Lookup<'_>, draft: &Draft, line: &Record) -> Result<AddedPo
 }
 
 /// Adds the point of a line, or tells the first of the line's faults.
-pub fn read_point(lookup: &Lookup<'_>, draft: &mut Draft, line: &Record) -> Result<(), RecordError<LineFault>>
+pub fn read_point(
+    lookup: &Lookup<'_>,
+    draft: &mut Draft,
+    line: &Record,
+) -> Result<(), RecordError<LineFault>>
     ensures { MatchResult result
         (λ _. (first_code (point_faults lookup.now draft.old line.now) ≡ None)
         × (draft.new ≡ with_point draft.old (point_in lookup.now line.now)))

@@ -112,15 +112,17 @@ fn draft_of(
 
 /// The certificate of an instance that the records from place `from` on give, or the first fault.
 ///
-/// There are fewer than `2^32 - 1` records, and `from` is at most their number. Ordinals count from 1 over all records. The
-/// records are the lines that [`fp_lines::write`] tells of, in that order; legs, trucks, shares and weights may stand in any
-/// order among themselves. A number is one or more ASCII digits, leading zeros allowed. A certificate that was read is in
-/// range: times are at most 100,000, rounds at most 4,000, a point's round at least 1, a fastest time at most 10,000,000, a
-/// scale is 1 to 1,000,000,000 and fits the instance, all other numbers are at most `2^127 - 1`, and the tables that leaves
-/// name exist. Its tables, and the shares of each, are fewer than `2^32 - 1`.
+/// There are fewer than `2^32 - 1` records, and `from` is at most their number. Ordinals count from
+/// 1 over all records. The records are the lines that [`fp_lines::write`] tells of, in that order;
+/// legs, trucks, shares and weights may stand in any order among themselves. A number is one or
+/// more ASCII digits, leading zeros allowed. A certificate that was read is in range: times are at
+/// most 100,000, rounds at most 4,000, a point's round at least 1, a fastest time at most
+/// 10,000,000, a scale is 1 to 1,000,000,000 and fits the instance, all other numbers are at most
+/// `2^127 - 1`, and the tables that leaves name exist. Its tables, and the shares of each, are
+/// fewer than `2^32 - 1`.
 ///
-/// `Bad` comes exactly where there is a fault: the first record with one decides ([`CertFault`] has the codes). `NoMemory`
-/// comes only where no memory is found.
+/// `Bad` comes exactly where there is a fault: the first record with one decides ([`CertFault`] has
+/// the codes). `NoMemory` comes only where no memory is found.
 pub fn read(
     alloc: Global,
     instance: &Instance,

@@ -8,13 +8,14 @@ ghost use Rattle.fp_certificate.specs.Codes.{code_of};
 use crate::drafts::Draft;
 use crate::groups::Group;
 use crate::line_faults::LineFault;
-use fp_fields::{Lookup, RecordError};
 use fp_fields::digits::short_between;
 use fp_fields::fields::{field_at, has_fields, has_number};
+use fp_fields::{Lookup, RecordError};
 use fp_model::limits::GREATEST_SCALE;
 use fp_records::Record;
 
-// The scale of a line; `None` exactly where it isn't 1 to 1,000,000,000 or doesn't fit the instance.
+// The scale of a line; `None` exactly where it isn't 1 to 1,000,000,000 or doesn't fit the
+// instance.
 fn scale_at(lookup: &Lookup<'_>, line: &Record) -> Option<u32>
     requires { has_number line.now 1 ≡ true }
     ensures { MatchOption result (has_bad_scale lookup.now line.now ≡ true)
@@ -50,7 +51,11 @@ fn scale_of(lookup: &Lookup<'_>, draft: &Draft, line: &Record) -> Result<u32, Li
 }
 
 /// Takes the scale of a line, or tells the first of the line's faults.
-pub fn read_scale(lookup: &Lookup<'_>, draft: &mut Draft, line: &Record) -> Result<(), RecordError<LineFault>>
+pub fn read_scale(
+    lookup: &Lookup<'_>,
+    draft: &mut Draft,
+    line: &Record,
+) -> Result<(), RecordError<LineFault>>
     ensures { MatchResult result
         (λ _. (first_code (scale_faults lookup.now draft.old line.now) ≡ None) × (draft.new ≡ with_scale draft.old (number_at line.now 1)))
         (λ e. IsFirstFault code_of e (first_code (scale_faults lookup.now draft.old line.now))) }

@@ -9,9 +9,9 @@ use crate::drafts::Draft;
 use crate::groups::Group;
 use crate::line_faults::LineFault;
 use crate::line_fields::{figure_at, time_at};
+use fp_fields::fields::{has_fields, has_number};
 use fp_fields::{Lookup, RecordError};
 use fp_prices::Share;
-use fp_fields::fields::{has_fields, has_number};
 use fp_records::Record;
 use std::alloc::Global;
 

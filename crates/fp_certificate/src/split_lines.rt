@@ -10,9 +10,9 @@ use crate::drafts::Draft;
 use crate::groups::Group;
 use crate::line_faults::LineFault;
 use crate::line_fields::time_at;
+use fp_fields::fields::{has_fields, has_number};
 use fp_fields::{Lookup, RecordError};
 use fp_lines::Node;
-use fp_fields::fields::{has_fields, has_number};
 use fp_records::Record;
 use fp_tree::Split;
 
@@ -40,7 +40,11 @@ fn by_arc_of(lookup: &Lookup<'_>, draft: &Draft, line: &Record) -> Result<Node, 
 }
 
 /// Adds the node of `split,arc,SHIPMENT,FROM,TO`, or tells the first of the line's faults.
-pub fn read_by_arc(lookup: &Lookup<'_>, draft: &mut Draft, line: &Record) -> Result<(), RecordError<LineFault>>
+pub fn read_by_arc(
+    lookup: &Lookup<'_>,
+    draft: &mut Draft,
+    line: &Record,
+) -> Result<(), RecordError<LineFault>>
     ensures { MatchResult result
         (λ _. (first_code (by_arc_faults lookup.now draft.old line.now) ≡ None)
         × (draft.new ≡ with_node draft.old (by_arc_in lookup.now line.now)))
@@ -85,7 +89,11 @@ fn by_time_of(lookup: &Lookup<'_>, draft: &Draft, line: &Record) -> Result<Node,
 }
 
 /// Adds the node of `split,time,SHIPMENT,TERMINAL,AT`, or tells the first of the line's faults.
-pub fn read_by_time(lookup: &Lookup<'_>, draft: &mut Draft, line: &Record) -> Result<(), RecordError<LineFault>>
+pub fn read_by_time(
+    lookup: &Lookup<'_>,
+    draft: &mut Draft,
+    line: &Record,
+) -> Result<(), RecordError<LineFault>>
     ensures { MatchResult result
         (λ _. (first_code (by_time_faults lookup.now draft.old line.now) ≡ None)
         × (draft.new ≡ with_node draft.old (by_time_in lookup.now line.now)))

@@ -42,7 +42,11 @@ fn test_table(draft: &Draft, line: &Record) -> Result<(), LineFault>
 }
 
 /// Adds a table without shares, or tells the first of the line's faults.
-pub fn read_table(alloc: Global, draft: &mut Draft, line: &Record) -> Result<(), RecordError<LineFault>>
+pub fn read_table(
+    alloc: Global,
+    draft: &mut Draft,
+    line: &Record,
+) -> Result<(), RecordError<LineFault>>
     ensures { MatchResult result
         (λ _. (first_code (table_faults draft.old line.now) ≡ None) × (draft.new ≡ with_table draft.old))
         (λ e. IsFirstFault code_of e (first_code (table_faults draft.old line.now))) }

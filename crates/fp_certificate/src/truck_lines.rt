@@ -9,8 +9,8 @@ use crate::drafts::Draft;
 use crate::groups::Group;
 use crate::line_faults::LineFault;
 use crate::line_fields::{figure_at, time_at};
-use fp_fields::{Lookup, RecordError};
 use fp_fields::fields::{has_fields, has_number};
+use fp_fields::{Lookup, RecordError};
 use fp_records::Record;
 use fp_timetable::TruckLine;
 
@@ -57,7 +57,11 @@ fn truck_of(lookup: &Lookup<'_>, draft: &Draft, line: &Record) -> Result<TruckLi
 }
 
 /// Adds the departure of a line, or tells the first of the line's faults.
-pub fn read_truck(lookup: &Lookup<'_>, draft: &mut Draft, line: &Record) -> Result<(), RecordError<LineFault>>
+pub fn read_truck(
+    lookup: &Lookup<'_>,
+    draft: &mut Draft,
+    line: &Record,
+) -> Result<(), RecordError<LineFault>>
     ensures { MatchResult result
         (λ _. (first_code (truck_faults lookup.now draft.old line.now) ≡ None)
         × (draft.new ≡ with_truck draft.old (truck_in lookup.now line.now)))

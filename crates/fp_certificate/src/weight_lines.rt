@@ -10,9 +10,9 @@ use crate::groups::Group;
 use crate::line_faults::LineFault;
 use crate::line_fields::figure_at;
 use crate::open_tables::lacks_share;
+use fp_fields::fields::{has_fields, has_number};
 use fp_fields::{Lookup, RecordError};
 use fp_prices::Weight;
-use fp_fields::fields::{has_fields, has_number};
 use fp_records::Record;
 
 // The weight of a line, or the first of the line's faults.
@@ -41,7 +41,11 @@ fn weight_of(lookup: &Lookup<'_>, draft: &Draft, line: &Record) -> Result<Weight
 }
 
 /// Adds the weight of a line to the last share, or tells the first of the line's faults.
-pub fn read_weight(lookup: &Lookup<'_>, draft: &mut Draft, line: &Record) -> Result<(), RecordError<LineFault>>
+pub fn read_weight(
+    lookup: &Lookup<'_>,
+    draft: &mut Draft,
+    line: &Record,
+) -> Result<(), RecordError<LineFault>>
     ensures { MatchResult result
         (λ _. (first_code (weight_faults lookup.now draft.old line.now) ≡ None)
         × (draft.new ≡ with_weight draft.old (weight_in lookup.now line.now)))

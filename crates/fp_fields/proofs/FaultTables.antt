@@ -9,8 +9,8 @@ pub record IsClear (holds : Bool) (rest : Option ℕ) : Type 0 where
   pub later : rest ≡ None
 
 -- from a table without a code
-pub clear : (code : ℕ) (holds : Bool) {rest : Option ℕ} → cond holds (Some code) rest ≡ None → IsClear holds rest
-clear code holds h =
+pub IsClear-from_none : (code : ℕ) (holds : Bool) {rest : Option ℕ} → cond holds (Some code) rest ≡ None → IsClear holds rest
+IsClear-from_none code holds h =
     elim (cases_Bool holds) [
       | inl t ↦ cc (rw t at h)
       | inr n ↦ record { here = n; later = rw n at h }

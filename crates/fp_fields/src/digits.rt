@@ -43,7 +43,8 @@ fn number_up_to(digits: &[u8], high: u128) -> Option<u128>
     Some(value)
 }
 
-/// The number that digits write, which may be as large as `2^127 - 1`; `None` exactly where it isn't from `low` to `high`.
+/// The number that digits write, which may be as large as `2^127 - 1`; `None` exactly where it
+/// isn't from `low` to `high`.
 pub fn number_between(digits: &[u8], low: u128, high: u128) -> Option<u128>
     requires digits { is_number digits.now ≡ true }
     requires high { high < 2 ^ 127 }

@@ -31,7 +31,8 @@ impl<'a> Names<'a> {
         }
     }
 
-    /// Adds a name that isn't there. After an `Err`, which comes only where no memory is found, the names are as before.
+    /// Adds a name that isn't there. After an `Err`, which comes only where no memory is found, the
+    /// names are as before.
     pub fn add(&mut self, name: &'a [u8]) -> Result<(), NoMemory>
         requires { is_taken self.old name.now ≡ false }
         ensures names { OnOk result (self.new ≡ self.old ++ name.entry.now ∷ []) }

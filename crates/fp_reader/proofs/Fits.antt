@@ -16,7 +16,7 @@ use Rattle.fp_reader.specs.Parts.{arc_in, hold_in, shipment_in}
 use Rattle.fp_fields.proofs.NameForm.{name-form}
 use Rattle.fp_fields.proofs.NameNumbers.{number_of-lt}
 use Rattle.fp_fields.proofs.Numerals.{is_between-limits}
-use Rattle.fp_fields.proofs.FaultTables.{clear}
+use Rattle.fp_fields.proofs.FaultTables.{IsClear-from_none}
 
 -- a terminal that may be added
 pub record IsTerminalFit (p : Problem) (fields : List (List ℕ)) : Type 0 where
@@ -47,12 +47,12 @@ ends-there p fields from to h =
 
 pub terminal-fits : (p : Problem) (fields : List (List ℕ)) → first_code (terminal_faults p fields) ≡ None → IsTerminalFit p fields
 terminal-fits p fields h =
-    let count = clear 2 (not (has_terminal_fields fields)) h in
-    let name = clear 3 (not (has_name fields 1)) count.later in
-    let digits = clear 4 (has_bad_hold fields) name.later in
-    let range = clear 5 (ltb 1000 (hold_in fields)) digits.later in
-    let fresh = clear 6 (is_taken p.terminals (field fields 1)) range.later in
-    let room = clear 11 (leb 100 (length p.terminals)) fresh.later in
+    let count = IsClear-from_none 2 (not (has_terminal_fields fields)) h in
+    let name = IsClear-from_none 3 (not (has_name fields 1)) count.later in
+    let digits = IsClear-from_none 4 (has_bad_hold fields) name.later in
+    let range = IsClear-from_none 5 (ltb 1000 (hold_in fields)) digits.later in
+    let fresh = IsClear-from_none 6 (is_taken p.terminals (field fields 1)) range.later in
+    let room = IsClear-from_none 11 (leb 100 (length p.terminals)) fresh.later in
     record {
       name = name-form (field fields 1) (not-false (has_name fields 1) name.here);
       hold = ltb-false 1000 (hold_in fields) range.here;
@@ -62,14 +62,14 @@ terminal-fits p fields h =
 
 pub arc-fits : (p : Problem) (fields : List (List ℕ)) → first_code (arc_faults p fields) ≡ None → IsArcFit p fields
 arc-fits p fields h =
-    let count = clear 2 (not (eqb (length fields) 7)) h in
-    let name = clear 3 (not (has_arc_names fields)) count.later in
-    let digits = clear 4 (not (has_arc_digits fields)) name.later in
-    let range = clear 5 (not (has_arc_ranges fields)) digits.later in
-    let known = clear 7 (lacks_end p fields 1 2) range.later in
-    let apart = clear 8 (has_same_ends p fields 1 2) known.later in
-    let fresh = clear 9 (has_arc p (terminal_in p fields 1) (terminal_in p fields 2)) apart.later in
-    let room = clear 11 (leb 1000 (length p.arcs)) fresh.later in
+    let count = IsClear-from_none 2 (not (eqb (length fields) 7)) h in
+    let name = IsClear-from_none 3 (not (has_arc_names fields)) count.later in
+    let digits = IsClear-from_none 4 (not (has_arc_digits fields)) name.later in
+    let range = IsClear-from_none 5 (not (has_arc_ranges fields)) digits.later in
+    let known = IsClear-from_none 7 (lacks_end p fields 1 2) range.later in
+    let apart = IsClear-from_none 8 (has_same_ends p fields 1 2) known.later in
+    let fresh = IsClear-from_none 9 (has_arc p (terminal_in p fields 1) (terminal_in p fields 2)) apart.later in
+    let room = IsClear-from_none 11 (leb 1000 (length p.arcs)) fresh.later in
     let time = is_between 1 100000 fields 3 in
     let capacity = is_between 1 (10 ^ 18) fields 4 in
     let truck = is_between 0 (10 ^ 18) fields 5 in
@@ -96,15 +96,15 @@ arc-fits p fields h =
 
 pub shipment-fits : (p : Problem) (fields : List (List ℕ)) → first_code (shipment_faults p fields) ≡ None → IsShipmentFit p fields
 shipment-fits p fields h =
-    let count = clear 2 (not (eqb (length fields) 7)) h in
-    let name = clear 3 (not (has_shipment_names fields)) count.later in
-    let digits = clear 4 (not (has_shipment_digits fields)) name.later in
-    let range = clear 5 (not (has_shipment_ranges fields)) digits.later in
-    let fresh = clear 6 (is_taken (shipment_names p.shipments) (field fields 1)) range.later in
-    let known = clear 7 (lacks_end p fields 2 3) fresh.later in
-    let apart = clear 8 (has_same_ends p fields 2 3) known.later in
-    let window = clear 10 (ltb (number_at fields 6) (number_at fields 5)) apart.later in
-    let room = clear 11 (leb 500 (length p.shipments)) window.later in
+    let count = IsClear-from_none 2 (not (eqb (length fields) 7)) h in
+    let name = IsClear-from_none 3 (not (has_shipment_names fields)) count.later in
+    let digits = IsClear-from_none 4 (not (has_shipment_digits fields)) name.later in
+    let range = IsClear-from_none 5 (not (has_shipment_ranges fields)) digits.later in
+    let fresh = IsClear-from_none 6 (is_taken (shipment_names p.shipments) (field fields 1)) range.later in
+    let known = IsClear-from_none 7 (lacks_end p fields 2 3) fresh.later in
+    let apart = IsClear-from_none 8 (has_same_ends p fields 2 3) known.later in
+    let window = IsClear-from_none 10 (ltb (number_at fields 6) (number_at fields 5)) apart.later in
+    let room = IsClear-from_none 11 (leb 500 (length p.shipments)) window.later in
     let names = and_parts (has_name fields 1 && has_name fields 2) (has_name fields 3) (not-false (has_shipment_names fields) name.here) in
     let first = and_parts (has_name fields 1) (has_name fields 2) names.0 in
     let size = is_between 1 (10 ^ 18) fields 4 in

@@ -1,5 +1,5 @@
--- The parts of an instance that a draft holds, with the index of them. They are sound in themselves,
--- and the scale is the default.
+-- The parts of an instance that a draft holds, with the index of them. They are sound in
+-- themselves, and the scale is the default.
 use Rattle.std.specs.Prelude.{◌≡◌}
 use Rattle.fp_model.specs.declared.limits.TheConstants.{SCALE}
 use Rattle.fp_model.specs.Problem.{Problem, HasSoundParts}

@@ -1,5 +1,5 @@
--- The faults of a record, each with its code, given what the records before it have given. The least code decides.
--- A name field is each field that holds a name: those that name an end too.
+-- The faults of a record, each with its code, given what the records before it have given. The
+-- least code decides. A name field is each field that holds a name: those that name an end too.
 use Rattle.std.specs.Prelude.{ℕ, List, [], ◌∷◌, length, Bool, ◌&&◌, ◌||◌, not, ◌==◌, nat_le, nat_lt, if◌then◌else◌, Option, Some, codes}
 use Rattle.std.specs.List.{list_any}
 use Rattle.fp_model.specs.declared.limits.TheConstants.{GREATEST_AMOUNT, GREATEST_HOLD, LATEST, MOST_ARCS, MOST_SHIPMENTS, MOST_TERMINALS}

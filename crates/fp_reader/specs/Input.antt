@@ -8,8 +8,8 @@ use Rattle.fp_fields.specs.Faults.{Fault, first_fault}
 use Rattle.fp_fields.specs.Fields.{is_kind}
 use Rattle.fp_reader.specs.Parts.{nothing_read, with_record}
 
--- what records give, where `ordinal` is that of the first of them and `before` is what those before it have given:
--- the first record with a fault decides
+-- what records give, where `ordinal` is that of the first of them and `before` is what those before
+-- it have given: the first record with a fault decides
 abbrev pub parts_from : Problem → ℕ → List (List (List ℕ)) → Result Problem Fault
 parts_from before ordinal [] = Ok before
 parts_from before ordinal (fields ∷ records) =
@@ -19,7 +19,8 @@ parts_from before ordinal (fields ∷ records) =
 abbrev pub is_answer : List (List ℕ) → Bool
 is_answer fields = is_kind (codes "answer") fields
 
--- the records of the instance: all of them, or, where a certificate may follow, those before the first `answer`
+-- the records of the instance: all of them, or, where a certificate may follow, those before the
+-- first `answer`
 abbrev pub instance_records : Tail → List (List (List ℕ)) → List (List (List ℕ))
 instance_records Alone records = records
 instance_records Certificate records = take_while (λ fields. not (is_answer fields)) records

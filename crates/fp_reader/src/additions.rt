@@ -79,8 +79,8 @@ fn add_shipment<'a>(
     Ok(more)
 }
 
-/// The draft with what one more record gives, or the least of the record's faults. It takes the draft, so after an `Err` there
-/// is none.
+/// The draft with what one more record gives, or the least of the record's faults. It takes the
+/// draft, so after an `Err` there is none.
 pub fn add_record<'a>(
     alloc: Global,
     draft: Draft<'a>,

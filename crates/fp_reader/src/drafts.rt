@@ -147,7 +147,8 @@ impl<'a> Draft<'a> {
         })
     }
 
-    /// The draft with one more shipment, whose name is this one. Fails only where no memory is found.
+    /// The draft with one more shipment, whose name is this one. Fails only where no memory is
+    /// found.
     pub fn with_shipment(self, name: &'a [u8], shipment: Shipment) -> Result<Draft<'a>, NoMemory>
         requires name { shipment.name ≡ name.now }
         requires shipment { IsShipment (length self.terminals) shipment }

@@ -95,19 +95,23 @@ fn draft_of(alloc: Global, lines: &[Record]) -> Result<Draft<'_>, InputFault>
 ///
 /// A record is one of these, and a terminal's comes before each record that names it:
 ///
-/// - `terminal,NAME` or `terminal,NAME,HOLD`: a terminal. The hold is 0 to 1,000, and 0 where none is given.
-/// - `arc,FROM,TO,TIME,CAPACITY,TRUCK,FREIGHT`: an arc between two terminals. The time is 1 to 100,000, the capacity 1 to
-///   `10^18`, the costs of a truck and of a unit of freight 0 to `10^18`.
-/// - `shipment,NAME,FROM,TO,SIZE,RELEASE,DUE`: a shipment. The size is 1 to `10^18`, the times are 0 to 100,000.
+/// - `terminal,NAME` or `terminal,NAME,HOLD`: a terminal. The hold is 0 to 1,000, and 0 where none
+///   is given.
+/// - `arc,FROM,TO,TIME,CAPACITY,TRUCK,FREIGHT`: an arc between two terminals. The time is 1 to
+///   100,000, the capacity 1 to `10^18`, the costs of a truck and of a unit of freight 0 to
+///   `10^18`.
+/// - `shipment,NAME,FROM,TO,SIZE,RELEASE,DUE`: a shipment. The size is 1 to `10^18`, the times are
+///   0 to 100,000.
 ///
-/// Times and holds are in the input's unit of time. A number is one or more ASCII digits, leading zeros allowed. A shipment
-/// may have the name of a terminal. The instance has the scale of 1,000,000.
+/// Times and holds are in the input's unit of time. A number is one or more ASCII digits, leading
+/// zeros allowed. A shipment may have the name of a terminal. The instance has the scale of
+/// 1,000,000.
 ///
-/// With `Tail::Certificate` the instance ends before the first record whose first field is `answer`; `used` is the number
-/// of the instance's records.
+/// With `Tail::Certificate` the instance ends before the first record whose first field is
+/// `answer`; `used` is the number of the instance's records.
 ///
-/// `Bad` comes exactly where there is a fault: the first record with one decides, and in it the least code
-/// ([`InputFault`] has the codes). `NoMemory` comes only where no memory is found.
+/// `Bad` comes exactly where there is a fault: the first record with one decides, and in it the
+/// least code ([`InputFault`] has the codes). `NoMemory` comes only where no memory is found.
 pub fn instance(alloc: Global, lines: &[Record], tail: Tail) -> Result<Read, InputFault>
     requires { length lines.now < 2 ^ 32 - 1 }
     ensures read { IfOk result (λ r. (input_of tail lines.now ≡ Ok r.instance) × (r.used ≡ length (instance_records tail lines.now))) }

@@ -40,7 +40,8 @@ fn hold_of(line: &Record) -> Option<u32>
     }
 }
 
-/// The hold of a terminal's record, in the input's unit of time, or the least of the record's faults.
+/// The hold of a terminal's record, in the input's unit of time, or the least of the record's
+/// faults.
 pub fn read_terminal(draft: &Draft<'_>, line: &Record) -> Result<u32, RecordFault>
     ensures { MatchResult result
         (λ hold. (first_code (terminal_faults draft.now line.now) ≡ None) × (hold ≡ hold_in line.now))
