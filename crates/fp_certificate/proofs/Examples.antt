@@ -4,7 +4,7 @@ use Rattle.std.specs.Prelude.{Result, Ok, Err, codes}
 use Rattle.fp_fields.specs.Faults.{Fault}
 use Rattle.fp_certificate.specs.Reading.{certificate_of}
 use Rattle.fp_lines.specs.Statements.{Statement}
-use Rattle.fp_lines.proofs.Worked.{answer, best, last, leaf, leg, records, small, truck, whole}
+use Rattle.fp_lines.proofs.Examples.{answer, best, last, leaf, leg, records, small, truck, whole}
 
 -- what they give after four records of an instance
 abbrev read : List (List (List ℕ)) → Result Statement Fault

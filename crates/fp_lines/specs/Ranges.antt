@@ -28,7 +28,7 @@ abbrev pub IsAnswerInRange : Problem → Answer → Type 0
 IsAnswerInRange p (Direct cost) = cost ≤ largest_figure
 IsAnswerInRange p (Optimal cost) = cost ≤ largest_figure
 IsAnswerInRange p (Unfinished cost bound spent) = (cost ≤ largest_figure) × (bound ≤ largest_figure)
-IsAnswerInRange p (Infeasible shipment time) = (shipment < length p.shipments) × IfSome time (λ t. t ≤ LATEST00)
+IsAnswerInRange p (Infeasible shipment time) = (shipment < length p.shipments) × IfSome time (λ t. t ≤ LONGEST_FASTEST)
 
 -- a scale is 1 to 1,000,000,000 and fits the instance
 pub record IsScaleInRange (p : Problem) (scale : ℕ) : Type 0 where
