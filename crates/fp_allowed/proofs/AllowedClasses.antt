@@ -13,7 +13,8 @@ use Rattle.fp_flatnet.specs.Windows.{IsInside}
 use Rattle.fp_longestarcs.specs.Classes.{class_of}
 use Rattle.fp_tree.specs.declared.sides.Side.{Side}
 use Rattle.fp_tree.specs.Sides.{MeetsAll}
-use Rattle.fp_allowed.specs.Allowed.{exit_of, has_moment, is_allowed, is_moment, meets_all, some_below, tails_of}
+use Rattle.fp_allowed.specs.Allowed.{exit_of, has_moment, is_allowed, is_moment, meets_all, tails_of}
+use Rattle.fp_lists.specs.Below.{some_below}
 use Rattle.fp_allowed.proofs.Meeting.{meets_all-true}
 
 -- a number below n that passes a test
@@ -74,9 +75,9 @@ is_allowed-from p windows points sides k c exists has =
     and_from (nat_lt c.arc (length p.arcs)) (has_moment p points sides k c (windows k c.arc)) (lt-ltb c.arc (length p.arcs) exists)
     (has_moment-from p points sides k c (windows k c.arc) has)
 
-pub is_allowed-parts : (p : Problem) (windows : ℕ → ℕ → Option Window) (points : ℕ → List ℕ) (sides : List Side) (k : ℕ) (c : Leg) → is_allowed p windows points sides k c ≡ true →
+pub is_allowed_parts : (p : Problem) (windows : ℕ → ℕ → Option Window) (points : ℕ → List ℕ) (sides : List Side) (k : ℕ) (c : Leg) → is_allowed p windows points sides k c ≡ true →
     (c.arc < length p.arcs) × IsSomeAnd (windows k c.arc) (HasMoment p points sides k c)
-is_allowed-parts p windows points sides k c h =
+is_allowed_parts p windows points sides k c h =
     let parts = and_parts (nat_lt c.arc (length p.arcs)) (has_moment p points sides k c (windows k c.arc)) h in
     (ltb-true c.arc (length p.arcs) parts.0, has_moment-parts p points sides k c (windows k c.arc) parts.1)
 

@@ -5,7 +5,7 @@ use Rattle.std.proofs.lemmas.Bool.Decides.{eqb_tells}
 use Rattle.std.proofs.lemmas.List.Sums.{sum_by-cons}
 use Rattle.fp_rows.specs.Bits.{count_true}
 use Rattle.fp_allowed.specs.Bits.{bit_of}
-use Rattle.fp_allowed.specs.Departures.{count_below}
+use Rattle.fp_lists.specs.Below.{count_below}
 
 -- one where a test is true
 abbrev pub one_if : Bool → ℕ

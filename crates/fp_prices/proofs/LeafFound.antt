@@ -6,7 +6,7 @@ use Rattle.std.proofs.Math.Nat.{mul-le-mul_left}
 use Rattle.std.proofs.lemmas.List.Elements.{All-from_get_or}
 use Rattle.fp_model.specs.declared.parts.Leg.{Leg}
 use Rattle.fp_model.specs.Costs.{all_legs, departures_cost}
-use Rattle.fp_model.specs.Numbered.{AllZipFrom}
+use Rattle.fp_lists.specs.Numbered.{AllZipFrom}
 use Rattle.fp_model.specs.Problem.{IsValid, Problem, alone_total}
 use Rattle.fp_timenodes.specs.Points.{TimePoints, points_at}
 use Rattle.fp_flatnet.specs.Belonging.{BelongsTo}
@@ -16,7 +16,7 @@ use Rattle.fp_longestarcs.specs.Whole.{IsNetworkOf, IsWholeNetwork}
 use Rattle.fp_tree.specs.declared.sides.Side.{Side}
 use Rattle.fp_allowed.specs.Bits.{allowed_in}
 use Rattle.fp_allowed.specs.Settings.{IsSetting, Setting}
-use Rattle.fp_allowed.proofs.RowClasses.{allowed-class}
+use Rattle.fp_allowed.proofs.RowClasses.{allowed_in-IsClass}
 use Rattle.fp_prices.specs.declared.bases.ForcedClasses.{ForcedClasses}
 use Rattle.fp_prices.specs.declared.bounds.LeafBound.{LeafBound}
 use Rattle.fp_prices.specs.declared.bounds.LeafBound.TheVariants.{Empty, Value}
@@ -92,7 +92,7 @@ module _ (p : Problem) (windows : WindowTable) (net : TimedNetwork) (sides : Lis
   tells-forced = record { long = is.forced_of.are.row_long; exact = is.forced_of.are.told }
 
   allows-classes : (k : ℕ) → AllowsClasses net (allowed_of k)
-  allows-classes k c h = allowed-class (setting_of p windows net) sides k c is.setting h
+  allows-classes k c h = allowed_in-IsClass (setting_of p windows net) sides k c is.setting h
 
   module _ (tables : List (List ClassShare)) (kind : Kind) (pricing : LeafPricing) (same : pricing.instance.now ≡ p) (same_net : pricing.network.now ≡ net)
       (prices : (allowed : ℕ → Leg → Bool) (chains : List (List Leg)) → AreRowsOf net allowed rows → TellsForced net chains forced.row → IsPricing tables allowed kind chains pricing) where

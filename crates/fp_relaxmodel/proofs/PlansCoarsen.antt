@@ -6,20 +6,21 @@ use Rattle.std.specs.declared.vec.Vec.{Vec}
 use Rattle.std.specs.List.{AllByRecursion, AllZip}
 use Rattle.fp_model.specs.declared.parts.Leg.{Leg}
 use Rattle.fp_model.specs.declared.parts.Shipment.{Shipment}
-use Rattle.fp_model.specs.Costs.{cost, lists_of}
-use Rattle.fp_model.specs.Numbered.{AllFrom, AllZipFrom}
+use Rattle.fp_model.specs.Costs.{cost}
+use Rattle.fp_lists.specs.Vectors.{lists_of}
+use Rattle.fp_lists.specs.Numbered.{AllZipFrom, AllFrom}
 use Rattle.fp_model.specs.Plans.{IsPlan}
 use Rattle.fp_model.specs.Problem.{Problem}
 use Rattle.fp_model.specs.Routes.{ArcsExist, Carries, IsRoute, arcs_of}
 use Rattle.fp_model.proofs.Bounds.{length-lists_of}
-use Rattle.fp_model.proofs.Places.{at-map}
+use Rattle.fp_lists.proofs.Maps.{get_or-map_default}
 use Rattle.fp_flatnet.specs.declared.window_tables.Window.{Window}
 use Rattle.fp_flatnet.specs.Windows.{PlanLiesWithin}
 use Rattle.fp_longestarcs.proofs.ClassCosts.{cost-classes}
 use Rattle.fp_tree.specs.Sides.{MeetsAll}
 use Rattle.fp_allowed.specs.Allowed.{PlanObeys, exit_of, is_allowed}
 use Rattle.fp_allowed.specs.Walks.{IsTimedWalk}
-use Rattle.fp_allowed.proofs.PlanClasses.{arcs_of-classes, plan-timed}
+use Rattle.fp_allowed.proofs.PlanClasses.{arcs_of-classes, plan_timed}
 use Rattle.fp_relaxmodel.specs.Relaxed.{CoarsensPlans, HasRoutes, IsRelaxedPlan, IsRelaxedWalk, coarsened}
 
 -- every leg meets no sides
@@ -82,7 +83,7 @@ pub relaxed-coarsened : (p : Problem) (windows : ℕ → ℕ → Option Window) 
     IsRelaxedPlan p windows points (coarsened p points d routes)
 relaxed-coarsened p windows points d routes h plan within =
     relaxed-from p windows points 0 p.shipments (coarsened p points d routes) (HasRoutes-coarsened p points d routes plan)
-    (plan-timed p windows points [] d routes h plan within (obeys-none p d routes))
+    (plan_timed p windows points [] d routes h plan within (obeys-none p d routes))
 
 -- routes coarsen into walks that cost no more
 pub cost-coarsened : (p : Problem) (points : ℕ → List ℕ) (d : ℕ) (routes : List (List Leg)) → cost p (coarsened p points d routes) ≤ cost p routes
@@ -99,5 +100,5 @@ route-arcs p routes plan i v view exist lt is =
     let all : All (ArcsExist p) (lists_of routes) = subst (All (ArcsExist p)) (sym view) exist in
     let there : i < length (lists_of routes) = omega (arith, length-lists_of routes, lt) in
     let items : Vec Leg Global → List Leg = λ r. r.items in
-    let same : get_or (lists_of routes) i v.items ≡ v.items = at-map items routes i v ∙ ap items (sym is) in
+    let same : get_or (lists_of routes) i v.items ≡ v.items = get_or-map_default items routes i v ∙ ap items (sym is) in
     subst (ArcsExist p) same (all i v.items there)
