@@ -30,6 +30,3 @@ pub use reading::{read, read_with_index};
 
 /// The error of a call that finds no memory.
 pub type NoMemory = std::alloc::AllocError;
-
-#[cfg(test)]
-mod tests;

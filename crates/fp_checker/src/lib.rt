@@ -21,6 +21,3 @@ pub use rejections::Rejected;
 
 /// The error of a call that finds no memory.
 pub type NoMemory = std::alloc::AllocError;
-
-#[cfg(test)]
-mod tests;

@@ -20,6 +20,3 @@ pub use window_tables::{MOST_ANCHORS, Window, Windows};
 
 /// The error of a call that finds no memory.
 pub type NoMemory = std::alloc::AllocError;
-
-#[cfg(test)]
-mod tests;

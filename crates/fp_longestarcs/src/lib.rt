@@ -18,6 +18,3 @@ pub use networks::{MOST_CLASSES, Network};
 
 /// The error of a call that finds no memory.
 pub type NoMemory = std::alloc::AllocError;
-
-#[cfg(test)]
-mod tests;

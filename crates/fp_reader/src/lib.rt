@@ -16,6 +16,3 @@ pub use reading::{IndexedRead, Read, Tail, instance, instance_with_index};
 
 /// The error of a call that finds no memory.
 pub type NoMemory = std::alloc::AllocError;
-
-#[cfg(test)]
-mod tests;

@@ -23,6 +23,3 @@ pub use terminals::is_route;
 
 /// What a call that allocates can fail with.
 pub type NoMemory = std::alloc::AllocError;
-
-#[cfg(test)]
-mod tests;

@@ -5,8 +5,6 @@ mod edits;
 mod layout;
 mod reads;
 mod sides;
-#[cfg(test)]
-mod tests;
 mod trees;
 mod ways;
 

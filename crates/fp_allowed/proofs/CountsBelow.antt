@@ -1,0 +1,15 @@
+-- Counting the numbers below a bound that pass a test.
+use Rattle.std.proofs.Common.{◌≡◌, ℕ, zero, suc, ◌+◌, ◌<◌, ◌≤◌, Bool, true, false, cond, List, [], ◌∷◌, length, ⊎_elim, refl, ap, subst, arith}
+use Rattle.std.specs.Prelude.{◌≢◌, nat_eq}
+use Rattle.std.proofs.lemmas.Bool.Decides.{eqb_tells}
+use Rattle.std.proofs.lemmas.List.Sums.{sum_by-cons}
+use Rattle.fp_lists.proofs.CountsBelow.{count_below-front}
+use Rattle.fp_rows.specs.Bits.{count_true}
+use Rattle.fp_allowed.specs.Bits.{bit_of}
+use Rattle.fp_lists.specs.Below.{count_below}
+
+-- the true bits of a row
+pub count_true-below : (bits : List Bool) → count_true bits ≡ count_below (length bits) (bit_of bits)
+count_true-below [] = refl
+count_true-below (b ∷ bits) =
+    omega (arith, sum_by-cons (λ x. cond x 1 0) b bits, count_true-below bits, count_below-front (length bits) (bit_of (b ∷ bits)))
