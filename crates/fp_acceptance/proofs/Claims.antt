@@ -10,7 +10,7 @@ use Rattle.fp_model.specs.Numbered.{no_shipment, shipment_at}
 use Rattle.fp_model.specs.Plans.{PlanExists}
 use Rattle.fp_model.specs.Problem.{Problem, IsValid, arc_at}
 use Rattle.fp_model.specs.Routes.{Carries, arcs_of}
-use Rattle.fp_model.proofs.Ceilings.{div_ceil-least}
+use Rattle.fp_lists.proofs.Ceilings.{div_ceil-least}
 use Rattle.fp_model.proofs.Places.{AllZip-places}
 use Rattle.fp_flatnet.specs.Tables.{WindowTable, windows_in}
 use Rattle.fp_flatnet.specs.Windows.{AreWindows, CoverPlans}
@@ -20,7 +20,8 @@ use Rattle.fp_tree.specs.declared.sides.Side.{Side}
 use Rattle.fp_tree.specs.declared.sides.Split.{Split}
 use Rattle.fp_tree.specs.declared.sides.Split.TheVariants.{ByArc, ByTime}
 use Rattle.fp_tree.specs.Sides.{IsTailOfSplit}
-use Rattle.fp_tree.specs.Trees.{AnyByRecursion, HaveTails, Leaf, tree_leaves}
+use Rattle.fp_tree.specs.Trees.{HaveTails, Leaf, tree_leaves}
+use Rattle.fp_lists.specs.Elements.{AnyByRecursion}
 use Rattle.fp_prices.specs.Leaves.{IsLeafEmpty, IsLeafValue, IsPlanOfLeaf}
 use Rattle.fp_prices.specs.Prices.{AllKeepRule}
 use Rattle.fp_prices.proofs.PlanBounds.{leaf-bounds, leaf-empty}

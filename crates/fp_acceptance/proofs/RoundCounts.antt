@@ -67,16 +67,16 @@ run-few round (suc m) (q ∷ added) rise from ended =
     (λ other. omega (arith, count-other round q added other, rest))
 
 -- where no point has the round of the eighth after it, a round has at most 8
-pub few-in_rounds : (added : List AddedPoint) → RoundsAscend added →
+pub count_in_few : (added : List AddedPoint) → RoundsAscend added →
     ((i : ℕ) (d : AddedPoint) → i + 8 < length added → (get_or added i d).round ≢ (get_or added (i + 8) d).round) → (round : ℕ) → count_in round added ≤ 8
-few-in_rounds [] rise apart round = omega arith
-few-in_rounds (q ∷ added) rise apart round =
+count_in_few [] rise apart round = omega arith
+count_in_few (q ∷ added) rise apart round =
     own-or-other (count_in round (q ∷ added) ≤ 8) round q
     (λ own. run-few round 8 (q ∷ added) rise (from own) (λ d lt same. apart 0 d (omega (arith, lt)) (own ∙ sym same)))
     (λ other. omega (
       arith,
       count-other round q added other,
-      few-in_rounds added (ascend-tail q added rise)
+      count_in_few added (ascend-tail q added rise)
           (λ i d lt.
           let on : suc i + 8 ≡ suc (i + 8) = omega arith in
           subst (λ (k : ℕ). (get_or added i d).round ≢ (get_or (q ∷ added) k d).round) on (apart (suc i) d (omega (arith, lt))))
@@ -110,9 +110,9 @@ ascend-at added i j d rise le lt =
     (cases_lt i j)
 
 -- where a point has the round of the eighth after it, that round has more than 8
-pub many-in_round : (added : List AddedPoint) (i : ℕ) (d : AddedPoint) → RoundsAscend added → i + 8 < length added → (get_or added i d).round ≡ (get_or added (i + 8) d).round →
+pub count_in_many : (added : List AddedPoint) (i : ℕ) (d : AddedPoint) → RoundsAscend added → i + 8 < length added → (get_or added i d).round ≡ (get_or added (i + 8) d).round →
     ((round : ℕ) → count_in round added ≤ 8) → ⊥
-many-in_round added i d rise lt same few =
+count_in_many added i d rise lt same few =
     let round : ℕ = (get_or added i d).round in
     let nine : 9 ≤ count_in round added =
     run-many round i 9 added d (omega (arith, lt))
@@ -152,5 +152,5 @@ length-count_below n (q ∷ added) within =
     omega (arith, count_below-own n q added (within 0 q (omega arith)), length-count_below n added (λ k d lt. within (suc k) d (omega (arith, lt))))
 
 -- with at most 8 a round there are at most 8 times as many as rounds
-pub few-in_all : (n : ℕ) (added : List AddedPoint) → ((round : ℕ) → count_in round added ≤ 8) → ((k : ℕ) (d : AddedPoint) → k < length added → (get_or added k d).round < n) → length added ≤ 8 * n
-few-in_all n added few within = omega (arith, length-count_below n added within, count_below-few n added few)
+pub length-count_in : (n : ℕ) (added : List AddedPoint) → ((round : ℕ) → count_in round added ≤ 8) → ((k : ℕ) (d : AddedPoint) → k < length added → (get_or added k d).round < n) → length added ≤ 8 * n
+length-count_in n added few within = omega (arith, length-count_below n added within, count_below-few n added few)

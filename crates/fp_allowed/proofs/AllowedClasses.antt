@@ -14,22 +14,23 @@ use Rattle.fp_flatnet.specs.Windows.{IsInside}
 use Rattle.fp_longestarcs.specs.Classes.{class_of}
 use Rattle.fp_tree.specs.declared.sides.Side.{Side}
 use Rattle.fp_tree.specs.Sides.{MeetsAll}
-use Rattle.fp_allowed.specs.Allowed.{exit_of, has_moment, is_allowed, is_moment, meets_all, some_below, tails_of}
+use Rattle.fp_allowed.specs.Allowed.{exit_of, has_moment, is_allowed, is_moment, meets_all, tails_of}
+use Rattle.fp_lists.specs.Below.{some_below}
 use Rattle.fp_allowed.proofs.SideTests.{meets_all_true}
 
 -- a number below n that passes a test
-pub some_below_true : (n m : ℕ) (test : ℕ → Bool) → m < n → test m ≡ true → some_below n test ≡ true
-some_below_true zero m test h is = absurd (omega (arith, h))
-some_below_true (suc n) m test h is =
+pub some_below-true : (n m : ℕ) (test : ℕ → Bool) → m < n → test m ≡ true → some_below n test ≡ true
+some_below-true zero m test h is = absurd (omega (arith, h))
+some_below-true (suc n) m test h is =
     ⊎_elim
     (λ (same : (nat_eq m n ≡ true) × (m ≡ n)). or_left (test n) (some_below n test) (subst (λ (k : ℕ). test k ≡ true) same.1 is))
-    (λ (other : (nat_eq m n ≡ false) × (m ≢ n)). or_right (test n) (some_below n test) (some_below_true n m test (omega (arith, h, other.1)) is))
+    (λ (other : (nat_eq m n ≡ false) × (m ≢ n)). or_right (test n) (some_below n test) (some_below-true n m test (omega (arith, h, other.1)) is))
     (eqb_tells m n)
 
-some_below_witness : (n : ℕ) (test : ℕ → Bool) → some_below n test ≡ true → (m : ℕ) × (test m ≡ true)
-some_below_witness zero test h = absurd (false≢true h)
-some_below_witness (suc n) test h =
-    ⊎_elim (λ (here : test n ≡ true). (n, here)) (λ (later : some_below n test ≡ true). some_below_witness n test later) (or_cases (test n) (some_below n test) h)
+some_below-witness : (n : ℕ) (test : ℕ → Bool) → some_below n test ≡ true → (m : ℕ) × (test m ≡ true)
+some_below-witness zero test h = absurd (false≢true h)
+some_below-witness (suc n) test h =
+    ⊎_elim (λ (here : test n ≡ true). (n, here)) (λ (later : some_below n test ≡ true). some_below-witness n test later) (or_cases (test n) (some_below n test) h)
 
 -- a whole moment of a class that lies in a window and meets the sides
 pub record HasMoment (p : Problem) (points : ℕ → List ℕ) (sides : List Side) (k : ℕ) (c : Leg) (w : Window) : Type 0 where
@@ -42,7 +43,7 @@ pub record HasMoment (p : Problem) (points : ℕ → List ℕ) (sides : List Sid
 has_moment_from : (p : Problem) (points : ℕ → List ℕ) (sides : List Side) (k : ℕ) (c : Leg) (o : Option Window) → IsSomeAnd o (HasMoment p points sides k c) → has_moment p points sides k c o ≡ true
 has_moment_from p points sides k c None has = absurd has
 has_moment_from p points sides k c (Some w) has =
-    some_below_true (w.hi + 1) has.moment (is_moment p points sides k c w) (omega (arith, has.before))
+    some_below-true (w.hi + 1) has.moment (is_moment p points sides k c w) (omega (arith, has.before))
     (rw (
       eq-eqb (floor_point (points (tails_of p c.arc)) 1 has.moment) c.depart has.falls,
       le-leb w.lo has.moment has.after,
@@ -53,7 +54,7 @@ has_moment_from p points sides k c (Some w) has =
 has_moment_parts : (p : Problem) (points : ℕ → List ℕ) (sides : List Side) (k : ℕ) (c : Leg) (o : Option Window) → has_moment p points sides k c o ≡ true → IsSomeAnd o (HasMoment p points sides k c)
 has_moment_parts p points sides k c None h = absurd (false≢true h)
 has_moment_parts p points sides k c (Some w) h =
-    let some = some_below_witness (w.hi + 1) (is_moment p points sides k c w) h in
+    let some = some_below-witness (w.hi + 1) (is_moment p points sides k c w) h in
     let m : ℕ = some.0 in
     let in_class : Bool = nat_eq (floor_point (points (tails_of p c.arc)) 1 m) c.depart in
     let met : Bool = meets_all k sides (exit_of p (record { arc = c.arc; depart = m })) in

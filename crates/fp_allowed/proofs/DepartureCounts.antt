@@ -12,9 +12,10 @@ use Rattle.fp_flatnet.specs.Belonging.{BelongsTo, IsNarrowed}
 use Rattle.fp_flatnet.specs.Tables.{WindowTable, windows_in}
 use Rattle.fp_tree.specs.declared.sides.Side.{Side}
 use Rattle.fp_allowed.specs.Allowed.{exit_of, tails_of}
-use Rattle.fp_allowed.specs.Departures.{count_below, departures_below, departures_in, is_departure}
+use Rattle.fp_allowed.specs.Departures.{departures_below, departures_in, is_departure}
+use Rattle.fp_lists.specs.Below.{count_below}
 use Rattle.fp_allowed.specs.Moments.{all_let, concerned}
-use Rattle.fp_allowed.proofs.CountsBelow.{count_below_le, count_below_same}
+use Rattle.fp_lists.proofs.CountsBelow.{count_below-same, count_below-le}
 use Rattle.fp_allowed.proofs.OpenMoments.{meets_all-concerned}
 
 -- the window is some time up to the latest
@@ -34,7 +35,7 @@ windows_in_time p table k a belongs shipment arc =
 departures-let : (p : Problem) (k arc : ℕ) (sides own : List Side) (w : Window) → own ≡ concerned p k (tails_of p arc) sides →
     count_below (w.hi + 1) (λ m. nat_le w.lo m && all_let arc m own) ≡ departures_in p sides k arc (Some w)
 departures-let p k arc sides own w is =
-    count_below_same (w.hi + 1) (λ m. nat_le w.lo m && all_let arc m own) (is_departure p sides k arc w)
+    count_below-same (w.hi + 1) (λ m. nat_le w.lo m && all_let arc m own) (is_departure p sides k arc w)
     (λ m h. ap (λ (b : Bool). nat_le w.lo m && b) (ap (λ (l : List Side). all_let arc m l) is ∙ sym (meets_all-concerned p k (exit_of p (record { arc = arc; depart = m })) sides refl)))
 
 pub departures_some : (p : Problem) (k arc lo hi n : ℕ) (sides own : List Side) (o : Option Window) → option_map {U = ℕ × ℕ} (λ w. (w.lo, w.hi)) o ≡ Some (lo, hi) → own ≡ concerned p k (tails_of p arc) sides →
@@ -53,7 +54,7 @@ departures_none p k arc sides (Some w) is = cc is
 -- at each arc there are at most as many departures as moments
 pub departures_in_le : (p : Problem) (k arc : ℕ) (sides : List Side) (o : Option Window) → IfSome o IsInTime → departures_in p sides k arc o ≤ 100001
 departures_in_le p k arc sides None in_time = omega arith
-departures_in_le p k arc sides (Some w) in_time = omega (arith, count_below_le (w.hi + 1) (is_departure p sides k arc w), in_time.1)
+departures_in_le p k arc sides (Some w) in_time = omega (arith, count_below-le (w.hi + 1) (is_departure p sides k arc w), in_time.1)
 
 -- one arc more
 pub departures_here : (p : Problem) (windows : ℕ → ℕ → Option Window) (sides : List Side) (k terminal a n : ℕ) → tails_of p a ≡ terminal → n ≡ departures_in p sides k a (windows k a) →

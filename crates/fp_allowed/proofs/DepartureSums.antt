@@ -14,7 +14,7 @@ use Rattle.fp_tree.specs.Sides.{Exit, first_of_split, second_of_split}
 use Rattle.fp_allowed.specs.Allowed.{exit_of, meets, meets_all, tails_of}
 use Rattle.fp_allowed.specs.Departures.{IsSplitAt, departures_below, departures_in, departures_left, is_departure}
 use Rattle.fp_allowed.proofs.AllowedClasses.{HasMoment}
-use Rattle.fp_allowed.proofs.CountsBelow.{count_below_divided, count_below_some, one_if}
+use Rattle.fp_lists.proofs.CountsBelow.{count_below-divided, count_below-some, one_if}
 
 -- what meets sides and one more
 pub meets_all_push : (k : ℕ) (sides : List Side) (side : Side) (e : Exit) → meets_all k (sides ++ (side ∷ [])) e ≡ (meets_all k sides e && meets k e side)
@@ -59,7 +59,7 @@ module _ (p : Problem) (windows : ℕ → ℕ → Option Window) (sides : List S
   in_divided : (arc : ℕ) (o : Option Window) → tails_of p arc ≡ terminal → departures_in p with_first k arc o + departures_in p with_second k arc o ≡ departures_in p sides k arc o
   in_divided arc None leaves = refl
   in_divided arc (Some w) leaves =
-      count_below_divided (w.hi + 1) (is_departure p with_first k arc w) (is_departure p with_second k arc w) (is_departure p sides k arc w)
+      count_below-divided (w.hi + 1) (is_departure p with_first k arc w) (is_departure p with_second k arc w) (is_departure p sides k arc w)
       (λ m.
       let e : Exit = exit_of p (record { arc = arc; depart = m }) in
       rw (meets_all_push k sides (first_of_split split) e, meets_all_push k sides (second_of_split split terminal) e)
@@ -87,7 +87,7 @@ module _ (p : Problem) (windows : ℕ → ℕ → Option Window) (sides : List S
 departure_in : (p : Problem) (points : ℕ → List ℕ) (sides : List Side) (k : ℕ) (c : Leg) (o : Option Window) → IsSomeAnd o (HasMoment p points sides k c) → 1 ≤ departures_in p sides k c.arc o
 departure_in p points sides k c None has = absurd has
 departure_in p points sides k c (Some w) has =
-    count_below_some (w.hi + 1) has.moment (is_departure p sides k c.arc w) (omega (arith, has.before))
+    count_below-some (w.hi + 1) has.moment (is_departure p sides k c.arc w) (omega (arith, has.before))
     (and_from (nat_le w.lo has.moment) (meets_all k sides (exit_of p (record { arc = c.arc; depart = has.moment }))) (le-leb w.lo has.moment has.after) has.met)
 
 departure_below : (p : Problem) (windows : ℕ → ℕ → Option Window) (points : ℕ → List ℕ) (sides : List Side) (k terminal : ℕ) (c : Leg) (a : ℕ) → c.arc < a → tails_of p c.arc ≡ terminal →

@@ -8,15 +8,15 @@ use Rattle.fp_model.specs.declared.parts.Leg.{Leg}
 use Rattle.fp_model.specs.declared.parts.Shipment.{Shipment}
 use Rattle.fp_model.specs.Numbered.{no_shipment, shipment_at}
 use Rattle.fp_model.specs.Problem.{Problem, arc_at}
-use Rattle.fp_model.specs.Routes.{AreApart, IsRoute, Leads, arcs_of, ends_of}
-use Rattle.fp_model.proofs.Sums.{each-weaker}
-use Rattle.fp_timenodes.specs.Floor.{has_point}
-use Rattle.fp_timenodes.proofs.PointLists.{has_point_rest, has_point_first, has_point_cases}
+use Rattle.fp_model.specs.Routes.{IsRoute, Leads, arcs_of, ends_of}
+use Rattle.fp_lists.specs.Distinct.{AreDistinct}
+use Rattle.fp_lists.proofs.Elements.{AllByRecursion-weaker}
+use Rattle.fp_lists.specs.Membership.{list_has}
+use Rattle.fp_lists.proofs.Membership.{list_has-rest, list_has-first, list_has-cons_cases, list_has-get_or}
 use Rattle.fp_flatnet.specs.declared.window_tables.Window.{Window}
 use Rattle.fp_flatnet.specs.Belonging.{BelongsTo, IsNarrowed}
 use Rattle.fp_flatnet.specs.Tables.{WindowTable, windows_in}
 use Rattle.fp_longestarcs.specs.Networks.{points_in}
-use Rattle.fp_longestarcs.proofs.Places.{has-place}
 use Rattle.fp_tree.specs.declared.sides.Side.{Side}
 use Rattle.fp_allowed.specs.declared.chain_ends.ChainEnd.{ChainEnd}
 use Rattle.fp_allowed.specs.declared.chain_ends.ChainEnd.TheVariants.{Reached, Several, Stuck}
@@ -84,7 +84,7 @@ module _ (p : Problem) (allowed : Leg → Bool) where
   -- the terminals on the way of forced classes to the destination differ, and none of them was met
   -- before
   record AreNew (met on_way : List ℕ) : Type 0 where
-    apart : AreApart on_way
+    apart : AreDistinct on_way
     outside : AllByRecursion (IsOutside met) on_way
 
   terminals_new : (there : ℕ) (met : List ℕ) (here : ℕ) (chain : List Leg) → AreForced p allowed there met here chain → chain_stop p here chain ≡ there → IsOutside met there →
@@ -94,8 +94,8 @@ module _ (p : Problem) (allowed : Leg → Bool) where
       let on_way : List ℕ = (arc_at p c.arc).to ∷ ends_of p (arcs_of chain) in
       let new : AreNew (here ∷ met) on_way = terminals_new there (here ∷ met) (arc_at p c.arc).to chain forced.3 stop (forced.0, outside) in
       record {
-        apart = (each-weaker (IsOutside (here ∷ met)) (λ t. t ≢ here) (λ t out e. out.0 (sym e)) on_way new.outside, new.apart);
-        outside = (forced.1, each-weaker (IsOutside (here ∷ met)) (IsOutside met) (λ t out. out.1) on_way new.outside);
+        apart = (AllByRecursion-weaker (IsOutside (here ∷ met)) (λ t. t ≢ here) (λ t out e. out.0 (sym e)) on_way new.outside, new.apart);
+        outside = (forced.1, AllByRecursion-weaker (IsOutside (here ∷ met)) (IsOutside met) (λ t out. out.1) on_way new.outside);
       }
 
   -- so a chain that reaches the destination is a route
@@ -117,10 +117,10 @@ module _ (p : Problem) (allowed : Leg → Bool) where
     away : t ≢ there
     class : Leg
     only : IsOnly p allowed t class
-    next : (has_point left (arc_at p class.arc).to ≡ true) ⊎ ((arc_at p class.arc).to ≡ stop)
+    next : (list_has left (arc_at p class.arc).to ≡ true) ⊎ ((arc_at p class.arc).to ≡ stop)
 
   -- each terminal that a chain leaves has such a class
-  goes_on : (there : ℕ) (met : List ℕ) (here : ℕ) (chain : List Leg) (t : ℕ) → AreForced p allowed there met here chain → has_point (terminals_left p chain) t ≡ true →
+  goes_on : (there : ℕ) (met : List ℕ) (here : ℕ) (chain : List Leg) (t : ℕ) → AreForced p allowed there met here chain → list_has (terminals_left p chain) t ≡ true →
       GoesOn there (terminals_left p chain) (chain_stop p here chain) t
   goes_on there met here [] t forced has = absurd (cc has)
   goes_on there met here (c ∷ chain) t forced has =
@@ -128,42 +128,42 @@ module _ (p : Problem) (allowed : Leg → Bool) where
       let stop : ℕ = chain_stop p (arc_at p c.arc).to chain in
       ⊎_elim
       (λ (first : tails_of p c.arc ≡ t). subst (λ (n : ℕ). GoesOn there (tails_of p c.arc ∷ left) stop n) (sym forced.2.leaves ∙ first) (record { away = forced.0; class = c; only = forced.2; next = next chain forced.3 }))
-      (λ (later : has_point left t ≡ true).
+      (λ (later : list_has left t ≡ true).
       let on : GoesOn there left stop t = goes_on there (here ∷ met) (arc_at p c.arc).to chain t forced.3 later in
       record {
         away = on.away;
         class = on.class;
         only = on.only;
-        next = ⊎_elim (λ (h : has_point left (arc_at p on.class.arc).to ≡ true). inl (has_point_rest (tails_of p c.arc) left (arc_at p on.class.arc).to h)) (λ (e : (arc_at p on.class.arc).to ≡ stop). inr e) on.next;
+        next = ⊎_elim (λ (h : list_has left (arc_at p on.class.arc).to ≡ true). inl (list_has-rest (tails_of p c.arc) left (arc_at p on.class.arc).to h)) (λ (e : (arc_at p on.class.arc).to ≡ stop). inr e) on.next;
       })
-      (has_point_cases (tails_of p c.arc) left t has)
+      (list_has-cons_cases (tails_of p c.arc) left t has)
     where
       next : (rest : List Leg) → AreForced p allowed there (here ∷ met) (arc_at p c.arc).to rest →
-          (has_point (tails_of p c.arc ∷ terminals_left p rest) (arc_at p c.arc).to ≡ true) ⊎ ((arc_at p c.arc).to ≡ chain_stop p (arc_at p c.arc).to rest)
+          (list_has (tails_of p c.arc ∷ terminals_left p rest) (arc_at p c.arc).to ≡ true) ⊎ ((arc_at p c.arc).to ≡ chain_stop p (arc_at p c.arc).to rest)
       next [] on = inr refl
       next (d ∷ rest) on =
           inl
-          (has_point_rest (tails_of p c.arc) (tails_of p d.arc ∷ terminals_left p rest) (arc_at p c.arc).to
-          (subst (λ (n : ℕ). has_point (tails_of p d.arc ∷ terminals_left p rest) n ≡ true) on.2.leaves (has_point_first (tails_of p d.arc) (terminals_left p rest))))
+          (list_has-rest (tails_of p c.arc) (tails_of p d.arc ∷ terminals_left p rest) (arc_at p c.arc).to
+          (subst (λ (n : ℕ). list_has (tails_of p d.arc ∷ terminals_left p rest) n ≡ true) on.2.leaves (list_has-first (tails_of p d.arc) (terminals_left p rest))))
 
   -- no walk leads away from terminals whose only allowed classes go on among them and to one more
   -- that none leaves or is among them
-  never_there : (there stop : ℕ) (left : List ℕ) → ((t : ℕ) → has_point left t ≡ true → GoesOn there left stop t) → stop ≢ there → (has_point left stop ≡ true) ⊎ NoneLeaves p allowed stop →
-      (here : ℕ) (walk : List Leg) → (has_point left here ≡ true) ⊎ (here ≡ stop) → Leads p here (arcs_of walk) there → AllByRecursion (λ c. allowed c ≡ true) walk → ⊥
+  never_there : (there stop : ℕ) (left : List ℕ) → ((t : ℕ) → list_has left t ≡ true → GoesOn there left stop t) → stop ≢ there → (list_has left stop ≡ true) ⊎ NoneLeaves p allowed stop →
+      (here : ℕ) (walk : List Leg) → (list_has left here ≡ true) ⊎ (here ≡ stop) → Leads p here (arcs_of walk) there → AllByRecursion (λ c. allowed c ≡ true) walk → ⊥
   never_there there stop left on away held here [] (inl has) leads all = (on here has).away leads
   never_there there stop left on away held here [] (inr at) leads all = away (sym at ∙ leads)
   never_there there stop left on away held here (w ∷ walk) place leads all = never_there there stop left on away held (arc_at p w.arc).to walk (step-on place) leads.2 all.1
     where
-      from-left : has_point left here ≡ true → (has_point left (arc_at p w.arc).to ≡ true) ⊎ ((arc_at p w.arc).to ≡ stop)
+      from-left : list_has left here ≡ true → (list_has left (arc_at p w.arc).to ≡ true) ⊎ ((arc_at p w.arc).to ≡ stop)
       from-left has =
           let goes : GoesOn there left stop here = on here has in
-          subst (λ (l : Leg). (has_point left (arc_at p l.arc).to ≡ true) ⊎ ((arc_at p l.arc).to ≡ stop)) (sym (goes.only.alone w all.0 leads.1)) goes.next
+          subst (λ (l : Leg). (list_has left (arc_at p l.arc).to ≡ true) ⊎ ((arc_at p l.arc).to ≡ stop)) (sym (goes.only.alone w all.0 leads.1)) goes.next
 
-      from-stop : here ≡ stop → (has_point left stop ≡ true) ⊎ NoneLeaves p allowed stop → (has_point left (arc_at p w.arc).to ≡ true) ⊎ ((arc_at p w.arc).to ≡ stop)
-      from-stop at (inl back) = from-left (subst (λ (n : ℕ). has_point left n ≡ true) (sym at) back)
+      from-stop : here ≡ stop → (list_has left stop ≡ true) ⊎ NoneLeaves p allowed stop → (list_has left (arc_at p w.arc).to ≡ true) ⊎ ((arc_at p w.arc).to ≡ stop)
+      from-stop at (inl back) = from-left (subst (λ (n : ℕ). list_has left n ≡ true) (sym at) back)
       from-stop at (inr none) = absurd (none w all.0 (leads.1 ∙ at))
 
-      step-on : (has_point left here ≡ true) ⊎ (here ≡ stop) → (has_point left (arc_at p w.arc).to ≡ true) ⊎ ((arc_at p w.arc).to ≡ stop)
+      step-on : (list_has left here ≡ true) ⊎ (here ≡ stop) → (list_has left (arc_at p w.arc).to ≡ true) ⊎ ((arc_at p w.arc).to ≡ stop)
       step-on (inl has) = from-left has
       step-on (inr at) = from-stop at held
 
@@ -173,15 +173,15 @@ module _ (p : Problem) (allowed : Leg → Bool) where
   Stuck-no_walk s chain walk terminal is ends leads all =
       never_there s.to (chain_stop p s.from chain) (terminals_left p chain) (λ t has. goes_on s.to [] s.from chain t is.forced has) (λ e. ends.1 (sym ends.0 ∙ e)) (held ends.2) s.from walk (starts chain is.forced) leads all
     where
-      held : (Contains (terminals_left p chain) terminal) ⊎ NoneLeaves p allowed terminal → (has_point (terminals_left p chain) (chain_stop p s.from chain) ≡ true) ⊎ NoneLeaves p allowed (chain_stop p s.from chain)
+      held : (Contains (terminals_left p chain) terminal) ⊎ NoneLeaves p allowed terminal → (list_has (terminals_left p chain) (chain_stop p s.from chain) ≡ true) ⊎ NoneLeaves p allowed (chain_stop p s.from chain)
       held (inl back) =
-          let there : has_point (terminals_left p chain) terminal ≡ true = subst (λ (n : ℕ). has_point (terminals_left p chain) n ≡ true) back.2 (has-place (terminals_left p chain) back.0 terminal back.1) in
-          inl (subst (λ (n : ℕ). has_point (terminals_left p chain) n ≡ true) (sym ends.0) there)
+          let there : list_has (terminals_left p chain) terminal ≡ true = subst (λ (n : ℕ). list_has (terminals_left p chain) n ≡ true) back.2 (list_has-get_or (terminals_left p chain) back.0 terminal back.1) in
+          inl (subst (λ (n : ℕ). list_has (terminals_left p chain) n ≡ true) (sym ends.0) there)
       held (inr none) = inr (subst (λ (n : ℕ). NoneLeaves p allowed n) (sym ends.0) none)
 
-      starts : (legs : List Leg) → AreForced p allowed s.to [] s.from legs → (has_point (terminals_left p legs) s.from ≡ true) ⊎ (s.from ≡ chain_stop p s.from legs)
+      starts : (legs : List Leg) → AreForced p allowed s.to [] s.from legs → (list_has (terminals_left p legs) s.from ≡ true) ⊎ (s.from ≡ chain_stop p s.from legs)
       starts [] forced = inr refl
-      starts (c ∷ legs) forced = inl (subst (λ (n : ℕ). has_point (tails_of p c.arc ∷ terminals_left p legs) n ≡ true) forced.2.leaves (has_point_first (tails_of p c.arc) (terminals_left p legs)))
+      starts (c ∷ legs) forced = inl (subst (λ (n : ℕ). list_has (tails_of p c.arc ∷ terminals_left p legs) n ≡ true) forced.2.leaves (list_has-first (tails_of p c.arc) (terminals_left p legs)))
 
 -- in a setting, of the forced chain of a shipment
 module _ (s : Setting) (sides : List Side) (k : ℕ) (chain : ForcedChain) (is : IsSetting s) (exists : k < length s.problem.shipments)

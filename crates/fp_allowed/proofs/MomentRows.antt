@@ -9,9 +9,10 @@ use Rattle.fp_rows.specs.Bits.{count_true, with_range}
 use Rattle.fp_tree.specs.declared.sides.Side.{Side}
 use Rattle.fp_allowed.specs.declared.departures_left.TheConstants.{MOMENTS}
 use Rattle.fp_allowed.specs.Bits.{bit_of}
-use Rattle.fp_allowed.specs.Departures.{count_below}
+use Rattle.fp_lists.specs.Below.{count_below}
 use Rattle.fp_allowed.specs.Moments.{all_let, in_range, is_open, lets}
-use Rattle.fp_allowed.proofs.CountsBelow.{count_below_more, count_below_same, count_true-below}
+use Rattle.fp_allowed.proofs.CountsBelow.{count_true-below}
+use Rattle.fp_lists.proofs.CountsBelow.{count_below-more, count_below-same}
 use Rattle.fp_allowed.proofs.OpenMoments.{all_let_step}
 use Rattle.fp_allowed.proofs.RowBits.{bit_of-with_range, length-with_range}
 
@@ -90,8 +91,8 @@ module _ (w : Window) (arc : ℕ) (sides : List Side) where
   open-counted in_time =
       let test : ℕ → Bool = λ m. is_open (Some w) m && all_let arc m sides in
       let apart : w.hi + 1 + (MOMENTS - (w.hi + 1)) ≡ MOMENTS = omega arith in
-      ap (λ (n : ℕ). count_below n test) (sym apart) ∙ count_below_more (w.hi + 1) (MOMENTS - (w.hi + 1)) test closed-after ∙
-      count_below_same (w.hi + 1) test (λ m. nat_le w.lo m && all_let arc m sides) open-until
+      ap (λ (n : ℕ). count_below n test) (sym apart) ∙ count_below-more (w.hi + 1) (MOMENTS - (w.hi + 1)) test closed-after ∙
+      count_below-same (w.hi + 1) test (λ m. nat_le w.lo m && all_let arc m sides) open-until
 
   -- where all sides were taken, the bits are the open moments
   bits-open : (i : ℕ) (row : List Bool) → length sides ≤ i → MomentsLeft w arc sides i row → (m : ℕ) → m < MOMENTS → bit_of row m ≡ (is_open (Some w) m && all_let arc m sides)
@@ -103,4 +104,4 @@ module _ (w : Window) (arc : ℕ) (sides : List Side) where
       count_true row ≡ count_below (w.hi + 1) (λ m. nat_le w.lo m && all_let arc m sides)
   moments_counted i row in_time all left =
       count_true-below row ∙ ap (λ (n : ℕ). count_below n (bit_of row)) left.long ∙
-      count_below_same MOMENTS (bit_of row) (λ m. is_open (Some w) m && all_let arc m sides) (bits-open i row all left) ∙ open-counted in_time
+      count_below-same MOMENTS (bit_of row) (λ m. is_open (Some w) m && all_let arc m sides) (bits-open i row all left) ∙ open-counted in_time

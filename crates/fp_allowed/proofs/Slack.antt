@@ -3,16 +3,16 @@
 use Rattle.std.proofs.Common.{◌≡◌, ℕ, zero, suc, ◌+◌, ◌<◌, ◌≤◌, Bool, true, false, ◌&&◌, List, [], ◌∷◌, ◌++◌, length, ⊎_elim, refl, sym, ap, ◌∙◌, subst, arith}
 use Rattle.std.specs.Prelude.{nat_eq, nat_le, Option, Some, None}
 use Rattle.std.proofs.lemmas.Bool.{and_from, and_parts, cases_Bool, cases_eq, cond-false, cond-true, eqb-true, false≢true}
-use Rattle.fp_lists.specs.Below.{sum_below}
+use Rattle.fp_lists.specs.Below.{sum_below, count_below}
 use Rattle.fp_model.specs.Problem.{IsValid, Problem, no_arc}
 use Rattle.fp_flatnet.specs.declared.window_tables.Window.{Window}
 use Rattle.fp_tree.specs.declared.sides.Side.{Side}
 use Rattle.fp_tree.specs.declared.sides.Split.{Split}
 use Rattle.fp_tree.specs.Sides.{Exit, first_of_split, second_of_split}
 use Rattle.fp_allowed.specs.Allowed.{AreAmong, exit_of, meets_all, tails_of}
-use Rattle.fp_allowed.specs.Departures.{DividesDepartures, count_below, departures_below, departures_in, departures_left, is_departure}
+use Rattle.fp_allowed.specs.Departures.{DividesDepartures, departures_below, departures_in, departures_left, is_departure}
 use Rattle.fp_allowed.specs.Slack.{slack, slack_at}
-use Rattle.fp_allowed.proofs.CountsBelow.{one_if}
+use Rattle.fp_lists.proofs.CountsBelow.{one_if}
 use Rattle.fp_allowed.proofs.FewerSides.{AreAmong_append, meets_all_fewer}
 
 -- a test that passes wherever another does counts at least as many numbers

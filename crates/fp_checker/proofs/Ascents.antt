@@ -2,25 +2,25 @@
 use Rattle.std.proofs.Common.{◌≡◌, ℕ, zero, suc, ◌+◌, ◌-◌, ◌<◌, ◌≤◌, List, length, get_or, ⊎_elim, inl, inr, subst, arith}
 use Rattle.std.specs.Prelude.{AllPairs}
 use Rattle.std.specs.List.{AllAdjacentBelow}
-use Rattle.fp_timetable.specs.Lines.{Precedes}
+use Rattle.fp_lists.specs.Order.{Precedes}
 
 -- a relation that goes from element to element holds over any distance where it holds of neighbours
-over-distance : {X : Type 0} (R : X → X → Type 0) → ((x y z : X) → R x y → R y z → R x z) → (xs : List X) (i n : ℕ) (d : X) → AllAdjacentBelow R xs (length xs) → i + n + 1 < length xs →
+over_distance : {X : Type 0} (R : X → X → Type 0) → ((x y z : X) → R x y → R y z → R x z) → (xs : List X) (i n : ℕ) (d : X) → AllAdjacentBelow R xs (length xs) → i + n + 1 < length xs →
     R (get_or xs i d) (get_or xs (i + n + 1) d)
-over-distance {X} R goes xs i zero d near lt =
+over_distance {X} R goes xs i zero d near lt =
     let on : i + 1 ≡ i + 0 + 1 = omega arith in
     subst (λ (k : ℕ). R (get_or xs i d) (get_or xs k d)) on (near i d (omega (arith, lt)))
-over-distance {X} R goes xs i (suc n) d near lt =
+over_distance {X} R goes xs i (suc n) d near lt =
     let on : i + n + 1 + 1 ≡ i + suc n + 1 = omega arith in
     subst (λ (k : ℕ). R (get_or xs i d) (get_or xs k d)) on
-    (goes (get_or xs i d) (get_or xs (i + n + 1) d) (get_or xs (i + n + 1 + 1) d) (over-distance R goes xs i n d near (omega (arith, lt))) (near (i + n + 1) d (omega (arith, lt))))
+    (goes (get_or xs i d) (get_or xs (i + n + 1) d) (get_or xs (i + n + 1 + 1) d) (over_distance R goes xs i n d near (omega (arith, lt))) (near (i + n + 1) d (omega (arith, lt))))
 
 -- so it holds of each element and each later one
-pub pairs-from_neighbours : {X : Type 0} (R : X → X → Type 0) → ((x y z : X) → R x y → R y z → R x z) → (xs : List X) (n : ℕ) → AllAdjacentBelow R xs n → length xs ≤ n → AllPairs R xs
-pairs-from_neighbours {X} R goes xs n near long i j d less lt =
+pub AllPairs-from_adjacent : {X : Type 0} (R : X → X → Type 0) → ((x y z : X) → R x y → R y z → R x z) → (xs : List X) (n : ℕ) → AllAdjacentBelow R xs n → length xs ≤ n → AllPairs R xs
+AllPairs-from_adjacent {X} R goes xs n near long i j d less lt =
     let on : i + (j - i - 1) + 1 ≡ j = omega (arith, less) in
     subst (λ (k : ℕ). R (get_or xs i d) (get_or xs k d)) on
-    (over-distance R goes xs i (j - i - 1) d (λ k e h. near k e (omega (arith, h, long))) (omega (arith, on, lt)))
+    (over_distance R goes xs i (j - i - 1) d (λ k e h. near k e (omega (arith, h, long))) (omega (arith, on, lt)))
 
 -- the order of pairs goes from pair to pair
 pub Precedes-trans : (a b c d e f : ℕ) → Precedes a b c d → Precedes c d e f → Precedes a b e f

@@ -4,9 +4,10 @@ use Rattle.std.specs.Prelude.{Option}
 use Rattle.std.specs.List.{AllByRecursion, AllZip}
 use Rattle.fp_model.specs.declared.parts.Leg.{Leg}
 use Rattle.fp_model.specs.declared.parts.Shipment.{Shipment}
-use Rattle.fp_model.specs.Numbered.{AllFrom}
+use Rattle.fp_lists.specs.Numbered.{AllFrom}
 use Rattle.fp_model.specs.Problem.{Problem, arc_at}
-use Rattle.fp_model.specs.Routes.{Leads, Carries, LeavesReady, ArrivesBy, AreApart, step, arcs_of, ends_of}
+use Rattle.fp_model.specs.Routes.{Leads, Carries, LeavesReady, ArrivesBy, step, arcs_of, ends_of}
+use Rattle.fp_lists.specs.Distinct.{AreDistinct}
 use Rattle.fp_flatnet.specs.declared.window_tables.Window.{Window}
 use Rattle.fp_flatnet.specs.Windows.{IsWindowOrNone, AreWindows, LiesWithin, CoverPlans}
 use Rattle.fp_flatnet.proofs.PlanExistence.{arrives-after}
@@ -25,7 +26,7 @@ arrives-later p d due l (m ∷ legs) arrives = arrives
 -- what is left of a route lies within, where `pre` is the way to here
 route-within : (p : Problem) (d : ℕ) (s : Shipment) (windows : ℕ → ℕ → Option Window) (k : ℕ) → 0 < d → ((a : ℕ) → a < length p.arcs → IsWindowOrNone p s a (windows k a)) →
     (legs : List Leg) (pre : List ℕ) (here ready : ℕ) → Leads p s.from pre here → d * (s.release + steps p pre) ≤ ready → Leads p here (arcs_of legs) s.to →
-    LeavesReady p d ready legs → ArrivesBy p d s.due legs → AreApart (here ∷ ends_of p (arcs_of legs)) → AllByRecursion (λ y. y ≢ s.from) (ends_of p (arcs_of legs)) →
+    LeavesReady p d ready legs → ArrivesBy p d s.due legs → AreDistinct (here ∷ ends_of p (arcs_of legs)) → AllByRecursion (λ y. y ≢ s.from) (ends_of p (arcs_of legs)) →
     LiesWithin windows d k legs
 route-within p d s windows k h are [] pre here ready there after leads leaves arrives apart away = tt
 route-within p d s windows k h are (l ∷ legs) pre here ready there after leads leaves arrives apart away =

@@ -5,7 +5,8 @@ use Rattle.std.proofs.lemmas.Bool.{both_ways, cases_lt}
 use Rattle.fp_model.specs.declared.parts.Leg.{Leg}
 use Rattle.fp_model.specs.Problem.{IsValid, Problem, arc_at}
 use Rattle.fp_model.specs.Routes.{step}
-use Rattle.fp_timenodes.specs.Floor.{floor_point, has_point}
+use Rattle.fp_timenodes.specs.Floor.{floor_point}
+use Rattle.fp_lists.specs.Membership.{list_has}
 use Rattle.fp_timenodes.proofs.Floors.{IsFloorPoint-floor_point, floor_le}
 use Rattle.fp_longestarcs.specs.Classes.{head_of}
 use Rattle.fp_longestarcs.specs.Networks.{IsClass, TimedNetwork, kept_head, points_in}
@@ -24,15 +25,15 @@ kept_head_le p net c whole is = omega (arith, kept-greatest p net c whole is, he
 
 -- where what a class could reach is no point, its head lies before that
 pub kept_head_short : (p : Problem) (net : TimedNetwork) (arc point : ℕ) → IsValid p → IsWholeNetwork p net → IsClass net (record { arc = arc; depart = point }) →
-    has_point (points_in net (arc_at p arc).to) (point + step p arc) ≡ false → kept_head net (record { arc = arc; depart = point }) < point + step p arc
+    list_has (points_in net (arc_at p arc).to) (point + step p arc) ≡ false → kept_head net (record { arc = arc; depart = point }) < point + step p arc
 kept_head_short p net arc point valid whole is new =
     ⊎_elim
     (λ (short : kept_head net c < end). short)
     (λ (reached : end ≤ kept_head net c).
     let same : floor_point ends 1 end ≡ end = omega (arith, reached, kept-greatest p net c whole is, kept_head_le p net c whole is) in
-    let there : has_point ends end ≡ true =
-    subst (λ (n : ℕ). has_point ends n ≡ true) same (IsFloorPoint-floor_point ends end (points-of net (arc_at p arc).to whole.valid (head-within p net arc valid whole is.0)).zero).0 in
-    absurd (both_ways (has_point ends end) new there))
+    let there : list_has ends end ≡ true =
+    subst (λ (n : ℕ). list_has ends n ≡ true) same (IsFloorPoint-floor_point ends end (points-of net (arc_at p arc).to whole.valid (head-within p net arc valid whole is.0)).zero).0 in
+    absurd (both_ways (list_has ends end) new there))
     (cases_lt (kept_head net c) end)
   where
     c : Leg

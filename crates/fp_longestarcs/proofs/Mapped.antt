@@ -4,7 +4,7 @@ use Rattle.std.specs.List.{range_with_len, insert}
 use Rattle.std.specs.declared.alloc.Global.{Global}
 use Rattle.std.specs.declared.vec.Vec.{Vec}
 use Rattle.std.proofs.lemmas.List.{map-append, take-map, drop-map, get_or-map}
-use Rattle.fp_longestarcs.specs.Vectors.{lists_of}
+use Rattle.fp_lists.specs.Vectors.{lists_of}
 
 -- what a function makes of a list with one more element
 pub map-insert : {X Y : Type 0} (f : X → Y) (xs : List X) (i : ℕ) (y : X) → map f (insert xs i y) ≡ insert (map f xs) i (f y)
@@ -14,12 +14,12 @@ map-insert {Y = Y} f xs i y =
     ap (λ (l : List Y). take i (map f xs) ++ f y ∷ l) (sym (drop-map f i xs))
 
 -- two functions that agree on a range make the same list of it
-pub same-map : {X : Type 0} (f g : ℕ → X) (a n : ℕ) → ((i : ℕ) → a ≤ i → i < a + n → f i ≡ g i) → map f (range_with_len a n) ≡ map g (range_with_len a n)
-same-map f g a zero same = refl
-same-map {X = X} f g a (suc n) same =
+pub map-same_on_range : {X : Type 0} (f g : ℕ → X) (a n : ℕ) → ((i : ℕ) → a ≤ i → i < a + n → f i ≡ g i) → map f (range_with_len a n) ≡ map g (range_with_len a n)
+map-same_on_range f g a zero same = refl
+map-same_on_range {X = X} f g a (suc n) same =
     ap (λ (x : X). x ∷ map f (range_with_len (a + 1) n)) (same a (omega arith) (omega arith)) ∙
-    ap (λ (l : List X). g a ∷ l) (same-map f g (a + 1) n (λ i from below. same i (omega arith) (omega arith)))
+    ap (λ (l : List X). g a ∷ l) (map-same_on_range f g (a + 1) n (λ i from below. same i (omega arith) (omega arith)))
 
 -- the list at a place among those that vectors hold
-pub list-at : (vectors : List (Vec ℕ Global)) (i : ℕ) (d : Vec ℕ Global) → i < length vectors → get_or (lists_of vectors) i [] ≡ (get_or vectors i d).items
-list-at vectors i d within = get_or-map (λ (v : Vec ℕ Global). v.items) vectors i d [] within
+pub lists_of-get_or : (vectors : List (Vec ℕ Global)) (i : ℕ) (d : Vec ℕ Global) → i < length vectors → get_or (lists_of vectors) i [] ≡ (get_or vectors i d).items
+lists_of-get_or vectors i d within = get_or-map (λ (v : Vec ℕ Global). v.items) vectors i d [] within

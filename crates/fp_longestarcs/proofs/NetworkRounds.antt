@@ -7,7 +7,7 @@ use Rattle.fp_model.specs.Problem.{IsValid, Problem, arc_at}
 use Rattle.fp_model.specs.Routes.{step}
 use Rattle.fp_timenodes.specs.declared.places.AddedPoint.{AddedPoint}
 use Rattle.fp_timenodes.specs.declared.places.TheConstants.{LATEST}
-use Rattle.fp_timenodes.specs.Floor.{has_point}
+use Rattle.fp_lists.specs.Membership.{list_has}
 use Rattle.fp_timenodes.specs.Points.{AreAfter, TimePoints, greatest_round, points_at, with_added}
 use Rattle.fp_timenodes.proofs.Rounds.{has_point-with_added, points_at-with_added, points_at_from_greatest}
 use Rattle.fp_longestarcs.specs.Networks.{IsClass, TimedNetwork, kept_head, points_in}
@@ -20,14 +20,14 @@ use Rattle.fp_longestarcs.proofs.ShortCopies.{head-within, lengthened-arc}
 pub IsNetworkOf_after : (p : Problem) (v : TimePoints) (more : List AddedPoint) (round : ℕ) (net : TimedNetwork) → AreAfter round more → IsNetworkOf p v round net → IsNetworkOf p (with_added v more) round net
 IsNetworkOf_after p v more round net after is = record {
   whole = is.whole;
-  points = λ terminal h at. is.points terminal h at ∙ ap (λ (qs : List ℕ). has_point qs at) (sym (points_at-with_added v more terminal round after));
+  points = λ terminal h at. is.points terminal h at ∙ ap (λ (qs : List ℕ). list_has qs at) (sym (points_at-with_added v more terminal round after));
 }
 
 -- from the greatest round on, the network as of one round is that as of each later round
 pub IsNetworkOf_from_greatest : (p : Problem) (v : TimePoints) (round later : ℕ) (net : TimedNetwork) → greatest_round v.added ≤ round → round ≤ later → IsNetworkOf p v round net → IsNetworkOf p v later net
 IsNetworkOf_from_greatest p v round later net least le is = record {
   whole = is.whole;
-  points = λ terminal h at. is.points terminal h at ∙ ap (λ (qs : List ℕ). has_point qs at) (sym (points_at_from_greatest v terminal round later least le));
+  points = λ terminal h at. is.points terminal h at ∙ ap (λ (qs : List ℕ). list_has qs at) (sym (points_at_from_greatest v terminal round later least le));
 }
 
 -- the points with one more, as of its round or a later one, are those of the network and that point
@@ -41,22 +41,22 @@ HasAlso-with_added p v new round net from is t q h =
     ∙ ap (λ (b : Bool). known || (b && here)) (le-leb new.round round from)
     ∙ or_comm known here
     ∙ ap (λ (b : Bool). here || b) (sym held)
-    ∙ ap (λ (b : Bool). b && here || has_point (points_in net t) q) (sym (eq-eqb t new.terminal (sym same))))
+    ∙ ap (λ (b : Bool). b && here || list_has (points_in net t) q) (sym (eq-eqb t new.terminal (sym same))))
     (λ (other : new.terminal ≢ t).
     let apart : t ≢ new.terminal = λ e. other (sym e) in
     ap (λ (b : Bool). known || ((b && nat_le new.round round) && here)) (ne_eqb new.terminal t other)
     ∙ or-false known
     ∙ sym held
-    ∙ ap (λ (b : Bool). b && here || has_point (points_in net t) q) (sym (ne_eqb t new.terminal apart)))
+    ∙ ap (λ (b : Bool). b && here || list_has (points_in net t) q) (sym (ne_eqb t new.terminal apart)))
     (cases_eq new.terminal t)
   where
     known : Bool
-    known = has_point (points_at v t round) q
+    known = list_has (points_at v t round) q
 
     here : Bool
     here = nat_eq new.at q
 
-    held : has_point (points_in net t) q ≡ known
+    held : list_has (points_in net t) q ≡ known
     held = is.points t (omega (arith, h, is.whole.arcs.terminals)) q
 
 -- a whole network with that point beside those of the old one is the network of the points with one
@@ -66,7 +66,7 @@ pub IsNetworkOf-with_added : (p : Problem) (v : TimePoints) (new : AddedPoint) (
 IsNetworkOf-with_added p v new round old net from within is whole points = record {
   whole = whole;
   points = λ t h q.
-      ap (λ (l : List (List ℕ)). has_point (get_or l t []) q) points
+      ap (λ (l : List (List ℕ)). list_has (get_or l t []) q) points
       ∙ has-with old new.terminal new.at t q (omega (arith, within, is.whole.arcs.terminals))
       ∙ sym (HasAlso-with_added p v new round old from is t q (omega (arith, h, is.whole.arcs.terminals)));
 }

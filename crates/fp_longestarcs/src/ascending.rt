@@ -1,14 +1,16 @@
 //! Look-ups among points in ascending order.
 ghost use Rattle.std.specs.Prelude.{◌≡◌};
 ghost use Rattle.std.specs.List.Sorted.{IsNonDecreasing};
-ghost use Rattle.fp_timenodes.specs.Floor.{has_point, floor_point};
-ghost use Rattle.fp_longestarcs.specs.Ascending.{ArePoints, IsCut, IsPlace, place_of};
+ghost use Rattle.fp_timenodes.specs.Floor.{floor_point};
+ghost use Rattle.fp_lists.specs.Membership.{list_has};
+ghost use Rattle.fp_longestarcs.specs.Ascending.{ArePoints};
+ghost use Rattle.fp_lists.specs.Ascending.{IsCut, IsPlaceIn, place_in};
 
 // How many of the points are before the time.
 pub(crate) fn place_among(points: &[u32], at: u32) -> usize
     requires { ArePoints points.now }
-    ensures place { result ≡ place_of points.now at }
-    ensures parts { IsPlace points.now at result }
+    ensures place { result ≡ place_in points.now at }
+    ensures parts { IsPlaceIn points.now at result }
 {
     points.partition_point(|point| *point < at)
 }
@@ -16,7 +18,7 @@ pub(crate) fn place_among(points: &[u32], at: u32) -> usize
 // Whether the time is one of the points.
 pub(crate) fn is_among(points: &[u32], at: u32) -> bool
     requires { ArePoints points.now }
-    ensures { result ≡ has_point points.now at }
+    ensures { result ≡ list_has points.now at }
 {
     let place = place_among(points, at);
     place < points.len() && points[place] == at

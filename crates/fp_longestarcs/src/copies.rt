@@ -1,8 +1,9 @@
 //! A new point in a network: its outgoing copies, and the heads that are lifted to it.
 ghost use Rattle.std.specs.Prelude.{◌≡◌, ◌+◌, ◌<◌, ◌≤◌, All, OnErr, OnOk, false, length};
-ghost use Rattle.fp_timenodes.specs.Floor.{has_point};
+ghost use Rattle.fp_lists.specs.Membership.{list_has};
 ghost use Rattle.fp_longestarcs.specs.Networks.{IsNetwork, TimedNetwork, points_in};
-ghost use Rattle.fp_longestarcs.specs.Vectors.{HasRoom, lists_of, network_of, IsIndexedNetwork};
+ghost use Rattle.fp_longestarcs.specs.Vectors.{HasRoom, network_of, IsIndexedNetwork};
+ghost use Rattle.fp_lists.specs.Vectors.{lists_of};
 ghost use Rattle.fp_longestarcs.specs.Changes.{lifted, refined, restored};
 
 use crate::NoMemory;
@@ -97,7 +98,7 @@ pub(crate) fn add_point(
     requires arcs { length tails.now ≡ length instance.now.arcs }
     requires terminals { length points.old ≡ length instance.now.terminals }
     requires terminal { new.terminal < length points.old }
-    requires new { has_point (points_in (network_of tails.now points.old heads.old) new.terminal) new.at ≡ false }
+    requires new { list_has (points_in (network_of tails.now points.old heads.old) new.terminal) new.at ≡ false }
     requires in_time { new.at ≤ LATEST }
     ensures ok { OnOk result (network_of tails.now points.new heads.new ≡ refined instance.now (network_of tails.now points.old heads.old) new.terminal new.at) }
     ensures indexed { IsIndexedNetwork (network_of tails.now points.new heads.new) offsets.new }

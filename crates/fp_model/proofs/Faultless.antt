@@ -12,14 +12,16 @@ use Rattle.fp_model.specs.declared.faults.PlanKind.TheVariants.{Count, NotRoute,
 use Rattle.fp_model.specs.declared.parts.Leg.{Leg}
 use Rattle.fp_model.specs.declared.parts.Shipment.{Shipment}
 use Rattle.fp_model.specs.Problem.{Problem, arc_at}
-use Rattle.fp_model.specs.Routes.{AreApart, Carries, arcs_of, step}
+use Rattle.fp_model.specs.Routes.{Carries, arcs_of, step}
+use Rattle.fp_lists.specs.Distinct.{AreDistinct}
 use Rattle.fp_model.specs.Numbered.{leg_at, no_leg, route_at, shipment_at, no_shipment}
 use Rattle.fp_model.specs.Faults.{place_before, HasLegFault, AreFaultless, HasFault, IsFaultless}
 use Rattle.fp_model.specs.Plans.{IsPlan}
-use Rattle.fp_model.proofs.Bounds.{AreApart-map}
-use Rattle.fp_model.proofs.Sums.{each-weaker}
+use Rattle.fp_lists.proofs.Distinct.{AreDistinct-from_map}
+use Rattle.fp_lists.proofs.Elements.{AllByRecursion-weaker}
 use Rattle.fp_model.proofs.LegByLeg.{GoesOn, Leads-from_legs, Leads-legs, Leads-last, NeverReturns, AreApart-from_legs, AreApart-legs, StartsFrom, KeepsSteps, LeavesReady-from_legs, LeavesReady-first, LeavesReady-legs}
-use Rattle.fp_model.proofs.Places.{AllZip-from_places, AllZip-places}
+use Rattle.fp_model.proofs.Places.{AllZip-places}
+use Rattle.fp_lists.proofs.Numbered.{AllZip-from_get_or}
 use Rattle.fp_model.proofs.Steps.{arrives_at_last}
 
 -- the legs below a number have no fault
@@ -43,11 +45,11 @@ place_before-take : (p : Problem) (origin : ℕ) (legs : List Leg) (n j : ℕ) �
 place_before-take p origin legs n zero le = refl
 place_before-take p origin legs n (suc j) le = ap (λ (l : Leg). (arc_at p l.arc).to) (get_or-take n legs j no_leg (omega (arith, le)))
 
-distinct-apart : (xs : List ℕ) → AreApart xs → IsDistinct eqb xs
+distinct-apart : (xs : List ℕ) → AreDistinct xs → IsDistinct eqb xs
 unfolding IsDistinct
 distinct-apart [] apart = tt
 distinct-apart (x ∷ xs) apart = (
-  each-weaker (λ y. y ≢ x) (λ y. eqb x y ≡ false) (λ y ne. ne_eqb x y (λ e. ne (sym e))) xs apart.0,
+  AllByRecursion-weaker (λ y. y ≢ x) (λ y. eqb x y ≡ false) (λ y ne. ne_eqb x y (λ e. ne (sym e))) xs apart.0,
   distinct-apart xs apart.1,
 )
 
@@ -84,7 +86,7 @@ few_faultless p s legs n le none =
     λ i lt.
     let below : i < n = omega (arith, lt, long) in
     subst (λ (l : Leg). l.arc < length p.arcs) (sym (same i below)) (goes_on p s legs i (omega (arith, below, le)) (none NotRoute i below)).0 in
-    let apart : AreApart (arcs_of front) = AreApart-map (λ a. (arc_at p a).to) (arcs_of front) (AreApart-from_legs p s.from front returns).1 in
+    let apart : AreDistinct (arcs_of front) = AreDistinct-from_map (λ a. (arc_at p a).to) (arcs_of front) (AreApart-from_legs p s.from front returns).1 in
     let few : length (arcs_of front) ≤ length p.arcs =
     length-le_from_distinct_below (arcs_of front) (length p.arcs) (distinct-apart (arcs_of front) apart) (below-any (length p.arcs) (arcs_of front) (arcs-below p s.from front exist)) in
     omega (arith, few, long, length-arcs_of front)
@@ -172,7 +174,7 @@ HasLegFault-fault p routes AfterDue k i long fault = (fault.0, fault.2)
 pub IsPlan-from_faultless : (p : Problem) (routes : List (List Leg)) → IsFaultless p routes → IsPlan p 1 routes
 IsPlan-from_faultless p routes none =
     let long : length routes ≡ length p.shipments = same-number _ _ (λ ne. none Count 0 0 (ne, refl, refl)) in
-    AllZip-from_places (Carries p 1) p.shipments routes no_shipment [] long
+    AllZip-from_get_or (Carries p 1) p.shipments routes no_shipment [] long
     (λ k lt. Carries-from_faultless p (shipment_at p k) (route_at routes k) (λ kind i fault. none kind k i (HasFault-leg p routes kind k i lt (omega (arith, lt, long)) fault)))
 
 pub IsPlan-faultless : (p : Problem) (routes : List (List Leg)) → IsPlan p 1 routes → IsFaultless p routes

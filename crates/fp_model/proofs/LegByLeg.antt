@@ -3,7 +3,8 @@ use Rattle.std.proofs.Common.{◌≡◌, ◌≢◌, ℕ, zero, suc, ◌+◌, ◌
 use Rattle.std.specs.List.{AllByRecursion}
 use Rattle.fp_model.specs.declared.parts.Leg.{Leg}
 use Rattle.fp_model.specs.Problem.{Problem, arc_at}
-use Rattle.fp_model.specs.Routes.{Leads, AreApart, LeavesReady, arcs_of, ends_of, step}
+use Rattle.fp_model.specs.Routes.{Leads, LeavesReady, arcs_of, ends_of, step}
+use Rattle.fp_lists.specs.Distinct.{AreDistinct}
 use Rattle.fp_model.specs.Numbered.{leg_at}
 use Rattle.fp_model.specs.Faults.{place_before}
 
@@ -63,7 +64,7 @@ never-enters p terminal (l ∷ legs) all (suc i) lt = never-enters p terminal le
 abbrev pub NeverReturns : Problem → ℕ → List Leg → Type 0
 NeverReturns p origin legs = (i j : ℕ) → j ≤ i → i < length legs → place_before p origin legs j ≢ (arc_at p (leg_at legs i).arc).to
 
-pub AreApart-from_legs : (p : Problem) (origin : ℕ) (legs : List Leg) → NeverReturns p origin legs → AreApart (origin ∷ ends_of p (arcs_of legs))
+pub AreApart-from_legs : (p : Problem) (origin : ℕ) (legs : List Leg) → NeverReturns p origin legs → AreDistinct (origin ∷ ends_of p (arcs_of legs))
 AreApart-from_legs p origin [] never = (tt, tt)
 AreApart-from_legs p origin (l ∷ legs) never = (
   ends-differ p origin (l ∷ legs) (λ i lt. never i 0 (omega arith) lt),
@@ -71,7 +72,7 @@ AreApart-from_legs p origin (l ∷ legs) never = (
       subst (λ (n : ℕ). n ≢ (arc_at p (leg_at legs i).arc).to) (place-next p origin l legs j) (never (suc i) (suc j) (omega (arith, le)) (omega (arith, lt)))),
 )
 
-pub AreApart-legs : (p : Problem) (origin : ℕ) (legs : List Leg) → AreApart (origin ∷ ends_of p (arcs_of legs)) → NeverReturns p origin legs
+pub AreApart-legs : (p : Problem) (origin : ℕ) (legs : List Leg) → AreDistinct (origin ∷ ends_of p (arcs_of legs)) → NeverReturns p origin legs
 AreApart-legs p origin legs apart i zero le lt = never-enters p origin legs apart.0 i lt
 AreApart-legs p origin [] apart i (suc j) le lt = absurd (omega (arith, lt))
 AreApart-legs p origin (l ∷ legs) apart zero (suc j) le lt = absurd (omega (arith, le))

@@ -5,14 +5,14 @@ use Rattle.std.specs.List.{AllByRecursion}
 use Rattle.std.proofs.lemmas.List.Sums.{sum_by-cons}
 
 -- P of each element, weakened
-pub each-weaker : {X : Type 0} (P Q : X → Type 0) → ((x : X) → P x → Q x) → (xs : List X) → AllByRecursion P xs → AllByRecursion Q xs
-each-weaker P Q h [] all = tt
-each-weaker P Q h (x ∷ xs) all = (h x all.0, each-weaker P Q h xs all.1)
+pub AllByRecursion-weaker : {X : Type 0} (P Q : X → Type 0) → ((x : X) → P x → Q x) → (xs : List X) → AllByRecursion P xs → AllByRecursion Q xs
+AllByRecursion-weaker P Q h [] all = tt
+AllByRecursion-weaker P Q h (x ∷ xs) all = (h x all.0, AllByRecursion-weaker P Q h xs all.1)
 
 -- functions that agree on each element have the same sum
-pub sum_by-each : {X : Type 0} (f g : X → ℕ) (xs : List X) → AllByRecursion (λ x. f x ≡ g x) xs → sum_by f xs ≡ sum_by g xs
-sum_by-each f g [] all = refl
-sum_by-each f g (x ∷ xs) all = omega (arith, all.0, sum_by-each f g xs all.1, sum_by-cons f x xs, sum_by-cons g x xs)
+pub sum_by-same_each : {X : Type 0} (f g : X → ℕ) (xs : List X) → AllByRecursion (λ x. f x ≡ g x) xs → sum_by f xs ≡ sum_by g xs
+sum_by-same_each f g [] all = refl
+sum_by-same_each f g (x ∷ xs) all = omega (arith, all.0, sum_by-same_each f g xs all.1, sum_by-cons f x xs, sum_by-cons g x xs)
 
 -- the sum over a list of values
 pub sum_by-map : {X Y : Type 0} (g : Y → ℕ) (f : X → Y) (xs : List X) → sum_by g (map f xs) ≡ sum_by (λ x. g (f x)) xs
@@ -29,16 +29,16 @@ sum_by-zero [] = refl
 sum_by-zero (x ∷ xs) = omega (arith, sum_by-zero xs, sum_by-cons (λ y. 0) x xs)
 
 -- functions that agree everywhere have the same sum
-pub same_sum : {X : Type 0} (f g : X → ℕ) → ((x : X) → f x ≡ g x) → (xs : List X) → sum_by f xs ≡ sum_by g xs
-same_sum f g same [] = refl
-same_sum f g same (x ∷ xs) = omega (arith, same x, same_sum f g same xs, sum_by-cons f x xs, sum_by-cons g x xs)
+pub sum_by-same : {X : Type 0} (f g : X → ℕ) → ((x : X) → f x ≡ g x) → (xs : List X) → sum_by f xs ≡ sum_by g xs
+sum_by-same f g same [] = refl
+sum_by-same f g same (x ∷ xs) = omega (arith, same x, sum_by-same f g same xs, sum_by-cons f x xs, sum_by-cons g x xs)
 
 -- a double sum, the other way round
 pub sum_by-swap : {X Y : Type 0} (h : X → Y → ℕ) (xs : List X) (ys : List Y) → sum_by (λ y. sum_by (λ x. h x y) xs) ys ≡ sum_by (λ x. sum_by (h x) ys) xs
 sum_by-swap h [] ys = sum_by-zero ys
 sum_by-swap {X} {Y} h (x ∷ xs) ys =
     let each : sum_by (λ y. sum_by (λ z. h z y) (x ∷ xs)) ys ≡ sum_by (λ y. h x y + sum_by (λ z. h z y) xs) ys =
-    same_sum (λ y. sum_by (λ z. h z y) (x ∷ xs)) (λ y. h x y + sum_by (λ z. h z y) xs) (λ y. sum_by-cons (λ z. h z y) x xs) ys in
+    sum_by-same (λ y. sum_by (λ z. h z y) (x ∷ xs)) (λ y. h x y + sum_by (λ z. h z y) xs) (λ y. sum_by-cons (λ z. h z y) x xs) ys in
     omega (arith, each, sum_by-both (h x) (λ y. sum_by (λ z. h z y) xs) ys, sum_by-swap h xs ys, sum_by-cons (λ z. sum_by (h z) ys) x xs)
 
 -- a sum of multiples

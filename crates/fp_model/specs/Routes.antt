@@ -18,15 +18,15 @@ abbrev pub ends_of : Problem → List ℕ → List ℕ
 ends_of p arcs = map (λ a. (arc_at p a).to) arcs
 
 -- no number stands twice in a list
-abbrev pub AreApart : List ℕ → Type 0
-AreApart [] = Unit {0}
-AreApart (x ∷ xs) = AllByRecursion (λ y. y ≢ x) xs × AreApart xs
+abbrev pub AreDistinct : List ℕ → Type 0
+AreDistinct [] = Unit {0}
+AreDistinct (x ∷ xs) = AllByRecursion (λ y. y ≢ x) xs × AreDistinct xs
 
 -- a route of a shipment: not empty, from its origin to its destination, and no terminal twice
 pub record IsRoute (p : Problem) (s : Shipment) (arcs : List ℕ) : Type 0 where
   pub some : arcs ≢ []
   pub leads : Leads p s.from arcs s.to
-  pub once : AreApart (s.from ∷ ends_of p arcs)
+  pub once : AreDistinct (s.from ∷ ends_of p arcs)
 
 -- the step of an arc, its time and the hold of its head: so long after it left by the arc a shipment can leave the next terminal
 abbrev pub step : Problem → ℕ → ℕ

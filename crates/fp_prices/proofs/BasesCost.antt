@@ -15,7 +15,8 @@ use Rattle.fp_allowed.specs.Bits.{bit_of}
 use Rattle.fp_allowed.specs.Listing.{class_at}
 use Rattle.fp_allowed.proofs.ListedClasses.{class_at-number}
 use Rattle.fp_prices.specs.declared.bases.ForcedClasses.{ForcedClasses}
-use Rattle.fp_prices.specs.Forced.{AreForcedClasses, row_cost, sum_below, truck_cost_at}
+use Rattle.fp_prices.specs.Forced.{AreForcedClasses, row_cost, truck_cost_at}
+use Rattle.fp_lists.specs.Below.{sum_below}
 use Rattle.fp_prices.proofs.NumberedClasses.{number-class}
 
 -- functions that agree below n have the same sum

@@ -6,18 +6,18 @@ use Rattle.std.specs.List.{AllByRecursion}
 use Rattle.std.proofs.lemmas.Bool.{and_from, and_parts, cases_Bool, cond-true, cond-false, eq-eqb, eqb-true}
 use Rattle.fp_labels.specs.declared.graphs.Edge.{Edge}
 use Rattle.fp_labels.specs.Graphs.{edge_at}
-use Rattle.fp_labels.specs.Walks.{AreApart, nodes_on, Leads as LeadsOver}
+use Rattle.fp_labels.specs.Walks.{nodes_on, Leads as LeadsOver}
 use Rattle.fp_lists.specs.Distinct.{AreDistinct}
 use Rattle.fp_lists.proofs.Distinct.{AreDistinct-cons, AreDistinct-head, AreDistinct-nil, AreDistinct-tail}
 use Rattle.fp_lists.proofs.Elements.{AllByRecursion-weaker}
 use Rattle.fp_model.specs.declared.parts.Leg.{Leg}
 use Rattle.fp_model.specs.Problem.{IsValid, Problem, arc_at}
-use Rattle.fp_longestarcs.specs.Ascending.{place_of}
+use Rattle.fp_lists.specs.Ascending.{place_in}
 use Rattle.fp_longestarcs.specs.Classes.{head_of}
 use Rattle.fp_longestarcs.specs.Networks.{TimedNetwork, IsClass, class_count, class_number, points_in}
 use Rattle.fp_longestarcs.specs.Whole.{IsWholeNetwork}
 use Rattle.fp_longestarcs.proofs.NewPoints.{points-of}
-use Rattle.fp_longestarcs.proofs.Places.{place-at}
+use Rattle.fp_lists.proofs.Places.{place_in-get_or}
 use Rattle.fp_prices.specs.LeastWalks.{classes_on, node_entered, node_left, nodes_met, same_node}
 use Rattle.fp_prices.specs.Points.{class_edge, edges_of, first_node, point_node}
 use Rattle.fp_prices.proofs.Nodes.{node-unique}
@@ -106,7 +106,7 @@ module _ (p : Problem) (net : TimedNetwork) (valid : IsValid p) (whole : IsWhole
   point_at t place = (t, get_or (points_in net t) place 0)
 
   number-at : (t place : ℕ) → t < length net.points → place < length (points_in net t) → number_of (point_at t place) ≡ first_node net t + place
-  number-at t place exists within = ap (λ (n : ℕ). first_node net t + n) (place-at (points_in net t) place 0 (points-of net t whole.valid exists).ascending within)
+  number-at t place exists within = ap (λ (n : ℕ). first_node net t + n) (place_in-get_or (points_in net t) place 0 (points-of net t whole.valid exists).ascending within)
 
   -- an edge of a walk from a point is of a class that leaves there, or leads to the next point
   record IsClassEdge (here place e : ℕ) : Type 0 where
@@ -135,7 +135,7 @@ module _ (p : Problem) (net : TimedNetwork) (valid : IsValid p) (whole : IsWhole
           let joins : Joins p net c = class-joins p net c valid whole is in
           let tail : ℕ = (arc_at p c.arc).from in
           let head : ℕ = (arc_at p c.arc).to in
-          let leaves : ℕ = place_of (points_in net tail) c.depart in
+          let leaves : ℕ = place_in (points_in net tail) c.depart in
           let shape : edge_at (edges_of p net) e ≡ class_edge p net c = ap (edge_at (edges_of p net)) (sym number) ∙ edge-of-class p net c whole.valid is in
           let same = node-unique net tail here leaves place joins.tail exists joins.leaves within (ap (λ (g : Edge). g.from) (sym shape) ∙ from) in
           let departs : get_or (points_in net here) place 0 ≡ c.depart =
@@ -146,7 +146,7 @@ module _ (p : Problem) (net : TimedNetwork) (valid : IsValid p) (whole : IsWhole
             is = is;
             left = and_from (nat_eq here tail) (nat_eq (get_or (points_in net here) place 0) c.depart) (eq-eqb here tail (sym same.0)) (eq-eqb (get_or (points_in net here) place 0) c.depart departs);
             next = head;
-            enters = place_of (points_in net head) (head_of p (points_in net) c);
+            enters = place_in (points_in net head) (head_of p (points_in net) c);
             exists = joins.head;
             within = joins.enters;
             entered = ap (node_of head) (sym joins.arrives);
@@ -196,7 +196,7 @@ module _ (p : Problem) (net : TimedNetwork) (valid : IsValid p) (whole : IsWhole
 
   -- a walk that repeats no node meets no timed node twice
   pub distinct-met : (there : ℕ) (walk : List ℕ) (here place : ℕ) → here < length net.points → place < length (points_in net here) →
-      LeadsOver (edges_of p net) (first_node net here + place) walk there → AreApart (nodes_on (edges_of p net) (first_node net here + place) walk) →
+      LeadsOver (edges_of p net) (first_node net here + place) walk there → AreDistinct (nodes_on (edges_of p net) (first_node net here + place) walk) →
       AreDistinct (nodes_met p (points_in net) (here, get_or (points_in net here) place 0) (classes_on net walk))
   distinct-met there [] here place exists within leads apart = AreDistinct-cons (point_at here place) [] tt AreDistinct-nil
   distinct-met there (e ∷ walk) here place exists within leads apart =
@@ -207,14 +207,14 @@ module _ (p : Problem) (net : TimedNetwork) (valid : IsValid p) (whole : IsWhole
       (AreDistinct-cons (point_at here place) (met_from edge.next edge.enters walk)
       (others (met_from edge.next edge.enters walk)
       (all-met IsOther there walk edge.next edge.enters edge.exists edge.within onward (subst (λ (n : ℕ). AllByRecursion IsOther (nodes_on (edges_of p net) n walk)) edge.to apart.0)))
-      (distinct-met there walk edge.next edge.enters edge.exists edge.within onward (subst (λ (n : ℕ). AreApart (nodes_on (edges_of p net) n walk)) edge.to apart.1))))
+      (distinct-met there walk edge.next edge.enters edge.exists edge.within onward (subst (λ (n : ℕ). AreDistinct (nodes_on (edges_of p net) n walk)) edge.to apart.1))))
       (λ (edge : IsHoldingEdge here place e).
       let onward = subst (λ (n : ℕ). LeadsOver (edges_of p net) n walk there) edge.to leads.2 in
       subst (λ (legs : List Leg). AreDistinct (nodes_met p (points_in net) (point_at here place) legs)) (sym (classes_on-holding net e walk edge.late))
       (distinct-before p (points_in net) (point_at here place) (point_at here (place + 1)) (classes_on net walk)
       (others (met_from here (place + 1) walk)
       (all-met IsOther there walk here (place + 1) exists edge.within onward (subst (λ (n : ℕ). AllByRecursion IsOther (nodes_on (edges_of p net) n walk)) edge.to apart.0)))
-      (distinct-met there walk here (place + 1) exists edge.within onward (subst (λ (n : ℕ). AreApart (nodes_on (edges_of p net) n walk)) edge.to apart.1))))
+      (distinct-met there walk here (place + 1) exists edge.within onward (subst (λ (n : ℕ). AreDistinct (nodes_on (edges_of p net) n walk)) edge.to apart.1))))
       (edge-view here place e exists within leads.0 leads.1)
     where
       IsOther : ℕ → Type 0

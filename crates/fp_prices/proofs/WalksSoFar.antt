@@ -17,7 +17,7 @@ use Rattle.fp_prices.specs.LeastWalks.{IsLeastWalk, IsLeastWalkOver}
 use Rattle.fp_prices.specs.Leaves.{leaf_price}
 use Rattle.fp_prices.specs.Pricings.{HoldsLeafCosts}
 use Rattle.fp_prices.specs.Shares.{ClassShare}
-use Rattle.fp_prices.proofs.ForcedSoFar.{zip-push}
+use Rattle.fp_lists.proofs.Numbered.{AllZipFrom-push}
 use Rattle.fp_prices.proofs.LeastSoFar.{IsLeafOf, row-allows}
 
 -- a walk that is least under all costs that are held is one at each leaf
@@ -47,7 +47,7 @@ walks_more pricing rows i walks walk row o found exists inside is so_far least =
     let Q : ℕ → Shipment → List Leg → Type 0 = λ k s w. IsLeastWalk p (points_in pricing.network.now) (allowed k) s (price k s.size) w in
     let number : 0 + length (take i p.shipments) ≡ i = omega (arith, length-take i p.shipments, exists) in
     subst (λ (l : List Shipment). AreLeastOver p (points_in pricing.network.now) allowed price 0 l (walks ++ (walk ∷ []))) (sym (take_more p.shipments i no_shipment exists))
-    (zip-push Q 0 (take i p.shipments) walks (shipment_at p i) walk (so_far tables allowed kind chains leaf)
+    (AllZipFrom-push Q 0 (take i p.shipments) walks (shipment_at p i) walk (so_far tables allowed kind chains leaf)
     (subst (λ (k : ℕ). Q k (shipment_at p i) walk) (sym number)
     (subst (λ (x : Option (List Leg)). IsLeastWalkOver p (points_in pricing.network.now) (allowed i) (shipment_at p i) (leaf_prices p tables allowed kind chains i) x) found
     (least tables allowed kind chains leaf.is (row-allows pricing rows allowed i row inside is leaf.rows_of) (leaf.classes i)))))

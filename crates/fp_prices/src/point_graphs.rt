@@ -2,7 +2,8 @@
 ghost use Rattle.std.specs.Prelude.{◌≡◌, ◌+◌, ◌-◌, ◌<◌, ◌≤◌, ◌++◌, IfOk, OnOk, length, map};
 ghost use Rattle.std.specs.List.{range_with_len};
 ghost use Rattle.fp_labels.specs.Graphs.{HasEnds};
-ghost use Rattle.fp_longestarcs.specs.Ascending.{ArePoints, place_of};
+ghost use Rattle.fp_longestarcs.specs.Ascending.{ArePoints};
+ghost use Rattle.fp_lists.specs.Ascending.{place_in};
 ghost use Rattle.fp_longestarcs.specs.Networks.{class_count, point_count, points_in};
 ghost use Rattle.fp_longestarcs.specs.Whole.{IsWholeNetwork};
 ghost use Rattle.fp_allowed.specs.Listing.{class_at};
@@ -165,7 +166,7 @@ fn node_of(network: &Network, firsts: &[u32], terminal: u32, at: u32) -> u32
 fn place_among(points: &[u32], at: u32) -> u32
     requires points { ArePoints points.now }
     requires few { length points.now ≤ 65000 }
-    ensures place { result ≡ place_of points.now at }
+    ensures place { result ≡ place_in points.now at }
     ensures within { result ≤ length points.now }
 {
     points.partition_point(|point| *point < at) as u32

@@ -9,7 +9,8 @@ use Rattle.fp_tree.specs.declared.sides.Split.TheVariants.{ByArc, ByTime}
 use Rattle.fp_tree.specs.declared.sides.Side.{Side}
 use Rattle.fp_tree.specs.declared.sides.Side.TheVariants.{Without, Only, Before, From}
 use Rattle.fp_tree.specs.Sides.{Exit, Fork, HasTail, IsTailOfSplit, Meets, MeetsAll, Obeys, first, second, first_of_split, second_of_split}
-use Rattle.fp_tree.specs.Trees.{Leaf, leaves_of, AreTrees, IsTree, tree_leaves, AnyByRecursion, LeaveApart, HaveTails, CoversAll}
+use Rattle.fp_tree.specs.Trees.{Leaf, leaves_of, AreTrees, IsTree, tree_leaves, LeaveApart, HaveTails, CoversAll}
+use Rattle.fp_lists.specs.Elements.{AnyByRecursion}
 
 -- two numbers are equal or not
 pub same_or_not : (a b : ℕ) → (a ≡ b) ⊎ (a ≢ b)

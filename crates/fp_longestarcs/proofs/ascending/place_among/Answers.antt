@@ -4,7 +4,7 @@ use Rattle.std.proofs.lemmas.Bool.{cases_lt, ltb-true, ltb-false}
 use Rattle.std.proofs.lemmas.List.Sorted.{IsPartitionPoint-from_clause, IsPartitionedBy-ltb}
 use Rattle.std.specs.List.Sorted.{IsNonDecreasingBy}
 use Rattle.fp_longestarcs.specs.Ascending.{ArePoints}
-use Rattle.fp_longestarcs.proofs.Places.{place-is}
+use Rattle.fp_lists.proofs.Places.{place_in-unique}
 use Rattle.fp_longestarcs.proofs.ascending.place_among.Goals as goal
 
 -- what ascends does not fall
@@ -27,4 +27,4 @@ returns-clause-parts c =
     }
 
 pub returns-clause-place : goal.returns-clause-place
-returns-clause-place c = sym (place-is c.args.points.now c.args.at c.partition_point.result (returns-clause-parts c))
+returns-clause-place c = sym (place_in-unique c.args.points.now c.args.at c.partition_point.result (returns-clause-parts c))

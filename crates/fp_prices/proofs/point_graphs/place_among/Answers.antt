@@ -3,8 +3,9 @@ use Rattle.std.proofs.Common.{◌≡◌, ℕ, ◌<◌, ◌≤◌, ⊎_elim, List
 use Rattle.std.specs.List.Sorted.{IsNonDecreasingBy}
 use Rattle.std.proofs.lemmas.Bool.{cases_lt, ltb-true, ltb-false}
 use Rattle.std.proofs.lemmas.List.Sorted.{IsPartitionPoint-from_clause, IsPartitionedBy-ltb}
-use Rattle.fp_longestarcs.specs.Ascending.{ArePoints, IsPlace}
-use Rattle.fp_longestarcs.proofs.Places.{place-is}
+use Rattle.fp_longestarcs.specs.Ascending.{ArePoints}
+use Rattle.fp_lists.specs.Ascending.{IsPlaceIn}
+use Rattle.fp_lists.proofs.Places.{place_in-unique}
 use Rattle.fp_prices.proofs.point_graphs.place_among.Goals as goal
 
 -- what ascends does not fall
@@ -20,10 +21,10 @@ returns-clause-place c =
     let qs : List ℕ = c.args.points.now in
     let parted = IsPartitionedBy-ltb (λ q. q) qs c.args.at (rising qs c.requires.points) in
     let point = IsPartitionPoint-from_clause (λ q. ltb q c.args.at) qs c.partition_point.result c.partition_point.ensures.partitioned parted (λ a r q k. search rules) in
-    let parts : IsPlace qs c.args.at c.partition_point.result =
+    let parts : IsPlaceIn qs c.args.at c.partition_point.result =
     record {
       within = c.partition_point.ensures.bound;
       below = λ k d h. ltb-true _ c.args.at (point.0 k d (omega arith) h);
       above = λ k d from h. ltb-false _ c.args.at (point.1 k d from h);
     } in
-    sym (place-is qs c.args.at c.partition_point.result parts)
+    sym (place_in-unique qs c.args.at c.partition_point.result parts)
