@@ -3,6 +3,7 @@ use Rattle.std.proofs.Common.{◌≡◌, ℕ, ◌*◌, ◌<◌, ◌≤◌, List,
 use Rattle.std.specs.Prelude.{Option, Some, None, slice_index_or}
 use Rattle.std.specs.List.{AllByRecursion}
 use Rattle.std.specs.Int.{div_ceil}
+use Rattle.fp_lists.proofs.Elements.{AnyByRecursion-all}
 use Rattle.fp_model.specs.declared.parts.Leg.{Leg}
 use Rattle.fp_model.specs.declared.parts.Shipment.{Shipment}
 use Rattle.fp_model.specs.Costs.{cost}
@@ -11,7 +12,7 @@ use Rattle.fp_model.specs.Plans.{PlanExists}
 use Rattle.fp_model.specs.Problem.{Problem, IsValid, arc_at}
 use Rattle.fp_model.specs.Routes.{Carries, arcs_of}
 use Rattle.fp_lists.proofs.Ceilings.{div_ceil-least}
-use Rattle.fp_model.proofs.Places.{AllZip-places}
+use Rattle.fp_lists.proofs.Numbered.{AllZip-get_or}
 use Rattle.fp_flatnet.specs.Tables.{WindowTable, windows_in}
 use Rattle.fp_flatnet.specs.Windows.{AreWindows, CoverPlans}
 use Rattle.fp_flatnet.proofs.PlanExistence.{carried_time}
@@ -37,17 +38,11 @@ use Rattle.fp_acceptance.specs.Claims.{AcceptedClaims, Claims, ClaimsWithin, NoP
 use Rattle.fp_acceptance.specs.Leaves.{AreLeavesWorth, HasTree, IsLeafWorth, fork_of, split_tail}
 use Rattle.fp_acceptance.specs.Points.{points_as_of}
 
--- where some element is one and all are the other, one is both
-any-of-all : {X : Type 0} (P Q : X → Type 0) (goal : Type 0) → ((x : X) → P x → Q x → goal) → (xs : List X) → AnyByRecursion P xs → AllByRecursion Q xs → goal
-any-of-all P Q goal h [] any all = absurd any
-any-of-all P Q goal h (x ∷ xs) any all =
-    ⊎_elim (λ (here : P x). h x here all.0) (λ (later : AnyByRecursion P xs). any-of-all P Q goal h xs later all.1) any
-
 -- a plan of a leaf costs at least what the leaf is worth
-worth-le : (p : Problem) (table : WindowTable) (c : Statement) (claim d : ℕ) (plan : List (List Leg)) (x : Node) (sides : List Side) → IsValid p → AllKeepRule p c.tables →
+IsLeafWorth-cost : (p : Problem) (table : WindowTable) (c : Statement) (claim d : ℕ) (plan : List (List Leg)) (x : Node) (sides : List Side) → IsValid p → AllKeepRule p c.tables →
     IsPlanOfLeaf p (windows_in table) sides d plan → IsLeafWorth p table c claim x sides → claim ≤ cost p plan
-worth-le p table c claim d plan (node.Branch split) sides valid keep of_leaf worth = absurd worth
-worth-le p table c claim d plan (node.Leaf price) sides valid keep of_leaf worth =
+IsLeafWorth-cost p table c claim d plan (node.Branch split) sides valid keep of_leaf worth = absurd worth
+IsLeafWorth-cost p table c claim d plan (node.Leaf price) sides valid keep of_leaf worth =
     let points : ℕ → List ℕ = points_as_of p table.anchors c price.round in
     ⊎_elim
     (λ (empty : IsLeafEmpty p (windows_in table) points sides). absurd (leaf-empty p (windows_in table) points sides empty d plan of_leaf))
@@ -62,71 +57,71 @@ abbrev tails : Problem → ℕ → ℕ
 tails p a = (arc_at p a).from
 
 -- the splits of a certificate have the tails of their arcs
-has-tail : (p : Problem) (split : Split) → IsTailOfSplit (tails p) split (split_tail p split)
-has-tail p (ByArc shipment arc) = refl
-has-tail p (ByTime shipment terminal at) = tt
+IsTailOfSplit-split_tail : (p : Problem) (split : Split) → IsTailOfSplit (tails p) split (split_tail p split)
+IsTailOfSplit-split_tail p (ByArc shipment arc) = refl
+IsTailOfSplit-split_tail p (ByTime shipment terminal at) = tt
 
-have-tails : (p : Problem) (nodes : List Node) → HaveTails (tails p) (fork_of p) nodes
-have-tails p [] = tt
-have-tails p (node.Branch split ∷ nodes) = (has-tail p split, have-tails p nodes)
-have-tails p (node.Leaf price ∷ nodes) = (tt, have-tails p nodes)
+HaveTails-fork_of : (p : Problem) (nodes : List Node) → HaveTails (tails p) (fork_of p) nodes
+HaveTails-fork_of p [] = tt
+HaveTails-fork_of p (node.Branch split ∷ nodes) = (IsTailOfSplit-split_tail p split, HaveTails-fork_of p nodes)
+HaveTails-fork_of p (node.Leaf price ∷ nodes) = (tt, HaveTails-fork_of p nodes)
 
 -- where each leaf is worth the claim, no plan within the windows costs less
-worth-within : (p : Problem) (table : WindowTable) (c : Statement) (claim : ℕ) → IsValid p → AllKeepRule p c.tables → HasTree p c → AreLeavesWorth p table c claim →
+AreLeavesWorth-NoPlanWithinCheaper : (p : Problem) (table : WindowTable) (c : Statement) (claim : ℕ) → IsValid p → AllKeepRule p c.tables → HasTree p c → AreLeavesWorth p table c claim →
     NoPlanWithinCheaper p (windows_in table) claim
-worth-within p table c claim valid keep tree worth d plan some is within =
-    any-of-all _ (λ (l : Leaf Node). IsLeafWorth p table c claim l.node l.sides) (claim ≤ cost p plan)
-    (λ l obeys here. worth-le p table c claim d plan l.node l.sides valid keep (record { denominator = some; plan = is; within = within; obeys = obeys }) here)
+AreLeavesWorth-NoPlanWithinCheaper p table c claim valid keep tree worth d plan some is within =
+    AnyByRecursion-all _ (λ (l : Leaf Node). IsLeafWorth p table c claim l.node l.sides) (claim ≤ cost p plan)
+    (λ l obeys here. IsLeafWorth-cost p table c claim d plan l.node l.sides valid keep (record { denominator = some; plan = is; within = within; obeys = obeys }) here)
     (tree_leaves (fork_of p) c.tree)
-    (plan-obeys-leaf p (fork_of p) c.tree d plan (have-tails p c.tree) tree.tree is)
+    (plan-obeys-leaf p (fork_of p) c.tree d plan (HaveTails-fork_of p c.tree) tree.tree is)
     worth
 
 -- a shipment that is too late isn't carried by any plan
-too-late : (p : Problem) (s : Shipment) (time : Option ℕ) (d : ℕ) (legs : List Leg) → IsTooLate p s time → 1 ≤ d → Carries p d s legs → ⊥
-too-late p s None d legs is some carries = is.fastest (arcs_of legs) carries.route.leads
-too-late p s (Some t) d legs is some carries =
+IsTooLate-Carries : (p : Problem) (s : Shipment) (time : Option ℕ) (d : ℕ) (legs : List Leg) → IsTooLate p s time → 1 ≤ d → Carries p d s legs → ⊥
+IsTooLate-Carries p s None d legs is some carries = is.fastest (arcs_of legs) carries.route.leads
+IsTooLate-Carries p s (Some t) d legs is some carries =
     absurd (omega (arith, is.late, carried_time p d s legs some carries, is.fastest.least (arcs_of legs) carries.route.leads))
 
-no-plan : (p : Problem) (k : ℕ) (time : Option ℕ) → k < length p.shipments → IsTooLate p (shipment_at p k) time → PlanExists p → ⊥
-no-plan p k time exists is plan =
-    too-late p (shipment_at p k) time plan.0 (slice_index_or plan.1 k []) is plan.2
-    (AllZip-places (Carries p plan.0) p.shipments plan.1 no_shipment [] plan.3 k exists)
+IsTooLate-PlanExists : (p : Problem) (k : ℕ) (time : Option ℕ) → k < length p.shipments → IsTooLate p (shipment_at p k) time → PlanExists p → ⊥
+IsTooLate-PlanExists p k time exists is plan =
+    IsTooLate-Carries p (shipment_at p k) time plan.0 (slice_index_or plan.1 k []) is plan.2
+    (AllZip-get_or (Carries p plan.0) p.shipments plan.1 k no_shipment [] plan.3 exists)
 
 -- what the parts that bound plans make true
-accepted-within : (p : Problem) (table : WindowTable) (c : Statement) (claim : ℕ) → IsValid p → IsAccepted p table c → Applies c.answer Part.Prices → Applies c.answer Part.Tree →
+IsAccepted-NoPlanWithinCheaper : (p : Problem) (table : WindowTable) (c : Statement) (claim : ℕ) → IsValid p → IsAccepted p table c → Applies c.answer Part.Prices → Applies c.answer Part.Tree →
     Applies c.answer Part.Leaves → claim_of c.answer ≡ claim → NoPlanWithinCheaper p (windows_in table) claim
-accepted-within p table c claim valid accepted prices tree leaves claimed =
-    worth-within p table c claim valid (accepted Part.Prices prices).rule (accepted Part.Tree tree)
+IsAccepted-NoPlanWithinCheaper p table c claim valid accepted prices tree leaves claimed =
+    AreLeavesWorth-NoPlanWithinCheaper p table c claim valid (accepted Part.Prices prices).rule (accepted Part.Tree tree)
     (subst (λ (n : ℕ). AreLeavesWorth p table c n) claimed (accepted Part.Leaves leaves))
 
-claims-within : (p : Problem) (table : WindowTable) (c : Statement) (answer : Answer) → c.answer ≡ answer → IsValid p → IsAnswerInRange p answer → IsAccepted p table c →
+ClaimsWithin_answer : (p : Problem) (table : WindowTable) (c : Statement) (answer : Answer) → c.answer ≡ answer → IsValid p → IsAnswerInRange p answer → IsAccepted p table c →
     ClaimsWithin p (windows_in table) answer
-claims-within p table c (Direct cost) same valid range accepted = tt
-claims-within p table c (Optimal cost) same valid range accepted =
+ClaimsWithin_answer p table c (Direct cost) same valid range accepted = tt
+ClaimsWithin_answer p table c (Optimal cost) same valid range accepted =
     let applies : (part : Part) → Applies (Optimal cost) part → Applies c.answer part = λ part h. subst (λ (a : Answer). Applies a part) (sym same) h in
-    accepted-within p table c cost valid accepted (applies Part.Prices tt) (applies Part.Tree tt) (applies Part.Leaves tt) (rw same refl)
-claims-within p table c (Unfinished cost bound spent) same valid range accepted =
+    IsAccepted-NoPlanWithinCheaper p table c cost valid accepted (applies Part.Prices tt) (applies Part.Tree tt) (applies Part.Leaves tt) (rw same refl)
+ClaimsWithin_answer p table c (Unfinished cost bound spent) same valid range accepted =
     let applies : (part : Part) → Applies (Unfinished cost bound spent) part → Applies c.answer part = λ part h. subst (λ (a : Answer). Applies a part) (sym same) h in
-    accepted-within p table c bound valid accepted (applies Part.Prices tt) (applies Part.Tree tt) (applies Part.Leaves tt) (rw same refl)
-claims-within p table c (Infeasible shipment time) same valid range accepted =
-    no-plan p shipment time range.0
+    IsAccepted-NoPlanWithinCheaper p table c bound valid accepted (applies Part.Prices tt) (applies Part.Tree tt) (applies Part.Leaves tt) (rw same refl)
+ClaimsWithin_answer p table c (Infeasible shipment time) same valid range accepted =
+    IsTooLate-PlanExists p shipment time range.0
     (subst (λ (a : Answer). IsBlockedAs p a) same (accepted Part.Blocked (subst (λ (a : Answer). Applies a Part.Blocked) (sym same) tt)))
 
 -- claims on the plans within windows that all plans lie within are claims on all plans
-claims-whole : (p : Problem) (windows : WindowTable) (answer : Answer) → CoverPlans p (windows_in windows) → ClaimsWithin p (windows_in windows) answer → Claims p answer
-claims-whole p windows (Direct cost) cover within = tt
-claims-whole p windows (Optimal cost) cover within = λ d plan some is. within d plan some is (cover d plan some is)
-claims-whole p windows (Unfinished cost bound spent) cover within = λ d plan some is. within d plan some is (cover d plan some is)
-claims-whole p windows (Infeasible shipment time) cover within = within
+ClaimsWithin-Claims : (p : Problem) (windows : WindowTable) (answer : Answer) → CoverPlans p (windows_in windows) → ClaimsWithin p (windows_in windows) answer → Claims p answer
+ClaimsWithin-Claims p windows (Direct cost) cover within = tt
+ClaimsWithin-Claims p windows (Optimal cost) cover within = λ d plan some is. within d plan some is (cover d plan some is)
+ClaimsWithin-Claims p windows (Unfinished cost bound spent) cover within = λ d plan some is. within d plan some is (cover d plan some is)
+ClaimsWithin-Claims p windows (Infeasible shipment time) cover within = within
 
 -- what an accepted certificate claims of the plans within the windows is true
 pub IsAccepted-ClaimsWithin : (p : Problem) (table : WindowTable) (c : Statement) → IsValid p → IsInRange p c → IsAccepted p table c → ClaimsWithin p (windows_in table) c.answer
-IsAccepted-ClaimsWithin p table c valid range accepted = claims-within p table c c.answer refl valid range.answer accepted
+IsAccepted-ClaimsWithin p table c valid range accepted = ClaimsWithin_answer p table c c.answer refl valid range.answer accepted
 
 -- and where the windows are the instance's own, so is what it claims of all plans
 pub IsAccepted-Claims : (p : Problem) (table : WindowTable) (c : Statement) → IsValid p → IsInRange p c → IsAccepted p table c → AreWindows p (windows_in table) → Claims p c.answer
 IsAccepted-Claims p table c valid range accepted are =
-    claims-whole p table c.answer (CoverPlans-from_windows p (windows_in table) are) (IsAccepted-ClaimsWithin p table c valid range accepted)
+    ClaimsWithin-Claims p table c.answer (CoverPlans-from_windows p (windows_in table) are) (IsAccepted-ClaimsWithin p table c valid range accepted)
 
 pub AcceptedClaims_hold : AcceptedClaims
 AcceptedClaims_hold = record { within = IsAccepted-ClaimsWithin; whole = IsAccepted-Claims }

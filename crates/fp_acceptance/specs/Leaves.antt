@@ -4,6 +4,7 @@ use Rattle.std.specs.List.{AllByRecursion}
 use Rattle.std.specs.Int.{div_ceil}
 use Rattle.fp_model.specs.Problem.{Problem, arc_at}
 use Rattle.fp_flatnet.specs.Tables.{WindowTable, windows_in}
+use Rattle.fp_tree.specs.declared.layout.TheConstants.{MOST_SPLITS}
 use Rattle.fp_tree.specs.declared.sides.Side.{Side}
 use Rattle.fp_tree.specs.declared.sides.Split.{Split}
 use Rattle.fp_tree.specs.declared.sides.Split.TheVariants.{ByArc, ByTime}
@@ -13,8 +14,8 @@ use Rattle.fp_prices.specs.Leaves.{IsLeafEmpty, IsLeafValue}
 use Rattle.fp_lines.specs.declared.certificates.Node.{Node}
 use Rattle.fp_lines.specs.declared.certificates.Node.TheVariants as node
 use Rattle.fp_lines.specs.Statements.{Statement}
-use Rattle.fp_acceptance.specs.declared.limits.TheConstants.{MOST_SPLITS}
 use Rattle.fp_acceptance.specs.Points.{points_as_of}
+use Rattle.fp_acceptance.specs.declared.limits.TheConstants.{MOST_SPLITS}
 
 -- the terminal that the arc of a split leaves, and 0 for a split by time
 abbrev pub split_tail : Problem → Split → ℕ
@@ -26,7 +27,7 @@ abbrev pub fork_of : Problem → Node → Option Fork
 fork_of p (node.Branch split) = Some (record { split = split; tail = split_tail p split })
 fork_of p (node.Leaf price) = None
 
--- the lines of the tree are exactly one tree in preorder, of no more splits than the limit
+-- the lines of the tree are exactly one tree in preorder, of no more splits than a tree may have
 pub record HasTree (p : Problem) (c : Statement) : Type 0 where
   pub tree : IsTree (fork_of p) c.tree
   pub few : length (tree_splits (fork_of p) c.tree) ≤ MOST_SPLITS

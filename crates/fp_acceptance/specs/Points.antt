@@ -3,6 +3,7 @@ use Rattle.std.specs.Prelude.{ℕ, ◌+◌, ◌<◌, ◌≤◌, ◌≡◌, ◌�
 use Rattle.fp_model.specs.Problem.{Problem}
 use Rattle.fp_timenodes.specs.declared.places.AddedPoint.{AddedPoint}
 use Rattle.fp_timenodes.specs.declared.places.Place.{Place}
+use Rattle.fp_timenodes.specs.declared.places.TheConstants.{MOST_POINTS}
 use Rattle.fp_timenodes.specs.Floor.{HaveSamePoints}
 use Rattle.fp_lists.specs.Membership.{list_has}
 use Rattle.fp_timenodes.specs.Points.{TimePoints, added_at, points_at}
@@ -35,5 +36,5 @@ HasPoints p anchors c = AreAddedPoints p anchors c.points
 -- bound
 pub record ArePointsOf (p : Problem) (anchors : List Place) (added : List AddedPoint) (v : TimePoints) : Type 0 where
   pub terminals : v.terminals ≡ length p.terminals
-  pub few : v.terminals + length v.first + length v.added ≤ 65000
+  pub few : v.terminals + length v.first + length v.added ≤ MOST_POINTS
   pub same : (terminal round : ℕ) → terminal < length p.terminals → HaveSamePoints (points_at v terminal round) (points_with_added p anchors added round terminal)

@@ -8,4 +8,4 @@ mod laws;
 mod limits;
 
 pub use laws::accepted_claims;
-pub use limits::{MOST_IN_ROUND, MOST_SPLITS};
+pub use limits::MOST_IN_ROUND;

@@ -19,22 +19,22 @@ use Rattle.fp_allowed.specs.Chains.{IsForced, NoneLeaves, SeveralLeave, chain_st
 use Rattle.fp_allowed.specs.Listing.{class_at, classes_at}
 
 -- whether a number is in a list
-Contains-has_point : (xs : List ℕ) (t : ℕ) → list_has xs t ≡ true → Contains xs t
-Contains-has_point [] t h = absurd (false≢true h)
-Contains-has_point (x ∷ xs) t h =
+Contains-list_has : (xs : List ℕ) (t : ℕ) → list_has xs t ≡ true → Contains xs t
+Contains-list_has [] t h = absurd (false≢true h)
+Contains-list_has (x ∷ xs) t h =
     ⊎_elim
     (λ (here : nat_eq x t ≡ true). (0, omega arith, eqb-true x t here))
-    (λ (later : list_has xs t ≡ true). let at = Contains-has_point xs t later in (at.0 + 1, omega (arith, at.1), rw add-one at.2))
+    (λ (later : list_has xs t ≡ true). let at = Contains-list_has xs t later in (at.0 + 1, omega (arith, at.1), rw add-one at.2))
     (or_cases (nat_eq x t) (list_has xs t) h)
 
 has_point_outside : (xs : List ℕ) (t : ℕ) → list_has xs t ≡ false → AllByRecursion (λ x. x ≢ t) xs
 has_point_outside [] t h = tt
 has_point_outside (x ∷ xs) t h = let parts = or_parts (nat_eq x t) (list_has xs t) h in (λ same. both_ways (nat_eq x t) parts.0 (eq-eqb x t same), has_point_outside xs t parts.1)
 
-outside_has_point : (xs : List ℕ) (t : ℕ) → AllByRecursion (λ x. x ≢ t) xs → list_has xs t ≡ true → ⊥
-outside_has_point [] t all h = false≢true h
-outside_has_point (x ∷ xs) t all h =
-    ⊎_elim (λ (here : nat_eq x t ≡ true). all.0 (eqb-true x t here)) (λ (later : list_has xs t ≡ true). outside_has_point xs t all.1 later) (or_cases (nat_eq x t) (list_has xs t) h)
+outside_list_has : (xs : List ℕ) (t : ℕ) → AllByRecursion (λ x. x ≢ t) xs → list_has xs t ≡ true → ⊥
+outside_list_has [] t all h = false≢true h
+outside_list_has (x ∷ xs) t all h =
+    ⊎_elim (λ (here : nat_eq x t ≡ true). all.0 (eqb-true x t here)) (λ (later : list_has xs t ≡ true). outside_list_has xs t all.1 later) (or_cases (nat_eq x t) (list_has xs t) h)
 
 -- where a chain with one more class ends
 chain_stop-push : (p : Problem) (here : ℕ) (chain : List Leg) (c : Leg) → chain_stop p here (chain ++ (c ∷ [])) ≡ (arc_at p c.arc).to
@@ -133,8 +133,8 @@ module _ (p : Problem) (net : TimedNetwork) (allowed : Leg → Bool) (s : Shipme
   chain_met classes met here so_far away was =
       let seen : list_has so_far.seen here ≡ true = sym (so_far.tells here (omega (arith, so_far.place, so_far.long))) ∙ was in
       record {
-        forced = stops_at classes met here so_far (λ c other out only. outside_has_point so_far.seen here out seen);
-        ends = (so_far.stop, away, inl (Contains-has_point (terminals_left p (classes_at net classes)) here (sym (so_far.same here) ∙ seen)));
+        forced = stops_at classes met here so_far (λ c other out only. outside_list_has so_far.seen here out seen);
+        ends = (so_far.stop, away, inl (Contains-list_has (terminals_left p (classes_at net classes)) here (sym (so_far.same here) ∙ seen)));
         within = so_far.within;
         terminal = so_far.place;
       }

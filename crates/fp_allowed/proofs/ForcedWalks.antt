@@ -4,6 +4,7 @@ use Rattle.std.proofs.Common.{◌≡◌, ◌≢◌, ℕ, ◌<◌, Bool, true, �
 use Rattle.std.specs.Prelude.{Contains, IfSome, Option, map}
 use Rattle.std.specs.List.{AllByRecursion}
 use Rattle.std.proofs.lemmas.List.{append-nil}
+use Rattle.fp_lists.proofs.Distinct.{AreDistinct-cons, AreDistinct-nil}
 use Rattle.fp_model.specs.declared.parts.Leg.{Leg}
 use Rattle.fp_model.specs.declared.parts.Shipment.{Shipment}
 use Rattle.fp_model.specs.Numbered.{no_shipment, shipment_at}
@@ -89,12 +90,12 @@ module _ (p : Problem) (allowed : Leg → Bool) where
 
   terminals_new : (there : ℕ) (met : List ℕ) (here : ℕ) (chain : List Leg) → AreForced p allowed there met here chain → chain_stop p here chain ≡ there → IsOutside met there →
       AreNew met (here ∷ ends_of p (arcs_of chain))
-  terminals_new there met here [] forced stop outside = record { apart = (tt, tt); outside = (subst (λ (t : ℕ). IsOutside met t) (sym stop) outside, tt) }
+  terminals_new there met here [] forced stop outside = record { apart = AreDistinct-cons here [] tt AreDistinct-nil; outside = (subst (λ (t : ℕ). IsOutside met t) (sym stop) outside, tt) }
   terminals_new there met here (c ∷ chain) forced stop outside =
       let on_way : List ℕ = (arc_at p c.arc).to ∷ ends_of p (arcs_of chain) in
       let new : AreNew (here ∷ met) on_way = terminals_new there (here ∷ met) (arc_at p c.arc).to chain forced.3 stop (forced.0, outside) in
       record {
-        apart = (AllByRecursion-weaker (IsOutside (here ∷ met)) (λ t. t ≢ here) (λ t out e. out.0 (sym e)) on_way new.outside, new.apart);
+        apart = AreDistinct-cons here on_way (AllByRecursion-weaker (IsOutside (here ∷ met)) (λ t. t ≢ here) (λ t out e. out.0 (sym e)) on_way new.outside) new.apart;
         outside = (forced.1, AllByRecursion-weaker (IsOutside (here ∷ met)) (IsOutside met) (λ t out. out.1) on_way new.outside);
       }
 

@@ -10,7 +10,7 @@ use Rattle.fp_timenodes.specs.declared.places.Place.{Place}
 use Rattle.fp_lists.specs.Membership.{list_has}
 use Rattle.fp_timenodes.specs.Points.{TimePoints, points_at, times_at}
 use Rattle.fp_timenodes.proofs.Rounds.{points_at_mono}
-use Rattle.fp_lists.proofs.Membership.{list_has-append, list_has-rest, list_has-first}
+use Rattle.fp_lists.proofs.Membership.{list_has-append, list_has-rest, list_has-first, list_has-filter}
 use Rattle.fp_flatnet.specs.declared.window_tables.Window.{Window}
 use Rattle.fp_flatnet.specs.Belonging.{BelongsTo, IsNarrowed}
 use Rattle.fp_flatnet.specs.Initial.{BeginAt, dues_at, initial_points, releases_at}
@@ -22,17 +22,6 @@ use Rattle.fp_longestarcs.specs.Properties.{HasShipmentTimes}
 use Rattle.fp_longestarcs.proofs.EqualNetworks.{has-with}
 use Rattle.fp_allowed.specs.InitialPoints.{HasInitialPoints}
 use Rattle.fp_allowed.specs.SamePoints.{AgreeOnPoints}
-
--- what is made of an element that passes a test is among what is made of those that pass
-list_has-filter : {X : Type 0} (test : X → Bool) (f : X → ℕ) (xs : List X) (k : ℕ) (d : X) → k < length xs → test (get_or xs k d) ≡ true → list_has (map f (filter test xs)) (f (get_or xs k d)) ≡ true
-list_has-filter test f [] k d h passes = absurd (omega (arith, h))
-list_has-filter test f (x ∷ xs) zero d h passes = rw passes (list_has-first (f x) (map f (filter test xs)))
-list_has-filter test f (x ∷ xs) (suc k) d h passes =
-    let rest : list_has (map f (filter test xs)) (f (get_or xs k d)) ≡ true = list_has-filter test f xs k d (omega (arith, h)) passes in
-    ⊎_elim
-    (λ (first : test x ≡ true). rw first (list_has-rest (f x) (map f (filter test xs)) (f (get_or xs k d)) rest))
-    (λ (other : test x ≡ false). rw other rest)
-    (cases_Bool (test x))
 
 -- the points as of the start have the initial ones
 pub HasInitialPoints-BeginAt : (p : Problem) (anchors : List Place) (v : TimePoints) → BeginAt p anchors v → HasInitialPoints p anchors (λ terminal. points_at v terminal 0)

@@ -18,6 +18,7 @@ pub mod MomentRows
 pub mod DepartureCounts
 pub mod DepartureSums
 pub mod Slack
+pub mod BranchLimit
 pub mod FirstBits
 pub mod ArcExits
 pub mod TerminalExits

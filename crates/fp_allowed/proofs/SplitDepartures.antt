@@ -14,8 +14,7 @@ use Rattle.fp_longestarcs.specs.Ascending.{ArePoints}
 use Rattle.fp_longestarcs.specs.Networks.{IsClass, TimedNetwork, points_in, tail_in}
 use Rattle.fp_longestarcs.proofs.ClassNumbers.{tail-points}
 use Rattle.fp_longestarcs.proofs.HeadLists.{arc-count, tail-of}
-use Rattle.fp_longestarcs.proofs.Places.{stands}
-use Rattle.fp_lists.proofs.Membership.{StandsAt}
+use Rattle.fp_lists.proofs.Membership.{StandsAt-from_list_has, StandsAt}
 use Rattle.fp_tree.specs.declared.sides.Side.{Side}
 use Rattle.fp_tree.specs.declared.sides.Side.TheVariants.{Without, Only, Before, From}
 use Rattle.fp_tree.specs.declared.sides.Split.{Split}
@@ -33,7 +32,7 @@ use Rattle.fp_allowed.proofs.RowClasses.{is_class_parts}
 -- a point of an arc's tail is not too late
 point_in_time : (net : TimedNetwork) (c : Leg) → ArePoints (points_in net (tail_in net c.arc)) → IsClass net c → c.depart ≤ LATEST
 point_in_time net c are is =
-    let at : StandsAt (points_in net (tail_in net c.arc)) c.depart = stands (points_in net (tail_in net c.arc)) c.depart is.1 in
+    let at : StandsAt (points_in net (tail_in net c.arc)) c.depart = StandsAt-from_list_has (points_in net (tail_in net c.arc)) c.depart is.1 in
     omega (arith, at.is 0, are.in_time at.place 0 at.within)
 
 -- a split that parts classes whose bits are set is one at the terminal

@@ -16,10 +16,9 @@ ghost use Rattle.fp_allowed.specs.Bits.{FillsArc, IsRowUnder};
 ghost use Rattle.fp_allowed.specs.Moments.{AreByTerminal, all_let, concerned, is_between, is_open};
 
 use crate::NoMemory;
-use crate::exits::MOST_CLASSES;
 use crate::moments::{open_moments, shipment_of, terminal_of};
 use fp_flatnet::{Window, Windows};
-use fp_longestarcs::Network;
+use fp_longestarcs::{MOST_CLASSES, Network};
 use fp_model::Instance;
 use fp_rows::Row;
 use fp_tree::Side;

@@ -8,13 +8,9 @@ ghost use Rattle.fp_allowed.specs.Allowed.{tails_of};
 ghost use Rattle.fp_allowed.specs.Bits.{row_allows};
 ghost use Rattle.fp_allowed.specs.Leaving.{IsFirstSet, IsRange, Tells, joined_of};
 
-use fp_longestarcs::Network;
+use fp_longestarcs::{MOST_CLASSES, Network};
 use fp_model::Instance;
-use fp_model::limits::{LATEST, MOST_ARCS};
 use fp_rows::Row;
-
-// The most classes of a network: one for each arc and whole moment that there can be.
-pub(crate) const MOST_CLASSES: u32 = MOST_ARCS as u32 * (LATEST + 1);
 
 /// How many allowed classes leave by an arc, or leave a terminal.
 #[derive(Clone, Copy)]

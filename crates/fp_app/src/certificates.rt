@@ -7,8 +7,8 @@ ghost use Rattle.fp_app.specs.Texts.{IsDirectCertificate, timetable_of};
 
 use crate::NoMemory;
 use fp_certificate::{Answer, Certificate};
-use fp_model::{Instance, Plan, cost};
-use fp_timetable::{LegLine, TruckLine, legs, trucks};
+use fp_model::{Instance, Plan};
+use fp_timetable::{LegLine, TruckLine, legs, plan_cost, trucks};
 use std::alloc::Global;
 
 // The certificate of an answer with a timetable and no more.
@@ -41,12 +41,10 @@ pub fn direct_certificate(
     ensures exact { IfOk result (IsDirectCertificate instance.now plan.now) }
     ensures named { IfOk result (IsNamed instance.now) }
 {
-    let answer = Answer::Direct {
-        cost: cost(instance, plan),
-    };
     let legs = legs(alloc, instance, plan)?;
     let trucks = trucks(alloc, instance, plan)?;
-    Ok(timetable_of(alloc, answer, legs, trucks))
+    let cost = plan_cost(instance, plan, &trucks);
+    Ok(timetable_of(alloc, Answer::Direct { cost }, legs, trucks))
 }
 
 /// The certificate of a shipment that can't be carried in time: its number and its fastest time.

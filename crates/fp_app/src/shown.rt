@@ -1,5 +1,6 @@
 //! What a run shows, and the status with which it ends.
 ghost use Rattle.std.specs.Prelude.{◌≡◌};
+ghost use Rattle.fp_app.specs.Texts.{kind_word};
 ghost use Rattle.fp_app.specs.Shown.{status_of, status_code};
 
 use fp_certificate::Answer;
@@ -61,6 +62,20 @@ pub enum AnswerKind {
     Unfinished,
     /// No plan exists.
     Infeasible,
+}
+
+impl AnswerKind {
+    /// The word of the kind in a text.
+    pub fn word(&self) -> &'static [u8]
+        ensures { result.now ≡ kind_word self.now }
+    {
+        match self {
+            AnswerKind::Direct => b"direct",
+            AnswerKind::Optimal => b"optimal",
+            AnswerKind::Unfinished => b"unfinished",
+            AnswerKind::Infeasible => b"infeasible",
+        }
+    }
 }
 
 impl From<Answer> for AnswerKind {

@@ -14,12 +14,7 @@ use std::alloc::Global;
 fn accepted_text(alloc: Global, kind: AnswerKind) -> Result<Vec<u8>, NoMemory>
     ensures { IfOk result (λ text. text.items ≡ line_of (codes "accepted" ∷ kind_word kind ∷ [])) }
 {
-    match kind {
-        AnswerKind::Direct => pair_text(alloc, b"accepted", b"direct"),
-        AnswerKind::Optimal => pair_text(alloc, b"accepted", b"optimal"),
-        AnswerKind::Unfinished => pair_text(alloc, b"accepted", b"unfinished"),
-        AnswerKind::Infeasible => pair_text(alloc, b"accepted", b"infeasible"),
-    }
+    pair_text(alloc, b"accepted", kind.word())
 }
 
 // `rejected` and the number of a part.

@@ -1,8 +1,6 @@
-pub mod Ascents
 pub mod Results
 pub mod RoutesOfLines
 pub mod ToldPlans
-pub mod DepartureLines
 pub mod TreeNodes
 pub mod SharesInOrder
 pub mod LeavesPassed

@@ -3,8 +3,8 @@ ghost use Rattle.std.specs.Prelude.{ℕ, ◌≡◌, ◌≤◌, ◌==◌, ◌↔�
 ghost use Rattle.fp_timenodes.specs.declared.places.AddedPoint.{AddedPoint};
 ghost use Rattle.fp_flatnet.specs.Belonging.{BelongsTo};
 ghost use Rattle.fp_lines.specs.Ranges.{IsPointInRange};
-ghost use Rattle.fp_acceptance.specs.declared.limits.TheConstants.{MOST_IN_ROUND};
 ghost use Rattle.fp_acceptance.specs.Points.{ArePointsOf, AreAddedPoints};
+ghost use Rattle.fp_acceptance.specs.declared.limits.TheConstants.{MOST_IN_ROUND};
 
 use crate::rejections::{POINTS, Rejected};
 use fp_acceptance::MOST_IN_ROUND;

@@ -12,18 +12,18 @@ ghost use Rattle.fp_acceptance.specs.Claims.{Claims, ClaimsWithin};
 ghost use Rattle.fp_acceptance.specs.Plans.{HasTimetable, routes_of, stated_cost as stated_cost_of};
 
 use crate::added_points::told_points;
-use crate::departures::{are_same, plan_cost};
+use crate::departures::are_same;
 use crate::fastest_times::is_too_late;
 use crate::leaves::are_leaves_worth;
 use crate::plans::told_plan;
 use crate::price_tables::are_tables;
 use crate::rejections::{BLOCKED, COST, LEAVES, PLAN, PRICES, Rejected, TREE, TRUCKS};
 use crate::trees::{is_tree, split_count};
-use fp_acceptance::MOST_SPLITS;
 use fp_certificate::{Answer, Certificate};
 use fp_flatnet::Windows;
 use fp_model::{Instance, Plan};
-use fp_timetable::trucks;
+use fp_timetable::{plan_cost, trucks};
+use fp_tree::MOST_SPLITS;
 use std::alloc::Global;
 
 // The cost that an answer states of its plan, and 0 where it has none.
@@ -83,7 +83,7 @@ fn test_bound(
         return Err(Rejected::Part { number: PRICES });
     }
     let nodes = certificate.tree.as_slice();
-    if !is_tree(nodes) || split_count(nodes) > MOST_SPLITS {
+    if !is_tree(nodes) || split_count(nodes) > MOST_SPLITS as usize {
         return Err(Rejected::Part { number: TREE });
     }
     if !are_leaves_worth(alloc, instance, windows, certificate, &points)? {

@@ -2,6 +2,7 @@
 use Rattle.std.proofs.Common.{◌≡◌, ◌≢◌, ℕ, ◌+◌, ◌*◌, ◌<◌, ◌≤◌, List, [], ◌∷◌, ◌++◌, length, refl, sym, ap, ◌∙◌, subst, arith}
 use Rattle.std.specs.Prelude.{Option}
 use Rattle.std.specs.List.{AllByRecursion, AllZip}
+use Rattle.fp_lists.proofs.Distinct.{AreDistinct-head, AreDistinct-tail}
 use Rattle.fp_model.specs.declared.parts.Leg.{Leg}
 use Rattle.fp_model.specs.declared.parts.Shipment.{Shipment}
 use Rattle.fp_lists.specs.Numbered.{AllFrom}
@@ -32,7 +33,7 @@ route-within p d s windows k h are [] pre here ready there after leads leaves ar
 route-within p d s windows k h are (l ∷ legs) pre here ready there after leads leaves arrives apart away =
     let a : ℕ = l.arc in
     let to_tail : Leads p s.from pre (arc_at p a).from = subst (λ (t : ℕ). Leads p s.from pre t) (sym leads.1) there in
-    let last : s.to ≢ here = end-among p (λ y. y ≢ here) here s.to a (arcs_of legs) leads apart.0 in
+    let last : s.to ≢ here = end-among p (λ y. y ≢ here) here s.to a (arcs_of legs) leads (AreDistinct-head here (ends_of p (arcs_of (l ∷ legs))) apart) in
     let step_on : d * (s.release + steps p (pre ++ (a ∷ []))) ≡ d * (s.release + steps p pre + step p a) =
     ap (λ (x : ℕ). d * x) (let e : s.release + steps p (pre ++ (a ∷ [])) ≡ s.release + steps p pre + step p a = omega (arith, steps-append p pre (a ∷ [])) in e) in
     let along : Leads p here (a ∷ []) (arc_at p a).to = (leads.0, leads.1, refl) in (
@@ -51,7 +52,7 @@ route-within p d s windows k h are (l ∷ legs) pre here ready there after leads
       route-within p d s windows k h are legs (pre ++ (a ∷ [])) (arc_at p a).to (l.depart + d * step p a)
           (Leads-append p s.from here (arc_at p a).to pre (a ∷ []) there along)
           (omega (arith, step_on, after, leaves.0))
-          leads.2 leaves.1 (arrives-later p d s.due l legs arrives) apart.1 away.1,
+          leads.2 leaves.1 (arrives-later p d s.due l legs arrives) (AreDistinct-tail here (ends_of p (arcs_of (l ∷ legs))) apart) away.1,
     )
 
 plan-within : (p : Problem) (windows : ℕ → ℕ → Option Window) (d i : ℕ) (ss : List Shipment) (plan : List (List Leg)) → 0 < d →
@@ -61,7 +62,7 @@ plan-within p windows d i [] (r ∷ plan) h are is = absurd is
 plan-within p windows d i (s ∷ ss) [] h are is = absurd is
 plan-within p windows d i (s ∷ ss) (r ∷ plan) h are is =
     let c : Carries p d s r = is.0 in (
-      route-within p d s windows i h are.0 r [] s.from (d * s.release) refl (omega arith) c.route.leads c.ready c.due c.route.once c.route.once.0,
+      route-within p d s windows i h are.0 r [] s.from (d * s.release) refl (omega arith) c.route.leads c.ready c.due c.route.once (AreDistinct-head s.from (ends_of p (arcs_of r)) c.route.once),
       plan-within p windows d (i + 1) ss plan h are.1 is.1,
     )
 

@@ -18,11 +18,11 @@ use Rattle.fp_lists.specs.Distinct.{AreDistinct}
 use Rattle.fp_labels.specs.Rows.{IsRow}
 use Rattle.fp_labels.specs.Labels.{label_at, step_to, traced, greatest_cost, IsSmallFor}
 use Rattle.fp_labels.specs.Searches.{Entry, entry_cmp, is_settled, settled_count, IsWithin, AreBehind, IsQueue, Improves, IsTraced, AreWalked, IsRelaxed, AreRelaxed, IsSearch, IsLast}
-use Rattle.fp_labels.proofs.LongerWalks.{nodes_push, walk_push}
 use Rattle.fp_lists.proofs.Distinct.{AreDistinct-push}
 use Rattle.fp_lists.proofs.Elements.{AllByRecursion-weaker, AllByRecursion-push}
-use Rattle.fp_labels.proofs.WalksBack.{traced_step, traced_elsewhere}
 use Rattle.fp_lists.proofs.Membership.{Contains-cons_cases}
+use Rattle.fp_labels.proofs.LongerWalks.{nodes_push, walk_push}
+use Rattle.fp_labels.proofs.WalksBack.{traced_step, traced_elsewhere}
 
 -- a node at most so dear is at most dearer
 pub within_weaker : (labels : List (Option Label)) (node a b : ℕ) → a ≤ b → IsWithin labels node a → IsWithin labels node b

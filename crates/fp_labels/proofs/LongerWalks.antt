@@ -4,25 +4,11 @@ use Rattle.std.specs.Prelude.{IsSome, unwrap_or}
 use Rattle.std.specs.List.{AllByRecursion}
 use Rattle.std.proofs.lemmas.List.{map_push}
 use Rattle.std.proofs.lemmas.List.Sums.{sum_by_push}
+use Rattle.fp_lists.proofs.Elements.{AllByRecursion-push}
 use Rattle.fp_labels.specs.declared.graphs.Edge.{Edge}
 use Rattle.fp_labels.specs.Graphs.{edge_at}
 use Rattle.fp_labels.specs.Walks.{Leads, cost_of, nodes_on, IsWalk}
 use Rattle.fp_lists.specs.Distinct.{AreDistinct}
-
--- what holds of each element and of one more
-pub AllByRecursion-push : {X : Type 0} (P : X → Type 0) (xs : List X) (x : X) → AllByRecursion P xs → P x → AllByRecursion P (xs ++ (x ∷ []))
-AllByRecursion-push P [] x all one = (one, tt)
-AllByRecursion-push P (y ∷ xs) x all one = (all.0, AllByRecursion-push P xs x all.1 one)
-
--- what holds of each element, and so something weaker
-pub AllByRecursion-weaker : {X : Type 0} (P Q : X → Type 0) → ((x : X) → P x → Q x) → (xs : List X) → AllByRecursion P xs → AllByRecursion Q xs
-AllByRecursion-weaker P Q weaker [] all = tt
-AllByRecursion-weaker P Q weaker (x ∷ xs) all = (weaker x all.0, AllByRecursion-weaker P Q weaker xs all.1)
-
--- one more number that stands nowhere before
-pub AreDistinct-push : (xs : List ℕ) (x : ℕ) → AreDistinct xs → AllByRecursion (λ y. y ≢ x) xs → AreDistinct (xs ++ (x ∷ []))
-AreDistinct-push [] x apart new = (tt, tt)
-AreDistinct-push (y ∷ xs) x apart new = (AllByRecursion-push (λ z. z ≢ y) xs x apart.0 (λ same. new.0 (sym same)), AreDistinct-push xs x apart.1 new.1)
 
 -- the nodes on a walk with one more edge
 pub nodes_push : (edges : List Edge) (here : ℕ) (walk : List ℕ) (e : ℕ) → nodes_on edges here (walk ++ (e ∷ [])) ≡ nodes_on edges here walk ++ ((edge_at edges e).to ∷ [])

@@ -17,7 +17,7 @@ use Rattle.fp_lists.specs.Ascending.{IsCut, place_in}
 use Rattle.fp_longestarcs.specs.Networks.{TimedNetwork, points_in, tail_in, heads_in, kept_head, IsArcOfClass, IsClass, copy_count, class_count, first_class, class_number, IsNetwork}
 use Rattle.fp_longestarcs.specs.Vectors.{AreOffsets}
 use Rattle.fp_longestarcs.specs.Whole.{HasArcsOf, IsWholeNetwork}
-use Rattle.fp_lists.proofs.Places.{place_in-get_or, get_or-place_in}
+use Rattle.fp_lists.proofs.Places.{place_in-get_or, get_or-place_in, place-le-get_or}
 use Rattle.fp_longestarcs.proofs.HeadLists.{arc-count, tail-of, whole-heads}
 
 -- the points of an arc's tail
@@ -93,11 +93,6 @@ class-unique net c e valid first second same =
   where
     later : (a b : ℕ) → a < b → b < length net.tails → first_class net (a + 1) ≤ first_class net b
     later a b less h = let e : a + 1 + (b - (a + 1)) ≡ b = omega arith in subst (λ (n : ℕ). first_class net (a + 1) ≤ first_class net n) e (first-mono net (b - (a + 1)) (a + 1) (omega arith))
-
--- ascending points are at least their places
-place-le-get_or : (qs : List ℕ) (k : ℕ) → AllPairs (λ a b. a < b) qs → k < length qs → k ≤ get_or qs k 0
-place-le-get_or qs zero up h = omega arith
-place-le-get_or qs (suc k) up h = omega (arith, place-le-get_or qs k up (omega arith), up k (suc k) 0 (omega arith) h)
 
 -- so a terminal has no more points than there are times
 pub few-points : (qs : List ℕ) → ArePoints qs → length qs ≤ LATEST + 1

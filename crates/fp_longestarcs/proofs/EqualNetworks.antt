@@ -8,53 +8,22 @@ use Rattle.fp_model.specs.Problem.{Problem}
 use Rattle.fp_timenodes.specs.Floor.{HaveSamePoints}
 use Rattle.fp_lists.specs.Membership.{list_has}
 use Rattle.fp_timenodes.specs.Points.{TimePoints}
-use Rattle.fp_lists.proofs.Membership.{list_has-rest, list_has-first, list_has-cons_cases, list_has-insert}
+use Rattle.fp_lists.proofs.Membership.{list_has-rest, list_has-first, list_has-cons_cases, list_has-insert, StandsAt-from_list_has}
 use Rattle.fp_longestarcs.specs.Ascending.{ArePoints}
 use Rattle.fp_lists.specs.Ascending.{place_in}
 use Rattle.fp_longestarcs.specs.Networks.{TimedNetwork, points_in}
 use Rattle.fp_longestarcs.specs.Whole.{HasArcsOf, IsNetworkOf, heads_of, IsWholeNetwork}
 use Rattle.fp_longestarcs.specs.Changes.{refined, restored, HasAlso, extended_points}
-use Rattle.fp_longestarcs.proofs.Places.{stands}
-use Rattle.fp_lists.proofs.Places.{ascending-tail}
+use Rattle.fp_lists.proofs.Places.{first-lt, ascending-unique}
 use Rattle.fp_longestarcs.proofs.HeadLists.{points-same, points-other}
-
--- the first of ascending points is before the others
-pub first-before : (q : ℕ) (qs : List ℕ) (m : ℕ) → AllPairs (λ a b. a < b) (q ∷ qs) → list_has qs m ≡ true → q < m
-first-before q qs m up there = let w = stands qs m there in omega (arith, up 0 (suc w.place) 0 (omega arith) (omega (arith, w.within)), w.is 0)
-
--- two tests that are true together are the same
-same-truth : (a b : Bool) → (a ≡ true → b ≡ true) → (b ≡ true → a ≡ true) → a ≡ b
-same-truth true b h k = sym (h refl)
-same-truth false true h k = k refl
-same-truth false false h k = refl
 
 -- what is a point of both lists beside their equal first ones is a point of the rest
 rest-of : (x y : ℕ) (xs ys : List ℕ) (m : ℕ) → AllPairs (λ a b. a < b) (x ∷ xs) → x ≡ y → HaveSamePoints (x ∷ xs) (y ∷ ys) → list_has xs m ≡ true → list_has ys m ≡ true
 rest-of x y xs ys m up is same there =
     ⊎_elim
-    (λ (first : y ≡ m). absurd (omega (arith, first-before x xs m up there, first, is)))
+    (λ (first : y ≡ m). absurd (omega (arith, first-lt x xs m up there, first, is)))
     (λ (rest : list_has ys m ≡ true). rest)
     (list_has-cons_cases y ys m (sym (same m) ∙ list_has-rest x xs m there))
-
--- ascending lists with the same points are the same
-pub ascending-same : (xs ys : List ℕ) → AllPairs (λ a b. a < b) xs → AllPairs (λ a b. a < b) ys → HaveSamePoints xs ys → xs ≡ ys
-ascending-same [] [] up upper same = refl
-ascending-same [] (y ∷ ys) up upper same = let there : list_has [] y ≡ true = same y ∙ list_has-first y ys in cc
-ascending-same (x ∷ xs) [] up upper same = let there : list_has [] x ≡ true = sym (same x) ∙ list_has-first x xs in cc
-ascending-same (x ∷ xs) (y ∷ ys) up upper same =
-    let first : x ≡ y =
-    ⊎_elim
-    (λ (e : y ≡ x). sym e)
-    (λ (later : list_has ys x ≡ true).
-    ⊎_elim
-    (λ (e : x ≡ y). e)
-    (λ (late : list_has xs y ≡ true). absurd (omega (arith, first-before y ys x upper later, first-before x xs y up late)))
-    (list_has-cons_cases x xs y (same y ∙ list_has-first y ys)))
-    (list_has-cons_cases y ys x (sym (same x) ∙ list_has-first x xs)) in
-    let rest : xs ≡ ys =
-    ascending-same xs ys (ascending-tail x xs up) (ascending-tail y ys upper)
-    (λ m. same-truth (list_has xs m) (list_has ys m) (rest-of x y xs ys m up first same) (rest-of y x ys xs m upper (sym first) (λ n. sym (same n)))) in
-    ap (λ (n : ℕ). n ∷ xs) first ∙ ap (λ (l : List ℕ). y ∷ l) rest
 
 -- whole networks of an instance with the same points are equal
 pub IsWholeNetwork-unique : (p : Problem) (m n : TimedNetwork) → IsWholeNetwork p m → IsWholeNetwork p n → ((terminal : ℕ) → terminal < length p.terminals → HaveSamePoints (points_in m terminal) (points_in n terminal)) → m ≡ n
@@ -71,7 +40,7 @@ IsWholeNetwork-unique p m n first second same =
     each k h =
         let mine : ArePoints (points_in m k) = first.valid.points k [] h in
         let other : ArePoints (points_in n k) = second.valid.points k [] (omega (arith, first.arcs.terminals, second.arcs.terminals)) in
-        ascending-same (points_in m k) (points_in n k) mine.ascending other.ascending (same k (omega (arith, first.arcs.terminals)))
+        ascending-unique (points_in m k) (points_in n k) mine.ascending other.ascending (same k (omega (arith, first.arcs.terminals)))
 
 -- which points there are with one more
 pub has-with : (net : TimedNetwork) (terminal at t q : ℕ) → terminal < length net.points →

@@ -13,8 +13,7 @@ use Rattle.fp_longestarcs.specs.Ascending.{ArePoints}
 use Rattle.fp_longestarcs.specs.Networks.{TimedNetwork, points_in, heads_in}
 use Rattle.fp_longestarcs.specs.Whole.{IsNetworkOf, IsWholeNetwork}
 use Rattle.fp_longestarcs.specs.Properties.{IsTimedArc, HasProperties}
-use Rattle.fp_longestarcs.proofs.Places.{stands}
-use Rattle.fp_lists.proofs.Membership.{list_has-get_or, StandsAt}
+use Rattle.fp_lists.proofs.Membership.{list_has-get_or, StandsAt-from_list_has, StandsAt}
 use Rattle.fp_longestarcs.proofs.HeadLists.{whole-heads}
 
 -- a timed arc of a whole network ends at the greatest point that is not after its start and the
@@ -45,7 +44,7 @@ HasProperties-network p v round net valid made = record {
   not_longer = λ arc start end timed.
       omega (arith, ends-greatest p net arc start end made.whole timed, floor_le (points_in net (arc_at p arc).to) 1 (start + step p arc));
   copies = λ arc start exists there.
-      let w : StandsAt (points_in net (arc_at p arc).from) start = stands (points_in net (arc_at p arc).from) start there in
+      let w : StandsAt (points_in net (arc_at p arc).from) start = StandsAt-from_list_has (points_in net (arc_at p arc).from) start there in
       (get_or (heads_in net arc) w.place 0, record { place = w.place; exists = exists; within = w.within; starts = w.is 0; ends = refl });
   longest = λ arc start end later timed after before there.
       omega (arith, ends-greatest p net arc start end made.whole timed, floor_greatest (points_in net (arc_at p arc).to) 1 (start + step p arc) later there (omega arith), after);

@@ -1,4 +1,3 @@
-pub mod Mapped
 pub mod Places
 pub mod HeadLists
 pub mod NewPoints

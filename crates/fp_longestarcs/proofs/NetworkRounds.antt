@@ -9,7 +9,7 @@ use Rattle.fp_timenodes.specs.declared.places.AddedPoint.{AddedPoint}
 use Rattle.fp_timenodes.specs.declared.places.TheConstants.{LATEST}
 use Rattle.fp_lists.specs.Membership.{list_has}
 use Rattle.fp_timenodes.specs.Points.{AreAfter, TimePoints, greatest_round, points_at, with_added}
-use Rattle.fp_timenodes.proofs.Rounds.{has_point-with_added, points_at-with_added, points_at_from_greatest}
+use Rattle.fp_timenodes.proofs.Rounds.{list_has-with_added, points_at-with_added, points_at_from_greatest}
 use Rattle.fp_longestarcs.specs.Networks.{IsClass, TimedNetwork, kept_head, points_in}
 use Rattle.fp_longestarcs.specs.Whole.{IsNetworkOf, IsWholeNetwork}
 use Rattle.fp_longestarcs.specs.Changes.{HasAlso, refined, restored, extended_points}
@@ -34,7 +34,7 @@ IsNetworkOf_from_greatest p v round later net least le is = record {
 pub HasAlso-with_added : (p : Problem) (v : TimePoints) (new : AddedPoint) (round : ℕ) (net : TimedNetwork) → new.round ≤ round → IsNetworkOf p v round net →
     HasAlso net new.terminal new.at (with_added v (new ∷ [])) round
 HasAlso-with_added p v new round net from is t q h =
-    has_point-with_added v new t round q
+    list_has-with_added v new t round q
     ∙ ⊎_elim
     (λ (same : new.terminal ≡ t).
     ap (λ (b : Bool). known || ((b && nat_le new.round round) && here)) (eq-eqb new.terminal t same)

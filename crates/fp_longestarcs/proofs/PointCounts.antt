@@ -6,6 +6,7 @@ use Rattle.std.proofs.lemmas.Bool.{cases_Bool, cases_eq, eq-eqb, ne_eqb, eqb-tru
 use Rattle.std.proofs.lemmas.List.{length-append, length-map}
 use Rattle.std.proofs.lemmas.List.Edits.{length-insert}
 use Rattle.std.proofs.lemmas.List.Sums.{sum_by-set, sum_by-cons, sum_by-le-sum_by}
+use Rattle.fp_lists.proofs.Pairs.{AllPairs-tail}
 use Rattle.fp_lists.proofs.Sums.{sum_by-both}
 use Rattle.fp_timenodes.specs.declared.places.Place.{Place}
 use Rattle.fp_timenodes.specs.declared.places.AddedPoint.{AddedPoint}
@@ -17,8 +18,7 @@ use Rattle.fp_longestarcs.specs.Ascending.{ArePoints}
 use Rattle.fp_lists.specs.Ascending.{IsPlaceIn, place_in}
 use Rattle.fp_longestarcs.specs.Networks.{TimedNetwork, IsNetwork, points_in, point_count}
 use Rattle.fp_longestarcs.specs.Changes.{extended_points}
-use Rattle.fp_lists.proofs.Places.{IsPlaceIn-place_in, ascending-tail}
-use Rattle.fp_longestarcs.proofs.EqualNetworks.{first-before}
+use Rattle.fp_lists.proofs.Places.{IsPlaceIn-place_in, first-lt}
 
 -- a new point is one more
 pub count-with : (net : TimedNetwork) (terminal at : ℕ) → IsNetwork net → terminal < length net.points → sum_by (λ (qs : List ℕ). length qs) (extended_points net terminal at) ≡ point_count net + 1
@@ -78,8 +78,8 @@ length-below : (qs : List ℕ) (n : ℕ) → AllPairs (λ a b. a < b) qs → ((k
 length-below [] zero up within = refl
 length-below [] (suc n) up within = omega (arith, length-below [] n up (λ k h. absurd (omega arith)))
 length-below (q ∷ qs) n up within =
-    let new : list_has qs q ≡ false = false_from_ne_true (list_has qs q) (λ there. absurd (omega (arith, first-before q qs q up there))) in
-    omega (arith, below-more q qs n new (within 0 (omega arith)), length-below qs n (ascending-tail q qs up) (λ k h. within (suc k) (omega arith)))
+    let new : list_has qs q ≡ false = false_from_ne_true (list_has qs q) (λ there. absurd (omega (arith, first-lt q qs q up there))) in
+    omega (arith, below-more q qs n new (within 0 (omega arith)), length-below qs n (AllPairs-tail (λ a b. a < b) q qs up) (λ k h. within (suc k) (omega arith)))
 
 -- an ascending list is no longer than any list with the same points
 within-limit : (ps qs : List ℕ) (n : ℕ) → AllPairs (λ a b. a < b) ps → ((k : ℕ) → k < length ps → get_or ps k 0 < n) → HaveSamePoints ps qs → length ps ≤ length qs

@@ -10,8 +10,7 @@ use Rattle.fp_timenodes.specs.declared.places.TheConstants.{LATEST}
 use Rattle.fp_timenodes.specs.Floor.{IsNextPoint, HaveSamePoints}
 use Rattle.fp_lists.specs.Membership.{list_has}
 use Rattle.fp_longestarcs.specs.Ascending.{ArePoints}
-use Rattle.fp_longestarcs.proofs.Places.{stands}
-use Rattle.fp_lists.proofs.Membership.{list_has-get_or}
+use Rattle.fp_lists.proofs.Membership.{list_has-get_or, StandsAt-from_list_has}
 
 -- the times are the points up to the last one
 pub record AreUntil (qs times : List ℕ) (last : ℕ) : Type 0 where
@@ -23,7 +22,7 @@ pub record AreUntil (qs times : List ℕ) (last : ℕ) : Type 0 where
 pub AreUntil-zero : (qs : List ℕ) → list_has qs 0 ≡ true → AreUntil qs (0 ∷ []) 0
 AreUntil-zero qs start = record {
   are = record { ascending = λ i j d less h. absurd (omega arith); zero = refl; in_time = early };
-  until = λ q there. let w = stands (0 ∷ []) q there in omega (arith, first w.place (omega (arith, w.within)), w.is 0);
+  until = λ q there. let w = StandsAt-from_list_has (0 ∷ []) q there in omega (arith, first w.place (omega (arith, w.within)), w.is 0);
   same = λ q le. let e : q ≡ 0 = omega arith in subst (λ (n : ℕ). list_has (0 ∷ []) n ≡ list_has qs n) (sym e) (sym start);
 }
   where
@@ -48,7 +47,7 @@ AreUntil-push qs times last next old is in_time = record {
     in_time = early;
   };
   until = λ q there.
-      let w = stands (times ++ next ∷ []) q there in
+      let w = StandsAt-from_list_has (times ++ next ∷ []) q there in
       ⊎_elim
       (λ (less : w.place < length times). omega (arith, before w.place 0 less, w.is 0, is.1))
       (λ (more : length times ≤ w.place). omega (arith, at-end w.place 0 (omega (arith, w.within, length_push times next)), w.is 0))

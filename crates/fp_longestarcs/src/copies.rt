@@ -7,9 +7,10 @@ ghost use Rattle.fp_lists.specs.Vectors.{lists_of};
 ghost use Rattle.fp_longestarcs.specs.Changes.{lifted, refined, restored};
 
 use crate::NoMemory;
-use crate::ascending::{floor_among, place_among};
+use crate::ascending::floor_among;
 use crate::listing::count_classes;
 use crate::lists::{list_at, put};
+use fp_lists::place_among;
 use fp_model::Instance;
 use fp_model::limits::LONGEST_STEP;
 use fp_timenodes::{LATEST, Place};

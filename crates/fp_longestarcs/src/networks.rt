@@ -13,10 +13,11 @@ ghost use Rattle.fp_longestarcs.specs.Changes.{HasAlso, refined, restored, exten
 ghost use Rattle.fp_longestarcs.specs.Properties.{HasProperties};
 
 use crate::NoMemory;
-use crate::ascending::{count_until, floor_among, is_among, place_among};
+use crate::ascending::{floor_among, is_among};
 use crate::copies::{add_point, lift_copies};
 use crate::listing::{all_heads, all_tails, all_times, count_classes};
 use crate::lists::{copied, list_at};
+use fp_lists::{count_until, place_among};
 use fp_model::Instance;
 use fp_model::limits::MOST_ARCS;
 use fp_timenodes::{LATEST, Place, Points};

@@ -3,6 +3,7 @@
 -- Operations Research 65, 2017. The hold at a terminal is this project's own.
 use Rattle.std.specs.Prelude.{ℕ, ◌+◌, ◌*◌, ◌<◌, ◌≤◌, ◌≡◌, ◌≢◌, List, [], ◌∷◌, length, map, All}
 use Rattle.std.specs.List.{AllByRecursion}
+use Rattle.fp_lists.specs.Distinct.{AreDistinct}
 use Rattle.fp_model.specs.declared.parts.Shipment.{Shipment}
 use Rattle.fp_model.specs.declared.parts.Leg.{Leg}
 use Rattle.fp_model.specs.Problem.{Problem, arc_at, hold_at}
@@ -16,11 +17,6 @@ Leads p here (a ∷ arcs) there =
 -- the terminals that arcs enter
 abbrev pub ends_of : Problem → List ℕ → List ℕ
 ends_of p arcs = map (λ a. (arc_at p a).to) arcs
-
--- no number stands twice in a list
-abbrev pub AreDistinct : List ℕ → Type 0
-AreDistinct [] = Unit {0}
-AreDistinct (x ∷ xs) = AllByRecursion (λ y. y ≢ x) xs × AreDistinct xs
 
 -- a route of a shipment: not empty, from its origin to its destination, and no terminal twice
 pub record IsRoute (p : Problem) (s : Shipment) (arcs : List ℕ) : Type 0 where

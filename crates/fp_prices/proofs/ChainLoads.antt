@@ -6,6 +6,8 @@ use Rattle.std.proofs.Math.Bool.{or-false}
 use Rattle.std.proofs.lemmas.Bool.{both_ways, cases_eq, cond-false, cond-true, eq-eqb, eqb-true, false_from_ne_true, ne_eqb, or_cases, or_right}
 use Rattle.std.proofs.lemmas.List.{get_or-set_other, get_or-set_same, length-set, take_more}
 use Rattle.std.proofs.lemmas.List.Folds.{list_any-append}
+use Rattle.fp_lists.proofs.Distinct.{list_has-take_distinct}
+use Rattle.fp_lists.proofs.Membership.{list_has-take_more}
 use Rattle.fp_lists.specs.Distinct.{AreDistinct}
 use Rattle.fp_lists.specs.Membership.{list_has}
 use Rattle.fp_allowed.specs.Bits.{bit_of}
@@ -20,34 +22,6 @@ pub record AreAdded (size : ℕ) (numbers : List ℕ) (old_loads now_loads : Lis
 pub added_none : (size : ℕ) (loads : List ℕ) (row : List Bool) → AreAdded size [] loads loads row row
 added_none size loads row = record { loads_long = refl; row_long = refl; loads = λ n. omega arith; told = λ n. sym (or-false (bit_of row n)) }
 
--- a number that isn't among others
-list_has-others : (x : ℕ) (numbers : List ℕ) → AllByRecursion (λ y. y ≢ x) numbers → list_has numbers x ≡ false
-list_has-others x [] others = refl
-list_has-others x (y ∷ numbers) others = false_from_ne_true (list_has (y ∷ numbers) x) (λ is.
-    ⊎_elim (λ (here : nat_eq y x ≡ true). others.0 (eqb-true y x here)) (λ (later : list_has numbers x ≡ true). both_ways (list_has numbers x) (list_has-others x numbers others.1) later)
-    (or_cases (nat_eq y x) (list_has numbers x) is))
-
--- among numbers that are apart none stands before itself
-apart-before : (numbers : List ℕ) (i : ℕ) → AreDistinct numbers → i < length numbers → list_has (take i numbers) (get_or numbers i 0) ≡ false
-apart-before [] i apart inside = absurd (omega arith)
-apart-before (x ∷ numbers) zero apart inside = refl
-apart-before (x ∷ numbers) (suc i) apart inside = false_from_ne_true (list_has (take (suc i) (x ∷ numbers)) (get_or numbers i 0)) (λ is.
-    ⊎_elim
-    (λ (here : nat_eq x (get_or numbers i 0) ≡ true). other numbers i apart.0 (omega arith) (sym (eqb-true x (get_or numbers i 0) here)))
-    (λ (later : list_has (take i numbers) (get_or numbers i 0) ≡ true). both_ways (list_has (take i numbers) (get_or numbers i 0)) (apart-before numbers i apart.1 (omega arith)) later)
-    (or_cases (nat_eq x (get_or numbers i 0)) (list_has (take i numbers) (get_or numbers i 0)) is))
-  where
-    other : (ys : List ℕ) (k : ℕ) → AllByRecursion (λ y. y ≢ x) ys → k < length ys → get_or ys k 0 ≡ x → ⊥
-    other [] k others h = absurd (omega arith)
-    other (y ∷ ys) zero others h = others.0
-    other (y ∷ ys) (suc k) others h = other ys k others.1 (omega arith)
-
--- whether a number is among some and one more
-list_has-take_more : (numbers : List ℕ) (i n : ℕ) → i < length numbers → list_has (take (i + 1) numbers) n ≡ (list_has (take i numbers) n || nat_eq (get_or numbers i 0) n)
-list_has-take_more numbers i n inside =
-    ap (λ (l : List ℕ). list_has l n) (take_more numbers i 0 inside) ∙ list_any-append (λ q. nat_eq q n) (take i numbers) (get_or numbers i 0 ∷ []) ∙
-    ap (λ (b : Bool). list_has (take i numbers) n || b) (or-false (nat_eq (get_or numbers i 0) n))
-
 -- one more class of a chain
 pub added_more : (size : ℕ) (numbers : List ℕ) (i x load : ℕ) (loads now : List ℕ) (row bits : List Bool) → AreDistinct numbers → i < length numbers → x ≡ get_or numbers i 0 → x < length loads → x < length row →
     AreAdded size (take i numbers) loads now row bits → load ≡ get_or now x 0 + size → AreAdded size (take (i + 1) numbers) loads (set now x load) row (set bits x true)
@@ -57,7 +31,7 @@ added_more size numbers i x load loads now row bits apart inside x_is in_loads i
   loads = λ n.
       ⊎_elim
       (λ (here : x ≡ n).
-      let none : list_has (take i numbers) x ≡ false = ap (list_has (take i numbers)) x_is ∙ apart-before numbers i apart inside in
+      let none : list_has (take i numbers) x ≡ false = ap (list_has (take i numbers)) x_is ∙ list_has-take_distinct numbers i apart inside in
       let old : get_or now x 0 ≡ get_or loads x 0 = so_far.loads x ∙ (let e : get_or loads x 0 + (if list_has (take i numbers) x then size else 0) ≡ get_or loads x 0 = omega (arith, cond-false {A = ℕ} (list_has (take i numbers) x) size 0 none) in e) in
       let told : list_has (take (i + 1) numbers) x ≡ true = more x ∙ or_right (list_has (take i numbers) x) (nat_eq x x) (eq-eqb x x refl) in
       subst (λ (m : ℕ). get_or (set now x load) m 0 ≡ get_or loads m 0 + (if list_has (take (i + 1) numbers) m then size else 0)) here
@@ -88,4 +62,4 @@ pub added_before : (size : ℕ) (numbers : List ℕ) (i : ℕ) (loads now : List
     get_or now (get_or numbers i 0) 0 ≡ get_or loads (get_or numbers i 0) 0
 added_before size numbers i loads now row bits apart inside so_far =
     let x : ℕ = get_or numbers i 0 in
-    so_far.loads x ∙ (let e : get_or loads x 0 + (if list_has (take i numbers) x then size else 0) ≡ get_or loads x 0 = omega (arith, cond-false {A = ℕ} (list_has (take i numbers) x) size 0 (apart-before numbers i apart inside)) in e)
+    so_far.loads x ∙ (let e : get_or loads x 0 + (if list_has (take i numbers) x then size else 0) ≡ get_or loads x 0 = omega (arith, cond-false {A = ℕ} (list_has (take i numbers) x) size 0 (list_has-take_distinct numbers i apart inside)) in e)

@@ -5,6 +5,7 @@ use Rattle.std.specs.List.{AllByRecursion, AllZip}
 use Rattle.std.specs.Int.{div_ceil}
 use Rattle.std.proofs.Math.Nat.{mul-le-mul_left}
 use Rattle.std.proofs.lemmas.Bool.{cases_Bool, cond-true, cond-false, and_parts, eqb-true}
+use Rattle.fp_lists.proofs.Elements.{AllByRecursion-get_or_default}
 use Rattle.fp_model.specs.declared.parts.Arc.{Arc}
 use Rattle.fp_model.specs.declared.parts.Leg.{Leg}
 use Rattle.fp_model.specs.declared.parts.Shipment.{Shipment}
@@ -27,12 +28,6 @@ use Rattle.fp_prices.proofs.ForcedClasses.{AreAmong, base-le}
 -- each share of a table keeps the price rule of its arc
 abbrev pub TableKeepsRule : Problem → List ClassShare → Type 0
 TableKeepsRule p table = AllByRecursion (λ (share : ClassShare). KeepsRule p.scale (arc_at p share.arc) share) table
-
--- what holds of each element and of what stands for a missing one holds at every number
-pub AllByRecursion-get_or_default : {X : Type 0} (P : X → Type 0) (xs : List X) (i : ℕ) (d : X) → AllByRecursion P xs → P d → P (slice_index_or xs i d)
-AllByRecursion-get_or_default P [] i d all default = default
-AllByRecursion-get_or_default P (x ∷ xs) zero d all default = all.0
-AllByRecursion-get_or_default P (x ∷ xs) (suc i) d all default = AllByRecursion-get_or_default P xs i d all.1 default
 
 -- the share of a class, if there is one, keeps the price rule of the class's arc
 pub share-keeps : (p : Problem) (table : List ClassShare) (c : Leg) → TableKeepsRule p table →

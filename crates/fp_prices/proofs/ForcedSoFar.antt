@@ -8,6 +8,7 @@ use Rattle.std.proofs.lemmas.Bool.{cases_eq, cases_lt, eq-eqb, false_from_ne_tru
 use Rattle.std.proofs.lemmas.List.{get_or-replicate, get_or_past, length-append, length-replicate, length-take, take_all, take_more}
 use Rattle.std.proofs.lemmas.List.Elements.{recursion_from_All}
 use Rattle.std.proofs.lemmas.List.Folds.{list_any-append}
+use Rattle.fp_lists.proofs.Numbered.{AllZipFrom-push}
 use Rattle.fp_model.specs.declared.parts.Leg.{Leg}
 use Rattle.fp_model.specs.declared.parts.Shipment.{Shipment}
 use Rattle.fp_model.specs.Costs.{all_legs, has_leg, load, same_leg}
@@ -34,15 +35,6 @@ use Rattle.fp_prices.specs.Forced.{AreForcedOf, AreRowsUnder}
 use Rattle.fp_prices.specs.Leaves.{IsChain}
 use Rattle.fp_prices.proofs.NumberedClasses.{number-class}
 use Rattle.fp_prices.proofs.SmallBounds.{chain-arcs}
-
--- one more element at the end of both lists
-pub AllZipFrom-push : {X Y : Type 0} (Q : ℕ → X → Y → Type 0) (i : ℕ) (xs : List X) (ys : List Y) (x : X) (y : Y) → AllZipFrom Q i xs ys → Q (i + length xs) x y → AllZipFrom Q i (xs ++ (x ∷ [])) (ys ++ (y ∷ []))
-AllZipFrom-push Q i [] [] x y all one = let e : i + 0 ≡ i = omega arith in (subst (λ (n : ℕ). Q n x y) e one, tt)
-AllZipFrom-push Q i [] (z ∷ ys) x y all one = absurd all
-AllZipFrom-push Q i (z ∷ xs) [] x y all one = absurd all
-AllZipFrom-push Q i (z ∷ xs) (w ∷ ys) x y all one =
-    let e : i + suc (length xs) ≡ i + 1 + length xs = omega arith in
-    (all.0, AllZipFrom-push Q (i + 1) xs ys x y all.1 (subst (λ (n : ℕ). Q n x y) e one))
 
 -- a load with one more chain
 load-push : (shipments : List Shipment) (chains : List (List Leg)) (s : Shipment) (chain : List Leg) (c : Leg) → length chains ≡ length shipments →

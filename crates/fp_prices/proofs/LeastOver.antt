@@ -15,7 +15,7 @@ use Rattle.fp_labels.specs.Walks.{IsDistance, IsWalk, cost_of, nodes_on, Leads a
 use Rattle.fp_model.specs.declared.parts.Leg.{Leg}
 use Rattle.fp_model.specs.declared.parts.Shipment.{Shipment}
 use Rattle.fp_model.specs.Problem.{Problem}
-use Rattle.fp_lists.proofs.DistinctSums.{sum_by-places-le}
+use Rattle.fp_lists.proofs.DistinctSums.{sum_by-places-le, length-distinct-le}
 use Rattle.fp_lists.proofs.Elements.{AllByRecursion-weaker}
 use Rattle.fp_longestarcs.specs.Networks.{TimedNetwork, points_in}
 use Rattle.fp_longestarcs.proofs.NewPoints.{points-of}
@@ -84,23 +84,6 @@ least-walk p net allowed price costs s are from to n walk least simple =
           (distinct-met p net are.valid are.whole (last_node net s.to) walk s.from 0 from begins.1 (subst (λ (m : ℕ). LeadsOver (edges_of p net) m walk (last_node net s.to)) node simple.goes.leads)
           (subst (λ (m : ℕ). AreDistinct (nodes_on (edges_of p net) m walk)) node simple.apart));
     }
-
--- numbers below n that are all different are at most n
-length-distinct-le : (n : ℕ) (places : List ℕ) → AllByRecursion (λ i. i < n) places → AreDistinct places → length places ≤ n
-length-distinct-le n places below apart =
-    let each : All (λ (i : ℕ). i ≤ 1) row = λ k d h. omega (arith, get_or-replicate {A = ℕ} n k 1 d (omega (arith, h, long))) in
-    let inside : AllByRecursion (λ i. i < length row) places = AllByRecursion-weaker (λ i. i < n) (λ i. i < length row) (λ i h. omega (arith, h, long)) places below in
-    omega (arith, sum_by-places-le (λ (i : ℕ). i) 0 refl places row inside apart, ones places below, sum_by-le (λ (i : ℕ). i) 1 row each, long)
-  where
-    row : List ℕ
-    row = replicate n 1
-
-    long : length row ≡ n
-    long = length-replicate {A = ℕ} n 1
-
-    ones : (numbers : List ℕ) → AllByRecursion (λ i. i < n) numbers → sum_by (λ i. get_or row i 0) numbers ≡ length numbers
-    ones [] h = refl
-    ones (x ∷ xs) h = omega (arith, sum_by-cons (λ i. get_or row i 0) x xs, get_or-replicate {A = ℕ} n x 1 0 h.0, ones xs h.1)
 
 -- the nodes on a walk are nodes
 nodes-below : (edges : List Edge) (nodes here there : ℕ) (walk : List ℕ) → HasEnds nodes edges → here < nodes → LeadsOver edges here walk there → AllByRecursion (λ i. i < nodes) (nodes_on edges here walk)

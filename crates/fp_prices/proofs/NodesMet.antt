@@ -200,21 +200,25 @@ module _ (p : Problem) (net : TimedNetwork) (valid : IsValid p) (whole : IsWhole
       AreDistinct (nodes_met p (points_in net) (here, get_or (points_in net here) place 0) (classes_on net walk))
   distinct-met there [] here place exists within leads apart = AreDistinct-cons (point_at here place) [] tt AreDistinct-nil
   distinct-met there (e ∷ walk) here place exists within leads apart =
+      let node : ℕ = first_node net here + place in
+      let later : List ℕ = nodes_on (edges_of p net) (edge_at (edges_of p net) e).to walk in
+      let own : AllByRecursion (λ n. n ≢ node) later = AreDistinct-head node later apart in
+      let rest : AreDistinct later = AreDistinct-tail node later apart in
       ⊎_elim
       (λ (edge : IsClassEdge here place e).
       let onward = subst (λ (n : ℕ). LeadsOver (edges_of p net) n walk there) edge.to leads.2 in
       subst AreDistinct (sym (met-class here place e walk edge))
       (AreDistinct-cons (point_at here place) (met_from edge.next edge.enters walk)
       (others (met_from edge.next edge.enters walk)
-      (all-met IsOther there walk edge.next edge.enters edge.exists edge.within onward (subst (λ (n : ℕ). AllByRecursion IsOther (nodes_on (edges_of p net) n walk)) edge.to apart.0)))
-      (distinct-met there walk edge.next edge.enters edge.exists edge.within onward (subst (λ (n : ℕ). AreDistinct (nodes_on (edges_of p net) n walk)) edge.to apart.1))))
+      (all-met IsOther there walk edge.next edge.enters edge.exists edge.within onward (subst (λ (n : ℕ). AllByRecursion IsOther (nodes_on (edges_of p net) n walk)) edge.to own)))
+      (distinct-met there walk edge.next edge.enters edge.exists edge.within onward (subst (λ (n : ℕ). AreDistinct (nodes_on (edges_of p net) n walk)) edge.to rest))))
       (λ (edge : IsHoldingEdge here place e).
       let onward = subst (λ (n : ℕ). LeadsOver (edges_of p net) n walk there) edge.to leads.2 in
       subst (λ (legs : List Leg). AreDistinct (nodes_met p (points_in net) (point_at here place) legs)) (sym (classes_on-holding net e walk edge.late))
       (distinct-before p (points_in net) (point_at here place) (point_at here (place + 1)) (classes_on net walk)
       (others (met_from here (place + 1) walk)
-      (all-met IsOther there walk here (place + 1) exists edge.within onward (subst (λ (n : ℕ). AllByRecursion IsOther (nodes_on (edges_of p net) n walk)) edge.to apart.0)))
-      (distinct-met there walk here (place + 1) exists edge.within onward (subst (λ (n : ℕ). AreDistinct (nodes_on (edges_of p net) n walk)) edge.to apart.1))))
+      (all-met IsOther there walk here (place + 1) exists edge.within onward (subst (λ (n : ℕ). AllByRecursion IsOther (nodes_on (edges_of p net) n walk)) edge.to own)))
+      (distinct-met there walk here (place + 1) exists edge.within onward (subst (λ (n : ℕ). AreDistinct (nodes_on (edges_of p net) n walk)) edge.to rest))))
       (edge-view here place e exists within leads.0 leads.1)
     where
       IsOther : ℕ → Type 0

@@ -2,13 +2,14 @@
 use Rattle.std.proofs.Common.{◌≡◌, ◌≢◌, ℕ, ◌+◌, List, [], ◌∷◌, map, ⊎_elim, inl, inr, refl, sym, subst, arith}
 use Rattle.std.specs.Prelude.{Option, slice_index_or}
 use Rattle.std.specs.List.{AllByRecursion, AllZip}
+use Rattle.fp_lists.proofs.Distinct.{AreDistinct-head, AreDistinct-tail}
 use Rattle.fp_model.specs.declared.parts.Leg.{Leg}
 use Rattle.fp_model.specs.declared.parts.Shipment.{Shipment}
 use Rattle.fp_model.specs.Plans.{IsPlan}
 use Rattle.fp_model.specs.Problem.{Problem, arc_at}
 use Rattle.fp_model.specs.Routes.{Carries, Leads, arcs_of, ends_of}
 use Rattle.fp_lists.specs.Distinct.{AreDistinct}
-use Rattle.fp_lists.proofs.Elements.{AllByRecursion-from_map, AllByRecursion-get_or_default}
+use Rattle.fp_lists.proofs.Elements.{AllByRecursion-from_map, AllByRecursion-get_or_default, AnyByRecursion-weaker}
 use Rattle.fp_lists.proofs.Maps.{get_or-map_default}
 use Rattle.fp_lists.proofs.Numbered.{AllFrom-from_get_or}
 use Rattle.fp_tree.specs.declared.sides.Side.{Side}
@@ -31,10 +32,11 @@ pub route-apart : (p : Problem) (here there : ℕ) (legs : List Leg) → Leads p
 route-apart p here there [] leads apart = tt
 route-apart p here there (l ∷ legs) leads apart =
     let next : ℕ = (arc_at p l.arc).to in
-    let others : AllByRecursion (λ (e : Exit). e.tail ≢ here) (map (exit_of p) legs) = tails-among p (λ t. t ≢ here) next there legs leads.2 apart.0.0 apart.0.1 in (
+    let first : AllByRecursion (λ y. y ≢ here) (ends_of p (arcs_of (l ∷ legs))) = AreDistinct-head here (ends_of p (arcs_of (l ∷ legs))) apart in
+    let others : AllByRecursion (λ (e : Exit). e.tail ≢ here) (map (exit_of p) legs) = tails-among p (λ t. t ≢ here) next there legs leads.2 first.0 first.1 in (
       refl,
       subst (λ (t : ℕ). AllByRecursion (λ (e : Exit). e.tail ≢ t) (map (exit_of p) legs)) (sym leads.1) others,
-      route-apart p next there legs leads.2 apart.1,
+      route-apart p next there legs leads.2 (AreDistinct-tail here (ends_of p (arcs_of (l ∷ legs))) apart),
     )
 
 plan-apart : (p : Problem) (d : ℕ) (shipments : List Shipment) (plan : List (List Leg)) → AllZip (Carries p d) shipments plan → AllByRecursion (LeaveApart (tails_of p)) (map (map (exit_of p)) plan)
@@ -52,10 +54,6 @@ obeys-plan p d sides plan obeys =
     subst (λ (exits : List Exit). AllByRecursion (MeetsAll d k sides) exits) (get_or-map_default (map (exit_of p)) plan k []) (obeys k) in
     let number : k ≡ 0 + k = omega arith in
     subst (λ (j : ℕ). AllByRecursion (λ (l : Leg). MeetsAll d j sides (exit_of p l)) route) number (AllByRecursion-from_map (MeetsAll d k sides) (exit_of p) route there))
-
-AnyByRecursion-weaker : {X : Type 0} (P Q : X → Type 0) → ((x : X) → P x → Q x) → (xs : List X) → AnyByRecursion P xs → AnyByRecursion Q xs
-AnyByRecursion-weaker P Q h [] any = any
-AnyByRecursion-weaker P Q h (x ∷ xs) any = ⊎_elim (λ (here : P x). inl (h x here)) (λ (later : AnyByRecursion P xs). inr (AnyByRecursion-weaker P Q h xs later)) any
 
 -- every plan, over whatever denominator, obeys all sides of some leaf of any tree whose splits by arcs have the arcs' tails
 pub plan-obeys-leaf : {X : Type 0} (p : Problem) (fork_of : X → Option Fork) (nodes : List X) (d : ℕ) (plan : List (List Leg)) → HaveTails (tails_of p) fork_of nodes → IsTree fork_of nodes →

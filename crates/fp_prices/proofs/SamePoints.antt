@@ -1,6 +1,7 @@
 -- A leaf is the same over other lists of the same points.
 use Rattle.std.proofs.Common.{◌≡◌, ℕ, ◌+◌, Bool, List, [], ◌∷◌, subst}
 use Rattle.std.specs.Prelude.{Option, IfOk, Result, Ok, Err}
+use Rattle.fp_lists.proofs.Numbered.{AllZipFrom-weaker}
 use Rattle.std.specs.declared.alloc.AllocError.{AllocError}
 use Rattle.fp_model.specs.declared.parts.Leg.{Leg}
 use Rattle.fp_model.specs.declared.parts.Shipment.{Shipment}
@@ -21,13 +22,6 @@ use Rattle.fp_prices.specs.declared.bounds.LeafBound.TheVariants.{Empty, Value}
 use Rattle.fp_prices.specs.declared.leaf_prices.Kind.{Kind}
 use Rattle.fp_prices.specs.Leaves.{HasNoWalk, IsBoundOf, IsChain, IsLeastCost, leaf_price}
 use Rattle.fp_prices.specs.Shares.{ClassShare}
-
--- what holds of the elements at each place of two lists
-AllZipFrom-weaker : {X Y : Type 0} (Q R : ℕ → X → Y → Type 0) → ((k : ℕ) (x : X) (y : Y) → Q k x y → R k x y) → (i : ℕ) (xs : List X) (ys : List Y) → AllZipFrom Q i xs ys → AllZipFrom R i xs ys
-AllZipFrom-weaker Q R on i [] [] all = tt
-AllZipFrom-weaker Q R on i [] (y ∷ ys) all = absurd all
-AllZipFrom-weaker Q R on i (x ∷ xs) [] all = absurd all
-AllZipFrom-weaker Q R on i (x ∷ xs) (y ∷ ys) all = (on i x y all.0, AllZipFrom-weaker Q R on (i + 1) xs ys all.1)
 
 module _ (p : Problem) (valid : IsValid p) where
   least-same : (points others : ℕ → List ℕ) → AgreeOnPoints p points others → (allowed : Leg → Bool) (s : Shipment) (price : Leg → ℕ) (n : ℕ) → IsLeastCost p points allowed s price n → IsLeastCost p others allowed s price n

@@ -6,37 +6,15 @@ use Rattle.std.specs.Int.{div_ceil}
 use Rattle.std.proofs.Math.Nat.{mul-le-mul_left, mul-le-mul_right, div-mul-le_self}
 use Rattle.std.proofs.lemmas.Bool.{cases_Bool, cond-true, cond-false, eqb-true, ne_eqb}
 use Rattle.std.proofs.lemmas.List.Sums.{sum_by-cons, sum_by-le-sum_by}
+use Rattle.fp_lists.proofs.DistinctSums.{sum_by-one-le}
 use Rattle.fp_model.specs.declared.parts.Arc.{Arc}
 use Rattle.fp_model.specs.Problem.{truck_cost}
 use Rattle.fp_lists.specs.Distinct.{AreDistinct}
-use Rattle.fp_lists.proofs.Ceilings.{div_ceil-holds}
-use Rattle.fp_lists.proofs.Sums.{sum_by-same, sum_by-both}
+use Rattle.fp_lists.proofs.Ceilings.{div_ceil-holds, div_ceil-some}
+use Rattle.fp_lists.proofs.Sums.{sum_by-same, sum_by-both, sum_by-scaled_right, sum_by-const}
 use Rattle.fp_prices.specs.declared.tables.Weight.{Weight}
 use Rattle.fp_prices.specs.Shares.{ClassShare}
 use Rattle.fp_prices.specs.Prices.{weight_in, KeepsRule, linear_price, even_price, share_price}
-
-sum_by-scaled_right : {X : Type 0} (size : X → ℕ) (rate : ℕ) (set : List X) → sum_by (λ k. size k * rate) set ≡ sum_by size set * rate
-sum_by-scaled_right size rate [] = omega arith
-sum_by-scaled_right size rate (k ∷ set) =
-    let all : sum_by size (k ∷ set) * rate ≡ (size k + sum_by size set) * rate = ap (λ (n : ℕ). n * rate) (sum_by-cons size k set) in
-    omega (arith, sum_by-scaled_right size rate set, sum_by-cons (λ j. size j * rate) k set, all)
-
-pub sum_by-const : {X : Type 0} (n : ℕ) (set : List X) → sum_by (λ k. n) set ≡ length set * n
-sum_by-const n [] = omega arith
-sum_by-const n (k ∷ set) = omega (arith, sum_by-const n set, sum_by-cons (λ j. n) k set)
-
--- what weighs something needs a truck
-pub div_ceil-some : (a u : ℕ) → 0 < u → 0 < a → 1 ≤ div_ceil a u
-div_ceil-some a u h some =
-    let holds : a ≤ div_ceil a u * u = div_ceil-holds a u h in
-    ⊎_elim
-    (λ (none : div_ceil a u ≡ 0). absurd (let holds_none : a ≤ 0 * u = subst (λ (n : ℕ). a ≤ n * u) none holds in omega arith))
-    (λ (any : 1 ≤ div_ceil a u). any)
-    (none_or_some (div_ceil a u))
-  where
-    none_or_some : (n : ℕ) → (n ≡ 0) ⊎ (1 ≤ n)
-    none_or_some zero = inl refl
-    none_or_some (suc n) = inr (omega arith)
 
 -- linear prices
 pub linear-fits : (scale : ℕ) (arc : Arc) (size : ℕ → ℕ) (set : List ℕ) → 0 < arc.capacity →
@@ -74,24 +52,6 @@ even-fits scale arc count all size set h few some =
     (λ k. cond-false test (most / count) (linear_price scale arc (size k)) over) set in
     omega (arith, same, linear-fits scale arc size set h))
     (cases_Bool test)
-
--- a value at one number counts at most once among different numbers
-sum_by-elsewhere : (x n : ℕ) (set : List ℕ) → AllByRecursion (λ y. y ≢ x) set → sum_by (λ k. cond (nat_eq x k) n 0) set ≡ 0
-sum_by-elsewhere x n [] others = refl
-sum_by-elsewhere x n (k ∷ set) others =
-    omega (arith, sum_by-elsewhere x n set others.1, sum_by-cons (λ j. cond (nat_eq x j) n 0) k set, cond-false (nat_eq x k) n 0 (ne_eqb x k (λ e. others.0 (sym e))))
-
-sum_by-one-le : (x n : ℕ) (set : List ℕ) → AreDistinct set → sum_by (λ k. cond (nat_eq x k) n 0) set ≤ n
-sum_by-one-le x n [] apart = omega arith
-sum_by-one-le x n (k ∷ set) apart =
-    ⊎_elim
-    (λ (same : nat_eq x k ≡ true).
-    let here : k ≡ x = sym (eqb-true x k same) in
-    let others : AllByRecursion (λ y. y ≢ x) set = subst (λ (z : ℕ). AllByRecursion (λ y. y ≢ z) set) here apart.0 in
-    omega (arith, sum_by-cons (λ j. cond (nat_eq x j) n 0) k set, cond-true (nat_eq x k) n 0 same, sum_by-elsewhere x n set others))
-    (λ (other : nat_eq x k ≡ false).
-    omega (arith, sum_by-cons (λ j. cond (nat_eq x j) n 0) k set, cond-false (nat_eq x k) n 0 other, sum_by-one-le x n set apart.1))
-    (cases_Bool (nat_eq x k))
 
 -- a weight counts for one number at most
 weight-parts : (w : Weight) (weights : List Weight) (k : ℕ) → weight_in (w ∷ weights) k ≤ cond (nat_eq w.shipment k) w.w 0 + weight_in weights k

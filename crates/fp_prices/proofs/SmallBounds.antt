@@ -12,7 +12,7 @@ use Rattle.fp_model.specs.Routes.{arcs_of}
 use Rattle.fp_lists.specs.Distinct.{AreDistinct}
 use Rattle.fp_model.specs.Costs.{all_legs, departures_cost}
 use Rattle.fp_model.proofs.Bounds.{alone_routes, alone_trucks, departures-le-alone}
-use Rattle.fp_lists.proofs.Distinct.{AreDistinct-from_map}
+use Rattle.fp_lists.proofs.Distinct.{AreDistinct-from_map, AreDistinct-cons, AreDistinct-nil}
 use Rattle.fp_lists.proofs.DistinctSums.{sum_by-places-le}
 use Rattle.fp_lists.proofs.Sums.{sum_by-map}
 use Rattle.fp_flatnet.specs.declared.window_tables.Window.{Window}
@@ -33,13 +33,13 @@ not-met p allowed there met here (c ∷ chain) t among forced =
 
 -- so they leave different terminals
 tails-apart : (p : Problem) (allowed : Leg → Bool) (there : ℕ) (met : List ℕ) (here : ℕ) (chain : List Leg) → AreForced p allowed there met here chain → AreDistinct (map (tails_of p) (arcs_of chain))
-tails-apart p allowed there met here [] forced = tt
+tails-apart p allowed there met here [] forced = AreDistinct-nil
 tails-apart p allowed there met here (c ∷ chain) forced =
     let others : AllByRecursion (λ y. y ≢ here) (map (tails_of p) (arcs_of chain)) =
-    not-met p allowed there (here ∷ met) (arc_at p c.arc).to chain here (λ x others e. others.0 e) forced.3 in (
-      subst (λ (t : ℕ). AllByRecursion (λ y. y ≢ t) (map (tails_of p) (arcs_of chain))) (sym forced.2.leaves) others,
-      tails-apart p allowed there (here ∷ met) (arc_at p c.arc).to chain forced.3,
-    )
+    not-met p allowed there (here ∷ met) (arc_at p c.arc).to chain here (λ x others e. others.0 e) forced.3 in
+    AreDistinct-cons (tails_of p c.arc) (map (tails_of p) (arcs_of chain))
+    (subst (λ (t : ℕ). AllByRecursion (λ y. y ≢ t) (map (tails_of p) (arcs_of chain))) (sym forced.2.leaves) others)
+    (tails-apart p allowed there (here ∷ met) (arc_at p c.arc).to chain forced.3)
 
 forced-exist : (p : Problem) (allowed : Leg → Bool) (there : ℕ) (met : List ℕ) (here : ℕ) (chain : List Leg) → ((c : Leg) → allowed c ≡ true → c.arc < length p.arcs) →
     AreForced p allowed there met here chain → AllByRecursion (λ a. a < length p.arcs) (arcs_of chain)
@@ -53,7 +53,7 @@ pub chain-arcs : (p : Problem) (allowed : Leg → Bool) (forced : Bool) (s : Shi
 chain-arcs p allowed true s chain exist is =
     (forced-exist p allowed s.to [] s.from chain exist is.forced, AreDistinct-from_map (tails_of p) (arcs_of chain) (tails-apart p allowed s.to [] s.from chain is.forced))
 chain-arcs p allowed false s chain exist is =
-    subst (λ (legs : List Leg). AllByRecursion (λ a. a < length p.arcs) (arcs_of legs) × AreDistinct (arcs_of legs)) (sym is) (tt, tt)
+    subst (λ (legs : List Leg). AllByRecursion (λ a. a < length p.arcs) (arcs_of legs) × AreDistinct (arcs_of legs)) (sym is) (tt, AreDistinct-nil)
 
 -- so its trucks alone cost at most what the shipment would cost over every arc alone
 chain-alone : (p : Problem) (size : ℕ) (chain : List Leg) → AllByRecursion (λ a. a < length p.arcs) (arcs_of chain) → AreDistinct (arcs_of chain) →

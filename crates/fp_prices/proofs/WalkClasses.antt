@@ -8,11 +8,11 @@ use Rattle.fp_model.specs.declared.parts.Leg.{Leg}
 use Rattle.fp_model.specs.declared.parts.Shipment.{Shipment}
 use Rattle.fp_lists.specs.Numbered.{AllZipFrom, AllFrom}
 use Rattle.fp_model.specs.Problem.{Problem, arc_at}
-use Rattle.fp_model.specs.Routes.{Carries, arcs_of}
+use Rattle.fp_model.specs.Routes.{Carries, arcs_of, ends_of}
 use Rattle.fp_lists.specs.Distinct.{AreDistinct}
 use Rattle.fp_model.specs.Costs.{same_leg, has_leg, all_legs}
 use Rattle.fp_model.proofs.Bounds.{Leads-exist}
-use Rattle.fp_lists.proofs.Distinct.{AreDistinct-from_map}
+use Rattle.fp_lists.proofs.Distinct.{AreDistinct-from_map, AreDistinct-head, AreDistinct-tail}
 use Rattle.fp_model.proofs.Distinct.{same_leg-true}
 use Rattle.fp_lists.proofs.Elements.{AllByRecursion-from_map}
 use Rattle.fp_longestarcs.specs.Classes.{class_of}
@@ -34,7 +34,7 @@ not-among k (l ∷ legs) others =
 -- legs by different arcs are different
 pub none-twice : (legs : List Leg) → AreDistinct (arcs_of legs) → NoneTwice legs
 none-twice [] apart = tt
-none-twice (k ∷ legs) apart = (not-among k legs apart.0, none-twice legs apart.1)
+none-twice (k ∷ legs) apart = (not-among k legs (AreDistinct-head k.arc (arcs_of legs) apart), none-twice legs (AreDistinct-tail k.arc (arcs_of legs) apart))
 
 -- a plan has no class twice in a route, since a route enters no terminal twice
 pub classes-once : (p : Problem) (points : ℕ → List ℕ) (d : ℕ) (shipments : List Shipment) (plan : List (List Leg)) → AllZip (Carries p d) shipments plan →
@@ -43,7 +43,7 @@ classes-once p points d [] [] is = tt
 classes-once p points d [] (r ∷ plan) is = absurd is
 classes-once p points d (s ∷ shipments) [] is = absurd is
 classes-once p points d (s ∷ shipments) (r ∷ plan) is =
-    let apart : AreDistinct (arcs_of r) = AreDistinct-from_map (λ a. (arc_at p a).to) (arcs_of r) is.0.route.once.1 in
+    let apart : AreDistinct (arcs_of r) = AreDistinct-from_map (λ a. (arc_at p a).to) (arcs_of r) (AreDistinct-tail s.from (ends_of p (arcs_of r)) is.0.route.once) in
     (none-twice (map (class_of p points d) r) (subst AreDistinct (sym (arcs_of-classes p points d r)) apart), classes-once p points d shipments plan is.1)
 
 -- P of a leg that the legs have

@@ -13,6 +13,7 @@ ghost use Rattle.fp_prices.specs.ClassCosts.{IsFree};
 
 use crate::NoMemory;
 use fp_labels::{Edge, Graph};
+use fp_lists::place_among;
 use fp_longestarcs::Network;
 use fp_model::Instance;
 use std::alloc::Global;
@@ -159,17 +160,7 @@ fn node_of(network: &Network, firsts: &[u32], terminal: u32, at: u32) -> u32
     requires firsts { AreFirstNodes network.now firsts.now }
     ensures { result ≡ point_node network.now terminal at }
 {
-    firsts[terminal as usize] + place_among(network.points(terminal), at)
-}
-
-// How many of the points, of which there are few, are before the time.
-fn place_among(points: &[u32], at: u32) -> u32
-    requires points { ArePoints points.now }
-    requires few { length points.now ≤ 65000 }
-    ensures place { result ≡ place_in points.now at }
-    ensures within { result ≤ length points.now }
-{
-    points.partition_point(|point| *point < at) as u32
+    firsts[terminal as usize] + place_among(network.points(terminal), at) as u32
 }
 
 // The node of a terminal's last point.

@@ -2,8 +2,8 @@
 
 use fp_examples::instance_of;
 use fp_model::{
-    Instance, Leg, Name, NoMemory, Plan, PlanFault, PlanKind, SCALE, cost, is_name, load,
-    test_plan, trucks, weight,
+    Arc, Instance, Leg, Name, NoMemory, Plan, PlanFault, PlanKind, SCALE, Shipment, cost, is_name,
+    load, test_plan, trucks, weight,
 };
 use std::alloc::Global;
 use std::test::Fail;
@@ -88,6 +88,27 @@ fn numbers_of(instance: &Instance, number: u32) -> Option<(u32, u32, u32, u64)> 
     ))
 }
 
+// The weight of an arc and a shipment of the size 6, which would cost 106 on it.
+fn weight_of_one(alloc: Global) -> Result<Option<u128>, NoMemory> {
+    let arc = Arc {
+        from: 0,
+        to: 1,
+        time: 5,
+        capacity: 10,
+        truck: 100,
+        freight: 1,
+    };
+    let shipment = Shipment {
+        name: Name::new(alloc, b"S1")?,
+        from: 0,
+        to: 1,
+        size: 6,
+        release: 0,
+        due: 10,
+    };
+    Ok(weight(&[arc], &[shipment]))
+}
+
 // The scale of the instance at another scale, where it fits.
 fn scaled_to(instance: Instance, scale: u32) -> Option<u32> {
     if scale == 0 || scale > 1_000_000_000 || !instance.fits(scale) {
@@ -108,8 +129,7 @@ fn departures(rt: HostRuntime) -> Result<(), Fail> {
     assert!(rt; departure_of(&instance, &plan, 0, 4) == Some((0, 0)));
     assert!(rt; numbers_of(&instance, 0) == Some((5, 7, 1, 6)));
     assert!(rt; instance.horizon() == 10);
-    let heavy = weight(instance.arcs(), instance.shipments());
-    assert!(rt; heavy == Some(13_828_096_000_000));
+    assert!(rt; weight_of_one(alloc)? == Some(6_946_816_000_000));
     assert!(rt; u128::from(instance.scale()) == SCALE);
     assert!(rt; scaled_to(instance, 7) == Some(7));
     Ok(())

@@ -5,6 +5,8 @@ use Rattle.std.specs.List.{AllByRecursion, list_any}
 use Rattle.std.proofs.lemmas.Bool.{cases_Bool, or_cases, or_left, or_right}
 use Rattle.std.proofs.lemmas.List.Elements.{All-append, All-filter, All-from_recursion, All-head, All-map, All-tail, Contains-append_right, recursion_from_All}
 use Rattle.std.proofs.lemmas.List.Kept.{AllPairs-cons, AllPairs-filter}
+use Rattle.fp_lists.proofs.Membership.{Contains-first}
+use Rattle.fp_lists.proofs.Pairs.{AllPairs-head, AllPairs-tail, AllPairs-nil}
 use Rattle.fp_model.specs.declared.parts.Leg.{Leg}
 use Rattle.fp_model.specs.declared.parts.Member.{Member}
 use Rattle.fp_model.specs.Costs.{same_leg}
@@ -82,22 +84,6 @@ begins-before m group (y ∷ legs) k all there =
     subst (StartsBefore (m ∷ group)) (sym (members_among-other k y legs e)) (begins-before m group legs k all.1 later))
     (cases_Bool (same_leg k y.class))
 
-pub AllPairs-head : {X : Type 0} (R : X → X → Type 0) (x : X) (xs : List X) → AllPairs R (x ∷ xs) → All (R x) xs
-AllPairs-head R x xs pairs k d lt = pairs 0 (suc k) d (omega arith) (omega (arith, lt))
-
-pub AllPairs-tail : {X : Type 0} (R : X → X → Type 0) (x : X) (xs : List X) → AllPairs R (x ∷ xs) → AllPairs R xs
-AllPairs-tail R x xs pairs i j d before lt = pairs (suc i) (suc j) d (omega (arith, before)) (omega (arith, lt))
-
-pub AllPairs-nil : {X : Type 0} (R : X → X → Type 0) → AllPairs R []
-AllPairs-nil R i j d before lt = absurd (omega (arith, lt))
-
--- two lists one after the other, where each element of the first comes before those of the second
-pub AllPairs-append : {X : Type 0} (R : X → X → Type 0) (xs ys : List X) → AllPairs R xs → AllPairs R ys → All (λ x. All (R x) ys) xs → AllPairs R (xs ++ ys)
-AllPairs-append R [] ys first last cross = last
-AllPairs-append {X} R (x ∷ xs) ys first last cross =
-    AllPairs-cons R x (xs ++ ys) (All-append (R x) xs ys (AllPairs-head R x xs first) (All-head (λ (z : X). All (R z) ys) x xs cross))
-    (AllPairs-append R xs ys (AllPairs-tail R x xs first) last (All-tail (λ (z : X). All (R z) ys) x xs cross))
-
 -- the first members ascend
 pub groups-ascend : (n : ℕ) (legs : List NamedLeg) → length legs ≤ n → AllPairs Before legs → AllPairs StartsBefore (members_of (after legs []))
 groups-ascend n [] le pairs = AllPairs-nil StartsBefore
@@ -115,9 +101,6 @@ groups-ascend (suc n) (x ∷ legs) le pairs =
     All-map (StartsBefore first) (λ (g : Met). g.members) (after rest []) (All-from_recursion (λ (g : Met). StartsBefore first g.members) (after rest []) later) in
     subst (λ (groups : List Met). AllPairs StartsBefore (members_of groups)) (sym (peel x legs))
     (AllPairs-cons StartsBefore first (members_of (after rest [])) begins (groups-ascend n rest short (AllPairs-filter Before other legs (AllPairs-tail Before x legs pairs))))
-
-Contains-first : {X : Type 0} (y : X) (ys : List X) → Contains (y ∷ ys) y
-Contains-first y ys = (0, omega arith, refl)
 
 -- each class that occurs has its group
 pub groups-cover : (n : ℕ) (legs : List NamedLeg) (k : Leg) → length legs ≤ n → Occurs k legs → Contains (members_of (after legs [])) (members_among legs k)

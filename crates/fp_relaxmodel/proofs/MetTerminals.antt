@@ -2,6 +2,7 @@
 use Rattle.std.proofs.Common.{◌≡◌, ◌≢◌, ℕ, zero, suc, ◌+◌, ◌<◌, Bool, true, false, List, [], ◌∷◌, length, drop, get_or, set, replicate, refl, sym, ap, ◌∙◌, subst, arith, get_or-set_other, get_or-set_same, true≢false, add-one, drop-cons}
 use Rattle.std.specs.Prelude.{◌↔◌, Some, None, slice_get}
 use Rattle.std.specs.List.{AllByRecursion}
+use Rattle.fp_lists.proofs.Distinct.{AreDistinct-cons, AreDistinct-head, AreDistinct-tail}
 use Rattle.fp_model.specs.declared.parts.Leg.{Leg}
 use Rattle.fp_model.specs.declared.parts.Shipment.{Shipment}
 use Rattle.fp_model.specs.Problem.{Problem, IsValid, arc_at, no_arc}
@@ -50,15 +51,15 @@ pub new-first : (n tail : ℕ) (xs : List ℕ) → tail < n → length (replicat
 new-first n tail xs lt long =
     let none : List Bool = replicate n false in
     let within : tail < length none = omega (arith, lt, long) in (
-      (λ apart. (others-unmet none tail xs apart.0 (none-met n xs), apart.1)),
-      (λ new. ((unmet-others none tail xs within new.0).0, new.1)),
+      (λ apart. (others-unmet none tail xs (AreDistinct-head tail xs apart) (none-met n xs), AreDistinct-tail tail xs apart)),
+      (λ new. AreDistinct-cons tail xs (unmet-others none tail xs within new.0).0 new.1),
     )
 
 -- one more terminal that was unmet
 pub new-next : (met : List Bool) (x : ℕ) (xs : List ℕ) → x < length met → get_or met x false ≡ false → (AreNew met (x ∷ xs) ↔ AreNew (set met x true) xs)
 new-next met x xs lt unmet = (
-  (λ new. (others-unmet met x xs new.1.0 new.0.1, new.1.1)),
-  (λ new. let parts : AllByRecursion (λ y. y ≢ x) xs × AreUnmet met xs = unmet-others met x xs lt new.0 in ((unmet, parts.1), (parts.0, new.1))),
+  (λ new. (others-unmet met x xs (AreDistinct-head x xs new.1) new.0.1, AreDistinct-tail x xs new.1)),
+  (λ new. let parts : AllByRecursion (λ y. y ≢ x) xs × AreUnmet met xs = unmet-others met x xs lt new.0 in ((unmet, parts.1), AreDistinct-cons x xs parts.0 new.1)),
 )
 
 -- one that was met

@@ -7,10 +7,6 @@ use Rattle.fp_model.specs.declared.parts.Member.{Member}
 use Rattle.fp_model.specs.Costs.{all_legs, has_leg}
 use Rattle.fp_model.specs.Members.{members_in}
 
--- groups, each as the list of its members
-abbrev pub lists_of : List (Vec Member Global) → List (List Member)
-lists_of groups = map (λ (g : Vec Member Global). g.items) groups
-
 -- a member comes before another: by its shipment, and then by its leg
 abbrev pub MemberComesBefore : Member → Member → Type 0
 MemberComesBefore m n = (m.shipment < n.shipment) ⊎ ((m.shipment ≡ n.shipment) × (m.leg < n.leg))

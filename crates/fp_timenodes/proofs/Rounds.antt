@@ -136,9 +136,9 @@ points_at_mono v terminal round later at le there =
     (or_cases firsts (list_has (added_at v.added terminal round) at || list_has (0 ∷ []) at) (sym (list_has-points_at v terminal round at) ∙ there))
 
 -- one added point is one more point of its terminal, as of its round and of each later one
-pub has_point-with_added : (v : TimePoints) (p : AddedPoint) (terminal round at : ℕ) →
+pub list_has-with_added : (v : TimePoints) (p : AddedPoint) (terminal round at : ℕ) →
     list_has (points_at (with_added v (p ∷ [])) terminal round) at ≡ (list_has (points_at v terminal round) at || ((nat_eq p.terminal terminal && nat_le p.round round) && nat_eq p.at at))
-has_point-with_added v p terminal round at =
+list_has-with_added v p terminal round at =
     let firsts : Bool = list_has (times_at v.first terminal) at in
     let others : Bool = list_has (added_at v.added terminal round) at in
     let zeros : Bool = list_has (0 ∷ []) at in
@@ -153,7 +153,7 @@ has_point-with_added v p terminal round at =
 pub HaveSamePoints_unseen : (v : TimePoints) (p : AddedPoint) (terminal round : ℕ) → (nat_eq p.terminal terminal && nat_le p.round round) ≡ false →
     HaveSamePoints (points_at (with_added v (p ∷ [])) terminal round) (points_at v terminal round)
 HaveSamePoints_unseen v p terminal round unseen at =
-    has_point-with_added v p terminal round at ∙ rw unseen (or-false (list_has (points_at v terminal round) at))
+    list_has-with_added v p terminal round at ∙ rw unseen (or-false (list_has (points_at v terminal round) at))
 
 pub HaveSamePoints_other_terminal : (v : TimePoints) (p : AddedPoint) (terminal round : ℕ) → p.terminal ≢ terminal → HaveSamePoints (points_at (with_added v (p ∷ [])) terminal round) (points_at v terminal round)
 HaveSamePoints_other_terminal v p terminal round other =
@@ -166,5 +166,5 @@ HaveSamePoints_earlier_round v p terminal round early =
 -- at its own terminal, from its round on, the new point stands before the others
 pub HaveSamePoints_own_terminal : (v : TimePoints) (p : AddedPoint) (round : ℕ) → p.round ≤ round → HaveSamePoints (points_at (with_added v (p ∷ [])) p.terminal round) (p.at ∷ points_at v p.terminal round)
 HaveSamePoints_own_terminal v p round from at =
-    has_point-with_added v p p.terminal round at ∙
+    list_has-with_added v p p.terminal round at ∙
     rw (eq-eqb p.terminal p.terminal refl, le-leb p.round round from) (or_comm (list_has (points_at v p.terminal round) at) (nat_eq p.at at))

@@ -1,10 +1,7 @@
 -- Looking up points in a list of them, whatever its order. A moment over the denominator d is n / d.
 use Rattle.std.specs.Prelude.{ℕ, ◌*◌, ◌≡◌, ◌<◌, ◌≤◌, Bool, true, List, [], ◌∷◌, Option, Some, None, MatchOption, cond, nat_le, nat_lt, ◌==◌, max, min}
 use Rattle.std.specs.List.{list_any}
-
--- whether the time is one of the points
-abbrev pub list_has : List ℕ → ℕ → Bool
-list_has qs at = list_any (λ q. q == at) qs
+use Rattle.fp_lists.specs.Membership.{list_has}
 
 -- the greatest of the points that is not after the moment n / d, and 0 where there is none
 abbrev pub floor_point : List ℕ → ℕ → ℕ → ℕ

@@ -9,7 +9,7 @@ use Rattle.std.proofs.lemmas.Bool.Decides.{eqb_tells}
 use Rattle.std.proofs.lemmas.Map.Keys.{IsDistinct-IsPermutation}
 use Rattle.fp_model.specs.declared.parts.Leg.{Leg}
 use Rattle.fp_model.specs.Problem.{Problem}
-use Rattle.fp_lists.proofs.Elements.{AllByRecursion-weaker, AllByRecursion-get_or}
+use Rattle.fp_lists.proofs.Elements.{AllByRecursion-weaker, AllByRecursion-get_or, AllByRecursion-append, AllByRecursion-map, AllByRecursion-always}
 use Rattle.fp_timetable.specs.declared.lines.LegLine.{LegLine}
 use Rattle.fp_timetable.specs.Lines.{leg_line}
 use Rattle.fp_timetable.specs.Order.{lines_from, rank_of}
@@ -28,23 +28,11 @@ same_rank k l = eqb (leg_rank k) (leg_rank l)
 abbrev IsFrom : ℕ → LegLine → Type 0
 IsFrom i l = (i ≤ l.shipment) × (l.shipment < 2 ^ 32)
 
-pub AllByRecursion-append : {X : Type 0} (P : X → Type 0) (xs ys : List X) → AllByRecursion P xs → AllByRecursion P ys → AllByRecursion P (xs ++ ys)
-AllByRecursion-append P [] ys all more = more
-AllByRecursion-append P (x ∷ xs) ys all more = (all.0, AllByRecursion-append P xs ys all.1 more)
-
-AllByRecursion-map : {X Y : Type 0} (P : Y → Type 0) (f : X → Y) (xs : List X) → AllByRecursion (λ x. P (f x)) xs → AllByRecursion P (map f xs)
-AllByRecursion-map P f [] all = tt
-AllByRecursion-map P f (x ∷ xs) all = (all.0, AllByRecursion-map P f xs all.1)
-
-every : {X : Type 0} (P : X → Type 0) → ((x : X) → P x) → (xs : List X) → AllByRecursion P xs
-every P each [] = tt
-every P each (x ∷ xs) = (each x, every P each xs)
-
 lines-from : (p : Problem) (i : ℕ) (routes : List (List Leg)) → i + length routes < 2 ^ 32 → AllByRecursion (IsFrom i) (lines_from p i routes)
 lines-from p i [] few = tt
 lines-from p i (legs ∷ routes) few =
     AllByRecursion-append (IsFrom i) (map (leg_line p i) legs) (lines_from p (i + 1) routes)
-    (AllByRecursion-map (IsFrom i) (leg_line p i) legs (every (λ l. IsFrom i (leg_line p i l)) (λ l. (omega arith, omega (arith, few))) legs))
+    (AllByRecursion-map (IsFrom i) (leg_line p i) legs (AllByRecursion-always (λ l. IsFrom i (leg_line p i l)) (λ l. (omega arith, omega (arith, few))) legs))
     (AllByRecursion-weaker (IsFrom (i + 1)) (IsFrom i) (λ l h. (omega (arith, h.0), h.1)) (lines_from p (i + 1) routes) (lines-from p (i + 1) routes (omega (arith, few))))
 
 distinct-append : (xs ys : List LegLine) → IsDistinct same_rank xs → IsDistinct same_rank ys → AllByRecursion (λ x. AllByRecursion (λ y. same_rank x y ≡ false) ys) xs → IsDistinct same_rank (xs ++ ys)
@@ -71,7 +59,7 @@ distinct-lines p i (legs ∷ routes) few rise =
     (distinct-route p i legs rise.0)
     (distinct-lines p (i + 1) routes (omega (arith, few)) rise.1)
     (AllByRecursion-map (λ x. AllByRecursion (λ y. same_rank x y ≡ false) (lines_from p (i + 1) routes)) (leg_line p i) legs
-    (every (λ l. AllByRecursion (λ y. same_rank (leg_line p i l) y ≡ false) (lines_from p (i + 1) routes))
+    (AllByRecursion-always (λ l. AllByRecursion (λ y. same_rank (leg_line p i l) y ≡ false) (lines_from p (i + 1) routes))
     (λ l.
     AllByRecursion-weaker (IsFrom (i + 1)) (λ y. same_rank (leg_line p i l) y ≡ false)
     (λ y h. ne_eqb (rank_of l.depart i) (rank_of y.depart y.shipment) (λ e. omega (arith, e, h.0, h.1, few)))

@@ -2,17 +2,7 @@
 use Rattle.std.proofs.Common.{ℕ, zero, suc, ◌<◌, List, [], ◌∷◌, length, get_or, arith}
 use Rattle.std.specs.Prelude.{AllPairs}
 use Rattle.std.specs.List.{AllByRecursion}
-
--- P of each element, from P at each place
-pub AllByRecursion-from_get_or : {X : Type 0} (P : X → Type 0) (xs : List X) (d : X) → ((i : ℕ) → i < length xs → P (get_or xs i d)) → AllByRecursion P xs
-AllByRecursion-from_get_or P [] d each = tt
-AllByRecursion-from_get_or P (x ∷ xs) d each = (each 0 (omega arith), AllByRecursion-from_get_or P xs d (λ i lt. each (suc i) (omega (arith, lt))))
-
--- P at a place, from P of each element
-pub AllByRecursion-get_or : {X : Type 0} (P : X → Type 0) (xs : List X) (i : ℕ) (d : X) → AllByRecursion P xs → i < length xs → P (get_or xs i d)
-AllByRecursion-get_or P [] i d all lt = absurd (omega (arith, lt))
-AllByRecursion-get_or P (x ∷ xs) zero d all lt = all.0
-AllByRecursion-get_or P (x ∷ xs) (suc i) d all lt = AllByRecursion-get_or P xs i d all.1 (omega (arith, lt))
+use Rattle.fp_lists.proofs.Elements.{AllByRecursion-from_get_or}
 
 -- R of each element and each later one
 abbrev pub EachPair : {X : Type 0} → (X → X → Type 0) → List X → Type 0

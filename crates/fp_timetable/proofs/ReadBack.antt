@@ -4,6 +4,7 @@ use Rattle.std.specs.Prelude.{AllPairs, if◌then◌else◌, nat_eq}
 use Rattle.std.specs.List.{AllByRecursion}
 use Rattle.std.proofs.lemmas.Bool.{cases_Bool, cond-true, cond-false, or_cases, or_left, or_right, both_ways, false≢true, true≢false}
 use Rattle.std.proofs.lemmas.List.Elements.{All-get_or}
+use Rattle.fp_lists.proofs.Truth.{Bool-from_both}
 use Rattle.fp_model.specs.declared.parts.Leg.{Leg}
 use Rattle.fp_model.specs.declared.parts.Shipment.{Shipment}
 use Rattle.fp_model.specs.Costs.{has_leg, same_leg}
@@ -28,13 +29,6 @@ place-of k (l ∷ legs) has =
     (λ (here : same_leg k l ≡ true). (0, omega arith, sym (same_leg-true k l here)))
     (λ (later : has_leg k legs ≡ true). let at = place-of k legs later in (suc at.0, omega (arith, at.1), at.2))
     (or_cases (same_leg k l) (has_leg k legs) has)
-
--- tests that pass Bool-from_both are equal
-Bool-from_both : (a b : Bool) → (a ≡ true → b ≡ true) → (b ≡ true → a ≡ true) → a ≡ b
-Bool-from_both true true to from = refl
-Bool-from_both true false to from = sym (to refl)
-Bool-from_both false true to from = from refl
-Bool-from_both false false to from = refl
 
 -- legs that rise and are the same legs are in the same order
 same-legs : (xs ys : List Leg) → Rise xs → Rise ys → ((k : Leg) → has_leg k xs ≡ has_leg k ys) → xs ≡ ys

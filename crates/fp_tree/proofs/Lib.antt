@@ -7,6 +7,7 @@ pub mod LeafChange
 pub mod LeafDivision
 pub mod NodeMaps
 pub mod StateChanges
+pub mod SplitBudget
 pub mod Steps
 pub mod TreeNodes
 pub mod TwoChanges

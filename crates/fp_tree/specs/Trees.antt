@@ -1,8 +1,9 @@
 -- Trees of splits as lists of nodes in preorder: a split, the nodes below its first side, the nodes
 -- below its second. X is any type of nodes. `fork_of` tells at what a node splits, and None at a
 -- leaf.
-use Rattle.std.specs.Prelude.{ℕ, zero, suc, ◌≡◌, ◌≢◌, List, [], ◌∷◌, ◌++◌, filter, is_some, Option, Some, None, IfSome, ◌⊎◌, slice_index_or}
+use Rattle.std.specs.Prelude.{ℕ, zero, suc, ◌≡◌, ◌≢◌, ◌<◌, List, [], ◌∷◌, ◌++◌, filter, is_some, Option, Some, None, IfSome, ◌⊎◌, slice_index_or}
 use Rattle.std.specs.List.{AllByRecursion}
+use Rattle.fp_lists.specs.Elements.{AnyByRecursion}
 use Rattle.fp_tree.specs.declared.sides.Side.{Side}
 use Rattle.fp_tree.specs.Sides.{Exit, Fork, HasTail, Obeys, first, second}
 
@@ -61,6 +62,11 @@ tree_splits fork_of nodes = filter (λ x. is_some (fork_of x)) nodes
 abbrev pub tree_branches : {X : Type 0} → (X → Option Fork) → List X → List (Branch X)
 tree_branches fork_of nodes = branches_of fork_of ([] ∷ []) nodes
 
+-- The measure of the sides below a split falls at both of its children.
+abbrev pub FallsBelow : {X : Type 0} → (X → Option Fork) → (List Side → ℕ) → Branch X → Type 0
+FallsBelow fork_of measure b =
+    IfSome (fork_of b.node) (λ f. (measure (b.sides ++ (first f ∷ [])) < measure b.sides) × (measure (b.sides ++ (second f ∷ [])) < measure b.sides))
+
 -- How many splits stand before leaf number k in preorder. Where there is no such leaf, all of them
 -- do.
 abbrev pub splits_before : {X : Type 0} → (X → Option Fork) → ℕ → List X → ℕ
@@ -83,11 +89,6 @@ with_leaf {X} fork_of change zero (x ∷ nodes) =
     elim (fork_of x) as (λ o. List X) [ None ↦ change x ++ nodes | Some f ↦ x ∷ with_leaf fork_of change zero nodes ]
 with_leaf {X} fork_of change (suc k) (x ∷ nodes) =
     elim (fork_of x) as (λ o. List X) [ None ↦ x ∷ with_leaf fork_of change k nodes | Some f ↦ x ∷ with_leaf fork_of change (suc k) nodes ]
-
--- Some element is so.
-abbrev pub AnyByRecursion : {X : Type 0} → (X → Type 0) → List X → Type 0
-AnyByRecursion P [] = ⊥
-AnyByRecursion P (x ∷ xs) = P x ⊎ AnyByRecursion P xs
 
 -- The legs of one shipment go by arcs whose tails are as told, and no two of them leave the same
 -- terminal.
