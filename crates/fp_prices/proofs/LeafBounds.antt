@@ -57,15 +57,15 @@ pub rows-long : (s : Setting) (sides : List Side) (rows : List (List Bool)) → 
 rows-long s sides rows under = All-from_get_or (λ (row : List Bool). length row ≡ class_count s.network) rows [] (λ k h. (under k h).long)
 
 -- what the code has of a leaf before it prices the classes: the rows of the shipments and the forced classes
-pub record IsPrepared (p : Problem) (windows : WindowTable) (net : TimedNetwork) (sides : List Side) (rows : List (List Bool)) (is_forced : Bool) (forced : ForcedClasses) : Type 0 where
+pub record HasForcedClasses (p : Problem) (windows : WindowTable) (net : TimedNetwork) (sides : List Side) (rows : List (List Bool)) (is_forced : Bool) (forced : ForcedClasses) : Type 0 where
   pub valid : IsValid p
   pub setting : IsSetting (setting_of p windows net)
   pub under : AreRowsUnder (setting_of p windows net) sides rows
   pub forced_of : AreForcedOf (setting_of p windows net) rows is_forced forced
 
-pub prepared : (p : Problem) (windows : WindowTable) (net : TimedNetwork) (sides : List Side) (rows others : List (List Bool)) (is_forced : Bool) (forced : ForcedClasses) (s : Setting) → s ≡ setting_of p windows net →
-    BelongsTo p windows → IsWholeNetwork p net → AreRowsUnder s sides rows → others ≡ rows → AreForcedOf s others is_forced forced → IsPrepared p windows net sides rows is_forced forced
-prepared p windows net sides rows others is_forced forced s is belongs whole under same forced_of = record {
+pub HasForcedClasses-of : (p : Problem) (windows : WindowTable) (net : TimedNetwork) (sides : List Side) (rows others : List (List Bool)) (is_forced : Bool) (forced : ForcedClasses) (s : Setting) → s ≡ setting_of p windows net →
+    BelongsTo p windows → IsWholeNetwork p net → AreRowsUnder s sides rows → others ≡ rows → AreForcedOf s others is_forced forced → HasForcedClasses p windows net sides rows is_forced forced
+HasForcedClasses-of p windows net sides rows others is_forced forced s is belongs whole under same forced_of = record {
   valid = belongs.valid;
   setting = record { belongs = belongs; whole = whole };
   under = subst (λ (t : Setting). AreRowsUnder t sides rows) is under;
@@ -77,14 +77,14 @@ pub leaf_of-same : (p q : Problem) (windows : WindowTable) (net other : TimedNet
 leaf_of-same p q windows net other sides same same_net = ap (λ (r : Problem). leaf_of r windows net sides) same ∙ ap (λ (n : TimedNetwork). leaf_of q windows n sides) same_net
 
 -- so it is with what a leaf keeps
-pub prepared-leaf : (r : RoundModel) (windows : WindowTable) (sides : List Side) (rows : List (List Bool)) → IsLeafOver (leaf_of r.problem windows r.network sides) rows → (p : Problem) (net : TimedNetwork) → p ≡ r.problem → net ≡ r.network →
-    (others : List (List Bool)) → others ≡ rows → (s : Setting) → s ≡ setting_of r.problem windows r.network → (is_forced : Bool) (forced : ForcedClasses) → AreForcedOf s others is_forced forced → IsPrepared p windows net sides rows is_forced forced
-prepared-leaf r windows sides rows over p net same same_net others same_rows s is is_forced forced forced_of =
-    subst (λ (q : Problem). IsPrepared q windows net sides rows is_forced forced) (sym same)
-    (subst (λ (n : TimedNetwork). IsPrepared r.problem windows n sides rows is_forced forced) (sym same_net)
-    (prepared r.problem windows r.network sides rows others is_forced forced s is over.setting.belongs over.setting.whole (subst (λ (t : Setting). AreRowsUnder t sides rows) (sym is) over.under) same_rows forced_of))
+pub HasForcedClasses-leaf : (r : RoundModel) (windows : WindowTable) (sides : List Side) (rows : List (List Bool)) → IsLeafOver (leaf_of r.problem windows r.network sides) rows → (p : Problem) (net : TimedNetwork) → p ≡ r.problem → net ≡ r.network →
+    (others : List (List Bool)) → others ≡ rows → (s : Setting) → s ≡ setting_of r.problem windows r.network → (is_forced : Bool) (forced : ForcedClasses) → AreForcedOf s others is_forced forced → HasForcedClasses p windows net sides rows is_forced forced
+HasForcedClasses-leaf r windows sides rows over p net same same_net others same_rows s is is_forced forced forced_of =
+    subst (λ (q : Problem). HasForcedClasses q windows net sides rows is_forced forced) (sym same)
+    (subst (λ (n : TimedNetwork). HasForcedClasses r.problem windows n sides rows is_forced forced) (sym same_net)
+    (HasForcedClasses-of r.problem windows r.network sides rows others is_forced forced s is over.setting.belongs over.setting.whole (subst (λ (t : Setting). AreRowsUnder t sides rows) (sym is) over.under) same_rows forced_of))
 
-module _ (p : Problem) (windows : WindowTable) (net : TimedNetwork) (sides : List Side) (rows : List (List Bool)) (is_forced : Bool) (forced : ForcedClasses) (is : IsPrepared p windows net sides rows is_forced forced) where
+module _ (p : Problem) (windows : WindowTable) (net : TimedNetwork) (sides : List Side) (rows : List (List Bool)) (is_forced : Bool) (forced : ForcedClasses) (is : HasForcedClasses p windows net sides rows is_forced forced) where
   -- which classes are allowed for whom
   abbrev allowed_of : ℕ → Leg → Bool
   allowed_of = allowed_in (setting_of p windows net) sides
