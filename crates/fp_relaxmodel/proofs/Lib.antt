@@ -9,4 +9,5 @@ pub mod PlacedLegs
 pub mod UniqueGroups
 pub mod MadeGroups
 pub mod RouteLengths
-pub mod MembersByPlace
+pub mod GroupsOfRoutes
+pub mod RelaxedWalks

@@ -5,15 +5,15 @@ use Rattle.std.proofs.lemmas.List.Elements.{All-contains, All-from_recursion, Al
 use Rattle.fp_model.specs.declared.parts.Leg.{Leg}
 use Rattle.fp_model.specs.declared.parts.Member.{Member}
 use Rattle.fp_relaxmodel.specs.Grouping.{Met, after}
-use Rattle.fp_relaxmodel.specs.Groups.{AreGroups, ComesBefore, IsGroup, StartsBefore}
-use Rattle.fp_relaxmodel.specs.Members.{Placed, placed_from}
+use Rattle.fp_relaxmodel.specs.Groups.{AreGroups, IsGroup, StartsBefore}
+use Rattle.fp_model.specs.Members.{MemberComesBefore, named_from, NamedLeg}
 use Rattle.fp_relaxmodel.proofs.GroupLaws.{IsMet, each-met, groups-ascend, groups-cover, members_of, pairs-head, pairs-tail}
 use Rattle.fp_relaxmodel.proofs.PlacedLegs.{occurs-placed, pairs-from}
 
 -- the groups that are met over all legs are the groups of the classes
-pub groups-met : (walks : List (List Leg)) → AreGroups walks (members_of (after (placed_from 0 walks) []))
+pub groups-met : (walks : List (List Leg)) → AreGroups walks (members_of (after (named_from 0 walks) []))
 groups-met walks =
-    let legs : List Placed = placed_from 0 walks in
+    let legs : List NamedLeg = named_from 0 walks in
     let groups : List Met = after legs [] in
     let met : All (IsMet legs) groups = All-from_recursion (IsMet legs) groups (each-met (length legs) legs (le_refl (length legs))) in
     let each : All (λ (g : Met). IsGroup walks g.members) groups =
@@ -26,7 +26,7 @@ groups-met walks =
     }
 
 -- of two members at most one comes before the other
-members-apart : (m n : Member) → ComesBefore m n → ComesBefore n m → ⊥
+members-apart : (m n : Member) → MemberComesBefore m n → MemberComesBefore n m → ⊥
 members-apart m n first second =
     ⊎_elim
     (λ (a : m.shipment < n.shipment).
@@ -36,10 +36,10 @@ members-apart m n first second =
     first
 
 -- so of two groups at most one starts before the other
-starts-apart : (g h : List Member) → StartsBefore g h → StartsBefore h g → ⊥
-starts-apart [] h first second = first
-starts-apart (m ∷ g) [] first second = first
-starts-apart (m ∷ g) (n ∷ h) first second = members-apart m n first second
+pub StartsBefore-apart : (g h : List Member) → StartsBefore g h → StartsBefore h g → ⊥
+StartsBefore-apart [] h first second = first
+StartsBefore-apart (m ∷ g) [] first second = first
+StartsBefore-apart (m ∷ g) (n ∷ h) first second = members-apart m n first second
 
 contains-cases : {X : Type 0} (y : X) (ys : List X) (x : X) → Contains (y ∷ ys) x → (y ≡ x) ⊎ Contains ys x
 contains-cases y ys x (zero, lt, is) = inl is
@@ -83,4 +83,4 @@ among-groups walks gs hs first second =
 -- only one list of lists is the groups of walks
 pub groups-unique : (walks : List (List Leg)) (gs hs : List (List Member)) → AreGroups walks gs → AreGroups walks hs → gs ≡ hs
 groups-unique walks gs hs first second =
-    same-ordered StartsBefore starts-apart gs hs first.ascending second.ascending (among-groups walks gs hs first second) (among-groups walks hs gs second first)
+    same-ordered StartsBefore StartsBefore-apart gs hs first.ascending second.ascending (among-groups walks gs hs first second) (among-groups walks hs gs second first)

@@ -26,6 +26,11 @@ abbrev pub IsRelaxedPlan : Problem → (ℕ → ℕ → Option Window) → (ℕ 
 IsRelaxedPlan p windows points walks =
     AllZipFrom (λ k s walk. IsRelaxedWalk p windows points k s walk) 0 p.shipments walks
 
+-- each shipment has a timed walk over classes that are allowed without any sides, also one that returns to a terminal
+abbrev pub AreTimedWalks : Problem → (ℕ → ℕ → Option Window) → (ℕ → List ℕ) → List (List Leg) → Type 0
+AreTimedWalks p windows points walks =
+    AllZipFrom (λ k (s : Shipment) walk. IsTimedWalk p points (is_allowed p windows points [] k) s walk) 0 p.shipments walks
+
 -- each shipment has a walk whose arcs are a route of it
 abbrev pub HasRoutes : Problem → List (List Leg) → Type 0
 HasRoutes p walks = AllZip (λ s walk. IsRoute p s (arcs_of walk)) p.shipments walks

@@ -1,9 +1,10 @@
 ghost use Rattle.std.specs.Prelude.{ℕ, List, ◌≡◌, ◌-◌, ◌<◌, ◌^◌, All, IfOk, OnOk, length};
 ghost use Rattle.fp_model.specs.declared.parts.Leg.{Leg};
 ghost use Rattle.fp_model.specs.declared.parts.Member.{Member};
-ghost use Rattle.fp_relaxmodel.specs.Groups.{AreGroups, lists_of};
+ghost use Rattle.fp_relaxmodel.specs.Groups.{AreGroups};
+ghost use Rattle.fp_model.specs.Members.{named_on};
+ghost use Rattle.fp_lists.specs.Vectors.{lists_of};
 ghost use Rattle.fp_relaxmodel.specs.Grouping.{after, groups_so_far, with_member};
-ghost use Rattle.fp_relaxmodel.specs.Members.{placed_on};
 ghost use Rattle.fp_relaxmodel.specs.Stops.{leg_of, legs_of};
 
 use crate::NoMemory;
@@ -45,7 +46,7 @@ impl Grouping {
         ensures matched { OnOk result
             (length self.new.classes.keys ≡ length self.new.groups.items) }
         ensures groups { OnOk result (groups_so_far self.new.classes.keys self.new.groups.items
-            ≡ after (placed_on shipment 0 (legs_of stops.now))
+            ≡ after (named_on shipment 0 (legs_of stops.now))
             (groups_so_far self.old.classes.keys self.old.groups.items)) }
     {
         for (leg, stop) in stops.iter().enumerate() {
