@@ -102,7 +102,8 @@ departures-le-alone p (s ∷ ss) (r ∷ R) long =
     let later : distinct_sum others (all_legs R) ≤ alone_routes p ss R = departures-le-alone p ss R short in
     omega (arith, apart, split, own_here, own_each, own_alone, others_there, later)
 
--- the values at different places sum to at most the whole sum, where an element of value 0 can take a place
+-- the values at different places sum to at most the whole sum, where an element of value 0 can take
+-- a place
 pub sum_by-places-le : {X : Type 0} (g : X → ℕ) (d : X) → g d ≡ 0 → (places : List ℕ) (xs : List X) →
     AllByRecursion (λ i. i < length xs) places → AreApart places → sum_by (λ i. g (get_or xs i d)) places ≤ sum_by g xs
 sum_by-places-le g d none [] xs below apart = omega arith

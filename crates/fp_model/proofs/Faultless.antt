@@ -20,7 +20,7 @@ use Rattle.fp_model.proofs.Bounds.{AreApart-map}
 use Rattle.fp_model.proofs.Sums.{each-weaker}
 use Rattle.fp_model.proofs.LegByLeg.{GoesOn, Leads-from_legs, Leads-legs, Leads-last, NeverReturns, AreApart-from_legs, AreApart-legs, StartsFrom, KeepsSteps, LeavesReady-from_legs, LeavesReady-first, LeavesReady-legs}
 use Rattle.fp_model.proofs.Places.{AllZip-from_places, AllZip-places}
-use Rattle.fp_model.proofs.Steps.{arrives_at_last}
+use Rattle.fp_model.proofs.LastArrivals.{arrives_at_last}
 
 -- the legs below a number have no fault
 abbrev pub AreFaultlessBelow : Problem → Shipment → List Leg → ℕ → Type 0

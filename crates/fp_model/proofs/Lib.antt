@@ -4,9 +4,9 @@ pub mod Ceilings
 pub mod Bounds
 pub mod Joins
 pub mod Members
-pub mod Together
+pub mod SharedDepartures
 pub mod Places
-pub mod Steps
+pub mod LastArrivals
 pub mod LegByLeg
 pub mod Faultless
 pub mod FirstFaults

@@ -1,4 +1,4 @@
--- The members that are a leg: each names that leg of its routes, and each leg of the routes has its member among them.
+-- The members that are a leg: each names that leg, and each leg of the routes has its member.
 use Rattle.std.proofs.Common.{◌≡◌, ◌∙◌, ℕ, zero, suc, ◌+◌, ◌<◌, true, false, List, [], ◌∷◌, length, get_or, map, ⊎_elim, refl, sym, ap, subst, arith}
 use Rattle.std.specs.Prelude.{All, Contains, filter}
 use Rattle.std.proofs.Math.ListN.{length-map}
@@ -26,7 +26,8 @@ members_among-other c x legs e =
     let kept : List NamedLeg = filter (λ (y : NamedLeg). same_leg c y.leg) legs in
     ap (map (λ (y : NamedLeg). y.member)) (cond-false (same_leg c x.leg) (x ∷ kept) kept e)
 
--- a named leg is one of the route of the shipment with the number k, where the route's first leg has the number i
+-- a named leg is one of the route of the shipment with the number k, where the route's first leg
+-- has the number i
 record IsLegOf (k i : ℕ) (route : List Leg) (x : NamedLeg) : Type 0 where
   place : ℕ
   within : place < length route
@@ -90,8 +91,8 @@ pub record IsMemberAt (routes : List (List Leg)) (l : Leg) (m : Member) : Type 0
   pub member : IsMemberOf routes m
   pub same : member_leg routes m ≡ l
 
-at-leg : (routes : List (List Leg)) (x : NamedLeg) → IsLegAmong 0 routes x → IsMemberAt routes x.leg x.member
-at-leg routes x is =
+IsMemberAt-among : (routes : List (List Leg)) (x : NamedLeg) → IsLegAmong 0 routes x → IsMemberAt routes x.leg x.member
+IsMemberAt-among routes x is =
     let number : is.place ≡ x.member.shipment = omega (arith, is.shipment) in
     record {
       member = record {
@@ -118,7 +119,7 @@ among-each P c (x ∷ legs) all =
 pub members_in-each : (routes : List (List Leg)) (l : Leg) → All (IsMemberAt routes l) (members_in routes l)
 members_in-each routes l =
     among-each (IsMemberAt routes) l (named_from 0 routes)
-    (All-weaker (IsLegAmong 0 routes) (λ (x : NamedLeg). IsMemberAt routes x.leg x.member) (at-leg routes) (named_from 0 routes) (legs-among 0 routes))
+    (All-weaker (IsLegAmong 0 routes) (λ (x : NamedLeg). IsMemberAt routes x.leg x.member) (IsMemberAt-among routes) (named_from 0 routes) (legs-among 0 routes))
 
 contains-on : (k i : ℕ) (route : List Leg) (n : ℕ) → n < length route → Contains (named_on k i route) (record { member = record { shipment = k; leg = i + n }; leg = leg_at route n })
 contains-on k i [] n lt = absurd (omega (arith, lt))

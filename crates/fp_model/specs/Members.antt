@@ -35,7 +35,8 @@ GoByOneArc routes group = AllPairs (λ m n. member_arc routes m ≡ member_arc r
 abbrev pub AreDisjoint : List Member → List Member → Type 0
 AreDisjoint group other = (m : Member) → Contains group m → Contains other m → ⊥
 
--- groups of legs of the routes, which are lists of arcs: each leg is in at most one group, and all of a group go by one arc
+-- groups of legs of the routes, which are lists of arcs: each leg is in at most one group, and all
+-- of a group go by one arc
 pub record AreGroupsOf (routes : List (List ℕ)) (groups : List (List Member)) : Type 0 where
   pub members : All (All (IsMemberOf routes)) groups
   pub one_arc : All (GoByOneArc routes) groups
@@ -51,7 +52,8 @@ abbrev pub named_on : ℕ → ℕ → List Leg → List NamedLeg
 named_on k i [] = []
 named_on k i (l ∷ legs) = record { member = record { shipment = k; leg = i }; leg = l } ∷ named_on k (i + 1) legs
 
--- the legs of routes, by shipment and then leg, where the first route is that of the shipment with the number k
+-- the legs of routes, by shipment and then leg, where the first route is that of the shipment with
+-- the number k
 abbrev pub named_from : ℕ → List (List Leg) → List NamedLeg
 named_from k [] = []
 named_from k (legs ∷ routes) = named_on k 0 legs ++ named_from (k + 1) routes

@@ -1,4 +1,4 @@
--- The groups of walks are groups of their routes, and routes whose groups leave as one leave together.
+-- The groups of walks are groups of their routes, which leave together where each leaves as one.
 use Rattle.std.proofs.Common.{◌≡◌, ◌∙◌, ℕ, ◌<◌, List, get_or, length, sym, ap, subst, arith}
 use Rattle.std.specs.Prelude.{All, Contains}
 use Rattle.std.proofs.lemmas.List.Elements.{All-contains, All-get_or, All-weaker}
@@ -13,8 +13,8 @@ use Rattle.fp_relaxmodel.proofs.UniqueGroups.{StartsBefore-apart}
 each-member : (walks : List (List Leg)) (group : List Member) → (is : IsGroup walks group) → All (IsMemberAt walks is.class) group
 each-member walks group is = subst (All (IsMemberAt walks is.class)) (sym is.exact) (members_in-each walks is.class)
 
-members-of : (walks : List (List Leg)) (group : List Member) → IsGroup walks group → All (IsMemberOf (arc_lists walks)) group
-members-of walks group is =
+in-range : (walks : List (List Leg)) (group : List Member) → IsGroup walks group → All (IsMemberOf (arc_lists walks)) group
+in-range walks group is =
     All-weaker (IsMemberAt walks is.class) (IsMemberOf (arc_lists walks)) (λ m at. IsMemberOf-arc_lists walks m at.member) group (each-member walks group is)
 
 one-arc : (walks : List (List Leg)) (group : List Member) → IsGroup walks group → GoByOneArc (arc_lists walks) group
@@ -34,10 +34,11 @@ disjoint walks group other first second starts = λ m in_group in_other.
     let itself : StartsBefore other other = subst (λ (g : List Member). StartsBefore g other) same starts in
     StartsBefore-apart other other itself itself
 
--- the groups of walks are groups of their routes: no leg is in two, and all of a group go by one arc
+-- the groups of walks are groups of their routes: no leg is in two, and all of a group go by one
+-- arc
 pub AreGroupsOf-walks : (walks : List (List Leg)) (groups : List (List Member)) → AreGroups walks groups → AreGroupsOf (arc_lists walks) groups
 AreGroupsOf-walks walks groups are = record {
-  members = All-weaker (IsGroup walks) (All (IsMemberOf (arc_lists walks))) (members-of walks) groups are.each;
+  members = All-weaker (IsGroup walks) (All (IsMemberOf (arc_lists walks))) (in-range walks) groups are.each;
   one_arc = All-weaker (IsGroup walks) (GoByOneArc (arc_lists walks)) (one-arc walks) groups are.each;
   apart = λ i j d less lt.
       disjoint walks (get_or groups i d) (get_or groups j d)

@@ -57,7 +57,8 @@ module _ (p : Problem) (valid : IsValid p) (windows : ℕ → ℕ → Option Win
   pub IsRelaxedPlan_same : (walks : List (List Leg)) → IsRelaxedPlan p windows points walks → IsRelaxedPlan p windows others walks
   IsRelaxedPlan_same walks relaxed = same-from 0 p.shipments walks relaxed
 
--- a relaxed plan over the points of the network as of a round is one over the points as of that round
+-- a relaxed plan over the points of the network as of a round is one over the points as of that
+-- round
 pub IsRelaxedPlan-as_of_round : (p : Problem) (windows : ℕ → ℕ → Option Window) (v : TimePoints) (round : ℕ) (net : TimedNetwork) (walks : List (List Leg)) → IsValid p → IsNetworkOf p v round net →
     IsRelaxedPlan p windows (points_in net) walks → IsRelaxedPlan p windows (λ terminal. points_at v terminal round) walks
 IsRelaxedPlan-as_of_round p windows v round net walks valid network relaxed =

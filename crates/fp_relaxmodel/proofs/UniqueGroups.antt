@@ -45,7 +45,8 @@ contains-cases : {X : Type 0} (y : X) (ys : List X) (x : X) → Contains (y ∷ 
 contains-cases y ys x (zero, lt, is) = inl is
 contains-cases y ys x (suc k, lt, is) = inr (k, omega (arith, lt), is)
 
--- two lists that are in one order, which no two elements are both ways, and have the same elements are equal
+-- two lists that are in one order, which no two elements are both ways, and have the same elements
+-- are equal
 same-ordered : {X : Type 0} (R : X → X → Type 0) → ((x y : X) → R x y → R y x → ⊥) → (xs ys : List X) → AllPairs R xs → AllPairs R ys → All (Contains ys) xs → All (Contains xs) ys → xs ≡ ys
 same-ordered R apart [] [] first second in_ys in_xs = refl
 same-ordered R apart [] (y ∷ ys) first second in_ys in_xs = let there : Contains [] y = All-head (Contains []) y ys in_xs in absurd (omega (arith, there.1))

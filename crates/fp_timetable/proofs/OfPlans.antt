@@ -6,6 +6,7 @@ use Rattle.std.specs.declared.alloc.Global.{Global}
 use Rattle.std.specs.declared.vec.Vec.{Vec}
 use Rattle.std.proofs.lemmas.List.Elements.{All-cons, All-nil, All-tail, All-get_or}
 use Rattle.std.proofs.lemmas.Slice.Zip.{AllZip-long}
+use Rattle.fp_model.specs.declared.limits.TheConstants.{MOST_SHIPMENTS}
 use Rattle.fp_model.specs.declared.parts.Leg.{Leg}
 use Rattle.fp_model.specs.declared.parts.Shipment.{Shipment}
 use Rattle.fp_model.specs.Costs.{all_legs, lists_of}
@@ -61,12 +62,12 @@ exist p (s ∷ shipments) (r ∷ routes) plan =
 
 -- what making the lines needs of routes
 pub record AreReady (p : Problem) (routes : List (Vec Leg Global)) : Type 0 where
-  pub few : length routes ≤ 500
+  pub few : length routes ≤ MOST_SHIPMENTS
   pub arrive : All (λ (r : Vec Leg Global). ArriveWithin p r.items) routes
 
 -- what ordering the lines needs of a plan
 pub record IsReady (p : Problem) (plan : List (List Leg)) : Type 0 where
-  pub few : length plan ≤ 500
+  pub few : length plan ≤ MOST_SHIPMENTS
   pub long : length plan ≡ length p.shipments
   pub rise : AllRise plan
   pub exist : AllByRecursion (GoesByArc p) (all_legs plan)

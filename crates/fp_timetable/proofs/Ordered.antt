@@ -11,6 +11,7 @@ use Rattle.std.proofs.lemmas.List.{get_or-map as get_or_map}
 use Rattle.std.proofs.lemmas.List.Elements.{All-from_get_or, All-get_or, All-map}
 use Rattle.std.proofs.lemmas.List.Sorted.{All-permutation, Contains-permutation, IsPermutation-map, list_any-IsPermutation, sum_by-IsPermutation}
 use Rattle.std.proofs.lemmas.List.Sums.{sum_by-cons}
+use Rattle.fp_model.specs.declared.limits.TheConstants.{MOST_ARCS, MOST_SHIPMENTS}
 use Rattle.fp_model.specs.declared.parts.Leg.{Leg}
 use Rattle.fp_model.specs.declared.parts.Shipment.{Shipment}
 use Rattle.fp_model.specs.Costs.{all_legs, has_leg, load, same_leg, trucks}
@@ -61,7 +62,7 @@ occur-moved p routes legs moved k =
 legs-moved : (p : Problem) (routes : List (List Leg)) (legs : List LegLine) → IsPermutation (lines_from p 0 routes) legs → All (IsLegLine p routes) legs
 legs-moved p routes legs moved = All-permutation (IsLegLine p routes) (lines_from p 0 routes) legs moved (lines_from-legs p routes 0 routes (StandFrom-all routes))
 
-pub AreLegLines-sorted : (p : Problem) (routes : List (List Leg)) (lines : List LegLine) → length routes ≤ 500 → AllRise routes → IsPermutation (lines_from p 0 routes) lines →
+pub AreLegLines-sorted : (p : Problem) (routes : List (List Leg)) (lines : List LegLine) → length routes ≤ MOST_SHIPMENTS → AllRise routes → IsPermutation (lines_from p 0 routes) lines →
     IsNonDecreasingBy leg_rank lines → AreLegLines p routes lines
 AreLegLines-sorted p routes lines few rise moved sorted =
     let legs : All (IsLegLine p routes) lines = legs-moved p routes lines moved in
@@ -178,7 +179,7 @@ map-departure p [] = refl
 map-departure p (t ∷ lines) = ap (λ (legs : List Leg). departure t ∷ legs) (map-departure p lines)
 
 -- with their trucks they are the truck lines
-pub AreTruckLines-gathered : (p : Problem) (routes : List (List Leg)) (lines : List TruckLine) → length p.arcs ≤ 1000 → AreGathered p routes lines →
+pub AreTruckLines-gathered : (p : Problem) (routes : List (List Leg)) (lines : List TruckLine) → length p.arcs ≤ MOST_ARCS → AreGathered p routes lines →
     AreTruckLines p routes (map (with_trucks p) lines)
 AreTruckLines-gathered p routes lines few gathered =
     let same : (i : ℕ) (d : TruckLine) → i < length lines → get_or (map (with_trucks p) lines) i d ≡ with_trucks p (get_or lines i no_line) =

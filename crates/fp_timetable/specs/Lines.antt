@@ -8,7 +8,8 @@ use Rattle.fp_model.specs.Problem.{Problem, arc_at}
 use Rattle.fp_timetable.specs.declared.lines.LegLine.{LegLine}
 use Rattle.fp_timetable.specs.declared.lines.TruckLine.{TruckLine}
 
--- one pair of numbers stands before another: by the first numbers, and where these are equal by the second
+-- one pair of numbers stands before another: by the first numbers, and where these are equal by the
+-- second
 abbrev pub Precedes : (a b c d : ℕ) → Type 0
 Precedes a b c d = (a < c) ⊎ ((a ≡ c) × (b < d))
 
@@ -46,7 +47,8 @@ routes_from lines i (s ∷ shipments) = route_of lines i ∷ routes_from lines (
 abbrev pub departure : TruckLine → Leg
 departure t = record { arc = t.arc; depart = t.depart }
 
--- lines are the distinct departures of routes with their trucks and loads, each departure once, by departure and then by arc
+-- lines are the distinct departures of routes with their trucks and loads, each departure once, by
+-- departure and then by arc
 pub record AreTruckLines (p : Problem) (routes : List (List Leg)) (lines : List TruckLine) : Type 0 where
   pub ascending : AllPairs (λ (t u : TruckLine). Precedes t.depart t.arc u.depart u.arc) lines
   pub departures : (k : Leg) → has_leg k (map departure lines) ≡ has_leg k (all_legs routes)

@@ -1,3 +1,4 @@
+//! The lines of a plan's departures, with their trucks and loads.
 ghost use Rattle.std.specs.Prelude.{ℕ, ◌≡◌, ◌+◌, ◌*◌, ◌<◌, ◌≤◌, ◌^◌, ◌↔◌, length, map, All, IfOk, IsTrue, OnErr, OnOk};
 ghost use Rattle.std.specs.List.Sorted.{IsNonDecreasingBy, IsPermutation};
 ghost use Rattle.fp_model.specs.Plans.{IsPlan};
@@ -79,7 +80,7 @@ fn set_trucks(instance: &Instance, lines: &mut [TruckLine])
 }
 
 /// Every distinct departure of a plan once, by departure and then by the number of its arc, with
-/// its trucks and its load. Fails only where no memory is found.
+/// its trucks and its load. `NoMemory` only where no memory is found.
 pub fn trucks(alloc: Global, instance: &Instance, plan: &Plan) -> Result<Vec<TruckLine>, NoMemory>
     requires { IsPlan instance.now 1 plan.now }
     ensures lines { IfOk result (λ lines. AreTruckLines instance.now plan.now lines.items) }
