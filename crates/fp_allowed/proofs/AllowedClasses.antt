@@ -4,6 +4,7 @@ use Rattle.std.specs.Prelude.{◌≢◌, nat_eq, nat_lt, nat_le, Option, Some, N
 use Rattle.std.proofs.Math.Nat.{le-div_iff_mul-le, div-lt_iff_lt-mul}
 use Rattle.std.proofs.lemmas.Bool.{and_parts, and_from, or_cases, or_left, or_right, le-leb, lt-ltb, leb-true, ltb-true, eq-eqb, eqb-true, false≢true}
 use Rattle.std.proofs.lemmas.Bool.Decides.{eqb_tells}
+use Rattle.fp_lists.proofs.CountsBelow.{some_below-true, some_below-witness}
 use Rattle.fp_model.specs.declared.parts.Leg.{Leg}
 use Rattle.fp_model.specs.Problem.{Problem}
 use Rattle.fp_timenodes.specs.Floor.{floor_point}
@@ -13,22 +14,9 @@ use Rattle.fp_flatnet.specs.Windows.{IsInside}
 use Rattle.fp_longestarcs.specs.Classes.{class_of}
 use Rattle.fp_tree.specs.declared.sides.Side.{Side}
 use Rattle.fp_tree.specs.Sides.{MeetsAll}
-use Rattle.fp_allowed.specs.Allowed.{exit_of, has_moment, is_allowed, is_moment, meets_all, some_below, tails_of}
+use Rattle.fp_allowed.specs.Allowed.{exit_of, has_moment, is_allowed, is_moment, meets_all, tails_of}
+use Rattle.fp_lists.specs.Below.{some_below}
 use Rattle.fp_allowed.proofs.Meeting.{meets_all-true}
-
--- a number below n that passes a test
-pub some_below-true : (n m : ℕ) (test : ℕ → Bool) → m < n → test m ≡ true → some_below n test ≡ true
-some_below-true zero m test h is = absurd (omega (arith, h))
-some_below-true (suc n) m test h is =
-    ⊎_elim
-    (λ (same : (nat_eq m n ≡ true) × (m ≡ n)). or_left (test n) (some_below n test) (subst (λ (k : ℕ). test k ≡ true) same.1 is))
-    (λ (other : (nat_eq m n ≡ false) × (m ≢ n)). or_right (test n) (some_below n test) (some_below-true n m test (omega (arith, h, other.1)) is))
-    (eqb_tells m n)
-
-below-some : (n : ℕ) (test : ℕ → Bool) → some_below n test ≡ true → (m : ℕ) × (test m ≡ true)
-below-some zero test h = absurd (false≢true h)
-below-some (suc n) test h =
-    ⊎_elim (λ (here : test n ≡ true). (n, here)) (λ (later : some_below n test ≡ true). below-some n test later) (or_cases (test n) (some_below n test) h)
 
 -- a whole moment of a class that lies in a window and meets the sides
 pub record HasMoment (p : Problem) (points : ℕ → List ℕ) (sides : List Side) (k : ℕ) (c : Leg) (w : Window) : Type 0 where
@@ -52,11 +40,11 @@ has_moment-from p points sides k c (Some w) has =
 has_moment-parts : (p : Problem) (points : ℕ → List ℕ) (sides : List Side) (k : ℕ) (c : Leg) (o : Option Window) → has_moment p points sides k c o ≡ true → IsSomeAnd o (HasMoment p points sides k c)
 has_moment-parts p points sides k c None h = absurd (false≢true h)
 has_moment-parts p points sides k c (Some w) h =
-    let some = below-some (w.hi + 1) (is_moment p points sides k c w) h in
+    let some = some_below-witness (w.hi + 1) (is_moment p points sides k c w) h in
     let m : ℕ = some.0 in
     let in_class : Bool = nat_eq (floor_point (points (tails_of p c.arc)) 1 m) c.depart in
     let met : Bool = meets_all k sides (exit_of p (record { arc = c.arc; depart = m })) in
-    let all = and_parts (in_class && nat_le w.lo m && nat_le m w.hi) met some.1 in
+    let all = and_parts (in_class && nat_le w.lo m && nat_le m w.hi) met some.2 in
     let inside = and_parts (in_class && nat_le w.lo m) (nat_le m w.hi) all.0 in
     let starts = and_parts in_class (nat_le w.lo m) inside.0 in
     record {

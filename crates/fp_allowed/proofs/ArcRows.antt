@@ -4,7 +4,7 @@ use Rattle.std.specs.Prelude.{nat_eq, Option, None, IfSome}
 use Rattle.std.proofs.lemmas.Bool.{cases_Bool, eqb-true}
 use Rattle.fp_model.specs.declared.parts.Leg.{Leg}
 use Rattle.fp_model.specs.Problem.{Problem}
-use Rattle.fp_timenodes.specs.Floor.{has_point}
+use Rattle.fp_lists.specs.Membership.{list_has}
 use Rattle.fp_flatnet.specs.declared.window_tables.Window.{Window}
 use Rattle.fp_longestarcs.specs.Networks.{IsClass, TimedNetwork, class_number, points_in}
 use Rattle.fp_longestarcs.specs.Whole.{IsWhole}
@@ -35,7 +35,7 @@ module _ (p : Problem) (windows : ℕ → ℕ → Option Window) (net : TimedNet
       (λ (here : nat_eq c.arc arc ≡ true).
       let arc_is : c.arc ≡ arc = eqb-true c.arc arc here in
       let in_arcs : c.arc < length p.arcs = omega (arith, arc_is, exists) in
-      let there : has_point (points_in net (tails_of p c.arc)) c.depart ≡ true = subst (λ (t : ℕ). has_point (points_in net t) c.depart ≡ true) (tail-of p net c.arc whole.arcs in_arcs) class.1 in
+      let there : list_has (points_in net (tails_of p c.arc)) c.depart ≡ true = subst (λ (t : ℕ). list_has (points_in net t) c.depart ≡ true) (tail-of p net c.arc whole.arcs in_arcs) class.1 in
       let opens : (m : ℕ) → is_open o m ≡ (is_open (windows k c.arc) m && meets_all k sides (exit_of p (record { arc = c.arc; depart = m }))) =
       subst (λ (a : ℕ). (m : ℕ) → is_open o m ≡ (is_open (windows k a) m && meets_all k sides (exit_of p (record { arc = a; depart = m })))) (sym arc_is) (open-all p windows k arc sides own o is same) in
       let tells : is_between (points_in net (tails_of p c.arc)) o c.depart ≡ is_allowed p windows (points_in net) sides k c = allowed-between p windows (points_in net) sides k c o in_arcs there some opens in

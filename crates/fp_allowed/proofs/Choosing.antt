@@ -5,7 +5,8 @@ use Rattle.std.proofs.lemmas.Bool.{and_from, cases_lt, eq-eqb, le-leb, lt-ltb, n
 use Rattle.fp_model.specs.declared.parts.Leg.{Leg}
 use Rattle.fp_model.specs.Problem.{Problem}
 use Rattle.fp_timenodes.specs.declared.places.TheConstants.{LATEST}
-use Rattle.fp_timenodes.specs.Floor.{floor_point, has_point}
+use Rattle.fp_timenodes.specs.Floor.{floor_point}
+use Rattle.fp_lists.specs.Membership.{list_has}
 use Rattle.fp_timenodes.proofs.Floors.{floor_le, floor_greatest}
 use Rattle.fp_flatnet.specs.declared.window_tables.Window.{Window}
 use Rattle.fp_flatnet.specs.Tables.{windows_in}
@@ -13,7 +14,7 @@ use Rattle.fp_longestarcs.specs.Ascending.{ArePoints}
 use Rattle.fp_longestarcs.specs.Networks.{IsClass, TimedNetwork, points_in, tail_in}
 use Rattle.fp_longestarcs.proofs.ClassNumbers.{tail-points}
 use Rattle.fp_longestarcs.proofs.Lengthened.{arc-count, tail-of}
-use Rattle.fp_longestarcs.proofs.Places.{StandsAt, stands}
+use Rattle.fp_lists.proofs.Membership.{StandsAt-from_list_has, StandsAt}
 use Rattle.fp_tree.specs.declared.sides.Side.{Side}
 use Rattle.fp_tree.specs.declared.sides.Side.TheVariants.{Without, Only, Before, From}
 use Rattle.fp_tree.specs.declared.sides.Split.{Split}
@@ -31,7 +32,7 @@ use Rattle.fp_allowed.proofs.RowClasses.{is_class-parts}
 -- a point of an arc's tail is not too late
 point-in_time : (net : TimedNetwork) (c : Leg) → ArePoints (points_in net (tail_in net c.arc)) → IsClass net c → c.depart ≤ LATEST
 point-in_time net c are is =
-    let at : StandsAt (points_in net (tail_in net c.arc)) c.depart = stands (points_in net (tail_in net c.arc)) c.depart is.1 in
+    let at : StandsAt (points_in net (tail_in net c.arc)) c.depart = StandsAt-from_list_has (points_in net (tail_in net c.arc)) c.depart is.1 in
     omega (arith, at.is 0, are.in_time at.place 0 at.within)
 
 -- a split that parts classes whose bits are set is one at the terminal
@@ -70,9 +71,9 @@ module _ (s : Setting) (sides : List Side) (k terminal : ℕ) (is : IsSetting s)
       (with-side s.problem (points_in s.network) sides side k c (windows_in s.windows k c.arc) meets_it parts.1)
 
   -- the point of an allowed class is one of its tail's
-  point-there : (c : Leg) → IsClass s.network c → has_point (points_in s.network (tails_of s.problem c.arc)) c.depart ≡ true
+  point-there : (c : Leg) → IsClass s.network c → list_has (points_in s.network (tails_of s.problem c.arc)) c.depart ≡ true
   point-there c class =
-      subst (λ (t : ℕ). has_point (points_in s.network t) c.depart ≡ true) (tail-of s.problem s.network c.arc is.whole.arcs (omega (arith, class.0, arc-count s.problem s.network is.whole.arcs))) class.1
+      subst (λ (t : ℕ). list_has (points_in s.network t) c.depart ≡ true) (tail-of s.problem s.network c.arc is.whole.arcs (omega (arith, class.0, arc-count s.problem s.network is.whole.arcs))) class.1
 
   -- both sides of a split that parts the allowed classes leave a departure
   pub divides : (split : Split) → IsSplitAt s.problem k terminal split → PartsClasses s.problem (allowed_in s sides k) k terminal split → ((c : Leg) → allowed_in s sides k c ≡ true → IsClass s.network c) →
@@ -91,15 +92,15 @@ module _ (s : Setting) (sides : List Side) (k terminal : ℕ) (is : IsSetting s)
       without false = refl
   divides (ByTime shipment place time) at parts classes =
       let parted = parts.2 in
-      let there : has_point (points_in s.network (tails_of s.problem parted.two.arc)) time ≡ true =
-      subst (λ (q : ℕ). has_point (points_in s.network (tails_of s.problem parted.two.arc)) q ≡ true) parted.from (point-there parted.two (classes parted.two parted.two_leaves.allowed_it)) in
+      let there : list_has (points_in s.network (tails_of s.problem parted.two.arc)) time ≡ true =
+      subst (λ (q : ℕ). list_has (points_in s.network (tails_of s.problem parted.two.arc)) q ≡ true) parted.from (point-there parted.two (classes parted.two parted.two_leaves.allowed_it)) in
       let same : tails_of s.problem parted.two.arc ≡ tails_of s.problem parted.one.arc = parted.two_leaves.leaves ∙ sym parted.one_leaves.leaves in
       record {
         first = left-with (Before shipment place time) parted.one parted.one_leaves
             (λ m falls.
             or_right (not (nat_eq k shipment && nat_eq (tails_of s.problem parted.one.arc) place)) (nat_lt m time)
             (lt-ltb m time (early m (points_in s.network (tails_of s.problem parted.one.arc)) parted.one.depart falls parted.before
-            (subst (λ (t : ℕ). has_point (points_in s.network t) time ≡ true) same there))));
+            (subst (λ (t : ℕ). list_has (points_in s.network t) time ≡ true) same there))));
         second = left-with (From shipment place time) parted.two parted.two_leaves
             (λ m falls.
             or_right (not (nat_eq k shipment && nat_eq (tails_of s.problem parted.two.arc) place)) (nat_le time m)
@@ -108,6 +109,6 @@ module _ (s : Setting) (sides : List Side) (k terminal : ℕ) (is : IsSetting s)
       }
     where
       -- a moment of a class before a point is before the point
-      early : (m : ℕ) (qs : List ℕ) (q : ℕ) → floor_point qs 1 m ≡ q → q < time → has_point qs time ≡ true → m < time
+      early : (m : ℕ) (qs : List ℕ) (q : ℕ) → floor_point qs 1 m ≡ q → q < time → list_has qs time ≡ true → m < time
       early m qs q falls before there =
           ⊎_elim (λ (less : m < time). less) (λ (late : time ≤ m). absurd (omega (arith, falls, before, floor_greatest qs 1 m time there (omega arith)))) (cases_lt m time)

@@ -4,7 +4,8 @@ use Rattle.std.specs.Prelude.{IfSome, IsSomeAnd, Option, Some, None}
 use Rattle.fp_model.specs.declared.parts.Leg.{Leg}
 use Rattle.fp_model.specs.Numbered.{shipment_at}
 use Rattle.fp_model.specs.Problem.{Problem, arc_at}
-use Rattle.fp_timenodes.specs.Floor.{floor_point, has_point}
+use Rattle.fp_timenodes.specs.Floor.{floor_point}
+use Rattle.fp_lists.specs.Membership.{list_has}
 use Rattle.fp_timenodes.proofs.Floors.{floor_le, floor_greatest}
 use Rattle.fp_flatnet.specs.declared.window_tables.Window.{Window}
 use Rattle.fp_flatnet.specs.Belonging.{BelongsTo, IsNarrowed}
@@ -43,7 +44,7 @@ module _ (p : Problem) (windows : ℕ → ℕ → Option Window) (points : ℕ �
       omega (arith, has.falls, has.before, floor_le (points (tails_of p c.arc)) 1 has.moment)
 
   -- nor before its start, where that is a point of the tail
-  pub allowed-lo : (w : Window) → windows k c.arc ≡ Some w → has_point (points (tails_of p c.arc)) w.lo ≡ true → w.lo ≤ c.depart
+  pub allowed-lo : (w : Window) → windows k c.arc ≡ Some w → list_has (points (tails_of p c.arc)) w.lo ≡ true → w.lo ≤ c.depart
   allowed-lo w is starts =
       let has : HasMoment p points sides k c w = moment-in (Some w) is in
       omega (arith, has.falls, floor_greatest (points (tails_of p c.arc)) 1 has.moment w.lo starts (omega (arith, has.after)))
@@ -54,6 +55,6 @@ pub allowed-release : (p : Problem) (table : WindowTable) (points : ℕ → List
 allowed-release p table points sides k c belongs initial shipment leaves allowed =
     let has : HasWindow (windows_in table) k c = allowed-window p (windows_in table) points sides k c allowed in
     let exists : c.arc < length p.arcs = allowed-exists p (windows_in table) points sides k c allowed in
-    let starts : has_point (points (tails_of p c.arc)) has.window.lo ≡ true = window-begins p table points k c.arc has.window belongs initial shipment exists has.is leaves in
+    let starts : list_has (points (tails_of p c.arc)) has.window.lo ≡ true = window-begins p table points k c.arc has.window belongs initial shipment exists has.is leaves in
     let narrowed : IsNarrowed p (shipment_at p k) c.arc table.anchors has.window = subst (λ (o : Option Window). IfSome o (IsNarrowed p (shipment_at p k) c.arc table.anchors)) has.is (belongs.narrowed k c.arc shipment exists) in
     omega (arith, allowed-lo p (windows_in table) points sides k c allowed has.window has.is starts, narrowed.lo, narrowed.is_window.lo)

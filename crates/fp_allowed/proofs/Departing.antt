@@ -12,9 +12,10 @@ use Rattle.fp_flatnet.specs.Belonging.{BelongsTo, IsNarrowed}
 use Rattle.fp_flatnet.specs.Tables.{WindowTable, windows_in}
 use Rattle.fp_tree.specs.declared.sides.Side.{Side}
 use Rattle.fp_allowed.specs.Allowed.{exit_of, tails_of}
-use Rattle.fp_allowed.specs.Departures.{count_below, departures_below, departures_in, is_departure}
+use Rattle.fp_allowed.specs.Departures.{departures_below, departures_in, is_departure}
+use Rattle.fp_lists.specs.Below.{count_below}
 use Rattle.fp_allowed.specs.Moments.{all_let, concerned}
-use Rattle.fp_allowed.proofs.Counting.{count_below-le, count_below-same}
+use Rattle.fp_lists.proofs.CountsBelow.{count_below-same, count_below-le}
 use Rattle.fp_allowed.proofs.Narrowing.{meets_all-concerned}
 
 -- the window is some time up to the latest

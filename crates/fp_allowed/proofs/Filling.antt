@@ -4,59 +4,37 @@ use Rattle.std.specs.Prelude.{nat_eq, nat_le, Some}
 use Rattle.std.specs.List.{AllPairs}
 use Rattle.std.proofs.lemmas.Bool.{cases_lt, cases_order, eq-eqb, le-leb, le-ltb, lt-leb, lt-ltb, ne_eqb}
 use Rattle.fp_model.specs.declared.parts.Leg.{Leg}
-use Rattle.fp_timenodes.specs.Floor.{floor_point, has_point}
+use Rattle.fp_timenodes.specs.Floor.{floor_point}
+use Rattle.fp_lists.specs.Membership.{list_has}
 use Rattle.fp_timenodes.proofs.Floors.{IsFloorPoint-floor_point, floor_mono}
 use Rattle.fp_flatnet.specs.declared.window_tables.Window.{Window}
-use Rattle.fp_longestarcs.specs.Ascending.{ArePoints, place_of}
+use Rattle.fp_longestarcs.specs.Ascending.{ArePoints}
+use Rattle.fp_lists.specs.Ascending.{place_in}
 use Rattle.fp_longestarcs.specs.Networks.{IsClass, IsNetwork, TimedNetwork, class_count, class_number, first_class, points_in, tail_in}
 use Rattle.fp_longestarcs.proofs.ClassNumbers.{first-mono, number-below, number-within, tail-points}
-use Rattle.fp_longestarcs.proofs.Places.{at-place}
+use Rattle.fp_lists.proofs.Places.{get_or-place_in, place_in-lt, place_in_mono}
 use Rattle.fp_rows.specs.Bits.{with_range}
 use Rattle.fp_allowed.specs.Bits.{FillsArc, bit_of}
 use Rattle.fp_allowed.specs.Moments.{in_range, is_between}
 use Rattle.fp_allowed.proofs.RowBits.{bit_of-with_range, length-with_range}
 
--- a point before another stands before it
-place-before : (qs : List ℕ) (q r : ℕ) → AllPairs (λ a b. a < b) qs → has_point qs q ≡ true → has_point qs r ≡ true → q < r → place_of qs q < place_of qs r
-place-before qs q r up first second less =
-    let here = at-place qs q up first in
-    let there = at-place qs r up second in
-    ⊎_elim
-    (λ (before : place_of qs q < place_of qs r). before)
-    (λ (after : place_of qs r ≤ place_of qs q).
-    ⊎_elim
-    (λ (late : place_of qs r < place_of qs q). absurd (omega (arith, up (place_of qs r) (place_of qs q) 0 late here.0, here.1 0, there.1 0)))
-    (λ (not_late : place_of qs q ≤ place_of qs r).
-    let same : place_of qs q ≡ place_of qs r = omega arith in
-    absurd (omega (arith, here.1 0, there.1 0, ap (λ (n : ℕ). get_or qs n 0) same)))
-    (cases_lt (place_of qs r) (place_of qs q)))
-    (cases_lt (place_of qs q) (place_of qs r))
-
--- a point not after another does not stand after it
-place-until : (qs : List ℕ) (q r : ℕ) → AllPairs (λ a b. a < b) qs → has_point qs q ≡ true → has_point qs r ≡ true → q ≤ r → place_of qs q ≤ place_of qs r
-place-until qs q r up first second until =
-    ⊎_elim
-    (λ (less : q < r). omega (arith, place-before qs q r up first second less))
-    (λ (not_less : r ≤ q). let same : q ≡ r = omega arith in omega (arith, ap (λ (n : ℕ). place_of qs n) same))
-    (cases_lt q r)
-
 -- so places tell whether a point is between two others
-places-tell : (qs : List ℕ) (base f q g : ℕ) → AllPairs (λ a b. a < b) qs → has_point qs f ≡ true → has_point qs q ≡ true → has_point qs g ≡ true →
-    in_range (base + place_of qs f) (base + place_of qs g + 1) (base + place_of qs q) ≡ (nat_le f q && nat_le q g)
+places-tell : (qs : List ℕ) (base f q g : ℕ) → AllPairs (λ a b. a < b) qs → list_has qs f ≡ true → list_has qs q ≡ true → list_has qs g ≡ true →
+    in_range (base + place_in qs f) (base + place_in qs g + 1) (base + place_in qs q) ≡ (nat_le f q && nat_le q g)
 places-tell qs base f q g up first here last =
     ⊎_elim
     (λ (early : q < f).
-    let behind = place-before qs q f up here first early in
-    rw (lt-leb f q early, lt-leb (base + place_of qs f) (base + place_of qs q) (omega (arith, behind))) refl)
+    let behind = place_in-lt qs q f up here first early in
+    rw (lt-leb f q early, lt-leb (base + place_in qs f) (base + place_in qs q) (omega (arith, behind))) refl)
     (λ (after : f ≤ q).
-    let ahead = place-until qs f q up first here after in
+    let ahead = place_in_mono qs f q up first here after in
     ⊎_elim
     (λ (late : g < q).
-    let past = place-before qs g q up last here late in
-    rw (le-leb f q after, lt-leb q g late, le-leb (base + place_of qs f) (base + place_of qs q) (omega (arith, ahead)), le-ltb (base + place_of qs q) (base + place_of qs g + 1) (omega (arith, past))) refl)
+    let past = place_in-lt qs g q up last here late in
+    rw (le-leb f q after, lt-leb q g late, le-leb (base + place_in qs f) (base + place_in qs q) (omega (arith, ahead)), le-ltb (base + place_in qs q) (base + place_in qs g + 1) (omega (arith, past))) refl)
     (λ (until : q ≤ g).
-    let within = place-until qs q g up here last until in
-    rw (le-leb f q after, le-leb q g until, le-leb (base + place_of qs f) (base + place_of qs q) (omega (arith, ahead)), lt-ltb (base + place_of qs q) (base + place_of qs g + 1) (omega (arith, within))) refl)
+    let within = place_in_mono qs q g up here last until in
+    rw (le-leb f q after, le-leb q g until, le-leb (base + place_in qs f) (base + place_in qs q) (omega (arith, ahead)), lt-ltb (base + place_in qs q) (base + place_in qs g + 1) (omega (arith, within))) refl)
     (cases_lt g q))
     (cases_lt q f)
 
@@ -74,7 +52,7 @@ module _ (net : TimedNetwork) (arc : ℕ) (valid : IsNetwork net) (exists : arc 
   pub numbers-order : (w : Window) → w.lo ≤ w.hi → class_number net (class_until net arc w.lo) ≤ class_number net (class_until net arc w.hi) + 1
   numbers-order w some =
       let qs : List ℕ = points_in net (tail_in net arc) in
-      omega (arith, place-until qs (floor_point qs 1 w.lo) (floor_point qs 1 w.hi) are.ascending (class_until-is w.lo).1 (class_until-is w.hi).1 (floor_mono qs 1 w.lo w.hi (omega (arith, some))))
+      omega (arith, place_in_mono qs (floor_point qs 1 w.lo) (floor_point qs 1 w.hi) are.ascending (class_until-is w.lo).1 (class_until-is w.hi).1 (floor_mono qs 1 w.lo w.hi (omega (arith, some))))
 
   pub numbers-within : (w : Window) → class_number net (class_until net arc w.hi) + 1 ≤ class_count net
   numbers-within w = omega (arith, number-within net (class_until net arc w.hi) valid (class_until-is w.hi))
@@ -91,8 +69,8 @@ module _ (net : TimedNetwork) (arc : ℕ) (valid : IsNetwork net) (exists : arc 
       ⊎_elim
       (λ (same : c.arc ≡ arc).
       let qs : List ℕ = points_in net (tail_in net arc) in
-      let there : has_point qs c.depart ≡ true = subst (λ (a : ℕ). has_point (points_in net (tail_in net a)) c.depart ≡ true) same is.1 in
-      let number : class_number net c ≡ first_class net arc + place_of qs c.depart = ap (λ (a : ℕ). class_number net (record { arc = a; depart = c.depart })) same in
+      let there : list_has qs c.depart ≡ true = subst (λ (a : ℕ). list_has (points_in net (tail_in net a)) c.depart ≡ true) same is.1 in
+      let number : class_number net c ≡ first_class net arc + place_in qs c.depart = ap (λ (a : ℕ). class_number net (record { arc = a; depart = c.depart })) same in
       rw (eq-eqb c.arc arc same, number) (places-tell qs (first_class net arc) (floor_point qs 1 w.lo) c.depart (floor_point qs 1 w.hi) are.ascending (class_until-is w.lo).1 there (class_until-is w.hi).1))
       (λ (apart : (c.arc < arc) ⊎ (arc < c.arc)).
       ⊎_elim

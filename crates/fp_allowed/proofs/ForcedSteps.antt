@@ -11,7 +11,7 @@ use Rattle.std.proofs.lemmas.List.Sums.{sum_by-set}
 use Rattle.fp_model.specs.declared.parts.Leg.{Leg}
 use Rattle.fp_model.specs.declared.parts.Shipment.{Shipment}
 use Rattle.fp_model.specs.Problem.{Problem, arc_at}
-use Rattle.fp_timenodes.specs.Floor.{has_point}
+use Rattle.fp_lists.specs.Membership.{list_has}
 use Rattle.fp_longestarcs.specs.Networks.{TimedNetwork, class_count}
 use Rattle.fp_allowed.specs.declared.chain_ends.ChainEnd.TheVariants.{Reached, Several, Stuck}
 use Rattle.fp_allowed.specs.Allowed.{AreForced, IsForcedChain, IsOnly, tails_of}
@@ -19,22 +19,22 @@ use Rattle.fp_allowed.specs.Chains.{IsForced, NoneLeaves, SeveralLeave, chain_st
 use Rattle.fp_allowed.specs.Listing.{class_at, classes_at}
 
 -- whether a number is in a list
-is-in : (xs : List ℕ) (t : ℕ) → has_point xs t ≡ true → Contains xs t
+is-in : (xs : List ℕ) (t : ℕ) → list_has xs t ≡ true → Contains xs t
 is-in [] t h = absurd (false≢true h)
 is-in (x ∷ xs) t h =
     ⊎_elim
     (λ (here : nat_eq x t ≡ true). (0, omega arith, eqb-true x t here))
-    (λ (later : has_point xs t ≡ true). let at = is-in xs t later in (at.0 + 1, omega (arith, at.1), rw add-one at.2))
-    (or_cases (nat_eq x t) (has_point xs t) h)
+    (λ (later : list_has xs t ≡ true). let at = is-in xs t later in (at.0 + 1, omega (arith, at.1), rw add-one at.2))
+    (or_cases (nat_eq x t) (list_has xs t) h)
 
-is-out : (xs : List ℕ) (t : ℕ) → has_point xs t ≡ false → AllByRecursion (λ x. x ≢ t) xs
+is-out : (xs : List ℕ) (t : ℕ) → list_has xs t ≡ false → AllByRecursion (λ x. x ≢ t) xs
 is-out [] t h = tt
-is-out (x ∷ xs) t h = let parts = or_parts (nat_eq x t) (has_point xs t) h in (λ same. both_ways (nat_eq x t) parts.0 (eq-eqb x t same), is-out xs t parts.1)
+is-out (x ∷ xs) t h = let parts = or_parts (nat_eq x t) (list_has xs t) h in (λ same. both_ways (nat_eq x t) parts.0 (eq-eqb x t same), is-out xs t parts.1)
 
-all-out : (xs : List ℕ) (t : ℕ) → AllByRecursion (λ x. x ≢ t) xs → has_point xs t ≡ true → ⊥
+all-out : (xs : List ℕ) (t : ℕ) → AllByRecursion (λ x. x ≢ t) xs → list_has xs t ≡ true → ⊥
 all-out [] t all h = false≢true h
 all-out (x ∷ xs) t all h =
-    ⊎_elim (λ (here : nat_eq x t ≡ true). all.0 (eqb-true x t here)) (λ (later : has_point xs t ≡ true). all-out xs t all.1 later) (or_cases (nat_eq x t) (has_point xs t) h)
+    ⊎_elim (λ (here : nat_eq x t ≡ true). all.0 (eqb-true x t here)) (λ (later : list_has xs t ≡ true). all-out xs t all.1 later) (or_cases (nat_eq x t) (list_has xs t) h)
 
 -- where a chain with one more class ends
 chain_stop-push : (p : Problem) (here : ℕ) (chain : List Leg) (c : Leg) → chain_stop p here (chain ++ (c ∷ [])) ≡ (arc_at p c.arc).to
@@ -49,8 +49,8 @@ module _ (p : Problem) (net : TimedNetwork) (allowed : Leg → Bool) (s : Shipme
     pub within : All (λ n. n < class_count net) classes
     pub stop : chain_stop p s.from (classes_at net classes) ≡ here
     pub seen : List ℕ
-    pub same : (t : ℕ) → has_point seen t ≡ has_point (terminals_left p (classes_at net classes)) t
-    pub tells : (t : ℕ) → t < length met → get_or met t false ≡ has_point seen t
+    pub same : (t : ℕ) → list_has seen t ≡ list_has (terminals_left p (classes_at net classes)) t
+    pub tells : (t : ℕ) → t < length met → get_or met t false ≡ list_has seen t
     pub on : (rest : List Leg) → AreForced p allowed s.to seen here rest → AreForced p allowed s.to [] s.from (classes_at net classes ++ rest)
     pub back : (rest : List Leg) → AreForced p allowed s.to [] s.from (classes_at net classes ++ rest) → AreForced p allowed s.to seen here rest
 
@@ -75,7 +75,7 @@ module _ (p : Problem) (net : TimedNetwork) (allowed : Leg → Bool) (s : Shipme
       let legs : List Leg = classes_at net classes in
       let legs_more : classes_at net (classes ++ (class ∷ [])) ≡ legs ++ (c ∷ []) = map-append (class_at net) classes (class ∷ []) ∙ ap (λ (k : Leg). legs ++ (k ∷ [])) is in
       let inside : here < length met = omega (arith, so_far.place, so_far.long) in
-      let unseen : has_point so_far.seen here ≡ false = sym (so_far.tells here inside) ∙ unmet in
+      let unseen : list_has so_far.seen here ≡ false = sym (so_far.tells here inside) ∙ unmet in
       record {
         long = length-set met here true ∙ so_far.long;
         place = place;
@@ -83,9 +83,9 @@ module _ (p : Problem) (net : TimedNetwork) (allowed : Leg → Bool) (s : Shipme
         stop = ap (chain_stop p s.from) legs_more ∙ chain_stop-push p s.from legs c ∙ sym to_is;
         seen = here ∷ so_far.seen;
         same = λ t.
-            ap (λ (b : Bool). nat_eq here t || b) (so_far.same t) ∙ or_comm (nat_eq here t) (has_point (terminals_left p legs) t) ∙
-            ap (λ (n : ℕ). has_point (terminals_left p legs) t || nat_eq n t) (sym only.leaves) ∙ sym (left-more legs c t) ∙
-            ap (λ (l : List Leg). has_point (terminals_left p l) t) (sym legs_more);
+            ap (λ (b : Bool). nat_eq here t || b) (so_far.same t) ∙ or_comm (nat_eq here t) (list_has (terminals_left p legs) t) ∙
+            ap (λ (n : ℕ). list_has (terminals_left p legs) t || nat_eq n t) (sym only.leaves) ∙ sym (left-more legs c t) ∙
+            ap (λ (l : List Leg). list_has (terminals_left p l) t) (sym legs_more);
         tells = λ t h.
             ⊎_elim
             (λ (at : here ≡ t). rw (← at, eq-eqb here here refl) (get_or-set_same met here true false inside))
@@ -102,11 +102,11 @@ module _ (p : Problem) (net : TimedNetwork) (allowed : Leg → Bool) (s : Shipme
             subst (λ (n : ℕ). AreForced p allowed s.to (here ∷ so_far.seen) n rest) (sym to_is) (so_far.back (c ∷ rest) whole).3;
       }
     where
-      left-more : (legs : List Leg) (c : Leg) (t : ℕ) → has_point (terminals_left p (legs ++ (c ∷ []))) t ≡ (has_point (terminals_left p legs) t || nat_eq (tails_of p c.arc) t)
+      left-more : (legs : List Leg) (c : Leg) (t : ℕ) → list_has (terminals_left p (legs ++ (c ∷ []))) t ≡ (list_has (terminals_left p legs) t || nat_eq (tails_of p c.arc) t)
       left-more legs c t =
-          ap (λ (l : List ℕ). has_point l t) (map-append (λ (k : Leg). tails_of p k.arc) legs (c ∷ [])) ∙
+          ap (λ (l : List ℕ). list_has l t) (map-append (λ (k : Leg). tails_of p k.arc) legs (c ∷ [])) ∙
           list_any-append (λ q. nat_eq q t) (terminals_left p legs) (tails_of p c.arc ∷ []) ∙
-          ap (λ (b : Bool). has_point (terminals_left p legs) t || b) (or-false (nat_eq (tails_of p c.arc) t))
+          ap (λ (b : Bool). list_has (terminals_left p legs) t || b) (or-false (nat_eq (tails_of p c.arc) t))
 
       joined-rest : (rest : List Leg) → classes_at net (classes ++ (class ∷ [])) ++ rest ≡ classes_at net classes ++ (c ∷ rest)
       joined-rest rest =
@@ -130,7 +130,7 @@ module _ (p : Problem) (net : TimedNetwork) (allowed : Leg → Bool) (s : Shipme
 
   pub chain_met : (classes : List ℕ) (met : List Bool) (here : ℕ) → ChainSoFar classes met here → here ≢ s.to → get_or met here false ≡ true → IsForced p net allowed s (record { classes = classes; end = Stuck here })
   chain_met classes met here so_far away was =
-      let seen : has_point so_far.seen here ≡ true = sym (so_far.tells here (omega (arith, so_far.place, so_far.long))) ∙ was in
+      let seen : list_has so_far.seen here ≡ true = sym (so_far.tells here (omega (arith, so_far.place, so_far.long))) ∙ was in
       record {
         forced = stops-at classes met here so_far (λ c other out only. all-out so_far.seen here out seen);
         ends = (so_far.stop, away, inl (is-in (terminals_left p (classes_at net classes)) here (sym (so_far.same here) ∙ seen)));
@@ -147,7 +147,7 @@ module _ (p : Problem) (net : TimedNetwork) (allowed : Leg → Bool) (s : Shipme
   pub chain_several : (classes : List ℕ) (met : List Bool) (here : ℕ) → ChainSoFar classes met here → here ≢ s.to → get_or met here false ≡ false → SeveralLeave p allowed here →
       IsForced p net allowed s (record { classes = classes; end = Several here })
   chain_several classes met here so_far away unmet several =
-      let unseen : has_point so_far.seen here ≡ false = sym (so_far.tells here (omega (arith, so_far.place, so_far.long))) ∙ unmet in
+      let unseen : list_has so_far.seen here ≡ false = sym (so_far.tells here (omega (arith, so_far.place, so_far.long))) ∙ unmet in
       record {
         forced = stops-at classes met here so_far (λ c other out only. several.differ (only.alone several.one several.one_allowed several.one_leaves ∙ sym (only.alone several.two several.two_allowed several.two_leaves)));
         ends = (so_far.stop, away, is-out (terminals_left p (classes_at net classes)) here (sym (so_far.same here) ∙ unseen), several);

@@ -6,7 +6,8 @@ use Rattle.std.proofs.lemmas.Bool.{and_from, and_parts, cases_lt, false≢true, 
 use Rattle.std.proofs.lemmas.Bool.Decides.{same_from_decides}
 use Rattle.fp_model.specs.declared.parts.Leg.{Leg}
 use Rattle.fp_model.specs.Problem.{Problem}
-use Rattle.fp_timenodes.specs.Floor.{floor_point, has_point}
+use Rattle.fp_timenodes.specs.Floor.{floor_point}
+use Rattle.fp_lists.specs.Membership.{list_has}
 use Rattle.fp_timenodes.proofs.Floors.{floor_le, floor_greatest, floor_itself, floor_mono}
 use Rattle.fp_flatnet.specs.declared.window_tables.Window.{Window}
 use Rattle.fp_tree.specs.declared.sides.Side.{Side}
@@ -21,7 +22,7 @@ pub record HasOpen (qs : List ℕ) (q : ℕ) (o : Option Window) : Type 0 where
   pub is_in : is_open o moment ≡ true
 
 -- a point is between exactly where its class has a moment in the window
-is_between-decides : (qs : List ℕ) (q : ℕ) (o : Option Window) → has_point qs q ≡ true → IfSome o (λ w. w.lo ≤ w.hi) → Decides (is_between qs o q) (HasOpen qs q o)
+is_between-decides : (qs : List ℕ) (q : ℕ) (o : Option Window) → list_has qs q ≡ true → IfSome o (λ w. w.lo ≤ w.hi) → Decides (is_between qs o q) (HasOpen qs q o)
 is_between-decides qs q None there some = (λ h. absurd (false≢true h), λ has. absurd (false≢true has.is_in))
 is_between-decides qs q (Some w) there some = (to, from)
   where
@@ -94,7 +95,7 @@ allowed-decides p windows points sides k c o exists same = (
 
 -- so it is allowed exactly where its point is between
 pub allowed-between : (p : Problem) (windows : ℕ → ℕ → Option Window) (points : ℕ → List ℕ) (sides : List Side) (k : ℕ) (c : Leg) (o : Option Window) → c.arc < length p.arcs →
-    has_point (points (tails_of p c.arc)) c.depart ≡ true → IfSome o (λ w. w.lo ≤ w.hi) →
+    list_has (points (tails_of p c.arc)) c.depart ≡ true → IfSome o (λ w. w.lo ≤ w.hi) →
     ((m : ℕ) → is_open o m ≡ (is_open (windows k c.arc) m && meets_all k sides (exit_of p (record { arc = c.arc; depart = m })))) →
     is_between (points (tails_of p c.arc)) o c.depart ≡ is_allowed p windows points sides k c
 allowed-between p windows points sides k c o exists there some same =

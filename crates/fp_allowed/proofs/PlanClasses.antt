@@ -4,12 +4,14 @@ use Rattle.std.specs.Prelude.{Option, slice_index_or}
 use Rattle.std.specs.List.{AllByRecursion, AllZip}
 use Rattle.fp_model.specs.declared.parts.Leg.{Leg}
 use Rattle.fp_model.specs.declared.parts.Shipment.{Shipment}
-use Rattle.fp_model.specs.Numbered.{AllFrom, AllZipFrom, no_shipment, route_at, shipment_at}
+use Rattle.fp_model.specs.Numbered.{no_shipment, route_at, shipment_at}
+use Rattle.fp_lists.specs.Numbered.{AllZipFrom, AllFrom}
 use Rattle.fp_model.specs.Plans.{IsPlan}
 use Rattle.fp_model.specs.Problem.{Problem, arc_at}
 use Rattle.fp_model.specs.Routes.{Carries, Leads, LeavesReady, arcs_of, step}
 use Rattle.fp_model.proofs.Bounds.{Leads-exist}
-use Rattle.fp_model.proofs.Places.{at-map, zip-places}
+use Rattle.fp_lists.proofs.Maps.{get_or-map_default}
+use Rattle.fp_lists.proofs.Numbered.{AllZipFrom-get_or}
 use Rattle.fp_timenodes.specs.Floor.{floor_point}
 use Rattle.fp_timenodes.proofs.Floors.{floor_le, floor_mono}
 use Rattle.fp_flatnet.specs.declared.window_tables.Window.{Window}
@@ -83,6 +85,6 @@ pub route-timed : (p : Problem) (windows : ℕ → ℕ → Option Window) (point
 route-timed p windows points sides d k plan h exists is within obeys =
     let f : List Leg → List Leg = map (class_of p points d) in
     let Timed : ℕ → Shipment → List Leg → Type 0 = λ j s r. IsTimedWalk p points (is_allowed p windows points sides j) s r in
-    let there : Timed (0 + k) (shipment_at p k) (slice_index_or (map f plan) k []) = zip-places Timed p.shipments (map f plan) no_shipment [] 0 k (plan-timed p windows points sides d plan h is within obeys) exists in
+    let there : Timed (0 + k) (shipment_at p k) (slice_index_or (map f plan) k []) = AllZipFrom-get_or Timed p.shipments (map f plan) no_shipment [] 0 k (plan-timed p windows points sides d plan h is within obeys) exists in
     let number : 0 + k ≡ k = omega arith in
-    subst (λ (r : List Leg). Timed k (shipment_at p k) r) (at-map f plan k []) (subst (λ (n : ℕ). Timed n (shipment_at p k) (slice_index_or (map f plan) k [])) number there)
+    subst (λ (r : List Leg). Timed k (shipment_at p k) r) (get_or-map_default f plan k []) (subst (λ (n : ℕ). Timed n (shipment_at p k) (slice_index_or (map f plan) k [])) number there)

@@ -5,7 +5,8 @@ use Rattle.std.specs.declared.alloc.AllocError.{AllocError}
 use Rattle.std.proofs.lemmas.Bool.{and_from, and_parts, cases_Bool, both_ways, false_from_ne_true, lt-ltb, ltb-true}
 use Rattle.fp_model.specs.declared.parts.Leg.{Leg}
 use Rattle.fp_model.specs.Numbered.{route_at, shipment_at}
-use Rattle.fp_timenodes.specs.Floor.{floor_point, has_point}
+use Rattle.fp_timenodes.specs.Floor.{floor_point}
+use Rattle.fp_lists.specs.Membership.{list_has}
 use Rattle.fp_timenodes.proofs.Floors.{IsFloorPoint-floor_point}
 use Rattle.fp_flatnet.specs.declared.window_tables.Window.{Window}
 use Rattle.fp_flatnet.specs.Tables.{windows_in}
@@ -31,24 +32,24 @@ allowed-class s sides k c is h =
     let qs : List ℕ = points_in net (tail_in net c.arc) in
     (exists, point (windows_in s.windows k c.arc) parts.1 qs (tail-points net c.arc is.whole.valid exists).zero (ap (points_in net) (sym tail)))
   where
-    point : (o : Option Window) → IsSomeAnd o (HasMoment s.problem (points_in s.network) sides k c) → (qs : List ℕ) → has_point qs 0 ≡ true →
-        points_in s.network (tails_of s.problem c.arc) ≡ qs → has_point qs c.depart ≡ true
+    point : (o : Option Window) → IsSomeAnd o (HasMoment s.problem (points_in s.network) sides k c) → (qs : List ℕ) → list_has qs 0 ≡ true →
+        points_in s.network (tails_of s.problem c.arc) ≡ qs → list_has qs c.depart ≡ true
     point None has qs zero same = absurd has
     point (Some w) has qs zero same =
-        subst (λ (q : ℕ). has_point qs q ≡ true) (ap (λ (l : List ℕ). floor_point l 1 has.moment) (sym same) ∙ has.falls) (IsFloorPoint-floor_point qs has.moment zero).0
+        subst (λ (q : ℕ). list_has qs q ≡ true) (ap (λ (l : List ℕ). floor_point l 1 has.moment) (sym same) ∙ has.falls) (IsFloorPoint-floor_point qs has.moment zero).0
 
-is_class-true : (net : TimedNetwork) (c : Leg) → IsClass net c → (nat_lt c.arc (length net.tails) && has_point (points_in net (tail_in net c.arc)) c.depart) ≡ true
-is_class-true net c is = and_from (nat_lt c.arc (length net.tails)) (has_point (points_in net (tail_in net c.arc)) c.depart) (lt-ltb c.arc (length net.tails) is.0) is.1
+is_class-true : (net : TimedNetwork) (c : Leg) → IsClass net c → (nat_lt c.arc (length net.tails) && list_has (points_in net (tail_in net c.arc)) c.depart) ≡ true
+is_class-true net c is = and_from (nat_lt c.arc (length net.tails)) (list_has (points_in net (tail_in net c.arc)) c.depart) (lt-ltb c.arc (length net.tails) is.0) is.1
 
 pub is_class-parts : (net : TimedNetwork) (row : List Bool) (c : Leg) → row_allows net row c ≡ true → IsClass net c × (bit_of row (class_number net c) ≡ true)
 is_class-parts net row c h =
-    let outer = and_parts (nat_lt c.arc (length net.tails) && has_point (points_in net (tail_in net c.arc)) c.depart) (bit_of row (class_number net c)) h in
-    let inner = and_parts (nat_lt c.arc (length net.tails)) (has_point (points_in net (tail_in net c.arc)) c.depart) outer.0 in
+    let outer = and_parts (nat_lt c.arc (length net.tails) && list_has (points_in net (tail_in net c.arc)) c.depart) (bit_of row (class_number net c)) h in
+    let inner = and_parts (nat_lt c.arc (length net.tails)) (list_has (points_in net (tail_in net c.arc)) c.depart) outer.0 in
     ((ltb-true c.arc (length net.tails) inner.0, inner.1), outer.1)
 
 pub row_allows-from : (net : TimedNetwork) (row : List Bool) (c : Leg) → IsClass net c → bit_of row (class_number net c) ≡ true → row_allows net row c ≡ true
 row_allows-from net row c is set =
-    and_from (nat_lt c.arc (length net.tails) && has_point (points_in net (tail_in net c.arc)) c.depart) (bit_of row (class_number net c)) (is_class-true net c is) set
+    and_from (nat_lt c.arc (length net.tails) && list_has (points_in net (tail_in net c.arc)) c.depart) (bit_of row (class_number net c)) (is_class-true net c is) set
 
 -- at each leg the row tells
 row-tells : (s : Setting) (sides : List Side) (k : ℕ) (row : List Bool) → IsSetting s → IsRowUnder s sides k row → (c : Leg) → row_allows s.network row c ≡ allowed_in s sides k c

@@ -2,6 +2,7 @@
 use Rattle.std.proofs.Common.{◌≡◌, ℕ, zero, suc, ◌+◌, ◌<◌, ◌≤◌, Bool, false, ◌&&◌, ◌||◌, List, [], ◌∷◌, length, ⊎_elim, refl, sym, ap, ◌∙◌, subst}
 use Rattle.std.specs.Prelude.{Option, Some, None, nat_eq, nat_le, nat_lt}
 use Rattle.std.proofs.lemmas.Bool.{and_left, cases_lt, le-ltb}
+use Rattle.fp_lists.proofs.CountsBelow.{some_below-same}
 use Rattle.fp_model.specs.declared.parts.Leg.{Leg}
 use Rattle.fp_model.specs.declared.parts.Shipment.{Shipment}
 use Rattle.fp_model.specs.Problem.{IsValid, Problem, arc_at, no_arc}
@@ -10,14 +11,10 @@ use Rattle.fp_timenodes.proofs.Floors.{floor_same}
 use Rattle.fp_flatnet.specs.declared.window_tables.Window.{Window}
 use Rattle.fp_longestarcs.specs.Classes.{class_of, head_of}
 use Rattle.fp_tree.specs.declared.sides.Side.{Side}
-use Rattle.fp_allowed.specs.Allowed.{exit_of, has_moment, is_allowed, is_moment, meets_all, some_below, tails_of}
+use Rattle.fp_allowed.specs.Allowed.{exit_of, has_moment, is_allowed, is_moment, meets_all, tails_of}
+use Rattle.fp_lists.specs.Below.{some_below}
 use Rattle.fp_allowed.specs.SamePoints.{AgreeOnPoints}
 use Rattle.fp_allowed.specs.Walks.{FollowsHeads, IsTimedWalk}
-
--- tests that agree
-some_below_same : (n : ℕ) (f g : ℕ → Bool) → ((m : ℕ) → f m ≡ g m) → some_below n f ≡ some_below n g
-some_below_same zero f g same = refl
-some_below_same (suc n) f g same = ap (λ (b : Bool). b || some_below n f) (same n) ∙ ap (λ (b : Bool). g n || b) (some_below_same n f g same)
 
 -- agreement goes both ways
 pub AgreeOnPoints_sym : (p : Problem) (points others : ℕ → List ℕ) → AgreeOnPoints p points others → AgreeOnPoints p others points
@@ -28,7 +25,7 @@ module _ (p : Problem) (valid : IsValid p) (points others : ℕ → List ℕ) (s
   has_moment_same : (sides : List Side) (k : ℕ) (c : Leg) (o : Option Window) → c.arc < length p.arcs → has_moment p points sides k c o ≡ has_moment p others sides k c o
   has_moment_same sides k c None h = refl
   has_moment_same sides k c (Some w) h =
-      some_below_same (w.hi + 1) (is_moment p points sides k c w) (is_moment p others sides k c w) (λ m.
+      some_below-same (w.hi + 1) (is_moment p points sides k c w) (is_moment p others sides k c w) (λ m.
       ap (λ (n : ℕ). nat_eq n c.depart && nat_le w.lo m && nat_le m w.hi && meets_all k sides (exit_of p (record { arc = c.arc; depart = m })))
       (floor_same (points (tails_of p c.arc)) (others (tails_of p c.arc)) 1 m (same (tails_of p c.arc) (valid.parts.arcs c.arc no_arc h).from)))
 

@@ -4,9 +4,10 @@
 -- Problem", Operations Research 65, 2017. Sides and forced chains are this project's own.
 use Rattle.std.specs.Prelude.{ℕ, zero, suc, ◌+◌, ◌≡◌, ◌≢◌, List, [], ◌∷◌, ◌++◌, length, Bool, true, false, ◌&&◌, ◌||◌, not, nat_eq, nat_lt, nat_le, Option, Some, None, All, Contains}
 use Rattle.std.specs.List.{AllByRecursion, list_all}
+use Rattle.fp_lists.specs.Below.{some_below}
 use Rattle.fp_model.specs.declared.parts.Leg.{Leg}
 use Rattle.fp_model.specs.declared.parts.Shipment.{Shipment}
-use Rattle.fp_model.specs.Numbered.{AllFrom}
+use Rattle.fp_lists.specs.Numbered.{AllFrom}
 use Rattle.fp_model.specs.Problem.{Problem, arc_at}
 use Rattle.fp_timenodes.specs.Floor.{floor_point}
 use Rattle.fp_flatnet.specs.declared.window_tables.Window.{Window}
@@ -36,11 +37,6 @@ meets_all k sides e = list_all (meets k e) sides
 -- each of some sides is one of others
 abbrev pub AreAmong : List Side → List Side → Type 0
 AreAmong fewer sides = All (λ side. Contains sides side) fewer
-
--- whether some number below n passes the test
-abbrev pub some_below : ℕ → (ℕ → Bool) → Bool
-some_below zero test = false
-some_below (suc n) test = test n || some_below n test
 
 -- whether m is a moment of the class that lies in the window and meets the sides
 abbrev pub is_moment : Problem → (ℕ → List ℕ) → List Side → ℕ → Leg → Window → ℕ → Bool

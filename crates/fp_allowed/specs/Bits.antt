@@ -3,7 +3,7 @@ use Rattle.std.specs.Prelude.{ℕ, ◌≡◌, ◌≤◌, List, length, map, Bool
 use Rattle.fp_model.specs.declared.parts.Leg.{Leg}
 use Rattle.fp_model.specs.Numbered.{route_at, shipment_at}
 use Rattle.fp_model.specs.Plans.{IsPlan}
-use Rattle.fp_timenodes.specs.Floor.{has_point}
+use Rattle.fp_lists.specs.Membership.{list_has}
 use Rattle.fp_flatnet.specs.Tables.{windows_in}
 use Rattle.fp_flatnet.specs.Windows.{PlanLiesWithin}
 use Rattle.fp_longestarcs.specs.Classes.{class_of}
@@ -25,7 +25,7 @@ pub record FillsArc (net : TimedNetwork) (arc : ℕ) (test : Leg → Bool) (old 
 -- whether a leg is a class of the network whose bit is set
 abbrev pub row_allows : TimedNetwork → List Bool → Leg → Bool
 row_allows net row c =
-    nat_lt c.arc (length net.tails) && has_point (points_in net (tail_in net c.arc)) c.depart && bit_of row (class_number net c)
+    nat_lt c.arc (length net.tails) && list_has (points_in net (tail_in net c.arc)) c.depart && bit_of row (class_number net c)
 
 -- whether a class is allowed in a setting
 abbrev pub allowed_in : Setting → List Side → ℕ → Leg → Bool

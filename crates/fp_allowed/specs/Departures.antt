@@ -1,5 +1,6 @@
 -- The departures that a shipment has left at a terminal, and splits that divide them.
 use Rattle.std.specs.Prelude.{ℕ, zero, suc, ◌+◌, ◌≡◌, ◌<◌, ◌≤◌, List, [], ◌∷◌, ◌++◌, length, Bool, ◌&&◌, nat_eq, nat_le, Option, Some, None, if◌then◌else◌}
+use Rattle.fp_lists.specs.Below.{count_below}
 use Rattle.fp_model.specs.Problem.{Problem}
 use Rattle.fp_timenodes.specs.declared.places.TheConstants.{LATEST}
 use Rattle.fp_flatnet.specs.declared.window_tables.Window.{Window}
@@ -8,11 +9,6 @@ use Rattle.fp_tree.specs.declared.sides.Split.{Split}
 use Rattle.fp_tree.specs.declared.sides.Split.TheVariants.{ByArc, ByTime}
 use Rattle.fp_tree.specs.Sides.{first_of_split, second_of_split}
 use Rattle.fp_allowed.specs.Allowed.{exit_of, meets_all, tails_of}
-
--- how many numbers below n pass the test
-abbrev pub count_below : ℕ → (ℕ → Bool) → ℕ
-count_below zero test = 0
-count_below (suc n) test = (if test n then 1 else 0) + count_below n test
 
 -- whether a leg of the shipment with the number k by an arc can leave at a whole moment: the window has begun, and no side forbids it
 abbrev pub is_departure : Problem → List Side → ℕ → ℕ → Window → ℕ → Bool

@@ -2,8 +2,10 @@
 use Rattle.std.proofs.Common.{◌≡◌, ℕ, zero, suc, ◌+◌, ◌<◌, List, [], ◌∷◌, length, refl, sym, ap, ◌∙◌, subst, arith, rules}
 use Rattle.std.specs.Prelude.{Option, Some, None, All, slice_index_or}
 use Rattle.std.proofs.lemmas.List.{ext_get_or}
+use Rattle.fp_lists.proofs.Numbered.{AllFrom-get_or_zero}
 use Rattle.fp_model.specs.declared.parts.Shipment.{Shipment}
-use Rattle.fp_model.specs.Numbered.{AllFrom, no_shipment, shipment_at}
+use Rattle.fp_model.specs.Numbered.{no_shipment, shipment_at}
+use Rattle.fp_lists.specs.Numbered.{AllFrom}
 use Rattle.fp_model.specs.Problem.{Problem, arc_at}
 use Rattle.fp_flatnet.specs.declared.window_tables.Window.{Window}
 use Rattle.fp_flatnet.specs.Belonging.{BelongsTo}
@@ -11,22 +13,6 @@ use Rattle.fp_flatnet.specs.Tables.{WindowTable, windows_in}
 use Rattle.fp_flatnet.specs.Windows.{IsWindow, IsWindowOrNone, time_after, time_before}
 use Rattle.fp_flatnet.proofs.Walks.{IsLeastTime-unique}
 use Rattle.fp_app.specs.Checks.{AreWindowsOf}
-
--- what holds of all elements and their numbers holds at a number
-all-from : {X : Type 0} (P : ℕ → X → Type 0) (xs : List X) (d : X) (i k : ℕ) → AllFrom P i xs → k < length xs → P (i + k) (slice_index_or xs k d)
-all-from P [] d i k all lt = absurd (omega (arith, lt))
-all-from {X} P (x ∷ xs) d i zero all lt =
-    let same : i ≡ i + 0 = omega arith in
-    subst (λ (n : ℕ). P n x) same all.0
-all-from {X} P (x ∷ xs) d i (suc k) all lt =
-    let there : P (i + 1 + k) (slice_index_or xs k d) = all-from P xs d (i + 1) k all.1 (omega (arith, lt)) in
-    let on : i + 1 + k ≡ i + suc k = omega arith in
-    subst (λ (n : ℕ). P n (slice_index_or xs k d)) on there
-
-all-at : {X : Type 0} (P : ℕ → X → Type 0) (xs : List X) (d : X) (k : ℕ) → AllFrom P 0 xs → k < length xs → P k (slice_index_or xs k d)
-all-at {X} P xs d k all lt =
-    let same : 0 + k ≡ k = omega arith in
-    subst (λ (n : ℕ). P n (slice_index_or xs k d)) same (all-from P xs d 0 k all lt)
 
 -- a shipment and an arc have one window
 window-unique : (p : Problem) (s : Shipment) (a : ℕ) (v w : Window) → IsWindow p s a v → IsWindow p s a w → v ≡ w
@@ -57,8 +43,8 @@ entry-same : (p : Problem) (one two : WindowTable) → AreWindowsOf p one → Ar
     windows_in one k a ≡ windows_in two k a
 entry-same p one two first second k a ship arc =
     option-unique p (shipment_at p k) a (windows_in one k a) (windows_in two k a)
-    (all-at (λ (k : ℕ) (s : Shipment). (a : ℕ) → a < length p.arcs → IsWindowOrNone p s a (windows_in one k a)) p.shipments no_shipment k first.exact ship a arc)
-    (all-at (λ (k : ℕ) (s : Shipment). (a : ℕ) → a < length p.arcs → IsWindowOrNone p s a (windows_in two k a)) p.shipments no_shipment k second.exact ship a arc)
+    (AllFrom-get_or_zero (λ (k : ℕ) (s : Shipment). (a : ℕ) → a < length p.arcs → IsWindowOrNone p s a (windows_in one k a)) p.shipments no_shipment k first.exact ship a arc)
+    (AllFrom-get_or_zero (λ (k : ℕ) (s : Shipment). (a : ℕ) → a < length p.arcs → IsWindowOrNone p s a (windows_in two k a)) p.shipments no_shipment k second.exact ship a arc)
 
 -- the row of a shipment is as long as there are arcs
 row-long : (p : Problem) (table : WindowTable) → BelongsTo p table → (k : ℕ) → k < length p.shipments → length (slice_index_or table.rows k []) ≡ length p.arcs

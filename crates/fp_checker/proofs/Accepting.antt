@@ -3,6 +3,7 @@ use Rattle.std.proofs.Common.{◌≡◌, ℕ, ◌*◌, ◌<◌, ◌≤◌, List,
 use Rattle.std.specs.Prelude.{Option, Some, None, slice_index_or}
 use Rattle.std.specs.List.{AllByRecursion}
 use Rattle.std.specs.Int.{div_ceil}
+use Rattle.fp_lists.proofs.Elements.{AnyByRecursion-all}
 use Rattle.fp_model.specs.declared.parts.Leg.{Leg}
 use Rattle.fp_model.specs.declared.parts.Shipment.{Shipment}
 use Rattle.fp_model.specs.Costs.{cost}
@@ -10,8 +11,8 @@ use Rattle.fp_model.specs.Numbered.{no_shipment, shipment_at}
 use Rattle.fp_model.specs.Plans.{PlanExists}
 use Rattle.fp_model.specs.Problem.{Problem, IsValid, arc_at}
 use Rattle.fp_model.specs.Routes.{Carries, arcs_of}
-use Rattle.fp_model.proofs.Ceilings.{div_ceil-least}
-use Rattle.fp_model.proofs.Places.{AllZip-places}
+use Rattle.fp_lists.proofs.Ceilings.{div_ceil-least}
+use Rattle.fp_lists.proofs.Numbered.{AllZip-get_or}
 use Rattle.fp_flatnet.specs.Tables.{WindowTable, windows_in}
 use Rattle.fp_flatnet.specs.Windows.{AreWindows, CoverPlans}
 use Rattle.fp_flatnet.proofs.InTime.{carried-time}
@@ -20,7 +21,8 @@ use Rattle.fp_tree.specs.declared.sides.Side.{Side}
 use Rattle.fp_tree.specs.declared.sides.Split.{Split}
 use Rattle.fp_tree.specs.declared.sides.Split.TheVariants.{ByArc, ByTime}
 use Rattle.fp_tree.specs.Sides.{IsTailOfSplit}
-use Rattle.fp_tree.specs.Trees.{AnyByRecursion, HaveTails, Leaf, tree_leaves}
+use Rattle.fp_tree.specs.Trees.{HaveTails, Leaf, tree_leaves}
+use Rattle.fp_lists.specs.Elements.{AnyByRecursion}
 use Rattle.fp_prices.specs.Leaves.{IsLeafEmpty, IsLeafValue, IsPlanOfLeaf}
 use Rattle.fp_prices.specs.Prices.{AllKeepRule}
 use Rattle.fp_prices.proofs.PlanBounds.{leaf-bounds, leaf-empty}
@@ -35,12 +37,6 @@ use Rattle.fp_checker.specs.Accepted.{Applies, IsAccepted, IsBlockedAs, IsTooLat
 use Rattle.fp_checker.specs.Claims.{AcceptedClaims, Claims, ClaimsWithin, NoPlanWithinCheaper}
 use Rattle.fp_checker.specs.Leaves.{AreLeavesWorth, HasTree, IsLeafWorth, fork_of, split_tail}
 use Rattle.fp_checker.specs.Points.{points_as_of}
-
--- where some element is one and all are the other, one is both
-any-of-all : {X : Type 0} (P Q : X → Type 0) (goal : Type 0) → ((x : X) → P x → Q x → goal) → (xs : List X) → AnyByRecursion P xs → AllByRecursion Q xs → goal
-any-of-all P Q goal h [] any all = absurd any
-any-of-all P Q goal h (x ∷ xs) any all =
-    ⊎_elim (λ (here : P x). h x here all.0) (λ (later : AnyByRecursion P xs). any-of-all P Q goal h xs later all.1) any
 
 -- a plan of a leaf costs at least what the leaf is worth
 worth-le : (p : Problem) (table : WindowTable) (c : Statement) (claim d : ℕ) (plan : List (List Leg)) (x : Node) (sides : List Side) → IsValid p → AllKeepRule p c.tables →
@@ -74,7 +70,7 @@ have-tails p (node.Leaf price ∷ nodes) = (tt, have-tails p nodes)
 worth-within : (p : Problem) (table : WindowTable) (c : Statement) (claim : ℕ) → IsValid p → AllKeepRule p c.tables → HasTree p c → AreLeavesWorth p table c claim →
     NoPlanWithinCheaper p (windows_in table) claim
 worth-within p table c claim valid keep tree worth d plan some is within =
-    any-of-all _ (λ (l : Leaf Node). IsLeafWorth p table c claim l.node l.sides) (claim ≤ cost p plan)
+    AnyByRecursion-all _ (λ (l : Leaf Node). IsLeafWorth p table c claim l.node l.sides) (claim ≤ cost p plan)
     (λ l obeys here. worth-le p table c claim d plan l.node l.sides valid keep (record { denominator = some; plan = is; within = within; obeys = obeys }) here)
     (tree_leaves (fork_of p) c.tree)
     (plan-obeys-leaf p (fork_of p) c.tree d plan (have-tails p c.tree) tree.tree is)
@@ -89,7 +85,7 @@ too-late p s (Some t) d legs is some carries =
 no-plan : (p : Problem) (k : ℕ) (time : Option ℕ) → k < length p.shipments → IsTooLate p (shipment_at p k) time → PlanExists p → ⊥
 no-plan p k time exists is plan =
     too-late p (shipment_at p k) time plan.0 (slice_index_or plan.1 k []) is plan.2
-    (AllZip-places (Carries p plan.0) p.shipments plan.1 no_shipment [] plan.3 k exists)
+    (AllZip-get_or (Carries p plan.0) p.shipments plan.1 k no_shipment [] plan.3 exists)
 
 -- what the parts that bound plans make true
 accepted-within : (p : Problem) (table : WindowTable) (c : Statement) (claim : ℕ) → IsValid p → IsAccepted p table c → Applies c.answer Part.Prices → Applies c.answer Part.Tree →

@@ -10,9 +10,11 @@ use Rattle.fp_timenodes.specs.declared.places.Added.{Added}
 use Rattle.fp_timenodes.specs.declared.places.Added.TheVariants as added
 use Rattle.fp_timenodes.specs.declared.places.AddedPoint.{AddedPoint}
 use Rattle.fp_timenodes.specs.declared.places.Place.{Place}
-use Rattle.fp_timenodes.specs.Floor.{HaveSamePoints, has_point}
+use Rattle.fp_timenodes.specs.Floor.{HaveSamePoints}
+use Rattle.fp_lists.specs.Membership.{list_has}
 use Rattle.fp_timenodes.specs.Points.{TimePoints, added_at, greatest_round, points_at, times_at}
-use Rattle.fp_timenodes.proofs.PointLists.{has_point_rest, has_point_first, has_point_cases, has_point-append, or_right_comm}
+use Rattle.fp_lists.proofs.Truth.{or_right_comm}
+use Rattle.fp_lists.proofs.Membership.{list_has-append, list_has-rest, list_has-first, list_has-cons_cases}
 use Rattle.fp_flatnet.specs.Initial.{BeginAt, initial_points}
 use Rattle.fp_lines.specs.Ranges.{IsPointInRange}
 use Rattle.fp_checker.specs.Points.{AreAddedPoints, ArePointsOf, points_with}
@@ -20,7 +22,7 @@ use Rattle.fp_checker.proofs.RoundCounts.{RoundsAscend, count_in, few-in_all}
 
 -- a point is none of the initial ones
 abbrev pub IsNew : Problem → List Place → AddedPoint → Type 0
-IsNew p anchors q = has_point (initial_points p anchors q.terminal) q.at ≡ false
+IsNew p anchors q = list_has (initial_points p anchors q.terminal) q.at ≡ false
 
 -- two points differ
 abbrev pub AreTwo : AddedPoint → AddedPoint → Type 0
@@ -37,14 +39,14 @@ pub record AreMadeOf (p : Problem) (anchors : List Place) (added : List AddedPoi
 
 -- a point that was added is there
 added_at-has : (added : List AddedPoint) (terminal round : ℕ) (k : ℕ) (d : AddedPoint) → k < length added → (get_or added k d).terminal ≡ terminal → (get_or added k d).round ≤ round →
-    has_point (added_at added terminal round) (get_or added k d).at ≡ true
+    list_has (added_at added terminal round) (get_or added k d).at ≡ true
 added_at-has [] terminal round k d lt own early = absurd (omega (arith, lt))
 added_at-has (q ∷ added) terminal round zero d lt own early =
-    rw (eq-eqb q.terminal terminal own, le-leb q.round round early) (has_point_first q.at (added_at added terminal round))
+    rw (eq-eqb q.terminal terminal own, le-leb q.round round early) (list_has-first q.at (added_at added terminal round))
 added_at-has (q ∷ added) terminal round (suc k) d lt own early =
-    let later : has_point (added_at added terminal round) (get_or added k d).at ≡ true = added_at-has added terminal round k d (omega (arith, lt)) own early in
+    let later : list_has (added_at added terminal round) (get_or added k d).at ≡ true = added_at-has added terminal round k d (omega (arith, lt)) own early in
     ⊎_elim
-    (λ (h : (q.terminal == terminal && nat_le q.round round) ≡ true). rw h (has_point_rest q.at (added_at added terminal round) (get_or added k d).at later))
+    (λ (h : (q.terminal == terminal && nat_le q.round round) ≡ true). rw h (list_has-rest q.at (added_at added terminal round) (get_or added k d).at later))
     (λ (h : (q.terminal == terminal && nat_le q.round round) ≡ false). rw h later)
     (cases_Bool (q.terminal == terminal && nat_le q.round round))
 
@@ -58,19 +60,19 @@ pub record WasAdded (added : List AddedPoint) (terminal at : ℕ) (d : AddedPoin
 added-later : (q : AddedPoint) (added : List AddedPoint) (terminal at : ℕ) (d : AddedPoint) → WasAdded added terminal at d → WasAdded (q ∷ added) terminal at d
 added-later q added terminal at d was = record { place = suc was.place; within = omega (arith, was.within); own = was.own; time = was.time }
 
-was-added : (added : List AddedPoint) (terminal round at : ℕ) (d : AddedPoint) → has_point (added_at added terminal round) at ≡ true → WasAdded added terminal at d
+was-added : (added : List AddedPoint) (terminal round at : ℕ) (d : AddedPoint) → list_has (added_at added terminal round) at ≡ true → WasAdded added terminal at d
 was-added [] terminal round at d has = absurd (false≢true has)
 was-added (q ∷ added) terminal round at d has =
     ⊎_elim
     (λ (h : (q.terminal == terminal && nat_le q.round round) ≡ true).
     let parts = and_parts (q.terminal == terminal) (nat_le q.round round) h in
-    let here : has_point (q.at ∷ added_at added terminal round) at ≡ true = rw h at has in
+    let here : list_has (q.at ∷ added_at added terminal round) at ≡ true = rw h at has in
     ⊎_elim
     (λ (same : q.at ≡ at). record { place = 0; within = omega arith; own = eqb-true q.terminal terminal parts.0; time = same })
-    (λ (later : has_point (added_at added terminal round) at ≡ true). added-later q added terminal at d (was-added added terminal round at d later))
-    (has_point_cases q.at (added_at added terminal round) at here))
+    (λ (later : list_has (added_at added terminal round) at ≡ true). added-later q added terminal at d (was-added added terminal round at d later))
+    (list_has-cons_cases q.at (added_at added terminal round) at here))
     (λ (h : (q.terminal == terminal && nat_le q.round round) ≡ false).
-    let rest : has_point (added_at added terminal round) at ≡ true = rw h at has in
+    let rest : list_has (added_at added terminal round) at ≡ true = rw h at has in
     added-later q added terminal at d (was-added added terminal round at d rest))
     (cases_Bool (q.terminal == terminal && nat_le q.round round))
 
@@ -80,15 +82,15 @@ pub made-same : (p : Problem) (anchors : List Place) (added : List AddedPoint) (
 made-same p anchors added v terminal round made lt at =
     let first : List ℕ = times_at v.first terminal in
     let later : List ℕ = added_at added terminal round in
-    let known : has_point (points_at v terminal round) at ≡ has_point (first ++ (later ++ 0 ∷ [])) at =
-    ap (λ (qs : List AddedPoint). has_point (first ++ (added_at qs terminal round ++ 0 ∷ [])) at) made.added_is in
+    let known : list_has (points_at v terminal round) at ≡ list_has (first ++ (later ++ 0 ∷ [])) at =
+    ap (λ (qs : List AddedPoint). list_has (first ++ (added_at qs terminal round ++ 0 ∷ [])) at) made.added_is in
     known
-    ∙ ap (λ (qs : List ℕ). has_point qs at) (sym (append_assoc first later (0 ∷ [])))
-    ∙ has_point-append (first ++ later) (0 ∷ []) at
-    ∙ ap (λ (b : Bool). b || has_point (0 ∷ []) at) (has_point-append first later at)
-    ∙ or_right_comm (has_point first at) (has_point later at) (has_point (0 ∷ []) at)
-    ∙ ap (λ (b : Bool). b || has_point later at) (sym (has_point-append first (0 ∷ []) at) ∙ made.start terminal lt at)
-    ∙ sym (has_point-append (initial_points p anchors terminal) later at)
+    ∙ ap (λ (qs : List ℕ). list_has qs at) (sym (append_assoc first later (0 ∷ [])))
+    ∙ list_has-append (first ++ later) (0 ∷ []) at
+    ∙ ap (λ (b : Bool). b || list_has (0 ∷ []) at) (list_has-append first later at)
+    ∙ or_right_comm (list_has first at) (list_has later at) (list_has (0 ∷ []) at)
+    ∙ ap (λ (b : Bool). b || list_has later at) (sym (list_has-append first (0 ∷ []) at) ∙ made.start terminal lt at)
+    ∙ sym (list_has-append (initial_points p anchors terminal) later at)
 
 -- at first none is added
 pub made-first : (p : Problem) (anchors : List Place) (v : TimePoints) → BeginAt p anchors v → v.added ≡ [] → length v.first ≤ 31000 → AreMadeOf p anchors [] v
@@ -97,7 +99,7 @@ made-first p anchors v begins unadded few = record {
   few_first = few;
   added_is = unadded;
   start = λ terminal lt at.
-      sym (ap (λ (qs : List AddedPoint). has_point (times_at v.first terminal ++ (added_at qs terminal 0 ++ 0 ∷ [])) at) unadded) ∙ begins.same terminal lt at;
+      sym (ap (λ (qs : List AddedPoint). list_has (times_at v.first terminal ++ (added_at qs terminal 0 ++ 0 ∷ [])) at) unadded) ∙ begins.same terminal lt at;
   new = λ k d lt. absurd (omega (arith, lt));
   once = λ i j d less lt. absurd (omega (arith, lt));
 }
@@ -132,19 +134,19 @@ neither false b h = (refl, h)
 
 -- one more point, where it is new
 pub made-more : (p : Problem) (anchors : List Place) (added : List AddedPoint) (v w : TimePoints) (i : ℕ) (d : AddedPoint) → AreMadeOf p anchors (take i added) v → RoundsAscend added → i < length added →
-    (get_or added i d).terminal < length p.terminals → has_point (points_at v (get_or added i d).terminal (get_or added i d).round) (get_or added i d).at ≡ false →
+    (get_or added i d).terminal < length p.terminals → list_has (points_at v (get_or added i d).terminal (get_or added i d).round) (get_or added i d).at ≡ false →
     w ≡ record v { added = v.added ++ (get_or added i d ∷ []) } → AreMadeOf p anchors (take (i + 1) added) w
 made-more p anchors added v w i d made rise lt exists none is =
     let q : AddedPoint = get_or added i d in
     let more : take (i + 1) added ≡ take i added ++ (q ∷ []) = take_more added i d lt in
-    let both = neither (has_point (initial_points p anchors q.terminal) q.at) (has_point (added_at (take i added) q.terminal q.round) q.at)
-    (sym (made-same p anchors (take i added) v q.terminal q.round made exists q.at ∙ has_point-append (initial_points p anchors q.terminal) (added_at (take i added) q.terminal q.round) q.at) ∙ none) in
+    let both = neither (list_has (initial_points p anchors q.terminal) q.at) (list_has (added_at (take i added) q.terminal q.round) q.at)
+    (sym (made-same p anchors (take i added) v q.terminal q.round made exists q.at ∙ list_has-append (initial_points p anchors q.terminal) (added_at (take i added) q.terminal q.round) q.at) ∙ none) in
     let differs : (k : ℕ) (e : AddedPoint) → k < length (take i added) → AreTwo (get_or (take i added) k e) q =
     λ k e less same_terminal same_at.
     let at = before-place added i k e lt less in
-    let there : has_point (added_at (take i added) q.terminal q.round) (get_or (take i added) k e).at ≡ true =
+    let there : list_has (added_at (take i added) q.terminal q.round) (get_or (take i added) k e).at ≡ true =
     added_at-has (take i added) q.terminal q.round k e less same_terminal (omega (arith, ap (λ (r : AddedPoint). r.round) at.1, rise k i e at.0 lt, ap (λ (r : AddedPoint). r.round) (get_or_default added i e d lt))) in
-    false≢true (sym (subst (λ (n : ℕ). has_point (added_at (take i added) q.terminal q.round) n ≡ false) (sym same_at) both.1) ∙ there) in
+    false≢true (sym (subst (λ (n : ℕ). list_has (added_at (take i added) q.terminal q.round) n ≡ false) (sym same_at) both.1) ∙ there) in
     record {
       terminals = ap (λ (x : TimePoints). x.terminals) is ∙ made.terminals;
       few_first = subst (λ (x : TimePoints). length x.first ≤ 31000) (sym is) made.few_first;
@@ -156,17 +158,17 @@ made-more p anchors added v w i d made rise lt exists none is =
 
 -- a point that is there already is initial, or stands twice
 pub made-there : (p : Problem) (anchors : List Place) (added : List AddedPoint) (v : TimePoints) (i : ℕ) (d : AddedPoint) → AreMadeOf p anchors (take i added) v → i < length added →
-    (get_or added i d).terminal < length p.terminals → has_point (points_at v (get_or added i d).terminal (get_or added i d).round) (get_or added i d).at ≡ true → AreAddedPoints p anchors added → ⊥
+    (get_or added i d).terminal < length p.terminals → list_has (points_at v (get_or added i d).terminal (get_or added i d).round) (get_or added i d).at ≡ true → AreAddedPoints p anchors added → ⊥
 made-there p anchors added v i d made lt exists there are =
     let q : AddedPoint = get_or added i d in
     ⊎_elim
-    (λ (first : has_point (initial_points p anchors q.terminal) q.at ≡ true). false≢true (sym (are.new i d lt) ∙ first))
-    (λ (later : has_point (added_at (take i added) q.terminal q.round) q.at ≡ true).
+    (λ (first : list_has (initial_points p anchors q.terminal) q.at ≡ true). false≢true (sym (are.new i d lt) ∙ first))
+    (λ (later : list_has (added_at (take i added) q.terminal q.round) q.at ≡ true).
     let was = was-added (take i added) q.terminal q.round q.at d later in
     let at = before-place added i was.place d lt was.within in
     are.once was.place i d at.0 lt (sym (ap (λ (r : AddedPoint). r.terminal) at.1) ∙ was.own) (sym (ap (λ (r : AddedPoint). r.at) at.1) ∙ was.time))
-    (or_cases (has_point (initial_points p anchors q.terminal) q.at) (has_point (added_at (take i added) q.terminal q.round) q.at)
-    (sym (made-same p anchors (take i added) v q.terminal q.round made exists q.at ∙ has_point-append (initial_points p anchors q.terminal) (added_at (take i added) q.terminal q.round) q.at) ∙ there))
+    (or_cases (list_has (initial_points p anchors q.terminal) q.at) (list_has (added_at (take i added) q.terminal q.round) q.at)
+    (sym (made-same p anchors (take i added) v q.terminal q.round made exists q.at ∙ list_has-append (initial_points p anchors q.terminal) (added_at (take i added) q.terminal q.round) q.at) ∙ there))
 
 -- all are added
 pub made-all : (p : Problem) (anchors : List Place) (added : List AddedPoint) (v : TimePoints) (i : ℕ) → IsValid p → AreMadeOf p anchors (take i added) v → length added ≤ i →

@@ -8,9 +8,10 @@ use Rattle.fp_model.specs.declared.parts.Leg.{Leg}
 use Rattle.fp_model.specs.Costs.{all_legs, departure_cost, departures_cost, distinct, has_leg, load, same_leg, trucks}
 use Rattle.fp_model.specs.Problem.{Problem, arc_at}
 use Rattle.fp_model.proofs.Distinct.{distinct_sum-occur, same_leg-refl, same_leg-true}
-use Rattle.fp_model.proofs.Sums.{sum_by-each, sum_by-map}
+use Rattle.fp_lists.proofs.Sums.{sum_by-map, sum_by-same_each}
 use Rattle.fp_timetable.specs.declared.lines.TruckLine.{TruckLine}
-use Rattle.fp_timetable.specs.Lines.{AreTruckLines, Precedes, departure}
+use Rattle.fp_timetable.specs.Lines.{AreTruckLines, departure}
+use Rattle.fp_lists.specs.Order.{Precedes}
 use Rattle.fp_timetable.proofs.Pairs.{EachPair, EachPair-AllPairs}
 use Rattle.fp_checker.specs.Plans.{line_cost}
 
@@ -120,7 +121,7 @@ distinct-once (k ∷ legs) pairs =
 -- the trucks of the lines cost what those of the departures do
 pub sum-lines : (p : Problem) (R : List (List Leg)) (lines : List TruckLine) → AreTruckLines p R lines → sum_by (line_cost p) lines ≡ departures_cost p R (all_legs R)
 sum-lines p R lines are =
-    sum_by-each (line_cost p) (λ (t : TruckLine). departure_cost p R (departure t)) lines
+    sum_by-same_each (line_cost p) (λ (t : TruckLine). departure_cost p R (departure t)) lines
     (costs-told lines (recursion_from_All (λ (t : TruckLine). t.trucks ≡ trucks p R (departure t)) lines are.trucks))
     ∙ sym (sum_by-map (departure_cost p R) departure lines)
     ∙ sym (ap (sum_by (departure_cost p R)) (distinct-once (map departure lines) (in-order p R lines are)))

@@ -1,5 +1,4 @@
 pub mod Accepting
-pub mod Ascents
 pub mod Failing
 pub mod RoundCounts
 pub mod AddedOneByOne

@@ -8,7 +8,8 @@ use Rattle.fp_flatnet.specs.declared.window_tables.Window.{Window}
 use Rattle.fp_flatnet.specs.Windows.{IsInside, PlanLiesWithin}
 use Rattle.fp_timetable.specs.declared.lines.LegLine.{LegLine}
 use Rattle.fp_timetable.specs.declared.lines.TruckLine.{TruckLine}
-use Rattle.fp_timetable.specs.Lines.{AreTruckLines, Precedes, routes_from}
+use Rattle.fp_timetable.specs.Lines.{AreTruckLines, routes_from}
+use Rattle.fp_lists.specs.Order.{Precedes}
 use Rattle.fp_lines.specs.declared.certificates.Answer.{Answer}
 use Rattle.fp_lines.specs.declared.certificates.Answer.TheVariants.{Direct, Optimal, Unfinished, Infeasible}
 use Rattle.fp_lines.specs.Statements.{Statement}

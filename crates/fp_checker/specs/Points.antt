@@ -3,7 +3,8 @@ use Rattle.std.specs.Prelude.{ℕ, ◌+◌, ◌<◌, ◌≤◌, ◌≡◌, ◌�
 use Rattle.fp_model.specs.Problem.{Problem}
 use Rattle.fp_timenodes.specs.declared.places.AddedPoint.{AddedPoint}
 use Rattle.fp_timenodes.specs.declared.places.Place.{Place}
-use Rattle.fp_timenodes.specs.Floor.{HaveSamePoints, has_point}
+use Rattle.fp_timenodes.specs.Floor.{HaveSamePoints}
+use Rattle.fp_lists.specs.Membership.{list_has}
 use Rattle.fp_timenodes.specs.Points.{TimePoints, added_at, points_at}
 use Rattle.fp_flatnet.specs.Initial.{initial_points}
 use Rattle.fp_lines.specs.Statements.{Statement}
@@ -20,7 +21,7 @@ points_as_of p anchors c round terminal = points_with p anchors c.points round t
 pub record AreAddedPoints (p : Problem) (anchors : List Place) (added : List AddedPoint) : Type 0 where
   pub rounds : AllPairs (λ (q r : AddedPoint). q.round ≤ r.round) added
   pub few : (round : ℕ) → count_by (λ (q : AddedPoint). q.round == round) added ≤ 8
-  pub new : All (λ (q : AddedPoint). has_point (initial_points p anchors q.terminal) q.at ≡ false) added
+  pub new : All (λ (q : AddedPoint). list_has (initial_points p anchors q.terminal) q.at ≡ false) added
   pub once : AllPairs (λ (q r : AddedPoint). q.terminal ≡ r.terminal → q.at ≢ r.at) added
 
 -- the points of a certificate can be added to the initial ones

@@ -9,7 +9,7 @@ use Rattle.fp_model.specs.declared.parts.Shipment.{Shipment}
 use Rattle.fp_model.specs.Numbered.{no_shipment}
 use Rattle.fp_model.specs.Problem.{Problem}
 use Rattle.fp_timenodes.specs.declared.places.Place.{Place}
-use Rattle.fp_timenodes.specs.Floor.{has_point}
+use Rattle.fp_lists.specs.Membership.{list_has}
 use Rattle.fp_timenodes.specs.Points.{IsPlace, TimePoints, times_at}
 use Rattle.fp_flatnet.specs.Belonging.{BelongsTo}
 use Rattle.fp_flatnet.specs.Initial.{BeginAt, releases_at, dues_at, release_place, due_place}
@@ -55,9 +55,9 @@ BeginAt-first_places p anchors = record {
       let times : List ℕ = times_at (first_places p anchors) terminal in
       let is_at : ℕ → Bool = λ q. q == at in
       list_any-append is_at times (0 ∷ [])
-      ∙ or_comm (has_point times at) (has_point (0 ∷ []) at)
+      ∙ or_comm (list_has times at) (list_has (0 ∷ []) at)
       ∙ sym (list_any-append is_at (0 ∷ []) times)
-      ∙ ap (λ (ts : List ℕ). has_point (0 ∷ ts) at) split;
+      ∙ ap (λ (ts : List ℕ). list_has (0 ∷ ts) at) split;
 }
 
 -- they are at terminals of the instance, and in time

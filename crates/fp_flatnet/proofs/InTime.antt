@@ -11,7 +11,7 @@ use Rattle.fp_model.specs.Plans.{PlanExists}
 use Rattle.fp_model.specs.Problem.{Problem, IsValid, IsShipment}
 use Rattle.fp_model.specs.Routes.{Leads, LeavesReady, ArrivesBy, Carries, walk_time, step, arcs_of}
 use Rattle.fp_model.specs.Times.{IsLeastTime, IsDistance}
-use Rattle.fp_model.proofs.Places.{AllZip-places}
+use Rattle.fp_lists.proofs.Numbered.{AllZip-get_or}
 use Rattle.fp_flatnet.specs.Verdicts.{IsInTime, AllInTime, IsBlocked}
 use Rattle.fp_flatnet.proofs.Walks.{IsLeastWalk-from_time, IsLeastTime-unique}
 use Rattle.fp_flatnet.proofs.AtOnce.{at_once, carries-at_once}
@@ -57,7 +57,7 @@ carried-time p d s (l ∷ legs) h carries =
 pub no_plan-blocked : (p : Problem) (k : ℕ) (o : Option ℕ) → IsBlocked p k o → PlanExists p → ⊥
 no_plan-blocked p k o blocked plan =
     let carries : Carries p plan.0 (shipment_at p k) (slice_index_or plan.1 k []) =
-    AllZip-places (Carries p plan.0) p.shipments plan.1 no_shipment [] plan.3 k blocked.exists in
+    AllZip-get_or (Carries p plan.0) p.shipments plan.1 k no_shipment [] plan.3 blocked.exists in
     late o blocked.fastest blocked.late (slice_index_or plan.1 k []) carries.route.leads
     (carried-time p plan.0 (shipment_at p k) (slice_index_or plan.1 k []) plan.2 carries)
   where

@@ -8,7 +8,7 @@ use Rattle.std.proofs.lemmas.List.Elements.{All-nil}
 use Rattle.fp_model.specs.declared.parts.Shipment.{Shipment}
 use Rattle.fp_model.specs.Numbered.{no_shipment, shipment_at}
 use Rattle.fp_model.specs.Problem.{Problem, IsValid}
-use Rattle.fp_model.proofs.Places.{from-places}
+use Rattle.fp_lists.proofs.Numbered.{AllFrom-from_get_or}
 use Rattle.fp_timenodes.specs.declared.places.Place.{Place}
 use Rattle.fp_timenodes.specs.Points.{IsPlace}
 use Rattle.fp_flatnet.specs.declared.window_tables.Window.{Window}
@@ -30,7 +30,7 @@ made-full p tails rows are same =
 -- and tell the windows of the problem
 pub made-windows : (p : Problem) (table : WindowTable) → AreWindowRows p table.rows → AreWindows p (windows_in table)
 made-windows p table are =
-    from-places (λ k (s : Shipment). (a : ℕ) → a < length p.arcs → IsWindowOrNone p s a (windows_in table k a)) p.shipments no_shipment 0
+    AllFrom-from_get_or (λ k (s : Shipment). (a : ℕ) → a < length p.arcs → IsWindowOrNone p s a (windows_in table k a)) p.shipments no_shipment 0
     (λ k lt.
     let same : k ≡ 0 + k = omega arith in
     subst (λ (n : ℕ). (a : ℕ) → a < length p.arcs → IsWindowOrNone p (shipment_at p k) a (windows_in table n a)) same (λ a there. (are.exact k lt).exact a there))

@@ -7,9 +7,12 @@ use Rattle.std.proofs.lemmas.List.{get_or_past}
 use Rattle.std.proofs.lemmas.List.Sums.{sum_by-cons, sum_by-le}
 use Rattle.fp_model.specs.declared.parts.Arc.{Arc}
 use Rattle.fp_model.specs.Problem.{Problem, IsValid, IsArc, no_arc, arc_at, hold_at}
-use Rattle.fp_model.specs.Routes.{Leads, AreApart, walk_time, step, ends_of}
+use Rattle.fp_model.specs.Routes.{Leads, walk_time, step, ends_of}
+use Rattle.fp_lists.specs.Distinct.{AreDistinct}
 use Rattle.fp_model.specs.Times.{IsLeastTime, IsDistance}
-use Rattle.fp_model.proofs.Bounds.{sum_by-places-le, AreApart-map, Leads-exist}
+use Rattle.fp_model.proofs.Bounds.{Leads-exist}
+use Rattle.fp_lists.proofs.Distinct.{AreDistinct-from_map, AreDistinct-cons, AreDistinct-nil, AreDistinct-tail}
+use Rattle.fp_lists.proofs.DistinctSums.{sum_by-places-le}
 
 -- the sum of the steps of a walk: so long after its first departure a shipment can leave the walk's end
 abbrev pub steps : Problem → List ℕ → ℕ
@@ -100,19 +103,19 @@ never-enters p x here there (a ∷ arcs) leads shorter = (
 )
 
 -- a least walk visits no terminal twice
-pub least-apart : (p : Problem) (here there : ℕ) (arcs : List ℕ) → IsValid p → IsLeastWalk p here there arcs → AreApart (here ∷ ends_of p arcs)
-least-apart p here there [] valid least = (tt, tt)
+pub least-apart : (p : Problem) (here there : ℕ) (arcs : List ℕ) → IsValid p → IsLeastWalk p here there arcs → AreDistinct (here ∷ ends_of p arcs)
+least-apart p here there [] valid least = AreDistinct-cons here [] tt AreDistinct-nil
 least-apart p here there (a ∷ arcs) valid least =
     let leads : Leads p here (a ∷ arcs) there = least.leads in
-    let within : 1 ≤ (arc_at p a).time = (arc-valid p a valid leads.0).within.time.0 in (
+    let within : 1 ≤ (arc_at p a).time = (arc-valid p a valid leads.0).within.time.0 in
+    AreDistinct-cons here (ends_of p (a ∷ arcs))
       (
         (λ (e : (arc_at p a).to ≡ here).
             let from_here : Leads p here arcs there = subst (λ (n : ℕ). Leads p n arcs there) e leads.2 in
             omega (arith, within, least.least arcs from_here)),
         never-enters p here (arc_at p a).to there arcs leads.2 (λ others from_here. omega (arith, within, least.least others from_here)),
-      ),
-      least-apart p (arc_at p a).to there arcs valid (IsLeastWalk-next p here there a arcs least),
-    )
+      )
+      (least-apart p (arc_at p a).to there arcs valid (IsLeastWalk-next p here there a arcs least))
 
 -- the step of an arc as a number that is 0 for the arc that stands for none
 abbrev capped_step : Problem → Arc → ℕ
@@ -123,7 +126,7 @@ pub steps-small : (p : Problem) (here there : ℕ) (arcs : List ℕ) → IsValid
 steps-small p here there arcs valid least =
     let at : ℕ → ℕ = λ a. capped_step p (get_or p.arcs a no_arc) in
     let exist : AllByRecursion (λ a. a < length p.arcs) arcs = Leads-exist p here arcs there least.leads in
-    let once : AreApart arcs = AreApart-map (λ a. (arc_at p a).to) arcs (least-apart p here there arcs valid least).1 in
+    let once : AreDistinct arcs = AreDistinct-from_map (λ a. (arc_at p a).to) arcs (AreDistinct-tail here (ends_of p arcs) (least-apart p here there arcs valid least)) in
     let within : sum_by at arcs ≤ sum_by (capped_step p) p.arcs = sum_by-places-le (capped_step p) no_arc (omega arith) arcs p.arcs exist once in
     let each : All (λ (x : Arc). capped_step p x ≤ 101000) p.arcs =
     λ k d lt. omega (arith, hold-small p (get_or p.arcs k d).to valid, (valid.parts.arcs k d lt).within.time.1) in

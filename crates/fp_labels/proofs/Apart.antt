@@ -4,24 +4,11 @@ use Rattle.std.specs.Prelude.{IsSome, unwrap_or}
 use Rattle.std.specs.List.{AllByRecursion}
 use Rattle.std.proofs.lemmas.List.{map_push}
 use Rattle.std.proofs.lemmas.List.Sums.{sum_by_push}
+use Rattle.fp_lists.proofs.Elements.{AllByRecursion-push}
 use Rattle.fp_labels.specs.declared.graphs.Edge.{Edge}
 use Rattle.fp_labels.specs.Graphs.{edge_at}
-use Rattle.fp_labels.specs.Walks.{Leads, cost_of, nodes_on, AreApart, IsWalk}
-
--- what holds of each element and of one more
-pub all_push : {X : Type 0} (P : X → Type 0) (xs : List X) (x : X) → AllByRecursion P xs → P x → AllByRecursion P (xs ++ (x ∷ []))
-all_push P [] x all one = (one, tt)
-all_push P (y ∷ xs) x all one = (all.0, all_push P xs x all.1 one)
-
--- what holds of each element, and so something weaker
-pub all_weaker : {X : Type 0} (P Q : X → Type 0) → ((x : X) → P x → Q x) → (xs : List X) → AllByRecursion P xs → AllByRecursion Q xs
-all_weaker P Q weaker [] all = tt
-all_weaker P Q weaker (x ∷ xs) all = (weaker x all.0, all_weaker P Q weaker xs all.1)
-
--- one more number that stands nowhere before
-pub apart_push : (xs : List ℕ) (x : ℕ) → AreApart xs → AllByRecursion (λ y. y ≢ x) xs → AreApart (xs ++ (x ∷ []))
-apart_push [] x apart new = (tt, tt)
-apart_push (y ∷ xs) x apart new = (all_push (λ z. z ≢ y) xs x apart.0 (λ same. new.0 (sym same)), apart_push xs x apart.1 new.1)
+use Rattle.fp_labels.specs.Walks.{Leads, cost_of, nodes_on, IsWalk}
+use Rattle.fp_lists.specs.Distinct.{AreDistinct}
 
 -- the nodes on a walk with one more edge
 pub nodes_push : (edges : List Edge) (here : ℕ) (walk : List ℕ) (e : ℕ) → nodes_on edges here (walk ++ (e ∷ [])) ≡ nodes_on edges here walk ++ ((edge_at edges e).to ∷ [])
@@ -36,7 +23,7 @@ pub walk_push : (edges : List Edge) (costs : List (Option ℕ)) (here there : �
     e < length edges → (edge_at edges e).from ≡ there → cost_of costs e ≡ Some more → IsWalk edges costs here (edge_at edges e).to (walk ++ (e ∷ [])) (cost + more)
 walk_push edges costs here there walk cost e more is inside from_is unbarred = record {
   leads = leads_push edges here walk there e is.leads inside from_is;
-  open_edges = all_push (λ n. IsSome (cost_of costs n)) walk e is.open_edges (subst (λ (o : Option ℕ). IsSome o) (sym unbarred) refl);
+  open_edges = AllByRecursion-push (λ n. IsSome (cost_of costs n)) walk e is.open_edges (subst (λ (o : Option ℕ). IsSome o) (sym unbarred) refl);
   costs_so =
       (let pushed = sum_by_push (λ n. unwrap_or (cost_of costs n) 0) walk e in
       let here_is : unwrap_or (cost_of costs e) 0 ≡ more = ap (λ (o : Option ℕ). unwrap_or o 0) unbarred in

@@ -13,13 +13,16 @@ use Rattle.fp_labels.specs.declared.graphs.Edge.{Edge}
 use Rattle.fp_labels.specs.declared.walks.Label.{Label}
 use Rattle.fp_labels.specs.declared.walks.Step.{Step}
 use Rattle.fp_labels.specs.Graphs.{Shape, edge_at}
-use Rattle.fp_labels.specs.Walks.{cost_of, nodes_on, AreApart, IsWalk}
+use Rattle.fp_labels.specs.Walks.{cost_of, nodes_on, IsWalk}
+use Rattle.fp_lists.specs.Distinct.{AreDistinct}
 use Rattle.fp_labels.specs.Rows.{IsRow}
 use Rattle.fp_labels.specs.Labels.{label_at, step_to, traced, greatest_cost, IsSmallFor}
 use Rattle.fp_labels.specs.Searches.{Entry, entry_cmp, is_settled, settled_count, IsWithin, AreBehind, IsQueue, Improves, IsTraced, AreWalked, IsRelaxed, AreRelaxed, IsSearch, IsLast}
-use Rattle.fp_labels.proofs.Apart.{all_push, all_weaker, apart_push, nodes_push, walk_push}
+use Rattle.fp_labels.proofs.Apart.{nodes_push, walk_push}
+use Rattle.fp_lists.proofs.Distinct.{AreDistinct-push}
+use Rattle.fp_lists.proofs.Elements.{AllByRecursion-weaker, AllByRecursion-push}
 use Rattle.fp_labels.proofs.Tracing.{traced_step, traced_elsewhere}
-use Rattle.fp_labels.proofs.Queues.{cons_cases}
+use Rattle.fp_lists.proofs.Membership.{Contains-cons_cases}
 
 -- a node at most so dear is at most dearer
 pub within_weaker : (labels : List (Option Label)) (node a b : ℕ) → a ≤ b → IsWithin labels node a → IsWithin labels node b
@@ -35,7 +38,7 @@ first_done edges costs labels settled e rest before here other inside is =
     ⊎_elim
     (λ (same : e ≡ other). inl (subst (λ (n : ℕ). IsRelaxed edges costs labels n) same here))
     (λ (later : Contains rest other). inr later)
-    (cons_cases e rest other left))
+    (Contains-cons_cases e rest other left))
     (before other inside is)
 
 -- an open edge is relaxed where its head has a label of at most the label of its tail and its cost
@@ -120,14 +123,14 @@ module _ (graph : Shape) (costs : List (Option ℕ)) (start : ℕ) (labels : Lis
           simple = record {
             goes = subst (λ (m : ℕ). IsWalk graph.edges costs start m (walk ++ (e ∷ [])) (cost + more)) enters
                 (walk_push graph.edges costs start node walk cost e more t.simple.goes inside leaves unbarred);
-            apart = subst (λ (ns : List ℕ). AreApart ns) (sym nodes_are) (apart_push (nodes_on graph.edges start walk) to t.simple.apart
-                (all_weaker (λ m. (m ≡ node) ⊎ (is_settled settled m ≡ true)) (λ m. m ≢ to)
+            apart = subst (λ (ns : List ℕ). AreDistinct ns) (sym nodes_are) (AreDistinct-push (nodes_on graph.edges start walk) to t.simple.apart
+                (AllByRecursion-weaker (λ m. (m ≡ node) ⊎ (is_settled settled m ≡ true)) (λ m. m ≢ to)
                 (λ m so. ⊎_elim (λ (is : m ≡ node). λ same. node_apart (sym is ∙ same)) (λ (is : is_settled settled m ≡ true). settled_apart m is) so)
                 (nodes_on graph.edges start walk) t.inside));
           };
           inside = subst (λ (ns : List ℕ). AllByRecursion (λ m. (m ≡ to) ⊎ (is_settled settled m ≡ true)) ns) (sym nodes_are)
-              (all_push (λ m. (m ≡ to) ⊎ (is_settled settled m ≡ true)) (nodes_on graph.edges start walk) to
-              (all_weaker (λ m. (m ≡ node) ⊎ (is_settled settled m ≡ true)) (λ m. (m ≡ to) ⊎ (is_settled settled m ≡ true))
+              (AllByRecursion-push (λ m. (m ≡ to) ⊎ (is_settled settled m ≡ true)) (nodes_on graph.edges start walk) to
+              (AllByRecursion-weaker (λ m. (m ≡ node) ⊎ (is_settled settled m ≡ true)) (λ m. (m ≡ to) ⊎ (is_settled settled m ≡ true))
               (λ m so. ⊎_elim (λ (is : m ≡ node). inr (ap (λ (k : ℕ). is_settled settled k) is ∙ last.settled_now)) (λ (is : is_settled settled m ≡ true). inr is) so)
               (nodes_on graph.edges start walk) t.inside)
               (inl refl));

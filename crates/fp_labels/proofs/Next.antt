@@ -10,7 +10,7 @@ use Rattle.fp_labels.specs.Graphs.{Shape, edge_at}
 use Rattle.fp_labels.specs.Walks.{nodes_on}
 use Rattle.fp_labels.specs.Labels.{label_at, greatest_cost}
 use Rattle.fp_labels.specs.Searches.{Entry, is_settled, settled_count, AreSettled, SettlesNext, IsTraced, IsRelaxed, IsSearch, IsLast}
-use Rattle.fp_labels.proofs.Apart.{all_weaker}
+use Rattle.fp_lists.proofs.Elements.{AllByRecursion-weaker}
 use Rattle.fp_labels.proofs.Queues.{label_inside}
 
 -- no more nodes are settled than there are
@@ -89,7 +89,7 @@ module _ (graph : Shape) (costs : List (Option ℕ)) (start : ℕ) (labels : Lis
   kept_walk : (count more n c : ℕ) (walk : List ℕ) → count ≤ more → IsTraced graph.edges costs start labels settled count n c walk → IsTraced graph.edges costs start labels new more n c walk
   kept_walk count more n c walk below t = record {
     simple = t.simple;
-    inside = all_weaker (λ m. (m ≡ n) ⊎ (is_settled settled m ≡ true)) (λ m. (m ≡ n) ⊎ (is_settled new m ≡ true))
+    inside = AllByRecursion-weaker (λ m. (m ≡ n) ⊎ (is_settled settled m ≡ true)) (λ m. (m ≡ n) ⊎ (is_settled new m ≡ true))
         (λ m so. ⊎_elim (λ (is : m ≡ n). inl is) (λ (is : is_settled settled m ≡ true). inr (still_settled m is)) so) (nodes_on graph.edges start walk) t.inside;
     short = omega (arith, t.short);
     told = t.told;

@@ -26,11 +26,6 @@ walk_cost costs walk = sum_by (λ e. unwrap_or (cost_of costs e) 0) walk
 abbrev pub nodes_on : List Edge → ℕ → List ℕ → List ℕ
 nodes_on edges here walk = here ∷ map (λ e. (edge_at edges e).to) walk
 
--- no number stands twice in a list
-abbrev pub AreApart : List ℕ → Type 0
-AreApart [] = Unit {0}
-AreApart (x ∷ xs) = AllByRecursion (λ y. y ≢ x) xs × AreApart xs
-
 -- a walk over open edges from one node to another at this cost
 pub record IsWalk (edges : List Edge) (costs : List (Option ℕ)) (here there : ℕ) (walk : List ℕ) (cost : ℕ) : Type 0 where
   pub leads : Leads edges here walk there

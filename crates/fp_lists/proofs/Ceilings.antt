@@ -49,9 +49,9 @@ div_ceil-sum_by f u (x ∷ xs) =
     omega (arith, whole, div_ceil-add (f x) (sum_by f xs) u, div_ceil-sum_by f u xs, sum_by-cons (λ y. div_ceil (f y) u) x xs)
 
 -- a larger amount needs no fewer
-pub div_ceil-mono : (a b u : ℕ) → a ≤ b → div_ceil a u ≤ div_ceil b u
-div_ceil-mono a b zero le = simp (div-zero, mod-zero) (omega arith)
-div_ceil-mono a b (suc u) le = div_ceil-least a (suc u) (div_ceil b (suc u)) (omega arith) (omega (arith, div_ceil-holds b (suc u) (omega arith), le))
+pub div_ceil_mono : (a b u : ℕ) → a ≤ b → div_ceil a u ≤ div_ceil b u
+div_ceil_mono a b zero le = simp (div-zero, mod-zero) (omega arith)
+div_ceil_mono a b (suc u) le = div_ceil-least a (suc u) (div_ceil b (suc u)) (omega arith) (omega (arith, div_ceil-holds b (suc u) (omega arith), le))
 
 -- something needs one
 pub div_ceil-some : (a u : ℕ) → 0 < u → 0 < a → 1 ≤ div_ceil a u

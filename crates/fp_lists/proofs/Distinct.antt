@@ -1,5 +1,5 @@
 -- Lists in which no element stands twice.
-use Rattle.std.proofs.Common.{◌≡◌, ◌≢◌, ℕ, ◌+◌, ◌<◌, ◌≤◌, Bool, true, false, List, [], ◌∷◌, ◌++◌, length, get_or, set, map, take, refl, sym, ap, ◌∙◌, subst, ⊎_elim, arith, length-set, get_or-set_other}
+use Rattle.std.proofs.Common.{◌≡◌, ◌≢◌, ℕ, ◌+◌, ◌<◌, ◌≤◌, Bool, true, false, List, [], ◌∷◌, ◌++◌, length, get_or, set, map, take, refl, sym, ap, ◌∙◌, ⊎_elim, arith, get_or-take, length-take-le}
 use Rattle.std.specs.Prelude.{All, sum_by}
 use Rattle.std.specs.List.{AllByRecursion, list_any}
 use Rattle.std.proofs.Math.Dec.{eqb}
@@ -12,7 +12,7 @@ use Rattle.std.proofs.lemmas.List.Quantifiers.{all_pairs_push}
 use Rattle.std.proofs.lemmas.List.Sums.{sum_by-cons, sum_by-set}
 use Rattle.fp_lists.specs.Distinct.{AreDistinct}
 use Rattle.fp_lists.specs.Membership.{list_has}
-use Rattle.fp_lists.proofs.Elements.{AllByRecursion-get_or, AllByRecursion-weaker}
+use Rattle.fp_lists.proofs.Elements.{AllByRecursion-from_get_or, AllByRecursion-get_or, AllByRecursion-weaker}
 use Rattle.fp_lists.proofs.Pairs.{AllPairs-head, AllPairs-nil, AllPairs-tail}
 
 -- the empty list has none twice
@@ -57,3 +57,11 @@ list_has-others (m ∷ numbers) n others =
     (λ (here : eqb m n ≡ true). others.0 (eqb-true m n here))
     (λ (later : list_has numbers n ≡ true). false≢true (sym (list_has-others numbers n others.1) ∙ later))
     (or_cases (eqb m n) (list_has numbers n) has))
+
+-- among distinct numbers none stands before itself
+pub list_has-take_distinct : (numbers : List ℕ) (i : ℕ) → AreDistinct numbers → i < length numbers → list_has (take i numbers) (get_or numbers i 0) ≡ false
+list_has-take_distinct numbers i distinct lt =
+    list_has-others (take i numbers) (get_or numbers i 0)
+    (AllByRecursion-from_get_or (λ m. m ≢ get_or numbers i 0) (take i numbers) 0 (λ k below same.
+        let before : k < i = omega (arith, below, length-take-le i numbers (omega (arith, lt))) in
+        distinct k i 0 before lt (sym (get_or-take i numbers k 0 before) ∙ same)))

@@ -1,9 +1,10 @@
 -- What is among the elements of a list.
-use Rattle.std.proofs.Common.{◌≡◌, ℕ, zero, suc, ◌+◌, ◌<◌, Bool, true, ◌||◌, List, [], ◌∷◌, ◌++◌, ◌⊎◌, length, get_or, take, refl, sym, ap, ◌∙◌, ⊎_elim, inl, inr, arith}
+use Rattle.std.proofs.Common.{◌≡◌, ℕ, zero, suc, ◌+◌, ◌<◌, Bool, true, false, ◌||◌, ◌&&◌, List, [], ◌∷◌, ◌++◌, ◌⊎◌, length, get_or, take, map, filter, refl, sym, ap, ◌∙◌, ⊎_elim, inl, inr, arith}
 use Rattle.std.specs.Prelude.{Contains, nat_eq, insert}
 use Rattle.std.proofs.Math.Bool.{or-false}
-use Rattle.std.proofs.lemmas.Bool.{eq-eqb, eqb-true, or_cases, or_left, or_right}
-use Rattle.std.proofs.lemmas.List.{take_more}
+use Rattle.std.proofs.lemmas.Bool.{cases_Bool, eq-eqb, eqb-true, or_cases, or_left, or_right}
+use Rattle.std.proofs.lemmas.List.{map-append, take_more}
+use Rattle.std.proofs.lemmas.List.Elements.{filter-append}
 use Rattle.std.proofs.lemmas.List.Folds.{list_any-append, list_any_at}
 use Rattle.std.proofs.lemmas.List.Sorted.{IsPermutation-insert, list_any-IsPermutation}
 use Rattle.fp_lists.specs.Membership.{list_has}
@@ -70,3 +71,27 @@ StandsAt-from_list_has (m ∷ numbers) n has =
     let there = StandsAt-from_list_has numbers n rest in
     record { place = suc there.place; within = omega (arith, there.within); is = λ d. there.is d })
     (list_has-cons_cases m numbers n has)
+
+-- one more element at the end gives one more number where it is kept
+pub list_has-filter_push : {X : Type 0} (kept : X → Bool) (f : X → ℕ) (xs : List X) (x : X) (n : ℕ) →
+    list_has (map f (filter kept (xs ++ x ∷ []))) n ≡ (list_has (map f (filter kept xs)) n || (kept x && nat_eq (f x) n))
+list_has-filter_push kept f xs x n =
+    ap (λ l. list_has (map f l) n) (filter-append kept xs (x ∷ [])) ∙
+    ap (λ (numbers : List ℕ). list_has numbers n) (map-append f (filter kept xs) (filter kept (x ∷ []))) ∙
+    list_has-append (map f (filter kept xs)) (map f (filter kept (x ∷ []))) n ∙
+    ap (λ (b : Bool). list_has (map f (filter kept xs)) n || b) one
+  where
+    one : list_has (map f (filter kept (x ∷ []))) n ≡ (kept x && nat_eq (f x) n)
+    one = ⊎_elim (λ (e : kept x ≡ true). rw e (or-false (nat_eq (f x) n))) (λ (e : kept x ≡ false). rw e refl) (cases_Bool (kept x))
+
+-- the value of an element that is kept is among the values
+pub list_has-filter : {X : Type 0} (kept : X → Bool) (f : X → ℕ) (xs : List X) (k : ℕ) (d : X) → k < length xs → kept (get_or xs k d) ≡ true →
+    list_has (map f (filter kept xs)) (f (get_or xs k d)) ≡ true
+list_has-filter kept f [] k d lt is = absurd (omega (arith, lt))
+list_has-filter kept f (x ∷ xs) zero d lt is = rw is (list_has-first (f x) (map f (filter kept xs)))
+list_has-filter kept f (x ∷ xs) (suc k) d lt is =
+    let rest : list_has (map f (filter kept xs)) (f (get_or xs k d)) ≡ true = list_has-filter kept f xs k d (omega (arith, lt)) is in
+    ⊎_elim
+    (λ (e : kept x ≡ true). rw e (list_has-rest (f x) (map f (filter kept xs)) (f (get_or xs k d)) rest))
+    (λ (e : kept x ≡ false). rw e rest)
+    (cases_Bool (kept x))

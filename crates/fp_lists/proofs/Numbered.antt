@@ -79,3 +79,11 @@ AllZip-from_get_or Q [] (y ∷ ys) d e long each = absurd (omega (arith, long))
 AllZip-from_get_or Q (x ∷ xs) [] d e long each = absurd (omega (arith, long))
 AllZip-from_get_or Q (x ∷ xs) (y ∷ ys) d e long each =
     (each 0 (omega arith), AllZip-from_get_or Q xs ys d e (omega (arith, long)) (λ k lt. each (suc k) (omega (arith, lt))))
+
+-- and back: std's lemma of this name is for lists of one type
+pub AllZip-get_or : {X Y : Type 0} (Q : X → Y → Type 0) (xs : List X) (ys : List Y) (i : ℕ) (d : X) (e : Y) → AllZip Q xs ys → i < length xs →
+    Q (get_or xs i d) (get_or ys i e)
+AllZip-get_or Q [] ys i d e all lt = absurd (omega (arith, lt))
+AllZip-get_or Q (x ∷ xs) [] i d e all lt = absurd all
+AllZip-get_or Q (x ∷ xs) (y ∷ ys) zero d e all lt = all.0
+AllZip-get_or Q (x ∷ xs) (y ∷ ys) (suc i) d e all lt = AllZip-get_or Q xs ys i d e all.1 (omega (arith, lt))

@@ -12,15 +12,17 @@ use Rattle.std.proofs.lemmas.List.FromFn.{get_or-map-range_with_len, length-map-
 use Rattle.fp_model.specs.Problem.{Problem, arc_at}
 use Rattle.fp_model.specs.Routes.{step}
 use Rattle.fp_timenodes.specs.declared.places.TheConstants.{LATEST}
-use Rattle.fp_timenodes.specs.Floor.{has_point}
+use Rattle.fp_lists.specs.Membership.{list_has}
 use Rattle.fp_longestarcs.specs.Classes.{head_of}
-use Rattle.fp_longestarcs.specs.Ascending.{place_of, ArePoints}
+use Rattle.fp_longestarcs.specs.Ascending.{ArePoints}
+use Rattle.fp_lists.specs.Ascending.{place_in, IsPlaceIn}
 use Rattle.fp_longestarcs.specs.Networks.{TimedNetwork, points_in, tail_in, heads_in, IsNetwork}
-use Rattle.fp_longestarcs.specs.Vectors.{lists_of, network_of}
+use Rattle.fp_longestarcs.specs.Vectors.{network_of}
+use Rattle.fp_lists.specs.Vectors.{lists_of}
 use Rattle.fp_longestarcs.specs.Whole.{IsWhole}
 use Rattle.fp_longestarcs.specs.Changes.{points_with, heads_with, refined, lifted_head, lifted, heads_to, restored}
-use Rattle.fp_longestarcs.specs.Ascending.{IsPlace}
-use Rattle.fp_longestarcs.proofs.Places.{place-of, insert-points}
+use Rattle.fp_longestarcs.proofs.Places.{insert-points}
+use Rattle.fp_lists.proofs.Places.{IsPlaceIn-place_in}
 use Rattle.fp_longestarcs.proofs.Lengthened.{points-same, points-other, all-restored}
 
 -- the points of a terminal of a network
@@ -28,7 +30,7 @@ pub points-of : (net : TimedNetwork) (terminal : ℕ) → IsNetwork net → term
 points-of net terminal valid h = valid.points terminal [] h
 
 -- with a new point a network is still one
-pub refined-valid : (p : Problem) (net : TimedNetwork) (terminal at : ℕ) → IsNetwork net → terminal < length net.points → has_point (points_in net terminal) at ≡ false → at ≤ LATEST →
+pub refined-valid : (p : Problem) (net : TimedNetwork) (terminal at : ℕ) → IsNetwork net → terminal < length net.points → list_has (points_in net terminal) at ≡ false → at ≤ LATEST →
     IsNetwork (refined p net terminal at)
 refined-valid p net terminal at valid within new in_time = record {
   points = All-set ArePoints net.points terminal more (insert-points (points_in net terminal) at here new in_time) valid.points;
@@ -39,18 +41,18 @@ refined-valid p net terminal at valid within new in_time = record {
 }
   where
     more : List ℕ
-    more = insert (points_in net terminal) (place_of (points_in net terminal) at) at
+    more = insert (points_in net terminal) (place_in (points_in net terminal) at) at
 
     here : ArePoints (points_in net terminal)
     here = points-of net terminal valid within
 
-    place : IsPlace (points_in net terminal) at (place_of (points_in net terminal) at)
-    place = place-of (points_in net terminal) at here.ascending
+    place : IsPlaceIn (points_in net terminal) at (place_in (points_in net terminal) at)
+    place = IsPlaceIn-place_in (points_in net terminal) at here.ascending
 
     -- a terminal's points and an arc's heads get one more alike
     by_tail : (arc : ℕ) → arc < length net.tails → length (heads_with p net terminal at arc) ≡ length (get_or (points_with net terminal at) (tail_in net arc) [])
     by_tail arc h =
-        let k : ℕ = place_of (points_in net terminal) at in
+        let k : ℕ = place_in (points_in net terminal) at in
         let head : ℕ = head_of p (points_in net) (record { arc = arc; depart = at }) in
         let old : length (heads_in net arc) ≡ length (points_in net (tail_in net arc)) = valid.copies arc h in
         ⊎_elim
@@ -109,18 +111,18 @@ restored-valid p net terminal at valid = record {
         (cases_eq (arc_at p arc).to terminal)
 
 -- a whole network with a new point, refined and then restored, is whole
-pub lengthened-whole : (p : Problem) (net : TimedNetwork) (terminal at : ℕ) → IsWhole p net → terminal < length net.points → has_point (points_in net terminal) at ≡ false → at ≤ LATEST →
+pub lengthened-whole : (p : Problem) (net : TimedNetwork) (terminal at : ℕ) → IsWhole p net → terminal < length net.points → list_has (points_in net terminal) at ≡ false → at ≤ LATEST →
     IsWhole p (restored p (refined p net terminal at) terminal at)
 lengthened-whole p net terminal at whole within new in_time = record {
   valid = restored-valid p (refined p net terminal at) terminal at (refined-valid p net terminal at whole.valid within new in_time);
-  arcs = record { tails = whole.arcs.tails; terminals = length-set net.points terminal (insert (points_in net terminal) (place_of (points_in net terminal) at) at) ∙ whole.arcs.terminals };
+  arcs = record { tails = whole.arcs.tails; terminals = length-set net.points terminal (insert (points_in net terminal) (place_in (points_in net terminal) at) at) ∙ whole.arcs.terminals };
   heads = all-restored p net terminal at whole within;
 }
 
 -- what was written over vectors that hold a network, after room was made in them, is a network
 pub refined-written : (p : Problem) (tails : List ℕ) (points heads spare_points spare_heads new_points new_heads : List (Vec ℕ Global)) (terminal at : ℕ) →
     lists_of spare_points ≡ lists_of points → lists_of spare_heads ≡ lists_of heads → network_of tails new_points new_heads ≡ refined p (network_of tails spare_points spare_heads) terminal at →
-    IsNetwork (network_of tails points heads) → terminal < length points → has_point (points_in (network_of tails points heads) terminal) at ≡ false → at ≤ LATEST → IsNetwork (network_of tails new_points new_heads)
+    IsNetwork (network_of tails points heads) → terminal < length points → list_has (points_in (network_of tails points heads) terminal) at ≡ false → at ≤ LATEST → IsNetwork (network_of tails new_points new_heads)
 refined-written p tails points heads spare_points spare_heads new_points new_heads terminal at same_points same_heads written valid within new in_time =
     let net : TimedNetwork = network_of tails points heads in
     let of : List (List ℕ) → List (List ℕ) → TimedNetwork = λ qs hs. record { tails = tails; points = qs; heads = hs } in

@@ -10,11 +10,11 @@ use Rattle.fp_model.specs.Problem.{Problem, arc_at, no_arc}
 use Rattle.fp_model.specs.Routes.{step}
 use Rattle.fp_timenodes.specs.Floor.{floor_point}
 use Rattle.fp_longestarcs.specs.Classes.{head_of}
-use Rattle.fp_longestarcs.specs.Ascending.{place_of}
+use Rattle.fp_lists.specs.Ascending.{place_in}
 use Rattle.fp_longestarcs.specs.Networks.{TimedNetwork, points_in, tail_in, heads_in}
 use Rattle.fp_longestarcs.specs.Whole.{HasArcsOf, IsWhole, heads_from, heads_of}
 use Rattle.fp_longestarcs.specs.Changes.{points_with, heads_with, refined, lifted, heads_to, restored}
-use Rattle.fp_longestarcs.proofs.Mapped.{map-insert, same-map}
+use Rattle.fp_lists.proofs.Maps.{map-same_on_range, map-insert}
 use Rattle.fp_longestarcs.proofs.Places.{floor-with, floor-without}
 
 -- the arcs of a network are as many as the instance's
@@ -54,12 +54,12 @@ lifted-heads qs k step at (q ∷ starts) =
 
 -- the points of the terminals, with the new one
 pub points-same : (net : TimedNetwork) (terminal at : ℕ) → terminal < length net.points →
-    get_or (points_with net terminal at) terminal [] ≡ insert (points_in net terminal) (place_of (points_in net terminal) at) at
-points-same net terminal at h = get_or-set_same net.points terminal (insert (points_in net terminal) (place_of (points_in net terminal) at) at) [] h
+    get_or (points_with net terminal at) terminal [] ≡ insert (points_in net terminal) (place_in (points_in net terminal) at) at
+points-same net terminal at h = get_or-set_same net.points terminal (insert (points_in net terminal) (place_in (points_in net terminal) at) at) [] h
 
 pub points-other : (net : TimedNetwork) (terminal at other : ℕ) → other ≢ terminal → get_or (points_with net terminal at) other [] ≡ points_in net other
 points-other net terminal at other apart =
-    get_or-set_other net.points terminal other (insert (points_in net terminal) (place_of (points_in net terminal) at) at) [] apart
+    get_or-set_other net.points terminal other (insert (points_in net terminal) (place_in (points_in net terminal) at) at) [] apart
 
 -- after refining, each copy has the greatest head among the old points
 refined-heads : (p : Problem) (net : TimedNetwork) (terminal at arc : ℕ) → IsWhole p net → terminal < length net.points → arc < length p.arcs →
@@ -79,7 +79,7 @@ refined-heads p net terminal at arc whole within h =
         (λ (same : tail ≡ terminal).
         let test : nat_eq (tail_in net arc) terminal ≡ true = eq-eqb (tail_in net arc) terminal (tail-of p net arc whole.arcs h ∙ same) in
         let old : heads_in net arc ≡ map head (points_in net terminal) = whole-heads p net arc whole h ∙ ap (λ (t : ℕ). map head (points_in net t)) same in
-        let place : ℕ = place_of (points_in net terminal) at in
+        let place : ℕ = place_in (points_in net terminal) at in
         cond-true (nat_eq (tail_in net arc) terminal) (insert (heads_in net arc) place (head at)) (heads_in net arc) test ∙
         ap (λ (l : List ℕ). insert l place (head at)) old ∙
         sym (map-insert head (points_in net terminal) place at) ∙
@@ -87,7 +87,7 @@ refined-heads p net terminal at arc whole within h =
         ap (λ (t : ℕ). map head (get_or (points_with net terminal at) t [])) (sym same))
         (λ (other : tail ≢ terminal).
         let apart : tail_in net arc ≢ terminal = λ e. other (sym (tail-of p net arc whole.arcs h) ∙ e) in
-        let place : ℕ = place_of (points_in net terminal) at in
+        let place : ℕ = place_in (points_in net terminal) at in
         cond-false (nat_eq (tail_in net arc) terminal) (insert (heads_in net arc) place (head at)) (heads_in net arc) (ne_eqb (tail_in net arc) terminal apart) ∙
         whole-heads p net arc whole h ∙
         ap (λ (l : List ℕ). map head l) (sym (points-other net terminal at tail other)))
@@ -103,7 +103,7 @@ restored-heads p net terminal at arc whole within h =
     ap (λ (t : ℕ). lifted (step p arc) at (points_in finer t) (heads_in finer arc)) (tail-of p net arc whole.arcs h) ∙
     ap (λ (l : List ℕ). lifted (step p arc) at starts l) refined_heads ∙
     ap (λ (t : ℕ). lifted (step p arc) at starts (map (λ q. floor_point (points_in net t) 1 (q + step p arc)) starts)) same ∙
-    lifted-heads (points_in net terminal) (place_of (points_in net terminal) at) (step p arc) at starts ∙
+    lifted-heads (points_in net terminal) (place_in (points_in net terminal) at) (step p arc) at starts ∙
     ap (λ (l : List ℕ). map (λ q. floor_point l 1 (q + step p arc)) starts) (sym (points-same net terminal at within)) ∙
     ap (λ (t : ℕ). map (λ q. floor_point (points_in finer t) 1 (q + step p arc)) starts) (sym same))
     (λ (other : end ≢ terminal).
@@ -129,5 +129,5 @@ pub all-restored : (p : Problem) (net : TimedNetwork) (terminal at : ℕ) → Is
     (restored p (refined p net terminal at) terminal at).heads ≡ heads_of p (points_in (restored p (refined p net terminal at) terminal at))
 all-restored p net terminal at whole within =
     ap (λ (n : ℕ). map (heads_to p (refined p net terminal at) terminal at) (range_with_len 0 n)) (arc-count p net whole.arcs) ∙
-    same-map (heads_to p (refined p net terminal at) terminal at) (heads_from p (points_in (refined p net terminal at))) 0 (length p.arcs)
+    map-same_on_range (heads_to p (refined p net terminal at) terminal at) (heads_from p (points_in (refined p net terminal at))) 0 (length p.arcs)
     (λ arc from below. restored-heads p net terminal at arc whole within (omega arith))

@@ -1,4 +1,3 @@
-pub mod Mapped
 pub mod Places
 pub mod Lengthened
 pub mod Grown

@@ -7,22 +7,23 @@ use Rattle.std.proofs.lemmas.List.{length_push, get_or_push, get_or_append_left}
 use Rattle.std.proofs.lemmas.List.Folds.{list_any-append}
 use Rattle.std.proofs.Math.Bool.{or-false}
 use Rattle.fp_timenodes.specs.declared.places.TheConstants.{LATEST}
-use Rattle.fp_timenodes.specs.Floor.{has_point, IsNextPoint, HaveSamePoints}
+use Rattle.fp_timenodes.specs.Floor.{IsNextPoint, HaveSamePoints}
+use Rattle.fp_lists.specs.Membership.{list_has}
 use Rattle.fp_longestarcs.specs.Ascending.{ArePoints}
-use Rattle.fp_longestarcs.proofs.Places.{stands, has-place}
+use Rattle.fp_lists.proofs.Membership.{list_has-get_or, StandsAt-from_list_has}
 
 -- the times are the points up to the last one
 pub record AreUntil (qs times : List ℕ) (last : ℕ) : Type 0 where
   pub are : ArePoints times
-  pub until : (q : ℕ) → has_point times q ≡ true → q ≤ last
-  pub same : (q : ℕ) → q ≤ last → has_point times q ≡ has_point qs q
+  pub until : (q : ℕ) → list_has times q ≡ true → q ≤ last
+  pub same : (q : ℕ) → q ≤ last → list_has times q ≡ list_has qs q
 
 -- 0 alone
-pub until-none : (qs : List ℕ) → has_point qs 0 ≡ true → AreUntil qs (0 ∷ []) 0
+pub until-none : (qs : List ℕ) → list_has qs 0 ≡ true → AreUntil qs (0 ∷ []) 0
 until-none qs start = record {
   are = record { ascending = λ i j d less h. absurd (omega arith); zero = refl; in_time = early };
-  until = λ q there. let w = stands (0 ∷ []) q there in omega (arith, first w.place (omega (arith, w.within)), w.is 0);
-  same = λ q le. let e : q ≡ 0 = omega arith in subst (λ (n : ℕ). has_point (0 ∷ []) n ≡ has_point qs n) (sym e) (sym start);
+  until = λ q there. let w = StandsAt-from_list_has (0 ∷ []) q there in omega (arith, first w.place (omega (arith, w.within)), w.is 0);
+  same = λ q le. let e : q ≡ 0 = omega arith in subst (λ (n : ℕ). list_has (0 ∷ []) n ≡ list_has qs n) (sym e) (sym start);
 }
   where
     first : (k : ℕ) → k < 1 → get_or {A = ℕ} (0 ∷ []) k 0 ≡ 0
@@ -34,19 +35,19 @@ until-none qs start = record {
     early (suc k) d h = absurd (omega arith)
 
 -- what a pushed time adds
-has-push : (times : List ℕ) (next q : ℕ) → has_point (times ++ next ∷ []) q ≡ (has_point times q || nat_eq next q)
-has-push times next q = list_any-append (λ r. nat_eq r q) times (next ∷ []) ∙ ap (λ (b : Bool). has_point times q || b) (or-false (nat_eq next q))
+has-push : (times : List ℕ) (next q : ℕ) → list_has (times ++ next ∷ []) q ≡ (list_has times q || nat_eq next q)
+has-push times next q = list_any-append (λ r. nat_eq r q) times (next ∷ []) ∙ ap (λ (b : Bool). list_has times q || b) (or-false (nat_eq next q))
 
 -- and the next one
 pub until-more : (qs times : List ℕ) (last next : ℕ) → AreUntil qs times last → IsNextPoint qs last (Some next) → next ≤ LATEST → AreUntil qs (times ++ next ∷ []) next
 until-more qs times last next old is in_time = record {
   are = record {
     ascending = up;
-    zero = has-push times next 0 ∙ or_left (has_point times 0) (nat_eq next 0) old.are.zero;
+    zero = has-push times next 0 ∙ or_left (list_has times 0) (nat_eq next 0) old.are.zero;
     in_time = early;
   };
   until = λ q there.
-      let w = stands (times ++ next ∷ []) q there in
+      let w = StandsAt-from_list_has (times ++ next ∷ []) q there in
       ⊎_elim
       (λ (less : w.place < length times). omega (arith, before w.place 0 less, w.is 0, is.1))
       (λ (more : length times ≤ w.place). omega (arith, at-end w.place 0 (omega (arith, w.within, length_push times next)), w.is 0))
@@ -55,7 +56,7 @@ until-more qs times last next old is in_time = record {
 }
   where
     before : (k d : ℕ) → k < length times → get_or (times ++ next ∷ []) k d ≤ last
-    before k d h = omega (arith, get_or_append_left times (next ∷ []) d k h, old.until (get_or times k d) (has-place times k d h))
+    before k d h = omega (arith, get_or_append_left times (next ∷ []) d k h, old.until (get_or times k d) (list_has-get_or times k d h))
 
     at-end : (k d : ℕ) → k ≡ length times → get_or (times ++ next ∷ []) k d ≡ next
     at-end k d e = get_or_push times next d k (sym e)
@@ -75,16 +76,16 @@ until-more qs times last next old is in_time = record {
         (λ (end : length times ≤ k). omega (arith, at-end k d (omega (arith, length_push times next))))
         (cases_lt k (length times))
 
-    with : (q : ℕ) → q ≤ next → (has_point times q || nat_eq next q) ≡ has_point qs q
+    with : (q : ℕ) → q ≤ next → (list_has times q || nat_eq next q) ≡ list_has qs q
     with q le =
         ⊎_elim
-        (λ (same : next ≡ q). or_right (has_point times q) (nat_eq next q) (eq-eqb next q same) ∙ sym (subst (λ (n : ℕ). has_point qs n ≡ true) same is.0))
+        (λ (same : next ≡ q). or_right (list_has times q) (nat_eq next q) (eq-eqb next q same) ∙ sym (subst (λ (n : ℕ). list_has qs n ≡ true) same is.0))
         (λ (other : next ≡ q → ⊥).
-        ap (λ (b : Bool). has_point times q || b) (ne_eqb next q other) ∙ or-false (has_point times q) ∙
+        ap (λ (b : Bool). list_has times q || b) (ne_eqb next q other) ∙ or-false (list_has times q) ∙
         ⊎_elim
         (λ (late : last < q).
-        false_from_ne_true (has_point times q) (λ there. absurd (omega (arith, old.until q there))) ∙
-        sym (false_from_ne_true (has_point qs q) (λ there. absurd (omega (arith, is.2 q there late)))))
+        false_from_ne_true (list_has times q) (λ there. absurd (omega (arith, old.until q there))) ∙
+        sym (false_from_ne_true (list_has qs q) (λ there. absurd (omega (arith, is.2 q there late)))))
         (λ (early_one : q ≤ last). old.same q early_one)
         (cases_lt last q))
         (cases_eq next q)
@@ -94,7 +95,7 @@ pub until-all : (qs times : List ℕ) (last : ℕ) → AreUntil qs times last �
 until-all qs times last old none q =
     ⊎_elim
     (λ (late : last < q).
-    false_from_ne_true (has_point times q) (λ there. absurd (omega (arith, old.until q there))) ∙
-    sym (false_from_ne_true (has_point qs q) (λ there. absurd (omega (arith, none q there)))))
+    false_from_ne_true (list_has times q) (λ there. absurd (omega (arith, old.until q there))) ∙
+    sym (false_from_ne_true (list_has qs q) (λ there. absurd (omega (arith, none q there)))))
     (λ (early : q ≤ last). old.same q early)
     (cases_lt last q)

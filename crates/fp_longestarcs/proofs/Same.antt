@@ -5,53 +5,25 @@ use Rattle.std.specs.List.{AllPairs}
 use Rattle.std.proofs.lemmas.Bool.{cases_eq, eq-eqb, ne_eqb}
 use Rattle.std.proofs.lemmas.List.{same_lists, get_or_default}
 use Rattle.fp_model.specs.Problem.{Problem}
-use Rattle.fp_timenodes.specs.Floor.{has_point, HaveSamePoints}
+use Rattle.fp_timenodes.specs.Floor.{HaveSamePoints}
+use Rattle.fp_lists.specs.Membership.{list_has}
 use Rattle.fp_timenodes.specs.Points.{TimePoints}
-use Rattle.fp_timenodes.proofs.PointLists.{has_point_rest, has_point_first, has_point_cases}
-use Rattle.fp_longestarcs.specs.Ascending.{place_of, ArePoints}
+use Rattle.fp_lists.proofs.Membership.{list_has-rest, list_has-first, list_has-cons_cases, list_has-insert, StandsAt-from_list_has}
+use Rattle.fp_longestarcs.specs.Ascending.{ArePoints}
+use Rattle.fp_lists.specs.Ascending.{place_in}
 use Rattle.fp_longestarcs.specs.Networks.{TimedNetwork, points_in}
 use Rattle.fp_longestarcs.specs.Whole.{HasArcsOf, IsWhole, IsNetworkOf, heads_of}
 use Rattle.fp_longestarcs.specs.Changes.{points_with, refined, restored, HasAlso}
-use Rattle.fp_longestarcs.proofs.Places.{tail-ascends, stands, has-insert}
+use Rattle.fp_lists.proofs.Places.{first-lt, ascending-unique}
 use Rattle.fp_longestarcs.proofs.Lengthened.{points-same, points-other}
 
--- the first of ascending points is before the others
-pub first-before : (q : ℕ) (qs : List ℕ) (m : ℕ) → AllPairs (λ a b. a < b) (q ∷ qs) → has_point qs m ≡ true → q < m
-first-before q qs m up there = let w = stands qs m there in omega (arith, up 0 (suc w.place) 0 (omega arith) (omega (arith, w.within)), w.is 0)
-
--- two tests that are true together are the same
-same-truth : (a b : Bool) → (a ≡ true → b ≡ true) → (b ≡ true → a ≡ true) → a ≡ b
-same-truth true b h k = sym (h refl)
-same-truth false true h k = k refl
-same-truth false false h k = refl
-
 -- what is a point of both lists beside their equal first ones is a point of the rest
-rest-of : (x y : ℕ) (xs ys : List ℕ) (m : ℕ) → AllPairs (λ a b. a < b) (x ∷ xs) → x ≡ y → HaveSamePoints (x ∷ xs) (y ∷ ys) → has_point xs m ≡ true → has_point ys m ≡ true
+rest-of : (x y : ℕ) (xs ys : List ℕ) (m : ℕ) → AllPairs (λ a b. a < b) (x ∷ xs) → x ≡ y → HaveSamePoints (x ∷ xs) (y ∷ ys) → list_has xs m ≡ true → list_has ys m ≡ true
 rest-of x y xs ys m up is same there =
     ⊎_elim
-    (λ (first : y ≡ m). absurd (omega (arith, first-before x xs m up there, first, is)))
-    (λ (rest : has_point ys m ≡ true). rest)
-    (has_point_cases y ys m (sym (same m) ∙ has_point_rest x xs m there))
-
--- ascending lists with the same points are the same
-pub ascending-same : (xs ys : List ℕ) → AllPairs (λ a b. a < b) xs → AllPairs (λ a b. a < b) ys → HaveSamePoints xs ys → xs ≡ ys
-ascending-same [] [] up upper same = refl
-ascending-same [] (y ∷ ys) up upper same = let there : has_point [] y ≡ true = same y ∙ has_point_first y ys in cc
-ascending-same (x ∷ xs) [] up upper same = let there : has_point [] x ≡ true = sym (same x) ∙ has_point_first x xs in cc
-ascending-same (x ∷ xs) (y ∷ ys) up upper same =
-    let first : x ≡ y =
-    ⊎_elim
-    (λ (e : y ≡ x). sym e)
-    (λ (later : has_point ys x ≡ true).
-    ⊎_elim
-    (λ (e : x ≡ y). e)
-    (λ (late : has_point xs y ≡ true). absurd (omega (arith, first-before y ys x upper later, first-before x xs y up late)))
-    (has_point_cases x xs y (same y ∙ has_point_first y ys)))
-    (has_point_cases y ys x (sym (same x) ∙ has_point_first x xs)) in
-    let rest : xs ≡ ys =
-    ascending-same xs ys (tail-ascends x xs up) (tail-ascends y ys upper)
-    (λ m. same-truth (has_point xs m) (has_point ys m) (rest-of x y xs ys m up first same) (rest-of y x ys xs m upper (sym first) (λ n. sym (same n)))) in
-    ap (λ (n : ℕ). n ∷ xs) first ∙ ap (λ (l : List ℕ). y ∷ l) rest
+    (λ (first : y ≡ m). absurd (omega (arith, first-lt x xs m up there, first, is)))
+    (λ (rest : list_has ys m ≡ true). rest)
+    (list_has-cons_cases y ys m (sym (same m) ∙ list_has-rest x xs m there))
 
 -- whole networks of an instance with the same points are equal
 pub whole-unique : (p : Problem) (m n : TimedNetwork) → IsWhole p m → IsWhole p n → ((terminal : ℕ) → terminal < length p.terminals → HaveSamePoints (points_in m terminal) (points_in n terminal)) → m ≡ n
@@ -68,22 +40,22 @@ whole-unique p m n first second same =
     each k h =
         let mine : ArePoints (points_in m k) = first.valid.points k [] h in
         let other : ArePoints (points_in n k) = second.valid.points k [] (omega (arith, first.arcs.terminals, second.arcs.terminals)) in
-        ascending-same (points_in m k) (points_in n k) mine.ascending other.ascending (same k (omega (arith, first.arcs.terminals)))
+        ascending-unique (points_in m k) (points_in n k) mine.ascending other.ascending (same k (omega (arith, first.arcs.terminals)))
 
 -- which points there are with one more
 pub has-with : (net : TimedNetwork) (terminal at t q : ℕ) → terminal < length net.points →
-    has_point (get_or (points_with net terminal at) t []) q ≡ (nat_eq t terminal && nat_eq at q || has_point (points_in net t) q)
+    list_has (get_or (points_with net terminal at) t []) q ≡ (nat_eq t terminal && nat_eq at q || list_has (points_in net t) q)
 has-with net terminal at t q within =
     ⊎_elim
     (λ (same : t ≡ terminal).
-    ap (λ (n : ℕ). has_point (get_or (points_with net terminal at) n []) q) same ∙
-    ap (λ (l : List ℕ). has_point l q) (points-same net terminal at within) ∙
-    has-insert (points_in net terminal) (place_of (points_in net terminal) at) at q ∙
-    ap (λ (n : ℕ). nat_eq at q || has_point (points_in net n) q) (sym same) ∙
-    ap (λ (b : Bool). b && nat_eq at q || has_point (points_in net t) q) (sym (eq-eqb t terminal same)))
+    ap (λ (n : ℕ). list_has (get_or (points_with net terminal at) n []) q) same ∙
+    ap (λ (l : List ℕ). list_has l q) (points-same net terminal at within) ∙
+    list_has-insert (points_in net terminal) (place_in (points_in net terminal) at) at q ∙
+    ap (λ (n : ℕ). nat_eq at q || list_has (points_in net n) q) (sym same) ∙
+    ap (λ (b : Bool). b && nat_eq at q || list_has (points_in net t) q) (sym (eq-eqb t terminal same)))
     (λ (other : t ≢ terminal).
-    ap (λ (l : List ℕ). has_point l q) (points-other net terminal at t other) ∙
-    ap (λ (b : Bool). b && nat_eq at q || has_point (points_in net t) q) (sym (ne_eqb t terminal other)))
+    ap (λ (l : List ℕ). list_has l q) (points-other net terminal at t other) ∙
+    ap (λ (b : Bool). b && nat_eq at q || list_has (points_in net t) q) (sym (ne_eqb t terminal other)))
     (cases_eq t terminal)
 
 -- so a network whose new point was refined and restored is the one that is made with that point

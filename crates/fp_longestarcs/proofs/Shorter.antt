@@ -4,7 +4,7 @@ use Rattle.std.proofs.lemmas.Bool.{false_from_ne_true}
 use Rattle.fp_model.specs.Problem.{Problem, arc_at, no_arc, IsArc, IsValid}
 use Rattle.fp_model.specs.Routes.{step}
 use Rattle.fp_timenodes.specs.declared.places.TheConstants.{LATEST}
-use Rattle.fp_timenodes.specs.Floor.{has_point}
+use Rattle.fp_lists.specs.Membership.{list_has}
 use Rattle.fp_timenodes.proofs.Floors.{floor_greatest}
 use Rattle.fp_longestarcs.specs.Networks.{TimedNetwork, points_in, kept_head, IsClass}
 use Rattle.fp_longestarcs.specs.Whole.{IsWhole}
@@ -15,10 +15,10 @@ use Rattle.fp_longestarcs.proofs.Lengthened.{arc-count}
 
 -- what it could reach is no point yet
 pub short-new : (p : Problem) (net : TimedNetwork) (arc point : ℕ) → IsWhole p net → IsClass net (record { arc = arc; depart = point }) → kept_head net (record { arc = arc; depart = point }) < point + step p arc →
-    has_point (points_in net (arc_at p arc).to) (point + step p arc) ≡ false
+    list_has (points_in net (arc_at p arc).to) (point + step p arc) ≡ false
 short-new p net arc point whole is short =
     let end : ℕ = point + step p arc in
-    false_from_ne_true (has_point (points_in net (arc_at p arc).to) end)
+    false_from_ne_true (list_has (points_in net (arc_at p arc).to) end)
     (λ there. absurd (omega (arith, floor_greatest (points_in net (arc_at p arc).to) 1 end end there (omega arith), kept-greatest p net (record { arc = arc; depart = point }) whole is, short)))
 
 -- an arc's head is a terminal

@@ -7,8 +7,8 @@ use Rattle.std.proofs.Math.Seq.{map-set_same}
 use Rattle.std.proofs.lemmas.Bool.{cases_eq}
 use Rattle.std.proofs.lemmas.List.{get_or-set_same, get_or-set_other, length-map, get_or_default, same_lists}
 use Rattle.std.proofs.lemmas.List.FromFn.{get_or-map-range_with_len, length-map-range_with_len}
-use Rattle.fp_longestarcs.specs.Vectors.{lists_of}
-use Rattle.fp_longestarcs.proofs.Mapped.{list-at}
+use Rattle.fp_lists.specs.Vectors.{lists_of}
+use Rattle.fp_lists.proofs.Maps.{lists_of-get_or}
 
 -- the first vectors hold what a function gives at their places, and the others are as they were
 pub record AreWritten (f : ℕ → List ℕ) (old now : List (Vec ℕ Global)) (n : ℕ) : Type 0 where
@@ -36,7 +36,7 @@ written-kept f old now i are within holds = record {
   written = λ k d h.
       ⊎_elim
       (λ (same : k ≡ i).
-      ap (λ (n : ℕ). (get_or now n d).items) same ∙ ap (λ (w : Vec ℕ Global). w.items) (are.kept i d (omega arith)) ∙ sym (list-at old i d within) ∙ holds ∙ ap f (sym same))
+      ap (λ (n : ℕ). (get_or now n d).items) same ∙ ap (λ (w : Vec ℕ Global). w.items) (are.kept i d (omega arith)) ∙ sym (lists_of-get_or old i d within) ∙ holds ∙ ap f (sym same))
       (λ (other : k ≡ i → ⊥). are.written k d (omega (arith, other)))
       (cases_eq k i);
   kept = λ k d h. are.kept k d (omega arith);
@@ -56,7 +56,7 @@ written-all f old now n are long =
     get_or_default (lists_of now) k d [] h ∙ step k within ∙ sym (get_or-map-range_with_len f 0 n k k d (omega (arith, long)) (omega arith)))
   where
     step : (k : ℕ) → k < length now → get_or (lists_of now) k [] ≡ f k
-    step k within = some-vector now k within (λ d. list-at now k d within ∙ are.written k d (omega (arith, long)))
+    step k within = some-vector now k within (λ d. lists_of-get_or now k d within ∙ are.written k d (omega (arith, long)))
 
 -- writing a vector that holds the same changes no list
 pub same-written : (vectors : List (Vec ℕ Global)) (i : ℕ) (v d : Vec ℕ Global) → v.items ≡ (get_or vectors i d).items → lists_of (set vectors i v) ≡ lists_of vectors
@@ -64,4 +64,4 @@ same-written vectors i v d same = map-set_same (λ (w : Vec ℕ Global). w.items
 
 -- a vector that is not written yet holds its old list
 pub list-kept : (f : ℕ → List ℕ) (old now : List (Vec ℕ Global)) (i : ℕ) (d : Vec ℕ Global) → AreWritten f old now i → i < length old → (get_or now i d).items ≡ get_or (lists_of old) i []
-list-kept f old now i d are within = ap (λ (v : Vec ℕ Global). v.items) (are.kept i d (omega arith)) ∙ sym (list-at old i d within)
+list-kept f old now i d are within = ap (λ (v : Vec ℕ Global). v.items) (are.kept i d (omega arith)) ∙ sym (lists_of-get_or old i d within)

@@ -1,13 +1,15 @@
 ghost use Rattle.std.specs.Prelude.{◌≡◌, ◌+◌, ◌<◌, ◌≤◌, All, OnErr, OnOk, false, length};
-ghost use Rattle.fp_timenodes.specs.Floor.{has_point};
+ghost use Rattle.fp_lists.specs.Membership.{list_has};
 ghost use Rattle.fp_longestarcs.specs.Networks.{IsNetwork, TimedNetwork, points_in};
-ghost use Rattle.fp_longestarcs.specs.Vectors.{HasRoom, IsIndexed, lists_of, network_of};
+ghost use Rattle.fp_longestarcs.specs.Vectors.{HasRoom, IsIndexed, network_of};
+ghost use Rattle.fp_lists.specs.Vectors.{lists_of};
 ghost use Rattle.fp_longestarcs.specs.Changes.{lifted, refined, restored};
 
 use crate::NoMemory;
-use crate::ascending::{floor_among, place_among};
+use crate::ascending::floor_among;
 use crate::listing::{count_classes, step_of};
 use crate::lists::{list_at, put};
+use fp_lists::place_among;
 use fp_model::Instance;
 use fp_timenodes::{LATEST, Place};
 
@@ -93,7 +95,7 @@ pub(crate) fn add_point(
     requires arcs { length tails.now ≡ length instance.now.arcs }
     requires terminals { length points.old ≡ length instance.now.terminals }
     requires terminal { new.terminal < length points.old }
-    requires new { has_point (points_in (network_of tails.now points.old heads.old) new.terminal) new.at ≡ false }
+    requires new { list_has (points_in (network_of tails.now points.old heads.old) new.terminal) new.at ≡ false }
     requires in_time { new.at ≤ LATEST }
     ensures ok { OnOk result (network_of tails.now points.new heads.new ≡ refined instance.now (network_of tails.now points.old heads.old) new.terminal new.at) }
     ensures indexed { IsIndexed (network_of tails.now points.new heads.new) offsets.new }

@@ -4,7 +4,8 @@ ghost use Rattle.fp_model.specs.Routes.{step};
 ghost use Rattle.fp_timenodes.specs.Floor.{HaveSamePoints, floor_point};
 ghost use Rattle.fp_timenodes.specs.Points.{points_at};
 ghost use Rattle.fp_longestarcs.specs.Ascending.{ArePoints};
-ghost use Rattle.fp_longestarcs.specs.Vectors.{AreOffsets, lists_of};
+ghost use Rattle.fp_longestarcs.specs.Vectors.{AreOffsets};
+ghost use Rattle.fp_lists.specs.Vectors.{lists_of};
 ghost use Rattle.fp_longestarcs.specs.Whole.{heads_of, tails_of};
 
 use crate::NoMemory;

@@ -1,9 +1,10 @@
 ghost use Rattle.std.specs.Prelude.{ℕ, ◌≡◌, ◌+◌, ◌<◌, ◌≤◌, false, true, IfOk, OnErr, OnOk, length};
 ghost use Rattle.fp_model.specs.Problem.{Problem, arc_at};
 ghost use Rattle.fp_model.specs.Routes.{step};
-ghost use Rattle.fp_timenodes.specs.Floor.{floor_point, has_point};
+ghost use Rattle.fp_timenodes.specs.Floor.{floor_point};
+ghost use Rattle.fp_lists.specs.Membership.{list_has};
 ghost use Rattle.fp_timenodes.specs.Points.{TimePoints, points_at};
-ghost use Rattle.fp_longestarcs.specs.Ascending.{place_of};
+ghost use Rattle.fp_lists.specs.Ascending.{place_in};
 ghost use Rattle.fp_longestarcs.specs.Classes.{head_of};
 ghost use Rattle.fp_longestarcs.specs.Networks.{IsArcOfClass, IsClass, IsNetwork, TimedNetwork, class_count, class_number, first_class, kept_head, point_count, points_in, tail_in};
 ghost use Rattle.fp_longestarcs.specs.Whole.{HasArcsOf, IsNetworkOf, IsWhole};
@@ -11,10 +12,11 @@ ghost use Rattle.fp_longestarcs.specs.Changes.{HasAlso, points_with, refined, re
 ghost use Rattle.fp_longestarcs.specs.Properties.{HasProperties};
 
 use crate::NoMemory;
-use crate::ascending::{count_until, floor_among, is_among, place_among};
+use crate::ascending::{floor_among, is_among};
 use crate::copies::{add_point, lift_copies};
 use crate::listing::{all_heads, all_tails, all_times, count_classes, step_of};
 use crate::lists::{copied, list_at};
+use fp_lists::{count_until, place_among};
 use fp_model::Instance;
 use fp_timenodes::{LATEST, Place, Points};
 use std::alloc::Global;
@@ -88,7 +90,7 @@ impl Network {
     /// Whether the time is a point of the terminal.
     pub fn is_point(&self, terminal: u32, at: u32) -> bool
         requires { terminal < length self.now.points }
-        ensures { result ≡ has_point (points_in self.now terminal) at }
+        ensures { result ≡ list_has (points_in self.now terminal) at }
     {
         is_among(self.points(terminal), at)
     }
@@ -152,7 +154,7 @@ impl Network {
     // The place of a point among those of an arc's tail.
     fn place(&self, arc: u32, point: u32) -> usize
         requires { IsClass self.now (record { arc = arc; depart = point }) }
-        ensures place { result ≡ place_of (points_in self.now (tail_in self.now arc)) point }
+        ensures place { result ≡ place_in (points_in self.now (tail_in self.now arc)) point }
         ensures within { result < length (points_in self.now (tail_in self.now arc)) }
         ensures valid { IsNetwork self.now }
     {
@@ -188,7 +190,7 @@ impl Network {
     ) -> Result<(), NoMemory>
         requires arcs { HasArcsOf instance.now self.old }
         requires terminal { terminal < length instance.now.terminals }
-        requires new { has_point (points_in self.old terminal) at ≡ false }
+        requires new { list_has (points_in self.old terminal) at ≡ false }
         requires in_time { at ≤ LATEST }
         ensures ok { OnOk result (self.new ≡ refined instance.now self.old terminal at) }
         ensures err { OnErr result (self.new ≡ self.old) }

@@ -9,7 +9,7 @@ use Rattle.fp_model.specs.declared.faults.PlanKind.TheVariants.{Count, NotRoute,
 use Rattle.fp_model.specs.declared.parts.Leg.{Leg}
 use Rattle.fp_model.specs.declared.parts.Shipment.{Shipment}
 use Rattle.fp_model.specs.Problem.{Problem}
-use Rattle.fp_model.specs.Costs.{lists_of}
+use Rattle.fp_lists.specs.Vectors.{lists_of}
 use Rattle.fp_model.specs.Numbered.{leg_at, route_at, shipment_at}
 use Rattle.fp_model.specs.Faults.{HasLegFault, AreFaultless, HasFault, IsFirstFault, IsFirstLegFault, kind_number}
 use Rattle.fp_model.specs.Plans.{IsPlan}

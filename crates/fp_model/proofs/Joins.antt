@@ -12,8 +12,8 @@ use Rattle.fp_model.specs.declared.parts.Shipment.{Shipment}
 use Rattle.fp_model.specs.Problem.{Problem, arc_at, truck_cost}
 use Rattle.fp_model.specs.Costs.{same_leg, has_leg, distinct, all_legs, load, cost, flow_cost, flow_total}
 use Rattle.fp_model.proofs.Distinct.{same_leg-true, same_leg-refl, distinct_sum, term-le, one-le}
-use Rattle.fp_model.proofs.Sums.{sum_by-both, sum_by-map, sum_by-scaled, sum_by-swap, same_sum}
-use Rattle.fp_model.proofs.Ceilings.{div_ceil-zero, div_ceil-mono, div_ceil-sum_by}
+use Rattle.fp_lists.proofs.Sums.{sum_by-scaled, sum_by-swap, sum_by-same, sum_by-both, sum_by-map}
+use Rattle.fp_lists.proofs.Ceilings.{div_ceil_mono, div_ceil-sum_by, div_ceil-zero}
 use Rattle.fp_model.proofs.Bounds.{departure_of}
 
 -- the legs that a map takes to c, summed over
@@ -39,7 +39,7 @@ load-gathered f all (s ∷ ss) (r ∷ R) within c =
     let rest : load ss (map (map f) R) c ≤ gathered f all (load ss R) c =
     load-gathered f all ss R (λ k h. within k (list_any-append (same_leg k) r (all_legs R) ∙ or_right (has_leg k r) (has_leg k (all_legs R)) h)) c in
     let split : gathered f all (load (s ∷ ss) (r ∷ R)) c ≡ gathered f all own c + gathered f all (load ss R) c =
-    same_sum (λ k. if same_leg (f k) c then own k + load ss R k else 0) (λ k. (if same_leg (f k) c then own k else 0) + (if same_leg (f k) c then load ss R k else 0))
+    sum_by-same (λ k. if same_leg (f k) c then own k + load ss R k else 0) (λ k. (if same_leg (f k) c then own k else 0) + (if same_leg (f k) c then load ss R k else 0))
     (λ k.
     ⊎_elim
     (λ (h : same_leg (f k) c ≡ true).
@@ -70,13 +70,13 @@ departure-gathered p f keeps ss R c =
     let part : Leg → ℕ = λ k. if same_leg (f k) c then load ss R k else 0 in
     let loaded : load ss (map (map f) R) c ≤ sum_by part (distinct all) = load-gathered f all ss R (λ k h. h) c in
     let few : div_ceil (load ss (map (map f) R) c) arc.capacity ≤ sum_by (λ k. div_ceil (part k) arc.capacity) (distinct all) =
-    omega (arith, div_ceil-mono (load ss (map (map f) R) c) (sum_by part (distinct all)) arc.capacity loaded, div_ceil-sum_by part arc.capacity (distinct all)) in
+    omega (arith, div_ceil_mono (load ss (map (map f) R) c) (sum_by part (distinct all)) arc.capacity loaded, div_ceil-sum_by part arc.capacity (distinct all)) in
     let costs : arc.truck * div_ceil (load ss (map (map f) R) c) arc.capacity ≤ arc.truck * sum_by (λ k. div_ceil (part k) arc.capacity) (distinct all) =
     mul-le-mul_left arc.truck few in
     let apart : sum_by (λ k. arc.truck * div_ceil (part k) arc.capacity) (distinct all) ≡ arc.truck * sum_by (λ k. div_ceil (part k) arc.capacity) (distinct all) =
     sum_by-scaled arc.truck (λ k. div_ceil (part k) arc.capacity) (distinct all) in
     let each : sum_by (λ k. arc.truck * div_ceil (part k) arc.capacity) (distinct all) ≡ gathered f all (departure_of p ss R) c =
-    same_sum (λ k. arc.truck * div_ceil (part k) arc.capacity) (λ k. if same_leg (f k) c then departure_of p ss R k else 0)
+    sum_by-same (λ k. arc.truck * div_ceil (part k) arc.capacity) (λ k. if same_leg (f k) c then departure_of p ss R k else 0)
     (λ k.
     ⊎_elim
     (λ (h : same_leg (f k) c ≡ true).
@@ -117,7 +117,7 @@ flow_joins p f keeps (s ∷ ss) [] = refl
 flow_joins p f keeps (s ∷ ss) (r ∷ R) =
     let flow : Leg → ℕ = λ k. (arc_at p k.arc).freight * s.size in
     let here : flow_cost p s.size (map f r) ≡ flow_cost p s.size r =
-    sum_by-map flow f r ∙ same_sum (λ k. flow (f k)) flow (λ k. ap (λ (a : ℕ). (arc_at p a).freight * s.size) (keeps k)) r in
+    sum_by-map flow f r ∙ sum_by-same (λ k. flow (f k)) flow (λ k. ap (λ (a : ℕ). (arc_at p a).freight * s.size) (keeps k)) r in
     omega (arith, here, flow_joins p f keeps ss R)
 
 -- routes whose departures are taken together, each on its arc, cost no more

@@ -1,11 +1,8 @@
-pub mod Sums
 pub mod Distinct
-pub mod Ceilings
 pub mod Bounds
 pub mod Joins
 pub mod Members
 pub mod SharedDepartures
-pub mod Places
 pub mod LastArrivals
 pub mod LegByLeg
 pub mod Faultless

@@ -25,10 +25,6 @@ abbrev pub distinct : List Leg → List Leg
 distinct [] = []
 distinct (k ∷ legs) = if has_leg k legs then distinct legs else k ∷ distinct legs
 
--- routes, each as the list of its legs
-abbrev pub lists_of : List (Vec Leg Global) → List (List Leg)
-lists_of routes = map (λ (r : Vec Leg Global). r.items) routes
-
 -- all legs of all routes
 abbrev pub all_legs : List (List Leg) → List Leg
 all_legs [] = []

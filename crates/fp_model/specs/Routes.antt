@@ -5,6 +5,7 @@
 -- own.
 use Rattle.std.specs.Prelude.{ℕ, ◌+◌, ◌*◌, ◌<◌, ◌≤◌, ◌≡◌, ◌≢◌, List, [], ◌∷◌, length, map, All}
 use Rattle.std.specs.List.{AllByRecursion}
+use Rattle.fp_lists.specs.Distinct.{AreDistinct}
 use Rattle.fp_model.specs.declared.parts.Shipment.{Shipment}
 use Rattle.fp_model.specs.declared.parts.Leg.{Leg}
 use Rattle.fp_model.specs.Problem.{Problem, arc_at, hold_at}
@@ -19,16 +20,11 @@ Leads p here (a ∷ arcs) there =
 abbrev pub ends_of : Problem → List ℕ → List ℕ
 ends_of p arcs = map (λ a. (arc_at p a).to) arcs
 
--- no number stands twice in a list
-abbrev pub AreApart : List ℕ → Type 0
-AreApart [] = Unit {0}
-AreApart (x ∷ xs) = AllByRecursion (λ y. y ≢ x) xs × AreApart xs
-
 -- a route of a shipment: not empty, from its origin to its destination, and no terminal twice
 pub record IsRoute (p : Problem) (s : Shipment) (arcs : List ℕ) : Type 0 where
   pub some : arcs ≢ []
   pub leads : Leads p s.from arcs s.to
-  pub once : AreApart (s.from ∷ ends_of p arcs)
+  pub once : AreDistinct (s.from ∷ ends_of p arcs)
 
 -- the step of an arc, its time and the hold of its head: so long after it left by the arc a
 -- shipment can leave the next terminal

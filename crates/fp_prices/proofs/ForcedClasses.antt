@@ -10,7 +10,7 @@ use Rattle.fp_model.specs.Problem.{Problem, arc_at}
 use Rattle.fp_model.specs.Routes.{Leads, arcs_of}
 use Rattle.fp_model.specs.Costs.{same_leg, has_leg, load}
 use Rattle.fp_model.proofs.Bounds.{departure_of}
-use Rattle.fp_model.proofs.Ceilings.{div_ceil-mono}
+use Rattle.fp_lists.proofs.Ceilings.{div_ceil_mono}
 use Rattle.fp_allowed.specs.Allowed.{AreForced}
 use Rattle.fp_prices.specs.Leaves.{IsChain}
 
@@ -55,4 +55,4 @@ pub base-le : (p : Problem) (shipments : List Shipment) (chains walks : List (Li
     departure_of p shipments chains c ≤ departure_of p shipments walks c
 base-le p shipments chains walks c among =
     let arc : Arc = arc_at p c.arc in
-    mul-le-mul_left arc.truck (div_ceil-mono (load shipments chains c) (load shipments walks c) arc.capacity (load-among shipments chains walks c among))
+    mul-le-mul_left arc.truck (div_ceil_mono (load shipments chains c) (load shipments walks c) arc.capacity (load-among shipments chains walks c among))

@@ -11,7 +11,7 @@ use Rattle.fp_labels.specs.Walks.{IsOpen, cost_of, Leads as LeadsOver, walk_cost
 use Rattle.fp_model.specs.declared.parts.Leg.{Leg}
 use Rattle.fp_model.specs.Problem.{Problem, arc_at}
 use Rattle.fp_model.specs.Routes.{Leads, arcs_of}
-use Rattle.fp_longestarcs.specs.Ascending.{place_of}
+use Rattle.fp_lists.specs.Ascending.{place_in}
 use Rattle.fp_longestarcs.specs.Classes.{head_of}
 use Rattle.fp_longestarcs.specs.Networks.{TimedNetwork, IsClass, class_count, class_number, points_in}
 use Rattle.fp_longestarcs.proofs.Grown.{points-of}
@@ -77,8 +77,8 @@ timed-walk p net allowed price size costs are there ends (e ∷ walk) here place
         let joins : Joins p net c = class-joins p net c are.valid are.whole is in
         let from : ℕ = (arc_at p c.arc).from in
         let to : ℕ = (arc_at p c.arc).to in
-        let leaves : ℕ = place_of (points_in net from) c.depart in
-        let enters : ℕ = place_of (points_in net to) (head_of p (points_in net) c) in
+        let leaves : ℕ = place_in (points_in net from) c.depart in
+        let enters : ℕ = place_in (points_in net to) (head_of p (points_in net) c) in
         let more : ℕ = price c + p.scale * (arc_at p c.arc).freight * size in
         let edge : edge_at (edges_of p net) e ≡ class_edge p net c = ap (edge_at (edges_of p net)) (sym number) ∙ edge-of-class p net c are.whole.valid is in
         let same = node-unique net from here leaves place joins.tail exists joins.leaves within (ap (λ (g : Edge). g.from) (sym edge) ∙ leads.1) in

@@ -10,12 +10,13 @@ use Rattle.std.proofs.lemmas.List.Sums.{sum_by-cons, sum_by-le}
 use Rattle.fp_labels.specs.declared.graphs.Edge.{Edge}
 use Rattle.fp_labels.specs.Graphs.{HasEnds, edge_at, no_edge}
 use Rattle.fp_labels.specs.Labels.{IsSimpleWalk}
-use Rattle.fp_labels.specs.Walks.{AreApart, IsDistance, IsWalk, cost_of, nodes_on, Leads as LeadsOver, walk_cost as edges_cost}
+use Rattle.fp_labels.specs.Walks.{IsDistance, IsWalk, cost_of, nodes_on, Leads as LeadsOver, walk_cost as edges_cost}
+use Rattle.fp_lists.specs.Distinct.{AreDistinct}
 use Rattle.fp_model.specs.declared.parts.Leg.{Leg}
 use Rattle.fp_model.specs.declared.parts.Shipment.{Shipment}
 use Rattle.fp_model.specs.Problem.{Problem}
-use Rattle.fp_model.proofs.Bounds.{sum_by-places-le}
-use Rattle.fp_model.proofs.Sums.{each-weaker}
+use Rattle.fp_lists.proofs.DistinctSums.{sum_by-places-le, length-distinct-le}
+use Rattle.fp_lists.proofs.Elements.{AllByRecursion-weaker}
 use Rattle.fp_longestarcs.specs.Networks.{TimedNetwork, points_in}
 use Rattle.fp_longestarcs.proofs.Grown.{points-of}
 use Rattle.fp_allowed.specs.Walks.{FollowsHeads, IsTimedWalk}
@@ -64,23 +65,6 @@ least-over p net allowed price costs s are from to (Some n) least =
           subst (λ (m : ℕ). n ≤ m) goes.1.costs_so (least.least goes.0 goes.1.leads goes.1.open_edges);
     }
 
--- numbers below n that are all different are at most n
-few-apart : (n : ℕ) (places : List ℕ) → AllByRecursion (λ i. i < n) places → AreApart places → length places ≤ n
-few-apart n places below apart =
-    let each : All (λ (i : ℕ). i ≤ 1) row = λ k d h. omega (arith, get_or-replicate {A = ℕ} n k 1 d (omega (arith, h, long))) in
-    let inside : AllByRecursion (λ i. i < length row) places = each-weaker (λ i. i < n) (λ i. i < length row) (λ i h. omega (arith, h, long)) places below in
-    omega (arith, sum_by-places-le (λ (i : ℕ). i) 0 refl places row inside apart, ones places below, sum_by-le (λ (i : ℕ). i) 1 row each, long)
-  where
-    row : List ℕ
-    row = replicate n 1
-
-    long : length row ≡ n
-    long = length-replicate {A = ℕ} n 1
-
-    ones : (numbers : List ℕ) → AllByRecursion (λ i. i < n) numbers → sum_by (λ i. get_or row i 0) numbers ≡ length numbers
-    ones [] h = refl
-    ones (x ∷ xs) h = omega (arith, sum_by-cons (λ i. get_or row i 0) x xs, get_or-replicate {A = ℕ} n x 1 0 h.0, ones xs h.1)
-
 -- the nodes on a walk are nodes
 nodes-below : (edges : List Edge) (nodes here there : ℕ) (walk : List ℕ) → HasEnds nodes edges → here < nodes → LeadsOver edges here walk there → AllByRecursion (λ i. i < nodes) (nodes_on edges here walk)
 nodes-below edges nodes here there [] ends inside leads = (inside, tt)
@@ -91,7 +75,7 @@ nodes-below edges nodes here there (e ∷ walk) ends inside leads =
 pub simple-small : (edges : List Edge) (costs : List (Option ℕ)) (nodes here there : ℕ) (walk : List ℕ) (cost most : ℕ) → HasEnds nodes edges → here < nodes →
     IsSimpleWalk edges costs here there walk cost → All (λ o. IfSome o (λ (n : ℕ). n ≤ most)) costs → cost ≤ nodes * most
 simple-small edges costs nodes here there walk cost most ends inside simple all =
-    let few : length (nodes_on edges here walk) ≤ nodes = few-apart nodes (nodes_on edges here walk) (nodes-below edges nodes here there walk ends inside simple.goes.leads) simple.apart in
+    let few : length (nodes_on edges here walk) ≤ nodes = length-distinct-le nodes (nodes_on edges here walk) (nodes-below edges nodes here there walk ends inside simple.goes.leads) simple.apart in
     let short : length walk ≤ nodes = omega (arith, few, length-map walk (λ (e : ℕ). (edge_at edges e).to)) in
     let each : edges_cost costs walk ≤ length walk * most = sum_by-le (λ (e : ℕ). unwrap_or (cost_of costs e) 0) most walk (λ k d h. each-small (get_or walk k d)) in
     omega (arith, each, mul-le-mul_right most short, simple.goes.costs_so)

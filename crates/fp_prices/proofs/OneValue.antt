@@ -4,10 +4,11 @@ use Rattle.std.specs.Prelude.{sum_by, slice_index_or, Option}
 use Rattle.std.proofs.lemmas.Bool.{cases_order}
 use Rattle.fp_model.specs.declared.parts.Leg.{Leg}
 use Rattle.fp_model.specs.declared.parts.Shipment.{Shipment}
-use Rattle.fp_model.specs.Numbered.{AllZipFrom, no_shipment, shipment_at}
+use Rattle.fp_model.specs.Numbered.{no_shipment, shipment_at}
+use Rattle.fp_lists.specs.Numbered.{AllZipFrom}
 use Rattle.fp_model.specs.Problem.{Problem, arc_at}
 use Rattle.fp_model.specs.Costs.{all_legs, departures_cost}
-use Rattle.fp_model.proofs.Places.{zip-places}
+use Rattle.fp_lists.proofs.Numbered.{AllZipFrom-get_or}
 use Rattle.fp_flatnet.specs.declared.window_tables.Window.{Window}
 use Rattle.fp_tree.specs.declared.sides.Side.{Side}
 use Rattle.fp_allowed.specs.Allowed.{AreForced, is_allowed}
@@ -86,7 +87,7 @@ leaf-value-some p windows points sides tables kind forced v is empty =
     let allowed : ℕ → Leg → Bool = is_allowed p windows points sides in
     let k : ℕ = empty.shipment in
     let there : IsLeastCost p points (allowed (0 + k)) (shipment_at p k) (leaf_price p tables allowed kind is.chains (0 + k) (shipment_at p k).size) (slice_index_or is.costs k 0) =
-    zip-places (λ j (s : Shipment) n. IsLeastCost p points (allowed j) s (leaf_price p tables allowed kind is.chains j s.size) n) p.shipments is.costs no_shipment 0 0 k is.are_least empty.exists in
+    AllZipFrom-get_or (λ j (s : Shipment) n. IsLeastCost p points (allowed j) s (leaf_price p tables allowed kind is.chains j s.size) n) p.shipments is.costs no_shipment 0 0 k is.are_least empty.exists in
     let same : 0 + k ≡ k = omega arith in
     empty.none there.walk (subst (λ (j : ℕ). IsTimedWalk p points (allowed j) (shipment_at p k) there.walk) same there.timed)
 

@@ -8,14 +8,15 @@ use Rattle.fp_labels.specs.Graphs.{edge_at, no_edge, HasEnds}
 use Rattle.fp_model.specs.declared.parts.Leg.{Leg}
 use Rattle.fp_model.specs.Problem.{Problem, arc_at, IsValid}
 use Rattle.fp_timenodes.proofs.Floors.{IsFloorPoint-floor_point}
-use Rattle.fp_longestarcs.specs.Ascending.{ArePoints, place_of}
+use Rattle.fp_longestarcs.specs.Ascending.{ArePoints}
+use Rattle.fp_lists.specs.Ascending.{place_in}
 use Rattle.fp_longestarcs.specs.Classes.{head_of}
 use Rattle.fp_longestarcs.specs.Networks.{TimedNetwork, IsArcOfClass, IsClass, IsNetwork, class_count, class_number, copy_count, first_class, point_count, points_in, tail_in}
 use Rattle.fp_longestarcs.specs.Whole.{IsWhole}
 use Rattle.fp_longestarcs.proofs.ClassNumbers.{class-place, few-classes, first-more, number-within}
 use Rattle.fp_longestarcs.proofs.Grown.{points-of}
 use Rattle.fp_longestarcs.proofs.Lengthened.{arc-count, tail-of}
-use Rattle.fp_longestarcs.proofs.Places.{at-place}
+use Rattle.fp_lists.proofs.Places.{get_or-place_in}
 use Rattle.fp_longestarcs.proofs.Shorter.{head-within}
 use Rattle.fp_allowed.specs.Listing.{class_at}
 use Rattle.fp_allowed.proofs.ListedClasses.{class_at-number, class_by, class_by-is, class_by-number}
@@ -163,10 +164,10 @@ pub record Joins (p : Problem) (net : TimedNetwork) (c : Leg) : Type 0 where
   pub exists : c.arc < length p.arcs
   pub tail : (arc_at p c.arc).from < length net.points
   pub head : (arc_at p c.arc).to < length net.points
-  pub leaves : place_of (points_in net (arc_at p c.arc).from) c.depart < length (points_in net (arc_at p c.arc).from)
-  pub departs : get_or (points_in net (arc_at p c.arc).from) (place_of (points_in net (arc_at p c.arc).from) c.depart) 0 ≡ c.depart
-  pub enters : place_of (points_in net (arc_at p c.arc).to) (head_of p (points_in net) c) < length (points_in net (arc_at p c.arc).to)
-  pub arrives : get_or (points_in net (arc_at p c.arc).to) (place_of (points_in net (arc_at p c.arc).to) (head_of p (points_in net) c)) 0 ≡ head_of p (points_in net) c
+  pub leaves : place_in (points_in net (arc_at p c.arc).from) c.depart < length (points_in net (arc_at p c.arc).from)
+  pub departs : get_or (points_in net (arc_at p c.arc).from) (place_in (points_in net (arc_at p c.arc).from) c.depart) 0 ≡ c.depart
+  pub enters : place_in (points_in net (arc_at p c.arc).to) (head_of p (points_in net) c) < length (points_in net (arc_at p c.arc).to)
+  pub arrives : get_or (points_in net (arc_at p c.arc).to) (place_in (points_in net (arc_at p c.arc).to) (head_of p (points_in net) c)) 0 ≡ head_of p (points_in net) c
 
 pub class-joins : (p : Problem) (net : TimedNetwork) (c : Leg) → IsValid p → IsWhole p net → IsClass net c → Joins p net c
 class-joins p net c valid whole is =
@@ -175,13 +176,13 @@ class-joins p net c valid whole is =
     let there = class-place net c whole.valid is in
     let head : (arc_at p c.arc).to < length net.points = head-within p net c.arc valid whole is.0 in
     let ends : ArePoints (points_in net (arc_at p c.arc).to) = points-of net (arc_at p c.arc).to whole.valid head in
-    let enters = at-place (points_in net (arc_at p c.arc).to) (head_of p (points_in net) c) ends.ascending (IsFloorPoint-floor_point (points_in net (arc_at p c.arc).to) _ ends.zero).0 in
+    let enters = get_or-place_in (points_in net (arc_at p c.arc).to) (head_of p (points_in net) c) ends.ascending (IsFloorPoint-floor_point (points_in net (arc_at p c.arc).to) _ ends.zero).0 in
     record {
       exists = exists;
       tail = subst (λ (t : ℕ). t < length net.points) tail (whole.valid.tails c.arc 0 is.0);
       head = head;
-      leaves = subst (λ (t : ℕ). place_of (points_in net t) c.depart < length (points_in net t)) tail there.0;
-      departs = subst (λ (t : ℕ). get_or (points_in net t) (place_of (points_in net t) c.depart) 0 ≡ c.depart) tail there.1;
+      leaves = subst (λ (t : ℕ). place_in (points_in net t) c.depart < length (points_in net t)) tail there.0;
+      departs = subst (λ (t : ℕ). get_or (points_in net t) (place_in (points_in net t) c.depart) 0 ≡ c.depart) tail there.1;
       enters = enters.0;
       arrives = enters.1 0;
     }
@@ -199,8 +200,8 @@ has-ends p net valid whole k d h =
     class (c, is, number) =
         let joins = class-joins p net c valid whole is in
         subst Ends (sym (edge-of-class p net c whole.valid is) ∙ ap (edge_at (edges_of p net)) number) (
-          node-within net (arc_at p c.arc).from (place_of (points_in net (arc_at p c.arc).from) c.depart) joins.tail joins.leaves,
-          node-within net (arc_at p c.arc).to (place_of (points_in net (arc_at p c.arc).to) (head_of p (points_in net) c)) joins.head joins.enters,
+          node-within net (arc_at p c.arc).from (place_in (points_in net (arc_at p c.arc).from) c.depart) joins.tail joins.leaves,
+          node-within net (arc_at p c.arc).to (place_in (points_in net (arc_at p c.arc).to) (head_of p (points_in net) c)) joins.head joins.enters,
         )
 
     holding : ((class_count net ≤ k) × IsHolding net (edge_at (edges_of p net) k)) → Ends (edge_at (edges_of p net) k)

@@ -1,9 +1,11 @@
 -- A leaf is the same over other lists of the same points.
 use Rattle.std.proofs.Common.{◌≡◌, ℕ, ◌+◌, Bool, List, [], ◌∷◌, subst}
 use Rattle.std.specs.Prelude.{Option}
+use Rattle.fp_lists.proofs.Numbered.{AllZipFrom-weaker}
 use Rattle.fp_model.specs.declared.parts.Leg.{Leg}
 use Rattle.fp_model.specs.declared.parts.Shipment.{Shipment}
-use Rattle.fp_model.specs.Numbered.{AllZipFrom, shipment_at}
+use Rattle.fp_model.specs.Numbered.{shipment_at}
+use Rattle.fp_lists.specs.Numbered.{AllZipFrom}
 use Rattle.fp_model.specs.Problem.{IsValid, Problem}
 use Rattle.fp_flatnet.specs.declared.window_tables.Window.{Window}
 use Rattle.fp_tree.specs.declared.sides.Side.{Side}
@@ -16,13 +18,6 @@ use Rattle.fp_prices.specs.declared.bounds.LeafBound.TheVariants.{Empty, Value}
 use Rattle.fp_prices.specs.declared.leaf_prices.Kind.{Kind}
 use Rattle.fp_prices.specs.Leaves.{HasNoWalk, IsBoundOf, IsChain, IsLeastCost, leaf_price}
 use Rattle.fp_prices.specs.Shares.{ClassShare}
-
--- what holds of the elements at each place of two lists
-zip-weaker : {X Y : Type 0} (Q R : ℕ → X → Y → Type 0) → ((k : ℕ) (x : X) (y : Y) → Q k x y → R k x y) → (i : ℕ) (xs : List X) (ys : List Y) → AllZipFrom Q i xs ys → AllZipFrom R i xs ys
-zip-weaker Q R on i [] [] all = tt
-zip-weaker Q R on i [] (y ∷ ys) all = absurd all
-zip-weaker Q R on i (x ∷ xs) [] all = absurd all
-zip-weaker Q R on i (x ∷ xs) (y ∷ ys) all = (on i x y all.0, zip-weaker Q R on (i + 1) xs ys all.1)
 
 module _ (p : Problem) (valid : IsValid p) where
   least-same : (points others : ℕ → List ℕ) → AgreeOnPoints p points others → (allowed : Leg → Bool) (s : Shipment) (price : Leg → ℕ) (n : ℕ) → IsLeastCost p points allowed s price n → IsLeastCost p others allowed s price n
@@ -52,7 +47,7 @@ module _ (p : Problem) (valid : IsValid p) where
         costs = is.costs;
         are_chains = subst (λ (allowed : ℕ → Leg → Bool). AllZipFrom (λ k. IsChain p (allowed k) forced) 0 p.shipments is.chains) e is.are_chains;
         are_least = subst (λ (allowed : ℕ → Leg → Bool). AllZipFrom (λ k (s : Shipment) n. IsLeastCost p others (allowed k) s (leaf_price p tables allowed kind is.chains k s.size) n) 0 p.shipments is.costs) e
-            (zip-weaker
+            (AllZipFrom-weaker
             (λ k (s : Shipment) n. IsLeastCost p points (is_allowed p windows points sides k) s (leaf_price p tables (is_allowed p windows points sides) kind is.chains k s.size) n)
             (λ k (s : Shipment) n. IsLeastCost p others (is_allowed p windows points sides k) s (leaf_price p tables (is_allowed p windows points sides) kind is.chains k s.size) n)
             (λ k s n. least-same points others same (is_allowed p windows points sides k) s (leaf_price p tables (is_allowed p windows points sides) kind is.chains k s.size) n) 0 p.shipments is.costs is.are_least);

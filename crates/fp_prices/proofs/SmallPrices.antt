@@ -6,6 +6,7 @@ use Rattle.std.proofs.lemmas.Bool.{cases_Bool, cond-true, cond-false}
 use Rattle.std.proofs.lemmas.List.Elements.{All-get_or}
 use Rattle.std.proofs.lemmas.List.Sums.{sum_by-cons, get_or-le-sum_by}
 use Rattle.std.proofs.Math.Nat.{mul-le-mul_left}
+use Rattle.fp_lists.proofs.Distinct.{AreDistinct-cons, AreDistinct-nil}
 use Rattle.fp_model.specs.declared.parts.Arc.{Arc}
 use Rattle.fp_model.specs.declared.parts.Leg.{Leg}
 use Rattle.fp_model.specs.declared.parts.Shipment.{Shipment}
@@ -47,7 +48,7 @@ price-small p tables allowed kind c k valid keep exists arc_exists is =
     let one_size : sum_by (λ (j : ℕ). size) (k ∷ []) ≡ size = omega (arith, sum_by-cons (λ (j : ℕ). size) k []) in
     let one_price : sum_by price (k ∷ []) ≡ price k = omega (arith, sum_by-cons price k []) in
     let fit : sum_by price (k ∷ []) ≤ p.scale * truck_cost (arc_at p c.arc) (sum_by (λ (j : ℕ). size) (k ∷ [])) =
-    trucks-fit p tables allowed kind c (λ (j : ℕ). size) (k ∷ []) keep (omega (arith, capacity)) (tt, tt) (omega (arith, one_size, some)) few in
+    trucks-fit p tables allowed kind c (λ (j : ℕ). size) (k ∷ []) keep (omega (arith, capacity)) (AreDistinct-cons k [] tt AreDistinct-nil) (omega (arith, one_size, some)) few in
     let there : sum_by price (k ∷ []) ≤ p.scale * truck_cost (arc_at p c.arc) size =
     subst (λ (n : ℕ). sum_by price (k ∷ []) ≤ p.scale * truck_cost (arc_at p c.arc) n) one_size fit in
     omega (arith, there, one_price)

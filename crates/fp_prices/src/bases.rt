@@ -1,6 +1,6 @@
 ghost use Rattle.std.specs.Prelude.{ℕ, ◌≡◌, ◌+◌, ◌*◌, ◌<◌, ◌≤◌, ◌^◌, ◌||◌, All, IfOk, List, false, if◌then◌else◌, length, replicate, slice_index, true};
-ghost use Rattle.fp_model.specs.Routes.{AreApart};
-ghost use Rattle.fp_timenodes.specs.Floor.{has_point};
+ghost use Rattle.fp_lists.specs.Distinct.{AreDistinct};
+ghost use Rattle.fp_lists.specs.Membership.{list_has};
 ghost use Rattle.fp_longestarcs.specs.Networks.{class_count};
 ghost use Rattle.fp_longestarcs.specs.Whole.{IsWhole};
 ghost use Rattle.fp_tree.specs.declared.sides.Side.{Side};
@@ -35,12 +35,12 @@ fn no_chains(alloc: Global, classes: u32) -> Result<ForcedClasses, NoMemory>
 
 // Adds the chain, by the numbers of its classes, of a shipment of a size.
 fn add_chain(forced: &mut ForcedClasses, classes: &[u32], size: u64)
-    requires apart { AreApart classes.now }
+    requires apart { AreDistinct classes.now }
     requires loads { All (λ class. class < length forced.old.loads.items) classes.now }
     requires row { All (λ class. class < length forced.old.row) classes.now }
     requires room { All (λ load. load + size < 2 ^ 128) forced.old.loads.items }
-    ensures loads { (n : ℕ) → slice_index forced.new.loads.items n ≡ slice_index forced.old.loads.items n + (if has_point classes.now n then size else 0) }
-    ensures row { (n : ℕ) → bit_of forced.new.row n ≡ (bit_of forced.old.row n || has_point classes.now n) }
+    ensures loads { (n : ℕ) → slice_index forced.new.loads.items n ≡ slice_index forced.old.loads.items n + (if list_has classes.now n then size else 0) }
+    ensures row { (n : ℕ) → bit_of forced.new.row n ≡ (bit_of forced.old.row n || list_has classes.now n) }
     ensures loads_long { length forced.new.loads.items ≡ length forced.old.loads.items }
     ensures row_long { length forced.new.row ≡ length forced.old.row }
 {

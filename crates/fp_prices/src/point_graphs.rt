@@ -2,7 +2,8 @@
 ghost use Rattle.std.specs.Prelude.{◌≡◌, ◌+◌, ◌-◌, ◌<◌, ◌≤◌, ◌++◌, IfOk, OnOk, length, map};
 ghost use Rattle.std.specs.List.{range_with_len};
 ghost use Rattle.fp_labels.specs.Graphs.{HasEnds};
-ghost use Rattle.fp_longestarcs.specs.Ascending.{ArePoints, place_of};
+ghost use Rattle.fp_longestarcs.specs.Ascending.{ArePoints};
+ghost use Rattle.fp_lists.specs.Ascending.{place_in};
 ghost use Rattle.fp_longestarcs.specs.Networks.{class_count, point_count, points_in};
 ghost use Rattle.fp_longestarcs.specs.Whole.{IsWhole};
 ghost use Rattle.fp_allowed.specs.Listing.{class_at};
@@ -11,6 +12,7 @@ ghost use Rattle.fp_prices.specs.PointGraphs.{IsPointGraph};
 ghost use Rattle.fp_prices.specs.ClassCosts.{IsFree};
 
 use crate::NoMemory;
+use fp_lists::place_among;
 use fp_labels::{Edge, Graph};
 use fp_longestarcs::Network;
 use fp_model::Instance;
@@ -156,17 +158,7 @@ fn node_of(network: &Network, firsts: &[u32], terminal: u32, at: u32) -> u32
     requires firsts { AreFirstNodes network.now firsts.now }
     ensures { result ≡ point_node network.now terminal at }
 {
-    firsts[terminal as usize] + place_among(network.points(terminal), at)
-}
-
-// How many of the points, of which there are few, are before the time.
-fn place_among(points: &[u32], at: u32) -> u32
-    requires points { ArePoints points.now }
-    requires few { length points.now ≤ 65000 }
-    ensures place { result ≡ place_of points.now at }
-    ensures within { result ≤ length points.now }
-{
-    points.partition_point(|point| *point < at) as u32
+    firsts[terminal as usize] + place_among(network.points(terminal), at) as u32
 }
 
 // The node of a terminal's last point.

@@ -5,11 +5,13 @@ use Rattle.std.specs.List.{AllByRecursion, list_any}
 use Rattle.std.proofs.lemmas.Bool.{cases_Bool, or_cases, or_left, or_right}
 use Rattle.std.proofs.lemmas.List.Elements.{All-append, All-filter, All-from_recursion, All-head, All-map, All-tail, Contains-append_right, recursion_from_All}
 use Rattle.std.proofs.lemmas.List.Kept.{AllPairs-cons, AllPairs-filter}
+use Rattle.fp_lists.proofs.Membership.{Contains-first}
+use Rattle.fp_lists.proofs.Pairs.{AllPairs-head, AllPairs-tail, AllPairs-nil}
 use Rattle.fp_model.specs.declared.parts.Leg.{Leg}
 use Rattle.fp_model.specs.declared.parts.Member.{Member}
 use Rattle.fp_model.specs.Costs.{same_leg}
 use Rattle.fp_model.proofs.Distinct.{same_leg-refl, same_leg-true}
-use Rattle.fp_model.proofs.Sums.{each-weaker}
+use Rattle.fp_lists.proofs.Elements.{AllByRecursion-weaker}
 use Rattle.fp_relaxmodel.specs.Grouping.{Met, after}
 use Rattle.fp_relaxmodel.specs.Groups.{StartsBefore}
 use Rattle.fp_model.specs.Members.{MemberComesBefore, members_among, NamedLeg}
@@ -60,7 +62,7 @@ each-met (suc n) (x ∷ legs) le =
       exact = sym (members_among-same x.leg x legs own);
     } in
     let later : AllByRecursion (IsMet (x ∷ legs)) (after rest []) =
-    each-weaker (IsMet rest) (IsMet (x ∷ legs)) (met-wider x legs) (after rest []) (each-met n rest (omega (arith, le, others-short x.leg legs))) in
+    AllByRecursion-weaker (IsMet rest) (IsMet (x ∷ legs)) (met-wider x legs) (after rest []) (each-met n rest (omega (arith, le, others-short x.leg legs))) in
     subst (AllByRecursion (IsMet (x ∷ legs))) (sym (peel x legs)) (first, later)
 
 -- one leg comes before another
@@ -82,42 +84,23 @@ begins-before m group (y ∷ legs) k all there =
     subst (StartsBefore (m ∷ group)) (sym (members_among-other k y legs e)) (begins-before m group legs k all.1 later))
     (cases_Bool (same_leg k y.leg))
 
-pub pairs-head : {X : Type 0} (R : X → X → Type 0) (x : X) (xs : List X) → AllPairs R (x ∷ xs) → All (R x) xs
-pairs-head R x xs pairs k d lt = pairs 0 (suc k) d (omega arith) (omega (arith, lt))
-
-pub pairs-tail : {X : Type 0} (R : X → X → Type 0) (x : X) (xs : List X) → AllPairs R (x ∷ xs) → AllPairs R xs
-pairs-tail R x xs pairs i j d before lt = pairs (suc i) (suc j) d (omega (arith, before)) (omega (arith, lt))
-
-pub pairs-nil : {X : Type 0} (R : X → X → Type 0) → AllPairs R []
-pairs-nil R i j d before lt = absurd (omega (arith, lt))
-
--- two lists one after the other, where each element of the first comes before those of the second
-pub pairs-append : {X : Type 0} (R : X → X → Type 0) (xs ys : List X) → AllPairs R xs → AllPairs R ys → All (λ x. All (R x) ys) xs → AllPairs R (xs ++ ys)
-pairs-append R [] ys first last cross = last
-pairs-append {X} R (x ∷ xs) ys first last cross =
-    AllPairs-cons R x (xs ++ ys) (All-append (R x) xs ys (pairs-head R x xs first) (All-head (λ (z : X). All (R z) ys) x xs cross))
-    (pairs-append R xs ys (pairs-tail R x xs first) last (All-tail (λ (z : X). All (R z) ys) x xs cross))
-
 -- the first members ascend
 pub groups-ascend : (n : ℕ) (legs : List NamedLeg) → length legs ≤ n → AllPairs Before legs → AllPairs StartsBefore (members_of (after legs []))
-groups-ascend n [] le pairs = pairs-nil StartsBefore
+groups-ascend n [] le pairs = AllPairs-nil StartsBefore
 groups-ascend zero (x ∷ legs) le pairs = absurd (omega (arith, le))
 groups-ascend (suc n) (x ∷ legs) le pairs =
     let rest : List NamedLeg = others x.leg legs in
     let other : NamedLeg → Bool = λ y. not (same_leg x.leg y.leg) in
     let short : length rest ≤ n = omega (arith, le, others-short x.leg legs) in
     let first : List Member = (first_group x legs).members in
-    let after_x : AllByRecursion (λ (y : NamedLeg). MemberComesBefore x.member y.member) rest = recursion_from_All (Before x) rest (All-filter other (Before x) legs (pairs-head Before x legs pairs)) in
+    let after_x : AllByRecursion (λ (y : NamedLeg). MemberComesBefore x.member y.member) rest = recursion_from_All (Before x) rest (All-filter other (Before x) legs (AllPairs-head Before x legs pairs)) in
     let later : AllByRecursion (λ (g : Met). StartsBefore first g.members) (after rest []) =
-    each-weaker (IsMet rest) (λ (g : Met). StartsBefore first g.members)
+    AllByRecursion-weaker (IsMet rest) (λ (g : Met). StartsBefore first g.members)
     (λ g is. subst (StartsBefore first) (sym is.exact) (begins-before x.member (members_among legs x.leg) rest g.class after_x is.occurs)) (after rest []) (each-met n rest short) in
     let begins : All (StartsBefore first) (members_of (after rest [])) =
     All-map (StartsBefore first) (λ (g : Met). g.members) (after rest []) (All-from_recursion (λ (g : Met). StartsBefore first g.members) (after rest []) later) in
     subst (λ (groups : List Met). AllPairs StartsBefore (members_of groups)) (sym (peel x legs))
-    (AllPairs-cons StartsBefore first (members_of (after rest [])) begins (groups-ascend n rest short (AllPairs-filter Before other legs (pairs-tail Before x legs pairs))))
-
-contains-first : {X : Type 0} (y : X) (ys : List X) → Contains (y ∷ ys) y
-contains-first y ys = (0, omega arith, refl)
+    (AllPairs-cons StartsBefore first (members_of (after rest [])) begins (groups-ascend n rest short (AllPairs-filter Before other legs (AllPairs-tail Before x legs pairs))))
 
 -- each class that occurs has its group
 pub groups-cover : (n : ℕ) (legs : List NamedLeg) (k : Leg) → length legs ≤ n → Occurs k legs → Contains (members_of (after legs [])) (members_among legs k)
@@ -132,7 +115,7 @@ groups-cover (suc n) (x ∷ legs) k le there =
     (λ (e : same_leg k x.leg ≡ true).
     let is : k ≡ x.leg = same_leg-true k x.leg e in
     let own : members_among (x ∷ legs) k ≡ first = ap (members_among (x ∷ legs)) is ∙ members_among-same x.leg x legs (same_leg-refl x.leg) in
-    subst (Contains (first ∷ members_of (after rest []))) (sym own) (contains-first first (members_of (after rest []))))
+    subst (Contains (first ∷ members_of (after rest []))) (sym own) (Contains-first first (members_of (after rest []))))
     (λ (e : same_leg k x.leg ≡ false).
     let differ : same_leg x.leg k ≡ false = same_leg-comm x.leg k ∙ e in
     let later : Occurs k legs =

@@ -8,7 +8,8 @@ use Rattle.std.proofs.lemmas.List.Kept.{AllPairs-cons}
 use Rattle.fp_model.specs.declared.parts.Leg.{Leg}
 use Rattle.fp_model.specs.Costs.{all_legs, has_leg, same_leg}
 use Rattle.fp_model.specs.Members.{named_from, named_on, NamedLeg}
-use Rattle.fp_relaxmodel.proofs.GroupLaws.{Before, pairs-append, pairs-nil}
+use Rattle.fp_relaxmodel.proofs.GroupLaws.{Before}
+use Rattle.fp_lists.proofs.Pairs.{AllPairs-append, AllPairs-nil}
 
 -- a class is on the walk of the shipment with the number k exactly where one of its legs has it
 occurs-on : (c : Leg) (k i : ℕ) (walk : List Leg) → list_any (λ (x : NamedLeg). same_leg c x.leg) (named_on k i walk) ≡ has_leg c walk
@@ -47,7 +48,7 @@ all-from k (walk ∷ walks) =
 
 -- the legs of a walk come in order
 pairs-on : (k i : ℕ) (walk : List Leg) → AllPairs Before (named_on k i walk)
-pairs-on k i [] = pairs-nil Before
+pairs-on k i [] = AllPairs-nil Before
 pairs-on k i (c ∷ walk) =
     let first : NamedLeg = record { member = record { shipment = k; leg = i }; leg = c } in
     AllPairs-cons Before first (named_on k (i + 1) walk)
@@ -56,10 +57,10 @@ pairs-on k i (c ∷ walk) =
 
 -- so do those of walks
 pub pairs-from : (k : ℕ) (walks : List (List Leg)) → AllPairs Before (named_from k walks)
-pairs-from k [] = pairs-nil Before
+pairs-from k [] = AllPairs-nil Before
 pairs-from k (walk ∷ walks) =
     let later : List NamedLeg = named_from (k + 1) walks in
     let cross : All (λ x. All (Before x) later) (named_on k 0 walk) =
     All-weaker (IsOn k 0) (λ x. All (Before x) later)
     (λ x is. All-weaker (IsFrom (k + 1)) (Before x) (λ y from. inl (omega (arith, is.0, from))) later (all-from (k + 1) walks)) (named_on k 0 walk) (all-on k 0 walk) in
-    pairs-append Before (named_on k 0 walk) later (pairs-on k 0 walk) (pairs-from (k + 1) walks) cross
+    AllPairs-append Before (named_on k 0 walk) later (pairs-on k 0 walk) (pairs-from (k + 1) walks) cross

@@ -6,13 +6,14 @@ use Rattle.std.specs.declared.vec.Vec.{Vec}
 use Rattle.std.specs.List.{AllByRecursion, AllZip}
 use Rattle.fp_model.specs.declared.parts.Leg.{Leg}
 use Rattle.fp_model.specs.declared.parts.Shipment.{Shipment}
-use Rattle.fp_model.specs.Costs.{cost, lists_of}
-use Rattle.fp_model.specs.Numbered.{AllFrom, AllZipFrom}
+use Rattle.fp_model.specs.Costs.{cost}
+use Rattle.fp_lists.specs.Vectors.{lists_of}
+use Rattle.fp_lists.specs.Numbered.{AllZipFrom, AllFrom}
 use Rattle.fp_model.specs.Plans.{IsPlan}
 use Rattle.fp_model.specs.Problem.{Problem}
 use Rattle.fp_model.specs.Routes.{ArcsExist, Carries, IsRoute, arcs_of}
 use Rattle.fp_model.proofs.Bounds.{length-lists_of}
-use Rattle.fp_model.proofs.Places.{at-map}
+use Rattle.fp_lists.proofs.Maps.{get_or-map_default}
 use Rattle.fp_flatnet.specs.declared.window_tables.Window.{Window}
 use Rattle.fp_flatnet.specs.Windows.{PlanLiesWithin}
 use Rattle.fp_longestarcs.proofs.ClassCosts.{cost-classes}
@@ -100,5 +101,5 @@ route-arcs p routes plan i v view exist lt is =
     let all : All (ArcsExist p) (lists_of routes) = subst (All (ArcsExist p)) (sym view) exist in
     let there : i < length (lists_of routes) = omega (arith, length-lists_of routes, lt) in
     let items : Vec Leg Global → List Leg = λ r. r.items in
-    let same : get_or (lists_of routes) i v.items ≡ v.items = at-map items routes i v ∙ ap items (sym is) in
+    let same : get_or (lists_of routes) i v.items ≡ v.items = get_or-map_default items routes i v ∙ ap items (sym is) in
     subst (ArcsExist p) same (all i v.items there)

@@ -5,9 +5,9 @@ use Rattle.std.specs.List.{AllByRecursion}
 use Rattle.std.proofs.lemmas.List.Elements.{recursion_from_All}
 use Rattle.fp_model.specs.declared.parts.Leg.{Leg}
 use Rattle.fp_model.specs.declared.parts.Shipment.{Shipment}
-use Rattle.fp_model.specs.Numbered.{AllZipFrom}
+use Rattle.fp_lists.specs.Numbered.{AllZipFrom}
 use Rattle.fp_model.specs.Problem.{IsShipment, IsValid, Problem}
-use Rattle.fp_model.specs.Routes.{AreApart}
+use Rattle.fp_lists.specs.Distinct.{AreDistinct}
 use Rattle.fp_timenodes.specs.Points.{TimePoints, points_at}
 use Rattle.fp_flatnet.specs.declared.window_tables.Window.{Window}
 use Rattle.fp_longestarcs.specs.Networks.{TimedNetwork, points_in}
@@ -22,15 +22,15 @@ use Rattle.fp_relaxmodel.proofs.MetTerminals.{route-decides}
 
 -- a timed walk on which no terminal stands twice, as `is_route` tells, is a relaxed walk
 pub IsRelaxedWalk-timed : (p : Problem) (windows : ℕ → ℕ → Option Window) (points : ℕ → List ℕ) (k : ℕ) (s : Shipment) (walk : List Leg) → s.from ≢ s.to →
-    IsTimedWalk p points (is_allowed p windows points [] k) s walk → AreApart (terminals_on p walk) → IsRelaxedWalk p windows points k s walk
+    IsTimedWalk p points (is_allowed p windows points [] k) s walk → AreDistinct (terminals_on p walk) → IsRelaxedWalk p windows points k s walk
 IsRelaxedWalk-timed p windows points k s walk ends timed apart = record {
-  route = (route-decides (AreApart (terminals_on p walk)) p walk ((λ a. a), (λ a. a)) s ends timed.leads).0 apart;
+  route = (route-decides (AreDistinct (terminals_on p walk)) p walk ((λ a. a), (λ a. a)) s ends timed.leads).0 apart;
   timed = timed;
 }
 
 timed-from : (p : Problem) (windows : ℕ → ℕ → Option Window) (points : ℕ → List ℕ) (k : ℕ) (ss : List Shipment) (walks : List (List Leg)) →
     AllByRecursion (IsShipment (length p.terminals)) ss → AllZipFrom (λ j (s : Shipment) walk. IsTimedWalk p points (is_allowed p windows points [] j) s walk) k ss walks →
-    AllByRecursion (λ walk. AreApart (terminals_on p walk)) walks → AllZipFrom (λ j s walk. IsRelaxedWalk p windows points j s walk) k ss walks
+    AllByRecursion (λ walk. AreDistinct (terminals_on p walk)) walks → AllZipFrom (λ j s walk. IsRelaxedWalk p windows points j s walk) k ss walks
 timed-from p windows points k [] [] valid timed apart = tt
 timed-from p windows points k [] (w ∷ walks) valid timed apart = absurd timed
 timed-from p windows points k (s ∷ ss) [] valid timed apart = absurd timed
@@ -39,10 +39,10 @@ timed-from p windows points k (s ∷ ss) (w ∷ walks) valid timed apart =
 
 -- timed walks of the shipments on none of which a terminal stands twice are a relaxed plan
 pub IsRelaxedPlan-timed : (p : Problem) (windows : ℕ → ℕ → Option Window) (points : ℕ → List ℕ) (walks : List (List Leg)) → IsValid p →
-    AreTimedWalks p windows points walks → All (λ walk. AreApart (terminals_on p walk)) walks → IsRelaxedPlan p windows points walks
+    AreTimedWalks p windows points walks → All (λ walk. AreDistinct (terminals_on p walk)) walks → IsRelaxedPlan p windows points walks
 IsRelaxedPlan-timed p windows points walks valid timed apart =
     timed-from p windows points 0 p.shipments walks (recursion_from_All (IsShipment (length p.terminals)) p.shipments valid.parts.shipments) timed
-    (recursion_from_All (λ walk. AreApart (terminals_on p walk)) walks apart)
+    (recursion_from_All (λ walk. AreDistinct (terminals_on p walk)) walks apart)
 
 module _ (p : Problem) (valid : IsValid p) (windows : ℕ → ℕ → Option Window) (points others : ℕ → List ℕ) (same : AgreeOnPoints p points others) where
   same-from : (k : ℕ) (ss : List Shipment) (walks : List (List Leg)) → AllZipFrom (λ j s walk. IsRelaxedWalk p windows points j s walk) k ss walks →

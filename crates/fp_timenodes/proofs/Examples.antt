@@ -1,7 +1,8 @@
 -- Three terminals, of which the third has the points 8 and 9 from the start, and round 1 added 4 to the second.
 use Rattle.std.proofs.Common.{◌≡◌, false, [], ◌∷◌, refl}
 use Rattle.std.specs.Prelude.{Some, None}
-use Rattle.fp_timenodes.specs.Floor.{has_point, floor_point, next_point}
+use Rattle.fp_timenodes.specs.Floor.{floor_point, next_point}
+use Rattle.fp_lists.specs.Membership.{list_has}
 use Rattle.fp_timenodes.specs.Points.{TimePoints, points_at, greatest_round}
 
 after_a_round : TimePoints
@@ -39,7 +40,7 @@ next_from_the_round : next_point (points_at after_a_round 1 1) 0 ≡ Some 4
 unfolding after_a_round
 next_from_the_round = refl
 
-not_there_before_the_round : has_point (points_at after_a_round 1 0) 4 ≡ false
+not_there_before_the_round : list_has (points_at after_a_round 1 0) 4 ≡ false
 unfolding after_a_round
 not_there_before_the_round = refl
 

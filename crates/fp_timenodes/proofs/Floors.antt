@@ -3,8 +3,9 @@ use Rattle.std.proofs.Common.{◌≡◌, ℕ, ◌*◌, ◌/◌, ◌<◌, ◌≤�
 use Rattle.std.specs.Prelude.{nat_le, nat_eq}
 use Rattle.std.proofs.Math.Nat.{mul-le-mul_left, le-div_iff_mul-le}
 use Rattle.std.proofs.lemmas.Bool.{cases_lt, cond-true, cond-false, le-leb, lt-leb, or_cases, or_left, or_right, eqb-true, eq-eqb}
-use Rattle.fp_timenodes.specs.Floor.{has_point, floor_point, IsFloorPoint, HaveSamePoints}
-use Rattle.fp_timenodes.proofs.PointLists.{has_point_cases, has_point_first, has_point_rest}
+use Rattle.fp_timenodes.specs.Floor.{floor_point, IsFloorPoint, HaveSamePoints}
+use Rattle.fp_lists.specs.Membership.{list_has}
+use Rattle.fp_lists.proofs.Membership.{list_has-rest, list_has-first, list_has-cons_cases}
 
 -- the first point counts where it is not after the moment
 floor-early : (q : ℕ) (qs : List ℕ) (d n : ℕ) → d * q ≤ n → floor_point (q ∷ qs) d n ≡ max q (floor_point qs d n)
@@ -35,57 +36,57 @@ floor_le (q ∷ qs) d n =
     (cases_lt n (d * q))
 
 -- it is one of the points, or 0
-pub floor_reached : (qs : List ℕ) (d n : ℕ) → (floor_point qs d n ≡ 0) ⊎ (has_point qs (floor_point qs d n) ≡ true)
+pub floor_reached : (qs : List ℕ) (d n : ℕ) → (floor_point qs d n ≡ 0) ⊎ (list_has qs (floor_point qs d n) ≡ true)
 floor_reached [] d n = inl refl
 floor_reached (q ∷ qs) d n =
-    let Reached : ℕ → Type 0 = λ m. (m ≡ 0) ⊎ (has_point (q ∷ qs) m ≡ true) in
+    let Reached : ℕ → Type 0 = λ m. (m ≡ 0) ⊎ (list_has (q ∷ qs) m ≡ true) in
     let rest : Reached (floor_point qs d n) =
-    ⊎_elim (λ (e : floor_point qs d n ≡ 0). inl e) (λ (h : has_point qs (floor_point qs d n) ≡ true). inr (has_point_rest q qs (floor_point qs d n) h)) (floor_reached qs d n) in
+    ⊎_elim (λ (e : floor_point qs d n ≡ 0). inl e) (λ (h : list_has qs (floor_point qs d n) ≡ true). inr (list_has-rest q qs (floor_point qs d n) h)) (floor_reached qs d n) in
     ⊎_elim
     (λ (h : n < d * q). subst Reached (sym (floor-late q qs d n h)) rest)
-    (λ (h : d * q ≤ n). subst Reached (sym (floor-early q qs d n h)) (max-has Reached q (floor_point qs d n) (inr (has_point_first q qs)) rest))
+    (λ (h : d * q ≤ n). subst Reached (sym (floor-early q qs d n h)) (max-has Reached q (floor_point qs d n) (inr (list_has-first q qs)) rest))
     (cases_lt n (d * q))
 
 -- no point that is not after the moment is greater
-pub floor_greatest : (qs : List ℕ) (d n q : ℕ) → has_point qs q ≡ true → d * q ≤ n → q ≤ floor_point qs d n
+pub floor_greatest : (qs : List ℕ) (d n q : ℕ) → list_has qs q ≡ true → d * q ≤ n → q ≤ floor_point qs d n
 floor_greatest [] d n q there h = cc
 floor_greatest (p ∷ qs) d n q there h =
     ⊎_elim
     (λ (e : p ≡ q). let early : d * p ≤ n = rw e h in omega (arith, floor-early p qs d n early))
-    (λ (r : has_point qs q ≡ true). omega (arith, floor_greatest qs d n q r h))
-    (has_point_cases p qs q there)
+    (λ (r : list_has qs q ≡ true). omega (arith, floor_greatest qs d n q r h))
+    (list_has-cons_cases p qs q there)
 
 -- what is at least each point that is not after the moment is at least the greatest
-pub floor_below : (qs : List ℕ) (d n m : ℕ) → ((q : ℕ) → has_point qs q ≡ true → d * q ≤ n → q ≤ m) → floor_point qs d n ≤ m
+pub floor_below : (qs : List ℕ) (d n m : ℕ) → ((q : ℕ) → list_has qs q ≡ true → d * q ≤ n → q ≤ m) → floor_point qs d n ≤ m
 floor_below [] d n m above = omega arith
 floor_below (q ∷ qs) d n m above =
-    let rest : floor_point qs d n ≤ m = floor_below qs d n m (λ p there. above p (has_point_rest q qs p there)) in
+    let rest : floor_point qs d n ≤ m = floor_below qs d n m (λ p there. above p (list_has-rest q qs p there)) in
     ⊎_elim
     (λ (h : n < d * q). omega (arith, floor-late q qs d n h))
-    (λ (h : d * q ≤ n). omega (arith, floor-early q qs d n h, above q (has_point_first q qs) h))
+    (λ (h : d * q ≤ n). omega (arith, floor-early q qs d n h, above q (list_has-first q qs) h))
     (cases_lt n (d * q))
 
 -- so a point that is not after the moment, and that no such point exceeds, is the greatest
-pub floor_is : (qs : List ℕ) (d n m : ℕ) → has_point qs m ≡ true → d * m ≤ n → ((q : ℕ) → has_point qs q ≡ true → d * q ≤ n → q ≤ m) → floor_point qs d n ≡ m
+pub floor_is : (qs : List ℕ) (d n m : ℕ) → list_has qs m ≡ true → d * m ≤ n → ((q : ℕ) → list_has qs q ≡ true → d * q ≤ n → q ≤ m) → floor_point qs d n ≡ m
 floor_is qs d n m there h above = omega (arith, floor_greatest qs d n m there h, floor_below qs d n m above)
 
 -- where 0 is one of the points, the greatest is one too
-pub IsFloorPoint-floor_point : (qs : List ℕ) (at : ℕ) → has_point qs 0 ≡ true → IsFloorPoint qs at (floor_point qs 1 at)
+pub IsFloorPoint-floor_point : (qs : List ℕ) (at : ℕ) → list_has qs 0 ≡ true → IsFloorPoint qs at (floor_point qs 1 at)
 IsFloorPoint-floor_point qs at zero = (
   ⊎_elim
-      (λ (e : floor_point qs 1 at ≡ 0). subst (λ (m : ℕ). has_point qs m ≡ true) (sym e) zero)
-      (λ (h : has_point qs (floor_point qs 1 at) ≡ true). h)
+      (λ (e : floor_point qs 1 at ≡ 0). subst (λ (m : ℕ). list_has qs m ≡ true) (sym e) zero)
+      (λ (h : list_has qs (floor_point qs 1 at) ≡ true). h)
       (floor_reached qs 1 at),
   omega (arith, floor_le qs 1 at),
   λ q there le. floor_greatest qs 1 at q there (omega (arith, le)),
 )
 
 -- a point is its own greatest
-pub floor_itself : (qs : List ℕ) (q : ℕ) → has_point qs q ≡ true → floor_point qs 1 q ≡ q
+pub floor_itself : (qs : List ℕ) (q : ℕ) → list_has qs q ≡ true → floor_point qs 1 q ≡ q
 floor_itself qs q there = floor_is qs 1 q q there (omega arith) (λ p h le. omega (arith, le))
 
 -- with more points the greatest is no earlier
-pub floor_more : (ps qs : List ℕ) (d n : ℕ) → ((q : ℕ) → has_point ps q ≡ true → has_point qs q ≡ true) → floor_point ps d n ≤ floor_point qs d n
+pub floor_more : (ps qs : List ℕ) (d n : ℕ) → ((q : ℕ) → list_has ps q ≡ true → list_has qs q ≡ true) → floor_point ps d n ≤ floor_point qs d n
 floor_more ps qs d n more = floor_below ps d n (floor_point qs d n) (λ q there h. floor_greatest qs d n q (more q there) h)
 
 -- lists with the same points have the same greatest

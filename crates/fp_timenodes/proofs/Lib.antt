@@ -1,4 +1,3 @@
-pub mod PointLists
 pub mod Floors
 pub mod Nexts
 pub mod StampPlaces

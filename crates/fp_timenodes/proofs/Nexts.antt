@@ -1,8 +1,9 @@
 -- The least point after a time: what it is, and that only which points there are decides it.
 use Rattle.std.proofs.Common.{◌≡◌, ℕ, ◌<◌, ◌≤◌, true, min, List, [], ◌∷◌, ⊎_elim, refl, sym, ap, ◌∙◌, subst, Option, Some, None, arith}
 use Rattle.std.proofs.lemmas.Bool.{cases_lt, lt-ltb, le-ltb}
-use Rattle.fp_timenodes.specs.Floor.{has_point, next_point, earlier, IsNextPoint, HaveSamePoints}
-use Rattle.fp_timenodes.proofs.PointLists.{has_point_rest, has_point_first, has_point_cases}
+use Rattle.fp_timenodes.specs.Floor.{next_point, earlier, IsNextPoint, HaveSamePoints}
+use Rattle.fp_lists.specs.Membership.{list_has}
+use Rattle.fp_lists.proofs.Membership.{list_has-rest, list_has-first, list_has-cons_cases}
 
 -- what holds of two numbers holds of the lesser
 min-has : (P : ℕ → Type 0) (a b : ℕ) → P a → P b → P (min a b)
@@ -15,23 +16,23 @@ min-has P a b p q =
 -- one more point, which is after the time
 step-after : (q : ℕ) (qs : List ℕ) (at : ℕ) (o : Option ℕ) → at < q → IsNextPoint qs at o → IsNextPoint (q ∷ qs) at (earlier (Some q) o)
 step-after q qs at None h none = (
-  has_point_first q qs,
+  list_has-first q qs,
   h,
-  λ p there after. ⊎_elim (λ (e : q ≡ p). omega arith) (λ (r : has_point qs p ≡ true). absurd (omega (arith, none p r))) (has_point_cases q qs p there),
+  λ p there after. ⊎_elim (λ (e : q ≡ p). omega arith) (λ (r : list_has qs p ≡ true). absurd (omega (arith, none p r))) (list_has-cons_cases q qs p there),
 )
 step-after q qs at (Some m) h next = (
-  min-has (λ p. has_point (q ∷ qs) p ≡ true) q m (has_point_first q qs) (has_point_rest q qs m next.0),
+  min-has (λ p. list_has (q ∷ qs) p ≡ true) q m (list_has-first q qs) (list_has-rest q qs m next.0),
   omega (arith, next.1),
-  λ p there after. ⊎_elim (λ (e : q ≡ p). omega arith) (λ (r : has_point qs p ≡ true). omega (arith, next.2 p r after)) (has_point_cases q qs p there),
+  λ p there after. ⊎_elim (λ (e : q ≡ p). omega arith) (λ (r : list_has qs p ≡ true). omega (arith, next.2 p r after)) (list_has-cons_cases q qs p there),
 )
 
 -- one more point, which is not after the time
 step-until : (q : ℕ) (qs : List ℕ) (at : ℕ) (o : Option ℕ) → q ≤ at → IsNextPoint qs at o → IsNextPoint (q ∷ qs) at o
-step-until q qs at None h none = λ p there. ⊎_elim (λ (e : q ≡ p). omega arith) (λ (r : has_point qs p ≡ true). none p r) (has_point_cases q qs p there)
+step-until q qs at None h none = λ p there. ⊎_elim (λ (e : q ≡ p). omega arith) (λ (r : list_has qs p ≡ true). none p r) (list_has-cons_cases q qs p there)
 step-until q qs at (Some m) h next = (
-  has_point_rest q qs m next.0,
+  list_has-rest q qs m next.0,
   next.1,
-  λ p there after. ⊎_elim (λ (e : q ≡ p). omega arith) (λ (r : has_point qs p ≡ true). next.2 p r after) (has_point_cases q qs p there),
+  λ p there after. ⊎_elim (λ (e : q ≡ p). omega arith) (λ (r : list_has qs p ≡ true). next.2 p r after) (list_has-cons_cases q qs p there),
 )
 
 -- the definition gives the next point

@@ -7,10 +7,11 @@ use Rattle.std.proofs.lemmas.Bool.{cases_Bool, cases_lt, cases_eq, and_parts, le
 use Rattle.std.proofs.lemmas.List.{take-append-drop, map-append}
 use Rattle.std.proofs.lemmas.List.Edits.{length-insert, get_or-insert_below, get_or-insert_at, get_or-insert_above}
 use Rattle.std.proofs.lemmas.List.Elements.{filter-append, All-append, All-take, All-drop, All-cons}
+use Rattle.fp_lists.proofs.Membership.{list_has-append}
 use Rattle.fp_timenodes.specs.declared.timelines.Stamp.{Stamp}
-use Rattle.fp_timenodes.specs.Floor.{has_point}
+use Rattle.fp_lists.specs.Membership.{list_has}
 use Rattle.fp_timenodes.specs.Stamps.{IsAscending, IsCut, AreUpTo, points_of, IncludesPoint}
-use Rattle.fp_timenodes.proofs.PointLists.{has_point-append, or_right_comm}
+use Rattle.fp_lists.proofs.Truth.{or_right_comm}
 use Rattle.fp_timenodes.proofs.StampPlaces.{StandsAt, stamp-of, has-stamp}
 use Rattle.fp_timenodes.proofs.StampSearch.{no_stamp}
 
@@ -20,7 +21,7 @@ points_of-append ss ts round =
     map-append (λ (s : Stamp). s.at) (filter (λ (s : Stamp). nat_le s.round round) ss) (filter (λ (s : Stamp). nat_le s.round round) ts)
 
 -- the points of one stamp and others
-has-one-more : (s : Stamp) (stamps : List Stamp) (r q : ℕ) → has_point (points_of (s ∷ stamps) r) q ≡ ((nat_le s.round r && nat_eq s.at q) || has_point (points_of stamps r) q)
+has-one-more : (s : Stamp) (stamps : List Stamp) (r q : ℕ) → list_has (points_of (s ∷ stamps) r) q ≡ ((nat_le s.round r && nat_eq s.at q) || list_has (points_of stamps r) q)
 has-one-more s stamps r q =
     ⊎_elim (λ (e : nat_le s.round r ≡ true). rw e refl) (λ (e : nat_le s.round r ≡ false). rw e refl) (cases_Bool (nat_le s.round r))
 
@@ -29,38 +30,38 @@ pub IncludesPoint-insert : (stamps : List Stamp) (cut : ℕ) (s : Stamp) → Inc
 IncludesPoint-insert stamps cut s r q =
     let front : List Stamp = take cut stamps in
     let back : List Stamp = drop cut stamps in
-    let new = ap (λ (ps : List ℕ). has_point ps q) (points_of-append front (s ∷ back) r) ∙ has_point-append (points_of front r) (points_of (s ∷ back) r) q in
-    let old = ap (λ (ps : List ℕ). has_point ps q) (sym (points_of-append front back r)) in
-    let split = ap (λ (l : List Stamp). has_point (points_of l r) q) (take-append-drop cut stamps) in
-    let whole = sym (has_point-append (points_of front r) (points_of back r) q) ∙ old ∙ split in
-    new ∙ ap (λ (b : Bool). has_point (points_of front r) q || b) (has-one-more s back r q) ∙
-    sym (or_assoc (has_point (points_of front r) q) (nat_le s.round r && nat_eq s.at q) (has_point (points_of back r) q)) ∙
-    or_right_comm (has_point (points_of front r) q) (nat_le s.round r && nat_eq s.at q) (has_point (points_of back r) q) ∙
+    let new = ap (λ (ps : List ℕ). list_has ps q) (points_of-append front (s ∷ back) r) ∙ list_has-append (points_of front r) (points_of (s ∷ back) r) q in
+    let old = ap (λ (ps : List ℕ). list_has ps q) (sym (points_of-append front back r)) in
+    let split = ap (λ (l : List Stamp). list_has (points_of l r) q) (take-append-drop cut stamps) in
+    let whole = sym (list_has-append (points_of front r) (points_of back r) q) ∙ old ∙ split in
+    new ∙ ap (λ (b : Bool). list_has (points_of front r) q || b) (has-one-more s back r q) ∙
+    sym (or_assoc (list_has (points_of front r) q) (nat_le s.round r && nat_eq s.at q) (list_has (points_of back r) q)) ∙
+    or_right_comm (list_has (points_of front r) q) (nat_le s.round r && nat_eq s.at q) (list_has (points_of back r) q) ∙
     ap (λ (b : Bool). b || (nat_le s.round r && nat_eq s.at q)) whole
 
 -- a point that is there gives nothing new
-pub IncludesPoint-there : (stamps : List Stamp) (at round : ℕ) → has_point (points_of stamps round) at ≡ true → IncludesPoint stamps stamps at round
+pub IncludesPoint-there : (stamps : List Stamp) (at round : ℕ) → list_has (points_of stamps round) at ≡ true → IncludesPoint stamps stamps at round
 IncludesPoint-there stamps at round there r q =
     ⊎_elim
     (λ (h : (nat_le round r && nat_eq at q) ≡ true). rw (h, there-at h) refl)
-    (λ (h : (nat_le round r && nat_eq at q) ≡ false). rw h (sym (or-false (has_point (points_of stamps r) q))))
+    (λ (h : (nat_le round r && nat_eq at q) ≡ false). rw h (sym (or-false (list_has (points_of stamps r) q))))
     (cases_Bool (nat_le round r && nat_eq at q))
   where
-    there-at : (nat_le round r && nat_eq at q) ≡ true → has_point (points_of stamps r) q ≡ true
+    there-at : (nat_le round r && nat_eq at q) ≡ true → list_has (points_of stamps r) q ≡ true
     there-at h =
         let parts = and_parts (nat_le round r) (nat_eq at q) h in
         let w : StandsAt stamps round at no_stamp = stamp-of stamps round at no_stamp there in
-        subst (λ (n : ℕ). has_point (points_of stamps r) n ≡ true) (w.time ∙ eqb-true at q parts.1)
+        subst (λ (n : ℕ). list_has (points_of stamps r) n ≡ true) (w.time ∙ eqb-true at q parts.1)
         (has-stamp stamps r w.place no_stamp w.within (omega (arith, w.until, leb-true round r parts.0)))
 
 -- no stamp is later than the round, and the time is no point: then the stamps before the cut are before the time
-pub IsCut-absent : (stamps : List Stamp) (at round cut : ℕ) → IsCut stamps at cut → AreUpTo round stamps → has_point (points_of stamps round) at ≡ false → AllWithin (λ (s : Stamp). s.at < at) stamps 0 cut
+pub IsCut-absent : (stamps : List Stamp) (at round cut : ℕ) → IsCut stamps at cut → AreUpTo round stamps → list_has (points_of stamps round) at ≡ false → AllWithin (λ (s : Stamp). s.at < at) stamps 0 cut
 IsCut-absent stamps at round cut c up absent k d from h =
     ⊎_elim
     (λ (same : (get_or stamps k d).at ≡ at).
     let within : k < length stamps = omega (arith, c.within) in
     let there = has-stamp stamps round k d within (up k d within) in
-    absurd (both_ways (has_point (points_of stamps round) at) absent (subst (λ (n : ℕ). has_point (points_of stamps round) n ≡ true) same there)))
+    absurd (both_ways (list_has (points_of stamps round) at) absent (subst (λ (n : ℕ). list_has (points_of stamps round) n ≡ true) same there)))
     (λ (other : (get_or stamps k d).at ≢ at). omega (arith, c.until k d from h, other))
     (cases_eq (get_or stamps k d).at at)
 

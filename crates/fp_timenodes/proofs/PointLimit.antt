@@ -12,10 +12,10 @@ use Rattle.std.proofs.lemmas.Map.Made.{IsDistinct-from_AllPairs}
 use Rattle.std.proofs.lemmas.Map.Steps.{length-le_from_distinct_below}
 use Rattle.std.proofs.lemmas.Nat.{mul-add-lt, same_from_place}
 use Rattle.fp_timenodes.specs.declared.places.AddedPoint.{AddedPoint}
-use Rattle.fp_timenodes.specs.Floor.{has_point}
+use Rattle.fp_lists.specs.Membership.{list_has}
 use Rattle.fp_timenodes.specs.Points.{HaveDistinctPlaces, TimePoints, added_at, greatest_round, points_at, times_at}
-use Rattle.fp_timenodes.proofs.Rounds.{has_point-added_at, has_point-points_at, greatest_round_bound}
-use Rattle.fp_timenodes.proofs.TimelinePoints.{has_point-zero}
+use Rattle.fp_timenodes.proofs.Rounds.{greatest_round_bound, list_has-added_at, list_has-points_at}
+use Rattle.fp_timenodes.proofs.TimelinePoints.{list_has-zero}
 
 -- elements of which no two have the same number, all below n, are at most n
 length_le_numbers : {X : Type 0} (number : X → ℕ) (n : ℕ) (xs : List X) → AllPairs (λ x y. number x ≢ number y) xs → All (λ x. number x < n) xs → length xs ≤ n
@@ -75,20 +75,20 @@ length_distinct_new terminals last added distinct within =
     (λ p h. (h.0, h.1, omega (arith, h.2))) added within)
 
 -- a time that is no point isn't 0
-pub positive_new : (v : TimePoints) (terminal round at : ℕ) → has_point (points_at v terminal round) at ≡ false → 1 ≤ at
-positive_new v terminal round zero new = absurd (both_ways (has_point (points_at v terminal round) 0) new (has_point-zero v terminal round))
+pub positive_new : (v : TimePoints) (terminal round at : ℕ) → list_has (points_at v terminal round) at ≡ false → 1 ≤ at
+positive_new v terminal round zero new = absurd (both_ways (list_has (points_at v terminal round) 0) new (list_has-zero v terminal round))
 positive_new v terminal round (suc at) new = omega arith
 
 -- a point that is added where it wasn't there, as of the greatest round so far or a later one, keeps the places distinct
-pub HaveDistinctPlaces_new : (v : TimePoints) (p : AddedPoint) → HaveDistinctPlaces v.added → greatest_round v.added ≤ p.round → has_point (points_at v p.terminal p.round) p.at ≡ false →
+pub HaveDistinctPlaces_new : (v : TimePoints) (p : AddedPoint) → HaveDistinctPlaces v.added → greatest_round v.added ≤ p.round → list_has (points_at v p.terminal p.round) p.at ≡ false →
     HaveDistinctPlaces (v.added ++ p ∷ [])
 HaveDistinctPlaces_new v p distinct order new =
     all_pairs_push (λ (q r : AddedPoint). q.terminal ≡ r.terminal → q.at ≢ r.at) v.added p distinct
     (λ k d lt own same.
-    let there : has_point (added_at v.added p.terminal p.round) (get_or v.added k d).at ≡ true =
-    has_point-added_at v.added p.terminal p.round k d lt own (omega (arith, greatest_round_bound v.added d k lt, order)) in
-    let here : has_point (added_at v.added p.terminal p.round) p.at ≡ true = subst (λ (n : ℕ). has_point (added_at v.added p.terminal p.round) n ≡ true) same there in
-    both_ways (has_point (points_at v p.terminal p.round) p.at) new
-    (has_point-points_at v p.terminal p.round p.at ∙
-    or_right (has_point (times_at v.first p.terminal) p.at) (has_point (added_at v.added p.terminal p.round) p.at || has_point (0 ∷ []) p.at)
-    (or_left (has_point (added_at v.added p.terminal p.round) p.at) (has_point (0 ∷ []) p.at) here)))
+    let there : list_has (added_at v.added p.terminal p.round) (get_or v.added k d).at ≡ true =
+    list_has-added_at v.added p.terminal p.round k d lt own (omega (arith, greatest_round_bound v.added d k lt, order)) in
+    let here : list_has (added_at v.added p.terminal p.round) p.at ≡ true = subst (λ (n : ℕ). list_has (added_at v.added p.terminal p.round) n ≡ true) same there in
+    both_ways (list_has (points_at v p.terminal p.round) p.at) new
+    (list_has-points_at v p.terminal p.round p.at ∙
+    or_right (list_has (times_at v.first p.terminal) p.at) (list_has (added_at v.added p.terminal p.round) p.at || list_has (0 ∷ []) p.at)
+    (or_left (list_has (added_at v.added p.terminal p.round) p.at) (list_has (0 ∷ []) p.at) here)))

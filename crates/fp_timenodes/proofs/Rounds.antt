@@ -7,9 +7,11 @@ use Rattle.std.proofs.lemmas.Bool.{and_left, and_parts, and_right, cases_Bool, e
 use Rattle.std.proofs.lemmas.List.{map-append}
 use Rattle.std.proofs.lemmas.List.Elements.{All-head, All-tail, filter-append}
 use Rattle.fp_timenodes.specs.declared.places.AddedPoint.{AddedPoint}
-use Rattle.fp_timenodes.specs.Floor.{HaveSamePoints, has_point}
+use Rattle.fp_timenodes.specs.Floor.{HaveSamePoints}
+use Rattle.fp_lists.specs.Membership.{list_has}
 use Rattle.fp_timenodes.specs.Points.{AreAfter, TimePoints, added_at, greatest_round, points_at, times_at, with_added}
-use Rattle.fp_timenodes.proofs.PointLists.{has_point_rest, has_point_first, has_point_cases, has_point-append, or_right_comm, has_point-kept_push}
+use Rattle.fp_lists.proofs.Truth.{or_right_comm}
+use Rattle.fp_lists.proofs.Membership.{list_has-filter_push, list_has-append, list_has-rest, list_has-first, list_has-cons_cases}
 
 -- no round is later than the greatest
 pub greatest_round_bound : (added : List AddedPoint) (d : AddedPoint) (k : ℕ) → k < length added → (get_or added k d).round ≤ greatest_round added
@@ -78,7 +80,7 @@ points_at_from_greatest v terminal round later least le =
     ap (λ (qs : List ℕ). times_at v.first terminal ++ (qs ++ 0 ∷ [])) (added_at_from_greatest v.added terminal round later least le)
 
 -- what was added as of a round was added as of each later one
-pub added_at_mono : (added : List AddedPoint) (terminal round later at : ℕ) → round ≤ later → has_point (added_at added terminal round) at ≡ true → has_point (added_at added terminal later) at ≡ true
+pub added_at_mono : (added : List AddedPoint) (terminal round later at : ℕ) → round ≤ later → list_has (added_at added terminal round) at ≡ true → list_has (added_at added terminal later) at ≡ true
 added_at_mono [] terminal round later at le there = there
 added_at_mono (p ∷ added) terminal round later at le there =
     ⊎_elim
@@ -87,71 +89,71 @@ added_at_mono (p ∷ added) terminal round later at le there =
     let also : nat_le p.round later ≡ true = le-leb p.round later (omega (arith, leb-true p.round round parts.1, le)) in
     rw (parts.0, also)
     (⊎_elim
-    (λ (here : p.at ≡ at). rw here (has_point_first at (added_at added terminal later)))
-    (λ (rest : has_point (added_at added terminal round) at ≡ true). has_point_rest p.at (added_at added terminal later) at (added_at_mono added terminal round later at le rest))
-    (has_point_cases p.at (added_at added terminal round) at (rw seen at there))))
+    (λ (here : p.at ≡ at). rw here (list_has-first at (added_at added terminal later)))
+    (λ (rest : list_has (added_at added terminal round) at ≡ true). list_has-rest p.at (added_at added terminal later) at (added_at_mono added terminal round later at le rest))
+    (list_has-cons_cases p.at (added_at added terminal round) at (rw seen at there))))
     (λ (unseen : is_seen terminal round p ≡ false).
-    let rest : has_point (added_at added terminal later) at ≡ true = added_at_mono added terminal round later at le (rw unseen at there) in
+    let rest : list_has (added_at added terminal later) at ≡ true = added_at_mono added terminal round later at le (rw unseen at there) in
     ⊎_elim
-    (λ (now : is_seen terminal later p ≡ true). rw now (has_point_rest p.at (added_at added terminal later) at rest))
+    (λ (now : is_seen terminal later p ≡ true). rw now (list_has-rest p.at (added_at added terminal later) at rest))
     (λ (never : is_seen terminal later p ≡ false). rw never rest)
     (cases_Bool (is_seen terminal later p)))
     (cases_Bool (is_seen terminal round p))
 
 -- a point that was added by the round is there
-pub has_point-added_at : (added : List AddedPoint) (terminal round k : ℕ) (d : AddedPoint) → k < length added → (get_or added k d).terminal ≡ terminal → (get_or added k d).round ≤ round →
-    has_point (added_at added terminal round) (get_or added k d).at ≡ true
-has_point-added_at [] terminal round k d lt own early = absurd (omega arith)
-has_point-added_at (p ∷ added) terminal round zero d lt own early = rw (eq-eqb p.terminal terminal own, le-leb p.round round early) (has_point_first p.at (added_at added terminal round))
-has_point-added_at (p ∷ added) terminal round (suc k) d lt own early =
-    let rest : has_point (added_at added terminal round) (get_or added k d).at ≡ true = has_point-added_at added terminal round k d (omega arith) own early in
+pub list_has-added_at : (added : List AddedPoint) (terminal round k : ℕ) (d : AddedPoint) → k < length added → (get_or added k d).terminal ≡ terminal → (get_or added k d).round ≤ round →
+    list_has (added_at added terminal round) (get_or added k d).at ≡ true
+list_has-added_at [] terminal round k d lt own early = absurd (omega arith)
+list_has-added_at (p ∷ added) terminal round zero d lt own early = rw (eq-eqb p.terminal terminal own, le-leb p.round round early) (list_has-first p.at (added_at added terminal round))
+list_has-added_at (p ∷ added) terminal round (suc k) d lt own early =
+    let rest : list_has (added_at added terminal round) (get_or added k d).at ≡ true = list_has-added_at added terminal round k d (omega arith) own early in
     ⊎_elim
-    (λ (seen : is_seen terminal round p ≡ true). rw seen (has_point_rest p.at (added_at added terminal round) (get_or added k d).at rest))
+    (λ (seen : is_seen terminal round p ≡ true). rw seen (list_has-rest p.at (added_at added terminal round) (get_or added k d).at rest))
     (λ (unseen : is_seen terminal round p ≡ false). rw unseen rest)
     (cases_Bool (is_seen terminal round p))
 
 -- the points of a terminal as of a round, by their kinds
-pub has_point-points_at : (v : TimePoints) (terminal round at : ℕ) →
-    has_point (points_at v terminal round) at ≡ (has_point (times_at v.first terminal) at || (has_point (added_at v.added terminal round) at || has_point (0 ∷ []) at))
-has_point-points_at v terminal round at =
-    has_point-append (times_at v.first terminal) (added_at v.added terminal round ++ 0 ∷ []) at ∙
-    ap (λ (b : Bool). has_point (times_at v.first terminal) at || b) (has_point-append (added_at v.added terminal round) (0 ∷ []) at)
+pub list_has-points_at : (v : TimePoints) (terminal round at : ℕ) →
+    list_has (points_at v terminal round) at ≡ (list_has (times_at v.first terminal) at || (list_has (added_at v.added terminal round) at || list_has (0 ∷ []) at))
+list_has-points_at v terminal round at =
+    list_has-append (times_at v.first terminal) (added_at v.added terminal round ++ 0 ∷ []) at ∙
+    ap (λ (b : Bool). list_has (times_at v.first terminal) at || b) (list_has-append (added_at v.added terminal round) (0 ∷ []) at)
 
 -- a point as of a round is one as of each later round
-pub points_at_mono : (v : TimePoints) (terminal round later at : ℕ) → round ≤ later → has_point (points_at v terminal round) at ≡ true → has_point (points_at v terminal later) at ≡ true
+pub points_at_mono : (v : TimePoints) (terminal round later at : ℕ) → round ≤ later → list_has (points_at v terminal round) at ≡ true → list_has (points_at v terminal later) at ≡ true
 points_at_mono v terminal round later at le there =
-    let firsts : Bool = has_point (times_at v.first terminal) at in
-    let others : Bool = has_point (added_at v.added terminal later) at in
-    has_point-points_at v terminal later at ∙
+    let firsts : Bool = list_has (times_at v.first terminal) at in
+    let others : Bool = list_has (added_at v.added terminal later) at in
+    list_has-points_at v terminal later at ∙
     ⊎_elim
-    (λ (h : firsts ≡ true). or_left firsts (others || has_point (0 ∷ []) at) h)
-    (λ (h : (has_point (added_at v.added terminal round) at || has_point (0 ∷ []) at) ≡ true).
-    or_right firsts (others || has_point (0 ∷ []) at)
+    (λ (h : firsts ≡ true). or_left firsts (others || list_has (0 ∷ []) at) h)
+    (λ (h : (list_has (added_at v.added terminal round) at || list_has (0 ∷ []) at) ≡ true).
+    or_right firsts (others || list_has (0 ∷ []) at)
     (⊎_elim
-    (λ (k : has_point (added_at v.added terminal round) at ≡ true). or_left others (has_point (0 ∷ []) at) (added_at_mono v.added terminal round later at le k))
-    (λ (k : has_point (0 ∷ []) at ≡ true). or_right others (has_point (0 ∷ []) at) k)
-    (or_cases (has_point (added_at v.added terminal round) at) (has_point (0 ∷ []) at) h)))
-    (or_cases firsts (has_point (added_at v.added terminal round) at || has_point (0 ∷ []) at) (sym (has_point-points_at v terminal round at) ∙ there))
+    (λ (k : list_has (added_at v.added terminal round) at ≡ true). or_left others (list_has (0 ∷ []) at) (added_at_mono v.added terminal round later at le k))
+    (λ (k : list_has (0 ∷ []) at ≡ true). or_right others (list_has (0 ∷ []) at) k)
+    (or_cases (list_has (added_at v.added terminal round) at) (list_has (0 ∷ []) at) h)))
+    (or_cases firsts (list_has (added_at v.added terminal round) at || list_has (0 ∷ []) at) (sym (list_has-points_at v terminal round at) ∙ there))
 
 -- one added point is one more point of its terminal, as of its round and of each later one
-pub has_point-with_added : (v : TimePoints) (p : AddedPoint) (terminal round at : ℕ) →
-    has_point (points_at (with_added v (p ∷ [])) terminal round) at ≡ (has_point (points_at v terminal round) at || ((nat_eq p.terminal terminal && nat_le p.round round) && nat_eq p.at at))
-has_point-with_added v p terminal round at =
-    let firsts : Bool = has_point (times_at v.first terminal) at in
-    let others : Bool = has_point (added_at v.added terminal round) at in
-    let zeros : Bool = has_point (0 ∷ []) at in
+pub list_has-with_added : (v : TimePoints) (p : AddedPoint) (terminal round at : ℕ) →
+    list_has (points_at (with_added v (p ∷ [])) terminal round) at ≡ (list_has (points_at v terminal round) at || ((nat_eq p.terminal terminal && nat_le p.round round) && nat_eq p.at at))
+list_has-with_added v p terminal round at =
+    let firsts : Bool = list_has (times_at v.first terminal) at in
+    let others : Bool = list_has (added_at v.added terminal round) at in
+    let zeros : Bool = list_has (0 ∷ []) at in
     let one : Bool = is_seen terminal round p && nat_eq p.at at in
-    has_point-points_at (with_added v (p ∷ [])) terminal round at ∙
-    ap (λ (b : Bool). firsts || (b || zeros)) (has_point-kept_push (is_seen terminal round) (λ (q : AddedPoint). q.at) v.added p at) ∙
+    list_has-points_at (with_added v (p ∷ [])) terminal round at ∙
+    ap (λ (b : Bool). firsts || (b || zeros)) (list_has-filter_push (is_seen terminal round) (λ (q : AddedPoint). q.at) v.added p at) ∙
     ap (λ (b : Bool). firsts || b) (or_right_comm others one zeros) ∙
     sym (or_assoc firsts (others || zeros) one) ∙
-    ap (λ (b : Bool). b || one) (sym (has_point-points_at v terminal round at))
+    ap (λ (b : Bool). b || one) (sym (list_has-points_at v terminal round at))
 
 -- at other terminals, and as of earlier rounds, the points stay the same
 pub HaveSamePoints_unseen : (v : TimePoints) (p : AddedPoint) (terminal round : ℕ) → (nat_eq p.terminal terminal && nat_le p.round round) ≡ false →
     HaveSamePoints (points_at (with_added v (p ∷ [])) terminal round) (points_at v terminal round)
 HaveSamePoints_unseen v p terminal round unseen at =
-    has_point-with_added v p terminal round at ∙ rw unseen (or-false (has_point (points_at v terminal round) at))
+    list_has-with_added v p terminal round at ∙ rw unseen (or-false (list_has (points_at v terminal round) at))
 
 pub HaveSamePoints_other_terminal : (v : TimePoints) (p : AddedPoint) (terminal round : ℕ) → p.terminal ≢ terminal → HaveSamePoints (points_at (with_added v (p ∷ [])) terminal round) (points_at v terminal round)
 HaveSamePoints_other_terminal v p terminal round other =
@@ -164,5 +166,5 @@ HaveSamePoints_earlier_round v p terminal round early =
 -- at its own terminal, from its round on, the new point stands before the others
 pub HaveSamePoints_own_terminal : (v : TimePoints) (p : AddedPoint) (round : ℕ) → p.round ≤ round → HaveSamePoints (points_at (with_added v (p ∷ [])) p.terminal round) (p.at ∷ points_at v p.terminal round)
 HaveSamePoints_own_terminal v p round from at =
-    has_point-with_added v p p.terminal round at ∙
-    rw (eq-eqb p.terminal p.terminal refl, le-leb p.round round from) (or_comm (has_point (points_at v p.terminal round) at) (nat_eq p.at at))
+    list_has-with_added v p p.terminal round at ∙
+    rw (eq-eqb p.terminal p.terminal refl, le-leb p.round round from) (or_comm (list_has (points_at v p.terminal round) at) (nat_eq p.at at))

@@ -6,7 +6,8 @@ use Rattle.std.proofs.lemmas.Bool.{cases_Bool, cases_lt, leb-true, leb-false, le
 use Rattle.std.proofs.lemmas.Bool.Decides.{same_from_decides, Decides-and, Decides-eqb}
 use Rattle.std.proofs.lemmas.List.{get_or-reverse, length-reverse, get_or-take, length-take-le, get_or-drop, length-drop}
 use Rattle.fp_timenodes.specs.declared.timelines.Stamp.{Stamp}
-use Rattle.fp_timenodes.specs.Floor.{has_point, floor_point, next_point, IsNextPoint}
+use Rattle.fp_timenodes.specs.Floor.{floor_point, next_point, IsNextPoint}
+use Rattle.fp_lists.specs.Membership.{list_has}
 use Rattle.fp_timenodes.specs.Stamps.{points_of, IsCut}
 use Rattle.fp_timenodes.proofs.Floors.{floor_below, floor_is}
 use Rattle.fp_timenodes.proofs.Nexts.{next_is}
@@ -54,7 +55,7 @@ before-cut stamps at cut k c h le =
 
 -- where no stamp before the cut is up to the round, no point is at or before the time
 none-until : (stamps : List Stamp) (at round cut : ℕ) → IsCut stamps at cut → ((k : ℕ) → k < cut → round < (get_or stamps k no_stamp).round) →
-    (q : ℕ) → has_point (points_of stamps round) q ≡ true → at < q
+    (q : ℕ) → list_has (points_of stamps round) q ≡ true → at < q
 none-until stamps at round cut c none q there =
     let w : StandsAt stamps round q no_stamp = stamp-of stamps round q no_stamp there in
     ⊎_elim (λ (l : at < q). l)
@@ -111,7 +112,7 @@ found-until stamps at round cut c = by-find (find up (reverse front)) (found up 
     by-find : (o : Option Stamp) → MatchOption o ((k : ℕ) → k < length (reverse front) → up (get_or (reverse front) k no_stamp) ≡ false) (IsFirst up (reverse front) no_stamp) →
         unwrap_or (option_map (λ s. s.at) o) 0 ≡ floor_point (points_of stamps round) 1 at
     by-find None none =
-        let early : (q : ℕ) → has_point (points_of stamps round) q ≡ true → at < q = none-until stamps at round cut c (λ k h. late k h (none (cut - 1 - k) (omega (arith, long-back)))) in
+        let early : (q : ℕ) → list_has (points_of stamps round) q ≡ true → at < q = none-until stamps at round cut c (λ k h. late k h (none (cut - 1 - k) (omega (arith, long-back)))) in
         omega (arith, floor_below (points_of stamps round) 1 at 0 (λ q there le. absurd (omega (arith, early q there))))
     by-find (Some s) w =
         let i : ℕ = cut - 1 - w.place in
@@ -190,26 +191,26 @@ last-at-time stamps at round cut c w =
 
 -- whether the time is a point shows at the last stamp before the cut
 pub has-at-cut : (stamps : List Stamp) (at round cut : ℕ) → IsCut stamps at cut → 0 < cut →
-    has_point (points_of stamps round) at ≡ (nat_eq (get_or stamps (cut - 1) no_stamp).at at && nat_le (get_or stamps (cut - 1) no_stamp).round round)
+    list_has (points_of stamps round) at ≡ (nat_eq (get_or stamps (cut - 1) no_stamp).at at && nat_le (get_or stamps (cut - 1) no_stamp).round round)
 has-at-cut stamps at round cut c some =
-    same_from_decides (has_point (points_of stamps round) at) (nat_eq last.at at && nat_le last.round round) (decides, there)
+    same_from_decides (list_has (points_of stamps round) at) (nat_eq last.at at && nat_le last.round round) (decides, there)
     (Decides-and (nat_eq last.at at) (nat_le last.round round) (Decides-eqb last.at at) (leb-true last.round round, le-leb last.round round))
   where
     last : Stamp
     last = get_or stamps (cut - 1) no_stamp
 
-    decides : has_point (points_of stamps round) at ≡ true → (last.at ≡ at) × (last.round ≤ round)
+    decides : list_has (points_of stamps round) at ≡ true → (last.at ≡ at) × (last.round ≤ round)
     decides h =
         let w : StandsAt stamps round at no_stamp = stamp-of stamps round at no_stamp h in
         let place : w.place ≡ cut - 1 = last-at-time stamps at round cut c w in
         let same : get_or stamps w.place no_stamp ≡ last = ap (λ (k : ℕ). get_or stamps k no_stamp) place in
         (sym (ap (λ (s : Stamp). s.at) same) ∙ w.time, subst (λ (s : Stamp). s.round ≤ round) same w.until)
 
-    there : (last.at ≡ at) × (last.round ≤ round) → has_point (points_of stamps round) at ≡ true
-    there h = subst (λ (n : ℕ). has_point (points_of stamps round) n ≡ true) h.0 (has-stamp stamps round (cut - 1) no_stamp (omega (arith, c.within)) h.1)
+    there : (last.at ≡ at) × (last.round ≤ round) → list_has (points_of stamps round) at ≡ true
+    there h = subst (λ (n : ℕ). list_has (points_of stamps round) n ≡ true) h.0 (has-stamp stamps round (cut - 1) no_stamp (omega (arith, c.within)) h.1)
 
 -- and it is none where no stamp is before the cut
-pub none-at-cut : (stamps : List Stamp) (at round : ℕ) → IsCut stamps at 0 → has_point (points_of stamps round) at ≡ false
+pub none-at-cut : (stamps : List Stamp) (at round : ℕ) → IsCut stamps at 0 → list_has (points_of stamps round) at ≡ false
 none-at-cut stamps at round c =
-    false_from_ne_true (has_point (points_of stamps round) at)
+    false_from_ne_true (list_has (points_of stamps round) at)
     (λ there. absurd (omega (arith, none-until stamps at round 0 c (λ k h. absurd (omega arith)) at there)))

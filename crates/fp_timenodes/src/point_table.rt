@@ -1,6 +1,7 @@
 //! The points of all terminals as of every round: look-ups, and one more point.
 ghost use Rattle.std.specs.Prelude.{ℕ, ◌≡◌, ◌<◌, ◌≤◌, ◌↔◌, ◌++◌, [], ◌∷◌, All, IsTrue, IfOk, IfSome, OnErr, length, replicate};
-ghost use Rattle.fp_timenodes.specs.Floor.{has_point, floor_point, next_point, IsFloorPoint, IsNextPoint};
+ghost use Rattle.fp_timenodes.specs.Floor.{floor_point, next_point, IsFloorPoint, IsNextPoint};
+ghost use Rattle.fp_lists.specs.Membership.{list_has};
 ghost use Rattle.fp_timenodes.specs.Points.{TimePoints, IsPlace, IsAddedPoint, IsValid, points_at, greatest_round};
 ghost use Rattle.fp_timenodes.specs.Timelines.{bare, StartAt};
 
@@ -59,7 +60,7 @@ impl Points {
     /// Whether the terminal has a point at this time as of the round.
     pub fn has(&self, terminal: u32, at: u32, round: u32) -> bool
         requires { terminal < self.now.terminals }
-        ensures { result ≡ has_point (points_at self.now terminal round) at }
+        ensures { result ≡ list_has (points_at self.now terminal round) at }
     {
         let timeline = &self.timelines[terminal as usize];
         timeline.has(at, round)
@@ -119,7 +120,7 @@ impl Points {
     ) -> Result<Added, NoMemory>
         requires place { IsAddedPoint self.old.terminals (record { terminal = terminal; at = at; round = round }) }
         requires order { greatest_round self.old.added ≤ round }
-        ensures there { (result ≡ Ok Added.There) ↔ IsTrue (has_point (points_at self.old terminal round) at) }
+        ensures there { (result ≡ Ok Added.There) ↔ IsTrue (list_has (points_at self.old terminal round) at) }
         ensures same { result ≡ Ok Added.There → self.new ≡ self.old }
         ensures new { result ≡ Ok Added.New →
             self.new ≡ record self.old { added = self.old.added ++ (record { terminal = terminal; at = at; round = round } ∷ []) } }

@@ -1,6 +1,7 @@
 //! The points of one terminal in ascending order, and the search among them.
 ghost use Rattle.std.specs.Prelude.{◌≡◌, [], ◌∷◌, false, IfOk, OnOk, OnErr, find, option_map, reverse, nat_le};
-ghost use Rattle.fp_timenodes.specs.Floor.{has_point, floor_point, next_point};
+ghost use Rattle.fp_timenodes.specs.Floor.{floor_point, next_point};
+ghost use Rattle.fp_lists.specs.Membership.{list_has};
 ghost use Rattle.fp_timenodes.specs.Stamps.{IsAscending, IsCut, points_of, AreUpTo, IncludesPoint};
 
 use crate::NoMemory;
@@ -44,7 +45,7 @@ impl Timeline {
 
     /// Whether there is a point at this time as of the round.
     pub fn has(&self, at: u32, round: u32) -> bool
-        ensures { result ≡ has_point (points_of self.now round) at }
+        ensures { result ≡ list_has (points_of self.now round) at }
     {
         let stamps = self.stamps.as_slice();
         let end = count_until(stamps, at);
@@ -77,7 +78,7 @@ impl Timeline {
     /// changes.
     pub fn insert(&mut self, at: u32, round: u32) -> Result<(), NoMemory>
         requires rounds { AreUpTo round self.old }
-        requires absent { has_point (points_of self.old round) at ≡ false }
+        requires absent { list_has (points_of self.old round) at ≡ false }
         ensures points { OnOk result (IncludesPoint self.old self.new at round) }
         ensures rounds { OnOk result (AreUpTo round self.new) }
         ensures err { OnErr result (self.new ≡ self.old) }

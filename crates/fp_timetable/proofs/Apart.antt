@@ -9,12 +9,11 @@ use Rattle.std.proofs.lemmas.Bool.Decides.{eqb_tells}
 use Rattle.std.proofs.lemmas.Map.Keys.{IsDistinct-IsPermutation}
 use Rattle.fp_model.specs.declared.parts.Leg.{Leg}
 use Rattle.fp_model.specs.Problem.{Problem}
-use Rattle.fp_model.proofs.Sums.{each-weaker}
+use Rattle.fp_lists.proofs.Elements.{AllByRecursion-weaker, AllByRecursion-get_or, AllByRecursion-append, AllByRecursion-map, AllByRecursion-always}
 use Rattle.fp_timetable.specs.declared.lines.LegLine.{LegLine}
 use Rattle.fp_timetable.specs.Lines.{leg_line}
 use Rattle.fp_timetable.specs.Order.{lines_from, rank_of}
 use Rattle.fp_timetable.proofs.Carried.{AllRise}
-use Rattle.fp_timetable.proofs.Pairs.{at-each}
 use Rattle.fp_timetable.proofs.Rising.{Rise}
 
 -- the place of a leg line in the order
@@ -29,37 +28,25 @@ same_rank k l = eqb (leg_rank k) (leg_rank l)
 abbrev IsFrom : ℕ → LegLine → Type 0
 IsFrom i l = (i ≤ l.shipment) × (l.shipment < 2 ^ 32)
 
-pub append-each : {X : Type 0} (P : X → Type 0) (xs ys : List X) → AllByRecursion P xs → AllByRecursion P ys → AllByRecursion P (xs ++ ys)
-append-each P [] ys all more = more
-append-each P (x ∷ xs) ys all more = (all.0, append-each P xs ys all.1 more)
-
-map-each : {X Y : Type 0} (P : Y → Type 0) (f : X → Y) (xs : List X) → AllByRecursion (λ x. P (f x)) xs → AllByRecursion P (map f xs)
-map-each P f [] all = tt
-map-each P f (x ∷ xs) all = (all.0, map-each P f xs all.1)
-
-every : {X : Type 0} (P : X → Type 0) → ((x : X) → P x) → (xs : List X) → AllByRecursion P xs
-every P each [] = tt
-every P each (x ∷ xs) = (each x, every P each xs)
-
 lines-from : (p : Problem) (i : ℕ) (routes : List (List Leg)) → i + length routes < 2 ^ 32 → AllByRecursion (IsFrom i) (lines_from p i routes)
 lines-from p i [] few = tt
 lines-from p i (legs ∷ routes) few =
-    append-each (IsFrom i) (map (leg_line p i) legs) (lines_from p (i + 1) routes)
-    (map-each (IsFrom i) (leg_line p i) legs (every (λ l. IsFrom i (leg_line p i l)) (λ l. (omega arith, omega (arith, few))) legs))
-    (each-weaker (IsFrom (i + 1)) (IsFrom i) (λ l h. (omega (arith, h.0), h.1)) (lines_from p (i + 1) routes) (lines-from p (i + 1) routes (omega (arith, few))))
+    AllByRecursion-append (IsFrom i) (map (leg_line p i) legs) (lines_from p (i + 1) routes)
+    (AllByRecursion-map (IsFrom i) (leg_line p i) legs (AllByRecursion-always (λ l. IsFrom i (leg_line p i l)) (λ l. (omega arith, omega (arith, few))) legs))
+    (AllByRecursion-weaker (IsFrom (i + 1)) (IsFrom i) (λ l h. (omega (arith, h.0), h.1)) (lines_from p (i + 1) routes) (lines-from p (i + 1) routes (omega (arith, few))))
 
 distinct-append : (xs ys : List LegLine) → IsDistinct same_rank xs → IsDistinct same_rank ys → AllByRecursion (λ x. AllByRecursion (λ y. same_rank x y ≡ false) ys) xs → IsDistinct same_rank (xs ++ ys)
 unfolding IsDistinct
 distinct-append [] ys first second cross = second
 distinct-append (x ∷ xs) ys first second cross =
-    (append-each (λ y. same_rank x y ≡ false) xs ys first.0 cross.0, distinct-append xs ys first.1 second cross.1)
+    (AllByRecursion-append (λ y. same_rank x y ≡ false) xs ys first.0 cross.0, distinct-append xs ys first.1 second cross.1)
 
 distinct-route : (p : Problem) (i : ℕ) (legs : List Leg) → Rise legs → IsDistinct same_rank (map (leg_line p i) legs)
 unfolding IsDistinct
 distinct-route p i [] rise = tt
 distinct-route p i (l ∷ legs) rise = (
-  map-each (λ y. same_rank (leg_line p i l) y ≡ false) (leg_line p i) legs
-      (each-weaker (λ (m : Leg). l.depart < m.depart) (λ m. same_rank (leg_line p i l) (leg_line p i m) ≡ false)
+  AllByRecursion-map (λ y. same_rank (leg_line p i l) y ≡ false) (leg_line p i) legs
+      (AllByRecursion-weaker (λ (m : Leg). l.depart < m.depart) (λ m. same_rank (leg_line p i l) (leg_line p i m) ≡ false)
       (λ m h. ne_eqb (rank_of l.depart i) (rank_of m.depart i) (λ e. omega (arith, e, h))) legs rise.0),
   distinct-route p i legs rise.1,
 )
@@ -71,10 +58,10 @@ distinct-lines p i (legs ∷ routes) few rise =
     distinct-append (map (leg_line p i) legs) (lines_from p (i + 1) routes)
     (distinct-route p i legs rise.0)
     (distinct-lines p (i + 1) routes (omega (arith, few)) rise.1)
-    (map-each (λ x. AllByRecursion (λ y. same_rank x y ≡ false) (lines_from p (i + 1) routes)) (leg_line p i) legs
-    (every (λ l. AllByRecursion (λ y. same_rank (leg_line p i l) y ≡ false) (lines_from p (i + 1) routes))
+    (AllByRecursion-map (λ x. AllByRecursion (λ y. same_rank x y ≡ false) (lines_from p (i + 1) routes)) (leg_line p i) legs
+    (AllByRecursion-always (λ l. AllByRecursion (λ y. same_rank (leg_line p i l) y ≡ false) (lines_from p (i + 1) routes))
     (λ l.
-    each-weaker (IsFrom (i + 1)) (λ y. same_rank (leg_line p i l) y ≡ false)
+    AllByRecursion-weaker (IsFrom (i + 1)) (λ y. same_rank (leg_line p i l) y ≡ false)
     (λ y h. ne_eqb (rank_of l.depart i) (rank_of y.depart y.shipment) (λ e. omega (arith, e, h.0, h.1, few)))
     (lines_from p (i + 1) routes) (lines-from p (i + 1) routes (omega (arith, few))))
     legs))
@@ -84,7 +71,7 @@ unfolding IsDistinct
 distinct-at [] i j d apart less lt = absurd (omega (arith, lt))
 distinct-at (l ∷ lines) i zero d apart less lt = absurd (omega (arith, less))
 distinct-at (l ∷ lines) zero (suc j) d apart less lt =
-    eqb-false (leg_rank l) (leg_rank (get_or lines j d)) (at-each (λ m. same_rank l m ≡ false) lines j d apart.0 (omega (arith, lt)))
+    eqb-false (leg_rank l) (leg_rank (get_or lines j d)) (AllByRecursion-get_or (λ m. same_rank l m ≡ false) lines j d apart.0 (omega (arith, lt)))
 distinct-at (l ∷ lines) (suc i) (suc j) d apart less lt = distinct-at lines i j d apart.1 (omega (arith, less)) (omega (arith, lt))
 
 flip : (k l : LegLine) → same_rank k l ≡ same_rank l k

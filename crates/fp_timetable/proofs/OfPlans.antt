@@ -9,13 +9,14 @@ use Rattle.std.proofs.lemmas.Slice.Zip.{AllZip-long}
 use Rattle.fp_model.specs.declared.limits.TheConstants.{MOST_SHIPMENTS}
 use Rattle.fp_model.specs.declared.parts.Leg.{Leg}
 use Rattle.fp_model.specs.declared.parts.Shipment.{Shipment}
-use Rattle.fp_model.specs.Costs.{all_legs, lists_of}
+use Rattle.fp_model.specs.Costs.{all_legs}
+use Rattle.fp_lists.specs.Vectors.{lists_of}
 use Rattle.fp_model.specs.Plans.{IsPlan}
 use Rattle.fp_model.specs.Problem.{Problem, IsShipment, IsValid}
 use Rattle.fp_model.specs.Routes.{Carries, arcs_of}
 use Rattle.fp_model.proofs.Bounds.{Leads-exist, length-lists_of}
 use Rattle.fp_timetable.specs.Order.{ArriveWithin}
-use Rattle.fp_timetable.proofs.Apart.{append-each}
+use Rattle.fp_lists.proofs.Elements.{AllByRecursion-append}
 use Rattle.fp_timetable.proofs.Carried.{AllRise}
 use Rattle.fp_timetable.proofs.Rising.{ArriveWithin-ready, Rise-ready}
 
@@ -58,7 +59,7 @@ exist p [] [] plan = tt
 exist p [] (r ∷ routes) plan = absurd plan
 exist p (s ∷ shipments) [] plan = absurd plan
 exist p (s ∷ shipments) (r ∷ routes) plan =
-    append-each (GoesByArc p) r (all_legs routes) (legs-exist p r (Leads-exist p s.from (arcs_of r) s.to plan.0.route.leads)) (exist p shipments routes plan.1)
+    AllByRecursion-append (GoesByArc p) r (all_legs routes) (legs-exist p r (Leads-exist p s.from (arcs_of r) s.to plan.0.route.leads)) (exist p shipments routes plan.1)
 
 -- what making the lines needs of routes
 pub record AreReady (p : Problem) (routes : List (Vec Leg Global)) : Type 0 where

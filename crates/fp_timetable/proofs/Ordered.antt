@@ -21,13 +21,15 @@ use Rattle.fp_model.specs.Problem.{Problem, IsValid, arc_at}
 use Rattle.fp_model.proofs.Distinct.{same_leg-refl, same_leg-true}
 use Rattle.fp_timetable.specs.declared.lines.LegLine.{LegLine}
 use Rattle.fp_timetable.specs.declared.lines.TruckLine.{TruckLine}
-use Rattle.fp_timetable.specs.Lines.{AreLegLines, AreTruckLines, IsLegLine, Precedes, departure, leg_line, line_leg}
+use Rattle.fp_timetable.specs.Lines.{AreLegLines, AreTruckLines, IsLegLine, departure, leg_line, line_leg}
+use Rattle.fp_lists.specs.Order.{Precedes}
 use Rattle.fp_timetable.specs.Order.{AreMerged, LineExists, lines_from, load_on, no_line, rank_of, size_on, truck_rank, with_trucks}
 use Rattle.fp_timetable.proofs.Apart.{leg_rank, rising-lines}
 use Rattle.fp_timetable.proofs.Carried.{AllRise, ShipmentsFrom, size_on-lines}
 use Rattle.fp_timetable.proofs.Gathered.{StandFrom-all, has_leg-get_or, lines_from-departures, lines_from-every, lines_from-legs}
 use Rattle.fp_timetable.proofs.OfPlans.{GoesByArc, IsReady, IsReady-plan}
-use Rattle.fp_timetable.proofs.Pairs.{EachPair, EachPair-AllPairs, at-each}
+use Rattle.fp_timetable.proofs.Pairs.{EachPair, EachPair-AllPairs}
+use Rattle.fp_lists.proofs.Elements.{AllByRecursion-get_or}
 
 precedes : (a b c d : ℕ) → b < 2 ^ 32 → d < 2 ^ 32 → rank_of a b < rank_of c d → Precedes a b c d
 precedes a b c d small other less =
@@ -111,7 +113,7 @@ load_on-one (t ∷ lines) zero d ascend lt =
     )
 load_on-one (t ∷ lines) (suc i) d ascend lt =
     let u : TruckLine = get_or lines i d in
-    let less : truck_rank t < truck_rank u = at-each (λ (v : TruckLine). truck_rank t < truck_rank v) lines i d ascend.0 (omega (arith, lt)) in
+    let less : truck_rank t < truck_rank u = AllByRecursion-get_or (λ (v : TruckLine). truck_rank t < truck_rank v) lines i d ascend.0 (omega (arith, lt)) in
     let other : same_leg (departure u) (departure t) ≡ false = other-departure u t (λ e. omega (arith, e, less)) in
     omega (
       arith,

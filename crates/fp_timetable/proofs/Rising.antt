@@ -5,7 +5,7 @@ use Rattle.std.proofs.lemmas.List.Elements.{All-cons, All-nil, All-get_or}
 use Rattle.fp_model.specs.declared.parts.Leg.{Leg}
 use Rattle.fp_model.specs.Problem.{Problem, IsArc, IsValid, arc_at, no_arc}
 use Rattle.fp_model.specs.Routes.{Leads, LeavesReady, ArrivesBy, arcs_of, step}
-use Rattle.fp_model.proofs.Sums.{each-weaker}
+use Rattle.fp_lists.proofs.Elements.{AllByRecursion-weaker}
 use Rattle.fp_timetable.specs.Order.{ArriveWithin, IsWithin}
 
 -- an arc takes at least one unit of time
@@ -24,14 +24,14 @@ ready-le : (p : Problem) (here there ready : ℕ) (legs : List Leg) → IsValid 
 ready-le p here there ready [] valid leads leaves = tt
 ready-le p here there ready (l ∷ legs) valid leads leaves = (
   leaves.0,
-  each-weaker (λ (m : Leg). l.depart + 1 * step p l.arc ≤ m.depart) (λ (m : Leg). ready ≤ m.depart) (λ m h. omega (arith, h, leaves.0)) legs
+  AllByRecursion-weaker (λ (m : Leg). l.depart + 1 * step p l.arc ≤ m.depart) (λ (m : Leg). ready ≤ m.depart) (λ m h. omega (arith, h, leaves.0)) legs
       (ready-le p (arc_at p l.arc).to there (l.depart + 1 * step p l.arc) legs valid leads.2 leaves.1),
 )
 
 pub Rise-ready : (p : Problem) (here there ready : ℕ) (legs : List Leg) → IsValid p → Leads p here (arcs_of legs) there → LeavesReady p 1 ready legs → Rise legs
 Rise-ready p here there ready [] valid leads leaves = tt
 Rise-ready p here there ready (l ∷ legs) valid leads leaves = (
-  each-weaker (λ (m : Leg). l.depart + 1 * step p l.arc ≤ m.depart) (λ (m : Leg). l.depart < m.depart) (λ m h. omega (arith, h, step-positive p l.arc valid leads.0)) legs
+  AllByRecursion-weaker (λ (m : Leg). l.depart + 1 * step p l.arc ≤ m.depart) (λ (m : Leg). l.depart < m.depart) (λ m h. omega (arith, h, step-positive p l.arc valid leads.0)) legs
       (ready-le p (arc_at p l.arc).to there (l.depart + 1 * step p l.arc) legs valid leads.2 leaves.1),
   Rise-ready p (arc_at p l.arc).to there (l.depart + 1 * step p l.arc) legs valid leads.2 leaves.1,
 )

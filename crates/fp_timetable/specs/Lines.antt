@@ -1,5 +1,6 @@
 -- What the lines of a timetable are.
-use Rattle.std.specs.Prelude.{ℕ, ◌+◌, ◌*◌, ◌<◌, ◌≡◌, ◌⊎◌, List, [], ◌∷◌, nat_eq, if◌then◌else◌, length, map, IsTrue, All, AllPairs, Contains}
+use Rattle.std.specs.Prelude.{ℕ, ◌+◌, ◌*◌, ◌<◌, ◌≡◌, List, [], ◌∷◌, nat_eq, if◌then◌else◌, length, map, IsTrue, All, AllPairs, Contains}
+use Rattle.fp_lists.specs.Order.{Precedes}
 use Rattle.fp_model.specs.declared.parts.Leg.{Leg}
 use Rattle.fp_model.specs.declared.parts.Shipment.{Shipment}
 use Rattle.fp_model.specs.Costs.{all_legs, has_leg, load, trucks}
@@ -7,11 +8,6 @@ use Rattle.fp_model.specs.Numbered.{leg_at, route_at}
 use Rattle.fp_model.specs.Problem.{Problem, arc_at}
 use Rattle.fp_timetable.specs.declared.lines.LegLine.{LegLine}
 use Rattle.fp_timetable.specs.declared.lines.TruckLine.{TruckLine}
-
--- one pair of numbers stands before another: by the first numbers, and where these are equal by the
--- second
-abbrev pub Precedes : (a b c d : ℕ) → Type 0
-Precedes a b c d = (a < c) ⊎ ((a ≡ c) × (b < d))
 
 -- the line of a leg of the shipment with a number, which arrives a travel time after it left
 abbrev pub leg_line : Problem → ℕ → Leg → LegLine

@@ -4,22 +4,19 @@ use Rattle.std.specs.Prelude.{Option, Some, None, IfSome, slice_index_or, nat_eq
 use Rattle.std.specs.List.{AllByRecursion}
 use Rattle.std.proofs.lemmas.Bool.{cases_Bool, leb-true, leb-false}
 use Rattle.std.proofs.lemmas.Bool.Decides.{eqb_tells}
+use Rattle.fp_lists.proofs.Elements.{AllByRecursion-weaker, AllByRecursion-both}
 use Rattle.fp_tree.specs.declared.sides.Split.{Split}
 use Rattle.fp_tree.specs.declared.sides.Split.TheVariants.{ByArc, ByTime}
 use Rattle.fp_tree.specs.declared.sides.Side.{Side}
 use Rattle.fp_tree.specs.declared.sides.Side.TheVariants.{Without, Only, Before, From}
 use Rattle.fp_tree.specs.Sides.{Exit, Fork, HasTail, IsTailOfSplit, Meets, MeetsAll, Obeys, first, second, first_of_split, second_of_split}
-use Rattle.fp_tree.specs.Trees.{Leaf, leaves_of, AreTrees, IsTree, tree_leaves, AnyByRecursion, LeaveApart, HaveTails, CoversAll}
+use Rattle.fp_tree.specs.Trees.{Leaf, leaves_of, AreTrees, IsTree, tree_leaves, LeaveApart, HaveTails, CoversAll}
+use Rattle.fp_lists.specs.Elements.{AnyByRecursion}
 
 -- two numbers are equal or not
 pub same_or_not : (a b : ℕ) → (a ≡ b) ⊎ (a ≢ b)
 same_or_not a b =
     ⊎_elim (λ (h : (nat_eq a b ≡ true) × (a ≡ b)). inl h.1) (λ (h : (nat_eq a b ≡ false) × (a ≢ b)). inr h.1) (eqb_tells a b)
-
--- P of each element, weakened
-pub each_weaker : {X : Type 0} (P Q : X → Type 0) → ((x : X) → P x → Q x) → (xs : List X) → AllByRecursion P xs → AllByRecursion Q xs
-each_weaker P Q h [] all = tt
-each_weaker P Q h (x ∷ xs) all = (h x all.0, each_weaker P Q h xs all.1)
 
 -- the legs that leave a terminal are all so, or all so, since there is one at most
 one_or_other : (tails : ℕ → ℕ) (terminal : ℕ) (P Q : Exit → Type 0) → ((e : Exit) → P e ⊎ Q e) → (exits : List Exit) → LeaveApart tails exits →
@@ -29,8 +26,8 @@ one_or_other tails terminal P Q either (e ∷ exits) apart =
     ⊎_elim
     (λ (here : e.tail ≡ terminal).
     ⊎_elim
-    (λ (p : P e). inl ((λ at. p), each_weaker (λ (f : Exit). f.tail ≢ e.tail) (λ f. f.tail ≡ terminal → P f) (λ f other at. absurd (other (at ∙ sym here))) exits apart.1))
-    (λ (q : Q e). inr ((λ at. q), each_weaker (λ (f : Exit). f.tail ≢ e.tail) (λ f. f.tail ≡ terminal → Q f) (λ f other at. absurd (other (at ∙ sym here))) exits apart.1))
+    (λ (p : P e). inl ((λ at. p), AllByRecursion-weaker (λ (f : Exit). f.tail ≢ e.tail) (λ f. f.tail ≡ terminal → P f) (λ f other at. absurd (other (at ∙ sym here))) exits apart.1))
+    (λ (q : Q e). inr ((λ at. q), AllByRecursion-weaker (λ (f : Exit). f.tail ≢ e.tail) (λ f. f.tail ≡ terminal → Q f) (λ f other at. absurd (other (at ∙ sym here))) exits apart.1))
     (either e))
     (λ (away : e.tail ≢ terminal).
     ⊎_elim
@@ -43,11 +40,6 @@ tails_told : (tails : ℕ → ℕ) (exits : List Exit) → LeaveApart tails exit
 tails_told tails [] apart = tt
 tails_told tails (e ∷ exits) apart = (apart.0, tails_told tails exits apart.2)
 
--- both of each element
-both_of : {X : Type 0} (P Q : X → Type 0) (xs : List X) → AllByRecursion P xs → AllByRecursion Q xs → AllByRecursion (λ x. P x × Q x) xs
-both_of P Q [] ps qs = tt
-both_of P Q (x ∷ xs) ps qs = ((ps.0, qs.0), both_of P Q xs ps.1 qs.1)
-
 -- what obeys sides and one more
 meets_more : (d k : ℕ) (sides : List Side) (side : Side) (e : Exit) → MeetsAll d k sides e → Meets d k e side → MeetsAll d k (sides ++ (side ∷ [])) e
 meets_more d k [] side e all one = (one, tt)
@@ -56,8 +48,8 @@ meets_more d k (s ∷ sides) side e all one = (all.0, meets_more d k sides side 
 obeys_more : (d : ℕ) (routes : List (List Exit)) (sides : List Side) (side : Side) → Obeys d routes sides → ((k : ℕ) → AllByRecursion (λ e. Meets d k e side) (slice_index_or routes k [])) →
     Obeys d routes (sides ++ (side ∷ []))
 obeys_more d routes sides side all one = λ k.
-    each_weaker (λ e. MeetsAll d k sides e × Meets d k e side) (MeetsAll d k (sides ++ (side ∷ []))) (λ e both. meets_more d k sides side e both.0 both.1)
-    (slice_index_or routes k []) (both_of (MeetsAll d k sides) (λ e. Meets d k e side) (slice_index_or routes k []) (all k) (one k))
+    AllByRecursion-weaker (λ e. MeetsAll d k sides e × Meets d k e side) (MeetsAll d k (sides ++ (side ∷ []))) (λ e both. meets_more d k sides side e both.0 both.1)
+    (slice_index_or routes k []) (AllByRecursion-both (MeetsAll d k sides) (λ e. Meets d k e side) (slice_index_or routes k []) (all k) (one k))
 
 -- a side of one shipment is obeyed where that shipment's legs obey it
 alone : (d shipment : ℕ) (routes : List (List Exit)) (side : Side) → ((k : ℕ) (e : Exit) → k ≢ shipment → Meets d k e side) →
@@ -82,11 +74,11 @@ one_side tails d routes apart (ByArc shipment arc) tail is_tail =
     ⊎_elim
     (λ (without : AllByRecursion (λ e. e.tail ≡ tail → e.arc ≢ arc) exits).
     inl (alone d shipment routes (Without shipment arc) (λ k e other same. absurd (other same))
-    (each_weaker (λ e. (e.tail ≡ tail → e.arc ≢ arc) × (e.tail ≡ tails e.arc)) (λ e. shipment ≡ shipment → e.arc ≢ arc)
-    (λ e both own is. both.0 (both.1 ∙ ap tails is ∙ sym is_tail) is) exits (both_of (λ e. e.tail ≡ tail → e.arc ≢ arc) (λ e. e.tail ≡ tails e.arc) exits without told))))
+    (AllByRecursion-weaker (λ e. (e.tail ≡ tail → e.arc ≢ arc) × (e.tail ≡ tails e.arc)) (λ e. shipment ≡ shipment → e.arc ≢ arc)
+    (λ e both own is. both.0 (both.1 ∙ ap tails is ∙ sym is_tail) is) exits (AllByRecursion-both (λ e. e.tail ≡ tail → e.arc ≢ arc) (λ e. e.tail ≡ tails e.arc) exits without told))))
     (λ (only : AllByRecursion (λ e. e.tail ≡ tail → e.arc ≡ arc) exits).
     inr (alone d shipment routes (Only shipment arc tail) (λ k e other same. absurd (other same))
-    (each_weaker (λ e. e.tail ≡ tail → e.arc ≡ arc) (λ e. shipment ≡ shipment → e.tail ≡ tail → e.arc ≡ arc) (λ e only_it own. only_it) exits only)))
+    (AllByRecursion-weaker (λ e. e.tail ≡ tail → e.arc ≡ arc) (λ e. shipment ≡ shipment → e.tail ≡ tail → e.arc ≡ arc) (λ e only_it own. only_it) exits only)))
     (one_or_other tails tail (λ e. e.arc ≢ arc) (λ e. e.arc ≡ arc)
     (λ e. ⊎_elim (λ (same : e.arc ≡ arc). inr same) (λ (other : e.arc ≢ arc). inl other) (same_or_not e.arc arc)) exits (apart shipment))
 one_side tails d routes apart (ByTime shipment terminal at) tail is_tail =
@@ -94,10 +86,10 @@ one_side tails d routes apart (ByTime shipment terminal at) tail is_tail =
     ⊎_elim
     (λ (before : AllByRecursion (λ e. e.tail ≡ terminal → e.moment < d * at) exits).
     inl (alone d shipment routes (Before shipment terminal at) (λ k e other same. absurd (other same))
-    (each_weaker (λ e. e.tail ≡ terminal → e.moment < d * at) (λ e. shipment ≡ shipment → e.tail ≡ terminal → e.moment < d * at) (λ e h own. h) exits before)))
+    (AllByRecursion-weaker (λ e. e.tail ≡ terminal → e.moment < d * at) (λ e. shipment ≡ shipment → e.tail ≡ terminal → e.moment < d * at) (λ e h own. h) exits before)))
     (λ (after : AllByRecursion (λ e. e.tail ≡ terminal → d * at ≤ e.moment) exits).
     inr (alone d shipment routes (From shipment terminal at) (λ k e other same. absurd (other same))
-    (each_weaker (λ e. e.tail ≡ terminal → d * at ≤ e.moment) (λ e. shipment ≡ shipment → e.tail ≡ terminal → d * at ≤ e.moment) (λ e h own. h) exits after)))
+    (AllByRecursion-weaker (λ e. e.tail ≡ terminal → d * at ≤ e.moment) (λ e. shipment ≡ shipment → e.tail ≡ terminal → d * at ≤ e.moment) (λ e h own. h) exits after)))
     (one_or_other tails terminal (λ e. e.moment < d * at) (λ e. d * at ≤ e.moment)
     (λ e. ⊎_elim (λ (h : nat_le (d * at) e.moment ≡ true). inr (leb-true (d * at) e.moment h)) (λ (h : nat_le (d * at) e.moment ≡ false). inl (leb-false (d * at) e.moment h)) (cases_Bool (nat_le (d * at) e.moment))) exits (apart shipment))
 

@@ -2,6 +2,7 @@
 -- X is any type of nodes. `fork_of` tells at what a node splits, and None at a leaf.
 use Rattle.std.specs.Prelude.{ℕ, zero, suc, ◌≡◌, ◌≢◌, List, [], ◌∷◌, ◌++◌, filter, is_some, Option, Some, None, IfSome, ◌⊎◌, slice_index_or}
 use Rattle.std.specs.List.{AllByRecursion}
+use Rattle.fp_lists.specs.Elements.{AnyByRecursion}
 use Rattle.fp_tree.specs.declared.sides.Side.{Side}
 use Rattle.fp_tree.specs.Sides.{Exit, Fork, HasTail, Obeys, first, second}
 
@@ -79,11 +80,6 @@ with_leaf {X} fork_of change zero (x ∷ nodes) =
     elim (fork_of x) as (λ o. List X) [ None ↦ change x ++ nodes | Some f ↦ x ∷ with_leaf fork_of change zero nodes ]
 with_leaf {X} fork_of change (suc k) (x ∷ nodes) =
     elim (fork_of x) as (λ o. List X) [ None ↦ x ∷ with_leaf fork_of change k nodes | Some f ↦ x ∷ with_leaf fork_of change (suc k) nodes ]
-
--- Some element is so.
-abbrev pub AnyByRecursion : {X : Type 0} → (X → Type 0) → List X → Type 0
-AnyByRecursion P [] = ⊥
-AnyByRecursion P (x ∷ xs) = P x ⊎ AnyByRecursion P xs
 
 -- The legs of one shipment go by arcs whose tails are as told, and no two of them leave the same terminal.
 abbrev pub LeaveApart : (ℕ → ℕ) → List Exit → Type 0

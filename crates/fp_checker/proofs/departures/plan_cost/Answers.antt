@@ -1,6 +1,7 @@
 use Rattle.std.proofs.Common.{◌≡◌, List, ap, ◌∙◌, arith}
 use Rattle.fp_model.specs.declared.parts.Leg.{Leg}
-use Rattle.fp_model.specs.Costs.{flow_total, lists_of}
+use Rattle.fp_model.specs.Costs.{flow_total}
+use Rattle.fp_lists.specs.Vectors.{lists_of}
 use Rattle.fp_model.proofs.Bounds.{AreReady, AreReady-plan, cost_fits}
 use Rattle.fp_checker.proofs.DepartureLines.{sum-lines}
 use Rattle.fp_checker.proofs.departures.plan_cost.Goals as goal

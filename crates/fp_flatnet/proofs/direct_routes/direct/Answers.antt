@@ -3,9 +3,9 @@ use Rattle.std.specs.declared.alloc.Global.{Global}
 use Rattle.std.specs.declared.vec.Vec.{Vec}
 use Rattle.fp_model.specs.declared.parts.Leg.{Leg}
 use Rattle.fp_model.specs.declared.parts.Shipment.{Shipment}
-use Rattle.fp_model.specs.Costs.{lists_of}
+use Rattle.fp_lists.specs.Vectors.{lists_of}
 use Rattle.fp_model.specs.Numbered.{no_shipment, shipment_at}
-use Rattle.fp_model.proofs.Places.{AllZip-from_places}
+use Rattle.fp_lists.proofs.Numbered.{AllZip-from_get_or}
 use Rattle.fp_flatnet.specs.Directs.{IsDirect, IsDirectPlan}
 use Rattle.fp_flatnet.specs.Verdicts.{IsInTime}
 use Rattle.fp_flatnet.proofs.DirectRoutes.{IsPlan-from_direct}
@@ -27,7 +27,7 @@ returns-clause-exact c =
     let p = c.args.instance.now in
     let all : length p.shipments ≤ c.loop-shipment.shipment-index = rw (← c.shipments-shipment-items.ensures.same) c.loop-shipment-test.false in
     let few : c.loop-shipment.shipment-index ≤ length p.shipments = rw (← c.shipments-shipment-items.ensures.same) c.loop-shipment.auto.shipment-index-end in
-    AllZip-from_places (IsDirect p) p.shipments (lists_of c.loop-shipment.routes.items) no_shipment [] (omega (arith, all, few, c.loop-shipment.invariant.0))
+    AllZip-from_get_or (IsDirect p) p.shipments (lists_of c.loop-shipment.routes.items) no_shipment [] (omega (arith, all, few, c.loop-shipment.invariant.0))
     (λ k lt. c.loop-shipment.invariant.1 k (omega (arith, lt, all)))
 
 pub returns-clause-plan : goal.returns-clause-plan
@@ -36,7 +36,7 @@ returns-clause-plan c =
     let all : length p.shipments ≤ c.loop-shipment.shipment-index = rw (← c.shipments-shipment-items.ensures.same) c.loop-shipment-test.false in
     let few : c.loop-shipment.shipment-index ≤ length p.shipments = rw (← c.shipments-shipment-items.ensures.same) c.loop-shipment.auto.shipment-index-end in
     let exact : IsDirectPlan p (lists_of c.loop-shipment.routes.items) =
-    AllZip-from_places (IsDirect p) p.shipments (lists_of c.loop-shipment.routes.items) no_shipment [] (omega (arith, all, few, c.loop-shipment.invariant.0))
+    AllZip-from_get_or (IsDirect p) p.shipments (lists_of c.loop-shipment.routes.items) no_shipment [] (omega (arith, all, few, c.loop-shipment.invariant.0))
     (λ k lt. c.loop-shipment.invariant.1 k (omega (arith, lt, all))) in
     IsPlan-from_direct p (lists_of c.loop-shipment.routes.items) c.shipments-shipment-items.ensures.valid c.requires exact
 

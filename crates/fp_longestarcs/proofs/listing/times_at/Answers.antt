@@ -2,14 +2,14 @@
 use Rattle.std.proofs.Common.{List}
 use Rattle.std.specs.Prelude.{ℕ}
 use Rattle.fp_timenodes.specs.Points.{points_at}
-use Rattle.fp_timenodes.proofs.TimelinePoints.{has_point-zero}
+use Rattle.fp_timenodes.proofs.TimelinePoints.{list_has-zero}
 use Rattle.fp_longestarcs.proofs.Listed.{until-none, until-more, until-all}
 use Rattle.fp_longestarcs.proofs.listing.times_at.Goals as goal
 
 pub loop-next-init : goal.loop-next-init
 loop-next-init c =
     let qs : List ℕ = points_at c.args.points.now c.args.terminal c.args.round in
-    rw c.in_ok-times.ensures.items (until-none qs (has_point-zero c.args.points.now c.args.terminal c.args.round))
+    rw c.in_ok-times.ensures.items (until-none qs (list_has-zero c.args.points.now c.args.terminal c.args.round))
 
 pub loop-next-preserved : goal.loop-next-preserved
 loop-next-preserved c =

@@ -1,6 +1,6 @@
 use Rattle.std.proofs.Common.{◌≡◌, ◌∷◌, drop, length}
 use Rattle.std.specs.Prelude.{◌↔◌}
-use Rattle.fp_model.specs.Routes.{AreApart}
+use Rattle.fp_lists.specs.Distinct.{AreDistinct}
 use Rattle.fp_relaxmodel.proofs.MetTerminals.{AreNew, entered_by}
 use Rattle.fp_relaxmodel.proofs.terminals.are_apart.Given as goal
 
@@ -8,5 +8,5 @@ use Rattle.fp_relaxmodel.proofs.terminals.are_apart.Given as goal
 abbrev pub invariant-loop-stop : goal.invariant-loop-stop
 invariant-loop-stop l = record {
   long : length l.met ≡ 100;
-  decides : AreApart (l.tail ∷ entered_by l.instance l.stops) ↔ AreNew l.met (entered_by l.instance (drop l.stop-index l.stops));
+  decides : AreDistinct (l.tail ∷ entered_by l.instance l.stops) ↔ AreNew l.met (entered_by l.instance (drop l.stop-index l.stops));
 }

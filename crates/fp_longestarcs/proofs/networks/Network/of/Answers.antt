@@ -5,7 +5,8 @@ use Rattle.std.specs.declared.vec.Vec.{Vec}
 use Rattle.std.proofs.lemmas.List.{take_at, length-map}
 use Rattle.fp_model.specs.Problem.{Problem}
 use Rattle.fp_longestarcs.specs.Networks.{TimedNetwork}
-use Rattle.fp_longestarcs.specs.Vectors.{AreOffsets, lists_of, network_of}
+use Rattle.fp_longestarcs.specs.Vectors.{AreOffsets, network_of}
+use Rattle.fp_lists.specs.Vectors.{lists_of}
 use Rattle.fp_longestarcs.specs.Whole.{tails_of, heads_of}
 use Rattle.fp_longestarcs.proofs.FourProperties.{has-properties}
 use Rattle.fp_longestarcs.proofs.Made.{tails-within, made-whole}

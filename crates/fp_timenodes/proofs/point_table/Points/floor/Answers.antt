@@ -4,7 +4,7 @@ use Rattle.fp_timenodes.specs.Floor.{IsFloorPoint}
 use Rattle.fp_timenodes.specs.Points.{TimePoints, IsValid, points_at}
 use Rattle.fp_timenodes.specs.Stamps.{points_of}
 use Rattle.fp_timenodes.proofs.Floors.{IsFloorPoint-floor_point, floor_same}
-use Rattle.fp_timenodes.proofs.TimelinePoints.{points_at_latest, HaveSamePoints-timeline, has_point-zero}
+use Rattle.fp_timenodes.proofs.TimelinePoints.{points_at_latest, HaveSamePoints-timeline, list_has-zero}
 use Rattle.fp_timenodes.proofs.point_table.Points.floor.Goals as goal
 
 pub returns-clause-value : goal.returns-clause-value
@@ -17,7 +17,7 @@ returns-clause-value c =
 pub returns-clause-greatest : goal.returns-clause-greatest
 returns-clause-greatest c =
     let qs = points_at c.args.self.now c.args.terminal c.args.round in
-    subst (λ (m : ℕ). IsFloorPoint qs c.args.at m) (sym (returns-clause-value c)) (IsFloorPoint-floor_point qs c.args.at (has_point-zero c.args.self.now c.args.terminal c.args.round))
+    subst (λ (m : ℕ). IsFloorPoint qs c.args.at m) (sym (returns-clause-value c)) (IsFloorPoint-floor_point qs c.args.at (list_has-zero c.args.self.now c.args.terminal c.args.round))
 
 pub returns-clause-in_time : goal.returns-clause-in_time
 returns-clause-in_time c =
