@@ -88,6 +88,13 @@ decides-next A p met stops i d to lt is within unmet decides =
       (λ new. decides.1 (subst (AreNew met) (sym here) (next.1 new))),
     )
 
+-- the terminals on a walk with a first class
+pub on-first : (p : Problem) (stops : List Stop) (first : Stop) → slice_get stops 0 ≡ Some first → terminals_on p (legs_of stops) ≡ (arc_at p first.arc).from ∷ entered_by p stops
+on-first p [] first is = cc
+on-first p (stop ∷ stops) first is =
+    let same : stop ≡ first = cc in
+    ap (λ (s : Stop). (arc_at p s.arc).from ∷ entered_by p (stop ∷ stops)) same
+
 -- whether the walk from a shipment's origin to its destination is a route of it
 pub route-decides : (A : Type 0) (p : Problem) (walk : List Leg) → (A ↔ AreDistinct (terminals_on p walk)) → (s : Shipment) → s.from ≢ s.to → Leads p s.from (arcs_of walk) s.to → (A ↔ IsRoute p s (arcs_of walk))
 route-decides A p [] decides s ends leads = ((λ a. absurd (ends leads)), (λ route. absurd (ends leads)))

@@ -16,7 +16,8 @@ pub record IsGroup (walks : List (List Leg)) (group : List Member) : Type 0 wher
   pub occurs : has_leg class (all_legs walks) ≡ true
   pub exact : group ≡ members_in walks class
 
--- the groups of the classes on walks: each is a group of one class, their first members ascend, and each class that occurs has one
+-- the groups of the classes on walks: each is a group of one class, their first members ascend, and
+-- each class that occurs has one
 pub record AreGroups (walks : List (List Leg)) (groups : List (List Member)) : Type 0 where
   pub each : All (IsGroup walks) groups
   pub ascending : AllPairs StartsBefore groups
