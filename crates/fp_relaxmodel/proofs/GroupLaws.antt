@@ -16,7 +16,7 @@ use Rattle.fp_relaxmodel.specs.Grouping.{Met, after}
 use Rattle.fp_relaxmodel.specs.Groups.{StartsBefore}
 use Rattle.fp_model.specs.Members.{MemberComesBefore, members_among, NamedLeg}
 use Rattle.fp_relaxmodel.proofs.MetClasses.{same_leg-comm}
-use Rattle.fp_relaxmodel.proofs.Peeling.{Occurs, members-others, occurs-from_others, occurs-others, others, others-other, others-same, peel}
+use Rattle.fp_relaxmodel.proofs.FirstGroups.{Occurs, members-others, occurs-from_others, occurs-others, others, others-other, others-same, after-cons}
 use Rattle.fp_model.proofs.Members.{members_among-other, members_among-same}
 
 -- a group has a class that occurs, and all its members among the legs
@@ -63,7 +63,7 @@ each-met (suc n) (x ∷ legs) le =
     } in
     let later : AllByRecursion (IsMet (x ∷ legs)) (after rest []) =
     AllByRecursion-weaker (IsMet rest) (IsMet (x ∷ legs)) (met-wider x legs) (after rest []) (each-met n rest (omega (arith, le, others-short x.leg legs))) in
-    subst (AllByRecursion (IsMet (x ∷ legs))) (sym (peel x legs)) (first, later)
+    subst (AllByRecursion (IsMet (x ∷ legs))) (sym (after-cons x legs)) (first, later)
 
 -- one leg comes before another
 abbrev pub Before : NamedLeg → NamedLeg → Type 0
@@ -99,7 +99,7 @@ groups-ascend (suc n) (x ∷ legs) le pairs =
     (λ g is. subst (StartsBefore first) (sym is.exact) (begins-before x.member (members_among legs x.leg) rest g.class after_x is.occurs)) (after rest []) (each-met n rest short) in
     let begins : All (StartsBefore first) (members_of (after rest [])) =
     All-map (StartsBefore first) (λ (g : Met). g.members) (after rest []) (All-from_recursion (λ (g : Met). StartsBefore first g.members) (after rest []) later) in
-    subst (λ (groups : List Met). AllPairs StartsBefore (members_of groups)) (sym (peel x legs))
+    subst (λ (groups : List Met). AllPairs StartsBefore (members_of groups)) (sym (after-cons x legs))
     (AllPairs-cons StartsBefore first (members_of (after rest [])) begins (groups-ascend n rest short (AllPairs-filter Before other legs (AllPairs-tail Before x legs pairs))))
 
 -- each class that occurs has its group
@@ -128,4 +128,4 @@ groups-cover (suc n) (x ∷ legs) k le there =
     let same : members_among rest k ≡ members_among (x ∷ legs) k = members-others k x.leg legs differ ∙ sym (members_among-other k x legs e) in
     Contains-append_right (first ∷ []) (members_of (after rest [])) (members_among (x ∷ legs) k) (subst (Contains (members_of (after rest []))) same among))
     (cases_Bool (same_leg k x.leg)) in
-    subst (λ (groups : List Met). HasMembers (members_of groups)) (sym (peel x legs)) found
+    subst (λ (groups : List Met). HasMembers (members_of groups)) (sym (after-cons x legs)) found

@@ -9,7 +9,7 @@ use Rattle.fp_relaxmodel.specs.Groups.{AreGroups, IsGroup, StartsBefore}
 use Rattle.fp_model.specs.Members.{MemberComesBefore, named_from, NamedLeg}
 use Rattle.fp_relaxmodel.proofs.GroupLaws.{IsMet, each-met, groups-ascend, groups-cover, members_of}
 use Rattle.fp_lists.proofs.Pairs.{AllPairs-tail, AllPairs-head, AllPairs-unique}
-use Rattle.fp_relaxmodel.proofs.PlacedLegs.{occurs-placed, pairs-from}
+use Rattle.fp_relaxmodel.proofs.NamedLegs.{occurs-placed, pairs-from}
 
 -- the groups that are met over all legs are the groups of the classes
 pub groups-met : (walks : List (List Leg)) → AreGroups walks (members_of (after (named_from 0 walks) []))

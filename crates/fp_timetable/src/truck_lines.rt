@@ -35,7 +35,7 @@ fn ends_at(lines: &[TruckLine], leg: &LegLine) -> bool
 }
 
 // Adds a size to the departure of a leg, which is the last line's or a new one.
-#[tactic(auto, using(crate::proofs::Adding::adds_more, crate::proofs::Adding::adds_new))]
+#[tactic(auto, using(crate::proofs::AddedLegs::adds_more, crate::proofs::AddedLegs::adds_new))]
 fn add(lines: &mut Vec<TruckLine>, leg: &LegLine, size: u64) -> Result<(), NoMemory>
     requires { All (λ (t : TruckLine). t.load + size < 2 ^ 128) lines.old.items }
     ensures ok { OnOk result (Adds leg.now size lines.old.items lines.new.items) }

@@ -2,7 +2,7 @@ use Rattle.std.proofs.Common.{ℕ, ◌*◌, ◌^◌, ◌<◌, ◌≤◌, length,
 use Rattle.std.specs.Prelude.{All}
 use Rattle.fp_timetable.specs.declared.lines.TruckLine.{TruckLine}
 use Rattle.fp_timetable.specs.Order.{AreMerged, IsNotAfter}
-use Rattle.fp_timetable.proofs.Merging.{no_leg_line}
+use Rattle.fp_timetable.proofs.MergedLegs.{no_leg_line}
 use Rattle.fp_timetable.proofs.truck_lines.merged.Given as goal
 
 -- the lines are the departures of the legs so far, come no later than the legs that are left, and

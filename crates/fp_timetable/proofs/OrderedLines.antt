@@ -24,10 +24,10 @@ use Rattle.fp_timetable.specs.declared.lines.TruckLine.{TruckLine}
 use Rattle.fp_timetable.specs.Lines.{AreLegLines, AreTruckLines, IsLegLine, departure, leg_line, line_leg}
 use Rattle.fp_lists.specs.Order.{Precedes}
 use Rattle.fp_timetable.specs.Order.{AreMerged, LineExists, lines_from, load_on, no_line, rank_of, size_on, truck_rank, with_trucks}
-use Rattle.fp_timetable.proofs.Apart.{leg_rank, rising-lines}
-use Rattle.fp_timetable.proofs.Carried.{AllRise, ShipmentsFrom, size_on-lines}
-use Rattle.fp_timetable.proofs.Gathered.{StandFrom-all, has_leg-get_or, lines_from-departures, lines_from-every, lines_from-legs}
-use Rattle.fp_timetable.proofs.OfPlans.{GoesByArc, IsReady, IsReady-plan}
+use Rattle.fp_timetable.proofs.LineRanks.{leg_rank, rising-lines}
+use Rattle.fp_timetable.proofs.DepartureLoads.{AllRise, ShipmentsFrom, size_on-lines}
+use Rattle.fp_timetable.proofs.AllLines.{StandFrom-all, has_leg-get_or, lines_from-departures, lines_from-every, lines_from-legs}
+use Rattle.fp_timetable.proofs.PlanLegs.{GoesByArc, IsReady, IsReady-plan}
 use Rattle.fp_timetable.proofs.Pairs.{EachPair, EachPair-AllPairs}
 use Rattle.fp_lists.proofs.Elements.{AllByRecursion-get_or}
 
@@ -161,9 +161,9 @@ AreGathered-merged p routes legs lines long rise exist moved merged =
     }
 
 -- the lines of all legs of a plan, put in another order, go by arcs and shipments of the problem
-pub legs-exist : (p : Problem) (plan : List (List Leg)) (legs : List LegLine) → IsValid p → IsPlan p 1 plan → IsPermutation (lines_from p 0 plan) legs →
+pub LineExists-plan : (p : Problem) (plan : List (List Leg)) (legs : List LegLine) → IsValid p → IsPlan p 1 plan → IsPermutation (lines_from p 0 plan) legs →
     All (LineExists p) legs
-legs-exist p plan legs valid is_plan moved = λ k d lt.
+LineExists-plan p plan legs valid is_plan moved = λ k d lt.
     let ready : IsReady p plan = IsReady-plan p plan valid is_plan in (
       arcs-of line_leg p plan legs ready.exist (occur-moved p plan legs moved) k d lt,
       omega (arith, (legs-moved p plan legs moved k d lt).shipment, ready.long),

@@ -52,8 +52,8 @@ after-first (x ∷ legs) g groups =
     (cases_Bool (same_leg g.class x.leg))
 
 -- so the group of the first leg comes first
-pub peel : (x : NamedLeg) (legs : List NamedLeg) → after (x ∷ legs) [] ≡ record { class = x.leg; members = x.member ∷ members_among legs x.leg } ∷ after (others x.leg legs) []
-peel x legs = after-first legs (record { class = x.leg; members = x.member ∷ [] }) []
+pub after-cons : (x : NamedLeg) (legs : List NamedLeg) → after (x ∷ legs) [] ≡ record { class = x.leg; members = x.member ∷ members_among legs x.leg } ∷ after (others x.leg legs) []
+after-cons x legs = after-first legs (record { class = x.leg; members = x.member ∷ [] }) []
 
 -- a class that the others have is another one
 same-class : (k l : Leg) → same_leg k l ≡ true → (c : Leg) → same_leg c k ≡ same_leg c l
