@@ -62,9 +62,9 @@ is_allowed-from p windows points sides k c exists has =
     and_from (nat_lt c.arc (length p.arcs)) (has_moment p points sides k c (windows k c.arc)) (lt-ltb c.arc (length p.arcs) exists)
     (has_moment-from p points sides k c (windows k c.arc) has)
 
-pub is_allowed-parts : (p : Problem) (windows : ℕ → ℕ → Option Window) (points : ℕ → List ℕ) (sides : List Side) (k : ℕ) (c : Leg) → is_allowed p windows points sides k c ≡ true →
+pub is_allowed_parts : (p : Problem) (windows : ℕ → ℕ → Option Window) (points : ℕ → List ℕ) (sides : List Side) (k : ℕ) (c : Leg) → is_allowed p windows points sides k c ≡ true →
     (c.arc < length p.arcs) × IsSomeAnd (windows k c.arc) (HasMoment p points sides k c)
-is_allowed-parts p windows points sides k c h =
+is_allowed_parts p windows points sides k c h =
     let parts = and_parts (nat_lt c.arc (length p.arcs)) (has_moment p points sides k c (windows k c.arc)) h in
     (ltb-true c.arc (length p.arcs) parts.0, has_moment-parts p points sides k c (windows k c.arc) parts.1)
 

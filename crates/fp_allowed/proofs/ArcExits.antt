@@ -8,7 +8,7 @@ use Rattle.fp_longestarcs.proofs.ClassNumbers.{class-place, class-unique}
 use Rattle.fp_allowed.specs.declared.exits.Leaving.TheVariants.{Nothing, One, Several}
 use Rattle.fp_allowed.specs.Bits.{bit_of, row_allows}
 use Rattle.fp_allowed.specs.Leaving.{IsFirstSet, IsRange, OneLeaves, Tells}
-use Rattle.fp_allowed.proofs.ListedClasses.{class_by, class_by-is, class_by-number}
+use Rattle.fp_allowed.proofs.ListedClasses.{class_by, class_by-number, IsClass-class_by}
 use Rattle.fp_allowed.proofs.RowClasses.{is_class-parts, row_allows-from}
 
 -- an allowed class of an arc
@@ -22,7 +22,7 @@ module _ (net : TimedNetwork) (row : List Bool) (arc start end : ℕ) (valid : I
       let place : ℕ = n - start in
       let within : place < length (points_in net (tail_in net arc)) = omega (arith, range.begins, range.ends) in
       let number : class_number net (class_by net arc place) ≡ n = omega (arith, class_by-number net arc place valid exists within, range.begins) in
-      let is : IsClass net (class_by net arc place) = class_by-is net arc place exists within in (
+      let is : IsClass net (class_by net arc place) = IsClass-class_by net arc place exists within in (
         record {
           allowed_it = row_allows-from net row (class_by net arc place) is (ap (bit_of row) number ∙ set);
           leaves = refl;

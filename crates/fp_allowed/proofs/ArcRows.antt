@@ -7,8 +7,8 @@ use Rattle.fp_model.specs.Problem.{Problem}
 use Rattle.fp_lists.specs.Membership.{list_has}
 use Rattle.fp_flatnet.specs.declared.window_tables.Window.{Window}
 use Rattle.fp_longestarcs.specs.Networks.{IsClass, TimedNetwork, class_number, points_in}
-use Rattle.fp_longestarcs.specs.Whole.{IsWhole}
-use Rattle.fp_longestarcs.proofs.Lengthened.{tail-of}
+use Rattle.fp_longestarcs.specs.Whole.{IsWholeNetwork}
+use Rattle.fp_longestarcs.proofs.HeadLists.{tail-of}
 use Rattle.fp_tree.specs.declared.sides.Side.{Side}
 use Rattle.fp_allowed.specs.Allowed.{exit_of, is_allowed, meets_all, tails_of}
 use Rattle.fp_allowed.specs.Bits.{FillsArc, bit_of}
@@ -25,7 +25,7 @@ open-all p windows k arc sides own o is same m =
     ap (λ (l : List Side). is_open (windows k arc) m && all_let arc m l) is ∙
     ap (λ (b : Bool). is_open (windows k arc) m && b) (sym (meets_all-concerned p k (exit_of p (record { arc = arc; depart = m })) sides refl))
 
-module _ (p : Problem) (windows : ℕ → ℕ → Option Window) (net : TimedNetwork) (k arc : ℕ) (own : List Side) (o : Option Window) (whole : IsWhole p net) (exists : arc < length p.arcs)
+module _ (p : Problem) (windows : ℕ → ℕ → Option Window) (net : TimedNetwork) (k arc : ℕ) (own : List Side) (o : Option Window) (whole : IsWholeNetwork p net) (exists : arc < length p.arcs)
     (some : IfSome o (λ w. w.lo ≤ w.hi)) (same : (m : ℕ) → is_open o m ≡ (is_open (windows k arc) m && all_let arc m own)) where
   -- a class of the arc is between exactly where it is allowed
   arc-tells : (sides : List Side) → own ≡ concerned p k (tails_of p arc) sides → (c : Leg) → IsClass net c →

@@ -13,7 +13,7 @@ use Rattle.fp_flatnet.specs.Tables.{windows_in}
 use Rattle.fp_longestarcs.specs.Ascending.{ArePoints}
 use Rattle.fp_longestarcs.specs.Networks.{IsClass, TimedNetwork, points_in, tail_in}
 use Rattle.fp_longestarcs.proofs.ClassNumbers.{tail-points}
-use Rattle.fp_longestarcs.proofs.Lengthened.{arc-count, tail-of}
+use Rattle.fp_longestarcs.proofs.HeadLists.{arc-count, tail-of}
 use Rattle.fp_lists.proofs.Membership.{StandsAt-from_list_has, StandsAt}
 use Rattle.fp_tree.specs.declared.sides.Side.{Side}
 use Rattle.fp_tree.specs.declared.sides.Side.TheVariants.{Without, Only, Before, From}
@@ -25,7 +25,7 @@ use Rattle.fp_allowed.specs.Choices.{PartsClasses}
 use Rattle.fp_allowed.specs.Departures.{DividesDepartures, IsSplitAt, departures_left}
 use Rattle.fp_allowed.specs.Leaving.{OneLeaves}
 use Rattle.fp_allowed.specs.Settings.{IsSetting, Setting}
-use Rattle.fp_allowed.proofs.AllowedClasses.{HasMoment, is_allowed-parts}
+use Rattle.fp_allowed.proofs.AllowedClasses.{HasMoment, is_allowed_parts}
 use Rattle.fp_allowed.proofs.Dividing.{departure-left, left-divided, meets_all-push}
 use Rattle.fp_allowed.proofs.RowClasses.{is_class-parts}
 
@@ -66,7 +66,7 @@ module _ (s : Setting) (sides : List Side) (k terminal : ℕ) (is : IsSetting s)
       ((m : ℕ) → floor_point (points_in s.network (tails_of s.problem c.arc)) 1 m ≡ c.depart → meets k (exit_of s.problem (record { arc = c.arc; depart = m })) side ≡ true) →
       1 ≤ departures_left s.problem (windows_in s.windows) (sides ++ (side ∷ [])) k terminal
   left-with side c one meets_it =
-      let parts = is_allowed-parts s.problem (windows_in s.windows) (points_in s.network) sides k c one.allowed_it in
+      let parts = is_allowed_parts s.problem (windows_in s.windows) (points_in s.network) sides k c one.allowed_it in
       departure-left s.problem (windows_in s.windows) (points_in s.network) (sides ++ (side ∷ [])) k terminal c parts.0 one.leaves
       (with-side s.problem (points_in s.network) sides side k c (windows_in s.windows k c.arc) meets_it parts.1)
 

@@ -16,7 +16,7 @@ use Rattle.fp_allowed.specs.Departures.{DividesDepartures, IsSplitAt}
 use Rattle.fp_allowed.specs.ForcedChains.{ForcedChain}
 use Rattle.fp_allowed.specs.Settings.{IsSetting, Setting}
 use Rattle.fp_allowed.proofs.Choosing.{divides, split-at}
-use Rattle.fp_allowed.proofs.RowClasses.{allowed-class, row_allows-under}
+use Rattle.fp_allowed.proofs.RowClasses.{row_allows-under, allowed_in-IsClass}
 
 -- the chain of the bits is that of the sides
 pub forced_under : (s v : Setting) (sides : List Side) (k : ℕ) (row : List Bool) (r : Result ForcedChain AllocError) → s ≡ v → IsSetting s →
@@ -87,4 +87,4 @@ divides_under s v sides k terminal row (Some split) same is parts under =
     let under_s : IsRowUnder s sides k row = subst (λ (x : Setting). IsRowUnder x sides k row) (sym same) under in
     subst (λ (x : Setting). DividesDepartures x.problem (windows_in x.windows) sides k terminal split) same
     (divides s sides k terminal is split (split-at s row k terminal split is parts) (parts-under s sides k terminal row (Some split) is under_s parts)
-    (λ c h. allowed-class s sides k c is h))
+    (λ c h. allowed_in-IsClass s sides k c is h))

@@ -13,7 +13,7 @@ use Rattle.fp_flatnet.specs.Tables.{WindowTable, windows_in}
 use Rattle.fp_tree.specs.declared.sides.Side.{Side}
 use Rattle.fp_allowed.specs.Allowed.{is_allowed, tails_of}
 use Rattle.fp_allowed.specs.InitialPoints.{HasInitialPoints}
-use Rattle.fp_allowed.proofs.AllowedClasses.{HasMoment, is_allowed-parts}
+use Rattle.fp_allowed.proofs.AllowedClasses.{HasMoment, is_allowed_parts}
 use Rattle.fp_allowed.proofs.InitialPoints.{window-begins}
 
 -- an allowed class, and the shipment's window for its arc
@@ -23,11 +23,11 @@ pub record HasWindow (windows : ℕ → ℕ → Option Window) (k : ℕ) (c : Le
 
 module _ (p : Problem) (windows : ℕ → ℕ → Option Window) (points : ℕ → List ℕ) (sides : List Side) (k : ℕ) (c : Leg) (allowed : is_allowed p windows points sides k c ≡ true) where
   moment-in : (o : Option Window) → windows k c.arc ≡ o → IsSomeAnd o (HasMoment p points sides k c)
-  moment-in o is = subst (λ (o : Option Window). IsSomeAnd o (HasMoment p points sides k c)) is (is_allowed-parts p windows points sides k c allowed).1
+  moment-in o is = subst (λ (o : Option Window). IsSomeAnd o (HasMoment p points sides k c)) is (is_allowed_parts p windows points sides k c allowed).1
 
   -- it has an arc
   pub allowed-exists : c.arc < length p.arcs
-  allowed-exists = (is_allowed-parts p windows points sides k c allowed).0
+  allowed-exists = (is_allowed_parts p windows points sides k c allowed).0
 
   -- and the shipment has a window for it
   pub allowed-window : HasWindow windows k c

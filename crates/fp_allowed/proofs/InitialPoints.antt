@@ -13,10 +13,10 @@ use Rattle.fp_flatnet.specs.declared.window_tables.Window.{Window}
 use Rattle.fp_flatnet.specs.Belonging.{BelongsTo, IsNarrowed}
 use Rattle.fp_flatnet.specs.Initial.{BeginAt, dues_at, initial_points, releases_at}
 use Rattle.fp_flatnet.specs.Tables.{WindowTable, windows_in}
-use Rattle.fp_longestarcs.specs.Changes.{points_with}
+use Rattle.fp_longestarcs.specs.Changes.{extended_points}
 use Rattle.fp_longestarcs.specs.Networks.{TimedNetwork, points_in}
 use Rattle.fp_longestarcs.specs.Properties.{HasShipmentTimes}
-use Rattle.fp_longestarcs.proofs.Same.{has-with}
+use Rattle.fp_longestarcs.proofs.EqualNetworks.{has-with}
 use Rattle.fp_allowed.specs.InitialPoints.{HasInitialPoints}
 use Rattle.fp_allowed.specs.SamePoints.{AgreeOnPoints}
 
@@ -34,7 +34,7 @@ pub HasInitialPoints_same : (p : Problem) (anchors : List Place) (points others 
 HasInitialPoints_same p anchors points others same initial = λ terminal at h has. sym (same terminal h at) ∙ initial terminal at h has
 
 -- and a network with one more point, as `lengthen` leaves it
-pub HasInitialPoints-points_with : (p : Problem) (anchors : List Place) (old new : TimedNetwork) (terminal at : ℕ) → terminal < length old.points → new.points ≡ points_with old terminal at →
+pub HasInitialPoints-points_with : (p : Problem) (anchors : List Place) (old new : TimedNetwork) (terminal at : ℕ) → terminal < length old.points → new.points ≡ extended_points old terminal at →
     HasInitialPoints p anchors (points_in old) → HasInitialPoints p anchors (points_in new)
 HasInitialPoints-points_with p anchors old new terminal at within grown =
     HasInitialPoints_more p anchors (points_in old) (points_in new) (λ t q h has.

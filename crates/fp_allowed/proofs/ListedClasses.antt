@@ -73,8 +73,8 @@ class_at-number net c valid is =
 abbrev pub class_by : TimedNetwork → ℕ → ℕ → Leg
 class_by net a place = record { arc = a; depart = get_or (points_in net (tail_in net a)) place 0 }
 
-pub class_by-is : (net : TimedNetwork) (a place : ℕ) → a < length net.tails → place < length (points_in net (tail_in net a)) → IsClass net (class_by net a place)
-class_by-is net a place h within = (h, list_has-get_or (points_in net (tail_in net a)) place 0 within)
+pub IsClass-class_by : (net : TimedNetwork) (a place : ℕ) → a < length net.tails → place < length (points_in net (tail_in net a)) → IsClass net (class_by net a place)
+IsClass-class_by net a place h within = (h, list_has-get_or (points_in net (tail_in net a)) place 0 within)
 
 pub class_by-number : (net : TimedNetwork) (a place : ℕ) → IsNetwork net → a < length net.tails → place < length (points_in net (tail_in net a)) →
     class_number net (class_by net a place) ≡ first_class net a + place
@@ -85,7 +85,7 @@ class_by-number net a place valid h within =
 pub class_at-place : (net : TimedNetwork) (a place : ℕ) → IsNetwork net → a < length net.tails → place < length (points_in net (tail_in net a)) →
     class_at net (first_class net a + place) ≡ class_by net a place
 class_at-place net a place valid h within =
-    ap (class_at net) (sym (class_by-number net a place valid h within)) ∙ class_at-number net (class_by net a place) valid (class_by-is net a place h within)
+    ap (class_at net) (sym (class_by-number net a place valid h within)) ∙ class_at-number net (class_by net a place) valid (IsClass-class_by net a place h within)
 
 -- the numbers of an arc's classes are a range
 pub class_range : (net : TimedNetwork) (arc tail first count : ℕ) → IsNetwork net → arc < length net.tails → tail ≡ tail_in net arc → first ≡ class_number net (record { arc = arc; depart = 0 }) →

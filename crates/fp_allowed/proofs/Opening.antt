@@ -13,7 +13,7 @@ use Rattle.fp_flatnet.specs.declared.window_tables.Window.{Window}
 use Rattle.fp_tree.specs.declared.sides.Side.{Side}
 use Rattle.fp_allowed.specs.Allowed.{exit_of, is_allowed, meets_all, tails_of}
 use Rattle.fp_allowed.specs.Moments.{is_between, is_open}
-use Rattle.fp_allowed.proofs.AllowedClasses.{HasMoment, is_allowed-from, is_allowed-parts}
+use Rattle.fp_allowed.proofs.AllowedClasses.{HasMoment, is_allowed-from, is_allowed_parts}
 
 -- a moment of the class of a point lies in a window, if there is one
 pub record HasOpen (qs : List ℕ) (q : ℕ) (o : Option Window) : Type 0 where
@@ -60,7 +60,7 @@ allowed-decides : (p : Problem) (windows : ℕ → ℕ → Option Window) (point
     ((m : ℕ) → is_open o m ≡ (is_open (windows k c.arc) m && meets_all k sides (exit_of p (record { arc = c.arc; depart = m })))) →
     Decides (is_allowed p windows points sides k c) (HasOpen (points (tails_of p c.arc)) c.depart o)
 allowed-decides p windows points sides k c o exists same = (
-  λ h. there (windows k c.arc) (is_allowed-parts p windows points sides k c h).1 same,
+  λ h. there (windows k c.arc) (is_allowed_parts p windows points sides k c h).1 same,
   λ has. is_allowed-from p windows points sides k c exists (back (windows k c.arc) has same),
 )
   where

@@ -6,7 +6,7 @@ use Rattle.fp_model.specs.declared.parts.Leg.{Leg}
 use Rattle.fp_model.specs.Problem.{Problem}
 use Rattle.fp_longestarcs.specs.Networks.{IsNetwork, TimedNetwork, class_number}
 use Rattle.fp_longestarcs.specs.Whole.{HasArcsOf}
-use Rattle.fp_longestarcs.proofs.Lengthened.{arc-count}
+use Rattle.fp_longestarcs.proofs.HeadLists.{arc-count}
 use Rattle.fp_allowed.specs.declared.choices.Pick.{Pick}
 use Rattle.fp_allowed.specs.Allowed.{tails_of}
 use Rattle.fp_allowed.specs.Bits.{bit_of, row_allows}

@@ -74,17 +74,17 @@ timed-from p windows points sides d k (s ∷ ss) (r ∷ plan) h is within obeys 
     (classes-timed p windows points sides d k s r h is.0 within.0 obeys.0, timed-from p windows points sides d (k + 1) ss plan h is.1 within.1 obeys.1)
 
 -- the classes of a plan are an allowed timed walk of each shipment
-pub plan-timed : (p : Problem) (windows : ℕ → ℕ → Option Window) (points : ℕ → List ℕ) (sides : List Side) (d : ℕ) (plan : List (List Leg)) → 1 ≤ d → IsPlan p d plan →
+pub plan_timed : (p : Problem) (windows : ℕ → ℕ → Option Window) (points : ℕ → List ℕ) (sides : List Side) (d : ℕ) (plan : List (List Leg)) → 1 ≤ d → IsPlan p d plan →
     PlanLiesWithin windows d plan → PlanObeys p d sides plan →
     AllZipFrom (λ k (s : Shipment) r. IsTimedWalk p points (is_allowed p windows points sides k) s r) 0 p.shipments (map (map (class_of p points d)) plan)
-plan-timed p windows points sides d plan h is within obeys = timed-from p windows points sides d 0 p.shipments plan (omega (arith, h)) is within obeys
+plan_timed p windows points sides d plan h is within obeys = timed-from p windows points sides d 0 p.shipments plan (omega (arith, h)) is within obeys
 
 -- so are those of the shipment with a number
-pub route-timed : (p : Problem) (windows : ℕ → ℕ → Option Window) (points : ℕ → List ℕ) (sides : List Side) (d k : ℕ) (plan : List (List Leg)) → 1 ≤ d → k < length p.shipments → IsPlan p d plan →
+pub route_timed : (p : Problem) (windows : ℕ → ℕ → Option Window) (points : ℕ → List ℕ) (sides : List Side) (d k : ℕ) (plan : List (List Leg)) → 1 ≤ d → k < length p.shipments → IsPlan p d plan →
     PlanLiesWithin windows d plan → PlanObeys p d sides plan → IsTimedWalk p points (is_allowed p windows points sides k) (shipment_at p k) (map (class_of p points d) (route_at plan k))
-route-timed p windows points sides d k plan h exists is within obeys =
+route_timed p windows points sides d k plan h exists is within obeys =
     let f : List Leg → List Leg = map (class_of p points d) in
     let Timed : ℕ → Shipment → List Leg → Type 0 = λ j s r. IsTimedWalk p points (is_allowed p windows points sides j) s r in
-    let there : Timed (0 + k) (shipment_at p k) (slice_index_or (map f plan) k []) = AllZipFrom-get_or Timed p.shipments (map f plan) no_shipment [] 0 k (plan-timed p windows points sides d plan h is within obeys) exists in
+    let there : Timed (0 + k) (shipment_at p k) (slice_index_or (map f plan) k []) = AllZipFrom-get_or Timed p.shipments (map f plan) no_shipment [] 0 k (plan_timed p windows points sides d plan h is within obeys) exists in
     let number : 0 + k ≡ k = omega arith in
     subst (λ (r : List Leg). Timed k (shipment_at p k) r) (get_or-map_default f plan k []) (subst (λ (n : ℕ). Timed n (shipment_at p k) (slice_index_or (map f plan) k [])) number there)

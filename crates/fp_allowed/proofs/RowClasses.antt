@@ -13,19 +13,19 @@ use Rattle.fp_flatnet.specs.Tables.{windows_in}
 use Rattle.fp_longestarcs.specs.Classes.{class_of}
 use Rattle.fp_longestarcs.specs.Networks.{IsClass, TimedNetwork, class_number, points_in, tail_in}
 use Rattle.fp_longestarcs.proofs.ClassNumbers.{tail-points}
-use Rattle.fp_longestarcs.proofs.Lengthened.{arc-count, tail-of}
+use Rattle.fp_longestarcs.proofs.HeadLists.{arc-count, tail-of}
 use Rattle.fp_tree.specs.declared.sides.Side.{Side}
 use Rattle.fp_allowed.specs.Allowed.{tails_of}
 use Rattle.fp_allowed.specs.Bits.{AllowsPlans, IsRowUnder, allowed_in, bit_of, row_allows}
 use Rattle.fp_allowed.specs.Settings.{IsSetting, Setting}
 use Rattle.fp_allowed.specs.Walks.{IsTimedWalk}
-use Rattle.fp_allowed.proofs.AllowedClasses.{HasMoment, is_allowed-parts}
-use Rattle.fp_allowed.proofs.PlanClasses.{route-timed}
+use Rattle.fp_allowed.proofs.AllowedClasses.{HasMoment, is_allowed_parts}
+use Rattle.fp_allowed.proofs.PlanClasses.{route_timed}
 
 -- an allowed class is a class of the network: its point is one of its tail's
-pub allowed-class : (s : Setting) (sides : List Side) (k : ℕ) (c : Leg) → IsSetting s → allowed_in s sides k c ≡ true → IsClass s.network c
-allowed-class s sides k c is h =
-    let parts = is_allowed-parts s.problem (windows_in s.windows) (points_in s.network) sides k c h in
+pub allowed_in-IsClass : (s : Setting) (sides : List Side) (k : ℕ) (c : Leg) → IsSetting s → allowed_in s sides k c ≡ true → IsClass s.network c
+allowed_in-IsClass s sides k c is h =
+    let parts = is_allowed_parts s.problem (windows_in s.windows) (points_in s.network) sides k c h in
     let net : TimedNetwork = s.network in
     let exists : c.arc < length net.tails = omega (arith, parts.0, arc-count s.problem net is.whole.arcs) in
     let tail : tail_in net c.arc ≡ tails_of s.problem c.arc = tail-of s.problem net c.arc is.whole.arcs parts.0 in
@@ -56,7 +56,7 @@ row-tells : (s : Setting) (sides : List Side) (k : ℕ) (row : List Bool) → Is
 row-tells s sides k row is under c =
     ⊎_elim
     (λ (set : allowed_in s sides k c ≡ true).
-    let class : IsClass s.network c = allowed-class s sides k c is set in
+    let class : IsClass s.network c = allowed_in-IsClass s sides k c is set in
     row_allows-from s.network row c class (under.exact c class ∙ set) ∙ sym set)
     (λ (unset : allowed_in s sides k c ≡ false).
     false_from_ne_true (row_allows s.network row c)
@@ -75,7 +75,7 @@ pub allows-plans : (s : Setting) (sides : List Side) (k : ℕ) (row : List Bool)
 allows-plans s sides k row is exists under d routes h plan within obeys =
     subst (λ (allowed : Leg → Bool). IsTimedWalk s.problem (points_in s.network) allowed (shipment_at s.problem k) (map (class_of s.problem (points_in s.network) d) (route_at routes k)))
     (sym (row_allows-under s sides k row is under))
-    (route-timed s.problem (windows_in s.windows) (points_in s.network) sides d k routes h exists plan within obeys)
+    (route_timed s.problem (windows_in s.windows) (points_in s.network) sides d k routes h exists plan within obeys)
 
 pub allows_plans : (s v : Setting) (sides : List Side) (k : ℕ) (r : Result (List Bool) AllocError) → s ≡ v → IsSetting s → k < length s.problem.shipments → IfOk r (IsRowUnder s sides k) →
     IfOk r (AllowsPlans v sides k)

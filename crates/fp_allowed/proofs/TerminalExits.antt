@@ -5,7 +5,7 @@ use Rattle.fp_model.specs.declared.parts.Leg.{Leg}
 use Rattle.fp_model.specs.Problem.{Problem}
 use Rattle.fp_longestarcs.specs.Networks.{TimedNetwork}
 use Rattle.fp_longestarcs.specs.Whole.{HasArcsOf}
-use Rattle.fp_longestarcs.proofs.Lengthened.{arc-count}
+use Rattle.fp_longestarcs.proofs.HeadLists.{arc-count}
 use Rattle.fp_allowed.specs.declared.exits.Leaving.{Leaving}
 use Rattle.fp_allowed.specs.declared.exits.Leaving.TheVariants.{Nothing, One, Several}
 use Rattle.fp_allowed.specs.Allowed.{tails_of}

@@ -7,7 +7,7 @@ ghost use Rattle.fp_timenodes.specs.Floor.{floor_point};
 ghost use Rattle.fp_flatnet.specs.Belonging.{BelongsTo};
 ghost use Rattle.fp_flatnet.specs.Tables.{windows_in};
 ghost use Rattle.fp_longestarcs.specs.Networks.{IsNetwork, class_count, class_number, points_in, tail_in};
-ghost use Rattle.fp_longestarcs.specs.Whole.{IsWhole};
+ghost use Rattle.fp_longestarcs.specs.Whole.{IsWholeNetwork};
 ghost use Rattle.fp_tree.specs.declared.sides.Side.{Side};
 ghost use Rattle.fp_allowed.specs.Allowed.{exit_of, is_allowed, meets_all, tails_of};
 ghost use Rattle.fp_allowed.specs.Bits.{FillsArc, IsRowUnder};
@@ -106,7 +106,7 @@ fn fill_arc(
     requires shipment { shipment < length instance.now.shipments }
     requires arc { arc < length instance.now.arcs }
     requires belongs { BelongsTo instance.now windows.now }
-    requires whole { IsWhole instance.now network.now }
+    requires whole { IsWholeNetwork instance.now network.now }
     requires long { length row.old ≡ class_count network.now }
     ensures { (others : List Side) → sides.now ≡ concerned instance.now shipment (tails_of instance.now arc) others →
         FillsArc network.now arc (is_allowed instance.now (windows_in windows.now) (points_in network.now) others shipment) row.old row.new }
@@ -127,7 +127,7 @@ pub(crate) fn allowed_row(
 ) -> Result<Row, NoMemory>
     requires shipment { shipment < length instance.now.shipments }
     requires belongs { BelongsTo instance.now windows.now }
-    requires whole { IsWhole instance.now network.now }
+    requires whole { IsWholeNetwork instance.now network.now }
     ensures { IfOk result (λ row. IsRowUnder (record { problem = instance.now; windows = windows.now; network = network.now }) sides.now shipment row) }
 {
     let by_terminal = sides_by_terminal(alloc, instance, shipment, sides)?;

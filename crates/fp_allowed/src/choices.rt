@@ -2,7 +2,7 @@ ghost use Rattle.std.specs.Prelude.{ℕ, ◌≡◌, ◌<◌, ◌≤◌, ◌≢�
 ghost use Rattle.fp_model.specs.declared.parts.Leg.{Leg};
 ghost use Rattle.fp_flatnet.specs.Belonging.{BelongsTo};
 ghost use Rattle.fp_longestarcs.specs.Networks.{IsNetwork, class_count, tail_in};
-ghost use Rattle.fp_longestarcs.specs.Whole.{IsWhole};
+ghost use Rattle.fp_longestarcs.specs.Whole.{IsWholeNetwork};
 ghost use Rattle.fp_allowed.specs.Allowed.{tails_of};
 ghost use Rattle.fp_allowed.specs.Bits.{bit_of, row_allows};
 ghost use Rattle.fp_allowed.specs.Choices.{IsBetter, IsParted, OneAtMost, PartsClasses, Picks};
@@ -77,7 +77,7 @@ fn picked_arc(
 ) -> Option<Pick>
     requires shipment { shipment < length instance.now.shipments }
     requires belongs { BelongsTo instance.now windows.now }
-    requires whole { IsWhole instance.now network.now }
+    requires whole { IsWholeNetwork instance.now network.now }
     requires long { length row.now ≡ class_count network.now }
     ensures { Picks (row_allows network.now row.now) (λ c. tails_of instance.now c.arc ≡ terminal) result }
 {
@@ -136,7 +136,7 @@ pub(crate) fn parting_split(
 ) -> Option<Split>
     requires shipment { shipment < length instance.now.shipments }
     requires belongs { BelongsTo instance.now windows.now }
-    requires whole { IsWhole instance.now network.now }
+    requires whole { IsWholeNetwork instance.now network.now }
     requires long { length row.now ≡ class_count network.now }
     ensures { MatchOption result (OneAtMost (row_allows network.now row.now) (λ c. tails_of instance.now c.arc ≡ terminal))
         (PartsClasses instance.now (row_allows network.now row.now) shipment terminal) }

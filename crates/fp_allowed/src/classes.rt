@@ -3,7 +3,7 @@ ghost use Rattle.fp_model.specs.Numbered.{shipment_at};
 ghost use Rattle.fp_flatnet.specs.Belonging.{BelongsTo};
 ghost use Rattle.fp_flatnet.specs.Tables.{windows_in};
 ghost use Rattle.fp_longestarcs.specs.Networks.{class_count};
-ghost use Rattle.fp_longestarcs.specs.Whole.{IsWhole};
+ghost use Rattle.fp_longestarcs.specs.Whole.{IsWholeNetwork};
 ghost use Rattle.fp_tree.specs.declared.sides.Side.{Side};
 ghost use Rattle.fp_allowed.specs.Allowed.{tails_of};
 ghost use Rattle.fp_allowed.specs.Bits.{AllowsPlans, IsRowUnder, allowed_in};
@@ -50,7 +50,7 @@ impl<'a> Allowed<'a> {
     /// The three together. Takes no memory.
     pub fn new(instance: &'a Instance, windows: &'a Windows, network: &'a Network) -> Allowed<'a>
         requires belongs { BelongsTo instance.now windows.now }
-        requires whole { IsWhole instance.now network.now }
+        requires whole { IsWholeNetwork instance.now network.now }
         ensures { result ≡ record { problem = instance.now; windows = windows.now; network = network.now } }
     {
         Allowed {

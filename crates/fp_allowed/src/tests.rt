@@ -1,7 +1,7 @@
 ghost use Rattle.std.specs.Prelude.{◌≡◌, ◌<◌, [], ◌∷◌, IfOk, length};
 ghost use Rattle.fp_flatnet.specs.Belonging.{BelongsTo};
 ghost use Rattle.fp_longestarcs.specs.Networks.{class_count};
-ghost use Rattle.fp_longestarcs.specs.Whole.{IsWhole};
+ghost use Rattle.fp_longestarcs.specs.Whole.{IsWholeNetwork};
 
 use crate::{Allowed, ChainEnd, NoMemory, departures};
 use fp_flatnet::{Windows, initial};
@@ -66,7 +66,7 @@ fn found(
     sides: &[Side],
 ) -> Result<((bool, bool), ChainEnd, Option<Split>, u32), NoMemory>
     requires belongs { BelongsTo instance.now windows.now }
-    requires whole { IsWhole instance.now network.now }
+    requires whole { IsWholeNetwork instance.now network.now }
     requires two { class_count network.now ≡ 2 }
     requires shipment { shipment < length instance.now.shipments }
 {

@@ -11,7 +11,7 @@ use Rattle.fp_flatnet.specs.declared.window_tables.Window.{Window}
 use Rattle.fp_flatnet.specs.Belonging.{BelongsTo}
 use Rattle.fp_flatnet.specs.Tables.{WindowTable, windows_in}
 use Rattle.fp_flatnet.specs.Windows.{IsWindow, IsWindowOrNone, time_after, time_before}
-use Rattle.fp_flatnet.proofs.Walks.{IsLeastTime-unique}
+use Rattle.fp_flatnet.proofs.LeastWalks.{IsLeastTime-unique}
 use Rattle.fp_app.specs.Checks.{AreWindowsOf}
 
 -- a shipment and an arc have one window

@@ -7,19 +7,20 @@ use Rattle.fp_flatnet.specs.Windows.{AreWindows}
 use Rattle.fp_lines.specs.declared.certificates.Answer.{Answer}
 use Rattle.fp_lines.specs.declared.certificates.Answer.TheVariants as answer
 use Rattle.fp_lines.specs.Statements.{Statement}
-use Rattle.fp_checker.specs.Accepted.{IsAccepted, IsFirstFailed}
-use Rattle.fp_checker.specs.Claims.{Claims}
+use Rattle.fp_acceptance.specs.Accepted.{IsAccepted}
+use Rattle.fp_checker.specs.Rejections.{IsFirstFailed}
+use Rattle.fp_acceptance.specs.Claims.{Claims}
 use Rattle.fp_app.specs.declared.shown.AnswerKind.{AnswerKind}
 use Rattle.fp_app.specs.declared.shown.AnswerKind.TheVariants as kind
 use Rattle.fp_app.specs.declared.shown.Shown.{Shown}
 use Rattle.fp_app.specs.declared.shown.Shown.TheVariants as shown
 
 -- the kind of an answer
-abbrev pub kind_of : Answer → AnswerKind
-kind_of (answer.Direct cost) = kind.Direct
-kind_of (answer.Optimal cost) = kind.Optimal
-kind_of (answer.Unfinished cost bound spent) = kind.Unfinished
-kind_of (answer.Infeasible shipment time) = kind.Infeasible
+abbrev pub answer_kind : Answer → AnswerKind
+answer_kind (answer.Direct cost) = kind.Direct
+answer_kind (answer.Optimal cost) = kind.Optimal
+answer_kind (answer.Unfinished cost bound spent) = kind.Unfinished
+answer_kind (answer.Infeasible shipment time) = kind.Infeasible
 
 -- the scale that a certificate names, and 1,000,000 where it names none
 abbrev pub scale_of : Option ℕ → ℕ
@@ -44,7 +45,7 @@ pub record IsAcceptedFor (p : Problem) (c : Statement) : Type 0 where
 
 -- the certificate is accepted, its answer is of this kind, and what it claims of all plans, over every denominator, is true
 pub record ShowsAccepted (p : Problem) (c : Statement) (k : AnswerKind) : Type 0 where
-  pub is_kind : k ≡ kind_of c.answer
+  pub is_kind : k ≡ answer_kind c.answer
   pub accepted : IsAcceptedFor p c
   pub claims : Claims p c.answer
 

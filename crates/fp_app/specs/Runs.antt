@@ -4,7 +4,7 @@ use Rattle.std.specs.declared.alloc.Global.{Global}
 use Rattle.std.specs.declared.vec.Vec.{Vec}
 use Rattle.std.specs.Io.KnownBytes.{Appends, IsAtEnd}
 use Rattle.std.specs.declared.option.Option.{Option}
-use Rattle.fp_ends.specs.Moves.{AppendsFront, Tells}
+use Rattle.fp_ends.specs.Moves.{AppendsFront, TellsInput}
 use Rattle.fp_model.specs.Plans.{IsPlan, PlanExists}
 use Rattle.fp_model.specs.Problem.{Problem}
 use Rattle.fp_flatnet.specs.Directs.{IsDirectPlan}
@@ -31,13 +31,13 @@ ShowsDirect p _ = ⊥
 -- The whole input was read and P holds of it, or more than the limit came.
 abbrev pub OfInput : ℕ → Option (List ℕ) → Option (List ℕ) → Shown → (List ℕ → Type 0) → Type 0
 OfInput limit old new result P =
-    (input : List ℕ) × Tells old input
+    (input : List ℕ) × TellsInput old input
     × MatchBool (nat_lt limit (length input)) (result ≡ shown.TooLong) (IsAtEnd new × P input)
 
 -- The whole input was read, or `None` where more than the limit came.
 abbrev pub Takes : ℕ → Option (List ℕ) → Option (List ℕ) → Option (Vec ℕ Global) → Type 0
 Takes limit old new result =
-    (input : List ℕ) × Tells old input
+    (input : List ℕ) × TellsInput old input
     × MatchBool (nat_lt limit (length input)) (result ≡ None) (IsAtEnd new × IsSomeAnd result (λ bytes. bytes.items ≡ input))
 
 -- What an order shows, by what the source had left and has left now. One line for each command.

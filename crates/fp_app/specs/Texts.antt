@@ -19,11 +19,11 @@ abbrev pub timetable_of : Answer → List LegLine → List TruckLine → Stateme
 timetable_of a legs trucks = record { answer = a; scale = None; legs = legs; trucks = trucks; points = []; tables = []; tree = [] }
 
 -- the word for a kind of answer
-abbrev pub kind_text : AnswerKind → List ℕ
-kind_text kind.Direct = codes "direct"
-kind_text kind.Optimal = codes "optimal"
-kind_text kind.Unfinished = codes "unfinished"
-kind_text kind.Infeasible = codes "infeasible"
+abbrev pub kind_word : AnswerKind → List ℕ
+kind_word kind.Direct = codes "direct"
+kind_word kind.Optimal = codes "optimal"
+kind_word kind.Unfinished = codes "unfinished"
+kind_word kind.Infeasible = codes "infeasible"
 
 -- it is the text of what is shown
 abbrev pub IsText : Shown → List ℕ → Type 0
@@ -31,7 +31,7 @@ IsText (shown.Direct p routes) text =
     (legs : List LegLine) × (trucks : List TruckLine)
     × AreLegLines p routes legs × AreTruckLines p routes trucks × (text ≡ lines_of (rows_of p (timetable_of (answer.Direct (cost p routes)) legs trucks)))
 IsText (shown.Infeasible p shipment time) text = text ≡ lines_of (rows_of p (timetable_of (answer.Infeasible shipment time) [] []))
-IsText (shown.Accepted kind) text = text ≡ line_of (codes "accepted" ∷ kind_text kind ∷ [])
+IsText (shown.Accepted kind) text = text ≡ line_of (codes "accepted" ∷ kind_word kind ∷ [])
 IsText (shown.RejectedPart number) text = text ≡ line_of (codes "rejected" ∷ decimal number ∷ [])
 IsText shown.BadWords text = text ≡ line_of (codes "refused" ∷ codes "words" ∷ [])
 IsText (shown.BadInput ordinal code) text = text ≡ line_of (codes "refused" ∷ decimal ordinal ∷ decimal code ∷ [])

@@ -1,6 +1,6 @@
 // What `check` shows.
 ghost use Rattle.std.specs.Prelude.{ℕ, ◌≡◌, ◌-◌, ◌<◌, ◌≤◌, ◌^◌, drop, length, IfOk};
-ghost use Rattle.fp_app.specs.Checks.{ShowsCheck, kind_of, scale_of, scaled};
+ghost use Rattle.fp_app.specs.Checks.{ShowsCheck, scale_of, scaled, answer_kind};
 ghost use Rattle.fp_app.specs.Given.{AreCheckable, AreGiven, AreRead, CanBeChecked};
 ghost use Rattle.fp_app.specs.Inputs.{OfCertificate};
 ghost use Rattle.fp_app.specs.Shown.{IsPrintable};
@@ -92,7 +92,7 @@ fn verdict(alloc: Global, instance: Instance, certificate: &Certificate) -> Resu
     let windows = Windows::of(alloc, &instance)?;
     match check(alloc, &instance, &windows, certificate) {
         Ok(()) => Ok(Shown::Accepted {
-            kind: kind_of(certificate.answer),
+            kind: answer_kind(certificate.answer),
         }),
         Err(Rejected::Part { number }) => Ok(Shown::RejectedPart { number }),
         Err(Rejected::NoMemory) => Err(AllocError),
@@ -110,8 +110,8 @@ fn scale_of(certificate: &Certificate) -> u32
 }
 
 // The kind of an answer.
-fn kind_of(answer: Answer) -> AnswerKind
-    ensures { result ≡ kind_of answer }
+fn answer_kind(answer: Answer) -> AnswerKind
+    ensures { result ≡ answer_kind answer }
 {
     match answer {
         Answer::Direct { .. } => AnswerKind::Direct,

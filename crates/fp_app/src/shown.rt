@@ -1,6 +1,6 @@
 // What a run answers.
 ghost use Rattle.std.specs.Prelude.{◌≡◌};
-ghost use Rattle.fp_app.specs.Shown.{code_of, status_of};
+ghost use Rattle.fp_app.specs.Shown.{status_of, status_code};
 
 use fp_model::{Instance, Plan};
 
@@ -32,7 +32,7 @@ pub enum Status {
 impl Status {
     /// The number with which the program ends.
     pub fn code(&self) -> u8
-        ensures { result ≡ code_of self.now }
+        ensures { result ≡ status_code self.now }
     {
         match self {
             Status::Done => 0,

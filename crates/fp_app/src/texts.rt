@@ -3,7 +3,7 @@ ghost use Rattle.std.specs.Prelude.{◌≡◌, ◌<◌, ◌∷◌, [], codes, de
 ghost use Rattle.fp_model.specs.Plans.{IsPlan};
 ghost use Rattle.fp_records.specs.Text.{line_of};
 ghost use Rattle.fp_app.specs.Shown.{IsPrintable};
-ghost use Rattle.fp_app.specs.Texts.{IsText, kind_text, timetable_of};
+ghost use Rattle.fp_app.specs.Texts.{IsText, timetable_of, kind_word};
 
 use crate::{AnswerKind, NoMemory, Shown};
 use fp_certificate::{Answer, Certificate, write};
@@ -65,7 +65,7 @@ fn infeasible_text(
 
 // `accepted` and the kind of an answer.
 fn accepted_text(alloc: Global, kind: AnswerKind) -> Result<Vec<u8>, NoMemory>
-    ensures { IfOk result (λ text. text.items ≡ line_of (codes "accepted" ∷ kind_text kind ∷ [])) }
+    ensures { IfOk result (λ text. text.items ≡ line_of (codes "accepted" ∷ kind_word kind ∷ [])) }
 {
     match kind {
         AnswerKind::Direct => pair_text(alloc, b"accepted", b"direct"),

@@ -15,8 +15,8 @@ use Rattle.fp_lists.proofs.Ceilings.{div_ceil-least}
 use Rattle.fp_lists.proofs.Numbered.{AllZip-get_or}
 use Rattle.fp_flatnet.specs.Tables.{WindowTable, windows_in}
 use Rattle.fp_flatnet.specs.Windows.{AreWindows, CoverPlans}
-use Rattle.fp_flatnet.proofs.InTime.{carried-time}
-use Rattle.fp_flatnet.proofs.Within.{CoverPlans-from_windows}
+use Rattle.fp_flatnet.proofs.PlanExistence.{carried_time}
+use Rattle.fp_flatnet.proofs.PlansInWindows.{CoverPlans-from_windows}
 use Rattle.fp_tree.specs.declared.sides.Side.{Side}
 use Rattle.fp_tree.specs.declared.sides.Split.{Split}
 use Rattle.fp_tree.specs.declared.sides.Split.TheVariants.{ByArc, ByTime}
@@ -33,10 +33,10 @@ use Rattle.fp_lines.specs.declared.certificates.Node.{Node}
 use Rattle.fp_lines.specs.declared.certificates.Node.TheVariants as node
 use Rattle.fp_lines.specs.Ranges.{IsAnswerInRange, IsInRange}
 use Rattle.fp_lines.specs.Statements.{Statement}
-use Rattle.fp_checker.specs.Accepted.{Applies, IsAccepted, IsBlockedAs, IsTooLate, Part, claim_of}
-use Rattle.fp_checker.specs.Claims.{AcceptedClaims, Claims, ClaimsWithin, NoPlanWithinCheaper}
-use Rattle.fp_checker.specs.Leaves.{AreLeavesWorth, HasTree, IsLeafWorth, fork_of, split_tail}
-use Rattle.fp_checker.specs.Points.{points_as_of}
+use Rattle.fp_acceptance.specs.Accepted.{Applies, IsAccepted, IsBlockedAs, IsTooLate, Part, claim_of}
+use Rattle.fp_acceptance.specs.Claims.{AcceptedClaims, Claims, ClaimsWithin, NoPlanWithinCheaper}
+use Rattle.fp_acceptance.specs.Leaves.{AreLeavesWorth, HasTree, IsLeafWorth, fork_of, split_tail}
+use Rattle.fp_acceptance.specs.Points.{points_as_of}
 
 -- a plan of a leaf costs at least what the leaf is worth
 worth-le : (p : Problem) (table : WindowTable) (c : Statement) (claim d : ℕ) (plan : List (List Leg)) (x : Node) (sides : List Side) → IsValid p → AllKeepRule p c.tables →
@@ -80,7 +80,7 @@ worth-within p table c claim valid keep tree worth d plan some is within =
 too-late : (p : Problem) (s : Shipment) (time : Option ℕ) (d : ℕ) (legs : List Leg) → IsTooLate p s time → 1 ≤ d → Carries p d s legs → ⊥
 too-late p s None d legs is some carries = is.fastest (arcs_of legs) carries.route.leads
 too-late p s (Some t) d legs is some carries =
-    absurd (omega (arith, is.late, carried-time p d s legs some carries, is.fastest.least (arcs_of legs) carries.route.leads))
+    absurd (omega (arith, is.late, carried_time p d s legs some carries, is.fastest.least (arcs_of legs) carries.route.leads))
 
 no-plan : (p : Problem) (k : ℕ) (time : Option ℕ) → k < length p.shipments → IsTooLate p (shipment_at p k) time → PlanExists p → ⊥
 no-plan p k time exists is plan =

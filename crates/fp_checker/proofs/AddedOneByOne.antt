@@ -17,8 +17,8 @@ use Rattle.fp_lists.proofs.Truth.{or_right_comm}
 use Rattle.fp_lists.proofs.Membership.{list_has-append, list_has-rest, list_has-first, list_has-cons_cases}
 use Rattle.fp_flatnet.specs.Initial.{BeginAt, initial_points}
 use Rattle.fp_lines.specs.Ranges.{IsPointInRange}
-use Rattle.fp_checker.specs.Points.{AreAddedPoints, ArePointsOf, points_with}
-use Rattle.fp_checker.proofs.RoundCounts.{RoundsAscend, count_in, few-in_all}
+use Rattle.fp_acceptance.specs.Points.{AreAddedPoints, ArePointsOf, points_with_added}
+use Rattle.fp_acceptance.proofs.RoundCounts.{RoundsAscend, count_in, few-in_all}
 
 -- a point is none of the initial ones
 abbrev pub IsNew : Problem → List Place → AddedPoint → Type 0
@@ -78,7 +78,7 @@ was-added (q ∷ added) terminal round at d has =
 
 -- the points that were made are, as of each round, the initial ones and the added ones
 pub made-same : (p : Problem) (anchors : List Place) (added : List AddedPoint) (v : TimePoints) (terminal round : ℕ) → AreMadeOf p anchors added v → terminal < length p.terminals →
-    HaveSamePoints (points_at v terminal round) (points_with p anchors added round terminal)
+    HaveSamePoints (points_at v terminal round) (points_with_added p anchors added round terminal)
 made-same p anchors added v terminal round made lt at =
     let first : List ℕ = times_at v.first terminal in
     let later : List ℕ = added_at added terminal round in

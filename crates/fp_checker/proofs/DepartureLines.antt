@@ -13,7 +13,7 @@ use Rattle.fp_timetable.specs.declared.lines.TruckLine.{TruckLine}
 use Rattle.fp_timetable.specs.Lines.{AreTruckLines, departure}
 use Rattle.fp_lists.specs.Order.{Precedes}
 use Rattle.fp_timetable.proofs.Pairs.{EachPair, EachPair-AllPairs}
-use Rattle.fp_checker.specs.Plans.{line_cost}
+use Rattle.fp_checker.specs.Lines.{line_cost}
 
 -- one departure stands before another
 abbrev IsBefore : Leg → Leg → Type 0

@@ -10,10 +10,11 @@ use Rattle.fp_lines.specs.declared.certificates.Answer.{Answer}
 use Rattle.fp_lines.specs.declared.certificates.Answer.TheVariants.{Direct, Optimal, Unfinished, Infeasible}
 use Rattle.fp_lines.specs.declared.certificates.Spent.{Spent}
 use Rattle.fp_lines.specs.Statements.{Statement}
-use Rattle.fp_checker.specs.Accepted.{Applies, HoldBelow, Holds, IsBlockedAs, IsFirstFailed, IsFirstUnmet, IsTooLate, Part, part_number}
-use Rattle.fp_checker.specs.Leaves.{HasTree}
-use Rattle.fp_checker.specs.Plans.{HasCost, HasPlan, HasTimetable}
-use Rattle.fp_checker.specs.Points.{HasPoints}
+use Rattle.fp_acceptance.specs.Accepted.{Applies, Holds, IsBlockedAs, IsTooLate, Part}
+use Rattle.fp_checker.specs.Rejections.{IsFirstUnmet, HoldBelow, IsFirstFailed, part_number}
+use Rattle.fp_acceptance.specs.Leaves.{HasTree}
+use Rattle.fp_acceptance.specs.Plans.{HasCost, HasPlan, HasTimetable}
+use Rattle.fp_acceptance.specs.Points.{HasPoints}
 
 -- the part with a number
 part_at : ℕ → Part

@@ -22,9 +22,10 @@ use Rattle.fp_prices.proofs.SamePoints.{bound-same}
 use Rattle.fp_lines.specs.declared.certificates.Node.{Node}
 use Rattle.fp_lines.specs.declared.certificates.Node.TheVariants as node
 use Rattle.fp_lines.specs.Statements.{Statement}
-use Rattle.fp_checker.specs.Accepted.{claim_of}
-use Rattle.fp_checker.specs.Leaves.{IsBoundWorth, IsLeafWorth, fork_of, split_tail}
-use Rattle.fp_checker.specs.Points.{ArePointsOf, points_as_of}
+use Rattle.fp_acceptance.specs.Accepted.{claim_of}
+use Rattle.fp_acceptance.specs.Leaves.{IsLeafWorth, fork_of, split_tail}
+use Rattle.fp_checker.specs.Bounds.{IsBoundWorth}
+use Rattle.fp_acceptance.specs.Points.{ArePointsOf, points_as_of}
 use Rattle.fp_checker.proofs.TreeNodes.{nodes-from}
 
 -- a leaf is worth what a certificate claims

@@ -15,7 +15,7 @@ use Rattle.fp_flatnet.specs.declared.window_tables.Window.{Window}
 use Rattle.fp_flatnet.specs.Windows.{IsInside, LiesWithin, PlanLiesWithin}
 use Rattle.fp_timetable.specs.declared.lines.LegLine.{LegLine}
 use Rattle.fp_timetable.specs.Lines.{line_leg, route_of, routes_from}
-use Rattle.fp_checker.specs.Plans.{LeavesInside}
+use Rattle.fp_checker.specs.Lines.{LeavesInside}
 
 -- a line of another shipment gives no leg, and one of the shipment gives its leg
 route_of-other : (l : LegLine) (lines : List LegLine) (k : ℕ) → nat_eq l.shipment k ≡ false → route_of (l ∷ lines) k ≡ route_of lines k

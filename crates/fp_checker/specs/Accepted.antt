@@ -9,9 +9,9 @@ use Rattle.fp_prices.specs.Tables.{AreTables}
 use Rattle.fp_lines.specs.declared.certificates.Answer.{Answer}
 use Rattle.fp_lines.specs.declared.certificates.Answer.TheVariants.{Direct, Optimal, Unfinished, Infeasible}
 use Rattle.fp_lines.specs.Statements.{Statement}
-use Rattle.fp_checker.specs.Leaves.{AreLeavesWorth, HasTree}
-use Rattle.fp_checker.specs.Plans.{HasCost, HasPlan, HasTrucks}
-use Rattle.fp_checker.specs.Points.{HasPoints}
+use Rattle.fp_acceptance.specs.Leaves.{AreLeavesWorth, HasTree}
+use Rattle.fp_acceptance.specs.Plans.{HasCost, HasPlan, HasTrucks}
+use Rattle.fp_acceptance.specs.Points.{HasPoints}
 
 -- what a certificate is tested for, in this order
 pub data Part : Type 0 where

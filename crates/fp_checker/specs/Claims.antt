@@ -12,7 +12,7 @@ use Rattle.fp_lines.specs.declared.certificates.Answer.{Answer}
 use Rattle.fp_lines.specs.declared.certificates.Answer.TheVariants.{Direct, Optimal, Unfinished, Infeasible}
 use Rattle.fp_lines.specs.Ranges.{IsInRange}
 use Rattle.fp_lines.specs.Statements.{Statement}
-use Rattle.fp_checker.specs.Accepted.{IsAccepted}
+use Rattle.fp_acceptance.specs.Accepted.{IsAccepted}
 
 -- over every denominator, no plan that lies within the windows costs less than c
 abbrev pub NoPlanWithinCheaper : Problem → (ℕ → ℕ → Option Window) → ℕ → Type 0

@@ -15,7 +15,7 @@ use Rattle.fp_prices.specs.Leaves.{IsLeafEmpty, IsLeafValue}
 use Rattle.fp_lines.specs.declared.certificates.Node.{Node}
 use Rattle.fp_lines.specs.declared.certificates.Node.TheVariants as node
 use Rattle.fp_lines.specs.Statements.{Statement}
-use Rattle.fp_checker.specs.Points.{points_as_of}
+use Rattle.fp_acceptance.specs.Points.{points_as_of}
 
 -- the terminal that the arc of a split leaves, and 0 for a split by time
 abbrev pub split_tail : Problem → Split → ℕ

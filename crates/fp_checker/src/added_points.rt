@@ -3,7 +3,7 @@ ghost use Rattle.std.specs.Prelude.{ℕ, ◌≡◌, ◌≤◌, ◌==◌, ◌↔�
 ghost use Rattle.fp_timenodes.specs.declared.places.AddedPoint.{AddedPoint};
 ghost use Rattle.fp_flatnet.specs.Belonging.{BelongsTo};
 ghost use Rattle.fp_lines.specs.Ranges.{IsPointInRange};
-ghost use Rattle.fp_checker.specs.Points.{ArePointsOf, AreAddedPoints};
+ghost use Rattle.fp_acceptance.specs.Points.{ArePointsOf, AreAddedPoints};
 
 use crate::rejections::{POINTS, Rejected};
 use fp_flatnet::{Windows, initial};

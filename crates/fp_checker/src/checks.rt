@@ -5,9 +5,10 @@ ghost use Rattle.fp_flatnet.specs.Tables.{windows_in};
 ghost use Rattle.fp_flatnet.specs.Windows.{AreWindows};
 ghost use Rattle.fp_prices.specs.Tables.{AreCountable};
 ghost use Rattle.fp_lines.specs.Ranges.{IsInRange};
-ghost use Rattle.fp_checker.specs.Accepted.{HoldBelow, IsAccepted, IsFirstFailed, IsFirstUnmet, IsPlanRejected, IsTooLate, TellsPlan};
-ghost use Rattle.fp_checker.specs.Claims.{Claims, ClaimsWithin};
-ghost use Rattle.fp_checker.specs.Plans.{HasTimetable, routes_of, stated_cost as stated_cost_of};
+ghost use Rattle.fp_acceptance.specs.Accepted.{IsAccepted, IsTooLate};
+ghost use Rattle.fp_checker.specs.Rejections.{IsPlanRejected, TellsPlan, IsFirstUnmet, HoldBelow, IsFirstFailed};
+ghost use Rattle.fp_acceptance.specs.Claims.{Claims, ClaimsWithin};
+ghost use Rattle.fp_acceptance.specs.Plans.{HasTimetable, routes_of, stated_cost as stated_cost_of};
 
 use crate::added_points::told_points;
 use crate::departures::{are_same, plan_cost};

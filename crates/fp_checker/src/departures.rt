@@ -7,7 +7,7 @@ ghost use Rattle.fp_lists.specs.Vectors.{lists_of};
 ghost use Rattle.fp_model.specs.Plans.{IsPlan};
 ghost use Rattle.fp_model.specs.Routes.{ArcsExist};
 ghost use Rattle.fp_timetable.specs.Lines.{AreTruckLines, TruckExists};
-ghost use Rattle.fp_checker.specs.Plans.{line_cost};
+ghost use Rattle.fp_checker.specs.Lines.{line_cost};
 
 use fp_model::{Instance, Leg, Plan};
 use fp_timetable::TruckLine;

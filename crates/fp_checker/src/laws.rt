@@ -1,4 +1,4 @@
-ghost use Rattle.fp_checker.specs.Claims.{AcceptedClaims};
+ghost use Rattle.fp_acceptance.specs.Claims.{AcceptedClaims};
 
 /// What an accepted certificate claims is true: of all plans that lie within the windows,
 /// whatever these are, and of all plans where the windows are the instance's own.

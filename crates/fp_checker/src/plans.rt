@@ -10,7 +10,8 @@ ghost use Rattle.fp_timetable.specs.declared.lines.LegLine.{LegLine};
 ghost use Rattle.fp_timetable.specs.Lines.{LegExists, route_of, routes_from};
 ghost use Rattle.fp_lists.specs.Order.{Precedes};
 ghost use Rattle.fp_lines.specs.Ranges.{IsInRange};
-ghost use Rattle.fp_checker.specs.Plans.{HasPlan, LeavesInside, routes_of};
+ghost use Rattle.fp_acceptance.specs.Plans.{HasPlan, routes_of};
+ghost use Rattle.fp_checker.specs.Lines.{LeavesInside};
 
 use crate::NoMemory;
 use crate::orders::stands_before;

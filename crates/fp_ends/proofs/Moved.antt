@@ -3,7 +3,7 @@ use Rattle.std.proofs.Common.{refl, ◌≡◌, ℕ, List, [], ◌++◌, append_a
 use Rattle.std.proofs.lemmas.List.{take-append-drop, drop-drop, drop_all, append-nil}
 use Rattle.std.proofs.Math.Seq.{take-add}
 use Rattle.std.specs.Io.KnownBytes.{Appends, Consumes}
-use Rattle.fp_ends.specs.Moves.{ExplainsEnd, ExplainsPiece, Tells, IsWhole}
+use Rattle.fp_ends.specs.Moves.{ExplainsEnd, ExplainsPiece, IsWholeInput, TellsInput}
 use Rattle.fp_ends.specs.declared.reading.ReadEnd.{ReadEnd}
 use Rattle.fp_ends.specs.declared.reading.ReadEnd.TheVariants.{ReadFault, TooLong, NoMemory}
 
@@ -40,13 +40,13 @@ stopped limit room left old new taken ReadFault within is came = rw (came, appen
 stopped limit room left old new taken TooLong within is came = absurd came
 stopped limit room left old new taken NoMemory within is came = omega (arith, length-append old taken)
 
-pub stopped_whole : (limit room : ℕ) (before after : Option (List ℕ)) (old new taken : List ℕ) (e : ReadEnd) → ExplainsPiece room after old new taken (Err e) → IsWhole limit before after (Err e)
+pub stopped_whole : (limit room : ℕ) (before after : Option (List ℕ)) (old new taken : List ℕ) (e : ReadEnd) → ExplainsPiece room after old new taken (Err e) → IsWholeInput limit before after (Err e)
 stopped_whole limit room before after old new taken ReadFault came = tt
 stopped_whole limit room before after old new taken TooLong came = absurd came
 stopped_whole limit room before after old new taken NoMemory came = tt
 
 -- Where more than the limit was taken, more was there.
-pub too_long : (limit : ℕ) (before after : Option (List ℕ)) (taken : List ℕ) → Consumes before after taken → limit < length taken → (input : List ℕ) × Tells before input × (limit < length input)
+pub too_long : (limit : ℕ) (before after : Option (List ℕ)) (taken : List ℕ) → Consumes before after taken → limit < length taken → (input : List ℕ) × TellsInput before input × (limit < length input)
 too_long limit None after taken took long = (taken, tt, long)
 too_long limit (Some u) None taken took long = absurd took
 too_long limit (Some u) (Some v) taken took long = (u, refl, omega (arith, ap length took, length-append taken v))

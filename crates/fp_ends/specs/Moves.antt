@@ -22,16 +22,16 @@ abbrev pub ReadsAll : ℕ → Option (List ℕ) → Option (List ℕ) → Result
 ReadsAll limit old new result = (taken : List ℕ) × Consumes old new taken × ExplainsEnd limit new taken result
 
 -- These are the bytes that are left, where they are told.
-abbrev pub Tells : Option (List ℕ) → List ℕ → Type 0
-Tells None input = ⊤
-Tells (Some left) input = input ≡ left
+abbrev pub TellsInput : Option (List ℕ) → List ℕ → Type 0
+TellsInput None input = ⊤
+TellsInput (Some left) input = input ≡ left
 
 -- The answer is the whole input, or the whole input is longer than the limit.
-abbrev pub IsWhole : ℕ → Option (List ℕ) → Option (List ℕ) → Result (Vec ℕ Global) ReadEnd → Type 0
-IsWhole limit old new (Ok bytes) = Tells old bytes.items × (length bytes.items ≤ limit) × IsAtEnd new
-IsWhole limit old new (Err TooLong) = (input : List ℕ) × Tells old input × (limit < length input)
-IsWhole limit old new (Err ReadFault) = ⊤
-IsWhole limit old new (Err NoMemory) = ⊤
+abbrev pub IsWholeInput : ℕ → Option (List ℕ) → Option (List ℕ) → Result (Vec ℕ Global) ReadEnd → Type 0
+IsWholeInput limit old new (Ok bytes) = TellsInput old bytes.items × (length bytes.items ≤ limit) × IsAtEnd new
+IsWholeInput limit old new (Err TooLong) = (input : List ℕ) × TellsInput old input × (limit < length input)
+IsWholeInput limit old new (Err ReadFault) = ⊤
+IsWholeInput limit old new (Err NoMemory) = ⊤
 
 -- What the bytes of one read are: those added behind what was there, none only at the end, or none before a fault.
 abbrev pub ExplainsPiece : ℕ → Option (List ℕ) → List ℕ → List ℕ → List ℕ → Result ℕ ReadEnd → Type 0

@@ -2,7 +2,7 @@
 
 ghost use Rattle.std.specs.Prelude.{◌≡◌, ◌≤◌};
 ghost use Rattle.fp_ends.specs.Causes.{Rose};
-ghost use Rattle.fp_ends.specs.Moves.{IsWhole, ReadsAll, ReadsPiece};
+ghost use Rattle.fp_ends.specs.Moves.{ReadsAll, ReadsPiece, IsWholeInput};
 
 use crate::Source;
 use std::alloc::Global;
@@ -36,7 +36,7 @@ pub fn read_all<S: Source>(alloc: Global, source: &mut S, limit: usize) -> Resul
     // What came was taken from the front, and is all of the answer, too long, or cut off.
     ensures bytes { ReadsAll limit (S.left source.old) (S.left source.new) result }
     // The answer is all that there was, or more than the limit was there.
-    ensures whole { IsWhole limit (S.left source.old) (S.left source.new) result }
+    ensures whole { IsWholeInput limit (S.left source.old) (S.left source.new) result }
     ensures later { S.faults source.old ≤ S.faults source.new }
     ensures fault { result ≡ Err ReadEnd.ReadFault → Rose (S.faults source.old) (S.faults source.new) }
 {

@@ -12,7 +12,7 @@ use Rattle.fp_model.specs.Routes.{step}
 use Rattle.fp_model.specs.Times.{IsDistance}
 use Rattle.fp_flatnet.specs.ArcGraphs.{backward_edge, forward_edge, arc_step, step_costs}
 use Rattle.fp_flatnet.proofs.ArcWalks.{IsStepDistance, cost-at, step_distance-bounds, step_distance-time}
-use Rattle.fp_flatnet.proofs.Walks.{arc-valid, hold-small}
+use Rattle.fp_flatnet.proofs.LeastWalks.{arc-valid, hold-small}
 
 -- a label is at least the last hold, and small
 pub label-fits : (p : Problem) (here there hold : ℕ) (o q : Option ℕ) → IsValid p → here ≢ there → IsStepDistance p here there q → o ≡ q → hold ≡ hold_at p there →

@@ -14,7 +14,7 @@ use Rattle.fp_model.specs.Routes.{Leads, step, walk_time}
 use Rattle.fp_model.specs.Times.{IsLeastTime, IsDistance}
 use Rattle.fp_model.proofs.Bounds.{Leads-exist}
 use Rattle.fp_flatnet.specs.ArcGraphs.{forward_edge, backward_edge, forward_shape, backward_shape, arc_step, step_costs}
-use Rattle.fp_flatnet.proofs.Walks.{steps, steps-append, steps-small, time-steps, Leads-append, IsLeastWalk, IsLeastTime-from_walk}
+use Rattle.fp_flatnet.proofs.LeastWalks.{steps, steps-append, steps-small, time-steps, Leads-append, IsLeastWalk, IsLeastTime-from_walk}
 
 reverse-cons : (a : ℕ) (walk : List ℕ) → reverse (a ∷ walk) ≡ reverse walk ++ (a ∷ [])
 reverse-cons a walk = reverse-append (a ∷ []) walk

@@ -4,7 +4,7 @@ use Rattle.fp_model.specs.declared.parts.Leg.{Leg}
 use Rattle.fp_model.specs.declared.parts.Shipment.{Shipment}
 use Rattle.fp_model.specs.Problem.{Problem, IsValid}
 use Rattle.fp_model.specs.Routes.{Leads, LeavesReady, ArrivesBy, Carries, walk_time, step, arcs_of}
-use Rattle.fp_flatnet.proofs.Walks.{IsLeastWalk, least-apart}
+use Rattle.fp_flatnet.proofs.LeastWalks.{IsLeastWalk, least-apart}
 
 -- legs along a walk: the first leaves when ready, each next one a step after the one before
 abbrev pub at_once : Problem → ℕ → List ℕ → List Leg

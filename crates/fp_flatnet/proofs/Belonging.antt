@@ -12,7 +12,7 @@ use Rattle.fp_timenodes.specs.Points.{IsPlace}
 use Rattle.fp_flatnet.specs.declared.window_tables.Window.{Window}
 use Rattle.fp_flatnet.specs.Belonging.{BelongsTo, IsNarrowed}
 use Rattle.fp_flatnet.specs.Tables.{WindowTable, CanNarrow, tail_of, windows_in, with_entry, narrowed, closed}
-use Rattle.fp_flatnet.proofs.Entries.{entry-exists, entry-set_same, entry-set_other}
+use Rattle.fp_flatnet.proofs.WindowEntries.{entry-exists, entry-set_same, entry-set_other}
 
 -- what was narrowed still is where there are more anchors
 more-anchors : (p : Problem) (s : Shipment) (a : ℕ) (anchors others : List Place) (o : Option Window) → ((x : Place) → Contains anchors x → Contains others x) →

@@ -10,9 +10,9 @@ use Rattle.fp_model.specs.Problem.{Problem, IsValid, IsShipment, arc_at}
 use Rattle.fp_model.specs.Routes.{Carries, walk_time, step, arcs_of}
 use Rattle.fp_flatnet.specs.Directs.{BeginsFirst, IsDirect, IsDirectRoute, IsDirectPlan}
 use Rattle.fp_flatnet.specs.Verdicts.{IsInTime, AllInTime}
-use Rattle.fp_flatnet.proofs.AtOnce.{at_once, carries-at_once}
-use Rattle.fp_flatnet.proofs.Onward.{begun-least}
-use Rattle.fp_flatnet.proofs.Walks.{IsLeastWalk, IsLeastTime-from_walk, IsLeastTime-unique}
+use Rattle.fp_flatnet.proofs.PromptLegs.{at_once, carries-at_once}
+use Rattle.fp_flatnet.proofs.OnwardTimes.{begun-least}
+use Rattle.fp_flatnet.proofs.LeastWalks.{IsLeastWalk, IsLeastTime-from_walk, IsLeastTime-unique}
 
 -- a direct route goes along a least walk
 pub direct-least : (p : Problem) (there here ready : ℕ) (legs : List Leg) → IsValid p → IsDirectRoute p there here ready legs → IsLeastWalk p here there (arcs_of legs)

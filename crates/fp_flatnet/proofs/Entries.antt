@@ -9,19 +9,19 @@ use Rattle.std.proofs.lemmas.Bool.Decides.{eqb_tells}
 use Rattle.std.proofs.lemmas.List.{get_or-map, get_or_past, map-set}
 use Rattle.fp_timenodes.specs.declared.places.Place.{Place}
 use Rattle.fp_flatnet.specs.declared.window_tables.Window.{Window}
-use Rattle.fp_flatnet.specs.Tables.{WindowTable, AreFull, CanNarrow, rows_of, windows_in, with_entry}
+use Rattle.fp_flatnet.specs.Tables.{WindowTable, AreFull, CanNarrow, windows_in, with_entry, row_lists}
 
 -- setting an entry of the rows, and what it does to them as lists
 pub rows_of-set : (rows : List (Vec (Option Window) Global)) (k a : ℕ) (o : Option Window) (v : Vec (Option Window) Global) → k < length rows →
-    rows_of (slice_set rows k (with_item (slice_index_or rows k v) a o)) ≡ with_entry (rows_of rows) k a o
+    row_lists (slice_set rows k (with_item (slice_index_or rows k v) a o)) ≡ with_entry (row_lists rows) k a o
 rows_of-set rows k a o v lt =
     let items : Vec (Option Window) Global → List (Option Window) = λ r. r.items in
     map-set items rows k (with_item (slice_index_or rows k v) a o)
-    ∙ ap (λ (row : List (Option Window)). slice_set (rows_of rows) k (slice_set row a o)) (sym (get_or-map items rows k v [] lt))
+    ∙ ap (λ (row : List (Option Window)). slice_set (row_lists rows) k (slice_set row a o)) (sym (get_or-map items rows k v [] lt))
 
 -- full rows as lists
 pub full-row : (tails : List ℕ) (rows : List (Vec (Option Window) Global)) (k : ℕ) (v : Vec (Option Window) Global) → AreFull tails rows → k < length rows →
-    length (slice_index_or (rows_of rows) k []) ≡ length tails
+    length (slice_index_or (row_lists rows) k []) ≡ length tails
 full-row tails rows k v full lt =
     let items : Vec (Option Window) Global → List (Option Window) = λ r. r.items in
     ap (λ (row : List (Option Window)). length row) (get_or-map items rows k v [] lt) ∙ full k v lt
@@ -72,20 +72,20 @@ entry-set_other rows k a l b o shipment apart =
 
 -- full rows as a table
 abbrev pub table_of : List ℕ → List (Vec (Option Window) Global) → List Place → WindowTable
-table_of tails rows anchors = record { tails = tails; rows = rows_of rows; anchors = anchors }
+table_of tails rows anchors = record { tails = tails; rows = row_lists rows; anchors = anchors }
 
-pub length-rows_of : (rows : List (Vec (Option Window) Global)) → length (rows_of rows) ≡ length rows
+pub length-rows_of : (rows : List (Vec (Option Window) Global)) → length (row_lists rows) ≡ length rows
 length-rows_of [] = refl
 length-rows_of (r ∷ rows) = omega (arith, length-rows_of rows)
 
 -- each row of full rows, as a list, is as long as the tails
-pub full-rows : (tails : List ℕ) (rows : List (Vec (Option Window) Global)) → AreFull tails rows → (k : ℕ) → k < length rows → length (slice_index_or (rows_of rows) k []) ≡ length tails
+pub full-rows : (tails : List ℕ) (rows : List (Vec (Option Window) Global)) → AreFull tails rows → (k : ℕ) → k < length rows → length (slice_index_or (row_lists rows) k []) ≡ length tails
 full-rows tails [] full k lt = absurd (omega (arith, lt))
 full-rows tails (r ∷ rows) full k lt = full-row tails (r ∷ rows) k r full lt
 
 -- where a window can be narrowed there are the shipment and the arc
 pub can_narrow-exists : (tails : List ℕ) (rows : List (Vec (Option Window) Global)) (anchors : List Place) (k a lo hi : ℕ) → AreFull tails rows →
-    CanNarrow (table_of tails rows anchors) k a lo hi → (k < length rows) × (a < length (slice_index_or (rows_of rows) k [])) × (a < length tails)
+    CanNarrow (table_of tails rows anchors) k a lo hi → (k < length rows) × (a < length (slice_index_or (row_lists rows) k [])) × (a < length tails)
 can_narrow-exists tails rows anchors k a lo hi full can =
     let there = entry-exists (table_of tails rows anchors) k a (λ w. (w.lo ≤ lo) × (lo ≤ hi) × (hi ≤ w.hi)) can in
     let shipment : k < length rows = omega (arith, there.0, length-rows_of rows) in

@@ -8,7 +8,7 @@ use Rattle.fp_model.specs.Times.{IsLeastTime}
 use Rattle.fp_flatnet.specs.Initial.{initial_points}
 use Rattle.fp_flatnet.specs.Tables.{WindowTable, closed, narrowed, windows_in}
 use Rattle.fp_flatnet.specs.Windows.{IsWindow, time_before, time_after}
-use Rattle.fp_flatnet.proofs.AtOnce.{at_once}
+use Rattle.fp_flatnet.proofs.PromptLegs.{at_once}
 
 -- an arc of a time
 abbrev arc_of : (from to time : ℕ) → Arc

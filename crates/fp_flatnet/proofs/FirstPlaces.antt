@@ -76,21 +76,21 @@ first_places-are p table belongs =
     belongs.places
 
 -- the same of what the code has made
-pub made-are : (p : Problem) (table : WindowTable) (places : List Place) (terminals : List (List ℕ)) → BelongsTo p table →
+pub ArePlaces-first_places : (p : Problem) (table : WindowTable) (places : List Place) (terminals : List (List ℕ)) → BelongsTo p table →
     places ≡ first_places p table.anchors → terminals ≡ p.terminals → All (IsPlace (length terminals)) places
-made-are p table places terminals belongs same names =
+ArePlaces-first_places p table places terminals belongs same names =
     subst (λ (names : List (List ℕ)). All (IsPlace (length names)) places) (sym names)
     (subst (λ (xs : List Place). All (IsPlace (length p.terminals)) xs) (sym same) (first_places-are p table belongs))
 
-pub made-begin : (p : Problem) (anchors places : List Place) (terminals : List (List ℕ)) (points : TimePoints) →
+pub BeginAt-places : (p : Problem) (anchors places : List Place) (terminals : List (List ℕ)) (points : TimePoints) →
     places ≡ first_places p anchors → terminals ≡ p.terminals → points ≡ record { terminals = length terminals; first = places; added = [] } → BeginAt p anchors points
-made-begin p anchors places terminals points same names made =
+BeginAt-places p anchors places terminals points same names made =
     let begun : List (List ℕ) → List Place → TimePoints = λ names xs. record { terminals = length names; first = xs; added = [] } in
     subst (λ (v : TimePoints). BeginAt p anchors v) (sym (made ∙ ap₂ begun names same)) (BeginAt-first_places p anchors)
 
 -- there are two places for each shipment, and the anchors
-pub made-few : (p : Problem) (table : WindowTable) (places : List Place) → BelongsTo p table → places ≡ first_places p table.anchors → length places ≤ 31000
-made-few p table places belongs same =
+pub length-places : (p : Problem) (table : WindowTable) (places : List Place) → BelongsTo p table → places ≡ first_places p table.anchors → length places ≤ 31000
+length-places p table places belongs same =
     let ends : List Place = map release_place p.shipments ++ map due_place p.shipments in
     let long : length places ≡ length (first_places p table.anchors) = ap (λ (xs : List Place). length xs) same in
     omega (

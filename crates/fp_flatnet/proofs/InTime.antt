@@ -13,8 +13,8 @@ use Rattle.fp_model.specs.Routes.{Leads, LeavesReady, ArrivesBy, Carries, walk_t
 use Rattle.fp_model.specs.Times.{IsLeastTime, IsDistance}
 use Rattle.fp_lists.proofs.Numbered.{AllZip-get_or}
 use Rattle.fp_flatnet.specs.Verdicts.{IsInTime, AllInTime, IsBlocked}
-use Rattle.fp_flatnet.proofs.Walks.{IsLeastWalk-from_time, IsLeastTime-unique}
-use Rattle.fp_flatnet.proofs.AtOnce.{at_once, carries-at_once}
+use Rattle.fp_flatnet.proofs.LeastWalks.{IsLeastWalk-from_time, IsLeastTime-unique}
+use Rattle.fp_flatnet.proofs.PromptLegs.{at_once, carries-at_once}
 
 -- a shipment in time can be carried
 pub carries_in-time : (p : Problem) (s : Shipment) → IsValid p → s.from ≢ s.to → IsInTime p s → (legs : List Leg) × Carries p 1 s legs
@@ -47,9 +47,9 @@ arrives-after p d due ready l (m ∷ legs) leaves arrives =
     omega (arith, arrives-after p d due (l.depart + d * step p l.arc) m legs leaves.1 arrives, leaves.1.0)
 
 -- over whatever denominator, what carries a shipment takes the time of its walk between release and due time
-pub carried-time : (p : Problem) (d : ℕ) (s : Shipment) (legs : List Leg) → 1 ≤ d → Carries p d s legs → s.release + walk_time p (arcs_of legs) ≤ s.due
-carried-time p d s [] h carries = absurd (carries.route.some refl)
-carried-time p d s (l ∷ legs) h carries =
+pub carried_time : (p : Problem) (d : ℕ) (s : Shipment) (legs : List Leg) → 1 ≤ d → Carries p d s legs → s.release + walk_time p (arcs_of legs) ≤ s.due
+carried_time p d s [] h carries = absurd (carries.route.some refl)
+carried_time p d s (l ∷ legs) h carries =
     let after : l.depart + d * walk_time p (arcs_of (l ∷ legs)) ≤ d * s.due = arrives-after p d s.due (d * s.release) l legs carries.ready carries.due in
     let whole : d * (s.release + walk_time p (arcs_of (l ∷ legs))) ≤ d * s.due = omega (arith, after, carries.ready.0) in
     le_of_mul-le-mul_left whole (omega (arith, h))
@@ -59,7 +59,7 @@ no_plan-blocked p k o blocked plan =
     let carries : Carries p plan.0 (shipment_at p k) (slice_index_or plan.1 k []) =
     AllZip-get_or (Carries p plan.0) p.shipments plan.1 k no_shipment [] plan.3 blocked.exists in
     late o blocked.fastest blocked.late (slice_index_or plan.1 k []) carries.route.leads
-    (carried-time p plan.0 (shipment_at p k) (slice_index_or plan.1 k []) plan.2 carries)
+    (carried_time p plan.0 (shipment_at p k) (slice_index_or plan.1 k []) plan.2 carries)
   where
     late : (o : Option ℕ) → IsDistance p (shipment_at p k).from (shipment_at p k).to o → IfSome o (λ t. (shipment_at p k).due < (shipment_at p k).release + t) →
         (legs : List Leg) → Leads p (shipment_at p k).from (arcs_of legs) (shipment_at p k).to → (shipment_at p k).release + walk_time p (arcs_of legs) ≤ (shipment_at p k).due → ⊥

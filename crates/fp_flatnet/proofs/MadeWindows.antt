@@ -13,23 +13,23 @@ use Rattle.fp_timenodes.specs.declared.places.Place.{Place}
 use Rattle.fp_timenodes.specs.Points.{IsPlace}
 use Rattle.fp_flatnet.specs.declared.window_tables.Window.{Window}
 use Rattle.fp_flatnet.specs.Belonging.{BelongsTo, IsNarrowed}
-use Rattle.fp_flatnet.specs.Tables.{WindowTable, AreFull, rows_of, tail_of, windows_in}
+use Rattle.fp_flatnet.specs.Tables.{WindowTable, AreFull, tail_of, windows_in, row_lists}
 use Rattle.fp_flatnet.specs.Windows.{AreWindows, AreWindowRows, IsWindowOrNone, IsWindowRow}
-use Rattle.fp_flatnet.proofs.Entries.{length-rows_of}
+use Rattle.fp_flatnet.proofs.WindowEntries.{length-row_lists}
 
 -- such rows are full
-pub made-full : (p : Problem) (tails : List ℕ) (rows : List (Vec (Option Window) Global)) → AreWindowRows p (rows_of rows) → tails ≡ map tail_of p.arcs → AreFull tails rows
-made-full p tails rows are same =
+pub AreFull-window_rows : (p : Problem) (tails : List ℕ) (rows : List (Vec (Option Window) Global)) → AreWindowRows p (row_lists rows) → tails ≡ map tail_of p.arcs → AreFull tails rows
+AreFull-window_rows p tails rows are same =
     λ k d lt.
-    let there : k < length p.shipments = omega (arith, lt, are.one_each, length-rows_of rows) in
-    let row : IsWindowRow p (shipment_at p k) (slice_index_or (rows_of rows) k []) = are.exact k there in
+    let there : k < length p.shipments = omega (arith, lt, are.one_each, length-row_lists rows) in
+    let row : IsWindowRow p (shipment_at p k) (slice_index_or (row_lists rows) k []) = are.exact k there in
     let items : Vec (Option Window) Global → List (Option Window) = λ r. r.items in
-    let here : slice_index_or (rows_of rows) k [] ≡ (slice_index_or rows k d).items = get_or-map items rows k d [] lt in
+    let here : slice_index_or (row_lists rows) k [] ≡ (slice_index_or rows k d).items = get_or-map items rows k d [] lt in
     ap (λ (r : List (Option Window)). length r) (sym here) ∙ row.one_each ∙ sym (length-map p.arcs tail_of) ∙ ap (λ (ts : List ℕ). length ts) (sym same)
 
 -- and tell the windows of the problem
-pub made-windows : (p : Problem) (table : WindowTable) → AreWindowRows p table.rows → AreWindows p (windows_in table)
-made-windows p table are =
+pub AreWindows-window_rows : (p : Problem) (table : WindowTable) → AreWindowRows p table.rows → AreWindows p (windows_in table)
+AreWindows-window_rows p table are =
     AllFrom-from_get_or (λ k (s : Shipment). (a : ℕ) → a < length p.arcs → IsWindowOrNone p s a (windows_in table k a)) p.shipments no_shipment 0
     (λ k lt.
     let same : k ≡ 0 + k = omega arith in
@@ -48,8 +48,8 @@ itself p s a anchors (Some w) is = record {
 }
 
 -- they belong to the instance
-pub made-belongs : (p : Problem) (table : WindowTable) → IsValid p → AreWindowRows p table.rows → table.tails ≡ map tail_of p.arcs → table.anchors ≡ [] → BelongsTo p table
-made-belongs p table valid are same none = record {
+pub BelongsTo-window_rows : (p : Problem) (table : WindowTable) → IsValid p → AreWindowRows p table.rows → table.tails ≡ map tail_of p.arcs → table.anchors ≡ [] → BelongsTo p table
+BelongsTo-window_rows p table valid are same none = record {
   valid = valid;
   tails = same;
   shipments = are.one_each;

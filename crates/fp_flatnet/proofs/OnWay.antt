@@ -10,8 +10,8 @@ use Rattle.fp_model.specs.Routes.{Leads, walk_time}
 use Rattle.fp_model.specs.Times.{IsLeastTime}
 use Rattle.fp_flatnet.specs.declared.window_tables.Window.{Window}
 use Rattle.fp_flatnet.specs.Windows.{IsWindowOrNone, time_before, time_after, IsInside}
-use Rattle.fp_flatnet.proofs.Onward.{onward-le}
-use Rattle.fp_flatnet.proofs.Walks.{steps, steps-held}
+use Rattle.fp_flatnet.proofs.OnwardTimes.{onward-le}
+use Rattle.fp_flatnet.proofs.LeastWalks.{steps, steps-held}
 
 -- it is not so that there is a walk and no least walk
 pub least_time : (p : Problem) (here there : ℕ) (arcs : List ℕ) → Leads p here arcs there → ((t : ℕ) → IsLeastTime p here there t → ⊥) → ⊥
@@ -60,12 +60,12 @@ on_way-hi : (p : Problem) (d : ℕ) (s : Shipment) (a n t : ℕ) → IsOnWay p d
 on_way-hi p d s a n t way least = omega (arith, mul-le-mul_left d (onward-le p s.to a way.post t way.thence least), way.due)
 
 -- it leaves inside the window
-pub on_way-within : (p : Problem) (d : ℕ) (s : Shipment) (a n : ℕ) (o : Option Window) → 0 < d → IsOnWay p d s a n → IsWindowOrNone p s a o → IsSomeAnd o (IsInside d n)
-on_way-within p d s a n (Some w) h way is =
+pub IsOnWay_within : (p : Problem) (d : ℕ) (s : Shipment) (a n : ℕ) (o : Option Window) → 0 < d → IsOnWay p d s a n → IsWindowOrNone p s a o → IsSomeAnd o (IsInside d n)
+IsOnWay_within p d s a n (Some w) h way is =
     let lo : d * w.lo ≡ d * (s.release + time_before p s a is.before) = ap (λ (x : ℕ). d * x) is.lo in
     let hi : d * (w.hi + time_after p s a is.after) ≡ d * s.due = ap (λ (x : ℕ). d * x) is.hi in
     (omega (arith, lo, on_way-lo p d s a n is.before way is.to_tail), omega (arith, hi, on_way-hi p d s a n is.after way is.from_head))
-on_way-within p d s a n None h way is =
+IsOnWay_within p d s a n None h way is =
     least_time p s.from (arc_at p a).from way.pre way.there (λ t to_tail.
     least_time p (arc_at p a).to s.to way.post way.thence (λ u from_head.
     let lo : ℕ = s.release + time_before p s a t in

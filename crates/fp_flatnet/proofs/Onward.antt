@@ -8,7 +8,7 @@ use Rattle.fp_model.specs.Routes.{Leads, walk_time, step}
 use Rattle.fp_model.specs.Times.{IsLeastTime, IsDistance}
 use Rattle.fp_flatnet.specs.Directs.{BeginsLeast}
 use Rattle.fp_flatnet.specs.Windows.{time_onward}
-use Rattle.fp_flatnet.proofs.Walks.{IsLeastWalk, IsLeastWalk-from_time, IsLeastTime-from_walk, IsLeastWalk-next, arc-valid, first-time}
+use Rattle.fp_flatnet.proofs.LeastWalks.{IsLeastWalk, IsLeastWalk-from_time, IsLeastTime-from_walk, IsLeastWalk-next, arc-valid, first-time}
 
 -- an arc and any walk from its head take at least the time onward
 pub onward-le : (p : Problem) (there a : ℕ) (rest : List ℕ) (t : ℕ) → Leads p (arc_at p a).to rest there → IsLeastTime p (arc_at p a).to there t →

@@ -10,8 +10,8 @@ use Rattle.fp_model.specs.Times.{IsFastest}
 use Rattle.fp_flatnet.specs.Verdicts.{IsInTime, AllInTime, IsBlocked}
 
 -- the shipment that a loop reads is the one with its number
-pub shipment-read : (p : Problem) (items : List Shipment) (k : ℕ) (s : Shipment) → items ≡ p.shipments → s ≡ slice_index_or items k s → k < length items → s ≡ shipment_at p k
-shipment-read p items k s same read lt =
+pub shipment_read : (p : Problem) (items : List Shipment) (k : ℕ) (s : Shipment) → items ≡ p.shipments → s ≡ slice_index_or items k s → k < length items → s ≡ shipment_at p k
+shipment_read p items k s same read lt =
     read ∙ get_or_default items k s no_shipment lt ∙ ap (λ (xs : List Shipment). slice_index_or xs k no_shipment) same
 
 -- with this fastest time it arrives by its due time
@@ -22,17 +22,17 @@ arrives-in_time : (p : Problem) (s : Shipment) (o : Option ℕ) → IsFastest p 
 arrives-in_time p s None fastest arrives = absurd arrives
 arrives-in_time p s (Some t) fastest arrives = (t, fastest, arrives)
 
-pub arrives-at : (p : Problem) (k : ℕ) (s : Shipment) (o : Option ℕ) → s ≡ shipment_at p k → IsFastest p s o → Arrives s o → IsInTime p (shipment_at p k)
-arrives-at p k s o same fastest arrives = subst (λ (x : Shipment). IsInTime p x) same (arrives-in_time p s o fastest arrives)
+pub IsInTime-arrives : (p : Problem) (k : ℕ) (s : Shipment) (o : Option ℕ) → s ≡ shipment_at p k → IsFastest p s o → Arrives s o → IsInTime p (shipment_at p k)
+IsInTime-arrives p k s o same fastest arrives = subst (λ (x : Shipment). IsInTime p x) same (arrives-in_time p s o fastest arrives)
 
 late-by : (s : Shipment) (o : Option ℕ) → (Arrives s o → ⊥) → IfSome o (λ t. s.due < s.release + t)
 late-by s None late = tt
 late-by s (Some t) late = ⊎_elim (λ (lt : s.due < s.release + t). lt) (λ (le : s.release + t ≤ s.due). absurd (late le)) (cases_lt s.due (s.release + t))
 
 -- the first shipment that does not is blocked
-pub blocked-at : (p : Problem) (k : ℕ) (s : Shipment) (o : Option ℕ) → k < length p.shipments → s ≡ shipment_at p k → ((i : ℕ) → i < k → IsInTime p (shipment_at p i)) →
+pub IsBlocked-late : (p : Problem) (k : ℕ) (s : Shipment) (o : Option ℕ) → k < length p.shipments → s ≡ shipment_at p k → ((i : ℕ) → i < k → IsInTime p (shipment_at p i)) →
     IsFastest p s o → (Arrives s o → ⊥) → IsBlocked p k o
-blocked-at p k s o exists same earlier fastest late = record {
+IsBlocked-late p k s o exists same earlier fastest late = record {
   exists = exists;
   earlier = earlier;
   fastest = subst (λ (x : Shipment). IsFastest p x o) same fastest;

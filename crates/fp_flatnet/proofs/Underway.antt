@@ -10,9 +10,9 @@ use Rattle.fp_flatnet.specs.Directs.{BeginsLeast, BeginsFirst, IsDirectRoute, Is
 use Rattle.fp_flatnet.specs.Distances.{AreTimesTo, time_at}
 use Rattle.fp_flatnet.specs.Verdicts.{IsInTime}
 use Rattle.fp_flatnet.proofs.DirectRoutes.{direct-more}
-use Rattle.fp_flatnet.proofs.InTime.{IsDistance-unique}
-use Rattle.fp_flatnet.proofs.Onward.{GoesOnWithin, begun-next}
-use Rattle.fp_flatnet.proofs.Walks.{arc-valid, first-time, hold-small}
+use Rattle.fp_flatnet.proofs.PlanExistence.{IsDistance-unique}
+use Rattle.fp_flatnet.proofs.OnwardTimes.{GoesOnWithin, begun-next}
+use Rattle.fp_flatnet.proofs.LeastWalks.{arc-valid, first-time, hold-small}
 
 -- the shipment is here and ready, can still be in time, and what is a direct route from here on is one with the legs before it
 pub record IsUnderway (p : Problem) (s : Shipment) (here ready : ℕ) (legs : List Leg) : Type 0 where

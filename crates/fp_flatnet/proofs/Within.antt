@@ -11,9 +11,9 @@ use Rattle.fp_model.specs.Routes.{Leads, Carries, LeavesReady, ArrivesBy, step, 
 use Rattle.fp_lists.specs.Distinct.{AreDistinct}
 use Rattle.fp_flatnet.specs.declared.window_tables.Window.{Window}
 use Rattle.fp_flatnet.specs.Windows.{IsWindowOrNone, AreWindows, LiesWithin, CoverPlans}
-use Rattle.fp_flatnet.proofs.InTime.{arrives-after}
-use Rattle.fp_flatnet.proofs.OnWay.{on_way-within}
-use Rattle.fp_flatnet.proofs.Walks.{steps, steps-append, Leads-append}
+use Rattle.fp_flatnet.proofs.PlanExistence.{arrives-after}
+use Rattle.fp_flatnet.proofs.LegsOnWay.{IsOnWay_within}
+use Rattle.fp_flatnet.proofs.LeastWalks.{steps, steps-append, Leads-append}
 
 -- a walk that enters only such terminals ends at such a terminal
 end-among : (p : Problem) (P : ℕ → Type 0) (here there a : ℕ) (arcs : List ℕ) → Leads p here (a ∷ arcs) there → AllByRecursion P (ends_of p (a ∷ arcs)) → P there
@@ -37,7 +37,7 @@ route-within p d s windows k h are (l ∷ legs) pre here ready there after leads
     let step_on : d * (s.release + steps p (pre ++ (a ∷ []))) ≡ d * (s.release + steps p pre + step p a) =
     ap (λ (x : ℕ). d * x) (let e : s.release + steps p (pre ++ (a ∷ [])) ≡ s.release + steps p pre + step p a = omega (arith, steps-append p pre (a ∷ [])) in e) in
     let along : Leads p here (a ∷ []) (arc_at p a).to = (leads.0, leads.1, refl) in (
-      on_way-within p d s a l.depart (windows k a) h
+      IsOnWay_within p d s a l.depart (windows k a) h
           (record {
             pre = pre;
             post = arcs_of legs;

@@ -17,8 +17,8 @@ abbrev pub tail_of : Arc → ℕ
 tail_of arc = arc.from
 
 -- rows as lists
-abbrev pub rows_of : List (Vec (Option Window) Global) → List (List (Option Window))
-rows_of rows = map (λ (r : Vec (Option Window) Global). r.items) rows
+abbrev pub row_lists : List (Vec (Option Window) Global) → List (List (Option Window))
+row_lists rows = map (λ (r : Vec (Option Window) Global). r.items) rows
 
 -- each row has as many entries as there are tails
 abbrev pub AreFull : List ℕ → List (Vec (Option Window) Global) → Type 0

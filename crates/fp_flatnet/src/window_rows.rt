@@ -2,7 +2,7 @@ ghost use Rattle.std.specs.Prelude.{◌≡◌, ◌+◌, ◌<◌, ◌≤◌, leng
 ghost use Rattle.fp_model.specs.Problem.{IsShipment, arc_at};
 ghost use Rattle.fp_model.specs.Times.{IsDistance};
 ghost use Rattle.fp_flatnet.specs.Distances.{AreTimesFrom, AreTimesTo};
-ghost use Rattle.fp_flatnet.specs.Tables.{rows_of};
+ghost use Rattle.fp_flatnet.specs.Tables.{row_lists};
 ghost use Rattle.fp_flatnet.specs.Windows.{AreWindowRows, IsWindowOrNone, IsWindowRow, time_before as time_before_of, time_onward as time_onward_of};
 
 use crate::NoMemory;
@@ -74,7 +74,7 @@ pub(crate) fn all_rows(
     alloc: Global,
     instance: &Instance,
 ) -> Result<Vec<Vec<Option<Window>>>, NoMemory>
-    ensures { IfOk result (λ rows. AreWindowRows instance.now (rows_of rows.items)) }
+    ensures { IfOk result (λ rows. AreWindowRows instance.now (row_lists rows.items)) }
 {
     let forward = forward_graph(alloc, instance)?;
     let backward = backward_graph(alloc, instance)?;

@@ -3,7 +3,7 @@ ghost use Rattle.std.specs.Option.{option_map};
 ghost use Rattle.fp_model.specs.Problem.{Problem};
 ghost use Rattle.fp_flatnet.specs.Belonging.{BelongsTo};
 ghost use Rattle.fp_flatnet.specs.Windows.{AreWindows, CoverPlans};
-ghost use Rattle.fp_flatnet.specs.Tables.{AreFull, CanNarrow, closed, tail_of, narrowed, rows_of, windows_in, with_entry};
+ghost use Rattle.fp_flatnet.specs.Tables.{AreFull, CanNarrow, closed, tail_of, narrowed, windows_in, with_entry, row_lists};
 
 use crate::NoMemory;
 use crate::window_rows::all_rows;
@@ -32,13 +32,13 @@ pub struct Windows {
 }
 
 impl Model for Windows {
-    ghost use Rattle.fp_flatnet.specs.Tables.{AreFull, WindowTable, rows_of};
+    ghost use Rattle.fp_flatnet.specs.Tables.{AreFull, WindowTable, row_lists};
 
     ghost Value = { WindowTable };
 
     ghost view = { λ w. record {
       tails = w.tails.items;
-      rows = rows_of w.rows.items;
+      rows = row_lists w.rows.items;
       anchors = w.anchors.items;
     } };
 
@@ -127,8 +127,8 @@ fn tails_of(alloc: Global, arcs: &[Arc]) -> Result<Vec<u32>, NoMemory>
 // Sets one entry of the rows.
 fn set_entry(rows: &mut [Vec<Option<Window>>], shipment: u32, arc: u32, to: Option<Window>)
     requires shipment { shipment < length rows.old }
-    requires arc { arc < length (slice_index_or (rows_of rows.old) shipment []) }
-    ensures set { rows_of rows.new ≡ with_entry (rows_of rows.old) shipment arc to }
+    requires arc { arc < length (slice_index_or (row_lists rows.old) shipment []) }
+    ensures set { row_lists rows.new ≡ with_entry (row_lists rows.old) shipment arc to }
     ensures full { (tails : List ℕ) → AreFull tails rows.old → AreFull tails rows.new }
 {
     let row = &mut rows[shipment as usize];

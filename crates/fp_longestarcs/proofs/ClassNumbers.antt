@@ -15,9 +15,9 @@ use Rattle.fp_longestarcs.specs.Ascending.{ArePoints}
 use Rattle.fp_lists.specs.Ascending.{IsCut, place_in}
 use Rattle.fp_longestarcs.specs.Networks.{TimedNetwork, points_in, tail_in, heads_in, kept_head, IsArcOfClass, IsClass, copy_count, class_count, first_class, class_number, IsNetwork}
 use Rattle.fp_longestarcs.specs.Vectors.{AreOffsets}
-use Rattle.fp_longestarcs.specs.Whole.{HasArcsOf, IsWhole}
+use Rattle.fp_longestarcs.specs.Whole.{HasArcsOf, IsWholeNetwork}
 use Rattle.fp_lists.proofs.Places.{place_in-get_or, get_or-place_in, place-le-get_or}
-use Rattle.fp_longestarcs.proofs.Lengthened.{arc-count, tail-of, whole-heads}
+use Rattle.fp_longestarcs.proofs.HeadLists.{arc-count, tail-of, whole-heads}
 
 -- the points of an arc's tail
 pub tail-points : (net : TimedNetwork) (arc : ℕ) → IsNetwork net → arc < length net.tails → ArePoints (points_in net (tail_in net arc))
@@ -39,7 +39,7 @@ class-of-arc p net arc point has exists there = (
 )
 
 -- in a whole network the head that is kept is the greatest
-pub kept-greatest : (p : Problem) (net : TimedNetwork) (c : Leg) → IsWhole p net → IsClass net c → kept_head net c ≡ head_of p (points_in net) c
+pub kept-greatest : (p : Problem) (net : TimedNetwork) (c : Leg) → IsWholeNetwork p net → IsClass net c → kept_head net c ≡ head_of p (points_in net) c
 kept-greatest p net c whole is =
     let there = class-place net c whole.valid is in
     let here : c.arc < length p.arcs = omega (arith, is.0, arc-count p net whole.arcs) in

@@ -19,11 +19,11 @@ use Rattle.fp_lists.specs.Ascending.{place_in, IsPlaceIn}
 use Rattle.fp_longestarcs.specs.Networks.{TimedNetwork, points_in, tail_in, heads_in, IsNetwork}
 use Rattle.fp_longestarcs.specs.Vectors.{network_of}
 use Rattle.fp_lists.specs.Vectors.{lists_of}
-use Rattle.fp_longestarcs.specs.Whole.{IsWhole}
-use Rattle.fp_longestarcs.specs.Changes.{points_with, heads_with, refined, lifted_head, lifted, heads_to, restored}
+use Rattle.fp_longestarcs.specs.Whole.{IsWholeNetwork}
+use Rattle.fp_longestarcs.specs.Changes.{heads_with, refined, lifted_head, lifted, heads_to, restored, extended_points}
 use Rattle.fp_longestarcs.proofs.Places.{insert-points}
 use Rattle.fp_lists.proofs.Places.{IsPlaceIn-place_in}
-use Rattle.fp_longestarcs.proofs.Lengthened.{points-same, points-other, all-restored}
+use Rattle.fp_longestarcs.proofs.HeadLists.{points-same, points-other, all-restored}
 
 -- the points of a terminal of a network
 pub points-of : (net : TimedNetwork) (terminal : ℕ) → IsNetwork net → terminal < length net.points → ArePoints (points_in net terminal)
@@ -50,7 +50,7 @@ refined-valid p net terminal at valid within new in_time = record {
     place = IsPlaceIn-place_in (points_in net terminal) at here.ascending
 
     -- a terminal's points and an arc's heads get one more alike
-    by_tail : (arc : ℕ) → arc < length net.tails → length (heads_with p net terminal at arc) ≡ length (get_or (points_with net terminal at) (tail_in net arc) [])
+    by_tail : (arc : ℕ) → arc < length net.tails → length (heads_with p net terminal at arc) ≡ length (get_or (extended_points net terminal at) (tail_in net arc) [])
     by_tail arc h =
         let k : ℕ = place_in (points_in net terminal) at in
         let head : ℕ = head_of p (points_in net) (record { arc = arc; depart = at }) in
@@ -61,8 +61,8 @@ refined-valid p net terminal at valid within new in_time = record {
         let equal : length (heads_in net arc) ≡ length (points_in net terminal) = old ∙ ap (λ (t : ℕ). length (points_in net t)) same in
         let longer : length (insert (heads_in net arc) k head) ≡ length (heads_in net arc) + 1 = length-insert (heads_in net arc) k head (omega (arith, equal, place.within)) in
         let grown : length more ≡ length (points_in net terminal) + 1 = length-insert (points_in net terminal) k at place.within in
-        let there : length (get_or (points_with net terminal at) (tail_in net arc) []) ≡ length more =
-        ap (λ (t : ℕ). length (get_or (points_with net terminal at) t [])) same ∙ ap (λ (l : List ℕ). length l) (points-same net terminal at within) in
+        let there : length (get_or (extended_points net terminal at) (tail_in net arc) []) ≡ length more =
+        ap (λ (t : ℕ). length (get_or (extended_points net terminal at) t [])) same ∙ ap (λ (l : List ℕ). length l) (points-same net terminal at within) in
         omega (arith, ap (λ (l : List ℕ). length l) is, equal, longer, grown, there))
         (λ (other : tail_in net arc ≢ terminal).
         let is = cond-false (nat_eq (tail_in net arc) terminal) (insert (heads_in net arc) k head) (heads_in net arc) (ne_eqb (tail_in net arc) terminal other) in
@@ -111,8 +111,8 @@ restored-valid p net terminal at valid = record {
         (cases_eq (arc_at p arc).to terminal)
 
 -- a whole network with a new point, refined and then restored, is whole
-pub lengthened-whole : (p : Problem) (net : TimedNetwork) (terminal at : ℕ) → IsWhole p net → terminal < length net.points → list_has (points_in net terminal) at ≡ false → at ≤ LATEST →
-    IsWhole p (restored p (refined p net terminal at) terminal at)
+pub lengthened-whole : (p : Problem) (net : TimedNetwork) (terminal at : ℕ) → IsWholeNetwork p net → terminal < length net.points → list_has (points_in net terminal) at ≡ false → at ≤ LATEST →
+    IsWholeNetwork p (restored p (refined p net terminal at) terminal at)
 lengthened-whole p net terminal at whole within new in_time = record {
   valid = restored-valid p (refined p net terminal at) terminal at (refined-valid p net terminal at whole.valid within new in_time);
   arcs = record { tails = whole.arcs.tails; terminals = length-set net.points terminal (insert (points_in net terminal) (place_in (points_in net terminal) at) at) ∙ whole.arcs.terminals };

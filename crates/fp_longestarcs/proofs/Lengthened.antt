@@ -12,8 +12,8 @@ use Rattle.fp_timenodes.specs.Floor.{floor_point}
 use Rattle.fp_longestarcs.specs.Classes.{head_of}
 use Rattle.fp_lists.specs.Ascending.{place_in}
 use Rattle.fp_longestarcs.specs.Networks.{TimedNetwork, points_in, tail_in, heads_in}
-use Rattle.fp_longestarcs.specs.Whole.{HasArcsOf, IsWhole, heads_from, heads_of}
-use Rattle.fp_longestarcs.specs.Changes.{points_with, heads_with, refined, lifted, heads_to, restored}
+use Rattle.fp_longestarcs.specs.Whole.{HasArcsOf, heads_from, heads_of, IsWholeNetwork}
+use Rattle.fp_longestarcs.specs.Changes.{heads_with, refined, lifted, heads_to, restored, extended_points}
 use Rattle.fp_lists.proofs.Maps.{map-same_on_range, map-insert}
 use Rattle.fp_longestarcs.proofs.Places.{floor-with, floor-without}
 
@@ -26,7 +26,7 @@ pub tail-of : (p : Problem) (net : TimedNetwork) (arc : ℕ) → HasArcsOf p net
 tail-of p net arc has h = ap (λ (l : List ℕ). get_or l arc 0) has.tails ∙ get_or-map (λ (a : Arc). a.from) p.arcs arc no_arc 0 h
 
 -- the heads of an arc in a whole network
-pub whole-heads : (p : Problem) (net : TimedNetwork) (arc : ℕ) → IsWhole p net → arc < length p.arcs → heads_in net arc ≡ heads_from p (points_in net) arc
+pub whole-heads : (p : Problem) (net : TimedNetwork) (arc : ℕ) → IsWholeNetwork p net → arc < length p.arcs → heads_in net arc ≡ heads_from p (points_in net) arc
 whole-heads p net arc whole h =
     ap (λ (l : List (List ℕ)). get_or l arc []) whole.heads ∙ get_or-map-range_with_len (heads_from p (points_in net)) 0 (length p.arcs) arc arc [] h (omega arith)
 
@@ -54,16 +54,16 @@ lifted-heads qs k step at (q ∷ starts) =
 
 -- the points of the terminals, with the new one
 pub points-same : (net : TimedNetwork) (terminal at : ℕ) → terminal < length net.points →
-    get_or (points_with net terminal at) terminal [] ≡ insert (points_in net terminal) (place_in (points_in net terminal) at) at
+    get_or (extended_points net terminal at) terminal [] ≡ insert (points_in net terminal) (place_in (points_in net terminal) at) at
 points-same net terminal at h = get_or-set_same net.points terminal (insert (points_in net terminal) (place_in (points_in net terminal) at) at) [] h
 
-pub points-other : (net : TimedNetwork) (terminal at other : ℕ) → other ≢ terminal → get_or (points_with net terminal at) other [] ≡ points_in net other
+pub points-other : (net : TimedNetwork) (terminal at other : ℕ) → other ≢ terminal → get_or (extended_points net terminal at) other [] ≡ points_in net other
 points-other net terminal at other apart =
     get_or-set_other net.points terminal other (insert (points_in net terminal) (place_in (points_in net terminal) at) at) [] apart
 
 -- after refining, each copy has the greatest head among the old points
-refined-heads : (p : Problem) (net : TimedNetwork) (terminal at arc : ℕ) → IsWhole p net → terminal < length net.points → arc < length p.arcs →
-    heads_in (refined p net terminal at) arc ≡ map (λ q. head_of p (points_in net) (record { arc = arc; depart = q })) (get_or (points_with net terminal at) (arc_at p arc).from [])
+refined-heads : (p : Problem) (net : TimedNetwork) (terminal at arc : ℕ) → IsWholeNetwork p net → terminal < length net.points → arc < length p.arcs →
+    heads_in (refined p net terminal at) arc ≡ map (λ q. head_of p (points_in net) (record { arc = arc; depart = q })) (get_or (extended_points net terminal at) (arc_at p arc).from [])
 refined-heads p net terminal at arc whole within h =
     get_or-map-range_with_len (heads_with p net terminal at) 0 (length net.tails) arc arc [] (omega (arith, arc-count p net whole.arcs)) (omega arith) ∙ by_tail
   where
@@ -73,7 +73,7 @@ refined-heads p net terminal at arc whole within h =
     tail : ℕ
     tail = (arc_at p arc).from
 
-    by_tail : heads_with p net terminal at arc ≡ map head (get_or (points_with net terminal at) tail [])
+    by_tail : heads_with p net terminal at arc ≡ map head (get_or (extended_points net terminal at) tail [])
     by_tail =
         ⊎_elim
         (λ (same : tail ≡ terminal).
@@ -84,7 +84,7 @@ refined-heads p net terminal at arc whole within h =
         ap (λ (l : List ℕ). insert l place (head at)) old ∙
         sym (map-insert head (points_in net terminal) place at) ∙
         ap (λ (l : List ℕ). map head l) (sym (points-same net terminal at within)) ∙
-        ap (λ (t : ℕ). map head (get_or (points_with net terminal at) t [])) (sym same))
+        ap (λ (t : ℕ). map head (get_or (extended_points net terminal at) t [])) (sym same))
         (λ (other : tail ≢ terminal).
         let apart : tail_in net arc ≢ terminal = λ e. other (sym (tail-of p net arc whole.arcs h) ∙ e) in
         let place : ℕ = place_in (points_in net terminal) at in
@@ -94,7 +94,7 @@ refined-heads p net terminal at arc whole within h =
         (cases_eq tail terminal)
 
 -- and after restoring, among all points
-pub restored-heads : (p : Problem) (net : TimedNetwork) (terminal at arc : ℕ) → IsWhole p net → terminal < length net.points → arc < length p.arcs →
+pub restored-heads : (p : Problem) (net : TimedNetwork) (terminal at arc : ℕ) → IsWholeNetwork p net → terminal < length net.points → arc < length p.arcs →
     heads_to p (refined p net terminal at) terminal at arc ≡ heads_from p (points_in (refined p net terminal at)) arc
 restored-heads p net terminal at arc whole within h =
     ⊎_elim
@@ -125,7 +125,7 @@ restored-heads p net terminal at arc whole within h =
     refined_heads = refined-heads p net terminal at arc whole within h
 
 -- so all heads are the greatest
-pub all-restored : (p : Problem) (net : TimedNetwork) (terminal at : ℕ) → IsWhole p net → terminal < length net.points →
+pub all-restored : (p : Problem) (net : TimedNetwork) (terminal at : ℕ) → IsWholeNetwork p net → terminal < length net.points →
     (restored p (refined p net terminal at) terminal at).heads ≡ heads_of p (points_in (restored p (refined p net terminal at) terminal at))
 all-restored p net terminal at whole within =
     ap (λ (n : ℕ). map (heads_to p (refined p net terminal at) terminal at) (range_with_len 0 n)) (arc-count p net whole.arcs) ∙

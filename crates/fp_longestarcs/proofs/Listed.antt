@@ -19,8 +19,8 @@ pub record AreUntil (qs times : List ℕ) (last : ℕ) : Type 0 where
   pub same : (q : ℕ) → q ≤ last → list_has times q ≡ list_has qs q
 
 -- 0 alone
-pub until-none : (qs : List ℕ) → list_has qs 0 ≡ true → AreUntil qs (0 ∷ []) 0
-until-none qs start = record {
+pub AreUntil-zero : (qs : List ℕ) → list_has qs 0 ≡ true → AreUntil qs (0 ∷ []) 0
+AreUntil-zero qs start = record {
   are = record { ascending = λ i j d less h. absurd (omega arith); zero = refl; in_time = early };
   until = λ q there. let w = StandsAt-from_list_has (0 ∷ []) q there in omega (arith, first w.place (omega (arith, w.within)), w.is 0);
   same = λ q le. let e : q ≡ 0 = omega arith in subst (λ (n : ℕ). list_has (0 ∷ []) n ≡ list_has qs n) (sym e) (sym start);
@@ -39,8 +39,8 @@ has-push : (times : List ℕ) (next q : ℕ) → list_has (times ++ next ∷ [])
 has-push times next q = list_any-append (λ r. nat_eq r q) times (next ∷ []) ∙ ap (λ (b : Bool). list_has times q || b) (or-false (nat_eq next q))
 
 -- and the next one
-pub until-more : (qs times : List ℕ) (last next : ℕ) → AreUntil qs times last → IsNextPoint qs last (Some next) → next ≤ LATEST → AreUntil qs (times ++ next ∷ []) next
-until-more qs times last next old is in_time = record {
+pub AreUntil-push : (qs times : List ℕ) (last next : ℕ) → AreUntil qs times last → IsNextPoint qs last (Some next) → next ≤ LATEST → AreUntil qs (times ++ next ∷ []) next
+AreUntil-push qs times last next old is in_time = record {
   are = record {
     ascending = up;
     zero = has-push times next 0 ∙ or_left (list_has times 0) (nat_eq next 0) old.are.zero;
@@ -91,8 +91,8 @@ until-more qs times last next old is in_time = record {
         (cases_eq next q)
 
 -- where no point follows, all are listed
-pub until-all : (qs times : List ℕ) (last : ℕ) → AreUntil qs times last → IsNextPoint qs last None → HaveSamePoints times qs
-until-all qs times last old none q =
+pub HaveSamePoints-listed : (qs times : List ℕ) (last : ℕ) → AreUntil qs times last → IsNextPoint qs last None → HaveSamePoints times qs
+HaveSamePoints-listed qs times last old none q =
     ⊎_elim
     (λ (late : last < q).
     false_from_ne_true (list_has times q) (λ there. absurd (omega (arith, old.until q there))) ∙

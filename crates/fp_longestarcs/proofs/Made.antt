@@ -8,19 +8,19 @@ use Rattle.fp_model.specs.Problem.{Problem, arc_at, no_arc, IsArc, IsValid}
 use Rattle.fp_longestarcs.specs.Ascending.{ArePoints}
 use Rattle.fp_longestarcs.specs.Classes.{head_of}
 use Rattle.fp_longestarcs.specs.Networks.{TimedNetwork, points_in}
-use Rattle.fp_longestarcs.specs.Whole.{IsWhole, HasArcsOf, tails_of, heads_from, heads_of}
-use Rattle.fp_longestarcs.proofs.Lengthened.{arc-count, tail-of}
+use Rattle.fp_longestarcs.specs.Whole.{HasArcsOf, heads_from, heads_of, IsWholeNetwork, arc_tails}
+use Rattle.fp_longestarcs.proofs.HeadLists.{arc-count, tail-of}
 
 -- the tails of arcs are terminals
-pub tails-within : (p : Problem) → IsValid p → All (λ t. t < length p.terminals) (tails_of p.arcs)
+pub tails-within : (p : Problem) → IsValid p → All (λ t. t < length p.terminals) (arc_tails p.arcs)
 tails-within p valid k d h =
     let exists : k < length p.arcs = omega (arith, length-map p.arcs (λ (a : Arc). a.from)) in
     let is : IsArc (length p.terminals) (arc_at p k) = valid.parts.arcs k no_arc exists in
     omega (arith, get_or-map (λ (a : Arc). a.from) p.arcs k no_arc d exists, is.from)
 
 -- a network with the greatest heads is whole
-pub made-whole : (p : Problem) (net : TimedNetwork) → IsValid p → HasArcsOf p net → All ArePoints net.points → net.heads ≡ heads_of p (points_in net) → IsWhole p net
-made-whole p net valid has are heads = record {
+pub IsWholeNetwork-parts : (p : Problem) (net : TimedNetwork) → IsValid p → HasArcsOf p net → All ArePoints net.points → net.heads ≡ heads_of p (points_in net) → IsWholeNetwork p net
+IsWholeNetwork-parts p net valid has are heads = record {
   valid = record {
     points = are;
     few = omega (arith, arc-count p net has, valid.parts.few_arcs);

@@ -17,11 +17,11 @@ use Rattle.fp_timenodes.specs.Points.{TimePoints, points_at, times_at, added_at}
 use Rattle.fp_longestarcs.specs.Ascending.{ArePoints}
 use Rattle.fp_lists.specs.Ascending.{IsPlaceIn, place_in}
 use Rattle.fp_longestarcs.specs.Networks.{TimedNetwork, IsNetwork, points_in, point_count}
-use Rattle.fp_longestarcs.specs.Changes.{points_with}
+use Rattle.fp_longestarcs.specs.Changes.{extended_points}
 use Rattle.fp_lists.proofs.Places.{IsPlaceIn-place_in, first-lt}
 
 -- a new point is one more
-pub count-with : (net : TimedNetwork) (terminal at : ℕ) → IsNetwork net → terminal < length net.points → sum_by (λ (qs : List ℕ). length qs) (points_with net terminal at) ≡ point_count net + 1
+pub count-with : (net : TimedNetwork) (terminal at : ℕ) → IsNetwork net → terminal < length net.points → sum_by (λ (qs : List ℕ). length qs) (extended_points net terminal at) ≡ point_count net + 1
 count-with net terminal at valid within =
     let qs : List ℕ = points_in net terminal in
     let are : ArePoints qs = valid.points terminal [] within in

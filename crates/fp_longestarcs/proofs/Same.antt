@@ -12,10 +12,10 @@ use Rattle.fp_lists.proofs.Membership.{list_has-rest, list_has-first, list_has-c
 use Rattle.fp_longestarcs.specs.Ascending.{ArePoints}
 use Rattle.fp_lists.specs.Ascending.{place_in}
 use Rattle.fp_longestarcs.specs.Networks.{TimedNetwork, points_in}
-use Rattle.fp_longestarcs.specs.Whole.{HasArcsOf, IsWhole, IsNetworkOf, heads_of}
-use Rattle.fp_longestarcs.specs.Changes.{points_with, refined, restored, HasAlso}
+use Rattle.fp_longestarcs.specs.Whole.{HasArcsOf, IsNetworkOf, heads_of, IsWholeNetwork}
+use Rattle.fp_longestarcs.specs.Changes.{refined, restored, HasAlso, extended_points}
 use Rattle.fp_lists.proofs.Places.{first-lt, ascending-unique}
-use Rattle.fp_longestarcs.proofs.Lengthened.{points-same, points-other}
+use Rattle.fp_longestarcs.proofs.HeadLists.{points-same, points-other}
 
 -- what is a point of both lists beside their equal first ones is a point of the rest
 rest-of : (x y : ℕ) (xs ys : List ℕ) (m : ℕ) → AllPairs (λ a b. a < b) (x ∷ xs) → x ≡ y → HaveSamePoints (x ∷ xs) (y ∷ ys) → list_has xs m ≡ true → list_has ys m ≡ true
@@ -26,8 +26,8 @@ rest-of x y xs ys m up is same there =
     (list_has-cons_cases y ys m (sym (same m) ∙ list_has-rest x xs m there))
 
 -- whole networks of an instance with the same points are equal
-pub whole-unique : (p : Problem) (m n : TimedNetwork) → IsWhole p m → IsWhole p n → ((terminal : ℕ) → terminal < length p.terminals → HaveSamePoints (points_in m terminal) (points_in n terminal)) → m ≡ n
-whole-unique p m n first second same =
+pub IsWholeNetwork-unique : (p : Problem) (m n : TimedNetwork) → IsWholeNetwork p m → IsWholeNetwork p n → ((terminal : ℕ) → terminal < length p.terminals → HaveSamePoints (points_in m terminal) (points_in n terminal)) → m ≡ n
+IsWholeNetwork-unique p m n first second same =
     let net : List ℕ → List (List ℕ) → List (List ℕ) → TimedNetwork = λ tails points heads. record { tails = tails; points = points; heads = heads } in
     let points : m.points ≡ n.points =
     same_lists m.points n.points (omega (arith, first.arcs.terminals, second.arcs.terminals))
@@ -44,11 +44,11 @@ whole-unique p m n first second same =
 
 -- which points there are with one more
 pub has-with : (net : TimedNetwork) (terminal at t q : ℕ) → terminal < length net.points →
-    list_has (get_or (points_with net terminal at) t []) q ≡ (nat_eq t terminal && nat_eq at q || list_has (points_in net t) q)
+    list_has (get_or (extended_points net terminal at) t []) q ≡ (nat_eq t terminal && nat_eq at q || list_has (points_in net t) q)
 has-with net terminal at t q within =
     ⊎_elim
     (λ (same : t ≡ terminal).
-    ap (λ (n : ℕ). list_has (get_or (points_with net terminal at) n []) q) same ∙
+    ap (λ (n : ℕ). list_has (get_or (extended_points net terminal at) n []) q) same ∙
     ap (λ (l : List ℕ). list_has l q) (points-same net terminal at within) ∙
     list_has-insert (points_in net terminal) (place_in (points_in net terminal) at) at q ∙
     ap (λ (n : ℕ). nat_eq at q || list_has (points_in net n) q) (sym same) ∙
@@ -60,7 +60,7 @@ has-with net terminal at t q within =
 
 -- so a network whose new point was refined and restored is the one that is made with that point
 pub lengthened-equal : (p : Problem) (old net : TimedNetwork) (terminal at round : ℕ) (v : TimePoints) → terminal < length old.points → HasArcsOf p old →
-    IsWhole p (restored p (refined p old terminal at) terminal at) → IsNetworkOf p v round net → HasAlso old terminal at v round → restored p (refined p old terminal at) terminal at ≡ net
+    IsWholeNetwork p (restored p (refined p old terminal at) terminal at) → IsNetworkOf p v round net → HasAlso old terminal at v round → restored p (refined p old terminal at) terminal at ≡ net
 lengthened-equal p old net terminal at round v within has whole made also =
-    whole-unique p (restored p (refined p old terminal at) terminal at) net whole made.whole
+    IsWholeNetwork-unique p (restored p (refined p old terminal at) terminal at) net whole made.whole
     (λ t h q. has-with old terminal at t q within ∙ sym (also t q (omega (arith, has.terminals))) ∙ sym (made.points t h q))

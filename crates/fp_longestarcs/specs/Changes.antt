@@ -10,8 +10,8 @@ use Rattle.fp_lists.specs.Ascending.{place_in}
 use Rattle.fp_longestarcs.specs.Networks.{TimedNetwork, points_in, tail_in, heads_in}
 
 -- the points of the terminals, with one more at a terminal
-abbrev pub points_with : TimedNetwork → ℕ → ℕ → List (List ℕ)
-points_with net terminal at = slice_set net.points terminal (insert (points_in net terminal) (place_in (points_in net terminal) at) at)
+abbrev pub extended_points : TimedNetwork → ℕ → ℕ → List (List ℕ)
+extended_points net terminal at = slice_set net.points terminal (insert (points_in net terminal) (place_in (points_in net terminal) at) at)
 
 -- the heads of an arc, with a copy from the new point at its greatest head where the arc leaves the terminal
 abbrev pub heads_with : Problem → TimedNetwork → ℕ → ℕ → ℕ → List ℕ
@@ -24,7 +24,7 @@ heads_with p net terminal at arc =
 abbrev pub refined : Problem → TimedNetwork → ℕ → ℕ → TimedNetwork
 refined p net terminal at = record {
   tails = net.tails;
-  points = points_with net terminal at;
+  points = extended_points net terminal at;
   heads = map (heads_with p net terminal at) (range_with_len 0 (length net.tails));
 }
 

@@ -15,7 +15,7 @@ pub record AreOffsets (points : List (List ℕ)) (tails : List ℕ) (offsets : L
   pub each : (arc : ℕ) → arc ≤ length tails → slice_index offsets arc ≡ copy_count points (take arc tails)
 
 -- a network with its offsets
-pub record IsIndexed (net : TimedNetwork) (starts : List ℕ) : Type 0 where
+pub record IsIndexedNetwork (net : TimedNetwork) (starts : List ℕ) : Type 0 where
   pub valid : IsNetwork net
   pub offsets : AreOffsets net.points net.tails starts
 

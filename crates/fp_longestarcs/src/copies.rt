@@ -1,7 +1,7 @@
 ghost use Rattle.std.specs.Prelude.{◌≡◌, ◌+◌, ◌<◌, ◌≤◌, All, OnErr, OnOk, false, length};
 ghost use Rattle.fp_lists.specs.Membership.{list_has};
 ghost use Rattle.fp_longestarcs.specs.Networks.{IsNetwork, TimedNetwork, points_in};
-ghost use Rattle.fp_longestarcs.specs.Vectors.{HasRoom, IsIndexed, network_of};
+ghost use Rattle.fp_longestarcs.specs.Vectors.{HasRoom, network_of, IsIndexedNetwork};
 ghost use Rattle.fp_lists.specs.Vectors.{lists_of};
 ghost use Rattle.fp_longestarcs.specs.Changes.{lifted, refined, restored};
 
@@ -91,14 +91,14 @@ pub(crate) fn add_point(
     offsets: &mut [u32],
     new: Place,
 ) -> Result<(), NoMemory>
-    requires indexed { IsIndexed (network_of tails.now points.old heads.old) offsets.old }
+    requires indexed { IsIndexedNetwork (network_of tails.now points.old heads.old) offsets.old }
     requires arcs { length tails.now ≡ length instance.now.arcs }
     requires terminals { length points.old ≡ length instance.now.terminals }
     requires terminal { new.terminal < length points.old }
     requires new { list_has (points_in (network_of tails.now points.old heads.old) new.terminal) new.at ≡ false }
     requires in_time { new.at ≤ LATEST }
     ensures ok { OnOk result (network_of tails.now points.new heads.new ≡ refined instance.now (network_of tails.now points.old heads.old) new.terminal new.at) }
-    ensures indexed { IsIndexed (network_of tails.now points.new heads.new) offsets.new }
+    ensures indexed { IsIndexedNetwork (network_of tails.now points.new heads.new) offsets.new }
     ensures err { OnErr result (network_of tails.now points.new heads.new ≡ network_of tails.now points.old heads.old) }
 {
     // Room first, so that nothing has changed where memory is wanting.

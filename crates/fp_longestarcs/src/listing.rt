@@ -6,7 +6,7 @@ ghost use Rattle.fp_timenodes.specs.Points.{points_at};
 ghost use Rattle.fp_longestarcs.specs.Ascending.{ArePoints};
 ghost use Rattle.fp_longestarcs.specs.Vectors.{AreOffsets};
 ghost use Rattle.fp_lists.specs.Vectors.{lists_of};
-ghost use Rattle.fp_longestarcs.specs.Whole.{heads_of, tails_of};
+ghost use Rattle.fp_longestarcs.specs.Whole.{heads_of, arc_tails};
 
 use crate::NoMemory;
 use crate::ascending::floor_among;
@@ -52,7 +52,7 @@ pub(crate) fn all_times(
 
 // The tails of the arcs.
 pub(crate) fn all_tails(alloc: Global, instance: &Instance) -> Result<Vec<u32>, NoMemory>
-    ensures { IfOk result (λ tails. tails.items ≡ tails_of instance.now.arcs) }
+    ensures { IfOk result (λ tails. tails.items ≡ arc_tails instance.now.arcs) }
 {
     instance.arcs().iter().map(|arc| arc.from).collect(alloc)
 }

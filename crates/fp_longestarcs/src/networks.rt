@@ -7,8 +7,8 @@ ghost use Rattle.fp_timenodes.specs.Points.{TimePoints, points_at};
 ghost use Rattle.fp_lists.specs.Ascending.{place_in};
 ghost use Rattle.fp_longestarcs.specs.Classes.{head_of};
 ghost use Rattle.fp_longestarcs.specs.Networks.{IsArcOfClass, IsClass, IsNetwork, TimedNetwork, class_count, class_number, first_class, kept_head, point_count, points_in, tail_in};
-ghost use Rattle.fp_longestarcs.specs.Whole.{HasArcsOf, IsNetworkOf, IsWhole};
-ghost use Rattle.fp_longestarcs.specs.Changes.{HasAlso, points_with, refined, restored};
+ghost use Rattle.fp_longestarcs.specs.Whole.{HasArcsOf, IsNetworkOf, IsWholeNetwork};
+ghost use Rattle.fp_longestarcs.specs.Changes.{HasAlso, refined, restored, extended_points};
 ghost use Rattle.fp_longestarcs.specs.Properties.{HasProperties};
 
 use crate::NoMemory;
@@ -42,13 +42,13 @@ pub struct Network {
 
 impl Model for Network {
     ghost use Rattle.fp_longestarcs.specs.Networks.{TimedNetwork};
-    ghost use Rattle.fp_longestarcs.specs.Vectors.{network_of, IsIndexed};
+    ghost use Rattle.fp_longestarcs.specs.Vectors.{network_of, IsIndexedNetwork};
 
     ghost Value = { TimedNetwork };
 
     ghost view = { λ n. network_of n.tails.items n.points.items n.heads.items };
 
-    ghost invariant = { λ n. IsIndexed (network_of n.tails.items n.points.items n.heads.items) n.offsets.items };
+    ghost invariant = { λ n. IsIndexedNetwork (network_of n.tails.items n.points.items n.heads.items) n.offsets.items };
 }
 
 impl Network {
@@ -108,7 +108,7 @@ impl Network {
     pub fn head(&self, arc: u32, point: u32) -> u32
         requires { IsClass self.now (record { arc = arc; depart = point }) }
         ensures kept { result ≡ kept_head self.now (record { arc = arc; depart = point }) }
-        ensures greatest { (p : Problem) → IsWhole p self.now → result ≡ head_of p (points_in self.now) (record { arc = arc; depart = point }) }
+        ensures greatest { (p : Problem) → IsWholeNetwork p self.now → result ≡ head_of p (points_in self.now) (record { arc = arc; depart = point }) }
     {
         list_at(&self.heads, arc)[self.place(arc, point)]
     }
@@ -232,13 +232,13 @@ impl Network {
         arc: u32,
         point: u32,
     ) -> Result<Place, NoMemory>
-        requires whole { IsWhole instance.now self.old }
+        requires whole { IsWholeNetwork instance.now self.old }
         requires class { IsClass self.old (record { arc = arc; depart = point }) }
         requires short { kept_head self.old (record { arc = arc; depart = point }) < point + step instance.now arc }
         requires in_time { point + step instance.now arc ≤ LATEST }
         ensures place { IfOk result (λ place. place ≡ record { terminal = (arc_at instance.now arc).to; at = point + step instance.now arc }) }
-        ensures whole { OnOk result (IsWhole instance.now self.new) }
-        ensures points { OnOk result (self.new.points ≡ points_with self.old (arc_at instance.now arc).to (point + step instance.now arc)) }
+        ensures whole { OnOk result (IsWholeNetwork instance.now self.new) }
+        ensures points { OnOk result (self.new.points ≡ extended_points self.old (arc_at instance.now arc).to (point + step instance.now arc)) }
         ensures count { OnOk result (point_count self.new ≡ point_count self.old + 1) }
         ensures equal { OnOk result ((v : TimePoints) (round : ℕ) (net : TimedNetwork) → IsNetworkOf instance.now v round net →
             HasAlso self.old (arc_at instance.now arc).to (point + step instance.now arc) v round → self.new ≡ net) }

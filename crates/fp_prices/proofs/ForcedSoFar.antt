@@ -28,7 +28,7 @@ use Rattle.fp_allowed.specs.Chains.{IsForced}
 use Rattle.fp_allowed.specs.ForcedChains.{ForcedChain}
 use Rattle.fp_allowed.specs.Listing.{class_at, classes_at}
 use Rattle.fp_allowed.specs.Settings.{Setting}
-use Rattle.fp_allowed.proofs.AllowedClasses.{is_allowed-parts}
+use Rattle.fp_allowed.proofs.AllowedClasses.{is_allowed_parts}
 use Rattle.fp_allowed.proofs.ListedClasses.{class_at-number}
 use Rattle.fp_prices.specs.declared.bases.ForcedClasses.{ForcedClasses}
 use Rattle.fp_prices.specs.Forced.{AreForcedOf, AreRowsUnder}
@@ -158,7 +158,7 @@ pub numbers-apart : (s : Setting) (sides : List Side) (k : ℕ) (chain : ForcedC
 numbers-apart s sides k chain is =
     let arc : ℕ → ℕ = λ n. (class_at s.network n).arc in
     let apart : AreDistinct (arcs_of (classes_at s.network chain.classes)) =
-    (chain-arcs s.problem (allowed_in s sides k) true (shipment_at s.problem k) (classes_at s.network chain.classes) (λ c h. (is_allowed-parts s.problem (windows_in s.windows) (points_in s.network) sides k c h).0) is.forced).1 in
+    (chain-arcs s.problem (allowed_in s sides k) true (shipment_at s.problem k) (classes_at s.network chain.classes) (λ c h. (is_allowed_parts s.problem (windows_in s.windows) (points_in s.network) sides k c h).0) is.forced).1 in
     AreDistinct-from_map arc chain.classes (subst AreDistinct (joined chain.classes) apart)
   where
     joined : (numbers : List ℕ) → arcs_of (classes_at s.network numbers) ≡ map (λ n. (class_at s.network n).arc) numbers

@@ -12,11 +12,11 @@ use Rattle.fp_timenodes.specs.Points.{TimePoints, points_at}
 use Rattle.fp_flatnet.specs.Belonging.{BelongsTo}
 use Rattle.fp_flatnet.specs.Tables.{WindowTable, windows_in}
 use Rattle.fp_longestarcs.specs.Networks.{TimedNetwork, class_count, points_in}
-use Rattle.fp_longestarcs.specs.Whole.{IsNetworkOf, IsWhole}
+use Rattle.fp_longestarcs.specs.Whole.{IsNetworkOf, IsWholeNetwork}
 use Rattle.fp_tree.specs.declared.sides.Side.{Side}
 use Rattle.fp_allowed.specs.Bits.{allowed_in}
 use Rattle.fp_allowed.specs.Settings.{IsSetting, Setting}
-use Rattle.fp_allowed.proofs.RowClasses.{allowed-class}
+use Rattle.fp_allowed.proofs.RowClasses.{allowed_in-IsClass}
 use Rattle.fp_prices.specs.declared.bases.ForcedClasses.{ForcedClasses}
 use Rattle.fp_prices.specs.declared.bounds.LeafBound.{LeafBound}
 use Rattle.fp_prices.specs.declared.bounds.LeafBound.TheVariants.{Empty, Value}
@@ -52,7 +52,7 @@ pub record IsPrepared (p : Problem) (windows : WindowTable) (net : TimedNetwork)
   pub forced_of : AreForcedOf (setting_of p windows net) rows is_forced forced
 
 pub prepared : (p : Problem) (windows : WindowTable) (net : TimedNetwork) (sides : List Side) (rows others : List (List Bool)) (is_forced : Bool) (forced : ForcedClasses) (s : Setting) → s ≡ setting_of p windows net →
-    BelongsTo p windows → IsWhole p net → AreRowsUnder s sides rows → others ≡ rows → AreForcedOf s others is_forced forced → IsPrepared p windows net sides rows is_forced forced
+    BelongsTo p windows → IsWholeNetwork p net → AreRowsUnder s sides rows → others ≡ rows → AreForcedOf s others is_forced forced → IsPrepared p windows net sides rows is_forced forced
 prepared p windows net sides rows others is_forced forced s is belongs whole under same forced_of = record {
   valid = belongs.valid;
   setting = record { belongs = belongs; whole = whole };
@@ -92,7 +92,7 @@ module _ (p : Problem) (windows : WindowTable) (net : TimedNetwork) (sides : Lis
   tells-forced = record { long = is.forced_of.are.row_long; exact = is.forced_of.are.told }
 
   allows-classes : (k : ℕ) → AllowsClasses net (allowed_of k)
-  allows-classes k c h = allowed-class (setting_of p windows net) sides k c is.setting h
+  allows-classes k c h = allowed_in-IsClass (setting_of p windows net) sides k c is.setting h
 
   module _ (tables : List (List ClassShare)) (kind : Kind) (pricing : LeafPricing) (same : pricing.instance.now ≡ p) (same_net : pricing.network.now ≡ net)
       (prices : (allowed : ℕ → Leg → Bool) (chains : List (List Leg)) → AreRowsOf net allowed rows → TellsForced net chains forced.row → IsPricing tables allowed kind chains pricing) where

@@ -18,7 +18,7 @@ use Rattle.fp_model.specs.Problem.{Problem}
 use Rattle.fp_lists.proofs.DistinctSums.{sum_by-places-le, length-distinct-le}
 use Rattle.fp_lists.proofs.Elements.{AllByRecursion-weaker}
 use Rattle.fp_longestarcs.specs.Networks.{TimedNetwork, points_in}
-use Rattle.fp_longestarcs.proofs.Grown.{points-of}
+use Rattle.fp_longestarcs.proofs.NewPoints.{points-of}
 use Rattle.fp_allowed.specs.Walks.{FollowsHeads, IsTimedWalk}
 use Rattle.fp_prices.specs.ClassCosts.{IsLeastOver}
 use Rattle.fp_prices.specs.Leaves.{walk_cost}

@@ -16,7 +16,7 @@ use Rattle.fp_tree.specs.declared.sides.Side.{Side}
 use Rattle.fp_tree.specs.Sides.{Exit, Fork, MeetsAll, Obeys}
 use Rattle.fp_tree.specs.Trees.{HaveTails, IsTree, Leaf, LeaveApart, tree_leaves}
 use Rattle.fp_lists.specs.Elements.{AnyByRecursion}
-use Rattle.fp_tree.proofs.Covers.{covers}
+use Rattle.fp_tree.proofs.Cover.{CoversAll-tree_leaves}
 use Rattle.fp_allowed.specs.Allowed.{PlanObeys, exit_of, tails_of}
 
 -- what holds of the terminals of a walk but its last holds of the tails of its legs
@@ -62,4 +62,4 @@ plan-obeys-leaf {X} p fork_of nodes d plan told tree is =
     let routes : List (List Exit) = map (map (exit_of p)) plan in
     AnyByRecursion-weaker (λ (l : Leaf X). Obeys d routes l.sides) (λ (l : Leaf X). PlanObeys p d l.sides plan) (λ l. obeys-plan p d l.sides plan)
     (tree_leaves fork_of nodes)
-    (covers (tails_of p) fork_of nodes told tree d routes (λ k. AllByRecursion-get_or_default (LeaveApart (tails_of p)) routes k [] (plan-apart p d p.shipments plan is) tt))
+    (CoversAll-tree_leaves (tails_of p) fork_of nodes told tree d routes (λ k. AllByRecursion-get_or_default (LeaveApart (tails_of p)) routes k [] (plan-apart p d p.shipments plan is) tt))

@@ -12,14 +12,14 @@ use Rattle.fp_longestarcs.specs.Ascending.{ArePoints}
 use Rattle.fp_lists.specs.Ascending.{place_in}
 use Rattle.fp_longestarcs.specs.Classes.{head_of}
 use Rattle.fp_longestarcs.specs.Networks.{TimedNetwork, IsArcOfClass, IsClass, IsNetwork, class_count, class_number, copy_count, first_class, point_count, points_in, tail_in}
-use Rattle.fp_longestarcs.specs.Whole.{IsWhole}
+use Rattle.fp_longestarcs.specs.Whole.{IsWholeNetwork}
 use Rattle.fp_longestarcs.proofs.ClassNumbers.{class-place, few-classes, first-more, number-within}
-use Rattle.fp_longestarcs.proofs.Grown.{points-of}
-use Rattle.fp_longestarcs.proofs.Lengthened.{arc-count, tail-of}
+use Rattle.fp_longestarcs.proofs.NewPoints.{points-of}
+use Rattle.fp_longestarcs.proofs.HeadLists.{arc-count, tail-of}
 use Rattle.fp_lists.proofs.Places.{get_or-place_in}
-use Rattle.fp_longestarcs.proofs.Shorter.{head-within}
+use Rattle.fp_longestarcs.proofs.ShortCopies.{head-within}
 use Rattle.fp_allowed.specs.Listing.{class_at}
-use Rattle.fp_allowed.proofs.ListedClasses.{class_at-number, class_by, class_by-is, class_by-number}
+use Rattle.fp_allowed.proofs.ListedClasses.{class_at-number, class_by, class_by-number, IsClass-class_by}
 use Rattle.fp_prices.specs.Points.{class_edge, class_edges, edges_of, first_node, holding_at, holding_below, next_edge}
 use Rattle.fp_prices.proofs.Nodes.{nodes-more, nodes-within, node-within}
 
@@ -43,7 +43,7 @@ class-numbered net n valid h =
     let place : ℕ = n - first_class net arc in
     let within : place < length (points_in net (tail_in net arc)) = omega (arith, found.1.from, found.1.before) in (
       class_by net arc place,
-      class_by-is net arc place found.1.exists within,
+      IsClass-class_by net arc place found.1.exists within,
       omega (arith, class_by-number net arc place valid found.1.exists within, found.1.from),
     )
 
@@ -169,7 +169,7 @@ pub record Joins (p : Problem) (net : TimedNetwork) (c : Leg) : Type 0 where
   pub enters : place_in (points_in net (arc_at p c.arc).to) (head_of p (points_in net) c) < length (points_in net (arc_at p c.arc).to)
   pub arrives : get_or (points_in net (arc_at p c.arc).to) (place_in (points_in net (arc_at p c.arc).to) (head_of p (points_in net) c)) 0 ≡ head_of p (points_in net) c
 
-pub class-joins : (p : Problem) (net : TimedNetwork) (c : Leg) → IsValid p → IsWhole p net → IsClass net c → Joins p net c
+pub class-joins : (p : Problem) (net : TimedNetwork) (c : Leg) → IsValid p → IsWholeNetwork p net → IsClass net c → Joins p net c
 class-joins p net c valid whole is =
     let exists : c.arc < length p.arcs = omega (arith, is.0, arc-count p net whole.arcs) in
     let tail : tail_in net c.arc ≡ (arc_at p c.arc).from = tail-of p net c.arc whole.arcs exists in
@@ -188,7 +188,7 @@ class-joins p net c valid whole is =
     }
 
 -- both ends of each edge are nodes
-pub has-ends : (p : Problem) (net : TimedNetwork) → IsValid p → IsWhole p net → HasEnds (point_count net) (edges_of p net)
+pub has-ends : (p : Problem) (net : TimedNetwork) → IsValid p → IsWholeNetwork p net → HasEnds (point_count net) (edges_of p net)
 has-ends p net valid whole k d h =
     subst (λ (e : Edge). (e.from < point_count net) × (e.to < point_count net)) (get_or_default (edges_of p net) k no_edge d h)
     (⊎_elim class holding (edge-cases p net k whole.valid h))

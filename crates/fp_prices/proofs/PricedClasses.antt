@@ -11,8 +11,8 @@ use Rattle.fp_model.specs.Costs.{all_legs, has_leg}
 use Rattle.fp_model.specs.Numbered.{shipment_at}
 use Rattle.fp_model.specs.Problem.{IsValid, Problem, alone_total, arc_at, no_arc}
 use Rattle.fp_longestarcs.specs.Networks.{IsClass, TimedNetwork, class_count, class_number}
-use Rattle.fp_longestarcs.specs.Whole.{IsWhole}
-use Rattle.fp_longestarcs.proofs.Lengthened.{arc-count}
+use Rattle.fp_longestarcs.specs.Whole.{IsWholeNetwork}
+use Rattle.fp_longestarcs.proofs.HeadLists.{arc-count}
 use Rattle.fp_allowed.specs.Bits.{bit_of}
 use Rattle.fp_allowed.specs.Listing.{class_at}
 use Rattle.fp_prices.specs.declared.class_prices.LeafPricing.{LeafPricing}
@@ -36,7 +36,7 @@ pub alone-fits : (p : Problem) → IsValid p → p.scale * alone_total p.arcs p.
 alone-fits p valid = omega (arith, valid.fits)
 
 -- a class of a whole network goes by an arc that exists
-pub class-exists : (p : Problem) (net : TimedNetwork) (c : Leg) → IsWhole p net → IsClass net c → c.arc < length p.arcs
+pub class-exists : (p : Problem) (net : TimedNetwork) (c : Leg) → IsWholeNetwork p net → IsClass net c → c.arc < length p.arcs
 class-exists p net c whole is = omega (arith, is.0, arc-count p net whole.arcs)
 
 -- the truck price of an allowed class and the flow are together at most what all shipments cost over every arc alone

@@ -18,7 +18,7 @@ use Rattle.fp_lists.proofs.Sums.{sum_by-map}
 use Rattle.fp_flatnet.specs.declared.window_tables.Window.{Window}
 use Rattle.fp_tree.specs.declared.sides.Side.{Side}
 use Rattle.fp_allowed.specs.Allowed.{AreForced, is_allowed, tails_of}
-use Rattle.fp_allowed.proofs.AllowedClasses.{is_allowed-parts}
+use Rattle.fp_allowed.proofs.AllowedClasses.{is_allowed_parts}
 use Rattle.fp_prices.specs.declared.leaf_prices.Kind.{Kind}
 use Rattle.fp_prices.specs.declared.bounds.LeafBound.TheVariants.{Value}
 use Rattle.fp_prices.specs.Shares.{ClassShare}
@@ -82,7 +82,7 @@ chains-alone p allowed forced i (s ∷ shipments) (chain ∷ chains) exist are =
 pub bases-small : (p : Problem) (windows : ℕ → ℕ → Option Window) (points : ℕ → List ℕ) (sides : List Side) (forced : Bool) (chains : List (List Leg)) →
     AllZipFrom (λ k. IsChain p (is_allowed p windows points sides k) forced) 0 p.shipments chains → departures_cost p chains (all_legs chains) ≤ alone_total p.arcs p.shipments
 bases-small p windows points sides forced chains are =
-    let alone = chains-alone p (is_allowed p windows points sides) forced 0 p.shipments chains (λ k c is. (is_allowed-parts p windows points sides k c is).0) are in
+    let alone = chains-alone p (is_allowed p windows points sides) forced 0 p.shipments chains (λ k c is. (is_allowed_parts p windows points sides k c is).0) are in
     let routes : alone_routes p p.shipments chains ≤ alone_total p.arcs p.shipments = alone.1 in
     omega (arith, departures-le-alone p p.shipments chains alone.0, routes)
 

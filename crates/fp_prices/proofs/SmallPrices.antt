@@ -16,7 +16,7 @@ use Rattle.fp_model.specs.Costs.{all_legs, has_leg}
 use Rattle.fp_flatnet.specs.declared.window_tables.Window.{Window}
 use Rattle.fp_tree.specs.declared.sides.Side.{Side}
 use Rattle.fp_allowed.specs.Allowed.{is_allowed}
-use Rattle.fp_allowed.proofs.AllowedClasses.{is_allowed-parts}
+use Rattle.fp_allowed.proofs.AllowedClasses.{is_allowed_parts}
 use Rattle.fp_prices.specs.declared.leaf_prices.Kind.{Kind}
 use Rattle.fp_prices.specs.Shares.{ClassShare}
 use Rattle.fp_prices.specs.Prices.{AllKeepRule, allowed_count, truck_price}
@@ -85,7 +85,7 @@ pub class_cost-small : (p : Problem) (windows : ℕ → ℕ → Option Window) (
 class_cost-small p windows points sides tables kind chains c k valid keep exists is =
     let size : ℕ = (shipment_at p k).size in
     let allowed : ℕ → Leg → Bool = is_allowed p windows points sides in
-    let arc_exists : c.arc < length p.arcs = (is_allowed-parts p windows points sides k c is).0 in
+    let arc_exists : c.arc < length p.arcs = (is_allowed_parts p windows points sides k c is).0 in
     let priced : leaf_price p tables allowed kind chains k size c + p.scale * (arc_at p c.arc).freight * size ≤ p.scale * alone_cost size (arc_at p c.arc) =
     priced-alone p (arc_at p c.arc) (leaf_price p tables allowed kind chains k size c) size (leaf_price-small p tables allowed kind chains c k valid keep exists arc_exists is) in
     le_trans priced (mul-le-mul_left p.scale (arc-alone p size c.arc arc_exists))

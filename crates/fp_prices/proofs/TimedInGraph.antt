@@ -15,7 +15,7 @@ use Rattle.fp_lists.specs.Ascending.{place_in}
 use Rattle.fp_longestarcs.specs.Classes.{head_of}
 use Rattle.fp_longestarcs.specs.Networks.{TimedNetwork, IsClass, class_number, points_in}
 use Rattle.fp_longestarcs.proofs.ClassNumbers.{number-within}
-use Rattle.fp_longestarcs.proofs.Grown.{points-of}
+use Rattle.fp_longestarcs.proofs.NewPoints.{points-of}
 use Rattle.fp_allowed.specs.Walks.{FollowsHeads}
 use Rattle.fp_prices.specs.Leaves.{walk_cost}
 use Rattle.fp_prices.specs.Points.{class_edge, edges_of, first_node, last_node}

@@ -14,7 +14,7 @@ use Rattle.fp_tree.specs.declared.sides.Side.{Side}
 use Rattle.fp_tree.specs.declared.sides.Side.TheVariants.{Without}
 use Rattle.fp_allowed.specs.Allowed.{IsForcedChain, is_allowed}
 use Rattle.fp_allowed.specs.Walks.{IsTimedWalk}
-use Rattle.fp_allowed.proofs.AllowedClasses.{HasMoment, is_allowed-parts}
+use Rattle.fp_allowed.proofs.AllowedClasses.{HasMoment, is_allowed_parts}
 use Rattle.fp_prices.specs.declared.leaf_prices.Kind.{Kind}
 use Rattle.fp_prices.specs.declared.leaf_prices.Kind.TheVariants.{Linear, Even, Table}
 use Rattle.fp_prices.specs.Shares.{ClassShare}
@@ -76,7 +76,7 @@ moment-by qs sides k c a is some =
 
 -- the first shipment may use no other classes
 of_first : (qs : List ℕ) (sides : List Side) (c : Leg) → allows qs sides 0 c ≡ true → (c ≡ leg 0 0) ⊎ (c ≡ leg 1 (floor_point qs 1 4))
-of_first qs sides c h = by_arc c.arc refl (is_allowed-parts crossing windows (points qs) sides 0 c h)
+of_first qs sides c h = by_arc c.arc refl (is_allowed_parts crossing windows (points qs) sides 0 c h)
   where
     by_arc : (a : ℕ) → c.arc ≡ a → (c.arc < length crossing.arcs) × IsSomeAnd (windows 0 c.arc) (HasMoment crossing (points qs) sides 0 c) → (c ≡ leg 0 0) ⊎ (c ≡ leg 1 (floor_point qs 1 4))
     by_arc zero is parts =
@@ -91,7 +91,7 @@ of_first qs sides c h = by_arc c.arc refl (is_allowed-parts crossing windows (po
 
 -- nor may the second, where B has no point from 1 to 3
 of_second : (qs : List ℕ) (sides : List Side) (c : Leg) → ((m : ℕ) → m ≤ 3 → floor_point qs 1 m ≡ 0) → allows qs sides 1 c ≡ true → c ≡ leg 1 0
-of_second qs sides c low h = by_arc c.arc refl (is_allowed-parts crossing windows (points qs) sides 1 c h)
+of_second qs sides c low h = by_arc c.arc refl (is_allowed_parts crossing windows (points qs) sides 1 c h)
   where
     by_arc : (a : ℕ) → c.arc ≡ a → (c.arc < length crossing.arcs) × IsSomeAnd (windows 1 c.arc) (HasMoment crossing (points qs) sides 1 c) → c ≡ leg 1 0
     by_arc zero is parts = absurd (moment-by qs sides 1 c 0 is parts.1)

@@ -2,13 +2,13 @@
 use Rattle.std.specs.Prelude.{◌≡◌, ◌≤◌, length}
 use Rattle.fp_model.specs.Problem.{Problem}
 use Rattle.fp_longestarcs.specs.Networks.{TimedNetwork, point_count}
-use Rattle.fp_longestarcs.specs.Whole.{IsWhole}
+use Rattle.fp_longestarcs.specs.Whole.{IsWholeNetwork}
 use Rattle.fp_prices.specs.declared.point_graphs.PointGraph.{PointGraph}
 use Rattle.fp_prices.specs.Points.{AreFirstNodes, edges_of, shape_of}
 
 -- the graph of the points of a whole network that has few points
 pub record IsPointGraph (p : Problem) (net : TimedNetwork) (g : PointGraph) : Type 0 where
-  pub whole : IsWhole p net
+  pub whole : IsWholeNetwork p net
   pub few : point_count net ≤ 65000
   pub shape : g.graph ≡ shape_of p net
   pub firsts : AreFirstNodes net g.firsts.items

@@ -2,7 +2,7 @@ ghost use Rattle.std.specs.Prelude.{ℕ, ◌≡◌, ◌+◌, ◌*◌, ◌<◌, �
 ghost use Rattle.fp_lists.specs.Distinct.{AreDistinct};
 ghost use Rattle.fp_lists.specs.Membership.{list_has};
 ghost use Rattle.fp_longestarcs.specs.Networks.{class_count};
-ghost use Rattle.fp_longestarcs.specs.Whole.{IsWhole};
+ghost use Rattle.fp_longestarcs.specs.Whole.{IsWholeNetwork};
 ghost use Rattle.fp_tree.specs.declared.sides.Side.{Side};
 ghost use Rattle.fp_allowed.specs.Bits.{bit_of};
 ghost use Rattle.fp_prices.specs.Forced.{AreForcedOf, AreRowsUnder, row_cost, truck_cost_at};
@@ -59,7 +59,7 @@ fn all_chains(
     rows: &[Row],
 ) -> Result<ForcedClasses, NoMemory>
     requires same { instance.now ≡ allowed.now.problem }
-    requires whole { IsWhole allowed.now.problem allowed.now.network }
+    requires whole { IsWholeNetwork allowed.now.problem allowed.now.network }
     requires classes { classes ≡ class_count allowed.now.network }
     requires rows { length rows.now ≡ length instance.now.shipments }
     requires under { (sides : List Side) × AreRowsUnder allowed.now sides rows.now }
@@ -85,7 +85,7 @@ pub(crate) fn forced_classes(
     forced: bool,
 ) -> Result<ForcedClasses, NoMemory>
     requires same { instance.now ≡ allowed.now.problem }
-    requires whole { IsWhole allowed.now.problem allowed.now.network }
+    requires whole { IsWholeNetwork allowed.now.problem allowed.now.network }
     requires classes { classes ≡ class_count allowed.now.network }
     requires rows { length rows.now ≡ length instance.now.shipments }
     requires under { (sides : List Side) × AreRowsUnder allowed.now sides rows.now }
@@ -100,7 +100,7 @@ pub(crate) fn forced_classes(
 
 // What the trucks cost that the load of a class needs.
 fn class_base(instance: &Instance, network: &Network, forced: &ForcedClasses, class: u32) -> u128
-    requires whole { IsWhole instance.now network.now }
+    requires whole { IsWholeNetwork instance.now network.now }
     requires class { class < class_count network.now }
     requires loads { length forced.now.loads.items ≡ class_count network.now }
     requires fits { truck_cost_at instance.now network.now forced.now.loads.items class < 2 ^ 127 }
@@ -114,7 +114,7 @@ fn class_base(instance: &Instance, network: &Network, forced: &ForcedClasses, cl
 /// What the trucks of the forced chains cost, as few in each class as hold its load, in parts of a unit of money. Takes no
 /// memory.
 pub(crate) fn bases(instance: &Instance, network: &Network, forced: &ForcedClasses) -> u128
-    requires whole { IsWhole instance.now network.now }
+    requires whole { IsWholeNetwork instance.now network.now }
     requires loads { length forced.now.loads.items ≡ class_count network.now }
     requires row { length forced.now.row ≡ class_count network.now }
     requires fits { instance.now.scale * row_cost instance.now network.now forced.now.loads.items forced.now.row < 2 ^ 127 }

@@ -1,7 +1,7 @@
 ghost use Rattle.std.specs.Prelude.{ℕ, ◌≡◌, All, Bool, IfOk, List, length};
 ghost use Rattle.fp_model.specs.declared.parts.Leg.{Leg};
 ghost use Rattle.fp_longestarcs.specs.Networks.{class_count};
-ghost use Rattle.fp_longestarcs.specs.Whole.{IsWhole};
+ghost use Rattle.fp_longestarcs.specs.Whole.{IsWholeNetwork};
 ghost use Rattle.fp_prices.specs.Pricings.{IsPricing, IsRuleOf, TellsForced};
 ghost use Rattle.fp_prices.specs.Rows.{AreRowsOf};
 ghost use Rattle.fp_prices.specs.Tables.{AreTables, HasKind};
@@ -57,7 +57,7 @@ pub(crate) fn leaf_pricing<'a>(
     rows: &[Row],
     forced: &'a Row,
 ) -> Result<LeafPricing<'a>, NoMemory>
-    requires whole { IsWhole instance.now network.now }
+    requires whole { IsWholeNetwork instance.now network.now }
     requires tables { AreTables instance.now tables.now }
     requires kind { HasKind tables.now kind }
     requires rows { length rows.now ≡ length instance.now.shipments }

@@ -5,7 +5,7 @@ ghost use Rattle.fp_labels.specs.Graphs.{HasEnds};
 ghost use Rattle.fp_longestarcs.specs.Ascending.{ArePoints};
 ghost use Rattle.fp_lists.specs.Ascending.{place_in};
 ghost use Rattle.fp_longestarcs.specs.Networks.{class_count, point_count, points_in};
-ghost use Rattle.fp_longestarcs.specs.Whole.{IsWhole};
+ghost use Rattle.fp_longestarcs.specs.Whole.{IsWholeNetwork};
 ghost use Rattle.fp_allowed.specs.Listing.{class_at};
 ghost use Rattle.fp_prices.specs.Points.{AreFirstNodes, class_edge, class_edges, edges_of, last_node, next_edge, point_node};
 ghost use Rattle.fp_prices.specs.PointGraphs.{IsPointGraph};
@@ -37,7 +37,7 @@ impl PointGraph {
         instance: &Instance,
         network: &Network,
     ) -> Result<PointGraph, NoMemory>
-        requires whole { IsWhole instance.now network.now }
+        requires whole { IsWholeNetwork instance.now network.now }
         requires few { point_count network.now ≤ 65000 }
         ensures { IfOk result (IsPointGraph instance.now network.now) }
     {
@@ -87,7 +87,7 @@ fn all_edges(
     network: &Network,
     firsts: &[u32],
 ) -> Result<Vec<Edge>, NoMemory>
-    requires whole { IsWhole instance.now network.now }
+    requires whole { IsWholeNetwork instance.now network.now }
     requires few { point_count network.now ≤ 65000 }
     requires firsts { AreFirstNodes network.now firsts.now }
     ensures edges { IfOk result (λ edges. edges.items ≡ edges_of instance.now network.now) }
@@ -123,7 +123,7 @@ fn edges_of_classes(
     network: &Network,
     firsts: &[u32],
 ) -> Result<Vec<Edge>, NoMemory>
-    requires whole { IsWhole instance.now network.now }
+    requires whole { IsWholeNetwork instance.now network.now }
     requires few { point_count network.now ≤ 65000 }
     requires firsts { AreFirstNodes network.now firsts.now }
     ensures { IfOk result (λ edges. edges.items ≡ class_edges instance.now network.now) }
@@ -137,7 +137,7 @@ fn edges_of_classes(
 
 // The edge of the class with a number.
 fn edge_of_class(instance: &Instance, network: &Network, firsts: &[u32], class: u32) -> Edge
-    requires whole { IsWhole instance.now network.now }
+    requires whole { IsWholeNetwork instance.now network.now }
     requires few { point_count network.now ≤ 65000 }
     requires firsts { AreFirstNodes network.now firsts.now }
     requires class { class < class_count network.now }

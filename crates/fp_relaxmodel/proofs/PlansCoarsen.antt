@@ -20,7 +20,7 @@ use Rattle.fp_longestarcs.proofs.ClassCosts.{cost-classes}
 use Rattle.fp_tree.specs.Sides.{MeetsAll}
 use Rattle.fp_allowed.specs.Allowed.{PlanObeys, exit_of, is_allowed}
 use Rattle.fp_allowed.specs.Walks.{IsTimedWalk}
-use Rattle.fp_allowed.proofs.PlanClasses.{arcs_of-classes, plan-timed}
+use Rattle.fp_allowed.proofs.PlanClasses.{arcs_of-classes, plan_timed}
 use Rattle.fp_relaxmodel.specs.Relaxed.{CoarsensPlans, HasRoutes, IsRelaxedPlan, IsRelaxedWalk, coarsened}
 
 -- every leg meets no sides
@@ -83,7 +83,7 @@ pub relaxed-coarsened : (p : Problem) (windows : ℕ → ℕ → Option Window) 
     IsRelaxedPlan p windows points (coarsened p points d routes)
 relaxed-coarsened p windows points d routes h plan within =
     relaxed-from p windows points 0 p.shipments (coarsened p points d routes) (HasRoutes-coarsened p points d routes plan)
-    (plan-timed p windows points [] d routes h plan within (obeys-none p d routes))
+    (plan_timed p windows points [] d routes h plan within (obeys-none p d routes))
 
 -- routes coarsen into walks that cost no more
 pub cost-coarsened : (p : Problem) (points : ℕ → List ℕ) (d : ℕ) (routes : List (List Leg)) → cost p (coarsened p points d routes) ≤ cost p routes

@@ -8,7 +8,7 @@ ghost use Rattle.fp_flatnet.specs.Tables.{windows_in};
 ghost use Rattle.fp_flatnet.specs.Windows.{PlanLiesWithin};
 ghost use Rattle.fp_longestarcs.specs.Classes.{class_of};
 ghost use Rattle.fp_longestarcs.specs.Networks.{points_in};
-ghost use Rattle.fp_longestarcs.specs.Whole.{HasArcsOf, IsWhole};
+ghost use Rattle.fp_longestarcs.specs.Whole.{HasArcsOf, IsWholeNetwork};
 ghost use Rattle.fp_relaxmodel.specs.Relaxed.{CoarsensPlans, IsRelaxedPlan, coarsened};
 ghost use Rattle.fp_relaxmodel.specs.Stops.{leg_of};
 
@@ -84,7 +84,7 @@ pub fn coarsen(
     plan: &Plan,
 ) -> Result<RelaxedPlan, NoMemory>
     requires belongs { BelongsTo instance.now windows.now }
-    requires whole { IsWhole instance.now network.now }
+    requires whole { IsWholeNetwork instance.now network.now }
     requires plan { IsPlan instance.now 1 plan.now }
     requires within { PlanLiesWithin (windows_in windows.now) 1 plan.now }
     ensures exact { IfOk result (λ r.

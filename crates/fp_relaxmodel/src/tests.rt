@@ -4,7 +4,7 @@ ghost use Rattle.fp_model.specs.Routes.{ArcsExist};
 ghost use Rattle.fp_flatnet.specs.Belonging.{BelongsTo};
 ghost use Rattle.fp_flatnet.specs.Tables.{windows_in};
 ghost use Rattle.fp_flatnet.specs.Windows.{CoverPlans};
-ghost use Rattle.fp_longestarcs.specs.Whole.{IsWhole};
+ghost use Rattle.fp_longestarcs.specs.Whole.{IsWholeNetwork};
 ghost use Rattle.fp_relaxmodel.specs.Stops.{legs_of};
 
 use crate::{NoMemory, RelaxedPlan, Stop, TimedWalk, coarsen, groups, is_route, relaxed_cost};
@@ -101,7 +101,7 @@ fn relaxed(
 ) -> Result<(RelaxedPlan, u128, Vec<Vec<Member>>), NoMemory>
     requires belongs { BelongsTo instance.now windows.now }
     requires covers { CoverPlans instance.now (windows_in windows.now) }
-    requires whole { IsWhole instance.now network.now }
+    requires whole { IsWholeNetwork instance.now network.now }
     requires plan { IsPlan instance.now 1 plan.now }
 {
     let relaxed = coarsen(alloc, instance, windows, network, plan)?;

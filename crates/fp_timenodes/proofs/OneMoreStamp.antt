@@ -10,7 +10,7 @@ use Rattle.std.proofs.lemmas.List.Elements.{filter-append, All-append, All-take,
 use Rattle.fp_lists.proofs.Membership.{list_has-append}
 use Rattle.fp_timenodes.specs.declared.timelines.Stamp.{Stamp}
 use Rattle.fp_lists.specs.Membership.{list_has}
-use Rattle.fp_timenodes.specs.Stamps.{IsAscending, IsCut, AreUpTo, points_of, IncludesPoint}
+use Rattle.fp_timenodes.specs.Stamps.{IsAscending, AreUpTo, points_of, IncludesPoint, IsStampCut}
 use Rattle.fp_lists.proofs.Truth.{or_right_comm}
 use Rattle.fp_timenodes.proofs.StampPlaces.{StandsAt, stamp-of, has-stamp}
 use Rattle.fp_timenodes.proofs.StampSearch.{no_stamp}
@@ -55,8 +55,8 @@ IncludesPoint-there stamps at round there r q =
         (has-stamp stamps r w.place no_stamp w.within (omega (arith, w.until, leb-true round r parts.0)))
 
 -- no stamp is later than the round, and the time is no point: then the stamps before the cut are before the time
-pub IsCut-absent : (stamps : List Stamp) (at round cut : ℕ) → IsCut stamps at cut → AreUpTo round stamps → list_has (points_of stamps round) at ≡ false → AllWithin (λ (s : Stamp). s.at < at) stamps 0 cut
-IsCut-absent stamps at round cut c up absent k d from h =
+pub IsStampCut-absent : (stamps : List Stamp) (at round cut : ℕ) → IsStampCut stamps at cut → AreUpTo round stamps → list_has (points_of stamps round) at ≡ false → AllWithin (λ (s : Stamp). s.at < at) stamps 0 cut
+IsStampCut-absent stamps at round cut c up absent k d from h =
     ⊎_elim
     (λ (same : (get_or stamps k d).at ≡ at).
     let within : k < length stamps = omega (arith, c.within) in
@@ -66,7 +66,7 @@ IsCut-absent stamps at round cut c up absent k d from h =
     (cases_eq (get_or stamps k d).at at)
 
 -- a stamp that is put in between the earlier and the later keeps the stamps ascending
-pub IsAscending-insert : (stamps : List Stamp) (cut : ℕ) (s : Stamp) → IsCut stamps s.at cut → AllWithin (λ (t : Stamp). t.at < s.at) stamps 0 cut → IsAscending (insert stamps cut s)
+pub IsAscending-insert : (stamps : List Stamp) (cut : ℕ) (s : Stamp) → IsStampCut stamps s.at cut → AllWithin (λ (t : Stamp). t.at < s.at) stamps 0 cut → IsAscending (insert stamps cut s)
 IsAscending-insert stamps cut s c before i j d less h =
     ⊎_elim
     (λ (early : i < cut).

@@ -8,7 +8,7 @@ use Rattle.std.proofs.lemmas.List.{get_or-reverse, length-reverse, get_or-take, 
 use Rattle.fp_timenodes.specs.declared.timelines.Stamp.{Stamp}
 use Rattle.fp_timenodes.specs.Floor.{floor_point, next_point, IsNextPoint}
 use Rattle.fp_lists.specs.Membership.{list_has}
-use Rattle.fp_timenodes.specs.Stamps.{points_of, IsCut}
+use Rattle.fp_timenodes.specs.Stamps.{points_of, IsStampCut}
 use Rattle.fp_timenodes.proofs.Floors.{floor_below, floor_is}
 use Rattle.fp_timenodes.proofs.Nexts.{next_is}
 use Rattle.fp_timenodes.proofs.StampPlaces.{StandsAt, stamp-of, has-stamp}
@@ -49,12 +49,12 @@ found {X} p (x ∷ xs) d =
     }
 
 -- a stamp that is not after the time stands before the cut
-before-cut : (stamps : List Stamp) (at cut k : ℕ) → IsCut stamps at cut → k < length stamps → (get_or stamps k no_stamp).at ≤ at → k < cut
+before-cut : (stamps : List Stamp) (at cut k : ℕ) → IsStampCut stamps at cut → k < length stamps → (get_or stamps k no_stamp).at ≤ at → k < cut
 before-cut stamps at cut k c h le =
     ⊎_elim (λ (l : k < cut). l) (λ (l : cut ≤ k). absurd (omega (arith, c.after k no_stamp l h))) (cases_lt k cut)
 
 -- where no stamp before the cut is up to the round, no point is at or before the time
-none-until : (stamps : List Stamp) (at round cut : ℕ) → IsCut stamps at cut → ((k : ℕ) → k < cut → round < (get_or stamps k no_stamp).round) →
+none-until : (stamps : List Stamp) (at round cut : ℕ) → IsStampCut stamps at cut → ((k : ℕ) → k < cut → round < (get_or stamps k no_stamp).round) →
     (q : ℕ) → list_has (points_of stamps round) q ≡ true → at < q
 none-until stamps at round cut c none q there =
     let w : StandsAt stamps round q no_stamp = stamp-of stamps round q no_stamp there in
@@ -63,7 +63,7 @@ none-until stamps at round cut c none q there =
     (cases_lt at q)
 
 -- the last stamp before the cut that is up to the round gives the greatest point not after the time
-last-until : (stamps : List Stamp) (at round cut i : ℕ) → IsCut stamps at cut → i < cut → (get_or stamps i no_stamp).round ≤ round →
+last-until : (stamps : List Stamp) (at round cut i : ℕ) → IsStampCut stamps at cut → i < cut → (get_or stamps i no_stamp).round ≤ round →
     ((k : ℕ) → i < k → k < cut → round < (get_or stamps k no_stamp).round) → floor_point (points_of stamps round) 1 at ≡ (get_or stamps i no_stamp).at
 last-until stamps at round cut i c h le none =
     let it : ℕ = (get_or stamps i no_stamp).at in
@@ -85,7 +85,7 @@ last-until stamps at round cut i c h le none =
         (cases_lt k i)
 
 -- what is found backwards among the stamps before the cut, 0 where nothing is, is the greatest point not after the time
-pub found-until : (stamps : List Stamp) (at round cut : ℕ) → IsCut stamps at cut →
+pub found-until : (stamps : List Stamp) (at round cut : ℕ) → IsStampCut stamps at cut →
     unwrap_or (option_map (λ s. s.at) (find (λ s. nat_le s.round round) (reverse (take cut stamps)))) 0 ≡ floor_point (points_of stamps round) 1 at
 found-until stamps at round cut c = by-find (find up (reverse front)) (found up (reverse front) no_stamp)
   where
@@ -123,7 +123,7 @@ found-until stamps at round cut c = by-find (find up (reverse front)) (found up 
         ap (λ (t : Stamp). t.at) (sym same) ∙ sym (last-until stamps at round cut i c h le (λ k after within. late k within (w.before (cut - 1 - k) (omega arith))))
 
 -- the first stamp from the cut on that is up to the round gives the next point
-first-after : (stamps : List Stamp) (at round cut i : ℕ) → IsCut stamps at cut → cut ≤ i → i < length stamps → (get_or stamps i no_stamp).round ≤ round →
+first-after : (stamps : List Stamp) (at round cut i : ℕ) → IsStampCut stamps at cut → cut ≤ i → i < length stamps → (get_or stamps i no_stamp).round ≤ round →
     ((k : ℕ) → cut ≤ k → k < i → round < (get_or stamps k no_stamp).round) → IsNextPoint (points_of stamps round) at (Some (get_or stamps i no_stamp).at)
 first-after stamps at round cut i c from within le none = (
   has-stamp stamps round i no_stamp within le,
@@ -148,7 +148,7 @@ first-after stamps at round cut i c from within le none = (
         (cases_lt i k)
 
 -- what is found among the stamps from the cut on is the least point after the time
-pub found-after : (stamps : List Stamp) (at round cut : ℕ) → IsCut stamps at cut →
+pub found-after : (stamps : List Stamp) (at round cut : ℕ) → IsStampCut stamps at cut →
     option_map (λ s. s.at) (find (λ s. nat_le s.round round) (drop cut stamps)) ≡ next_point (points_of stamps round) at
 found-after stamps at round cut c = next_is (points_of stamps round) at (option_map (λ s. s.at) (find up (drop cut stamps))) (by-find (find up (drop cut stamps)) (found up (drop cut stamps) no_stamp))
   where
@@ -180,7 +180,7 @@ found-after stamps at round cut c = next_is (points_of stamps round) at (option_
         (λ k from before. late k from (w.before (k - cut) (omega (arith, before)))))
 
 -- a stamp at the time itself is the last before the cut
-last-at-time : (stamps : List Stamp) (at round cut : ℕ) → IsCut stamps at cut → (w : StandsAt stamps round at no_stamp) → w.place ≡ cut - 1
+last-at-time : (stamps : List Stamp) (at round cut : ℕ) → IsStampCut stamps at cut → (w : StandsAt stamps round at no_stamp) → w.place ≡ cut - 1
 last-at-time stamps at round cut c w =
     let l : w.place < cut = before-cut stamps at cut w.place c w.within (rw w.time (omega arith)) in
     ⊎_elim
@@ -190,7 +190,7 @@ last-at-time stamps at round cut c w =
     (cases_lt w.place (cut - 1))
 
 -- whether the time is a point shows at the last stamp before the cut
-pub has-at-cut : (stamps : List Stamp) (at round cut : ℕ) → IsCut stamps at cut → 0 < cut →
+pub has-at-cut : (stamps : List Stamp) (at round cut : ℕ) → IsStampCut stamps at cut → 0 < cut →
     list_has (points_of stamps round) at ≡ (nat_eq (get_or stamps (cut - 1) no_stamp).at at && nat_le (get_or stamps (cut - 1) no_stamp).round round)
 has-at-cut stamps at round cut c some =
     same_from_decides (list_has (points_of stamps round) at) (nat_eq last.at at && nat_le last.round round) (decides, there)
@@ -210,7 +210,7 @@ has-at-cut stamps at round cut c some =
     there h = subst (λ (n : ℕ). list_has (points_of stamps round) n ≡ true) h.0 (has-stamp stamps round (cut - 1) no_stamp (omega (arith, c.within)) h.1)
 
 -- and it is none where no stamp is before the cut
-pub none-at-cut : (stamps : List Stamp) (at round : ℕ) → IsCut stamps at 0 → list_has (points_of stamps round) at ≡ false
+pub none-at-cut : (stamps : List Stamp) (at round : ℕ) → IsStampCut stamps at 0 → list_has (points_of stamps round) at ≡ false
 none-at-cut stamps at round c =
     false_from_ne_true (list_has (points_of stamps round) at)
     (λ there. absurd (omega (arith, none-until stamps at round 0 c (λ k h. absurd (omega arith)) at there)))

@@ -14,7 +14,7 @@ use Rattle.fp_timenodes.specs.Floor.{HaveSamePoints}
 use Rattle.fp_lists.specs.Membership.{list_has}
 use Rattle.fp_timenodes.specs.Points.{IsPlace, times_at}
 use Rattle.fp_timenodes.specs.Stamps.{AreUpTo, IncludesPoint, points_of}
-use Rattle.fp_timenodes.specs.Timelines.{Show, StartAt, bare}
+use Rattle.fp_timenodes.specs.Timelines.{Show, StartAt, bare_timeline}
 use Rattle.fp_lists.proofs.Truth.{or_right_comm}
 use Rattle.fp_lists.proofs.Membership.{list_has-filter_push, list_has-append}
 use Rattle.fp_timenodes.proofs.TimelinePoints.{seen_as}

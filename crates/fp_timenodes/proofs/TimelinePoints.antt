@@ -10,7 +10,7 @@ use Rattle.fp_timenodes.specs.declared.places.AddedPoint.{AddedPoint}
 use Rattle.fp_timenodes.specs.declared.timelines.Stamp.{Stamp}
 use Rattle.fp_timenodes.specs.Floor.{HaveSamePoints}
 use Rattle.fp_lists.specs.Membership.{list_has}
-use Rattle.fp_timenodes.specs.Points.{TimePoints, IsValid, IsPlace, IsAddedPoint, times_at, added_at, points_at, greatest_round}
+use Rattle.fp_timenodes.specs.Points.{TimePoints, IsPlace, IsAddedPoint, times_at, added_at, points_at, greatest_round, HasValidPoints}
 use Rattle.fp_timenodes.specs.Stamps.{points_of}
 use Rattle.fp_timenodes.specs.Timelines.{Show}
 use Rattle.fp_timenodes.specs.declared.places.TheConstants.{LATEST}
@@ -46,7 +46,7 @@ kept-in-time kept at latest (x ∷ xs) q all h =
     (cases_Bool (kept x))
 
 -- no point is later than the latest time
-pub points_at_latest : (v : TimePoints) (terminal round q : ℕ) → IsValid v → list_has (points_at v terminal round) q ≡ true → q ≤ LATEST
+pub points_at_latest : (v : TimePoints) (terminal round q : ℕ) → HasValidPoints v → list_has (points_at v terminal round) q ≡ true → q ≤ LATEST
 points_at_latest v terminal round q valid h =
     let firsts : List ℕ = times_at v.first terminal in
     let others : List ℕ = added_at v.added terminal round in

@@ -50,7 +50,7 @@ abbrev pub IsAddedPoint : ℕ → AddedPoint → Type 0
 IsAddedPoint terminals p = (p.terminal < terminals) × (p.at ≤ LATEST) × (1 ≤ p.round)
 
 -- what is true of all points that there are
-pub record IsValid (v : TimePoints) : Type 0 where
+pub record HasValidPoints (v : TimePoints) : Type 0 where
   pub first : All (IsPlace v.terminals) v.first
   pub added : All (IsAddedPoint v.terminals) v.added
   pub rounds : IsNonDecreasingBy (λ (p : AddedPoint). p.round) v.added

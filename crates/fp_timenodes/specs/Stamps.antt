@@ -17,7 +17,7 @@ abbrev pub AreUpTo : ℕ → List Stamp → Type 0
 AreUpTo round stamps = All (λ (s : Stamp). s.round ≤ round) stamps
 
 -- so many of the stamps are not after the time, and the others follow them
-pub record IsCut (stamps : List Stamp) (at cut : ℕ) : Type 0 where
+pub record IsStampCut (stamps : List Stamp) (at cut : ℕ) : Type 0 where
   pub ascending : IsAscending stamps
   pub within : cut ≤ length stamps
   pub until : AllWithin (λ s. s.at ≤ at) stamps 0 cut

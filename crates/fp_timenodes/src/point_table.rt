@@ -2,8 +2,8 @@
 ghost use Rattle.std.specs.Prelude.{ℕ, ◌≡◌, ◌<◌, ◌≤◌, ◌↔◌, ◌++◌, [], ◌∷◌, All, IsTrue, IfOk, IfSome, OnErr, length, replicate};
 ghost use Rattle.fp_timenodes.specs.Floor.{floor_point, next_point, IsFloorPoint, IsNextPoint};
 ghost use Rattle.fp_lists.specs.Membership.{list_has};
-ghost use Rattle.fp_timenodes.specs.Points.{TimePoints, IsPlace, IsAddedPoint, IsValid, points_at, greatest_round};
-ghost use Rattle.fp_timenodes.specs.Timelines.{bare, StartAt};
+ghost use Rattle.fp_timenodes.specs.Points.{TimePoints, IsPlace, IsAddedPoint, points_at, greatest_round, HasValidPoints};
+ghost use Rattle.fp_timenodes.specs.Timelines.{StartAt, bare_timeline};
 
 use crate::NoMemory;
 use crate::places::{Added, AddedPoint, LATEST, Place};
@@ -93,7 +93,7 @@ impl Points {
     /// The points that were added, in the order of adding, and with rounds that do not fall.
     pub fn added(&self) -> &[AddedPoint]
         ensures same { result.now ≡ self.now.added }
-        ensures valid { IsValid self.now }
+        ensures valid { HasValidPoints self.now }
     {
         &self.added
     }
@@ -159,7 +159,7 @@ impl Points {
 
 // So many timelines of the point 0 alone.
 fn bare_timelines(alloc: Global, terminals: u32) -> Result<Vec<Timeline>, NoMemory>
-    ensures { IfOk result (λ t. t.items ≡ replicate terminals bare) }
+    ensures { IfOk result (λ t. t.items ≡ replicate terminals bare_timeline) }
 {
     let mut timelines = Vec::new(alloc);
     for _terminal in 0..terminals {

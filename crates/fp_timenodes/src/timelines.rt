@@ -2,7 +2,7 @@
 ghost use Rattle.std.specs.Prelude.{◌≡◌, [], ◌∷◌, false, IfOk, OnOk, OnErr, find, option_map, reverse, nat_le};
 ghost use Rattle.fp_timenodes.specs.Floor.{floor_point, next_point};
 ghost use Rattle.fp_lists.specs.Membership.{list_has};
-ghost use Rattle.fp_timenodes.specs.Stamps.{IsAscending, IsCut, points_of, AreUpTo, IncludesPoint};
+ghost use Rattle.fp_timenodes.specs.Stamps.{IsAscending, points_of, AreUpTo, IncludesPoint, IsStampCut};
 
 use crate::NoMemory;
 use std::alloc::Global;
@@ -136,7 +136,7 @@ fn last_by(stamps: &[Stamp], round: u32) -> Option<u32>
 // How many stamps are not after the time.
 fn count_until(stamps: &[Stamp], at: u32) -> usize
     requires { IsAscending stamps.now }
-    ensures { IsCut stamps.now at result }
+    ensures { IsStampCut stamps.now at result }
 {
     stamps.partition_point(|stamp| stamp.at <= at)
 }

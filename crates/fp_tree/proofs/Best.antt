@@ -8,7 +8,7 @@ use Rattle.fp_tree.specs.declared.layout.LeafState.{LeafState}
 use Rattle.fp_tree.specs.Trees.{Leaf}
 use Rattle.fp_tree.specs.Nodes.{Node, IsFirstLeast, closed_of, value_of}
 use Rattle.fp_tree.specs.Layout.{leaf_node}
-use Rattle.fp_tree.proofs.Joined.{with_states, length-with_states}
+use Rattle.fp_tree.proofs.JoinedNodes.{with_states, length-with_states}
 
 module _ {X : Type 0} (closed : X → Bool) (value : X → ℕ) where
   -- the best of the first n: none where all are closed, or else the first of least value

@@ -9,7 +9,7 @@ use Rattle.fp_tree.specs.declared.sides.Split.{Split}
 use Rattle.fp_tree.specs.Sides.{Fork}
 use Rattle.fp_tree.specs.Trees.{AreTrees, with_leaf}
 use Rattle.fp_tree.specs.Nodes.{Node, fork_of, divide_leaf}
-use Rattle.fp_tree.specs.Layout.{leaf_node, split_node, joined_nodes, AreMatched, IsSound}
+use Rattle.fp_tree.specs.Layout.{leaf_node, split_node, joined_nodes, AreMatched, IsSoundLayout}
 
 module _ {T : Type 0} where
   -- another state in place of one
@@ -38,12 +38,12 @@ module _ {T : Type 0} where
       ap (λ (ns : List (Node T)). split_node (record { split = split; tail = tail }) p ∷ ns) (joined-set kinds states payloads (suc k) s new change m is changed)
 
   -- what is sound stays so with another state in place of one
-  pub IsSound-set : (kinds : List Kind) (states : List (LeafState T)) (payloads : List T) (k : ℕ) (s : LeafState T) → IsSound kinds states payloads → IsSound kinds (set states k s) payloads
+  pub IsSound-set : (kinds : List Kind) (states : List (LeafState T)) (payloads : List T) (k : ℕ) (s : LeafState T) → IsSoundLayout kinds states payloads → IsSoundLayout kinds (set states k s) payloads
   IsSound-set kinds states payloads k s sound = record { tree = sound.tree; matched = AreMatched-set kinds states payloads k s sound.matched; few = sound.few }
 
   -- what the nodes are seen as with another state in place of the one that was read
   pub seen-set : (kinds : List Kind) (states : List (LeafState T)) (payloads : List T) (nodes : List (Node T)) (k : ℕ) (s new : LeafState T) (change : Node T → List (Node T)) →
-      joined_nodes kinds states payloads ≡ nodes → IsSound kinds states payloads → k < length states → s ≡ get_or states k s → change (leaf_node s) ≡ leaf_node new ∷ [] →
+      joined_nodes kinds states payloads ≡ nodes → IsSoundLayout kinds states payloads → k < length states → s ≡ get_or states k s → change (leaf_node s) ≡ leaf_node new ∷ [] →
       joined_nodes kinds (set states k new) payloads ≡ with_leaf fork_of change k nodes
   seen-set kinds states payloads nodes k s new change seen sound within is changed =
       joined-set kinds states payloads k s new change sound.matched (slice_get_read states (length states) k s refl within is) changed

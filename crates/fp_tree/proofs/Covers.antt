@@ -124,8 +124,8 @@ covers_pending {X} tails fork_of d routes apart (x ∷ nodes) (sides ∷ pending
         any)
 
 -- the leaves of a tree cover all
-pub covers : {X : Type 0} (tails : ℕ → ℕ) (fork_of : X → Option Fork) (nodes : List X) → HaveTails tails fork_of nodes → IsTree fork_of nodes → CoversAll tails (tree_leaves fork_of nodes)
-covers tails fork_of nodes told tree d routes apart =
+pub CoversAll-tree_leaves : {X : Type 0} (tails : ℕ → ℕ) (fork_of : X → Option Fork) (nodes : List X) → HaveTails tails fork_of nodes → IsTree fork_of nodes → CoversAll tails (tree_leaves fork_of nodes)
+CoversAll-tree_leaves tails fork_of nodes told tree d routes apart =
     covers_pending tails fork_of d routes apart nodes ([] ∷ []) told tree (inl (λ k. every (slice_index_or routes k [])))
   where
     every : (xs : List Exit) → AllByRecursion (λ (e : Exit). Unit {0}) xs

@@ -8,9 +8,9 @@ use Rattle.fp_tree.specs.declared.layout.LeafState.{LeafState}
 use Rattle.fp_tree.specs.declared.sides.Split.{Split}
 use Rattle.fp_tree.specs.Trees.{with_leaf}
 use Rattle.fp_tree.specs.Nodes.{Node, fork_of, divide_leaf}
-use Rattle.fp_tree.specs.Layout.{fork_of_kind, leaf_node, joined_nodes, AreMatched, IsSound, IsPlaceOfLeaf}
-use Rattle.fp_tree.proofs.Joined.{count_by-kinds}
-use Rattle.fp_tree.proofs.Changes.{Cut, cut, AreMatched-append, AreTrees-divided, joined-divided}
+use Rattle.fp_tree.specs.Layout.{fork_of_kind, leaf_node, joined_nodes, AreMatched, IsPlaceOfLeaf, IsSoundLayout}
+use Rattle.fp_tree.proofs.JoinedNodes.{count_by-kinds}
+use Rattle.fp_tree.proofs.StateChanges.{Cut, cut, AreMatched-append, AreTrees-divided, joined-divided}
 
 -- an insert between two parts
 pub insert_at : {X : Type 0} (front back : List X) (n : ℕ) (x : X) → length front ≡ n → insert (front ++ back) n x ≡ front ++ x ∷ back
@@ -58,7 +58,7 @@ module _ {T : Type 0} where
 
   -- the lists are sound, and seen as the nodes
   pub record IsSeen (kinds : List Kind) (states : List (LeafState T)) (payloads : List T) (nodes : List (Node T)) : Type 0 where
-    pub sound : IsSound kinds states payloads
+    pub sound : IsSoundLayout kinds states payloads
     pub seen : joined_nodes kinds states payloads ≡ nodes
 
   -- the same of equal lists

@@ -8,12 +8,12 @@ use Rattle.fp_tree.specs.declared.layout.LeafState.{LeafState}
 use Rattle.fp_tree.specs.declared.sides.Side.{Side}
 use Rattle.fp_tree.specs.Trees.{Leaf, IsTree, tree_leaves, tree_splits}
 use Rattle.fp_tree.specs.Nodes.{Node, fork_of, split_of, split_count, leaf_count, leaf_at, split_at, value_of, closed_of, IsFirstLeast, IsBestOpen}
-use Rattle.fp_tree.specs.Layout.{fork_of_kind, is_leaf_kind, split_of_kind, leaf_node, joined_nodes, IsSound}
-use Rattle.fp_tree.proofs.Best.{IsFirstLeast-with_states, All-with_states}
-use Rattle.fp_tree.proofs.Changes.{AreMatched-set}
-use Rattle.fp_tree.proofs.Joined.{with_states, leaves_of-joined, AreTrees-joined, length-leaves_of-kinds, length-states, length-joined, tree_splits-joined, split_count-joined, slice_get-joined, slice_get-with_states, sides-with_states, length-with_states, count_by-kinds}
+use Rattle.fp_tree.specs.Layout.{fork_of_kind, is_leaf_kind, split_of_kind, leaf_node, joined_nodes, IsSoundLayout}
+use Rattle.fp_tree.proofs.BestLeaf.{IsFirstLeast-with_states, All-with_states}
+use Rattle.fp_tree.proofs.StateChanges.{AreMatched-set}
+use Rattle.fp_tree.proofs.JoinedNodes.{with_states, leaves_of-joined, AreTrees-joined, length-leaves_of-kinds, length-states, length-joined, tree_splits-joined, split_count-joined, slice_get-joined, slice_get-with_states, sides-with_states, length-with_states, count_by-kinds}
 
-module _ {T : Type 0} (kinds : List Kind) (states : List (LeafState T)) (payloads : List T) (nodes : List (Node T)) (seen : joined_nodes kinds states payloads ≡ nodes) (sound : IsSound kinds states payloads) where
+module _ {T : Type 0} (kinds : List Kind) (states : List (LeafState T)) (payloads : List T) (nodes : List (Node T)) (seen : joined_nodes kinds states payloads ≡ nodes) (sound : IsSoundLayout kinds states payloads) where
   -- the nodes are one tree
   pub IsTree-seen : IsTree fork_of nodes
   IsTree-seen = subst (λ (ns : List (Node T)). IsTree fork_of ns) seen (AreTrees-joined kinds states payloads 1 sound.matched sound.tree)

@@ -31,7 +31,7 @@ pub record IsPlaceOfLeaf (kinds : List Kind) (k place : ℕ) : Type 0 where
 
 module _ {T : Type 0} where
   -- The leaf isn't closed, and has less value than the best so far.
-  pub record IsBetter (states : List (LeafState T)) (leaf : ℕ) (best : Option ℕ) : Type 0 where
+  pub record IsBetterLeaf (states : List (LeafState T)) (leaf : ℕ) (best : Option ℕ) : Type 0 where
     pub is_open : HoldsAt (λ s. s.closed ≡ false) states leaf
     pub less : IfSome best (λ b. (d : LeafState T) → (slice_index_or states leaf d).value < (slice_index_or states b d).value)
 
@@ -63,7 +63,7 @@ module _ {T : Type 0} where
   AreMatched (DividedKind split tail ∷ kinds) states (p ∷ payloads) = AreMatched kinds states payloads
 
   -- The kinds are a tree of at most 100,000 splits, with all that its nodes have.
-  pub record IsSound (kinds : List Kind) (states : List (LeafState T)) (payloads : List T) : Type 0 where
+  pub record IsSoundLayout (kinds : List Kind) (states : List (LeafState T)) (payloads : List T) : Type 0 where
     pub tree : IsTree fork_of_kind kinds
     pub matched : AreMatched kinds states payloads
     pub few : length payloads ≤ 100000

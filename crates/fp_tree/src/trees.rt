@@ -34,11 +34,11 @@ impl<T> Model for Tree<T> {
 
     ghost Value = { List (Node T) };
 
-    ghost use Rattle.fp_tree.specs.Layout.{joined_nodes, IsSound};
+    ghost use Rattle.fp_tree.specs.Layout.{joined_nodes, IsSoundLayout};
 
     ghost view = { λ t. joined_nodes t.kinds.items t.states.items t.payloads.items };
 
-    ghost invariant = { λ t. IsSound t.kinds.items t.states.items t.payloads.items };
+    ghost invariant = { λ t. IsSoundLayout t.kinds.items t.states.items t.payloads.items };
 }
 
 impl<T: Drop> Tree<T> {

@@ -6,7 +6,7 @@ use Rattle.fp_model.specs.Numbered.{shipment_at}
 use Rattle.fp_model.specs.Problem.{arc_at, no_arc}
 use Rattle.fp_longestarcs.specs.Networks.{IsClass}
 use Rattle.fp_longestarcs.proofs.ClassNumbers.{number-within}
-use Rattle.fp_longestarcs.proofs.Lengthened.{arc-count}
+use Rattle.fp_longestarcs.proofs.HeadLists.{arc-count}
 use Rattle.fp_allowed.specs.Allowed.{IsOnly}
 use Rattle.fp_allowed.specs.Bits.{row_allows}
 use Rattle.fp_allowed.specs.Chains.{NoneLeaves, SeveralLeave}

@@ -1,7 +1,7 @@
 use Rattle.std.proofs.Common.{◌≡◌, ◌+◌, ◌-◌, refl, ap, ◌∙◌, get_or, arith}
 use Rattle.std.proofs.lemmas.Bool.{false≢true}
 use Rattle.fp_timenodes.specs.declared.places.AddedPoint.{AddedPoint}
-use Rattle.fp_checker.proofs.RoundCounts.{few-in_rounds, many-in_round}
+use Rattle.fp_acceptance.proofs.RoundCounts.{few-in_rounds, many-in_round}
 use Rattle.fp_checker.proofs.added_points.few_in_rounds.Goals as goal
 
 pub returns : goal.returns

@@ -1,7 +1,7 @@
 use Rattle.std.proofs.Common.{sym, ap, ◌∙◌}
 use Rattle.std.proofs.lemmas.Result.{err_from_is_err_and}
 use Rattle.fp_lines.specs.Statements.{Statement}
-use Rattle.fp_checker.proofs.Failing.{other-err}
+use Rattle.fp_checker.proofs.Results.{Err_any}
 use Rattle.fp_checker.proofs.FirstParts.{claim-failed, direct-failed, refusal-failed}
 use Rattle.fp_checker.proofs.checks.test_parts.Goals as goal
 
@@ -10,7 +10,7 @@ returns-in_err-tested_plan-in-Direct-clause-part c =
     let e = err_from_is_err_and c.from_residual.result c.from_residual.ensures.1 in
     rw (e.1, e.2) (λ number same.
     direct-failed c.args.instance.now c.args.windows.now c.args.certificate.now c.in-Direct.cost number (sym (ap (λ (s : Statement). s.answer) c.certificate.view_is) ∙ c.in-Direct.is)
-    (c.in_err-tested_plan-in-Direct.ensures.part number (other-err _ _ same)))
+    (c.in_err-tested_plan-in-Direct.ensures.part number (Err_any _ _ same)))
 
 pub returns-in-Optimal-clause-part : goal.returns-in-Optimal-clause-part
 returns-in-Optimal-clause-part c number same =

@@ -2,7 +2,7 @@ use Rattle.std.proofs.Common.{◌≡◌, ◌<◌, ◌*◌, length, get_or, ap, �
 use Rattle.std.proofs.lemmas.List.Sums.{sum_by_more_le}
 use Rattle.fp_model.specs.declared.parts.Arc.{Arc}
 use Rattle.fp_timetable.specs.declared.lines.TruckLine.{TruckLine}
-use Rattle.fp_checker.specs.Plans.{line_cost}
+use Rattle.fp_checker.specs.Lines.{line_cost}
 use Rattle.fp_checker.proofs.departures.trucks_cost.Goals as goal
 
 pub overflow_add-total : goal.overflow_add-total

@@ -1,6 +1,6 @@
 use Rattle.std.proofs.Common.{◌≡◌, take}
 use Rattle.std.specs.Prelude.{sum_by}
-use Rattle.fp_checker.specs.Plans.{line_cost}
+use Rattle.fp_checker.specs.Lines.{line_cost}
 use Rattle.fp_checker.proofs.departures.trucks_cost.Given as goal
 
 -- what the lines that were passed cost

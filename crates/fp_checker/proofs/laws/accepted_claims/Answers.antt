@@ -1,5 +1,5 @@
-use Rattle.fp_checker.proofs.Accepting.{accepted-claims}
-use Rattle.fp_checker.proofs.laws.accepted_claims.Goals as goal
+use Rattle.fp_acceptance.proofs.Claims.{AcceptedClaims_hold}
+use Rattle.fp_acceptance.proofs.laws.accepted_claims.Goals as goal
 
 pub returns : goal.returns
-returns c = accepted-claims
+returns c = AcceptedClaims_hold

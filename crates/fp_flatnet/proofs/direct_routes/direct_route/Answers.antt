@@ -6,7 +6,7 @@ use Rattle.fp_model.specs.Problem.{arc_at}
 use Rattle.fp_model.specs.Routes.{step as step_of}
 use Rattle.fp_flatnet.specs.Directs.{BeginsFirst, IsFirstBelow}
 use Rattle.fp_flatnet.specs.Distances.{time_at}
-use Rattle.fp_flatnet.proofs.Underway.{IsUnderway, underway-more, underway-end, ready-small, none-begins, time-falls}
+use Rattle.fp_flatnet.proofs.PartialRoutes.{IsUnderway, underway-more, underway-end, ready-small, none-begins, time-falls}
 use Rattle.fp_flatnet.proofs.direct_routes.direct_route.Goals as goal
 
 pub overflow_add-ready : goal.overflow_add-ready

@@ -15,7 +15,7 @@ use Rattle.fp_longestarcs.specs.Classes.{head_of}
 use Rattle.fp_longestarcs.specs.Networks.{TimedNetwork, points_in, tail_in, heads_in}
 use Rattle.fp_longestarcs.specs.Vectors.{network_of}
 use Rattle.fp_longestarcs.specs.Changes.{heads_with}
-use Rattle.fp_longestarcs.proofs.Written.{AreWritten, written-more, written-kept, written-all, list-kept}
+use Rattle.fp_longestarcs.proofs.VectorLists.{AreWritten, written-more, written-kept, written-all, list-kept}
 use Rattle.fp_longestarcs.proofs.copies.insert_copies.Goals as goal
 use Rattle.fp_longestarcs.proofs.copies.insert_copies.Goals.{then-tail-new, else-tail-new}
 

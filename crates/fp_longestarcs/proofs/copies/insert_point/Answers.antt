@@ -8,7 +8,7 @@ use Rattle.fp_lists.specs.Ascending.{place_in}
 use Rattle.fp_longestarcs.specs.Networks.{TimedNetwork, points_in}
 use Rattle.fp_longestarcs.specs.Vectors.{network_of}
 use Rattle.fp_lists.specs.Vectors.{lists_of}
-use Rattle.fp_longestarcs.specs.Changes.{points_with}
+use Rattle.fp_longestarcs.specs.Changes.{extended_points}
 use Rattle.fp_lists.proofs.Maps.{lists_of-get_or}
 use Rattle.fp_longestarcs.proofs.copies.insert_point.Goals as goal
 
@@ -21,7 +21,7 @@ returns c =
     let place = c.place_among-place.ensures.place ∙ ap (λ (l : List ℕ). place_in l at) c.list_at.ensures in
     let list : c.put.new.list.items ≡ insert (points_in net terminal) (place_in (points_in net terminal) at) at =
     c.put.ensures ∙ ap (λ (l : List ℕ). insert l c.place_among-place.result at) old ∙ ap (λ (k : ℕ). insert (points_in net terminal) k at) place in
-    let points : lists_of (set c.args.points.now terminal c.put.new.list) ≡ points_with net terminal at =
+    let points : lists_of (set c.args.points.now terminal c.put.new.list) ≡ extended_points net terminal at =
     map-set (λ (v : Vec ℕ Global). v.items) c.args.points.now terminal c.put.new.list ∙ ap (λ (l : List ℕ). set net.points terminal l) list in
     let of : List (List ℕ) → List (List ℕ) → TimedNetwork = λ qs hs. record { tails = c.args.tails.now; points = qs; heads = hs } in
-    ap (λ (l : List (List ℕ)). of l (lists_of c.insert_copies.new.heads)) points ∙ ap (λ (l : List (List ℕ)). of (points_with net terminal at) l) c.insert_copies.ensures
+    ap (λ (l : List (List ℕ)). of l (lists_of c.insert_copies.new.heads)) points ∙ ap (λ (l : List (List ℕ)). of (extended_points net terminal at) l) c.insert_copies.ensures

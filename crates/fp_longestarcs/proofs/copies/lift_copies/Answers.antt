@@ -12,7 +12,7 @@ use Rattle.fp_model.specs.Routes.{step}
 use Rattle.fp_longestarcs.specs.Networks.{TimedNetwork, points_in, tail_in, heads_in}
 use Rattle.fp_longestarcs.specs.Vectors.{network_of}
 use Rattle.fp_longestarcs.specs.Changes.{heads_to, lifted}
-use Rattle.fp_longestarcs.proofs.Written.{AreWritten, written-more, written-kept, written-all, list-kept}
+use Rattle.fp_longestarcs.proofs.VectorLists.{AreWritten, written-more, written-kept, written-all, list-kept}
 use Rattle.fp_longestarcs.proofs.copies.lift_copies.Goals as goal
 use Rattle.fp_longestarcs.proofs.copies.lift_copies.Goals.{then-arc-point, else-arc-point}
 

@@ -9,8 +9,8 @@ use Rattle.fp_model.specs.declared.parts.Shipment.{Shipment}
 use Rattle.fp_model.specs.Numbered.{no_shipment, shipment_at}
 use Rattle.fp_model.specs.Problem.{IsShipment, IsValid, Problem}
 use Rattle.fp_longestarcs.specs.Networks.{TimedNetwork, point_count, points_in}
-use Rattle.fp_longestarcs.specs.Whole.{IsWhole}
-use Rattle.fp_longestarcs.proofs.Grown.{points-of}
+use Rattle.fp_longestarcs.specs.Whole.{IsWholeNetwork}
+use Rattle.fp_longestarcs.proofs.NewPoints.{points-of}
 use Rattle.fp_prices.specs.PointGraphs.{IsPointGraph}
 use Rattle.fp_prices.specs.Points.{AreFirstNodes, edges_of, first_node, last_node, shape_of}
 use Rattle.fp_prices.proofs.GraphWalks.{AreCosts}
@@ -28,7 +28,7 @@ record AreEnds (net : TimedNetwork) (s : Shipment) (start end : ℕ) : Type 0 wh
   first : first_node net s.from < point_count net
   last : last_node net s.to < point_count net
 
-are-ends : (p : Problem) (net : TimedNetwork) (k : ℕ) (firsts : List ℕ) (taken : Shipment) (start end : ℕ) → IsValid p → IsWhole p net → k < length p.shipments → AreFirstNodes net firsts → taken ≡ shipment_at p k →
+are-ends : (p : Problem) (net : TimedNetwork) (k : ℕ) (firsts : List ℕ) (taken : Shipment) (start end : ℕ) → IsValid p → IsWholeNetwork p net → k < length p.shipments → AreFirstNodes net firsts → taken ≡ shipment_at p k →
     start ≡ get_or firsts taken.from start → end ≡ last_node net taken.to → AreEnds net (shipment_at p k) start end
 are-ends p net k firsts taken start end valid whole exists are same begin finish =
     let s : Shipment = shipment_at p k in

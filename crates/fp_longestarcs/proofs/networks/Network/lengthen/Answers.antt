@@ -6,8 +6,9 @@ use Rattle.fp_model.specs.Routes.{step}
 use Rattle.fp_longestarcs.specs.Networks.{TimedNetwork, point_count}
 use Rattle.fp_longestarcs.specs.Changes.{refined, restored}
 use Rattle.fp_longestarcs.proofs.PointCounts.{count-with}
-use Rattle.fp_longestarcs.proofs.Same.{lengthened-equal}
-use Rattle.fp_longestarcs.proofs.Shorter.{short-new, head-within, lengthened-arc}
+use Rattle.fp_longestarcs.proofs.EqualNetworks.{lengthened-equal}
+use Rattle.fp_longestarcs.proofs.ShortCopies.{head-within, lengthened-arc}
+use Rattle.fp_longestarcs.proofs.ShortCopies.{reach_is_new}
 use Rattle.fp_longestarcs.proofs.networks.Network.lengthen.Goals as goal
 
 -- what refining and restoring leave
@@ -20,7 +21,7 @@ lengthened p old finer net arc point step_length taken is long first then =
 
 pub refine-requires-clause-new : goal.refine-requires-clause-new
 refine-requires-clause-new c =
-    rw (c.arc-terminal.ensures.same, c.step_of.ensures.same) (short-new c.args.instance.now c.args.self.now c.args.arc c.args.point c.requires.whole c.requires.class c.requires.short)
+    rw (c.arc-terminal.ensures.same, c.step_of.ensures.same) (reach_is_new c.args.instance.now c.args.self.now c.args.arc c.args.point c.requires.whole c.requires.class c.requires.short)
 
 pub returns-clause-whole : goal.returns-clause-whole
 returns-clause-whole c =

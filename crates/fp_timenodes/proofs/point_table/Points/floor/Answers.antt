@@ -1,7 +1,7 @@
 -- The timeline of the terminal has its points.
 use Rattle.std.proofs.Common.{ℕ, sym, ◌∙◌, subst}
 use Rattle.fp_timenodes.specs.Floor.{IsFloorPoint}
-use Rattle.fp_timenodes.specs.Points.{TimePoints, IsValid, points_at}
+use Rattle.fp_timenodes.specs.Points.{TimePoints, points_at, HasValidPoints}
 use Rattle.fp_timenodes.specs.Stamps.{points_of}
 use Rattle.fp_timenodes.proofs.Floors.{IsFloorPoint-floor_point, floor_same}
 use Rattle.fp_timenodes.proofs.TimelinePoints.{points_at_latest, HaveSamePoints-timeline, list_has-zero}
@@ -21,5 +21,5 @@ returns-clause-greatest c =
 
 pub returns-clause-in_time : goal.returns-clause-in_time
 returns-clause-in_time c =
-    let valid = subst (λ (v : TimePoints). IsValid v) c.self.view_is c.self.invariant.valid in
+    let valid = subst (λ (v : TimePoints). HasValidPoints v) c.self.view_is c.self.invariant.valid in
     points_at_latest c.args.self.now c.args.terminal c.args.round c.floor.result valid (returns-clause-greatest c).0

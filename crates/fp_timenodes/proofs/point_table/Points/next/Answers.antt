@@ -3,7 +3,7 @@ use Rattle.std.proofs.Common.{◌∙◌, ◌≤◌, subst, sym}
 use Rattle.std.specs.Prelude.{ℕ, Option, Some, None, IfSome}
 use Rattle.fp_timenodes.specs.declared.places.TheConstants.{LATEST}
 use Rattle.fp_timenodes.specs.Floor.{IsNextPoint}
-use Rattle.fp_timenodes.specs.Points.{TimePoints, IsValid, points_at}
+use Rattle.fp_timenodes.specs.Points.{TimePoints, points_at, HasValidPoints}
 use Rattle.fp_timenodes.specs.Stamps.{points_of}
 use Rattle.fp_timenodes.proofs.Nexts.{IsNextPoint-next_point, next_same}
 use Rattle.fp_timenodes.proofs.TimelinePoints.{points_at_latest, HaveSamePoints-timeline}
@@ -27,4 +27,4 @@ returns-clause-in_time c =
   where
     at-some : (o : Option ℕ) → IsNextPoint (points_at c.args.self.now c.args.terminal c.args.round) c.args.at o → IfSome o (λ q. q ≤ LATEST)
     at-some None least = tt
-    at-some (Some q) least = points_at_latest c.args.self.now c.args.terminal c.args.round q (subst (λ (v : TimePoints). IsValid v) c.self.view_is c.self.invariant.valid) least.0
+    at-some (Some q) least = points_at_latest c.args.self.now c.args.terminal c.args.round q (subst (λ (v : TimePoints). HasValidPoints v) c.self.view_is c.self.invariant.valid) least.0

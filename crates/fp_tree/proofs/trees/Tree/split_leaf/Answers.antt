@@ -5,8 +5,8 @@ use Rattle.fp_tree.specs.Sides.{Fork}
 use Rattle.fp_tree.specs.Trees.{with_leaf}
 use Rattle.fp_tree.specs.Nodes.{divide_leaf, fork_of, open_leaf}
 use Rattle.fp_tree.specs.Layout.{is_leaf_kind, IsPlaceOfLeaf, leaf_node}
-use Rattle.fp_tree.proofs.Sound.{leaf_count-kinds, leaf_count-seen, one_more-seen, split_count-seen}
-use Rattle.fp_tree.proofs.Divided.{IsSeen, IsSeen-same, IsSeen-divided, splits_before-le}
+use Rattle.fp_tree.proofs.TreeNodes.{leaf_count-kinds, leaf_count-seen, one_more-seen, split_count-seen}
+use Rattle.fp_tree.proofs.LeafDivision.{IsSeen, IsSeen-same, IsSeen-divided, splits_before-le}
 use Rattle.fp_tree.proofs.trees.Tree.split_leaf.Given.{Over}
 use Rattle.fp_tree.proofs.trees.Tree.split_leaf.Goals as goal
 
