@@ -13,8 +13,8 @@ use Rattle.fp_tree.specs.declared.sides.Side.{Side}
 use Rattle.fp_allowed.specs.Allowed.{exit_of, is_allowed, meets_all, tails_of}
 use Rattle.fp_allowed.specs.Bits.{FillsArc, bit_of}
 use Rattle.fp_allowed.specs.Moments.{all_let, concerned, is_between, is_open}
-use Rattle.fp_allowed.proofs.Narrowing.{meets_all-concerned}
-use Rattle.fp_allowed.proofs.Opening.{allowed-between}
+use Rattle.fp_allowed.proofs.OpenMoments.{meets_all-concerned}
+use Rattle.fp_allowed.proofs.ClassesBetween.{allowed_between}
 
 -- the moments that the concerned sides leave open are those that meet all sides
 open-all : (p : Problem) (windows : ℕ → ℕ → Option Window) (k arc : ℕ) (sides own : List Side) (o : Option Window) → own ≡ concerned p k (tails_of p arc) sides →
@@ -38,7 +38,7 @@ module _ (p : Problem) (windows : ℕ → ℕ → Option Window) (net : TimedNet
       let there : list_has (points_in net (tails_of p c.arc)) c.depart ≡ true = subst (λ (t : ℕ). list_has (points_in net t) c.depart ≡ true) (tail-of p net c.arc whole.arcs in_arcs) class.1 in
       let opens : (m : ℕ) → is_open o m ≡ (is_open (windows k c.arc) m && meets_all k sides (exit_of p (record { arc = c.arc; depart = m }))) =
       subst (λ (a : ℕ). (m : ℕ) → is_open o m ≡ (is_open (windows k a) m && meets_all k sides (exit_of p (record { arc = a; depart = m })))) (sym arc_is) (open-all p windows k arc sides own o is same) in
-      let tells : is_between (points_in net (tails_of p c.arc)) o c.depart ≡ is_allowed p windows (points_in net) sides k c = allowed-between p windows (points_in net) sides k c o in_arcs there some opens in
+      let tells : is_between (points_in net (tails_of p c.arc)) o c.depart ≡ is_allowed p windows (points_in net) sides k c = allowed_between p windows (points_in net) sides k c o in_arcs there some opens in
       ap (λ (b : Bool). nat_eq c.arc arc && b) (ap (λ (a : ℕ). is_between (points_in net (tails_of p a)) o c.depart) (sym arc_is) ∙ tells))
       (λ (away : nat_eq c.arc arc ≡ false). rw away refl)
       (cases_Bool (nat_eq c.arc arc))

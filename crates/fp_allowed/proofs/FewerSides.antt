@@ -12,7 +12,7 @@ use Rattle.fp_tree.specs.declared.sides.Side.{Side}
 use Rattle.fp_tree.specs.Sides.{Exit}
 use Rattle.fp_allowed.specs.Allowed.{AreAmong, exit_of, is_allowed, meets, meets_all}
 use Rattle.fp_allowed.specs.Walks.{IsTimedWalk}
-use Rattle.fp_allowed.proofs.AllowedClasses.{HasMoment, is_allowed-from, is_allowed_parts}
+use Rattle.fp_allowed.proofs.AllowedClasses.{HasMoment, is_allowed_from, is_allowed_parts}
 
 -- no sides are among any
 pub AreAmong_none : (sides : List Side) → AreAmong [] sides
@@ -34,7 +34,7 @@ pub is_allowed_fewer : (p : Problem) (windows : ℕ → ℕ → Option Window) (
     is_allowed p windows points sides k c ≡ true → is_allowed p windows points fewer k c ≡ true
 is_allowed_fewer p windows points fewer sides k c among allowed =
     let parts = is_allowed_parts p windows points sides k c allowed in
-    is_allowed-from p windows points fewer k c parts.0 (has (windows k c.arc) parts.1)
+    is_allowed_from p windows points fewer k c parts.0 (has (windows k c.arc) parts.1)
   where
     has : (o : Option Window) → IsSomeAnd o (HasMoment p points sides k c) → IsSomeAnd o (HasMoment p points fewer k c)
     has None h = absurd h

@@ -12,7 +12,8 @@ use Rattle.fp_tree.specs.declared.sides.Side.{Side}
 use Rattle.fp_allowed.specs.Bits.{FillsArc, IsRowUnder, allowed_in, bit_of}
 use Rattle.fp_allowed.specs.Settings.{Setting}
 
--- the bits of the classes of the arcs before a number are those of a test, and the others are not set
+-- the bits of the classes of the arcs before a number are those of a test, and the others are not
+-- set
 pub record FilledBelow (net : TimedNetwork) (test : Leg → Bool) (arc : ℕ) (row : List Bool) : Type 0 where
   pub long : length row ≡ class_count net
   pub bits : (c : Leg) → IsClass net c → bit_of row (class_number net c) ≡ (nat_lt c.arc arc && test c)

@@ -1,4 +1,4 @@
-pub mod Meeting
+pub mod SideTests
 pub mod AllowedClasses
 pub mod SamePoints
 pub mod InitialPoints
@@ -7,22 +7,25 @@ pub mod ClassTimes
 pub mod PlanClasses
 pub mod ListedClasses
 pub mod RowClasses
-pub mod Narrowing
+pub mod OpenMoments
 pub mod RowBits
-pub mod Opening
-pub mod Filling
+pub mod ClassesBetween
+pub mod ClassRanges
 pub mod ArcRows
 pub mod FilledRows
-pub mod Counting
+pub mod CountsBelow
 pub mod MomentRows
-pub mod Departing
-pub mod Dividing
+pub mod DepartureCounts
+pub mod DepartureSums
+pub mod Slack
+pub mod BranchLimit
 pub mod FirstBits
 pub mod ArcExits
 pub mod TerminalExits
 pub mod ForcedSteps
-pub mod Picking
-pub mod Parting
-pub mod Choosing
-pub mod Chosen
-mod Worked
+pub mod ForcedWalks
+pub mod ArcPicks
+pub mod MiddleClasses
+pub mod SplitDepartures
+pub mod RowsUnderSides
+mod Examples

@@ -1,4 +1,5 @@
--- Over the same points, in whatever lists, the same classes are allowed, with the same heads and the same timed walks.
+-- Over the same points, in whatever lists, the same classes are allowed, with the same heads and
+-- the same timed walks.
 use Rattle.std.proofs.Common.{◌≡◌, ℕ, zero, suc, ◌+◌, ◌<◌, ◌≤◌, Bool, false, ◌&&◌, ◌||◌, List, [], ◌∷◌, length, ⊎_elim, refl, sym, ap, ◌∙◌, subst}
 use Rattle.std.specs.Prelude.{Option, Some, None, nat_eq, nat_le, nat_lt}
 use Rattle.std.proofs.lemmas.Bool.{and_left, cases_lt, le-ltb}

@@ -31,12 +31,14 @@ row_allows net row c =
 abbrev pub allowed_in : Setting → List Side → ℕ → Leg → Bool
 allowed_in s sides k c = is_allowed s.problem (windows_in s.windows) (points_in s.network) sides k c
 
--- the row of the shipment with the number k under sides: one bit per class, set exactly where the class is allowed
+-- the row of the shipment with the number k under sides: one bit per class, set exactly where the
+-- class is allowed
 pub record IsRowUnder (s : Setting) (sides : List Side) (k : ℕ) (row : List Bool) : Type 0 where
   pub long : length row ≡ class_count s.network
   pub exact : (c : Leg) → IsClass s.network c → bit_of row (class_number s.network c) ≡ allowed_in s sides k c
 
--- for every plan over any denominator that lies within the windows and obeys the sides, the classes of the shipment's legs are a timed walk over classes whose bits are set
+-- for every plan over any denominator that lies within the windows and obeys the sides, the classes
+-- of the shipment's legs are a timed walk over classes whose bits are set
 abbrev pub AllowsPlans : Setting → List Side → ℕ → List Bool → Type 0
 AllowsPlans s sides k row =
     (d : ℕ) (routes : List (List Leg)) → 1 ≤ d → IsPlan s.problem d routes → PlanLiesWithin (windows_in s.windows) d routes → PlanObeys s.problem d sides routes →

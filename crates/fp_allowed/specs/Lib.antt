@@ -8,6 +8,7 @@ pub mod Bits
 pub mod ForcedChains
 pub mod Chains
 pub mod Departures
+pub mod Slack
 pub mod Moments
 pub mod Leaving
 pub mod Choices

@@ -1,3 +1,5 @@
+//! The row of a shipment under sides: the bits of its allowed classes, arc by arc.
+
 ghost use Rattle.std.specs.Prelude.{ℕ, ◌≡◌, ◌≤◌, ◌<◌, ◌&&◌, Some, List, [], IfOk, IfSome, length, nat_eq, slice_index_or};
 ghost use Rattle.std.specs.declared.alloc.Global.{Global};
 ghost use Rattle.std.specs.declared.vec.Vec.{Vec};
@@ -16,7 +18,7 @@ ghost use Rattle.fp_allowed.specs.Moments.{AreByTerminal, all_let, concerned, is
 use crate::NoMemory;
 use crate::moments::{open_moments, shipment_of, terminal_of};
 use fp_flatnet::{Window, Windows};
-use fp_longestarcs::Network;
+use fp_longestarcs::{MOST_CLASSES, Network};
 use fp_model::Instance;
 use fp_rows::Row;
 use fp_tree::Side;
@@ -54,8 +56,8 @@ fn no_sides(alloc: Global, terminals: usize) -> Result<Vec<Vec<Side>>, NoMemory>
     Ok(lists)
 }
 
-// The moments at which a shipment can leave by an arc, where the sides are those that restrict its departures from the
-// arc's tail. They are consecutive.
+// The moments at which a shipment can leave by an arc, where the sides are those that restrict its
+// departures from the arc's tail. They are consecutive.
 fn open_window(windows: &Windows, shipment: u32, arc: u32, sides: &[Side]) -> Option<Window>
     requires shipment { shipment < length windows.now.rows }
     requires arc { arc < length windows.now.tails }
@@ -73,7 +75,7 @@ fn class_until(network: &Network, arc: u32, tail: u32, at: u32) -> u32
     requires arc { arc < length network.now.tails }
     requires tail { tail ≡ tail_in network.now arc }
     ensures number { result ≡ class_number network.now (record { arc = arc; depart = floor_point (points_in network.now tail) 1 at }) }
-    ensures below { result < 100001000 }
+    ensures below { result < MOST_CLASSES }
 {
     network.class(arc, network.floor(tail, at))
 }
@@ -92,8 +94,8 @@ fn fill_classes(network: &Network, arc: u32, tail: u32, window: Window, row: &mu
     row.fill_range(first, last + 1);
 }
 
-// Sets the bits of an arc's allowed classes, where the sides are those that restrict the shipment's departures from the
-// arc's tail.
+// Sets the bits of an arc's allowed classes, where the sides are those that restrict the shipment's
+// departures from the arc's tail.
 fn fill_arc(
     instance: &Instance,
     windows: &Windows,

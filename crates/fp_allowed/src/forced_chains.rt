@@ -1,3 +1,5 @@
+//! The forced chain of a shipment, class by class.
+
 ghost use Rattle.std.specs.Prelude.{ℕ, ◌≡◌, ◌<◌, IfOk, length};
 ghost use Rattle.fp_model.specs.Numbered.{shipment_at};
 ghost use Rattle.fp_longestarcs.specs.Networks.{class_count};

@@ -1,5 +1,6 @@
 -- What `check` shows.
 use Rattle.std.specs.Prelude.{ℕ, ◌≡◌, [], Option, Some, None}
+use Rattle.fp_model.specs.declared.limits.TheConstants.{SCALE}
 use Rattle.fp_model.specs.Problem.{Problem}
 use Rattle.fp_flatnet.specs.Belonging.{BelongsTo}
 use Rattle.fp_flatnet.specs.Tables.{WindowTable, windows_in}
@@ -22,9 +23,9 @@ answer_kind (answer.Optimal cost) = kind.Optimal
 answer_kind (answer.Unfinished cost bound spent) = kind.Unfinished
 answer_kind (answer.Infeasible shipment time) = kind.Infeasible
 
--- the scale that a certificate names, and 1,000,000 where it names none
+-- the scale that a certificate names, and the usual one where it names none
 abbrev pub scale_of : Option ℕ → ℕ
-scale_of None = 1000000
+scale_of None = SCALE
 scale_of (Some scale) = scale
 
 -- the instance with a certificate's scale
@@ -34,7 +35,7 @@ scaled p c = record p { scale = scale_of c.scale }
 -- the windows of the instance, without anchors
 pub record AreWindowsOf (p : Problem) (table : WindowTable) : Type 0 where
   pub exact : AreWindows p (windows_in table)
-  pub bare : table.anchors ≡ []
+  pub unanchored : table.anchors ≡ []
   pub belongs : BelongsTo p table
 
 -- the certificate is accepted for the instance and its windows
@@ -43,7 +44,8 @@ pub record IsAcceptedFor (p : Problem) (c : Statement) : Type 0 where
   pub windows : AreWindowsOf p table
   pub accepted : IsAccepted p table c
 
--- the certificate is accepted, its answer is of this kind, and what it claims of all plans, over every denominator, is true
+-- the certificate is accepted, its answer is of this kind, and what it claims of all plans, over
+-- every denominator, is true
 pub record ShowsAccepted (p : Problem) (c : Statement) (k : AnswerKind) : Type 0 where
   pub is_kind : k ≡ answer_kind c.answer
   pub accepted : IsAcceptedFor p c

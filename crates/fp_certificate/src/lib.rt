@@ -31,6 +31,3 @@ pub use reading::read;
 
 /// No memory was found.
 pub type NoMemory = std::alloc::AllocError;
-
-#[cfg(test)]
-mod tests;

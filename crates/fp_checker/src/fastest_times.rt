@@ -1,4 +1,4 @@
-// Whether a shipment can't arrive in time.
+//! Whether a shipment can't arrive in time.
 ghost use Rattle.std.specs.Prelude.{◌+◌, ◌<◌, ◌↔◌, IfOk, IfSome, IsTrue, length};
 ghost use Rattle.fp_model.specs.Numbered.{shipment_at};
 ghost use Rattle.fp_acceptance.specs.Accepted.{IsTooLate};

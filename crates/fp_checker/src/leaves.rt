@@ -1,4 +1,4 @@
-// What the leaves of a certificate's tree are worth.
+//! What the leaves of a certificate's tree are worth.
 ghost use Rattle.std.specs.Prelude.{◌≡◌, ◌≤◌, ◌↔◌, IfOk, IsTrue};
 ghost use Rattle.fp_flatnet.specs.Belonging.{BelongsTo};
 ghost use Rattle.fp_prices.specs.Tables.{AreTables, HasKind};

@@ -1,4 +1,4 @@
-// The order of lines.
+//! The order of lines.
 ghost use Rattle.std.specs.Prelude.{◌↔◌, IsTrue};
 ghost use Rattle.fp_lists.specs.Order.{Precedes};
 

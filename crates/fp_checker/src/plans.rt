@@ -1,4 +1,4 @@
-// The plan that the leg lines of a certificate tell.
+//! The plan that the leg lines of a certificate tell.
 ghost use Rattle.std.specs.Prelude.{ℕ, ◌≡◌, ◌+◌, ◌<◌, ◌≤◌, ◌↔◌, All, AllPairs, IfOk, IsSomeAnd, IsTrue, OnOk, [], length, replicate};
 ghost use Rattle.fp_lists.specs.Vectors.{lists_of};
 ghost use Rattle.fp_model.specs.Numbered.{route_at};

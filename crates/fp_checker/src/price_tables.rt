@@ -1,4 +1,4 @@
-// Whether tables of prices are in order.
+//! Whether tables of prices are in order.
 ghost use Rattle.std.specs.Prelude.{◌<◌, ◌↔◌, All, AllPairs, IsTrue};
 ghost use Rattle.fp_prices.specs.declared.tables.Weight.{Weight};
 ghost use Rattle.fp_prices.specs.Shares.{ClassShare};

@@ -1,4 +1,4 @@
-// Whether nodes are a tree.
+//! Whether nodes are a tree.
 ghost use Rattle.std.specs.Prelude.{◌≡◌, ◌↔◌, IsTrue, length};
 ghost use Rattle.fp_model.specs.Problem.{Problem};
 ghost use Rattle.fp_tree.specs.Trees.{IsTree, tree_splits};

@@ -15,7 +15,7 @@ use Rattle.fp_flatnet.proofs.OnwardTimes.{begun-least}
 use Rattle.fp_flatnet.proofs.LeastWalks.{IsLeastWalk, IsLeastTime-from_walk, IsLeastTime-unique}
 
 -- a direct route goes along a least walk
-pub direct-least : (p : Problem) (there here ready : ℕ) (legs : List Leg) → IsValid p → IsDirectRoute p there here ready legs → IsLeastWalk p here there (arcs_of legs)
+direct-least : (p : Problem) (there here ready : ℕ) (legs : List Leg) → IsValid p → IsDirectRoute p there here ready legs → IsLeastWalk p here there (arcs_of legs)
 direct-least p there here ready [] valid direct = record { leads = direct; least = λ others leads. omega arith }
 direct-least p there here ready (l ∷ legs) valid direct =
     let later : IsLeastWalk p (arc_at p l.arc).to there (arcs_of legs) = direct-least p there (arc_at p l.arc).to (ready + step p l.arc) legs valid direct.3 in
@@ -25,7 +25,7 @@ direct-least p there here ready (l ∷ legs) valid direct =
     }
 
 -- its legs leave at once
-pub direct-at_once : (p : Problem) (there here ready : ℕ) (legs : List Leg) → IsDirectRoute p there here ready legs → at_once p ready (arcs_of legs) ≡ legs
+direct-at_once : (p : Problem) (there here ready : ℕ) (legs : List Leg) → IsDirectRoute p there here ready legs → at_once p ready (arcs_of legs) ≡ legs
 direct-at_once p there here ready [] direct = refl
 direct-at_once p there here ready (l ∷ legs) direct =
     let leg : ℕ → ℕ → Leg = λ a n. record { arc = a; depart = n } in
@@ -33,7 +33,7 @@ direct-at_once p there here ready (l ∷ legs) direct =
     ap₂ (λ (k : Leg) (ks : List Leg). k ∷ ks) first (direct-at_once p there (arc_at p l.arc).to (ready + step p l.arc) legs direct.3)
 
 -- a direct route carries a shipment that is in time
-pub direct-carries : (p : Problem) (s : Shipment) (legs : List Leg) → IsValid p → s.from ≢ s.to → IsInTime p s → IsDirectRoute p s.to s.from s.release legs → Carries p 1 s legs
+direct-carries : (p : Problem) (s : Shipment) (legs : List Leg) → IsValid p → s.from ≢ s.to → IsInTime p s → IsDirectRoute p s.to s.from s.release legs → Carries p 1 s legs
 direct-carries p s legs valid ends in_time direct =
     let along : IsLeastWalk p s.from s.to (arcs_of legs) = direct-least p s.to s.from s.release legs valid direct in
     let time : walk_time p (arcs_of legs) ≡ in_time.0 =

@@ -61,7 +61,7 @@ BeginAt-first_places p anchors = record {
 }
 
 -- they are at terminals of the instance, and in time
-pub first_places-are : (p : Problem) (table : WindowTable) → BelongsTo p table → All (IsPlace (length p.terminals)) (first_places p table.anchors)
+first_places-are : (p : Problem) (table : WindowTable) → BelongsTo p table → All (IsPlace (length p.terminals)) (first_places p table.anchors)
 first_places-are p table belongs =
     All-append (IsPlace (length p.terminals)) (map release_place p.shipments ++ map due_place p.shipments) table.anchors
     (All-append (IsPlace (length p.terminals)) (map release_place p.shipments) (map due_place p.shipments)

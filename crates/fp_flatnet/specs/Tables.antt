@@ -6,7 +6,8 @@ use Rattle.fp_model.specs.declared.parts.Arc.{Arc}
 use Rattle.fp_timenodes.specs.declared.places.Place.{Place}
 use Rattle.fp_flatnet.specs.declared.window_tables.Window.{Window}
 
--- the tails of the arcs, for each shipment a row with each arc's window if there is one, and the anchors
+-- the tails of the arcs, for each shipment a row with each arc's window if there is one, and the
+-- anchors
 pub record WindowTable : Type 0 where
   pub tails : List ℕ
   pub rows : List (List (Option Window))

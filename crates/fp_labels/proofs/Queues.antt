@@ -125,9 +125,9 @@ pub record Pops (labels : List (Option Label)) (settled : List Bool) (rest : Lis
   pub stale : is_settled settled x.0.1 ≡ true → IsQueue labels settled rest
   pub fresh : is_settled settled x.0.1 ≡ false → SettlesNext labels settled (slice_set settled x.0.1 true) rest x.0.0 x.0.1
 
-pub pops : (labels : List (Option Label)) (settled : List Bool) (queue rest : List Entry) (x : Entry) → length settled ≡ length labels → IsQueue labels settled queue →
+pub IsQueue-pop : (labels : List (Option Label)) (settled : List Bool) (queue rest : List Entry) (x : Entry) → length settled ≡ length labels → IsQueue labels settled queue →
     IsPermutation queue (x ∷ rest) → PopsGreatest entry_cmp queue x rest → (IsHeap entry_cmp queue → IsUpperBound entry_cmp x rest) → Pops labels settled rest x
-pops labels settled queue rest x len queued perm popped top =
+IsQueue-pop labels settled queue rest x len queued perm popped top =
     let ordered : IsHeap entry_cmp rest = (popped queued.ordered).0 in
     record {
       inside = omega (arith, popped_inside labels settled queue rest x queued perm ordered);

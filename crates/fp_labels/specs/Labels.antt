@@ -27,7 +27,8 @@ pub record IsSimpleWalk (edges : List Edge) (costs : List (Option ℕ)) (here th
   pub goes : IsWalk edges costs here there walk cost
   pub apart : AreDistinct (nodes_on edges here walk)
 
--- each node has its distance from the start, and where there is a walk a walk of that cost that repeats no node
+-- each node has its distance from the start, and where there is a walk a walk of that cost that
+-- repeats no node
 pub record AreLabels (graph : Shape) (costs : List (Option ℕ)) (start : ℕ) (labels : Distances) : Type 0 where
   pub costs_len : length labels.costs ≡ graph.nodes
   pub walks_len : length labels.walks ≡ graph.nodes

@@ -10,6 +10,7 @@ use Rattle.fp_model.specs.declared.parts.Leg.{Leg}
 use Rattle.fp_model.specs.Problem.{Problem, arc_at}
 use Rattle.fp_timenodes.specs.declared.places.TheConstants.{LATEST}
 use Rattle.fp_lists.specs.Membership.{list_has}
+use Rattle.fp_longestarcs.specs.declared.networks.TheConstants.{MOST_CLASSES}
 use Rattle.fp_longestarcs.specs.Classes.{head_of}
 use Rattle.fp_longestarcs.specs.Ascending.{ArePoints}
 use Rattle.fp_lists.specs.Ascending.{IsCut, place_in}
@@ -115,7 +116,7 @@ few-copies points (tail ∷ tails) are =
         (cases_lt tail (length points))
 
 -- so all classes have numbers of 32 bits
-pub few-classes : (net : TimedNetwork) → IsNetwork net → class_count net ≤ 100001000
+pub few-classes : (net : TimedNetwork) → IsNetwork net → class_count net ≤ MOST_CLASSES
 few-classes net valid = omega (arith, few-copies net.points net.tails valid.points, valid.few)
 
 -- the last arc whose first class is not after a number is the arc of the class

@@ -16,7 +16,8 @@ use Rattle.fp_longestarcs.specs.Properties.{IsTimedArc, HasProperties}
 use Rattle.fp_lists.proofs.Membership.{list_has-get_or, StandsAt-from_list_has, StandsAt}
 use Rattle.fp_longestarcs.proofs.HeadLists.{whole-heads}
 
--- a timed arc of a whole network ends at the greatest point that is not after its start and the arc's step
+-- a timed arc of a whole network ends at the greatest point that is not after its start and the
+-- arc's step
 ends-greatest : (p : Problem) (net : TimedNetwork) (arc start end : ℕ) → IsWholeNetwork p net → IsTimedArc p net arc start end → end ≡ floor_point (points_in net (arc_at p arc).to) 1 (start + step p arc)
 ends-greatest p net arc start end whole timed =
     let head : ℕ → ℕ = λ q. head_of p (points_in net) (record { arc = arc; depart = q }) in

@@ -151,7 +151,8 @@ sum-lengths (l ∷ lists) g a each =
       sum-lengths lists g (a + 1) (λ k t h e. each (suc k) t (omega arith) (omega arith)),
     )
 
--- a network with the points as of a round has no more points than there are zeros, places of the start and added points
+-- a network with the points as of a round has no more points than there are zeros, places of the
+-- start and added points
 pub count-made : (v : TimePoints) (round : ℕ) (net : TimedNetwork) → IsNetwork net → ((terminal : ℕ) → terminal < length net.points → HaveSamePoints (points_in net terminal) (points_at v terminal round)) →
     point_count net ≤ length net.points + length v.first + length v.added
 count-made v round net valid same =

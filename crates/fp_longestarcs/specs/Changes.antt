@@ -13,7 +13,8 @@ use Rattle.fp_longestarcs.specs.Networks.{TimedNetwork, points_in, tail_in, head
 abbrev pub extended_points : TimedNetwork → ℕ → ℕ → List (List ℕ)
 extended_points net terminal at = slice_set net.points terminal (insert (points_in net terminal) (place_in (points_in net terminal) at) at)
 
--- the heads of an arc, with a copy from the new point at its greatest head where the arc leaves the terminal
+-- the heads of an arc, with a copy from the new point at its greatest head where the arc leaves the
+-- terminal
 abbrev pub heads_with : Problem → TimedNetwork → ℕ → ℕ → ℕ → List ℕ
 heads_with p net terminal at arc =
     if tail_in net arc == terminal
@@ -28,7 +29,8 @@ refined p net terminal at = record {
   heads = map (heads_with p net terminal at) (range_with_len 0 (length net.tails));
 }
 
--- the head of a copy that leaves at q, lifted to a time that it lies before and that the copy can reach with the arc's step
+-- the head of a copy that leaves at q, lifted to a time that it lies before and that the copy can
+-- reach with the arc's step
 abbrev pub lifted_head : ℕ → ℕ → ℕ → ℕ → ℕ
 lifted_head step at q head = if nat_lt head at && nat_le at (q + step) then at else head
 

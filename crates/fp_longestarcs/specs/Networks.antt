@@ -1,13 +1,15 @@
--- A partially time-expanded network: the points of each terminal, and a timed copy of each arc from each point of its tail.
--- The source: Boland, Hewitt, Marshall and Savelsbergh, "The Continuous-Time Service Network Design Problem", Operations
--- Research 65, 2017.
+-- A partially time-expanded network: the points of each terminal, and a timed copy of each arc from
+-- each point of its tail. The source: Boland, Hewitt, Marshall and Savelsbergh, "The
+-- Continuous-Time Service Network Design Problem", Operations Research 65, 2017.
 use Rattle.std.specs.Prelude.{ℕ, ◌+◌, ◌<◌, ◌≤◌, ◌≡◌, true, List, [], length, take, sum_by, slice_index, slice_index_or, All}
+use Rattle.fp_model.specs.declared.limits.TheConstants.{MOST_ARCS}
 use Rattle.fp_model.specs.declared.parts.Leg.{Leg}
 use Rattle.fp_lists.specs.Membership.{list_has}
 use Rattle.fp_longestarcs.specs.Ascending.{ArePoints}
 use Rattle.fp_lists.specs.Ascending.{place_in}
 
--- the tail of each arc, the points of each terminal, and for each arc the heads of its timed copies in the order of its tail's points
+-- the tail of each arc, the points of each terminal, and for each arc the heads of its timed copies
+-- in the order of its tail's points
 pub record TimedNetwork : Type 0 where
   pub tails : List ℕ
   pub points : List (List ℕ)
@@ -59,10 +61,11 @@ pub record IsArcOfClass (net : TimedNetwork) (class arc : ℕ) : Type 0 where
 abbrev pub point_count : TimedNetwork → ℕ
 point_count net = sum_by (λ (qs : List ℕ). length qs) net.points
 
--- what is true of every network: few arcs whose tails are terminals, and per arc as many heads as its tail has points
+-- what is true of every network: few arcs whose tails are terminals, and per arc as many heads as
+-- its tail has points
 pub record IsNetwork (net : TimedNetwork) : Type 0 where
   pub points : All ArePoints net.points
-  pub few : length net.tails ≤ 1000
+  pub few : length net.tails ≤ MOST_ARCS
   pub tails : All (λ tail. tail < length net.points) net.tails
   pub arcs : length net.heads ≡ length net.tails
   pub copies : (arc : ℕ) → arc < length net.tails → length (heads_in net arc) ≡ length (points_in net (tail_in net arc))

@@ -1,5 +1,6 @@
--- The four properties of a partially time-expanded network: Boland, Hewitt, Marshall and Savelsbergh, "The Continuous-Time
--- Service Network Design Problem", Operations Research 65, 2017; the fourth in this project's own form.
+-- The four properties of a partially time-expanded network: Boland, Hewitt, Marshall and
+-- Savelsbergh, "The Continuous-Time Service Network Design Problem", Operations Research 65, 2017;
+-- the fourth in this project's own form.
 use Rattle.std.specs.Prelude.{ℕ, ◌+◌, ◌<◌, ◌≤◌, ◌≡◌, List, length, All, true, slice_index}
 use Rattle.fp_model.specs.declared.parts.Shipment.{Shipment}
 use Rattle.fp_model.specs.Problem.{Problem, arc_at}

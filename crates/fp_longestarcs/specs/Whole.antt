@@ -1,5 +1,5 @@
--- Networks of an instance: those that have the timed copies of its arcs, those whose heads are the greatest, and those with
--- the points as of a round.
+-- Networks of an instance: those that have the timed copies of its arcs, those whose heads are the
+-- greatest, and those with the points as of a round.
 use Rattle.std.specs.Prelude.{ℕ, ◌<◌, ◌≡◌, List, length, map}
 use Rattle.std.specs.List.{range_with_len}
 use Rattle.fp_model.specs.declared.parts.Arc.{Arc}
@@ -26,7 +26,8 @@ pub record HasArcsOf (p : Problem) (net : TimedNetwork) : Type 0 where
   pub tails : net.tails ≡ arc_tails p.arcs
   pub terminals : length net.points ≡ length p.terminals
 
--- a network is whole for an instance: it has the timed copies of its arcs, and each head is the greatest
+-- a network is whole for an instance: it has the timed copies of its arcs, and each head is the
+-- greatest
 pub record IsWholeNetwork (p : Problem) (net : TimedNetwork) : Type 0 where
   pub valid : IsNetwork net
   pub arcs : HasArcsOf p net

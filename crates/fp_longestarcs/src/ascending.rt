@@ -1,3 +1,4 @@
+//! Look-ups among points in ascending order.
 ghost use Rattle.std.specs.Prelude.{◌≡◌};
 ghost use Rattle.fp_timenodes.specs.Floor.{floor_point};
 ghost use Rattle.fp_lists.specs.Membership.{list_has};

@@ -1,3 +1,4 @@
+//! The network of points and timed copies of arcs, and the calls on it.
 ghost use Rattle.std.specs.Prelude.{ℕ, ◌≡◌, ◌+◌, ◌<◌, ◌≤◌, false, true, IfOk, OnErr, OnOk, length};
 ghost use Rattle.fp_model.specs.Problem.{Problem, arc_at};
 ghost use Rattle.fp_model.specs.Routes.{step};
@@ -14,24 +15,30 @@ ghost use Rattle.fp_longestarcs.specs.Properties.{HasProperties};
 use crate::NoMemory;
 use crate::ascending::{floor_among, is_among};
 use crate::copies::{add_point, lift_copies};
-use crate::listing::{all_heads, all_tails, all_times, count_classes, step_of};
+use crate::listing::{all_heads, all_tails, all_times, count_classes};
 use crate::lists::{copied, list_at};
 use fp_lists::{count_until, place_among};
 use fp_model::Instance;
+use fp_model::limits::MOST_ARCS;
 use fp_timenodes::{LATEST, Place, Points};
 use std::alloc::Global;
 use std::marker::Model;
 
+/// The most classes of a network: one for each arc and each time up to [`LATEST`].
+pub const MOST_CLASSES: u32 = 100_001_000;
+
+const _: () = prove!(MOST_CLASSES as usize == MOST_ARCS * (LATEST as usize + 1));
+
 /// The points of each terminal, and for each arc a timed copy from each point of its tail.
 ///
-/// A contract sees the tails of the arcs, the points of each terminal in ascending order, and for each arc the heads
-/// of its timed copies in the order of its tail's points. A network is *whole* for an instance where it has the
-/// timed copies of the instance's arcs and each head is the greatest point of the arc's head that is not after the
-/// copy's point and the arc's step.
+/// A contract sees the tails of the arcs, the points of each terminal in ascending order, and for
+/// each arc the heads of its timed copies in the order of its tail's points. A network is *whole*
+/// for an instance where it has the timed copies of the instance's arcs and each head is the
+/// greatest point of the arc's head that is not after the copy's point and the arc's step.
 ///
-/// A terminal and an arc are numbers below their counts. A time to look up may be any number; a point of a terminal
-/// is at most [`LATEST`], in the input's unit. A look-up takes time that grows with the logarithm of a terminal's
-/// points or of the arcs, and no memory.
+/// A terminal and an arc are numbers below their counts. A time to look up may be any number; a
+/// point of a terminal is at most [`LATEST`], in the input's unit. A look-up takes time that grows
+/// with the logarithm of a terminal's points or of the arcs, and no memory.
 #[derive(Drop)]
 pub struct Network {
     tails: Vec<u32>,
@@ -52,8 +59,8 @@ impl Model for Network {
 }
 
 impl Network {
-    /// The whole network of the instance with the points as of the round, which may be any number. `points` has the
-    /// instance's number of terminals. `NoMemory` where memory is wanting.
+    /// The whole network of the instance with the points as of the round, which may be any number.
+    /// `points` has the instance's number of terminals. `NoMemory` only where no memory is found.
     pub fn of(
         alloc: Global,
         instance: &Instance,
@@ -103,8 +110,9 @@ impl Network {
         floor_among(self.points(terminal), at)
     }
 
-    /// The head that is kept for the class of the arc and the point, which is one of its tail's. In a whole network it
-    /// is the greatest point of the arc's head that is not after the point and the arc's step.
+    /// The head that is kept for the class of the arc and the point, which is one of its tail's. In
+    /// a whole network it is the greatest point of the arc's head that is not after the point and
+    /// the arc's step.
     pub fn head(&self, arc: u32, point: u32) -> u32
         requires { IsClass self.now (record { arc = arc; depart = point }) }
         ensures kept { result ≡ kept_head self.now (record { arc = arc; depart = point }) }
@@ -113,7 +121,8 @@ impl Network {
         list_at(&self.heads, arc)[self.place(arc, point)]
     }
 
-    /// How many classes there are, one for each arc and point of its tail: at most 100,001,000.
+    /// How many classes there are, one for each arc and point of its tail: at most
+    /// [`MOST_CLASSES`].
     pub fn classes(&self) -> u32
         ensures count { result ≡ class_count self.now }
         ensures valid { IsNetwork self.now }
@@ -121,8 +130,8 @@ impl Network {
         self.offsets[self.tails.len()]
     }
 
-    /// The number of the class of the arc and the point of its tail, which is one of its points. Classes are numbered
-    /// from 0, by arc and then by point.
+    /// The number of the class of the arc and the point of its tail, which is one of its points.
+    /// Classes are numbered from 0, by arc and then by point.
     pub fn class(&self, arc: u32, point: u32) -> u32
         requires { IsClass self.now (record { arc = arc; depart = point }) }
         ensures number { result ≡ class_number self.now (record { arc = arc; depart = point }) }
@@ -178,9 +187,10 @@ impl Network {
         (count_until(&self.offsets, class) - 1) as u32
     }
 
-    /// Adds a point that isn't there, at most [`LATEST`], with its outgoing copies at their greatest heads. All other
-    /// heads stay. The network has the timed copies of the instance's arcs. `NoMemory` where memory is wanting: then
-    /// nothing changes. Takes time that grows with the points of the terminal for each arc out of it, and with the arcs.
+    /// Adds a point that isn't there, at most [`LATEST`], with its outgoing copies at their
+    /// greatest heads. All other heads stay. The network has the timed copies of the instance's
+    /// arcs. `NoMemory` only where no memory is found: then nothing changes. Takes time that grows
+    /// with the points of the terminal for each arc out of it, and with the arcs.
     pub fn refine(
         &mut self,
         _alloc: Global,
@@ -205,10 +215,10 @@ impl Network {
         )
     }
 
-    /// Moves each head at the terminal that lies before `at`, and whose copy can reach `at`, to `at`. All else stays.
-    /// The network has the timed copies of the instance's arcs, and `at` is meant to be a point of the terminal, as
-    /// after `refine`. Takes no memory, and time that grows with the copies of the arcs into the terminal, and with
-    /// the arcs.
+    /// Moves each head at the terminal that lies before `at`, and whose copy can reach `at`, to
+    /// `at`. All else stays. The network has the timed copies of the instance's arcs, and `at` is
+    /// meant to be a point of the terminal, as after `refine`. Takes no memory, and time that grows
+    /// with the copies of the arcs into the terminal, and with the arcs.
     pub fn restore(&mut self, instance: &Instance, terminal: u32, at: u32)
         requires arcs { HasArcsOf instance.now self.old }
         ensures { self.new ≡ restored instance.now self.old terminal at }
@@ -222,9 +232,10 @@ impl Network {
         );
     }
 
-    /// Adds, at the head of an arc, the time that its copy from a point can reach, the point and the arc's step, and
-    /// answers that place. The network is whole for the instance and stays so; the copy's head lies before that time,
-    /// which is at most [`LATEST`]. `NoMemory` where memory is wanting: then nothing changes.
+    /// Adds, at the head of an arc, the time that its copy from a point can reach, the point and
+    /// the arc's step, and answers that place. The network is whole for the instance and stays so;
+    /// the copy's head lies before that time, which is at most [`LATEST`]. `NoMemory` only where no
+    /// memory is found: then nothing changes.
     pub fn lengthen(
         &mut self,
         alloc: Global,
@@ -245,13 +256,13 @@ impl Network {
         ensures err { OnErr result (self.new ≡ self.old) }
     {
         let terminal = instance.arc(arc).to;
-        let at = point + step_of(instance, arc);
+        let at = point + instance.step(arc);
         self.refine(alloc, instance, terminal, at)?;
         self.restore(instance, terminal, at);
         Ok(Place { terminal, at })
     }
 
-    /// An equal network. `NoMemory` where memory is wanting.
+    /// An equal network. `NoMemory` only where no memory is found.
     pub fn copy(&self, alloc: Global) -> Result<Network, NoMemory>
         ensures { IfOk result (λ net. net ≡ self.now) }
     {

@@ -27,6 +27,3 @@ pub use weights::weight;
 
 /// The error of a call that finds no memory.
 pub type NoMemory = std::alloc::AllocError;
-
-#[cfg(test)]
-mod tests;

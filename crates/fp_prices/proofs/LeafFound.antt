@@ -8,11 +8,10 @@ use Rattle.fp_model.specs.declared.parts.Leg.{Leg}
 use Rattle.fp_model.specs.Costs.{all_legs, departures_cost}
 use Rattle.fp_lists.specs.Numbered.{AllZipFrom}
 use Rattle.fp_model.specs.Problem.{IsValid, Problem, alone_total}
-use Rattle.fp_timenodes.specs.Points.{TimePoints, points_at}
 use Rattle.fp_flatnet.specs.Belonging.{BelongsTo}
 use Rattle.fp_flatnet.specs.Tables.{WindowTable, windows_in}
 use Rattle.fp_longestarcs.specs.Networks.{TimedNetwork, class_count, points_in}
-use Rattle.fp_longestarcs.specs.Whole.{IsNetworkOf, IsWholeNetwork}
+use Rattle.fp_longestarcs.specs.Whole.{IsWholeNetwork}
 use Rattle.fp_tree.specs.declared.sides.Side.{Side}
 use Rattle.fp_allowed.specs.Bits.{allowed_in}
 use Rattle.fp_allowed.specs.Settings.{IsSetting, Setting}
@@ -25,20 +24,33 @@ use Rattle.fp_prices.specs.declared.leaf_prices.Kind.{Kind}
 use Rattle.fp_prices.specs.ClassCosts.{AllowsClasses}
 use Rattle.fp_prices.specs.Forced.{AreForcedOf, AreRowsUnder, row_cost}
 use Rattle.fp_prices.specs.Found.{IsFoundAtLeaf, IsFoundOver, IsPricedLeaf}
-use Rattle.fp_prices.specs.Leaves.{BoundsPlans, IsBoundOf, IsChain, IsSmallBound, leaf_price}
+use Rattle.fp_prices.specs.FoundWalks.{AreLeastOver, AreWalksAtLeaf, IsEmptyAtLeaf, IsEmptyOver}
+use Rattle.fp_prices.specs.LeastWalks.{AreLeastWalks}
+use Rattle.fp_prices.specs.Leaves.{BoundsPlans, IsBoundOf, IsChain, IsLeafEmpty, IsSmallBound, leaf_price}
 use Rattle.fp_prices.specs.Prices.{AllKeepRule}
 use Rattle.fp_prices.specs.Pricings.{IsPricing, TellsForced}
+use Rattle.fp_prices.specs.Rounds.{IsLeafOver, LeafModel, RoundModel}
 use Rattle.fp_prices.specs.Rows.{AreRowsOf}
 use Rattle.fp_prices.specs.Shares.{ClassShare}
 use Rattle.fp_prices.proofs.BasesCost.{row_cost-chains}
 use Rattle.fp_prices.proofs.PlanBounds.{bounds-plans}
 use Rattle.fp_prices.proofs.PricedClasses.{alone-fits}
-use Rattle.fp_prices.proofs.SamePoints.{bound-same}
 use Rattle.fp_prices.proofs.SmallBounds.{bases-small, value-small}
 
 -- the instance, its windows and a network together
 abbrev pub setting_of : Problem → WindowTable → TimedNetwork → Setting
 setting_of p windows net = record { problem = p; windows = windows; network = net }
+
+-- a leaf as a contract sees it, of an instance, windows, a network and sides
+abbrev pub leaf_of : Problem → WindowTable → TimedNetwork → List Side → LeafModel
+leaf_of p windows net sides = record { setting = setting_of p windows net; sides = sides }
+
+pub leaf-is : (p : Problem) (windows : WindowTable) (sides : List Side) (r : RoundModel) (l : LeafModel) → r.problem ≡ p → l.setting ≡ setting_of r.problem windows r.network → l.sides ≡ sides → l ≡ leaf_of p windows r.network sides
+leaf-is p windows sides r l same setting own =
+    ap (λ (s : Setting). leaf_with s l.sides) (setting ∙ ap (λ (q : Problem). setting_of q windows r.network) same) ∙ ap (leaf_with (setting_of p windows r.network)) own
+  where
+    leaf_with : Setting → List Side → LeafModel
+    leaf_with s ss = record { setting = s; sides = ss }
 
 -- rows under sides have one bit per class
 pub rows-long : (s : Setting) (sides : List Side) (rows : List (List Bool)) → AreRowsUnder s sides rows → All (λ (row : List Bool). length row ≡ class_count s.network) rows
@@ -59,6 +71,18 @@ prepared p windows net sides rows others is_forced forced s is belongs whole und
   under = subst (λ (t : Setting). AreRowsUnder t sides rows) is under;
   forced_of = subst (λ (t : Setting). AreForcedOf t rows is_forced forced) is (subst (λ (l : List (List Bool)). AreForcedOf s l is_forced forced) same forced_of);
 }
+
+-- a leaf of a problem and a network is that of equal ones
+pub leaf_of-same : (p q : Problem) (windows : WindowTable) (net other : TimedNetwork) (sides : List Side) → p ≡ q → net ≡ other → leaf_of p windows net sides ≡ leaf_of q windows other sides
+leaf_of-same p q windows net other sides same same_net = ap (λ (r : Problem). leaf_of r windows net sides) same ∙ ap (λ (n : TimedNetwork). leaf_of q windows n sides) same_net
+
+-- so it is with what a leaf keeps
+pub prepared-leaf : (r : RoundModel) (windows : WindowTable) (sides : List Side) (rows : List (List Bool)) → IsLeafOver (leaf_of r.problem windows r.network sides) rows → (p : Problem) (net : TimedNetwork) → p ≡ r.problem → net ≡ r.network →
+    (others : List (List Bool)) → others ≡ rows → (s : Setting) → s ≡ setting_of r.problem windows r.network → (is_forced : Bool) (forced : ForcedClasses) → AreForcedOf s others is_forced forced → IsPrepared p windows net sides rows is_forced forced
+prepared-leaf r windows sides rows over p net same same_net others same_rows s is is_forced forced forced_of =
+    subst (λ (q : Problem). IsPrepared q windows net sides rows is_forced forced) (sym same)
+    (subst (λ (n : TimedNetwork). IsPrepared r.problem windows n sides rows is_forced forced) (sym same_net)
+    (prepared r.problem windows r.network sides rows others is_forced forced s is over.setting.belongs over.setting.whole (subst (λ (t : Setting). AreRowsUnder t sides rows) (sym is) over.under) same_rows forced_of))
 
 module _ (p : Problem) (windows : WindowTable) (net : TimedNetwork) (sides : List Side) (rows : List (List Bool)) (is_forced : Bool) (forced : ForcedClasses) (is : IsPrepared p windows net sides rows is_forced forced) where
   -- which classes are allowed for whom
@@ -149,12 +173,12 @@ module _ (p : Problem) (windows : WindowTable) (net : TimedNetwork) (sides : Lis
         (λ k. subst (λ (n : TimedNetwork). AllowsClasses n (allowed_of k)) (sym same_net) (allows-classes k)))))
         promised
 
-    -- the bound of the leaf with the points as of a round
-    pub bound-exact : (base : ℕ) (r : Result LeafBound AllocError) (v : TimePoints) (round : ℕ) → base ≡ p.scale * row_cost p net forced.loads.items forced.row → IsNetworkOf p v round net → IfOk r (IsFoundAtLeaf pricing rows base) →
-        IfOk r (IsBoundOf p (windows_in windows) (λ terminal. points_at v terminal round) sides tables kind is_forced)
-    bound-exact base r v round base_is of promised =
-        ok-weaker r (IsFoundOver p (points_in net) allowed_of (leaf_price p tables allowed_of kind chains_of) base) (IsBoundOf p (windows_in windows) (λ terminal. points_at v terminal round) sides tables kind is_forced)
-        (λ b found. bound-same p is.valid (windows_in windows) (points_in net) (λ terminal. points_at v terminal round) of.points sides tables kind is_forced b (found-bound base b base_is found)) (found-over base r promised)
+    -- the bound of the leaf over the network's points
+    pub bound-exact : (base : ℕ) (r : Result LeafBound AllocError) → base ≡ p.scale * row_cost p net forced.loads.items forced.row → IfOk r (IsFoundAtLeaf pricing rows base) →
+        IfOk r (IsBoundOf p (windows_in windows) (points_in net) sides tables kind is_forced)
+    bound-exact base r base_is promised =
+        ok-weaker r (IsFoundOver p (points_in net) allowed_of (leaf_price p tables allowed_of kind chains_of) base) (IsBoundOf p (windows_in windows) (points_in net) sides tables kind is_forced)
+        (λ b found. found-bound base b base_is found) (found-over base r promised)
 
     -- it bounds the plans
     pub bound-plans : (base : ℕ) (r : Result LeafBound AllocError) → base ≡ p.scale * row_cost p net forced.loads.items forced.row → AllKeepRule p tables → IfOk r (IsFoundAtLeaf pricing rows base) → IfOk r (BoundsPlans p (windows_in windows) sides)
@@ -166,3 +190,28 @@ module _ (p : Problem) (windows : WindowTable) (net : TimedNetwork) (sides : Lis
     pub bound-small : (base : ℕ) (r : Result LeafBound AllocError) → base ≡ p.scale * row_cost p net forced.loads.items forced.row → IfOk r (IsFoundAtLeaf pricing rows base) → IfOk r (IsSmallBound p)
     bound-small base r base_is promised =
         ok-weaker r (IsFoundOver p (points_in net) allowed_of (leaf_price p tables allowed_of kind chains_of) base) (IsSmallBound p) (λ b found. found-small base b base_is found) (found-over base r promised)
+
+    rows-there : AreRowsOf pricing.network.now allowed_of rows
+    rows-there = subst (λ (n : TimedNetwork). AreRowsOf n allowed_of rows) (sym same_net) rows-are
+
+    classes-there : (k : ℕ) → AllowsClasses pricing.network.now (allowed_of k)
+    classes-there k = subst (λ (n : TimedNetwork). AllowsClasses n (allowed_of k)) (sym same_net) (allows-classes k)
+
+    -- walks that are found at every leaf whose pricing this is are walks of least cost of this one
+    pub walks-found : (walks : List (List Leg)) → AreWalksAtLeaf pricing rows walks → AreLeastWalks p (windows_in windows) (points_in net) sides tables kind is_forced walks
+    walks-found walks promised = record {
+      chains = chains_of;
+      are_chains = chains-are;
+      are_least =
+          subst (λ (q : Problem). AreLeastOver q (points_in net) allowed_of (leaf_price q tables allowed_of kind chains_of) 0 q.shipments walks) same
+          (subst (λ (n : TimedNetwork). AreLeastOver pricing.instance.now (points_in n) allowed_of (leaf_price pricing.instance.now tables allowed_of kind chains_of) 0 pricing.instance.now.shipments walks) same_net
+          (promised tables allowed_of kind chains_of pricing-is rows-there classes-there));
+    }
+
+    -- and where every such leaf is empty, this one is
+    pub empty-found : IsEmptyAtLeaf pricing rows → IsLeafEmpty p (windows_in windows) (points_in net) sides
+    empty-found promised =
+        let empty =
+        subst (λ (q : Problem). IsEmptyOver q (points_in net) allowed_of) same
+        (subst (λ (n : TimedNetwork). IsEmptyOver pricing.instance.now (points_in n) allowed_of) same_net (promised tables allowed_of kind chains_of pricing-is rows-there classes-there)) in
+        record { shipment = empty.shipment; exists = empty.exists; none = empty.none }

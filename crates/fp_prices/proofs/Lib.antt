@@ -1,6 +1,7 @@
 pub mod LeafFound
 pub mod LeastSoFar
 pub mod ShipmentCosts
+pub mod WalksSoFar
 pub mod BasesCost
 pub mod SamePoints
 pub mod Searched
@@ -18,6 +19,9 @@ pub mod Users
 pub mod ForcedClasses
 pub mod ClassPrices
 pub mod LeafSums
+pub mod FlatBounds
+pub mod TableAppends
+pub mod EarnedLeaves
 pub mod WalkClasses
 pub mod PlanBounds
 pub mod PlanLeaves
@@ -26,6 +30,9 @@ pub mod SmallPrices
 pub mod SmallBounds
 mod Worked
 pub mod Nodes
+pub mod NodesMet
+pub mod OriginLabels
+pub mod WalkEdges
 pub mod PointEdges
 pub mod GraphWalks
 pub mod TimedInGraph

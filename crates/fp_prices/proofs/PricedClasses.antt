@@ -85,10 +85,8 @@ price-in_parts p net tables allowed Even users c k size count all price rule is 
 price-in_parts p net tables allowed (Table id) users c k size count all price rule is count_is all_is price_is = absurd rule
 
 -- the rate of an arc
-pub rate-at : (p : Problem) (rates : List ℕ) (a r : ℕ) → rates ≡ map (rate_of p.scale) p.arcs → a < length p.arcs → r ≡ get_or rates a r → r ≡ rate_of p.scale (arc_at p a)
-rate-at p rates a r are exists is =
-    let inside : a < length rates = omega (arith, exists, ap (λ (l : List ℕ). length l) are, length-map p.arcs (rate_of p.scale)) in
-    get_or_read rates a r inside is 0 ∙ ap (λ (l : List ℕ). get_or l a 0) are ∙ get_or-map (rate_of p.scale) p.arcs a no_arc 0 exists
+pub rate-at : (p : Problem) (rates : List ℕ) (a : ℕ) → rates ≡ map (rate_of p.scale) p.arcs → a < length p.arcs → get_or rates a 0 ≡ rate_of p.scale (arc_at p a)
+rate-at p rates a are exists = ap (λ (l : List ℕ). get_or l a 0) are ∙ get_or-map (rate_of p.scale) p.arcs a no_arc 0 exists
 
 -- the shares by which a rule prices are those of a table in order
 pub rule-shares : (p : Problem) (net : TimedNetwork) (tables : List (List ClassShare)) (allowed : ℕ → Leg → Bool) (kind : Kind) (shares : Bor (List Share)) (c : Leg) (k size : ℕ) (share : ClassShare) →

@@ -1,13 +1,17 @@
 -- A leaf is the same over other lists of the same points.
 use Rattle.std.proofs.Common.{◌≡◌, ℕ, ◌+◌, Bool, List, [], ◌∷◌, subst}
-use Rattle.std.specs.Prelude.{Option}
+use Rattle.std.specs.Prelude.{Option, IfOk, Result, Ok, Err}
 use Rattle.fp_lists.proofs.Numbered.{AllZipFrom-weaker}
+use Rattle.std.specs.declared.alloc.AllocError.{AllocError}
 use Rattle.fp_model.specs.declared.parts.Leg.{Leg}
 use Rattle.fp_model.specs.declared.parts.Shipment.{Shipment}
 use Rattle.fp_model.specs.Numbered.{shipment_at}
 use Rattle.fp_lists.specs.Numbered.{AllZipFrom}
 use Rattle.fp_model.specs.Problem.{IsValid, Problem}
 use Rattle.fp_flatnet.specs.declared.window_tables.Window.{Window}
+use Rattle.fp_timenodes.specs.Points.{TimePoints, points_at}
+use Rattle.fp_longestarcs.specs.Networks.{TimedNetwork, points_in}
+use Rattle.fp_longestarcs.specs.Whole.{IsNetworkOf}
 use Rattle.fp_tree.specs.declared.sides.Side.{Side}
 use Rattle.fp_allowed.specs.Allowed.{is_allowed}
 use Rattle.fp_allowed.specs.SamePoints.{AgreeOnPoints}
@@ -53,3 +57,9 @@ module _ (p : Problem) (valid : IsValid p) where
             (λ k s n. least-same points others same (is_allowed p windows points sides k) s (leaf_price p tables (is_allowed p windows points sides) kind is.chains k s.size) n) 0 p.shipments is.costs is.are_least);
         value_is = is.value_is;
       }
+
+  -- a bound over a network's points is one over the points as of its round
+  pub bound-as_of : (windows : ℕ → ℕ → Option Window) (v : TimePoints) (round : ℕ) (net : TimedNetwork) → IsNetworkOf p v round net → (sides : List Side) (tables : List (List ClassShare)) (kind : Kind) (forced : Bool) (r : Result LeafBound AllocError) →
+      IfOk r (IsBoundOf p windows (points_in net) sides tables kind forced) → IfOk r (IsBoundOf p windows (λ terminal. points_at v terminal round) sides tables kind forced)
+  bound-as_of windows v round net of sides tables kind forced (Err e) promised = tt
+  bound-as_of windows v round net of sides tables kind forced (Ok b) promised = bound-same windows (points_in net) (λ terminal. points_at v terminal round) of.points sides tables kind forced b promised

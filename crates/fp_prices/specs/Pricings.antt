@@ -38,7 +38,7 @@ pub record IsPricing (tables : List (List ClassShare)) (allowed : ℕ → Leg �
   pub valid : IsValid pricing.instance.now
   pub whole : IsWholeNetwork pricing.instance.now pricing.network.now
   pub keep : AllKeepRule pricing.instance.now tables
-  pub rates : pricing.rates.items ≡ map (rate_of pricing.instance.now.scale) pricing.instance.now.arcs
+  pub rates : pricing.rates.now ≡ map (rate_of pricing.instance.now.scale) pricing.instance.now.arcs
   pub rule : IsRuleOf pricing.instance.now pricing.network.now tables allowed kind pricing.rule
   pub forced : TellsForced pricing.network.now chains pricing.forced.now
 

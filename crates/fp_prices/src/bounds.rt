@@ -12,16 +12,14 @@ ghost use Rattle.fp_prices.specs.PointGraphs.{IsPointGraph};
 ghost use Rattle.fp_prices.specs.Tables.{AreTables, HasKind};
 
 use crate::NoMemory;
-use crate::bases::{bases, forced_classes};
 use crate::class_prices::LeafPricing;
 use crate::leaf_prices::LeafPrice;
-use crate::leaf_rules::leaf_pricing;
 use crate::least_costs::least_cost;
+use crate::leaves::Leaf;
 use crate::point_graphs::PointGraph;
+use crate::rounds::RoundNetwork;
 use crate::tables::Table;
-use fp_allowed::Allowed;
 use fp_flatnet::Windows;
-use fp_longestarcs::Network;
 use fp_model::Instance;
 use fp_rows::Row;
 use fp_timenodes::Points;
@@ -35,24 +33,6 @@ pub enum LeafBound {
     Empty { shipment: u32 },
     /// The leaf bound, in parts of a unit of money of which the instance's scale makes one.
     Value { value: u128 },
-}
-
-// The rows of all shipments under sides.
-fn all_rows(
-    alloc: Global,
-    instance: &Instance,
-    allowed: &Allowed,
-    sides: &[Side],
-) -> Result<Vec<Row>, NoMemory>
-    requires { instance.now ≡ allowed.now.problem }
-    ensures one_each { IfOk result (λ rows. length rows.items ≡ length instance.now.shipments) }
-    ensures under { IfOk result (λ rows. AreRowsUnder allowed.now sides.now rows.items) }
-{
-    let mut rows = Vec::new(alloc);
-    for shipment in 0..instance.shipments().len() as u32 {
-        rows.push(allowed.row(alloc, shipment, sides)?)?;
-    }
-    Ok(rows)
 }
 
 // The least cost of a shipment whose row this is, `None` exactly where it has no allowed timed walk. The costs of the
@@ -86,8 +66,8 @@ fn shipment_cost(
     )
 }
 
-// The bases and the least cost of each shipment, whose rows these are, or the first that has none.
-fn value_over(
+/// The bases and the least cost of each shipment, whose rows these are, or the first that has none.
+pub(crate) fn value_over(
     alloc: Global,
     pricing: &LeafPricing,
     graph: &PointGraph,
@@ -143,27 +123,7 @@ pub fn bound(
     ensures plans { IfOk result (BoundsPlans instance.now (windows_in windows.now) sides.now) }
     ensures small { IfOk result (IsSmallBound instance.now) }
 {
-    let network = Network::of(alloc, instance, points, price.round)?;
-    let allowed = Allowed::new(instance, windows, &network);
-    let rows = all_rows(alloc, instance, &allowed, sides)?;
-    let forced = forced_classes(
-        alloc,
-        instance,
-        &allowed,
-        network.classes(),
-        &rows,
-        price.forced,
-    )?;
-    let pricing = leaf_pricing(
-        alloc,
-        instance,
-        &network,
-        tables,
-        price.kind,
-        &rows,
-        &forced.row,
-    )?;
-    let graph = PointGraph::of(alloc, instance, &network)?;
-    let base = bases(instance, &network, &forced);
-    value_over(alloc, &pricing, &graph, &rows, base)
+    let network = RoundNetwork::of(alloc, instance, points, price.round)?;
+    let leaf = Leaf::of(alloc, &network, windows, sides)?;
+    leaf.bound(alloc, tables, price.kind, price.forced)
 }

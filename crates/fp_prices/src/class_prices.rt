@@ -29,7 +29,7 @@ pub(crate) enum Rule<'a> {
 pub(crate) struct LeafPricing<'a> {
     pub(crate) instance: &'a Instance,
     pub(crate) network: &'a Network,
-    pub(crate) rates: Vec<u128>,
+    pub(crate) rates: &'a [u128],
     pub(crate) rule: Rule<'a>,
     pub(crate) forced: &'a Row,
 }

@@ -11,24 +11,28 @@ mod bases;
 mod bounds;
 mod class_prices;
 mod class_users;
+mod class_walks;
 mod laws;
 mod leaf_prices;
 mod leaf_rules;
+mod leaf_walks;
 mod least_costs;
+mod leaves;
 mod point_graphs;
 mod price_rule;
+mod rounds;
 mod share_prices;
 mod share_searches;
 mod tables;
 
 pub use bounds::{LeafBound, bound};
+pub use class_walks::{ClassWalk, class_walk};
 pub use laws::{leaves_bound_plans, leaves_have_one_value};
 pub use leaf_prices::{Kind, LeafPrice};
+pub use leaves::Leaf;
 pub use price_rule::check_tables;
+pub use rounds::RoundNetwork;
 pub use tables::{Share, Table, TableFault, Weight};
 
 /// What a call that allocates can fail with.
 pub type NoMemory = std::alloc::AllocError;
-
-#[cfg(test)]
-mod tests;

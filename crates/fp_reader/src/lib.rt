@@ -22,6 +22,3 @@ pub use reading::{Read, Tail, instance};
 
 /// No memory was found.
 pub type NoMemory = std::alloc::AllocError;
-
-#[cfg(test)]
-mod tests;

@@ -14,6 +14,3 @@ pub use reading::{Record, records};
 
 /// The error of a call that finds no memory.
 pub type NoMemory = std::alloc::AllocError;
-
-#[cfg(test)]
-mod tests;

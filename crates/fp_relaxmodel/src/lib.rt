@@ -23,6 +23,3 @@ pub use terminals::is_route;
 
 /// The error of a call that finds no memory.
 pub type NoMemory = std::alloc::AllocError;
-
-#[cfg(test)]
-mod tests;

@@ -9,11 +9,8 @@ mod places;
 mod point_table;
 mod timelines;
 
-pub use places::{Added, AddedPoint, LATEST, Place};
+pub use places::{Added, AddedPoint, LATEST, MOST_POINTS, Place};
 pub use point_table::Points;
 
 /// The error of a call that finds no memory.
 pub type NoMemory = std::alloc::AllocError;
-
-#[cfg(test)]
-mod tests;

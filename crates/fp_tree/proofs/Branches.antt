@@ -101,7 +101,8 @@ module _ {X : Type 0} (fork_of : X → Option Fork) where
   length-branches_of nodes pending trees =
       sym (length-map (branches_of fork_of pending nodes) (λ (b : Branch X). b.node)) ∙ ap length (map-branches_of nodes pending trees)
 
-  -- where leaf number k is replaced by a tree, the splits of that tree stand where the leaf did, below the sides of the leaf, and the others stay
+  -- where leaf number k is replaced by a tree, the splits of that tree stand where the leaf did,
+  -- below the sides of the leaf, and the others stay
   pub branches_of-with_leaf : (change : X → List X) → ((x : X) → fork_of x ≡ None → IsTree fork_of (change x)) → (nodes : List X) (pending : List (List Side)) (k : ℕ) (l : Leaf X) →
       slice_get (leaves_of fork_of pending nodes) k ≡ Some l →
       branches_of fork_of pending (with_leaf fork_of change k nodes)
@@ -172,7 +173,8 @@ module _ {X : Type 0} (fork_of : X → Option Fork) where
       (branches_of-leaf l.sides [] (change l.node) [] (keeps l.node leaf))
       ∙ take-append-drop (splits_before fork_of k nodes) (branches_of fork_of pending nodes)
 
-  -- where it becomes a split with two leaves, that split has the sides of the leaf, and stands among the splits where the leaf stood
+  -- where it becomes a split with two leaves, that split has the sides of the leaf, and stands
+  -- among the splits where the leaf stood
   pub branches_of-divided_leaf : (change one two : X → X) (f : Fork) → ((x : X) → fork_of x ≡ None → (fork_of (change x) ≡ Some f) × (fork_of (one x) ≡ None) × (fork_of (two x) ≡ None)) →
       (nodes : List X) (pending : List (List Side)) (k : ℕ) (l : Leaf X) → slice_get (leaves_of fork_of pending nodes) k ≡ Some l → fork_of l.node ≡ None →
       branches_of fork_of pending (with_leaf fork_of (λ x. change x ∷ one x ∷ two x ∷ []) k nodes)
@@ -209,7 +211,8 @@ module _ {X : Type 0} (fork_of : X → Option Fork) where
       by_number (suc j) leaf again h = again j h
 
 module _ {T : Type 0} where
-  -- a leaf of a tree that is divided: its new split comes among the others, which stay, with the sides of the leaf
+  -- a leaf of a tree that is divided: its new split comes among the others, which stay, with the
+  -- sides of the leaf
   pub tree_branches-divide_leaf : (f : Fork) (one two : Node T) → fork_of_node one ≡ None → fork_of_node two ≡ None → (nodes : List (Node T)) (k : ℕ) (l : Leaf (Node T)) → leaf_at nodes k ≡ Some l →
       tree_branches fork_of_node (with_leaf fork_of_node (divide_leaf f one two) k nodes)
       ≡ insert (tree_branches fork_of_node nodes) (splits_before fork_of_node k nodes) (record { node = record { payload = l.node.payload; role = Divided f }; sides = l.sides })
@@ -217,7 +220,8 @@ module _ {T : Type 0} where
       branches_of-divided_leaf fork_of_node (λ n. record { payload = n.payload; role = Divided f }) (λ n. one) (λ n. two) f (λ n own. (refl, first_leaf, second_leaf)) nodes ([] ∷ []) k l is
       (fork_of-leaf fork_of_node nodes ([] ∷ []) k l is)
 
-  -- what holds of each split with its sides, and of the new one, holds of each after the leaf is divided
+  -- what holds of each split with its sides, and of the new one, holds of each after the leaf is
+  -- divided
   pub All-divide_leaf : (P : Branch (Node T) → Type 0) (f : Fork) (one two : Node T) → fork_of_node one ≡ None → fork_of_node two ≡ None → (nodes : List (Node T)) (k : ℕ) (l : Leaf (Node T)) → leaf_at nodes k ≡ Some l →
       All P (tree_branches fork_of_node nodes) → P (record { node = record { payload = l.node.payload; role = Divided f }; sides = l.sides }) →
       All P (tree_branches fork_of_node (with_leaf fork_of_node (divide_leaf f one two) k nodes))

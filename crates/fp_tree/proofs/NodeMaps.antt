@@ -1,4 +1,5 @@
--- Leaves, splits and tails of a tree whose nodes are mapped to others that split with the same sides.
+-- Leaves, splits and tails of a tree whose nodes are mapped to others that split with the same
+-- sides.
 use Rattle.std.proofs.Common.{◌≡◌, ℕ, zero, suc, cond, List, [], ◌∷◌, ◌++◌, ◌⊎◌, ⊎_elim, inl, inr, length, map, refl, sym, ap, ◌∙◌, subst}
 use Rattle.std.specs.Prelude.{Option, Some, None, IfSome, is_some, option_map}
 use Rattle.std.specs.List.{AllByRecursion}
@@ -12,7 +13,8 @@ use Rattle.fp_tree.specs.Trees.{AreTrees, Branch, HaveTails, Leaf, SplitAlike, b
 use Rattle.fp_tree.proofs.Branches.{branches_at, pending_below, trees_at}
 use Rattle.fp_tree.proofs.Walks.{leaves_at}
 
--- the tail of a split by an arc is the arc's, and that of a split by a time does not count: the second side is the same
+-- the tail of a split by an arc is the arc's, and that of a split by a time does not count: the
+-- second side is the same
 second_of_split_tails : (tails : ℕ → ℕ) (split : Split) (tail other : ℕ) → IsTailOfSplit tails split tail → IsTailOfSplit tails split other → second_of_split split tail ≡ second_of_split split other
 second_of_split_tails tails (ByArc shipment arc) tail other own its = ap (λ (n : ℕ). Only shipment arc n) (own ∙ sym its)
 second_of_split_tails tails (ByTime shipment terminal at) tail other own its = refl

@@ -5,7 +5,7 @@ use Rattle.fp_flatnet.specs.Tables.{windows_in}
 use Rattle.fp_allowed.specs.Allowed.{tails_of}
 use Rattle.fp_allowed.specs.Departures.{departures_below, departures_in}
 use Rattle.fp_allowed.specs.Moments.{concerned}
-use Rattle.fp_allowed.proofs.Departing.{departures_at, departures_away, departures_below-le, departures_in-le, windows_in_time}
+use Rattle.fp_allowed.proofs.DepartureCounts.{departures_at, departures_away, departures_below_le, departures_in_le, windows_in_time}
 use Rattle.fp_allowed.proofs.departures_left.departures.Goals as goal
 use Rattle.fp_allowed.proofs.departures_left.departures.Goals.{else-arc-terminal, then-arc-terminal}
 
@@ -36,9 +36,9 @@ overflow_add-total c =
     let own : c.deref.result.now ≡ concerned p k (tails_of p arc) sides =
     c.deref.ensures.value ∙ c.in_ok-own.ensures ∙ ap (λ (t : ℕ). concerned p k t sides) (sym here) in
     let by : c.departures_by-total.result ≡ departures_in p sides k arc (windows k arc) = c.departures_by-total.ensures.exact p sides own in
-    let so_far : c.loop-arc.total ≤ arc * 100001 = rw c.loop-arc.invariant.0 (departures_below-le p c.args.windows.now sides k c.args.terminal arc c.requires.belongs c.requires.shipment (omega arith)) in
+    let so_far : c.loop-arc.total ≤ arc * 100001 = rw c.loop-arc.invariant.0 (departures_below_le p c.args.windows.now sides k c.args.terminal arc c.requires.belongs c.requires.shipment (omega arith)) in
     let few : departures_in p sides k arc (windows k arc) ≤ 100001 =
-    departures_in-le p k arc sides (windows k arc) (windows_in_time p c.args.windows.now k arc c.requires.belongs c.requires.shipment exists) in
+    departures_in_le p k arc sides (windows k arc) (windows_in_time p c.args.windows.now k arc c.requires.belongs c.requires.shipment exists) in
     let arcs : length p.arcs ≤ 1000 = c.requires.belongs.valid.parts.few_arcs in
     let small = within c.loop-arc.total c.departures_by-total.result arc (length p.arcs) so_far (rw by few) exists arcs in
     omega (arith, small)

@@ -13,7 +13,7 @@ use Rattle.fp_allowed.specs.Chains.{NoneLeaves, SeveralLeave}
 use Rattle.fp_allowed.specs.Listing.{class_at}
 use Rattle.fp_allowed.proofs.ForcedSteps.{chain_alone, chain_met, chain_more, chain_reached, chain_several}
 use Rattle.fp_allowed.proofs.ListedClasses.{class_at-number}
-use Rattle.fp_allowed.proofs.RowClasses.{is_class-parts}
+use Rattle.fp_allowed.proofs.RowClasses.{is_class_parts}
 use Rattle.fp_allowed.proofs.forced_chains.forced_chain.Goals as goal
 
 pub returns-then-index : goal.returns-then-index
@@ -63,7 +63,7 @@ loop-here-preserved c =
     let unmet : get_or c.loop-here.met.items c.loop-here.here false ≡ false = sym (get_or_read c.loop-here.met.items c.loop-here.here c.index.result.now inside c.index.ensures false) ∙ c.if-index.false in
     let tells = c.in-One.ensures in
     let k : Leg = tells.0 in
-    let is : IsClass net k = (is_class-parts net c.args.row.now k tells.1.allowed_it).0 in
+    let is : IsClass net k = (is_class_parts net c.args.row.now k tells.1.allowed_it).0 in
     let only : IsOnly p allowed c.loop-here.here k = record {
       is_allowed = tells.1.allowed_it;
       leaves = tells.1.leaves;

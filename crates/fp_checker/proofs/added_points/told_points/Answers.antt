@@ -1,7 +1,7 @@
 use Rattle.std.proofs.Common.{Ok, ap, ◌∙◌, arith}
 use Rattle.std.proofs.lemmas.Bool.{false_from_ne_true}
-use Rattle.fp_acceptance.proofs.AddedPoints.{new-there, HaveAdded-greatest_round, HaveAdded_push, HaveAdded-has_point, HaveAdded-ArePointsOf, HaveAdded-AreAddedPoints}
-use Rattle.fp_checker.proofs.Results.{Part_injective}
+use Rattle.fp_acceptance.proofs.AddedPoints.{HaveAdded-greatest_round, HaveAdded_push, HaveAdded-list_has, HaveAdded-ArePointsOf, HaveAdded-AreAddedPoints}
+use Rattle.fp_checker.proofs.Results.{Part_injective, New-not_There}
 use Rattle.fp_checker.proofs.added_points.told_points.Goals as goal
 
 pub add-requires-clause-order : goal.add-requires-clause-order
@@ -12,7 +12,7 @@ add-requires-clause-order c =
 pub returns-in-There-clause-part : goal.returns-in-There-clause-part
 returns-in-There-clause-part c number same = (
   Part_injective 4 number same,
-  HaveAdded-has_point c.args.instance.now c.args.windows.now.anchors c.args.added.now c.loop-point.points c.loop-point.point-index _ c.loop-point.invariant (omega arith)
+  HaveAdded-list_has c.args.instance.now c.args.windows.now.anchors c.args.added.now c.loop-point.points c.loop-point.point-index _ c.loop-point.invariant (omega arith)
       (c.requires.range c.loop-point.point-index _ (omega arith)).terminal (c.add.ensures.there.0 (c.in_ok-add.was ∙ ap Ok c.in-There.is)),
 )
 
@@ -20,7 +20,7 @@ pub loop-point-preserved : goal.loop-point-preserved
 loop-point-preserved c =
     HaveAdded_push c.args.instance.now c.args.windows.now.anchors c.args.added.now c.loop-point.points c.add.new.self c.loop-point.point-index _ c.loop-point.invariant
     (c.rounds_ascend.ensures.0 c.if-not-rounds_ascend.false) (omega arith) (c.requires.range c.loop-point.point-index _ (omega arith)).terminal
-    (false_from_ne_true _ (λ there. new-there c.add.result c.in_ok-add.field-0 c.in_ok-add.was c.in-New.is (c.add.ensures.there.1 there)))
+    (false_from_ne_true _ (λ there. New-not_There c.add.result c.in_ok-add.field-0 c.in_ok-add.was c.in-New.is (c.add.ensures.there.1 there)))
     (c.add.ensures.new (c.in_ok-add.was ∙ ap Ok c.in-New.is))
 
 pub returns-clause-points : goal.returns-clause-points

@@ -58,8 +58,8 @@ loop-arc-preserved c =
           rw w.heads-is
           (written-more f c.args.heads.now c.loop-arc.heads arc w.put.new.list c.loop-arc.invariant (omega (arith, within, c.loop-arc.auto.heads))
           (w.put.ensures ∙
-          with-copy p net c.args.new.terminal c.args.new.at arc w.step_of.result w.floor_among-head.result c.place_among-place.result w.arc.result w.list_at-ends.result.now (get_or c.loop-arc.heads arc w.index-heads-arc.result).items
-          w.if-tail-new.true w.arc.ensures.same w.step_of.ensures.same w.list_at-ends.ensures w.floor_among-head.ensures old place))
+          with-copy p net c.args.new.terminal c.args.new.at arc w.step.result w.floor_among-head.result c.place_among-place.result w.arc.result w.list_at-ends.result.now (get_or c.loop-arc.heads arc w.index-heads-arc.result).items
+          w.if-tail-new.true w.arc.ensures.same w.step.ensures.same w.list_at-ends.ensures w.floor_among-head.ensures old place))
       | else-tail-new w ↦
           rw w.heads-is (written-kept f c.args.heads.now c.loop-arc.heads arc c.loop-arc.invariant within (without-copy p net c.args.new.terminal c.args.new.at arc w.if-tail-new.false))
     ]

@@ -9,8 +9,7 @@ use Rattle.fp_longestarcs.specs.Vectors.{AreOffsets, network_of}
 use Rattle.fp_lists.specs.Vectors.{lists_of}
 use Rattle.fp_longestarcs.specs.Whole.{heads_of, arc_tails}
 use Rattle.fp_longestarcs.proofs.FourProperties.{HasProperties-network}
-use Rattle.fp_longestarcs.proofs.WholeNetworks.{tails-within}
-use Rattle.fp_longestarcs.proofs.WholeNetworks.{IsWholeNetwork-parts}
+use Rattle.fp_longestarcs.proofs.WholeNetworks.{tails-within, IsWholeNetwork-parts}
 use Rattle.fp_longestarcs.proofs.PointCounts.{count-made}
 use Rattle.fp_longestarcs.proofs.networks.Network.of.Goals as goal
 
