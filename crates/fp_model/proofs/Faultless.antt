@@ -23,7 +23,7 @@ use Rattle.fp_model.proofs.LegByLeg.{GoesOn, Leads-from_legs, Leads-legs, Leads-
 use Rattle.fp_lists.proofs.Numbered.{AllZip-get_or}
 use Rattle.fp_lists.proofs.DistinctSums.{length-distinct-le}
 use Rattle.fp_lists.proofs.Numbered.{AllZip-from_get_or}
-use Rattle.fp_model.proofs.Steps.{arrives_at_last}
+use Rattle.fp_model.proofs.LastArrivals.{arrives_at_last}
 
 -- the legs below a number have no fault
 abbrev pub AreFaultlessBelow : Problem → Shipment → List Leg → ℕ → Type 0

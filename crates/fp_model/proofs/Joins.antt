@@ -96,9 +96,9 @@ departure-gathered p f keeps ss R c =
     omega (arith, costs, apart, each)
 
 -- so do those of all classes
-pub departures-join : (p : Problem) (f : Leg → Leg) → ((k : Leg) → (f k).arc ≡ k.arc) → (ss : List Shipment) (R : List (List Leg)) (ys : List Leg) →
+pub departures_join : (p : Problem) (f : Leg → Leg) → ((k : Leg) → (f k).arc ≡ k.arc) → (ss : List Shipment) (R : List (List Leg)) (ys : List Leg) →
     distinct_sum (departure_of p ss (map (map f) R)) ys ≤ distinct_sum (departure_of p ss R) (all_legs R)
-departures-join p f keeps ss R ys =
+departures_join p f keeps ss R ys =
     let all : List Leg = all_legs R in
     let g : Leg → ℕ = departure_of p ss R in
     let part : Leg → Leg → ℕ = λ k c. if same_leg (f k) c then g k else 0 in
@@ -110,17 +110,17 @@ departures-join p f keeps ss R ys =
     sum_by-le-sum_by (λ k. sum_by (part k) (distinct ys)) g (distinct all) (λ k. one-le (f k) (g k) ys) in
     omega (arith, first, swapped, last)
 
-flow-joins : (p : Problem) (f : Leg → Leg) → ((k : Leg) → (f k).arc ≡ k.arc) → (ss : List Shipment) (R : List (List Leg)) →
+flow_joins : (p : Problem) (f : Leg → Leg) → ((k : Leg) → (f k).arc ≡ k.arc) → (ss : List Shipment) (R : List (List Leg)) →
     flow_total p ss (map (map f) R) ≡ flow_total p ss R
-flow-joins p f keeps [] R = refl
-flow-joins p f keeps (s ∷ ss) [] = refl
-flow-joins p f keeps (s ∷ ss) (r ∷ R) =
+flow_joins p f keeps [] R = refl
+flow_joins p f keeps (s ∷ ss) [] = refl
+flow_joins p f keeps (s ∷ ss) (r ∷ R) =
     let flow : Leg → ℕ = λ k. (arc_at p k.arc).freight * s.size in
     let here : flow_cost p s.size (map f r) ≡ flow_cost p s.size r =
     sum_by-map flow f r ∙ sum_by-same (λ k. flow (f k)) flow (λ k. ap (λ (a : ℕ). (arc_at p a).freight * s.size) (keeps k)) r in
-    omega (arith, here, flow-joins p f keeps ss R)
+    omega (arith, here, flow_joins p f keeps ss R)
 
 -- routes whose departures are taken together, each on its arc, cost no more
-pub cost-joins : (p : Problem) (f : Leg → Leg) → ((k : Leg) → (f k).arc ≡ k.arc) → (R : List (List Leg)) → cost p (map (map f) R) ≤ cost p R
-cost-joins p f keeps R =
-    omega (arith, departures-join p f keeps p.shipments R (all_legs (map (map f) R)), flow-joins p f keeps p.shipments R)
+pub cost_joins : (p : Problem) (f : Leg → Leg) → ((k : Leg) → (f k).arc ≡ k.arc) → (R : List (List Leg)) → cost p (map (map f) R) ≤ cost p R
+cost_joins p f keeps R =
+    omega (arith, departures_join p f keeps p.shipments R (all_legs (map (map f) R)), flow_joins p f keeps p.shipments R)

@@ -2,8 +2,8 @@ pub mod Distinct
 pub mod Bounds
 pub mod Joins
 pub mod Members
-pub mod Together
-pub mod Steps
+pub mod SharedDepartures
+pub mod LastArrivals
 pub mod LegByLeg
 pub mod Faultless
 pub mod FirstFaults

@@ -89,7 +89,8 @@ relaxed-coarsened p windows points d routes h plan within =
 pub cost-coarsened : (p : Problem) (points : ℕ → List ℕ) (d : ℕ) (routes : List (List Leg)) → cost p (coarsened p points d routes) ≤ cost p routes
 cost-coarsened p points d routes = cost-classes p points d routes
 
--- every plan over any denominator within the windows has a relaxed plan that costs no more, whatever the points are
+-- every plan over any denominator within the windows has a relaxed plan that costs no more,
+-- whatever the points are
 pub coarsens-plans : (p : Problem) (windows : ℕ → ℕ → Option Window) (points : ℕ → List ℕ) → CoarsensPlans p windows points
 coarsens-plans p windows points d routes h plan within =
     (relaxed-coarsened p windows points d routes h plan within, cost-coarsened p points d routes)

@@ -7,6 +7,7 @@ use Rattle.std.proofs.lemmas.Bool.{ne_eqb, or_cases, false≢true}
 use Rattle.std.proofs.lemmas.List.Elements.{All-cons, All-nil}
 use Rattle.std.proofs.lemmas.Map.Steps.{length-le_from_distinct_below}
 use Rattle.fp_lists.proofs.DistinctSums.{length-distinct-le}
+use Rattle.fp_model.specs.declared.limits.TheConstants.{MOST_ARCS}
 use Rattle.fp_model.specs.declared.parts.Leg.{Leg}
 use Rattle.fp_model.specs.declared.parts.Shipment.{Shipment}
 use Rattle.fp_model.specs.Problem.{Problem, IsValid, arc_at}
@@ -34,7 +35,7 @@ IsRoute-short p s walk route =
 abbrev IsShort : List Leg → Type 0
 IsShort walk = length walk < 2 ^ 32 - 1
 
-walks-short : (p : Problem) (ss : List Shipment) (walks : List (List Leg)) → length p.arcs ≤ 1000 → AllZip (λ s walk. IsRoute p s (arcs_of walk)) ss walks → All IsShort walks
+walks-short : (p : Problem) (ss : List Shipment) (walks : List (List Leg)) → length p.arcs ≤ MOST_ARCS → AllZip (λ s walk. IsRoute p s (arcs_of walk)) ss walks → All IsShort walks
 walks-short p [] [] few routes = All-nil IsShort
 walks-short p [] (w ∷ walks) few routes = absurd routes
 walks-short p (s ∷ ss) [] few routes = absurd routes

@@ -15,11 +15,11 @@ use Rattle.fp_lists.proofs.Elements.{AllByRecursion-weaker, AllByRecursion-from_
 use Rattle.fp_timetable.specs.declared.lines.LegLine.{LegLine}
 use Rattle.fp_timetable.specs.Lines.{AreLegLines, IsLegLine, leg_line, line_leg, route_of, routes_from}
 use Rattle.fp_lists.specs.Order.{Precedes}
-use Rattle.fp_timetable.proofs.Carried.{AllRise, not-later}
-use Rattle.fp_timetable.proofs.Gathered.{StandFrom, StandFrom-all, StandFrom-next, has_leg-get_or}
-use Rattle.fp_timetable.proofs.Merging.{no_leg_line}
+use Rattle.fp_timetable.proofs.DepartureLoads.{AllRise, not-later}
+use Rattle.fp_timetable.proofs.AllLines.{StandFrom, StandFrom-all, StandFrom-next, has_leg-get_or}
+use Rattle.fp_timetable.proofs.MergedLegs.{no_leg_line}
 use Rattle.fp_timetable.proofs.Pairs.{EachPair, EachPair-AllPairs}
-use Rattle.fp_timetable.proofs.Rising.{Rise}
+use Rattle.fp_timetable.proofs.LegTimes.{Rise}
 
 -- a leg of a list stands at a place
 place-of : (k : Leg) (legs : List Leg) → has_leg k legs ≡ true → (i : ℕ) × (i < length legs) × (leg_at legs i ≡ k)

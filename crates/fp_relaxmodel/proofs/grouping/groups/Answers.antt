@@ -5,7 +5,7 @@ use Rattle.fp_relaxmodel.specs.Groups.{AreGroups}
 use Rattle.fp_lists.specs.Vectors.{lists_of}
 use Rattle.fp_model.specs.Members.{named_on}
 use Rattle.fp_relaxmodel.specs.Stops.{legs_of}
-use Rattle.fp_relaxmodel.proofs.MadeGroups.{made-groups, one-walk}
+use Rattle.fp_relaxmodel.proofs.GroupsByWalk.{made-groups, one-walk}
 use Rattle.fp_relaxmodel.proofs.UniqueGroups.{groups-unique}
 use Rattle.fp_relaxmodel.proofs.grouping.groups.Goals as goal
 

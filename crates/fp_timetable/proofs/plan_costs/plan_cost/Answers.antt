@@ -4,7 +4,7 @@ use Rattle.fp_model.specs.Costs.{flow_total}
 use Rattle.fp_lists.specs.Vectors.{lists_of}
 use Rattle.fp_model.proofs.Bounds.{AreReady, AreReady-plan, cost_fits}
 use Rattle.fp_timetable.proofs.DepartureLines.{sum-lines}
-use Rattle.fp_timetable.proofs.Existing.{trucks_exist}
+use Rattle.fp_timetable.proofs.ExistingLines.{TruckExists-plan}
 use Rattle.fp_timetable.proofs.plan_costs.plan_cost.Goals as goal
 
 -- the routes are the plan's
@@ -16,7 +16,7 @@ ready c = AreReady-plan c.args.instance.now 1 c.as_slice.result.now c.args.plan.
 
 pub trucks_cost-requires-clause-arcs : goal.trucks_cost-requires-clause-arcs
 trucks_cost-requires-clause-arcs c =
-    trucks_exist c.args.instance.now c.args.plan.now c.args.lines.now c.arcs-known.ensures.valid c.requires.plan c.requires.lines
+    TruckExists-plan c.args.instance.now c.args.plan.now c.args.lines.now c.arcs-known.ensures.valid c.requires.plan c.requires.lines
 
 pub trucks_cost-requires-clause-fits : goal.trucks_cost-requires-clause-fits
 trucks_cost-requires-clause-fits c =

@@ -5,7 +5,7 @@ use Rattle.fp_model.specs.Problem.{Problem}
 use Rattle.fp_timetable.specs.declared.lines.LegLine.{LegLine}
 use Rattle.fp_timetable.specs.declared.lines.TruckLine.{TruckLine}
 use Rattle.fp_timetable.specs.Order.{Adds}
-use Rattle.fp_timetable.proofs.Merging.{merged_more, no_leg_line}
+use Rattle.fp_timetable.proofs.MergedLegs.{merged_more, no_leg_line}
 use Rattle.fp_timetable.proofs.truck_lines.merged.Goals as goal
 
 pub loop-leg-preserved : goal.loop-leg-preserved

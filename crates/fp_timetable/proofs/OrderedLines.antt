@@ -11,6 +11,7 @@ use Rattle.std.proofs.lemmas.List.{get_or-map as get_or_map}
 use Rattle.std.proofs.lemmas.List.Elements.{All-from_get_or, All-get_or, All-map}
 use Rattle.std.proofs.lemmas.List.Sorted.{All-permutation, Contains-permutation, IsPermutation-map, list_any-IsPermutation, sum_by-IsPermutation}
 use Rattle.std.proofs.lemmas.List.Sums.{sum_by-cons}
+use Rattle.fp_model.specs.declared.limits.TheConstants.{MOST_ARCS, MOST_SHIPMENTS}
 use Rattle.fp_model.specs.declared.parts.Leg.{Leg}
 use Rattle.fp_model.specs.declared.parts.Shipment.{Shipment}
 use Rattle.fp_model.specs.Costs.{all_legs, has_leg, load, same_leg, trucks}
@@ -23,10 +24,10 @@ use Rattle.fp_timetable.specs.declared.lines.TruckLine.{TruckLine}
 use Rattle.fp_timetable.specs.Lines.{AreLegLines, AreTruckLines, IsLegLine, departure, leg_line, line_leg}
 use Rattle.fp_lists.specs.Order.{Precedes}
 use Rattle.fp_timetable.specs.Order.{AreMerged, LineExists, lines_from, load_on, no_line, rank_of, size_on, truck_rank, with_trucks}
-use Rattle.fp_timetable.proofs.Apart.{leg_rank, rising-lines}
-use Rattle.fp_timetable.proofs.Carried.{AllRise, ShipmentsFrom, size_on-lines}
-use Rattle.fp_timetable.proofs.Gathered.{StandFrom-all, has_leg-get_or, lines_from-departures, lines_from-every, lines_from-legs}
-use Rattle.fp_timetable.proofs.OfPlans.{GoesByArc, IsReady, IsReady-plan}
+use Rattle.fp_timetable.proofs.LineRanks.{leg_rank, rising-lines}
+use Rattle.fp_timetable.proofs.DepartureLoads.{AllRise, ShipmentsFrom, size_on-lines}
+use Rattle.fp_timetable.proofs.AllLines.{StandFrom-all, has_leg-get_or, lines_from-departures, lines_from-every, lines_from-legs}
+use Rattle.fp_timetable.proofs.PlanLegs.{GoesByArc, IsReady, IsReady-plan}
 use Rattle.fp_timetable.proofs.Pairs.{EachPair, EachPair-AllPairs}
 use Rattle.fp_lists.proofs.Elements.{AllByRecursion-get_or}
 
@@ -63,7 +64,7 @@ occur-moved p routes legs moved k =
 legs-moved : (p : Problem) (routes : List (List Leg)) (legs : List LegLine) → IsPermutation (lines_from p 0 routes) legs → All (IsLegLine p routes) legs
 legs-moved p routes legs moved = All-permutation (IsLegLine p routes) (lines_from p 0 routes) legs moved (lines_from-legs p routes 0 routes (StandFrom-all routes))
 
-pub AreLegLines-sorted : (p : Problem) (routes : List (List Leg)) (lines : List LegLine) → length routes ≤ 500 → AllRise routes → IsPermutation (lines_from p 0 routes) lines →
+pub AreLegLines-sorted : (p : Problem) (routes : List (List Leg)) (lines : List LegLine) → length routes ≤ MOST_SHIPMENTS → AllRise routes → IsPermutation (lines_from p 0 routes) lines →
     IsNonDecreasingBy leg_rank lines → AreLegLines p routes lines
 AreLegLines-sorted p routes lines few rise moved sorted =
     let legs : All (IsLegLine p routes) lines = legs-moved p routes lines moved in
@@ -160,9 +161,9 @@ AreGathered-merged p routes legs lines long rise exist moved merged =
     }
 
 -- the lines of all legs of a plan, put in another order, go by arcs and shipments of the problem
-pub legs-exist : (p : Problem) (plan : List (List Leg)) (legs : List LegLine) → IsValid p → IsPlan p 1 plan → IsPermutation (lines_from p 0 plan) legs →
+pub LineExists-plan : (p : Problem) (plan : List (List Leg)) (legs : List LegLine) → IsValid p → IsPlan p 1 plan → IsPermutation (lines_from p 0 plan) legs →
     All (LineExists p) legs
-legs-exist p plan legs valid is_plan moved = λ k d lt.
+LineExists-plan p plan legs valid is_plan moved = λ k d lt.
     let ready : IsReady p plan = IsReady-plan p plan valid is_plan in (
       arcs-of line_leg p plan legs ready.exist (occur-moved p plan legs moved) k d lt,
       omega (arith, (legs-moved p plan legs moved k d lt).shipment, ready.long),
@@ -180,7 +181,7 @@ map-departure p [] = refl
 map-departure p (t ∷ lines) = ap (λ (legs : List Leg). departure t ∷ legs) (map-departure p lines)
 
 -- with their trucks they are the truck lines
-pub AreTruckLines-gathered : (p : Problem) (routes : List (List Leg)) (lines : List TruckLine) → length p.arcs ≤ 1000 → AreGathered p routes lines →
+pub AreTruckLines-gathered : (p : Problem) (routes : List (List Leg)) (lines : List TruckLine) → length p.arcs ≤ MOST_ARCS → AreGathered p routes lines →
     AreTruckLines p routes (map (with_trucks p) lines)
 AreTruckLines-gathered p routes lines few gathered =
     let same : (i : ℕ) (d : TruckLine) → i < length lines → get_or (map (with_trucks p) lines) i d ≡ with_trucks p (get_or lines i no_line) =

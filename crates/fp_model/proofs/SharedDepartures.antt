@@ -1,4 +1,4 @@
--- Routes by the same arcs, in which legs that are one leg of other routes leave together, cost no more than the others.
+-- Routes in which legs that are one leg of other routes leave together cost no more than those.
 use Rattle.std.proofs.Common.{◌≡◌, ◌∙◌, ℕ, zero, suc, ◌<◌, ◌≤◌, List, [], ◌∷◌, length, get_or, map, refl, sym, ap, ap₂, subst, arith}
 use Rattle.std.specs.Prelude.{All, Contains}
 use Rattle.std.proofs.Math.ListN.{length-map}
@@ -10,7 +10,7 @@ use Rattle.fp_model.specs.Members.{IsMemberOf, LeaveTogether, member_leg, member
 use Rattle.fp_model.specs.Numbered.{leg_at, no_leg, route_at}
 use Rattle.fp_model.specs.Problem.{Problem}
 use Rattle.fp_model.specs.Routes.{arcs_of}
-use Rattle.fp_model.proofs.Joins.{cost-joins}
+use Rattle.fp_model.proofs.Joins.{cost_joins}
 use Rattle.fp_model.proofs.Members.{IsMemberAt, members_in-contain, members_in-each}
 
 -- when the first of some members leaves, or a leg's own time where there is none
@@ -71,7 +71,7 @@ module _ (others routes : List (List Leg)) (same : map arcs_of routes ≡ map ar
       ∙ member_leg-moved others routes m together (record { shipment = exists; leg = there }) (leg-arc k i exists there)))
 
 -- so they cost no more
-pub cost-together : (p : Problem) (others routes : List (List Leg)) → map arcs_of routes ≡ map arcs_of others → LeaveTogether others routes →
+pub cost_together : (p : Problem) (others routes : List (List Leg)) → map arcs_of routes ≡ map arcs_of others → LeaveTogether others routes →
     cost p routes ≤ cost p others
-cost-together p others routes same together =
-    subst (λ (R : List (List Leg)). cost p R ≤ cost p others) (routes-moved others routes same together) (cost-joins p (moved others routes) (λ k. refl) others)
+cost_together p others routes same together =
+    subst (λ (R : List (List Leg)). cost p R ≤ cost p others) (routes-moved others routes same together) (cost_joins p (moved others routes) (λ k. refl) others)

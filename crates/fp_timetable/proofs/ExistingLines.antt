@@ -13,8 +13,8 @@ use Rattle.fp_model.specs.Problem.{Problem, IsValid}
 use Rattle.fp_timetable.specs.declared.lines.LegLine.{LegLine}
 use Rattle.fp_timetable.specs.declared.lines.TruckLine.{TruckLine}
 use Rattle.fp_timetable.specs.Lines.{AreLegLines, AreTruckLines, IsLegLine, LegExists, TruckExists, departure, line_leg}
-use Rattle.fp_timetable.proofs.OfPlans.{GoesByArc, IsReady, IsReady-plan}
-use Rattle.fp_timetable.proofs.Ordered.{arcs-of, has-each}
+use Rattle.fp_timetable.proofs.PlanLegs.{GoesByArc, IsReady, IsReady-plan}
+use Rattle.fp_timetable.proofs.OrderedLines.{arcs-of, has-each}
 
 -- a leg of one route is a leg of all routes
 in-all : (routes : List (List Leg)) (j : ℕ) (k : Leg) → has_leg k (route_at routes j) ≡ true → has_leg k (all_legs routes) ≡ true
@@ -24,13 +24,13 @@ in-all (r ∷ routes) (suc j) k has =
     list_any-append (same_leg k) r (all_legs routes) ∙ or_right (has_leg k r) (has_leg k (all_legs routes)) (in-all routes j k has)
 
 -- the shipment and the arc of each leg line exist
-pub legs_exist : (p : Problem) (routes : List (List Leg)) (lines : List LegLine) → IsValid p → IsPlan p 1 routes → AreLegLines p routes lines → All (LegExists p) lines
-legs_exist p routes lines valid plan are = λ i d lt.
+pub LegExists-plan : (p : Problem) (routes : List (List Leg)) (lines : List LegLine) → IsValid p → IsPlan p 1 routes → AreLegLines p routes lines → All (LegExists p) lines
+LegExists-plan p routes lines valid plan are = λ i d lt.
     let l : LegLine = get_or lines i d in
     let line : IsLegLine p routes l = are.legs i d lt in
     let ready : IsReady p routes = IsReady-plan p routes valid plan in
     (omega (arith, line.shipment, ready.long), has-each (GoesByArc p) (line_leg l) (all_legs routes) ready.exist (in-all routes l.shipment (line_leg l) line.leg))
 
 -- the arc of each truck line exists
-pub trucks_exist : (p : Problem) (routes : List (List Leg)) (lines : List TruckLine) → IsValid p → IsPlan p 1 routes → AreTruckLines p routes lines → All (TruckExists p) lines
-trucks_exist p routes lines valid plan are = arcs-of departure p routes lines (IsReady-plan p routes valid plan).exist are.departures
+pub TruckExists-plan : (p : Problem) (routes : List (List Leg)) (lines : List TruckLine) → IsValid p → IsPlan p 1 routes → AreTruckLines p routes lines → All (TruckExists p) lines
+TruckExists-plan p routes lines valid plan are = arcs-of departure p routes lines (IsReady-plan p routes valid plan).exist are.departures

@@ -12,15 +12,15 @@ use Rattle.fp_relaxmodel.proofs.GroupLaws.{Before}
 use Rattle.fp_lists.proofs.Pairs.{AllPairs-append, AllPairs-nil}
 
 -- a class is on the walk of the shipment with the number k exactly where one of its legs has it
-occurs-on : (c : Leg) (k i : ℕ) (walk : List Leg) → list_any (λ (x : NamedLeg). same_leg c x.class) (named_on k i walk) ≡ has_leg c walk
+occurs-on : (c : Leg) (k i : ℕ) (walk : List Leg) → list_any (λ (x : NamedLeg). same_leg c x.leg) (named_on k i walk) ≡ has_leg c walk
 occurs-on c k i [] = refl
 occurs-on c k i (l ∷ walk) = ap (λ (b : Bool). same_leg c l || b) (occurs-on c k (i + 1) walk)
 
 -- and on walks exactly where one of their legs has it
-pub occurs-placed : (c : Leg) (k : ℕ) (walks : List (List Leg)) → list_any (λ (x : NamedLeg). same_leg c x.class) (named_from k walks) ≡ has_leg c (all_legs walks)
+pub occurs-placed : (c : Leg) (k : ℕ) (walks : List (List Leg)) → list_any (λ (x : NamedLeg). same_leg c x.leg) (named_from k walks) ≡ has_leg c (all_legs walks)
 occurs-placed c k [] = refl
 occurs-placed c k (walk ∷ walks) =
-    list_any-append (λ (x : NamedLeg). same_leg c x.class) (named_on k 0 walk) (named_from (k + 1) walks)
+    list_any-append (λ (x : NamedLeg). same_leg c x.leg) (named_on k 0 walk) (named_from (k + 1) walks)
     ∙ ap₂ (λ (a b : Bool). a || b) (occurs-on c k 0 walk) (occurs-placed c (k + 1) walks)
     ∙ sym (list_any-append (same_leg c) walk (all_legs walks))
 
@@ -31,7 +31,7 @@ IsOn k i x = (x.member.shipment ≡ k) × (i ≤ x.member.leg)
 all-on : (k i : ℕ) (walk : List Leg) → All (IsOn k i) (named_on k i walk)
 all-on k i [] = All-nil (IsOn k i)
 all-on k i (c ∷ walk) =
-    let first : NamedLeg = record { member = record { shipment = k; leg = i }; class = c } in
+    let first : NamedLeg = record { member = record { shipment = k; leg = i }; leg = c } in
     All-cons (IsOn k i) first (named_on k (i + 1) walk) (refl, le_refl i)
     (All-weaker (IsOn k (i + 1)) (IsOn k i) (λ x is. (is.0, omega (arith, is.1))) (named_on k (i + 1) walk) (all-on k (i + 1) walk))
 
@@ -50,7 +50,7 @@ all-from k (walk ∷ walks) =
 pairs-on : (k i : ℕ) (walk : List Leg) → AllPairs Before (named_on k i walk)
 pairs-on k i [] = AllPairs-nil Before
 pairs-on k i (c ∷ walk) =
-    let first : NamedLeg = record { member = record { shipment = k; leg = i }; class = c } in
+    let first : NamedLeg = record { member = record { shipment = k; leg = i }; leg = c } in
     AllPairs-cons Before first (named_on k (i + 1) walk)
     (All-weaker (IsOn k (i + 1)) (Before first) (λ x is. inr (sym is.0, omega (arith, is.1))) (named_on k (i + 1) walk) (all-on k (i + 1) walk))
     (pairs-on k (i + 1) walk)

@@ -12,7 +12,7 @@ use Rattle.fp_timetable.specs.declared.lines.LegLine.{LegLine}
 use Rattle.fp_timetable.specs.declared.lines.TruckLine.{TruckLine}
 use Rattle.fp_timetable.specs.Lines.{line_leg}
 use Rattle.fp_timetable.specs.Order.{Adds, AreMerged, IsNotAfter}
-use Rattle.fp_timetable.proofs.Adding.{or-false}
+use Rattle.fp_timetable.proofs.AddedLegs.{or-false}
 
 -- stands for a leg line that there is not
 abbrev pub no_leg_line : LegLine

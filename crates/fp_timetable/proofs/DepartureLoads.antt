@@ -14,7 +14,7 @@ use Rattle.fp_lists.proofs.Sums.{sum_by-map}
 use Rattle.fp_timetable.specs.declared.lines.LegLine.{LegLine}
 use Rattle.fp_timetable.specs.Lines.{leg_line, line_leg}
 use Rattle.fp_timetable.specs.Order.{lines_from, size_on}
-use Rattle.fp_timetable.proofs.Rising.{Rise}
+use Rattle.fp_timetable.proofs.LegTimes.{Rise}
 
 -- a departure is not among legs that all leave later
 pub not-later : (k : Leg) (legs : List Leg) → AllByRecursion (λ (m : Leg). k.depart < m.depart) legs → has_leg k legs ≡ false

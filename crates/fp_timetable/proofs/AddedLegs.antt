@@ -19,7 +19,7 @@ use Rattle.fp_timetable.specs.declared.lines.LegLine.{LegLine}
 use Rattle.fp_timetable.specs.declared.lines.TruckLine.{TruckLine}
 use Rattle.fp_timetable.specs.Lines.{departure, line_leg}
 use Rattle.fp_timetable.specs.Order.{Adds, EndsAt, with_trucks, IsAt, IsNotAfter, departure_rank, last_of, no_line, rank_of, truck_rank}
-use Rattle.fp_timetable.proofs.Gathered.{has_leg-get_or}
+use Rattle.fp_timetable.proofs.AllLines.{has_leg-get_or}
 
 -- loads that are small are not too large one size later
 more-load : (n : ℕ) (lines : List TruckLine) → All (λ (t : TruckLine). t.load ≤ n) lines → All (λ (t : TruckLine). t.load ≤ n + 2 ^ 64) lines

@@ -16,7 +16,7 @@ use Rattle.fp_relaxmodel.proofs.UniqueGroups.{groups-met}
 -- legs after others
 after-append : (xs ys : List NamedLeg) (groups : List Met) → after (xs ++ ys) groups ≡ after ys (after xs groups)
 after-append [] ys groups = refl
-after-append (x ∷ xs) ys groups = after-append xs ys (with_member x.class x.member groups)
+after-append (x ∷ xs) ys groups = after-append xs ys (with_member x.leg x.member groups)
 
 -- one more walk
 pub one-walk : (walks : List (List Leg)) (i : ℕ) (walk : List Leg) (now next all : List Met) → i < length walks → walk ≡ get_or walks i walk → next ≡ after (named_on i 0 walk) now →

@@ -13,8 +13,8 @@ use Rattle.fp_lists.proofs.Elements.{AllByRecursion-weaker, AllByRecursion-get_o
 use Rattle.fp_timetable.specs.declared.lines.LegLine.{LegLine}
 use Rattle.fp_timetable.specs.Lines.{leg_line}
 use Rattle.fp_timetable.specs.Order.{lines_from, rank_of}
-use Rattle.fp_timetable.proofs.Carried.{AllRise}
-use Rattle.fp_timetable.proofs.Rising.{Rise}
+use Rattle.fp_timetable.proofs.DepartureLoads.{AllRise}
+use Rattle.fp_timetable.proofs.LegTimes.{Rise}
 
 -- the place of a leg line in the order
 abbrev pub leg_rank : LegLine → ℕ
@@ -28,12 +28,12 @@ same_rank k l = eqb (leg_rank k) (leg_rank l)
 abbrev IsFrom : ℕ → LegLine → Type 0
 IsFrom i l = (i ≤ l.shipment) × (l.shipment < 2 ^ 32)
 
-lines-from : (p : Problem) (i : ℕ) (routes : List (List Leg)) → i + length routes < 2 ^ 32 → AllByRecursion (IsFrom i) (lines_from p i routes)
-lines-from p i [] few = tt
-lines-from p i (legs ∷ routes) few =
+IsFrom-lines : (p : Problem) (i : ℕ) (routes : List (List Leg)) → i + length routes < 2 ^ 32 → AllByRecursion (IsFrom i) (lines_from p i routes)
+IsFrom-lines p i [] few = tt
+IsFrom-lines p i (legs ∷ routes) few =
     AllByRecursion-append (IsFrom i) (map (leg_line p i) legs) (lines_from p (i + 1) routes)
     (AllByRecursion-map (IsFrom i) (leg_line p i) legs (AllByRecursion-always (λ l. IsFrom i (leg_line p i l)) (λ l. (omega arith, omega (arith, few))) legs))
-    (AllByRecursion-weaker (IsFrom (i + 1)) (IsFrom i) (λ l h. (omega (arith, h.0), h.1)) (lines_from p (i + 1) routes) (lines-from p (i + 1) routes (omega (arith, few))))
+    (AllByRecursion-weaker (IsFrom (i + 1)) (IsFrom i) (λ l h. (omega (arith, h.0), h.1)) (lines_from p (i + 1) routes) (IsFrom-lines p (i + 1) routes (omega (arith, few))))
 
 distinct-append : (xs ys : List LegLine) → IsDistinct same_rank xs → IsDistinct same_rank ys → AllByRecursion (λ x. AllByRecursion (λ y. same_rank x y ≡ false) ys) xs → IsDistinct same_rank (xs ++ ys)
 unfolding IsDistinct
@@ -63,7 +63,7 @@ distinct-lines p i (legs ∷ routes) few rise =
     (λ l.
     AllByRecursion-weaker (IsFrom (i + 1)) (λ y. same_rank (leg_line p i l) y ≡ false)
     (λ y h. ne_eqb (rank_of l.depart i) (rank_of y.depart y.shipment) (λ e. omega (arith, e, h.0, h.1, few)))
-    (lines_from p (i + 1) routes) (lines-from p (i + 1) routes (omega (arith, few))))
+    (lines_from p (i + 1) routes) (IsFrom-lines p (i + 1) routes (omega (arith, few))))
     legs))
 
 distinct-at : (lines : List LegLine) (i j : ℕ) (d : LegLine) → IsDistinct same_rank lines → i < j → j < length lines → leg_rank (get_or lines i d) ≢ leg_rank (get_or lines j d)

@@ -6,6 +6,7 @@ use Rattle.std.specs.declared.alloc.Global.{Global}
 use Rattle.std.specs.declared.vec.Vec.{Vec}
 use Rattle.std.proofs.lemmas.List.Elements.{All-cons, All-nil, All-tail, All-get_or}
 use Rattle.std.proofs.lemmas.Slice.Zip.{AllZip-long}
+use Rattle.fp_model.specs.declared.limits.TheConstants.{MOST_SHIPMENTS}
 use Rattle.fp_model.specs.declared.parts.Leg.{Leg}
 use Rattle.fp_model.specs.declared.parts.Shipment.{Shipment}
 use Rattle.fp_model.specs.Costs.{all_legs}
@@ -16,8 +17,8 @@ use Rattle.fp_model.specs.Routes.{Carries, arcs_of}
 use Rattle.fp_model.proofs.Bounds.{Leads-exist, length-lists_of}
 use Rattle.fp_timetable.specs.Order.{ArriveWithin}
 use Rattle.fp_lists.proofs.Elements.{AllByRecursion-append}
-use Rattle.fp_timetable.proofs.Carried.{AllRise}
-use Rattle.fp_timetable.proofs.Rising.{ArriveWithin-ready, Rise-ready}
+use Rattle.fp_timetable.proofs.DepartureLoads.{AllRise}
+use Rattle.fp_timetable.proofs.LegTimes.{ArriveWithin-ready, Rise-ready}
 
 -- each shipment is due within 32 bits
 abbrev AreDue : List Shipment → Type 0
@@ -49,25 +50,25 @@ arrive p (s ∷ shipments) (r ∷ routes) due plan =
 abbrev pub GoesByArc : Problem → Leg → Type 0
 GoesByArc p l = l.arc < length p.arcs
 
-legs-exist : (p : Problem) (legs : List Leg) → AllByRecursion (λ a. a < length p.arcs) (arcs_of legs) → AllByRecursion (GoesByArc p) legs
-legs-exist p [] all = tt
-legs-exist p (l ∷ legs) all = (all.0, legs-exist p legs all.1)
+GoesByArc-arcs : (p : Problem) (legs : List Leg) → AllByRecursion (λ a. a < length p.arcs) (arcs_of legs) → AllByRecursion (GoesByArc p) legs
+GoesByArc-arcs p [] all = tt
+GoesByArc-arcs p (l ∷ legs) all = (all.0, GoesByArc-arcs p legs all.1)
 
 exist : (p : Problem) (shipments : List Shipment) (routes : List (List Leg)) → AllZip (Carries p 1) shipments routes → AllByRecursion (GoesByArc p) (all_legs routes)
 exist p [] [] plan = tt
 exist p [] (r ∷ routes) plan = absurd plan
 exist p (s ∷ shipments) [] plan = absurd plan
 exist p (s ∷ shipments) (r ∷ routes) plan =
-    AllByRecursion-append (GoesByArc p) r (all_legs routes) (legs-exist p r (Leads-exist p s.from (arcs_of r) s.to plan.0.route.leads)) (exist p shipments routes plan.1)
+    AllByRecursion-append (GoesByArc p) r (all_legs routes) (GoesByArc-arcs p r (Leads-exist p s.from (arcs_of r) s.to plan.0.route.leads)) (exist p shipments routes plan.1)
 
 -- what making the lines needs of routes
 pub record AreReady (p : Problem) (routes : List (Vec Leg Global)) : Type 0 where
-  pub few : length routes ≤ 500
+  pub few : length routes ≤ MOST_SHIPMENTS
   pub arrive : All (λ (r : Vec Leg Global). ArriveWithin p r.items) routes
 
 -- what ordering the lines needs of a plan
 pub record IsReady (p : Problem) (plan : List (List Leg)) : Type 0 where
-  pub few : length plan ≤ 500
+  pub few : length plan ≤ MOST_SHIPMENTS
   pub long : length plan ≡ length p.shipments
   pub rise : AllRise plan
   pub exist : AllByRecursion (GoesByArc p) (all_legs plan)
