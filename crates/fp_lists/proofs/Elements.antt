@@ -57,7 +57,7 @@ AllByRecursion-from_get_or P [] d each = tt
 AllByRecursion-from_get_or P (x ∷ xs) d each =
     (each 0 (omega arith), AllByRecursion-from_get_or P xs d (λ i lt. each (suc i) (omega (arith, lt))))
 
--- what holds of each element and of what stands for a missing one holds at AllByRecursion-always number
+-- what holds of each element and of what stands for a missing one holds at every number
 pub AllByRecursion-get_or_default : {X : Type 0} (P : X → Type 0) (xs : List X) (i : ℕ) (d : X) → AllByRecursion P xs →
     P d → P (get_or xs i d)
 AllByRecursion-get_or_default P [] i d all default = default

@@ -55,13 +55,13 @@ list_has-take_more numbers i n lt =
     list_has-append (take i numbers) (get_or numbers i 0 ∷ []) n ∙
     ap (λ (b : Bool). list_has (take i numbers) n || b) (or-false (nat_eq (get_or numbers i 0) n))
 
--- where a number StandsAt-from_list_has in a list
+-- where a number stands in a list
 pub record StandsAt (numbers : List ℕ) (n : ℕ) : Type 0 where
   pub place : ℕ
   pub within : place < length numbers
   pub is : (d : ℕ) → get_or numbers place d ≡ n
 
--- a number that a list has StandsAt-from_list_has somewhere in it
+-- a number that a list has stands somewhere in it
 pub StandsAt-from_list_has : (numbers : List ℕ) (n : ℕ) → list_has numbers n ≡ true → StandsAt numbers n
 StandsAt-from_list_has [] n has = cc
 StandsAt-from_list_has (m ∷ numbers) n has =

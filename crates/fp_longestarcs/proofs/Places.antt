@@ -1,4 +1,4 @@
--- Where a time StandsAt-from_list_has among points in ascending order, and what putting it there does.
+-- Where a time stands among points in ascending order, and what putting it there does.
 use Rattle.std.proofs.Common.{◌≡◌, ℕ, zero, suc, ◌+◌, ◌-◌, ◌*◌, ◌<◌, ◌≤◌, true, false, max, List, [], ◌∷◌, length, get_or, ⊎_elim, sym, ap, ◌∙◌, subst, arith}
 use Rattle.std.specs.Prelude.{nat_le, nat_eq, All}
 use Rattle.std.specs.List.{insert, AllPairs}
@@ -57,7 +57,7 @@ floor-before qs at k are is other =
           (cases_lt w.place (k - 1)))),
     )
 
--- whether what StandsAt-from_list_has at its place is the time tells whether it is a point
+-- whether what stands at its place is the time tells whether it is a point
 pub at-place-tells : (qs : List ℕ) (at k : ℕ) → ArePoints qs → IsPlaceIn qs at k → k < length qs → nat_eq (get_or qs k 0) at ≡ list_has qs at
 at-place-tells qs at k are is h =
     ⊎_elim
