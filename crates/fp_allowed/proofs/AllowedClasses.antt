@@ -1,10 +1,9 @@
 -- What it means that a class is allowed: a whole moment of it lies in the window and meets the
 -- sides.
-use Rattle.std.proofs.Common.{◌≡◌, ℕ, zero, suc, ◌+◌, ◌*◌, ◌/◌, ◌<◌, ◌≤◌, Bool, true, false, ◌&&◌, List, length, ⊎_elim, refl, subst, arith}
-use Rattle.std.specs.Prelude.{◌≢◌, nat_eq, nat_lt, nat_le, Option, Some, None, IsSomeAnd}
+use Rattle.std.proofs.Common.{◌≡◌, ℕ, ◌+◌, ◌*◌, ◌/◌, ◌<◌, ◌≤◌, Bool, true, ◌&&◌, List, length, refl, arith}
+use Rattle.std.specs.Prelude.{nat_eq, nat_lt, nat_le, Option, Some, None, IsSomeAnd}
 use Rattle.std.proofs.Math.Nat.{le-div_iff_mul-le, div-lt_iff_lt-mul}
-use Rattle.std.proofs.lemmas.Bool.{and_parts, and_from, or_cases, or_left, or_right, le-leb, lt-ltb, leb-true, ltb-true, eq-eqb, eqb-true, false≢true}
-use Rattle.std.proofs.lemmas.Bool.Decides.{eqb_tells}
+use Rattle.std.proofs.lemmas.Bool.{and_parts, and_from, le-leb, lt-ltb, leb-true, ltb-true, eq-eqb, eqb-true, false≢true}
 use Rattle.fp_lists.proofs.CountsBelow.{some_below-true, some_below-witness}
 use Rattle.fp_model.specs.declared.parts.Leg.{Leg}
 use Rattle.fp_model.specs.Problem.{Problem}
@@ -16,7 +15,6 @@ use Rattle.fp_longestarcs.specs.Classes.{class_of}
 use Rattle.fp_tree.specs.declared.sides.Side.{Side}
 use Rattle.fp_tree.specs.Sides.{MeetsAll}
 use Rattle.fp_allowed.specs.Allowed.{exit_of, has_moment, is_allowed, is_moment, meets_all, tails_of}
-use Rattle.fp_lists.specs.Below.{some_below}
 use Rattle.fp_allowed.proofs.SideTests.{meets_all_true}
 
 -- a whole moment of a class that lies in a window and meets the sides

@@ -1,13 +1,12 @@
 -- A tree whose splits all divide departures has fewer splits than 2 to the power of the slack.
 use Rattle.std.proofs.Common.{◌≡◌, ℕ, zero, suc, ◌+◌, ◌^◌, ◌<◌, ◌≤◌, List, [], ◌∷◌, ◌++◌, length, ⊎_elim, ap, subst, arith}
 use Rattle.std.specs.Prelude.{IfSome, Option, Some, None}
-use Rattle.std.specs.List.{AllByRecursion}
 use Rattle.std.proofs.Math.Nat.{two-pow-succ}
 use Rattle.std.proofs.Math.Pow.{pow_mono}
 use Rattle.fp_model.specs.Problem.{IsValid, Problem}
 use Rattle.fp_flatnet.specs.declared.window_tables.Window.{Window}
 use Rattle.fp_tree.specs.declared.sides.Side.{Side}
-use Rattle.fp_tree.specs.Sides.{Fork, first, first_of_split, second, second_of_split}
+use Rattle.fp_tree.specs.Sides.{Fork, first, second, second_of_split}
 use Rattle.fp_tree.specs.Trees.{Branch, branches_of, tree_branches}
 use Rattle.fp_tree.proofs.Branches.{branches_of-leaf, branches_of-split, fork_cases, pending_below}
 use Rattle.fp_allowed.specs.Slack.{AllDivide, DividesSome, slack}

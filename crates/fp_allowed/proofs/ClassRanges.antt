@@ -1,5 +1,5 @@
 -- The classes of an arc between two points are a range of numbers.
-use Rattle.std.proofs.Common.{◌≡◌, ℕ, ◌+◌, ◌-◌, ◌<◌, ◌≤◌, Bool, true, false, ◌&&◌, ◌||◌, cond, List, length, get_or, ◌⊎◌, ⊎_elim, refl, ap, ◌∙◌, subst, arith}
+use Rattle.std.proofs.Common.{◌≡◌, ℕ, ◌+◌, ◌-◌, ◌<◌, ◌≤◌, Bool, true, false, ◌&&◌, ◌||◌, cond, List, length, ◌⊎◌, ⊎_elim, refl, ap, ◌∙◌, subst, arith}
 use Rattle.std.specs.Prelude.{nat_eq, nat_le, Some}
 use Rattle.std.specs.List.{AllPairs}
 use Rattle.std.proofs.lemmas.Bool.{cases_lt, cases_order, eq-eqb, le-leb, le-ltb, lt-leb, lt-ltb, ne_eqb}
@@ -12,7 +12,7 @@ use Rattle.fp_longestarcs.specs.Ascending.{ArePoints}
 use Rattle.fp_lists.specs.Ascending.{place_in}
 use Rattle.fp_longestarcs.specs.Networks.{IsClass, IsNetwork, TimedNetwork, class_count, class_number, first_class, points_in, tail_in}
 use Rattle.fp_longestarcs.proofs.ClassNumbers.{first-mono, number-below, number-within, tail-points}
-use Rattle.fp_lists.proofs.Places.{get_or-place_in, place_in-lt, place_in_mono}
+use Rattle.fp_lists.proofs.Places.{place_in-lt, place_in_mono}
 use Rattle.fp_rows.specs.Bits.{with_range}
 use Rattle.fp_allowed.specs.Bits.{FillsArc, bit_of}
 use Rattle.fp_allowed.specs.Moments.{in_range, is_between}

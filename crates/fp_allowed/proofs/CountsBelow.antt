@@ -1,7 +1,5 @@
 -- Counting the numbers below a bound that pass a test.
-use Rattle.std.proofs.Common.{◌≡◌, ℕ, zero, suc, ◌+◌, ◌<◌, ◌≤◌, Bool, true, false, cond, List, [], ◌∷◌, length, ⊎_elim, refl, ap, subst, arith}
-use Rattle.std.specs.Prelude.{◌≢◌, nat_eq}
-use Rattle.std.proofs.lemmas.Bool.Decides.{eqb_tells}
+use Rattle.std.proofs.Common.{◌≡◌, Bool, cond, List, [], ◌∷◌, length, refl, arith}
 use Rattle.std.proofs.lemmas.List.Sums.{sum_by-cons}
 use Rattle.fp_lists.proofs.CountsBelow.{count_below-front}
 use Rattle.fp_rows.specs.Bits.{count_true}

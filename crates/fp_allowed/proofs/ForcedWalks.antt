@@ -1,7 +1,7 @@
 -- What the end of a forced chain says of the walks over allowed classes: each begins with the
 -- chain.
 use Rattle.std.proofs.Common.{◌≡◌, ◌≢◌, ℕ, ◌<◌, Bool, true, ◌⊎◌, List, [], ◌∷◌, ◌++◌, length, ⊎_elim, inl, inr, refl, sym, ap, ◌∙◌, subst}
-use Rattle.std.specs.Prelude.{Contains, IfSome, Option, map}
+use Rattle.std.specs.Prelude.{Contains, IfSome, Option}
 use Rattle.std.specs.List.{AllByRecursion}
 use Rattle.std.proofs.lemmas.List.{append-nil}
 use Rattle.fp_lists.proofs.Distinct.{AreDistinct-cons, AreDistinct-nil}
@@ -20,7 +20,7 @@ use Rattle.fp_flatnet.specs.Tables.{WindowTable, windows_in}
 use Rattle.fp_longestarcs.specs.Networks.{points_in}
 use Rattle.fp_tree.specs.declared.sides.Side.{Side}
 use Rattle.fp_allowed.specs.declared.chain_ends.ChainEnd.{ChainEnd}
-use Rattle.fp_allowed.specs.declared.chain_ends.ChainEnd.TheVariants.{Reached, Several, Stuck}
+use Rattle.fp_allowed.specs.declared.chain_ends.ChainEnd.TheVariants.{Reached, Stuck}
 use Rattle.fp_allowed.specs.Allowed.{AreForced, IsForcedChain, IsOnly, is_allowed, tails_of}
 use Rattle.fp_allowed.specs.Bits.{allowed_in}
 use Rattle.fp_allowed.specs.Chains.{EndsAs, IsForced, NoneLeaves, chain_stop, terminals_left}

@@ -1,8 +1,8 @@
 -- Points with the initial ones of an instance and its windows stay so, and have each shipment's
 -- times and each anchor.
-use Rattle.std.proofs.Common.{◌≡◌, ◌≢◌, ℕ, zero, suc, ◌+◌, ◌<◌, Bool, true, false, ◌&&◌, ◌||◌, List, [], ◌∷◌, ◌++◌, length, get_or, map, ⊎_elim, refl, sym, ap, ◌∙◌, subst, arith}
-use Rattle.std.specs.Prelude.{nat_eq, filter, Contains, IfSome, Option, Some, None}
-use Rattle.std.proofs.lemmas.Bool.{cases_Bool, cases_eq, cond-true, eq-eqb, or_left, or_right}
+use Rattle.std.proofs.Common.{◌≡◌, ◌≢◌, ℕ, ◌+◌, ◌<◌, true, ◌&&◌, List, [], ◌++◌, length, get_or, ⊎_elim, refl, sym, ap, ◌∙◌, subst, arith}
+use Rattle.std.specs.Prelude.{nat_eq, Contains, IfSome, Option, Some}
+use Rattle.std.proofs.lemmas.Bool.{cases_eq, cond-true, eq-eqb, or_left, or_right}
 use Rattle.fp_model.specs.declared.parts.Shipment.{Shipment}
 use Rattle.fp_model.specs.Numbered.{no_shipment, shipment_at}
 use Rattle.fp_model.specs.Problem.{IsValid, Problem, arc_at, hold_at, no_arc}
@@ -13,7 +13,7 @@ use Rattle.fp_timenodes.proofs.Rounds.{points_at_mono}
 use Rattle.fp_lists.proofs.Membership.{list_has-append, list_has-rest, list_has-first, list_has-filter}
 use Rattle.fp_flatnet.specs.declared.window_tables.Window.{Window}
 use Rattle.fp_flatnet.specs.Belonging.{BelongsTo, IsNarrowed}
-use Rattle.fp_flatnet.specs.Initial.{BeginAt, dues_at, initial_points, releases_at}
+use Rattle.fp_flatnet.specs.Initial.{BeginAt, dues_at, releases_at}
 use Rattle.fp_flatnet.specs.Tables.{WindowTable, windows_in}
 use Rattle.fp_longestarcs.specs.Changes.{extended_points}
 use Rattle.fp_longestarcs.specs.Networks.{TimedNetwork, points_in}

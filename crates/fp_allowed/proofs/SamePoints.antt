@@ -1,6 +1,6 @@
 -- Over the same points, in whatever lists, the same classes are allowed, with the same heads and
 -- the same timed walks.
-use Rattle.std.proofs.Common.{◌≡◌, ℕ, zero, suc, ◌+◌, ◌<◌, ◌≤◌, Bool, false, ◌&&◌, ◌||◌, List, [], ◌∷◌, length, ⊎_elim, refl, sym, ap, ◌∙◌, subst}
+use Rattle.std.proofs.Common.{◌≡◌, ℕ, ◌+◌, ◌<◌, ◌≤◌, Bool, false, ◌&&◌, List, [], ◌∷◌, length, ⊎_elim, refl, sym, ap, ◌∙◌, subst}
 use Rattle.std.specs.Prelude.{Option, Some, None, nat_eq, nat_le, nat_lt}
 use Rattle.std.proofs.lemmas.Bool.{and_left, cases_lt, le-ltb}
 use Rattle.fp_lists.proofs.CountsBelow.{some_below-same}
@@ -13,7 +13,6 @@ use Rattle.fp_flatnet.specs.declared.window_tables.Window.{Window}
 use Rattle.fp_longestarcs.specs.Classes.{class_of, head_of}
 use Rattle.fp_tree.specs.declared.sides.Side.{Side}
 use Rattle.fp_allowed.specs.Allowed.{exit_of, has_moment, is_allowed, is_moment, meets_all, tails_of}
-use Rattle.fp_lists.specs.Below.{some_below}
 use Rattle.fp_allowed.specs.SamePoints.{AgreeOnPoints}
 use Rattle.fp_allowed.specs.Walks.{FollowsHeads, IsTimedWalk}
 

@@ -1,8 +1,8 @@
 -- The departures left and the slack never grow under more sides, and the slack falls on both sides
 -- of a split that divides departures.
-use Rattle.std.proofs.Common.{◌≡◌, ℕ, zero, suc, ◌+◌, ◌<◌, ◌≤◌, Bool, true, false, ◌&&◌, List, [], ◌∷◌, ◌++◌, length, ⊎_elim, refl, sym, ap, ◌∙◌, subst, arith}
+use Rattle.std.proofs.Common.{◌≡◌, ℕ, zero, suc, ◌+◌, ◌<◌, ◌≤◌, Bool, true, false, List, [], ◌∷◌, ◌++◌, length, ⊎_elim, ap, subst, arith}
 use Rattle.std.specs.Prelude.{nat_eq, nat_le, Option, Some, None}
-use Rattle.std.proofs.lemmas.Bool.{and_from, and_parts, cases_Bool, cases_eq, cond-false, cond-true, eqb-true, false≢true}
+use Rattle.std.proofs.lemmas.Bool.{and_from, and_parts, cases_Bool, cases_eq, cond-false, cond-true, eqb-true}
 use Rattle.fp_lists.specs.Below.{sum_below, count_below}
 use Rattle.fp_model.specs.Problem.{IsValid, Problem, no_arc}
 use Rattle.fp_flatnet.specs.declared.window_tables.Window.{Window}

@@ -2,7 +2,7 @@
 -- its tail, written as a leg that leaves at that point. The source of classes, as timed arcs:
 -- Boland, Hewitt, Marshall and Savelsbergh, "The Continuous-Time Service Network Design Problem",
 -- Operations Research 65, 2017. Sides and forced chains are this project's own.
-use Rattle.std.specs.Prelude.{ℕ, zero, suc, ◌+◌, ◌≡◌, ◌≢◌, List, [], ◌∷◌, ◌++◌, length, Bool, true, false, ◌&&◌, ◌||◌, not, nat_eq, nat_lt, nat_le, Option, Some, None, All, Contains}
+use Rattle.std.specs.Prelude.{ℕ, ◌+◌, ◌≡◌, ◌≢◌, List, [], ◌∷◌, ◌++◌, length, Bool, true, false, ◌&&◌, ◌||◌, not, nat_eq, nat_lt, nat_le, Option, Some, None, All, Contains}
 use Rattle.std.specs.List.{AllByRecursion, list_all}
 use Rattle.fp_lists.specs.Below.{some_below}
 use Rattle.fp_model.specs.declared.parts.Leg.{Leg}

@@ -111,14 +111,13 @@ least-apart p here there [] valid least = AreDistinct-cons here [] tt AreDistinc
 least-apart p here there (a ∷ arcs) valid least =
     let leads : Leads p here (a ∷ arcs) there = least.leads in
     let within : 1 ≤ (arc_at p a).time = (arc-valid p a valid leads.0).within.time.0 in
-    AreDistinct-cons here (ends_of p (a ∷ arcs))
-      (
-        (λ (e : (arc_at p a).to ≡ here).
-            let from_here : Leads p here arcs there = subst (λ (n : ℕ). Leads p n arcs there) e leads.2 in
-            omega (arith, within, least.least arcs from_here)),
-        never-enters p here (arc_at p a).to there arcs leads.2 (λ others from_here. omega (arith, within, least.least others from_here)),
-      )
-      (least-apart p (arc_at p a).to there arcs valid (IsLeastWalk-next p here there a arcs least))
+    AreDistinct-cons here (ends_of p (a ∷ arcs)) (
+      (λ (e : (arc_at p a).to ≡ here).
+          let from_here : Leads p here arcs there = subst (λ (n : ℕ). Leads p n arcs there) e leads.2 in
+          omega (arith, within, least.least arcs from_here)),
+      never-enters p here (arc_at p a).to there arcs leads.2 (λ others from_here. omega (arith, within, least.least others from_here)),
+    )
+    (least-apart p (arc_at p a).to there arcs valid (IsLeastWalk-next p here there a arcs least))
 
 -- the step of an arc as a number that is 0 for the arc that stands for none
 abbrev capped_step : Problem → Arc → ℕ

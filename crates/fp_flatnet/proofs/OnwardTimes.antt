@@ -1,6 +1,6 @@
 -- Going on by an arc, and by a least walk from its head.
 use Rattle.std.proofs.Common.{◌≡◌, ◌≢◌, ℕ, ◌+◌, ◌<◌, ◌≤◌, true, false, List, [], ◌∷◌, length, ⊎_elim, refl, sym, ◌∙◌, arith}
-use Rattle.std.specs.Prelude.{nat_eq, None, Some, ◌↔◌}
+use Rattle.std.specs.Prelude.{nat_eq, Some, ◌↔◌}
 use Rattle.std.proofs.lemmas.Bool.{cond-true, cond-false}
 use Rattle.std.proofs.lemmas.Bool.Decides.{eqb_tells}
 use Rattle.fp_model.specs.Problem.{Problem, IsValid, arc_at}

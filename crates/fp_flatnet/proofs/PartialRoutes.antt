@@ -8,7 +8,6 @@ use Rattle.fp_model.specs.Routes.{Leads, walk_time, step}
 use Rattle.fp_model.specs.Times.{IsLeastTime}
 use Rattle.fp_flatnet.specs.Directs.{BeginsLeast, BeginsFirst, IsDirectRoute, IsFirstBelow}
 use Rattle.fp_flatnet.specs.Distances.{AreTimesTo, time_at}
-use Rattle.fp_flatnet.specs.Verdicts.{IsInTime}
 use Rattle.fp_flatnet.proofs.DirectRoutes.{direct-more}
 use Rattle.fp_flatnet.proofs.PlanExistence.{IsDistance-unique}
 use Rattle.fp_flatnet.proofs.OnwardTimes.{GoesOnWithin, begun-next}

@@ -50,13 +50,6 @@ pub count_below-divided : (n : ℕ) (first second whole : ℕ → Bool) → ((m 
 count_below-divided zero first second whole divides = refl
 count_below-divided (suc n) first second whole divides = omega (arith, divides n, count_below-divided n first second whole divides)
 
--- the numbers from another one on
-pub count_below-add : (n k : ℕ) (test : ℕ → Bool) → count_below (n + k) test ≡ count_below n test + count_below k (λ i. test (n + i))
-count_below-add n zero test = let e : n + 0 ≡ n = omega arith in rw e (omega arith)
-count_below-add n (suc k) test =
-    let e : n + suc k ≡ suc (n + k) = omega arith in
-    rw e (omega (arith, count_below-add n k test))
-
 -- a number below the bound passes the test
 pub some_below-true : (n m : ℕ) (test : ℕ → Bool) → m < n → test m ≡ true → some_below n test ≡ true
 some_below-true zero m test h is = absurd (omega (arith, h))

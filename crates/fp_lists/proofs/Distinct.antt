@@ -49,7 +49,7 @@ AreDistinct-from_map {X} {Y} f xs distinct i j d less lt same =
     distinct i j (f d) less (omega (arith, lt, long)) (first ∙ ap f same ∙ sym second)
 
 -- a number that differs from each of a list isn't in it
-pub list_has-others : (numbers : List ℕ) (n : ℕ) → AllByRecursion (λ m. m ≢ n) numbers → list_has numbers n ≡ false
+list_has-others : (numbers : List ℕ) (n : ℕ) → AllByRecursion (λ m. m ≢ n) numbers → list_has numbers n ≡ false
 list_has-others [] n others = refl
 list_has-others (m ∷ numbers) n others =
     false_from_ne_true (list_has (m ∷ numbers) n) (λ has.
@@ -63,5 +63,5 @@ pub list_has-take_distinct : (numbers : List ℕ) (i : ℕ) → AreDistinct numb
 list_has-take_distinct numbers i distinct lt =
     list_has-others (take i numbers) (get_or numbers i 0)
     (AllByRecursion-from_get_or (λ m. m ≢ get_or numbers i 0) (take i numbers) 0 (λ k below same.
-        let before : k < i = omega (arith, below, length-take-le i numbers (omega (arith, lt))) in
-        distinct k i 0 before lt (sym (get_or-take i numbers k 0 before) ∙ same)))
+    let before : k < i = omega (arith, below, length-take-le i numbers (omega (arith, lt))) in
+    distinct k i 0 before lt (sym (get_or-take i numbers k 0 before) ∙ same)))

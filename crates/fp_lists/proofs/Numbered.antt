@@ -22,7 +22,7 @@ AllFrom-from_get_or {X} P (x ∷ xs) d i h =
     )
 
 -- and back
-pub AllFrom-get_or : {X : Type 0} (P : ℕ → X → Type 0) (xs : List X) (d : X) (i k : ℕ) → AllFrom P i xs → k < length xs →
+AllFrom-get_or : {X : Type 0} (P : ℕ → X → Type 0) (xs : List X) (d : X) (i k : ℕ) → AllFrom P i xs → k < length xs →
     P (i + k) (get_or xs k d)
 AllFrom-get_or P [] d i k all lt = absurd (omega (arith, lt))
 AllFrom-get_or {X} P (x ∷ xs) d i zero all lt =

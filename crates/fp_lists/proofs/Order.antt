@@ -17,16 +17,3 @@ Precedes-trans a b c d e f first second =
     (λ (also : (c ≡ e) × (d < f)). inr (omega (arith, same.0, also.0), omega (arith, same.1, also.1)))
     second)
     first
-
--- no two pairs are in order both ways
-pub Precedes-apart : (a b c d : ℕ) → Precedes a b c d → Precedes c d a b → ⊥
-Precedes-apart a b c d first second =
-    ⊎_elim
-    (λ (less : a < c).
-    ⊎_elim (λ (more : c < a). absurd (omega (arith, less, more))) (λ (same : (c ≡ a) × (d < b)). absurd (omega (arith, less, same.0))) second)
-    (λ (same : (a ≡ c) × (b < d)).
-    ⊎_elim
-    (λ (more : c < a). absurd (omega (arith, same.0, more)))
-    (λ (also : (c ≡ a) × (d < b)). absurd (omega (arith, same.1, also.1)))
-    second)
-    first

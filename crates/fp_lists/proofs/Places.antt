@@ -2,7 +2,6 @@
 use Rattle.std.proofs.Common.{◌≡◌, ℕ, zero, suc, ◌+◌, ◌-◌, ◌<◌, ◌≤◌, true, false, List, [], ◌∷◌, length, get_or, ⊎_elim, refl, sym, ap, ◌∙◌, subst, arith}
 use Rattle.std.specs.Prelude.{AllPairs}
 use Rattle.std.specs.List.{insert}
-use Rattle.std.specs.List.Sorted.{IsNonDecreasingBy}
 use Rattle.std.proofs.lemmas.Bool.{both_ways, cases_eq, cases_lt, false_from_ne_true, le-ltb, lt-ltb}
 use Rattle.std.proofs.lemmas.List.{get_or_default}
 use Rattle.std.proofs.lemmas.List.Edits.{length-insert, get_or-insert_below, get_or-insert_at, get_or-insert_above}
@@ -11,14 +10,6 @@ use Rattle.fp_lists.specs.Membership.{list_has}
 use Rattle.fp_lists.proofs.Membership.{StandsAt, StandsAt-from_list_has, list_has-cons_cases, list_has-first, list_has-get_or, list_has-rest}
 use Rattle.fp_lists.proofs.Pairs.{AllPairs-tail}
 use Rattle.fp_lists.proofs.Truth.{Bool-from_both}
-
--- numbers that ascend don't fall
-pub IsNonDecreasing-from_ascending : (numbers : List ℕ) → AllPairs (λ a b. a < b) numbers → IsNonDecreasingBy (λ n. n) numbers
-IsNonDecreasing-from_ascending numbers up i j d le h =
-    ⊎_elim
-    (λ (less : i < j). omega (arith, up i j d less h))
-    (λ (more : j ≤ i). let same : i ≡ j = omega arith in rw same (omega arith))
-    (cases_lt i j)
 
 -- where the first ones are below the number and the others not, that many are below it
 pub place_in-unique : (numbers : List ℕ) (n place : ℕ) → IsPlaceIn numbers n place → place_in numbers n ≡ place

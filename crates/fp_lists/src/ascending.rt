@@ -1,5 +1,5 @@
-//! Looking a number up among numbers in ascending order. Each call takes time that grows with the logarithm of how many
-//! there are, and no memory.
+//! Looking a number up among numbers in ascending order. Each call takes time that grows with the
+//! logarithm of how many there are, and no memory.
 
 ghost use Rattle.std.specs.Prelude.{◌≡◌};
 ghost use Rattle.std.specs.List.Sorted.{IsNonDecreasing};
