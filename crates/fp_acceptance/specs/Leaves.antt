@@ -15,7 +15,6 @@ use Rattle.fp_lines.specs.declared.certificates.Node.{Node}
 use Rattle.fp_lines.specs.declared.certificates.Node.TheVariants as node
 use Rattle.fp_lines.specs.Statements.{Statement}
 use Rattle.fp_acceptance.specs.Points.{points_as_of}
-use Rattle.fp_acceptance.specs.declared.limits.TheConstants.{MOST_SPLITS}
 
 -- the terminal that the arc of a split leaves, and 0 for a split by time
 abbrev pub split_tail : Problem → Split → ℕ

@@ -1,4 +1,4 @@
--- Counting the numbers below a bound that pass a test.
+-- How many bits of a row are true, as a count of the places below its length.
 use Rattle.std.proofs.Common.{◌≡◌, Bool, cond, List, [], ◌∷◌, length, refl, arith}
 use Rattle.std.proofs.lemmas.List.Sums.{sum_by-cons}
 use Rattle.fp_lists.proofs.CountsBelow.{count_below-front}

@@ -3,6 +3,7 @@ use Rattle.std.proofs.Common.{◌≡◌, ℕ, ◌+◌, ◌^◌, ◌<◌, ◌≤�
 use Rattle.std.specs.Prelude.{Option, Some, None, ◌||◌, codes, IfSome, if◌then◌else◌, is_some}
 use Rattle.std.specs.Str.{bytes_eq}
 use Rattle.std.proofs.lemmas.Bool.{eq-eqb, lt-ltb}
+use Rattle.fp_model.specs.declared.limits.TheConstants.{GREATEST_SCALE, LAST_ROUND, LATEST, LONGEST_FASTEST}
 use Rattle.fp_model.specs.Problem.{IsValid, Problem, weight_at}
 use Rattle.fp_prices.specs.declared.leaf_prices.Kind.{Kind}
 use Rattle.fp_prices.specs.declared.leaf_prices.Kind.TheVariants as price
@@ -50,7 +51,7 @@ leg-step p before l v r open_still placed =
     let depart = time-back l.depart r.depart in
     let arrive = time-back l.arrive r.arrive in
     record {
-      clean = rw (open_still, placed, depart.is, arrive.is, shipment, arc, within-back 0 100000 l.depart (omega arith) r.depart depart, within-back 0 100000 l.arrive (omega arith) r.arrive arrive) refl;
+      clean = rw (open_still, placed, depart.is, arrive.is, shipment, arc, within-back 0 LATEST l.depart (omega arith) r.depart depart, within-back 0 LATEST l.arrive (omega arith) r.arrive arrive) refl;
       gives = rw (shipment, arc, depart.value, arrive.value) refl;
     }
 
@@ -70,7 +71,7 @@ truck-step p before t v r open_still placed =
             trucks.is,
             load.is,
             arc,
-            within-back 0 100000 t.depart (omega arith) r.depart depart,
+            within-back 0 LATEST t.depart (omega arith) r.depart depart,
             within-back 0 largest_figure t.trucks (omega arith) r.trucks trucks,
             within-back 0 largest_figure t.load (omega arith) r.load load,
           ) refl;
@@ -91,8 +92,8 @@ point-step p before point v r open_still placed =
             at.is,
             round.is,
             terminal,
-            within-back 0 100000 point.at (omega arith) r.time at,
-            within-back 1 4000 point.round r.round.0 r.round.1 round,
+            within-back 0 LATEST point.at (omega arith) r.time at,
+            within-back 1 LAST_ROUND point.round r.round.0 r.round.1 round,
           ) refl;
       gives = rw (terminal, at.value, round.value) refl;
     }
@@ -103,7 +104,7 @@ pub scale-step : (p : Problem) (before : Draft) (n : ℕ) → IsScaleInRange p n
 scale-step p before n r open_still placed none =
     let back = number-back n (omega (arith, r.most)) in
     record {
-      clean = rw (open_still, placed, none, back.is, within-back 1 (10 ^ 9) n r.least r.most back, back.value, lt-ltb (weight_at n p.arcs p.shipments) (2 ^ 127) r.fits) refl;
+      clean = rw (open_still, placed, none, back.is, within-back 1 GREATEST_SCALE n r.least r.most back, back.value, lt-ltb (weight_at n p.arcs p.shipments) (2 ^ 127) r.fits) refl;
       gives = rw back.value refl;
     }
 
@@ -134,7 +135,7 @@ share-step p before s v r open_still placed some =
             point.is,
             v-back.is,
             arc,
-            within-back 0 100000 s.point (omega arith) r.point point,
+            within-back 0 LATEST s.point (omega arith) r.point point,
             within-back 0 largest_figure s.v (omega arith) r.price v-back,
           ) refl;
       gives = rw (arc, point.value, v-back.value) refl;
@@ -163,7 +164,7 @@ split-step p before (split.ByTime shipment terminal at) v r open_still placed =
     let terminal-is = terminal-back p terminal v r.1 in
     let back = time-back at r.2 in
     record {
-      clean = rw (open_still, placed, back.is, shipment-is, terminal-is, within-back 0 100000 at (omega arith) r.2 back) refl;
+      clean = rw (open_still, placed, back.is, shipment-is, terminal-is, within-back 0 LATEST at (omega arith) r.2 back) refl;
       gives = rw (shipment-is, terminal-is, back.value) refl;
     }
 
@@ -208,7 +209,7 @@ leaf-step p before l few r open_still placed =
     let kind = kind-back before.certificate.tables l.kind few r.kind in
     let back = time-back l.round (omega (arith, r.round)) in
     record {
-      clean = rw (open_still, placed, kind.is, kind.within, mode-is l.forced, back.is, within-back 0 4000 l.round (omega arith) r.round back) refl;
+      clean = rw (open_still, placed, kind.is, kind.within, mode-is l.forced, back.is, within-back 0 LAST_ROUND l.round (omega arith) r.round back) refl;
       gives = rw (kind.same, mode-same l.forced, back.value) refl;
     }
 
@@ -240,7 +241,7 @@ unfinished-step p cost bound spent.Branches costs bounds =
       gives = rw (cost-is.value, bound-is.value) refl;
     }
 
-infeasible-step : (p : Problem) (shipment : ℕ) (time : Option ℕ) → IsValid p → shipment < length p.shipments → IfSome time (λ t. t ≤ 10000000)
+infeasible-step : (p : Problem) (shipment : ℕ) (time : Option ℕ) → IsValid p → shipment < length p.shipments → IfSome time (λ t. t ≤ LONGEST_FASTEST)
     → IsStep p nothing_read (answer_fields p (answer.Infeasible shipment time)) (with_answer nothing_read (answer.Infeasible shipment time))
 infeasible-step p shipment None v there fast =
     let shipment-is = shipment-back p shipment v there in
@@ -250,7 +251,7 @@ infeasible-step p shipment (Some time) v there fast =
     let back = number-back time (omega (arith, fast)) in
     let some = no-word time (codes "none") back refl in
     record {
-      clean = rw (some, back.is, shipment-is, within-back 0 10000000 time (omega arith) fast back) refl;
+      clean = rw (some, back.is, shipment-is, within-back 0 LONGEST_FASTEST time (omega arith) fast back) refl;
       gives = rw (shipment-is, some, back.value) refl;
     }
 

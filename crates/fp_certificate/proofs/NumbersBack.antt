@@ -9,6 +9,7 @@ use Rattle.std.proofs.lemmas.Bool.{and_from, and_parts, both_ways, false_from_ne
 use Rattle.std.proofs.lemmas.Fmt.{decimal_is_IsNumeral_wide}
 use Rattle.std.proofs.lemmas.Slice.Eq.{bytes_eq-Decides}
 use Rattle.std.proofs.lemmas.Str.Parse.{digit_from_value}
+use Rattle.fp_model.specs.declared.limits.TheConstants.{LATEST}
 use Rattle.fp_fields.specs.Fields.{is_number, is_within, number}
 use Rattle.fp_records.specs.Fields.{is_empty}
 use Rattle.fp_records.specs.Text.{is_plain, is_plain_field}
@@ -57,7 +58,7 @@ number-back n small =
     }
 
 -- a time, and the largest_figure number of a field
-pub time-back : (n : ℕ) → n ≤ 100000 → IsReadBack n
+pub time-back : (n : ℕ) → n ≤ LATEST → IsReadBack n
 time-back n h = number-back n (omega arith)
 
 pub large-back : (n : ℕ) → n ≤ largest_figure → IsReadBack n

@@ -1,5 +1,5 @@
 -- Whole networks of an instance that have the same points are equal.
-use Rattle.std.proofs.Common.{◌≡◌, ℕ, suc, ◌<◌, ◌≢◌, Bool, true, false, ◌||◌, ◌&&◌, List, [], ◌∷◌, length, get_or, ⊎_elim, refl, sym, ap, ◌∙◌, arith}
+use Rattle.std.proofs.Common.{◌≡◌, ℕ, ◌<◌, ◌≢◌, Bool, true, ◌||◌, ◌&&◌, List, [], ◌∷◌, length, get_or, ⊎_elim, sym, ap, ◌∙◌, arith}
 use Rattle.std.specs.Prelude.{nat_eq}
 use Rattle.std.specs.List.{AllPairs}
 use Rattle.std.proofs.lemmas.Bool.{cases_eq, eq-eqb, ne_eqb}
@@ -8,7 +8,7 @@ use Rattle.fp_model.specs.Problem.{Problem}
 use Rattle.fp_timenodes.specs.Floor.{HaveSamePoints}
 use Rattle.fp_lists.specs.Membership.{list_has}
 use Rattle.fp_timenodes.specs.Points.{TimePoints}
-use Rattle.fp_lists.proofs.Membership.{list_has-rest, list_has-first, list_has-cons_cases, list_has-insert, StandsAt-from_list_has}
+use Rattle.fp_lists.proofs.Membership.{list_has-rest, list_has-cons_cases, list_has-insert}
 use Rattle.fp_longestarcs.specs.Ascending.{ArePoints}
 use Rattle.fp_lists.specs.Ascending.{place_in}
 use Rattle.fp_longestarcs.specs.Networks.{TimedNetwork, points_in}
@@ -26,7 +26,7 @@ rest-of x y xs ys m up is same there =
     (list_has-cons_cases y ys m (sym (same m) ∙ list_has-rest x xs m there))
 
 -- whole networks of an instance with the same points are equal
-pub IsWholeNetwork-unique : (p : Problem) (m n : TimedNetwork) → IsWholeNetwork p m → IsWholeNetwork p n → ((terminal : ℕ) → terminal < length p.terminals → HaveSamePoints (points_in m terminal) (points_in n terminal)) → m ≡ n
+IsWholeNetwork-unique : (p : Problem) (m n : TimedNetwork) → IsWholeNetwork p m → IsWholeNetwork p n → ((terminal : ℕ) → terminal < length p.terminals → HaveSamePoints (points_in m terminal) (points_in n terminal)) → m ≡ n
 IsWholeNetwork-unique p m n first second same =
     let net : List ℕ → List (List ℕ) → List (List ℕ) → TimedNetwork = λ tails points heads. record { tails = tails; points = points; heads = heads } in
     let points : m.points ≡ n.points =

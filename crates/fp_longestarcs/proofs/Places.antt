@@ -1,14 +1,12 @@
 -- Where a time stands among points in ascending order, and what putting it there does.
-use Rattle.std.proofs.Common.{◌≡◌, ℕ, zero, suc, ◌+◌, ◌-◌, ◌*◌, ◌<◌, ◌≤◌, true, false, max, List, [], ◌∷◌, length, get_or, ⊎_elim, sym, ap, ◌∙◌, subst, arith}
-use Rattle.std.specs.Prelude.{nat_le, nat_eq, All}
-use Rattle.std.specs.List.{insert, AllPairs}
-use Rattle.std.proofs.lemmas.Bool.{cases_lt, cases_eq, lt-ltb, le-ltb, le-leb, lt-leb, eq-eqb, ne_eqb, false_from_ne_true, both_ways, cond-true, cond-false}
-use Rattle.std.proofs.lemmas.List.{get_or_default}
-use Rattle.std.proofs.lemmas.List.Edits.{length-insert, get_or-insert_below, get_or-insert_at, get_or-insert_above}
+use Rattle.std.proofs.Common.{◌≡◌, ℕ, zero, ◌-◌, ◌*◌, ◌<◌, ◌≤◌, true, false, max, List, ◌∷◌, length, get_or, ⊎_elim, sym, ap, ◌∙◌, subst, arith}
+use Rattle.std.specs.Prelude.{nat_le, nat_eq}
+use Rattle.std.specs.List.{insert}
+use Rattle.std.proofs.lemmas.Bool.{cases_lt, cases_eq, le-leb, lt-leb, eq-eqb, ne_eqb, cond-true, cond-false}
 use Rattle.std.proofs.lemmas.List.Sorted.{All-permutation, IsPermutation-insert}
 use Rattle.std.proofs.lemmas.List.Elements.{All-cons}
-use Rattle.fp_lists.proofs.Membership.{StandsAt, StandsAt-from_list_has, list_has-get_or, list_has-insert, list_has-cons_cases, list_has-first, list_has-rest}
-use Rattle.fp_lists.proofs.Places.{IsPlaceIn-place_in, ascending-insert, list_has-not_at_place, StandsAt-before_place}
+use Rattle.fp_lists.proofs.Membership.{StandsAt, StandsAt-from_list_has, list_has-get_or, list_has-insert, list_has-rest}
+use Rattle.fp_lists.proofs.Places.{ascending-insert, list_has-not_at_place, StandsAt-before_place}
 use Rattle.fp_timenodes.specs.Floor.{floor_point}
 use Rattle.fp_lists.specs.Membership.{list_has}
 use Rattle.fp_timenodes.specs.declared.places.TheConstants.{LATEST}

@@ -1,5 +1,5 @@
 -- Points of a terminal in ascending order.
-use Rattle.std.specs.Prelude.{ℕ, suc, ◌<◌, ◌≤◌, ◌≡◌, true, List, [], ◌∷◌, length, nat_lt, slice_index_or, All, if◌then◌else◌}
+use Rattle.std.specs.Prelude.{ℕ, ◌<◌, ◌≤◌, ◌≡◌, true, List, All}
 use Rattle.std.specs.List.{AllPairs}
 use Rattle.fp_timenodes.specs.declared.places.TheConstants.{LATEST}
 use Rattle.fp_lists.specs.Membership.{list_has}

@@ -59,25 +59,6 @@ first_of_all p routes kind k i lt long none at = record {
       before;
 }
 
-kind_number-positive : (kind : PlanKind) → 1 ≤ kind_number kind
-kind_number-positive Count = omega arith
-kind_number-positive NotRoute = omega arith
-kind_number-positive TerminalTwice = omega arith
-kind_number-positive BeforeRelease = omega arith
-kind_number-positive BeforeArrival = omega arith
-kind_number-positive AfterDue = omega arith
-
--- no fault comes before a false count
-pub first_of_count : (p : Problem) (routes : List (List Leg)) → length routes ≢ length p.shipments → IsFirstFault p routes Count 0 0
-first_of_count p routes other_count = record {
-  there = (other_count, refl, refl);
-  first = λ other l j before fault.
-      ⊎_elim
-      (λ earlier. omega (arith, earlier))
-      (λ same. ⊎_elim (λ less. omega (arith, less)) (λ lesser. omega (arith, lesser.1, kind_number-positive other)) same.1)
-      before;
-}
-
 -- where all shipments have no fault the routes are a plan
 pub plan_after_all : (p : Problem) (routes : List (List Leg)) (n : ℕ) → length routes ≡ length p.shipments → n ≡ length p.shipments → AreShipmentsFaultless p routes n →
     IsPlan p 1 routes

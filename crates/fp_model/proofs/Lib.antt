@@ -2,9 +2,10 @@ pub mod Distinct
 pub mod Bounds
 pub mod Joins
 pub mod Members
-pub mod Together
-pub mod Steps
+pub mod SharedDepartures
+pub mod LastArrivals
 pub mod LegByLeg
 pub mod Faultless
+pub mod Validity
 pub mod FirstFaults
 pub mod Examples

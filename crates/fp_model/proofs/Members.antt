@@ -1,13 +1,17 @@
--- The members that are a leg: each names that leg of its routes, and each leg of the routes has its member among them.
-use Rattle.std.proofs.Common.{◌≡◌, ℕ, zero, suc, ◌+◌, ◌<◌, true, false, List, [], ◌∷◌, length, map, ⊎_elim, refl, sym, ap, subst, arith}
+-- The members that are a leg: each names that leg, and each leg of the routes has its member.
+use Rattle.std.proofs.Common.{◌≡◌, ◌∙◌, ℕ, zero, suc, ◌+◌, ◌<◌, true, false, List, [], ◌∷◌, length, get_or, map, ⊎_elim, refl, sym, ap, subst, arith}
 use Rattle.std.specs.Prelude.{All, Contains, filter}
-use Rattle.std.proofs.lemmas.Bool.{cases_Bool, cond-true, cond-false}
+use Rattle.std.proofs.Math.ListN.{length-map}
+use Rattle.std.proofs.lemmas.Bool.{cases_Bool, cond-true, cond-false, or_left, or_right}
+use Rattle.std.proofs.lemmas.List.{get_or-map, get_or_default}
+use Rattle.std.proofs.lemmas.List.Folds.{list_any-append}
 use Rattle.std.proofs.lemmas.List.Elements.{All-append, All-cons, All-nil, All-weaker, Contains-append_left, Contains-append_right}
 use Rattle.fp_model.specs.declared.parts.Leg.{Leg}
 use Rattle.fp_model.specs.declared.parts.Member.{Member}
-use Rattle.fp_model.specs.Costs.{same_leg}
-use Rattle.fp_model.specs.Members.{IsMemberOf, NamedLeg, member_leg, members_among, members_in, named_from, named_on}
-use Rattle.fp_model.specs.Numbered.{leg_at, route_at}
+use Rattle.fp_model.specs.Costs.{all_legs, has_leg, same_leg}
+use Rattle.fp_model.specs.Members.{IsMemberOf, LeaveAsOne, NamedLeg, arc_lists, member_arc, member_leg, members_among, members_in, named_from, named_on}
+use Rattle.fp_model.specs.Numbered.{leg_at, no_leg, route_at}
+use Rattle.fp_model.specs.Routes.{arcs_of}
 use Rattle.fp_model.proofs.Distinct.{same_leg-refl, same_leg-true}
 
 -- a named leg that is the leg is one of its members
@@ -22,7 +26,8 @@ members_among-other c x legs e =
     let kept : List NamedLeg = filter (λ (y : NamedLeg). same_leg c y.leg) legs in
     ap (map (λ (y : NamedLeg). y.member)) (cond-false (same_leg c x.leg) (x ∷ kept) kept e)
 
--- a named leg is one of the route of the shipment with the number k, where the route's first leg has the number i
+-- a named leg is one of the route of the shipment with the number k, where the route's first leg
+-- has the number i
 record IsLegOf (k i : ℕ) (route : List Leg) (x : NamedLeg) : Type 0 where
   place : ℕ
   within : place < length route
@@ -86,8 +91,8 @@ pub record IsMemberAt (routes : List (List Leg)) (l : Leg) (m : Member) : Type 0
   pub member : IsMemberOf routes m
   pub same : member_leg routes m ≡ l
 
-at-leg : (routes : List (List Leg)) (x : NamedLeg) → IsLegAmong 0 routes x → IsMemberAt routes x.leg x.member
-at-leg routes x is =
+IsMemberAt-among : (routes : List (List Leg)) (x : NamedLeg) → IsLegAmong 0 routes x → IsMemberAt routes x.leg x.member
+IsMemberAt-among routes x is =
     let number : is.place ≡ x.member.shipment = omega (arith, is.shipment) in
     record {
       member = record {
@@ -114,7 +119,7 @@ among-each P c (x ∷ legs) all =
 pub members_in-each : (routes : List (List Leg)) (l : Leg) → All (IsMemberAt routes l) (members_in routes l)
 members_in-each routes l =
     among-each (IsMemberAt routes) l (named_from 0 routes)
-    (All-weaker (IsLegAmong 0 routes) (λ (x : NamedLeg). IsMemberAt routes x.leg x.member) (at-leg routes) (named_from 0 routes) (legs-among 0 routes))
+    (All-weaker (IsLegAmong 0 routes) (λ (x : NamedLeg). IsMemberAt routes x.leg x.member) (IsMemberAt-among routes) (named_from 0 routes) (legs-among 0 routes))
 
 contains-on : (k i : ℕ) (route : List Leg) (n : ℕ) → n < length route → Contains (named_on k i route) (record { member = record { shipment = k; leg = i + n }; leg = leg_at route n })
 contains-on k i [] n lt = absurd (omega (arith, lt))
@@ -164,3 +169,49 @@ members_in-contain routes m is =
     among-contains (named_from 0 routes) x
     (subst (λ (k : ℕ). Contains (named_from 0 routes) (record { member = record { shipment = k; leg = m.leg }; leg = member_leg routes m })) number
     (contains-from 0 routes m.shipment m.leg is.shipment is.leg))
+
+-- a member of routes names a leg of their lists of arcs
+pub IsMemberOf-arc_lists : (routes : List (List Leg)) (m : Member) → IsMemberOf routes m → IsMemberOf (arc_lists routes) m
+IsMemberOf-arc_lists routes m is =
+    let at : get_or (arc_lists routes) m.shipment [] ≡ arcs_of (route_at routes m.shipment) = get_or-map arcs_of routes m.shipment [] [] is.shipment in
+    record {
+      shipment = omega (arith, is.shipment, length-map routes arcs_of);
+      leg = subst (λ (arcs : List ℕ). m.leg < length arcs) (sym at) (omega (arith, is.leg, length-map (route_at routes m.shipment) (λ (l : Leg). l.arc)));
+    }
+
+-- and its arc there is that of its leg
+pub member_arc-arc_lists : (routes : List (List Leg)) (m : Member) → IsMemberOf routes m → member_arc (arc_lists routes) m ≡ (member_leg routes m).arc
+member_arc-arc_lists routes m is =
+    ap (λ (arcs : List ℕ). get_or arcs m.leg 0) (get_or-map arcs_of routes m.shipment [] [] is.shipment)
+    ∙ get_or-map (λ (l : Leg). l.arc) (route_at routes m.shipment) m.leg no_leg 0 is.leg
+
+-- a leg of a route is among its legs
+has_leg-place : (legs : List Leg) (i : ℕ) → i < length legs → has_leg (leg_at legs i) legs ≡ true
+has_leg-place [] i lt = absurd (omega (arith, lt))
+has_leg-place (l ∷ legs) zero lt = or_left (same_leg l l) (has_leg l legs) (same_leg-refl l)
+has_leg-place (l ∷ legs) (suc i) lt = or_right (same_leg (leg_at legs i) l) (has_leg (leg_at legs i) legs) (has_leg-place legs i (omega (arith, lt)))
+
+has_leg-places : (routes : List (List Leg)) (k i : ℕ) → k < length routes → i < length (route_at routes k) → has_leg (leg_at (route_at routes k) i) (all_legs routes) ≡ true
+has_leg-places [] k i lt there = absurd (omega (arith, lt))
+has_leg-places (r ∷ routes) zero i lt there =
+    let l : Leg = leg_at r i in
+    list_any-append (same_leg l) r (all_legs routes) ∙ or_left (has_leg l r) (has_leg l (all_legs routes)) (has_leg-place r i there)
+has_leg-places (r ∷ routes) (suc k) i lt there =
+    let l : Leg = leg_at (route_at routes k) i in
+    list_any-append (same_leg l) r (all_legs routes) ∙ or_right (has_leg l r) (has_leg l (all_legs routes)) (has_leg-places routes k i (omega (arith, lt)) there)
+
+-- the leg of a member is among all legs
+pub has_leg-member : (routes : List (List Leg)) (m : Member) → IsMemberOf routes m → has_leg (member_leg routes m) (all_legs routes) ≡ true
+has_leg-member routes m is = has_leg-places routes m.shipment m.leg is.shipment is.leg
+
+-- any two members of a group that leaves as one leave together
+pub LeaveAsOne-contains : (routes : List (List Leg)) (group : List Member) (m n : Member) → LeaveAsOne routes group → Contains group m → Contains group n →
+    (member_leg routes m).depart ≡ (member_leg routes n).depart
+LeaveAsOne-contains routes group m n pairs in_m in_n = from-first m in_m ∙ sym (from-first n in_n)
+  where
+    departs : Member → ℕ
+    departs k = (member_leg routes k).depart
+
+    from-first : (k : Member) → Contains group k → departs k ≡ departs (get_or group 0 m)
+    from-first k (zero, lt, is) = ap departs (sym is ∙ get_or_default group 0 k m lt)
+    from-first k (suc i, lt, is) = ap departs (sym is ∙ get_or_default group (suc i) k m lt) ∙ sym (pairs 0 (suc i) m (omega arith) lt)

@@ -1,7 +1,8 @@
--- Departures, their loads and trucks, and what they cost. A departure is a leg: an arc and a number.
--- The number may be a time, a time over some denominator, or what stands for several times.
--- The source of the problem: Boland, Hewitt, Marshall and Savelsbergh, "The Continuous-Time Service Network Design Problem",
--- Operations Research 65, 2017.
+-- Departures, their loads and trucks, and what they cost.
+-- A departure is a leg: an arc and a number. The number may be a time, a time over some
+-- denominator, or what stands for several times.
+-- The source of the problem: Boland, Hewitt, Marshall and Savelsbergh, "The Continuous-Time Service
+-- Network Design Problem", Operations Research 65, 2017.
 use Rattle.std.specs.Prelude.{ℕ, ◌+◌, ◌*◌, List, [], ◌∷◌, ◌++◌, Bool, ◌==◌, ◌&&◌, sum_by, map, if◌then◌else◌}
 use Rattle.std.specs.List.{list_any}
 use Rattle.std.specs.declared.alloc.Global.{Global}

@@ -4,6 +4,7 @@ use Rattle.fp_model.specs.declared.parts.Leg.{Leg}
 use Rattle.fp_model.specs.declared.parts.Member.{Member}
 use Rattle.fp_model.specs.Costs.{same_leg}
 use Rattle.fp_model.specs.Numbered.{leg_at, route_at}
+use Rattle.fp_model.specs.Routes.{arcs_of}
 
 -- a member comes before another: by its shipment, and then by its leg
 abbrev pub MemberComesBefore : Member → Member → Type 0
@@ -13,6 +14,10 @@ MemberComesBefore m n = (m.shipment < n.shipment) ⊎ ((m.shipment ≡ n.shipmen
 pub record IsMemberOf {X : Type 0} (routes : List (List X)) (m : Member) : Type 0 where
   pub shipment : m.shipment < length routes
   pub leg : m.leg < length (slice_index_or routes m.shipment [])
+
+-- routes of legs, each as the list of its arcs
+abbrev pub arc_lists : List (List Leg) → List (List ℕ)
+arc_lists routes = map arcs_of routes
 
 -- the leg of a member
 abbrev pub member_leg : List (List Leg) → Member → Leg
@@ -30,7 +35,8 @@ GoByOneArc routes group = AllPairs (λ m n. member_arc routes m ≡ member_arc r
 abbrev pub AreDisjoint : List Member → List Member → Type 0
 AreDisjoint group other = (m : Member) → Contains group m → Contains other m → ⊥
 
--- groups of legs of the routes, which are lists of arcs: each leg is in at most one group, and all of a group go by one arc
+-- groups of legs of the routes, which are lists of arcs: each leg is in at most one group, and all
+-- of a group go by one arc
 pub record AreGroupsOf (routes : List (List ℕ)) (groups : List (List Member)) : Type 0 where
   pub members : All (All (IsMemberOf routes)) groups
   pub one_arc : All (GoByOneArc routes) groups
@@ -46,7 +52,8 @@ abbrev pub named_on : ℕ → ℕ → List Leg → List NamedLeg
 named_on k i [] = []
 named_on k i (l ∷ legs) = record { member = record { shipment = k; leg = i }; leg = l } ∷ named_on k (i + 1) legs
 
--- the legs of routes, by shipment and then leg, where the first route is that of the shipment with the number k
+-- the legs of routes, by shipment and then leg, where the first route is that of the shipment with
+-- the number k
 abbrev pub named_from : ℕ → List (List Leg) → List NamedLeg
 named_from k [] = []
 named_from k (legs ∷ routes) = named_on k 0 legs ++ named_from (k + 1) routes
@@ -58,6 +65,10 @@ members_among legs l = map (λ (x : NamedLeg). x.member) (filter (λ (x : NamedL
 -- all members that are the leg, by shipment and then by their place
 abbrev pub members_in : List (List Leg) → Leg → List Member
 members_in routes l = members_among (named_from 0 routes) l
+
+-- all members of a group leave at one moment
+abbrev pub LeaveAsOne : List (List Leg) → List Member → Type 0
+LeaveAsOne routes group = AllPairs (λ m n. (member_leg routes m).depart ≡ (member_leg routes n).depart) group
 
 -- legs of the routes that are one leg in the others leave together
 abbrev pub LeaveTogether : (others routes : List (List Leg)) → Type 0

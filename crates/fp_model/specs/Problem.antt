@@ -1,6 +1,7 @@
 -- What a planner is given, when it is valid, and how heavy it is.
--- The source of the problem: Boland, Hewitt, Marshall and Savelsbergh, "The Continuous-Time Service Network Design Problem",
--- Operations Research 65, 2017. Holds, scales and limits are this project's own.
+-- The source of the problem: Boland, Hewitt, Marshall and Savelsbergh, "The Continuous-Time Service
+-- Network Design Problem", Operations Research 65, 2017. Holds, scales and limits are this
+-- project's own.
 use Rattle.std.specs.Prelude.{ℕ, ◌+◌, ◌*◌, ◌^◌, ◌<◌, ◌≤◌, ◌≡◌, ◌≢◌, List, length, All, AllPairs, sum_by, slice_index_or, max, [], ◌∷◌}
 use Rattle.std.specs.Int.{div_ceil}
 use Rattle.fp_model.specs.declared.limits.TheConstants.{GREATEST_AMOUNT, GREATEST_HOLD, GREATEST_SCALE, LATEST, MOST_ARCS, MOST_SHIPMENTS, MOST_TERMINALS, MOST_TIMED_NODES, SCALE}
@@ -8,7 +9,8 @@ use Rattle.fp_model.specs.declared.parts.Arc.{Arc}
 use Rattle.fp_model.specs.declared.parts.Shipment.{Shipment}
 use Rattle.fp_model.specs.Names.{IsName}
 
--- what is given: the terminals by their names, their holds, the arcs, the shipments, and the scale of prices
+-- what is given: the terminals by their names, their holds, the arcs, the shipments, and the scale
+-- of prices
 pub record Problem : Type 0 where
   pub terminals : List (List ℕ)
   pub holds : List ℕ
@@ -36,7 +38,8 @@ truck_cost arc size = arc.truck * div_ceil size arc.capacity
 abbrev pub alone_cost : ℕ → Arc → ℕ
 alone_cost size arc = arc.freight * size + truck_cost arc size
 
--- the sum, over every shipment and every arc, of what the shipment costs that goes over the arc alone
+-- the sum, over every shipment and every arc, of what the shipment costs that goes over the arc
+-- alone
 abbrev pub alone_total : List Arc → List Shipment → ℕ
 alone_total arcs shipments = sum_by (λ (s : Shipment). sum_by (alone_cost s.size) arcs) shipments
 
@@ -79,7 +82,8 @@ pub record IsShipment (terminals : ℕ) (s : Shipment) : Type 0 where
 abbrev pub EndsDiffer : Arc → Arc → Type 0
 EndsDiffer a b = a.from ≡ b.from → a.to ≢ b.to
 
--- the parts are sound in themselves: every limit on them holds, there is one hold per terminal, and names and ordered ends differ
+-- the parts are sound in themselves: every limit on them holds, there is one hold per terminal, and
+-- names and ordered ends differ
 pub record HasSoundParts (p : Problem) : Type 0 where
   pub few_terminals : length p.terminals ≤ MOST_TERMINALS
   pub few_arcs : length p.arcs ≤ MOST_ARCS

@@ -1,3 +1,4 @@
+//! What a plan costs, and the loads and the trucks of its departures.
 ghost use Rattle.std.specs.Prelude.{ℕ, ◌≡◌, ◌+◌, ◌<◌, ◌≤◌, ◌^◌, length, All};
 ghost use Rattle.std.specs.declared.alloc.Global.{Global};
 ghost use Rattle.std.specs.declared.vec.Vec.{Vec};
@@ -106,11 +107,13 @@ fn routes_cost(instance: &Instance, routes: &[Vec<Leg>]) -> u128
 
 /// What a plan costs: its trucks, counted once for each distinct departure, and its flow.
 ///
-/// The cost is below `2^127` at every plan. Takes no memory.
+/// The cost is below `2^127` at every plan. Takes no memory, so it looks at each pair of legs:
+/// `fp_timetable::cost` takes some, and time that grows with the legs but for a sort.
 pub fn cost(instance: &Instance, plan: &Plan) -> u128
     requires { IsPlan instance.now 1 plan.now }
     ensures { result ≡ cost_of instance.now plan.now }
 {
+    // An instance that was read is known to be valid, so its sums fit.
     let _known = instance.arcs();
     routes_cost(instance, plan.routes.as_slice())
 }

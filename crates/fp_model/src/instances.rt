@@ -1,3 +1,4 @@
+//! Instances: what a planner is given.
 ghost use Rattle.std.specs.Prelude.{ℕ, ◌≡◌, ◌<◌, ◌≤◌, ◌^◌, ◌↔◌, All, IfOk, IsTrue, length};
 ghost use Rattle.fp_model.specs.Numbered.{shipment_at};
 ghost use Rattle.fp_model.specs.Routes.{step};
@@ -151,8 +152,8 @@ impl Instance {
         self.arcs()[number as usize]
     }
 
-    /// The step of the arc with a number: its travel time and the hold of its head. So long after it
-    /// left by the arc a shipment can leave the next terminal.
+    /// The step of the arc with a number: its travel time and the hold of its head. So long after
+    /// it left by the arc a shipment can leave the next terminal.
     pub fn step(&self, arc: u32) -> u32
         requires { arc < length self.now.arcs }
         ensures same { result ≡ step self.now arc }
@@ -188,7 +189,7 @@ impl Instance {
         greatest_due(self.shipments())
     }
 
-    /// An equal instance, with its scale. Fails only where no memory is found.
+    /// An equal instance, with its scale. `NoMemory` only where no memory is found.
     pub fn copy(&self, alloc: Global) -> Result<Instance, NoMemory>
         ensures { IfOk result (λ i. i ≡ self.now) }
     {

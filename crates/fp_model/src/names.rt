@@ -1,3 +1,4 @@
+//! Names of terminals and shipments.
 ghost use Rattle.std.specs.Prelude.{◌≡◌, ◌↔◌, IfOk, IsTrue};
 ghost use Rattle.fp_model.specs.Names.{IsName, is_name_byte};
 
@@ -41,7 +42,7 @@ impl Model for Name {
 }
 
 impl Name {
-    /// The name of these bytes. Fails only where no memory is found.
+    /// The name of these bytes. `NoMemory` only where no memory is found.
     pub fn new(alloc: Global, bytes: &[u8]) -> Result<Name, NoMemory>
         requires { IsName bytes.now }
         ensures { IfOk result (λ name. name ≡ bytes.now) }
@@ -59,7 +60,7 @@ impl Name {
         &self.bytes
     }
 
-    /// An equal name. Fails only where no memory is found.
+    /// An equal name. `NoMemory` only where no memory is found.
     pub fn copy(&self, alloc: Global) -> Result<Name, NoMemory>
         ensures { IfOk result (λ name. name ≡ self.now) }
     {

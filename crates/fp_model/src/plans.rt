@@ -1,3 +1,4 @@
+//! Plans: for each shipment a list of legs.
 ghost use Rattle.std.specs.Prelude.{◌≡◌, IfOk};
 
 use crate::NoMemory;
@@ -26,7 +27,7 @@ impl Model for Plan {
 }
 
 impl Plan {
-    /// An equal plan. Fails only where no memory is found.
+    /// An equal plan. `NoMemory` only where no memory is found.
     pub fn copy(&self, alloc: Global) -> Result<Plan, NoMemory>
         ensures { IfOk result (λ plan. plan ≡ self.now) }
     {

@@ -1,3 +1,4 @@
+//! What is wrong with a leg at its place in a route.
 ghost use Rattle.std.specs.Prelude.{ℕ, ◌≡◌, ◌+◌, ◌<◌, ◌≤◌, ◌^◌, ◌↔◌, IsTrue, length};
 ghost use Rattle.fp_model.specs.Faults.{ArrivesLate, BreaksOff, LeavesEarly, Returns, place_before as place_before_of};
 ghost use Rattle.fp_model.specs.Numbered.{leg_at};

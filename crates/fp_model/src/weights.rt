@@ -1,3 +1,4 @@
+//! The weight of an instance, which bounds every sum of prices.
 ghost use Rattle.std.specs.Prelude.{ℕ, ◌≡◌, ◌+◌, ◌*◌, ◌<◌, ◌≤◌, ◌^◌, ◌↔◌, All, IfSome, IsNone, sum_by};
 ghost use Rattle.fp_model.specs.Problem.{IsArcWithin, IsShipmentWithin, alone_cost, alone_total, weight as weight_of};
 

@@ -113,14 +113,14 @@ pub record ForcedSoFar (s : Setting) (rows : List (List Bool)) (i : ℕ) (forced
   pub told : (c : Leg) → IsClass s.network c → bit_of forced.row (class_number s.network c) ≡ has_leg c (all_legs chains)
 
 -- what no chain loads
-pub record AreBare (s : Setting) (forced : ForcedClasses) : Type 0 where
+pub record AreUnloaded (s : Setting) (forced : ForcedClasses) : Type 0 where
   pub loads_long : length forced.loads.items ≡ class_count s.network
   pub row_long : length forced.row ≡ class_count s.network
   pub loads : (n : ℕ) → get_or forced.loads.items n 0 ≡ 0
   pub told : (n : ℕ) → bit_of forced.row n ≡ false
 
-pub bare : (s : Setting) (forced : ForcedClasses) → forced.loads.items ≡ replicate (class_count s.network) 0 → forced.row ≡ replicate (class_count s.network) false → AreBare s forced
-bare s forced loads_are row_is = record {
+AreUnloaded-replicate : (s : Setting) (forced : ForcedClasses) → forced.loads.items ≡ replicate (class_count s.network) 0 → forced.row ≡ replicate (class_count s.network) false → AreUnloaded s forced
+AreUnloaded-replicate s forced loads_are row_is = record {
   loads_long = ap (λ (l : List ℕ). length l) loads_are ∙ length-replicate {A = ℕ} (class_count s.network) 0;
   row_long = ap (λ (l : List Bool). length l) row_is ∙ length-replicate (class_count s.network) false;
   loads = λ n. ap (λ (l : List ℕ). get_or l n 0) loads_are ∙ zeros (class_count s.network) n 0 refl;
@@ -138,7 +138,7 @@ bare s forced loads_are row_is = record {
 -- at first there is none
 pub so_far_none : (s : Setting) (rows : List (List Bool)) (forced : ForcedClasses) → forced.loads.items ≡ replicate (class_count s.network) 0 → forced.row ≡ replicate (class_count s.network) false → ForcedSoFar s rows 0 forced
 so_far_none s rows forced loads_are row_is =
-    let none = bare s forced loads_are row_is in
+    let none = AreUnloaded-replicate s forced loads_are row_is in
     record {
       chains = [];
       long = refl;
@@ -228,9 +228,9 @@ so_far_all s rows i forced so_far all =
     }
 
 -- no chain of any shipment
-pub none_forced : (s : Setting) (rows : List (List Bool)) (forced : ForcedClasses) → forced.loads.items ≡ replicate (class_count s.network) 0 → forced.row ≡ replicate (class_count s.network) false → AreForcedOf s rows false forced
+none_forced : (s : Setting) (rows : List (List Bool)) (forced : ForcedClasses) → forced.loads.items ≡ replicate (class_count s.network) 0 → forced.row ≡ replicate (class_count s.network) false → AreForcedOf s rows false forced
 none_forced s rows forced loads_are row_is =
-    let start = bare s forced loads_are row_is in
+    let start = AreUnloaded-replicate s forced loads_are row_is in
     let chains : List (List Leg) = map (λ (x : Shipment). []) s.problem.shipments in
     record {
       chains = chains;

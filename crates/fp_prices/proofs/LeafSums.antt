@@ -61,7 +61,7 @@ bases-and-paid p tables allowed kind size chains walks keep are once =
     )
 
 -- what a walk costs is what its shipment pays, and its flow
-walk-parts : (p : Problem) (price : Leg → ℕ) (size : ℕ) (walk : List Leg) → walk_cost p price size walk ≡ sum_by price walk + p.scale * flow_cost p size walk
+pub walk-parts : (p : Problem) (price : Leg → ℕ) (size : ℕ) (walk : List Leg) → walk_cost p price size walk ≡ sum_by price walk + p.scale * flow_cost p size walk
 walk-parts p price size walk =
     let flow : Leg → ℕ = λ c. (arc_at p c.arc).freight * size in
     let parts : walk_cost p price size walk ≡ sum_by price walk + sum_by (λ c. p.scale * flow c) walk =

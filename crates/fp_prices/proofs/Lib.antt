@@ -1,10 +1,10 @@
-pub mod LeafFound
+pub mod LeafBounds
 pub mod LeastSoFar
 pub mod ShipmentCosts
 pub mod WalksSoFar
 pub mod BasesCost
 pub mod SamePoints
-pub mod Searched
+pub mod ShareSearches
 pub mod ForcedSoFar
 pub mod ChainLoads
 pub mod ForcedSums
@@ -20,6 +20,7 @@ pub mod ForcedClasses
 pub mod ClassPrices
 pub mod LeafSums
 pub mod FlatBounds
+pub mod ForcedValues
 pub mod TableAppends
 pub mod EarnedLeaves
 pub mod WalkClasses
@@ -28,7 +29,7 @@ pub mod PlanLeaves
 pub mod OneValue
 pub mod SmallPrices
 pub mod SmallBounds
-mod Worked
+mod Examples
 pub mod Nodes
 pub mod NodesMet
 pub mod OriginLabels
@@ -39,4 +40,4 @@ pub mod TimedInGraph
 pub mod GraphTimed
 pub mod LeastOver
 pub mod CostBounds
-mod WorkedGraph
+mod GraphExamples

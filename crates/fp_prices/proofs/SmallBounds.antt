@@ -38,8 +38,8 @@ tails-apart p allowed there met here (c ∷ chain) forced =
     let others : AllByRecursion (λ y. y ≢ here) (map (tails_of p) (arcs_of chain)) =
     not-met p allowed there (here ∷ met) (arc_at p c.arc).to chain here (λ x others e. others.0 e) forced.3 in
     AreDistinct-cons (tails_of p c.arc) (map (tails_of p) (arcs_of chain))
-      (subst (λ (t : ℕ). AllByRecursion (λ y. y ≢ t) (map (tails_of p) (arcs_of chain))) (sym forced.2.leaves) others)
-      (tails-apart p allowed there (here ∷ met) (arc_at p c.arc).to chain forced.3)
+    (subst (λ (t : ℕ). AllByRecursion (λ y. y ≢ t) (map (tails_of p) (arcs_of chain))) (sym forced.2.leaves) others)
+    (tails-apart p allowed there (here ∷ met) (arc_at p c.arc).to chain forced.3)
 
 forced-exist : (p : Problem) (allowed : Leg → Bool) (there : ℕ) (met : List ℕ) (here : ℕ) (chain : List Leg) → ((c : Leg) → allowed c ≡ true → c.arc < length p.arcs) →
     AreForced p allowed there met here chain → AllByRecursion (λ a. a < length p.arcs) (arcs_of chain)

@@ -1,3 +1,4 @@
+//! The classes of the forced chains, their loads, and what the trucks cost that they need.
 ghost use Rattle.std.specs.Prelude.{ℕ, ◌≡◌, ◌+◌, ◌*◌, ◌<◌, ◌≤◌, ◌^◌, ◌||◌, All, IfOk, List, false, if◌then◌else◌, length, replicate, slice_index, true};
 ghost use Rattle.fp_lists.specs.Distinct.{AreDistinct};
 ghost use Rattle.fp_lists.specs.Membership.{list_has};
@@ -14,8 +15,8 @@ use fp_model::Instance;
 use fp_rows::Row;
 use std::alloc::Global;
 
-/// The classes of the forced chains: for each class, by its number, the sizes in all of the shipments whose chains have it,
-/// and a bit that is set where some chain has it.
+/// The classes of the forced chains: for each class, by its number, the sizes in all of the
+/// shipments whose chains have it, and a bit that is set where some chain has it.
 #[derive(Drop)]
 pub(crate) struct ForcedClasses {
     pub(crate) loads: Vec<u128>,
@@ -74,8 +75,8 @@ fn all_chains(
     Ok(forced)
 }
 
-/// The forced classes of a leaf, of which there are none where it is plain. The rows are those of the shipments.
-/// `NoMemory` where memory is wanting.
+/// The forced classes of a leaf, of which there are none where it is plain. The rows are those of
+/// the shipments. `NoMemory` only where no memory is found.
 pub(crate) fn forced_classes(
     alloc: Global,
     instance: &Instance,
@@ -111,8 +112,8 @@ fn class_base(instance: &Instance, network: &Network, forced: &ForcedClasses, cl
     u128::from(arc.truck) * trucks
 }
 
-/// What the trucks of the forced chains cost, as few in each class as hold its load, in parts of a unit of money. Takes no
-/// memory.
+/// What the trucks of the forced chains cost, as few in each class as hold its load, in parts of a
+/// unit of money. Takes no memory.
 pub(crate) fn bases(instance: &Instance, network: &Network, forced: &ForcedClasses) -> u128
     requires whole { IsWholeNetwork instance.now network.now }
     requires loads { length forced.now.loads.items ≡ class_count network.now }

@@ -1,3 +1,4 @@
+//! The bound of a leaf: the bases, and the least cost of each shipment.
 ghost use Rattle.std.specs.Prelude.{◌≡◌, ◌+◌, ◌*◌, ◌<◌, ◌≤◌, IfOk, length};
 ghost use Rattle.fp_model.specs.Problem.{alone_total};
 ghost use Rattle.fp_timenodes.specs.Points.{points_at};
@@ -29,14 +30,15 @@ use std::alloc::Global;
 /// The bound of a leaf.
 #[derive(Clone, Copy, Debug, PartialEq, Eq)]
 pub enum LeafBound {
-    /// Some shipment has no allowed timed walk, so no plan obeys the leaf's sides; the first such shipment.
+    /// Some shipment has no allowed timed walk, so no plan obeys the leaf's sides; the first such
+    /// shipment.
     Empty { shipment: u32 },
     /// The leaf bound, in parts of a unit of money of which the instance's scale makes one.
     Value { value: u128 },
 }
 
-// The least cost of a shipment whose row this is, `None` exactly where it has no allowed timed walk. The costs of the
-// classes are put in anew.
+// The least cost of a shipment whose row this is, `None` exactly where it has no allowed timed
+// walk. The costs of the classes are put in anew.
 fn shipment_cost(
     alloc: Global,
     pricing: &LeafPricing,
@@ -92,19 +94,22 @@ pub(crate) fn value_over(
     Ok(LeafBound::Value { value })
 }
 
-/// The bound of a leaf by prices, with the points as of a round: what the trucks of its forced chains cost, where forced
-/// classes are paid whole, and the least cost of each shipment's allowed timed walks under the prices; or that the leaf is
-/// empty, with the first shipment that has no allowed timed walk.
+/// The bound of a leaf by prices, with the points as of a round: what the trucks of its forced
+/// chains cost, where forced classes are paid whole, and the least cost of each shipment's allowed
+/// timed walks under the prices; or that the leaf is empty, with the first shipment that has no
+/// allowed timed walk.
 ///
-/// Over every denominator, the scale times the cost of each plan that lies within the windows and obeys the sides is at least
-/// the value, and where the leaf is empty there is no such plan. The value counts parts of a unit of money, of which the
-/// instance's scale makes one; it is at most 65,537 times the scale times what all shipments cost that each go over every arc
-/// alone, so it's below 2^128.
+/// Over every denominator, the scale times the cost of each plan that lies within the windows and
+/// obeys the sides is at least the value, and where the leaf is empty there is no such plan. The
+/// value counts parts of a unit of money, of which the instance's scale makes one; it is at most
+/// 65,537 times the scale times what all shipments cost that each go over every arc alone, so it's
+/// below 2^128.
 ///
-/// The windows and the points belong to the instance; the terminals, the first points and the added points are together at
-/// most 65,000; the tables are in order and keep the price rule ([`check_tables`](crate::check_tables)), and a kind by a
-/// table names one of them. `NoMemory` where memory is wanting. One search over the points for each shipment; their graph
-/// and the prices are made once.
+/// The windows and the points belong to the instance; the terminals, the first points and the added
+/// points are together at most 65,000; the tables are in order and keep the price rule
+/// ([`check_tables`](crate::check_tables)), and a kind by a table names one of them. `NoMemory`
+/// only where no memory is found. One search over the points for each shipment; their graph and the
+/// prices are made once.
 pub fn bound(
     alloc: Global,
     instance: &Instance,

@@ -1,3 +1,4 @@
+//! The rule by which a kind prices the classes of a leaf.
 ghost use Rattle.std.specs.Prelude.{ℕ, ◌≡◌, All, Bool, IfOk, List, length, map};
 ghost use Rattle.fp_model.specs.declared.parts.Leg.{Leg};
 ghost use Rattle.fp_model.specs.Problem.{IsValid};
@@ -47,8 +48,9 @@ fn rule_of<'a>(
     }
 }
 
-/// The pricing of a leaf by a kind, where the rates are the linear ones of the arcs, the rows are those of the shipments and `forced` has the bits of the classes that
-/// someone is forced to use. `NoMemory` where memory is wanting.
+/// The pricing of a leaf by a kind, where the rates are the linear ones of the arcs, the rows are
+/// those of the shipments and `forced` has the bits of the classes that someone is forced to use.
+/// `NoMemory` only where no memory is found.
 pub(crate) fn leaf_pricing<'a>(
     alloc: Global,
     instance: &'a Instance,

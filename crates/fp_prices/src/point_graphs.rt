@@ -1,4 +1,4 @@
-// The graph of a network's points, over which each shipment goes at a leaf.
+//! The graph of a network's points, over which each shipment goes at a leaf.
 ghost use Rattle.std.specs.Prelude.{◌≡◌, ◌+◌, ◌-◌, ◌<◌, ◌≤◌, ◌++◌, IfOk, OnOk, length, map};
 ghost use Rattle.std.specs.List.{range_with_len};
 ghost use Rattle.fp_labels.specs.Graphs.{HasEnds};
@@ -12,15 +12,16 @@ ghost use Rattle.fp_prices.specs.PointGraphs.{IsPointGraph};
 ghost use Rattle.fp_prices.specs.ClassCosts.{IsFree};
 
 use crate::NoMemory;
-use fp_lists::place_among;
 use fp_labels::{Edge, Graph};
+use fp_lists::place_among;
 use fp_longestarcs::Network;
 use fp_model::Instance;
 use std::alloc::Global;
 
-// The points of a network as nodes, by terminal and then by time. Its edges are first those of the classes, by their
-// numbers, each from its point to its head, and then the holding edges, each from a point to the next one of its terminal,
-// over which a shipment waits. The shape is that of the network alone, so all shipments share it.
+// The points of a network as nodes, by terminal and then by time. Its edges are first those of the
+// classes, by their numbers, each from its point to its head, and then the holding edges, each from
+// a point to the next one of its terminal, over which a shipment waits. The shape is that of the
+// network alone, so all shipments share it.
 #[derive(Drop)]
 pub(crate) struct PointGraph {
     pub(crate) graph: Graph,
@@ -51,7 +52,8 @@ impl PointGraph {
         })
     }
 
-    // Costs of all edges, at which every one is free. Those of the classes come first, by their numbers.
+    // Costs of all edges, at which every one is free. Those of the classes come first, by their
+    // numbers.
     pub(crate) fn free_costs(&self, alloc: Global) -> Result<Vec<Option<u128>>, NoMemory>
         ensures count { IfOk result (λ costs. length costs.items ≡ self.now.edges) }
         ensures free { IfOk result (λ costs. IsFree 0 costs.items) }

@@ -3,6 +3,7 @@ use Rattle.std.proofs.Common.{◌≡◌, ◌≢◌, ℕ, zero, suc, ◌+◌, ◌
 use Rattle.std.specs.Prelude.{◌↔◌, Some, None, slice_get}
 use Rattle.std.specs.List.{AllByRecursion}
 use Rattle.fp_lists.proofs.Distinct.{AreDistinct-cons, AreDistinct-head, AreDistinct-tail}
+use Rattle.fp_model.specs.declared.limits.TheConstants.{MOST_TERMINALS}
 use Rattle.fp_model.specs.declared.parts.Leg.{Leg}
 use Rattle.fp_model.specs.declared.parts.Shipment.{Shipment}
 use Rattle.fp_model.specs.Problem.{Problem, IsValid, arc_at, no_arc}
@@ -56,24 +57,20 @@ new-first n tail xs lt long =
     )
 
 -- one more terminal that was unmet
-pub new-next : (met : List Bool) (x : ℕ) (xs : List ℕ) → x < length met → get_or met x false ≡ false → (AreNew met (x ∷ xs) ↔ AreNew (set met x true) xs)
+new-next : (met : List Bool) (x : ℕ) (xs : List ℕ) → x < length met → get_or met x false ≡ false → (AreNew met (x ∷ xs) ↔ AreNew (set met x true) xs)
 new-next met x xs lt unmet = (
   (λ new. (others-unmet met x xs (AreDistinct-head x xs new.1) new.0.1, AreDistinct-tail x xs new.1)),
   (λ new. let parts : AllByRecursion (λ y. y ≢ x) xs × AreUnmet met xs = unmet-others met x xs lt new.0 in ((unmet, parts.1), AreDistinct-cons x xs parts.0 new.1)),
 )
 
--- one that was met
-pub new-never : (met : List Bool) (x : ℕ) (xs : List ℕ) → get_or met x false ≡ true → AreNew met (x ∷ xs) → ⊥
-new-never met x xs was new = true≢false (sym was ∙ new.0.0)
-
 -- the terminals that are entered from a class on
-pub entered-next : (p : Problem) (stops : List Stop) (i : ℕ) (d : Stop) → i < length stops → entered_by p (drop i stops) ≡ (arc_at p (get_or stops i d).arc).to ∷ entered_by p (drop (i + 1) stops)
+entered-next : (p : Problem) (stops : List Stop) (i : ℕ) (d : Stop) → i < length stops → entered_by p (drop i stops) ≡ (arc_at p (get_or stops i d).arc).to ∷ entered_by p (drop (i + 1) stops)
 entered-next p stops i d lt =
     let next : drop i stops ≡ get_or stops i d ∷ drop (i + 1) stops = rw add-one (drop-cons stops i d lt) in
     ap (entered_by p) next
 
--- the ends of an arc are among the terminals, of which there are at most a hundred
-pub arc-within : (p : Problem) (a : ℕ) → IsValid p → a < length p.arcs → ((arc_at p a).from < length p.terminals) × ((arc_at p a).to < 100)
+-- the ends of an arc are among the terminals, of which there are so many at most
+pub arc-within : (p : Problem) (a : ℕ) → IsValid p → a < length p.arcs → ((arc_at p a).from < length p.terminals) × ((arc_at p a).to < MOST_TERMINALS)
 arc-within p a valid lt = ((valid.parts.arcs a no_arc lt).from, omega (arith, (valid.parts.arcs a no_arc lt).to, valid.parts.few_terminals))
 
 -- terminals are apart exactly where those that are entered from the next class on are new
@@ -87,25 +84,12 @@ decides-next A p met stops i d to lt is within unmet decides =
       (λ new. decides.1 (subst (AreNew met) (sym here) (next.1 new))),
     )
 
--- they are not where the next class enters one that was met
-pub decides-never : (A : Type 0) (p : Problem) (met : List Bool) (stops : List Stop) (i : ℕ) (d : Stop) (to : ℕ) → i < length stops → to ≡ (arc_at p (get_or stops i d).arc).to → get_or met to false ≡ true →
-    (A ↔ AreNew met (entered_by p (drop i stops))) → A → ⊥
-decides-never A p met stops i d to lt is was decides apart =
-    let left : List ℕ = entered_by p (drop (i + 1) stops) in
-    let here : entered_by p (drop i stops) ≡ to ∷ left = entered-next p stops i d lt ∙ ap (λ (x : ℕ). x ∷ left) (sym is) in
-    new-never met to left was (subst (AreNew met) here (decides.0 apart))
-
 -- the terminals on a walk with a first class
 pub on-first : (p : Problem) (stops : List Stop) (first : Stop) → slice_get stops 0 ≡ Some first → terminals_on p (legs_of stops) ≡ (arc_at p first.arc).from ∷ entered_by p stops
 on-first p [] first is = cc
 on-first p (stop ∷ stops) first is =
     let same : stop ≡ first = cc in
     ap (λ (s : Stop). (arc_at p s.arc).from ∷ entered_by p (stop ∷ stops)) same
-
--- and on one without
-pub on-none : (p : Problem) (stops : List Stop) → slice_get stops 0 ≡ None → terminals_on p (legs_of stops) ≡ []
-on-none p [] is = refl
-on-none p (stop ∷ stops) is = cc
 
 -- whether the walk from a shipment's origin to its destination is a route of it
 pub route-decides : (A : Type 0) (p : Problem) (walk : List Leg) → (A ↔ AreDistinct (terminals_on p walk)) → (s : Shipment) → s.from ≢ s.to → Leads p s.from (arcs_of walk) s.to → (A ↔ IsRoute p s (arcs_of walk))

@@ -33,7 +33,7 @@ obey-from p d k [] = tt
 obey-from p d k (r ∷ routes) = (legs-obey p d k r, obey-from p d (k + 1) routes)
 
 -- so routes over any denominator obey no sides
-pub obeys-none : (p : Problem) (d : ℕ) (routes : List (List Leg)) → PlanObeys p d [] routes
+obeys-none : (p : Problem) (d : ℕ) (routes : List (List Leg)) → PlanObeys p d [] routes
 obeys-none p d routes = obey-from p d 0 routes
 
 -- timed walks over routes are relaxed walks
@@ -54,7 +54,7 @@ routes-from p points d (s ∷ ss) (r ∷ routes) plan =
     (subst (IsRoute p s) (sym (arcs_of-classes p points d r)) plan.0.route, routes-from p points d ss routes plan.1)
 
 -- the arcs of a plan's classes are routes
-pub HasRoutes-coarsened : (p : Problem) (points : ℕ → List ℕ) (d : ℕ) (routes : List (List Leg)) → IsPlan p d routes → HasRoutes p (coarsened p points d routes)
+HasRoutes-coarsened : (p : Problem) (points : ℕ → List ℕ) (d : ℕ) (routes : List (List Leg)) → IsPlan p d routes → HasRoutes p (coarsened p points d routes)
 HasRoutes-coarsened p points d routes plan = routes-from p points d p.shipments routes plan
 
 plan-routes : (p : Problem) (d : ℕ) (ss : List Shipment) (routes : List (List Leg)) → AllZip (Carries p d) ss routes → AllZip (λ s r. IsRoute p s (arcs_of r)) ss routes
@@ -89,7 +89,8 @@ relaxed-coarsened p windows points d routes h plan within =
 pub cost-coarsened : (p : Problem) (points : ℕ → List ℕ) (d : ℕ) (routes : List (List Leg)) → cost p (coarsened p points d routes) ≤ cost p routes
 cost-coarsened p points d routes = cost-classes p points d routes
 
--- every plan over any denominator within the windows has a relaxed plan that costs no more, whatever the points are
+-- every plan over any denominator within the windows has a relaxed plan that costs no more,
+-- whatever the points are
 pub coarsens-plans : (p : Problem) (windows : ℕ → ℕ → Option Window) (points : ℕ → List ℕ) → CoarsensPlans p windows points
 coarsens-plans p windows points d routes h plan within =
     (relaxed-coarsened p windows points d routes h plan within, cost-coarsened p points d routes)

@@ -7,6 +7,7 @@ use Rattle.std.proofs.lemmas.Bool.{ne_eqb, or_cases, false≢true}
 use Rattle.std.proofs.lemmas.List.Elements.{All-cons, All-nil}
 use Rattle.std.proofs.lemmas.Map.Steps.{length-le_from_distinct_below}
 use Rattle.fp_lists.proofs.DistinctSums.{length-distinct-le}
+use Rattle.fp_model.specs.declared.limits.TheConstants.{MOST_ARCS}
 use Rattle.fp_model.specs.declared.parts.Leg.{Leg}
 use Rattle.fp_model.specs.declared.parts.Shipment.{Shipment}
 use Rattle.fp_model.specs.Problem.{Problem, IsValid, arc_at}
@@ -17,13 +18,10 @@ use Rattle.fp_lists.proofs.Distinct.{AreDistinct-from_map, AreDistinct-tail}
 use Rattle.fp_lists.proofs.Elements.{AllByRecursion-weaker}
 use Rattle.fp_relaxmodel.specs.Relaxed.{HasRoutes}
 use Rattle.fp_relaxmodel.proofs.RouteCosts.{HasRoutes-long}
-
-length-arcs_of : (walk : List Leg) → length (arcs_of walk) ≡ length walk
-length-arcs_of [] = refl
-length-arcs_of (l ∷ walk) = omega (arith, length-arcs_of walk)
+use Rattle.fp_model.proofs.Faultless.{length-arcs_of}
 
 -- a walk whose arcs are a route has at most as many legs as there are arcs
-pub IsRoute-short : (p : Problem) (s : Shipment) (walk : List Leg) → IsRoute p s (arcs_of walk) → length walk ≤ length p.arcs
+IsRoute-short : (p : Problem) (s : Shipment) (walk : List Leg) → IsRoute p s (arcs_of walk) → length walk ≤ length p.arcs
 IsRoute-short p s walk route =
     let apart : AreDistinct (arcs_of walk) = AreDistinct-from_map (λ a. (arc_at p a).to) (arcs_of walk) (AreDistinct-tail s.from (ends_of p (arcs_of walk)) route.once) in
     let few : length (arcs_of walk) ≤ length p.arcs =
@@ -34,7 +32,7 @@ IsRoute-short p s walk route =
 abbrev IsShort : List Leg → Type 0
 IsShort walk = length walk < 2 ^ 32 - 1
 
-walks-short : (p : Problem) (ss : List Shipment) (walks : List (List Leg)) → length p.arcs ≤ 1000 → AllZip (λ s walk. IsRoute p s (arcs_of walk)) ss walks → All IsShort walks
+walks-short : (p : Problem) (ss : List Shipment) (walks : List (List Leg)) → length p.arcs ≤ MOST_ARCS → AllZip (λ s walk. IsRoute p s (arcs_of walk)) ss walks → All IsShort walks
 walks-short p [] [] few routes = All-nil IsShort
 walks-short p [] (w ∷ walks) few routes = absurd routes
 walks-short p (s ∷ ss) [] few routes = absurd routes

@@ -37,10 +37,10 @@ members-apart m n first second =
     first
 
 -- so of two groups at most one starts before the other
-starts-apart : (g h : List Member) → StartsBefore g h → StartsBefore h g → ⊥
-starts-apart [] h first second = first
-starts-apart (m ∷ g) [] first second = first
-starts-apart (m ∷ g) (n ∷ h) first second = members-apart m n first second
+pub StartsBefore-apart : (g h : List Member) → StartsBefore g h → StartsBefore h g → ⊥
+StartsBefore-apart [] h first second = first
+StartsBefore-apart (m ∷ g) [] first second = first
+StartsBefore-apart (m ∷ g) (n ∷ h) first second = members-apart m n first second
 
 -- groups are among any other groups of the same walks
 among-groups : (walks : List (List Leg)) (gs hs : List (List Member)) → AreGroups walks gs → AreGroups walks hs → All (Contains hs) gs
@@ -50,4 +50,4 @@ among-groups walks gs hs first second =
 -- only one list of lists is the groups of walks
 pub groups-unique : (walks : List (List Leg)) (gs hs : List (List Member)) → AreGroups walks gs → AreGroups walks hs → gs ≡ hs
 groups-unique walks gs hs first second =
-    AllPairs-unique StartsBefore starts-apart gs hs first.ascending second.ascending (among-groups walks gs hs first second) (among-groups walks hs gs second first)
+    AllPairs-unique StartsBefore StartsBefore-apart gs hs first.ascending second.ascending (among-groups walks gs hs first second) (among-groups walks hs gs second first)

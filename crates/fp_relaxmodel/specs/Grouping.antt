@@ -29,4 +29,4 @@ with_member c m (g ∷ groups) =
 -- the groups after each of the legs in turn
 abbrev pub after : List NamedLeg → List Met → List Met
 after [] groups = groups
-after (x ∷ legs) groups = after legs (with_member x.class x.member groups)
+after (x ∷ legs) groups = after legs (with_member x.leg x.member groups)

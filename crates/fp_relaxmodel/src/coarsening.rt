@@ -1,3 +1,4 @@
+//! The relaxed plan of a plan.
 ghost use Rattle.std.specs.Prelude.{◌≡◌, ◌<◌, ◌≤◌, All, IfOk, length, map};
 ghost use Rattle.fp_model.specs.Costs.{cost};
 ghost use Rattle.fp_model.specs.Plans.{IsPlan};
@@ -73,8 +74,8 @@ fn relaxed(
 ///
 /// It costs no more than the plan. The same is true of every plan over any denominator that lies
 /// within the windows, whatever the points of the network are. The windows belong to the instance,
-/// and the network is whole for it; the windows serve the contract alone. `NoMemory` where memory is
-/// wanting.
+/// and the network is whole for it; the windows serve the contract alone. `NoMemory` only where no
+/// memory is found.
 pub fn coarsen(
     alloc: Global,
     instance: &Instance,

@@ -1,3 +1,4 @@
+//! Whether a walk returns to a terminal.
 ghost use Rattle.std.specs.Prelude.{◌≡◌, ◌≢◌, ◌↔◌, ◌<◌, ◌∷◌, IsTrue, length};
 ghost use Rattle.fp_model.specs.declared.parts.Shipment.{Shipment};
 ghost use Rattle.fp_model.specs.Routes.{ArcsExist, IsRoute, Leads, arcs_of, ends_of};
@@ -8,9 +9,7 @@ ghost use Rattle.fp_relaxmodel.specs.Terminals.{terminals_on};
 use crate::relaxed_plans::TimedWalk;
 use crate::stops::Stop;
 use fp_model::Instance;
-
-// How many terminals an instance can have.
-const TERMINALS: usize = 100;
+use fp_model::limits::MOST_TERMINALS;
 
 // Whether no terminal stands twice among the tail and those that the classes enter.
 fn are_apart(instance: &Instance, tail: u32, stops: &[Stop]) -> bool
@@ -18,8 +17,9 @@ fn are_apart(instance: &Instance, tail: u32, stops: &[Stop]) -> bool
     requires arcs { ArcsExist instance.now (legs_of stops.now) }
     ensures { IsTrue result ↔ AreDistinct (tail ∷ ends_of instance.now (arcs_of (legs_of stops.now))) }
 {
+    // An instance that was read is known to be valid, so it has no more terminals.
     let _known = instance.terminals();
-    let mut met = [false; TERMINALS];
+    let mut met = [false; MOST_TERMINALS];
     met[tail as usize] = true;
     for stop in stops {
         let entered = instance.arc(stop.arc).to as usize;

@@ -1,4 +1,5 @@
--- Three terminals, of which the third has the points 8 and 9 from the start, and round 1 added 4 to the second.
+-- Three terminals, of which the third has the points 8 and 9 from the start, and round 1 added 4 to
+-- the second.
 use Rattle.std.proofs.Common.{◌≡◌, false, [], ◌∷◌, refl}
 use Rattle.std.specs.Prelude.{Some, None}
 use Rattle.fp_timenodes.specs.Floor.{floor_point, next_point}

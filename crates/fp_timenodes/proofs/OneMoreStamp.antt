@@ -1,12 +1,12 @@
 -- What one more stamp does to the points of a terminal.
-use Rattle.std.proofs.Common.{◌≡◌, ℕ, ◌+◌, ◌-◌, ◌<◌, ◌≤◌, ◌≢◌, Bool, true, false, ◌||◌, ◌&&◌, List, [], ◌∷◌, ◌++◌, length, get_or, take, drop, map, filter, ⊎_elim, refl, sym, ap, ◌∙◌, subst, arith}
+use Rattle.std.proofs.Common.{◌≡◌, ℕ, ◌+◌, ◌-◌, ◌<◌, ◌≤◌, ◌≢◌, Bool, true, false, ◌||◌, ◌&&◌, List, ◌∷◌, ◌++◌, length, get_or, take, drop, map, filter, ⊎_elim, refl, sym, ap, ◌∙◌, subst, arith}
 use Rattle.std.specs.Prelude.{nat_le, nat_eq, insert}
 use Rattle.std.specs.List.{AllWithin}
-use Rattle.std.proofs.Math.Bool.{or-false, or_assoc, or_comm}
+use Rattle.std.proofs.Math.Bool.{or-false, or_assoc}
 use Rattle.std.proofs.lemmas.Bool.{cases_Bool, cases_lt, cases_eq, and_parts, leb-true, eqb-true, both_ways}
 use Rattle.std.proofs.lemmas.List.{take-append-drop, map-append}
 use Rattle.std.proofs.lemmas.List.Edits.{length-insert, get_or-insert_below, get_or-insert_at, get_or-insert_above}
-use Rattle.std.proofs.lemmas.List.Elements.{filter-append, All-append, All-take, All-drop, All-cons}
+use Rattle.std.proofs.lemmas.List.Elements.{filter-append}
 use Rattle.fp_timenodes.specs.declared.timelines.Stamp.{Stamp}
 use Rattle.fp_lists.specs.Membership.{list_has}
 use Rattle.fp_timenodes.specs.Stamps.{IsAscending, AreUpTo, points_of, IncludesPoint, IsStampCut}
@@ -54,7 +54,8 @@ IncludesPoint-there stamps at round there r q =
         subst (λ (n : ℕ). list_has (points_of stamps r) n ≡ true) (w.time ∙ eqb-true at q parts.1)
         (has-stamp stamps r w.place no_stamp w.within (omega (arith, w.until, leb-true round r parts.0)))
 
--- no stamp is later than the round, and the time is no point: then the stamps before the cut are before the time
+-- no stamp is later than the round, and the time is no point: then the stamps before the cut are
+-- before the time
 pub IsStampCut-absent : (stamps : List Stamp) (at round cut : ℕ) → IsStampCut stamps at cut → AreUpTo round stamps → list_has (points_of stamps round) at ≡ false → AllWithin (λ (s : Stamp). s.at < at) stamps 0 cut
 IsStampCut-absent stamps at round cut c up absent k d from h =
     ⊎_elim

@@ -1,9 +1,9 @@
 -- How many distinct points can be added at all.
-use Rattle.std.proofs.Common.{◌≡◌, ℕ, zero, suc, ◌+◌, ◌-◌, ◌*◌, ◌<◌, ◌≤◌, ◌≢◌, true, false, ◌&&◌, List, [], ◌∷◌, ◌++◌, length, get_or, map, All, ◌||◌, ⊎_elim, sym, ap, ◌∙◌, subst, arith}
-use Rattle.std.specs.Prelude.{AllPairs, nat_eq, nat_le}
+use Rattle.std.proofs.Common.{◌≡◌, ℕ, zero, suc, ◌+◌, ◌-◌, ◌*◌, ◌<◌, ◌≤◌, ◌≢◌, true, false, List, [], ◌∷◌, ◌++◌, length, get_or, map, All, ◌||◌, ⊎_elim, ◌∙◌, subst, arith}
+use Rattle.std.specs.Prelude.{AllPairs}
 use Rattle.std.specs.List.{list_any}
 use Rattle.std.proofs.Math.Dec.{eqb}
-use Rattle.std.proofs.lemmas.Bool.{both_ways, cases_eq, eq-eqb, eqb-true, false≢true, le-leb, ne_eqb, or_cases, or_left, or_right}
+use Rattle.std.proofs.lemmas.Bool.{both_ways, eqb-true, false≢true, or_cases, or_left, or_right}
 use Rattle.std.proofs.lemmas.Bool.Decides.{Decides-eqb}
 use Rattle.std.proofs.lemmas.List.{get_or-map, length-map}
 use Rattle.std.proofs.lemmas.List.Elements.{All-head, All-tail, All-weaker}
@@ -39,7 +39,8 @@ length_le_numbers {X} number n (x ∷ xs) apart below =
         (λ (r : list_any (eqb q) (map number ys) ≡ true). within ys (All-tail (λ (z : X). number z < n) y ys all) q r)
         (or_cases (eqb q (number y)) (list_any (eqb q) (map number ys)) h)
 
--- points at distinct places, each at one of the terminals and at one of `count` times from `start` on, are at most that many for each terminal
+-- points at distinct places, each at one of the terminals and at one of `count` times from `start`
+-- on, are at most that many for each terminal
 pub length_distinct_places : (terminals start count : ℕ) (added : List AddedPoint) → HaveDistinctPlaces added →
     All (λ (p : AddedPoint). (p.terminal < terminals) × (start ≤ p.at) × (p.at < start + count)) added → length added ≤ terminals * count
 length_distinct_places terminals start count added distinct within =
@@ -79,7 +80,8 @@ pub positive_new : (v : TimePoints) (terminal round at : ℕ) → list_has (poin
 positive_new v terminal round zero new = absurd (both_ways (list_has (points_at v terminal round) 0) new (list_has-zero v terminal round))
 positive_new v terminal round (suc at) new = omega arith
 
--- a point that is added where it wasn't there, as of the greatest round so far or a later one, keeps the places distinct
+-- a point that is added where it wasn't there, as of the greatest round so far or a later one,
+-- keeps the places distinct
 pub HaveDistinctPlaces_new : (v : TimePoints) (p : AddedPoint) → HaveDistinctPlaces v.added → greatest_round v.added ≤ p.round → list_has (points_at v p.terminal p.round) p.at ≡ false →
     HaveDistinctPlaces (v.added ++ p ∷ [])
 HaveDistinctPlaces_new v p distinct order new =

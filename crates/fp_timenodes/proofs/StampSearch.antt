@@ -1,4 +1,5 @@
--- What a search among the stamps of one terminal finds: some first stamps are not after a time, and the others are.
+-- What a search among the stamps of one terminal finds: some first stamps are not after a time, and
+-- the others are.
 use Rattle.std.proofs.Common.{◌≡◌, ℕ, zero, suc, ◌+◌, ◌-◌, ◌<◌, ◌≤◌, Bool, true, false, ◌&&◌, List, [], ◌∷◌, length, get_or, take, drop, reverse, ⊎_elim, refl, sym, ap, ◌∙◌, subst, arith}
 use Rattle.std.specs.Prelude.{nat_le, nat_eq, Option, Some, None, MatchOption, option_map, unwrap_or}
 use Rattle.std.specs.List.{find}
@@ -84,7 +85,8 @@ last-until stamps at round cut i c h le none =
         (λ (more : i ≤ k). let same : i ≡ k = omega arith in rw same (omega (arith, e)))
         (cases_lt k i)
 
--- what is found backwards among the stamps before the cut, 0 where nothing is, is the greatest point not after the time
+-- what is found backwards among the stamps before the cut, 0 where nothing is, is the greatest
+-- point not after the time
 pub found-until : (stamps : List Stamp) (at round cut : ℕ) → IsStampCut stamps at cut →
     unwrap_or (option_map (λ s. s.at) (find (λ s. nat_le s.round round) (reverse (take cut stamps)))) 0 ≡ floor_point (points_of stamps round) 1 at
 found-until stamps at round cut c = by-find (find up (reverse front)) (found up (reverse front) no_stamp)

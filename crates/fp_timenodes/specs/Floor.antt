@@ -1,6 +1,6 @@
--- Looking up points in a list of them, whatever its order. A moment over the denominator d is n / d.
-use Rattle.std.specs.Prelude.{ℕ, ◌*◌, ◌≡◌, ◌<◌, ◌≤◌, Bool, true, List, [], ◌∷◌, Option, Some, None, MatchOption, cond, nat_le, nat_lt, ◌==◌, max, min}
-use Rattle.std.specs.List.{list_any}
+-- Looking up points in a list of them, whatever its order. A moment over the denominator d is n /
+-- d.
+use Rattle.std.specs.Prelude.{ℕ, ◌*◌, ◌≡◌, ◌<◌, ◌≤◌, true, List, [], ◌∷◌, Option, Some, None, MatchOption, cond, nat_le, nat_lt, max, min}
 use Rattle.fp_lists.specs.Membership.{list_has}
 
 -- the greatest of the points that is not after the moment n / d, and 0 where there is none
@@ -23,7 +23,8 @@ abbrev pub next_point : List ℕ → ℕ → Option ℕ
 next_point [] at = None
 next_point (q ∷ qs) at = earlier (cond (nat_lt at q) (Some q) None) (next_point qs at)
 
--- a point after the time with no other point in between, or, where there is none, no point is after the time
+-- a point after the time with no other point in between, or, where there is none, no point is after
+-- the time
 abbrev pub IsNextPoint : List ℕ → ℕ → Option ℕ → Type 0
 IsNextPoint qs at o =
     MatchOption o ((q : ℕ) → list_has qs q ≡ true → q ≤ at)

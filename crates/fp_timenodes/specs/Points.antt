@@ -5,7 +5,8 @@ use Rattle.fp_timenodes.specs.declared.places.Place.{Place}
 use Rattle.fp_timenodes.specs.declared.places.AddedPoint.{AddedPoint}
 use Rattle.fp_timenodes.specs.declared.places.TheConstants.{LATEST}
 
--- the number of terminals, the places that have a point from the start, and the points added since in their order
+-- the number of terminals, the places that have a point from the start, and the points added since
+-- in their order
 pub record TimePoints : Type 0 where
   pub terminals : ℕ
   pub first : List Place
@@ -20,7 +21,8 @@ abbrev pub added_at : List AddedPoint → ℕ → ℕ → List ℕ
 added_at added terminal round =
     map (λ p. p.at) (filter (λ p. p.terminal == terminal && nat_le p.round round) added)
 
--- the points of a terminal as of a round: the places of the start, what was added up to and with that round, and 0
+-- the points of a terminal as of a round: the places of the start, what was added up to and with
+-- that round, and 0
 abbrev pub points_at : TimePoints → ℕ → ℕ → List ℕ
 points_at v terminal round = times_at v.first terminal ++ (added_at v.added terminal round ++ 0 ∷ [])
 

@@ -1,8 +1,9 @@
 //! The time points of the terminals, each with the round that added it.
 //!
 //! The points are those of a partially time-expanded network (Boland, Hewitt, Marshall and
-//! Savelsbergh, "The Continuous-Time Service Network Design Problem", Operations Research 65, 2017).
-//! Terminals are numbers from 0, and times are whole numbers of the input's unit, up to [`LATEST`].
+//! Savelsbergh, "The Continuous-Time Service Network Design Problem", Operations Research 65,
+//! 2017). Terminals are numbers from 0, and times are whole numbers of the input's unit, up to
+//! [`LATEST`].
 #![tactic(auto)]
 
 mod places;

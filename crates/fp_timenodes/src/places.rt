@@ -2,8 +2,8 @@
 /// The latest time at which a point may stand, in the input's unit.
 pub const LATEST: u32 = 100_000;
 
-/// The most points, at all terminals together, over which the crates above work out bounds. More can
-/// stand in [`Points`](crate::Points).
+/// The most points, at all terminals together, over which the crates above work out bounds. More
+/// can stand in [`Points`](crate::Points).
 pub const MOST_POINTS: u32 = 65_000;
 
 /// A terminal and a time at it.

@@ -15,7 +15,8 @@ use std::marker::Model;
 ///
 /// In every call a terminal is a number below the number of terminals; a time to look up and a
 /// round may be any number. Times are in the input's unit. Look-ups take time that grows with the
-/// logarithm of a terminal's points, and with the points of later rounds that they pass; they take no memory.
+/// logarithm of a terminal's points, and with the points of later rounds that they pass; they take
+/// no memory.
 ///
 /// A contract sees the number of terminals, the places that have a point from the start, and the
 /// points added since, in the order of adding. The points of a terminal as of a round are 0, its
@@ -110,7 +111,8 @@ impl Points {
 
     /// Adds the point as of the round, and says whether it was there already, in which case nothing
     /// changes. The round is at least 1 and at least that of every point added before; `at` is no
-    /// later than [`LATEST`]. `NoMemory` only where no memory is found: then nothing changes either.
+    /// later than [`LATEST`]. `NoMemory` only where no memory is found: then nothing changes
+    /// either.
     pub fn add(
         &mut self,
         _alloc: Global,

@@ -88,8 +88,8 @@ impl Timeline {
         Ok(())
     }
 
-    /// Has the point from the start, whether it was there or not. `NoMemory` only where no memory is
-    /// found: then nothing changes.
+    /// Has the point from the start, whether it was there or not. `NoMemory` only where no memory
+    /// is found: then nothing changes.
     pub fn include(&mut self, at: u32) -> Result<(), NoMemory>
         requires { AreUpTo 0 self.old }
         ensures points { OnOk result (IncludesPoint self.old self.new at 0) }

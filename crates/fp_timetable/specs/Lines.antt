@@ -1,5 +1,5 @@
 -- What the lines of a timetable are.
-use Rattle.std.specs.Prelude.{ℕ, ◌+◌, ◌<◌, ◌≡◌, ◌⊎◌, List, [], ◌∷◌, nat_eq, if◌then◌else◌, length, map, IsTrue, All, AllPairs, Contains, ◌*◌}
+use Rattle.std.specs.Prelude.{ℕ, ◌+◌, ◌*◌, ◌<◌, ◌≡◌, List, [], ◌∷◌, nat_eq, if◌then◌else◌, length, map, IsTrue, All, AllPairs, Contains}
 use Rattle.fp_lists.specs.Order.{Precedes}
 use Rattle.fp_model.specs.declared.parts.Leg.{Leg}
 use Rattle.fp_model.specs.declared.parts.Shipment.{Shipment}
@@ -43,7 +43,8 @@ routes_from lines i (s ∷ shipments) = route_of lines i ∷ routes_from lines (
 abbrev pub departure : TruckLine → Leg
 departure t = record { arc = t.arc; depart = t.depart }
 
--- lines are the distinct departures of routes with their trucks and loads, each departure once, by departure and then by arc
+-- lines are the distinct departures of routes with their trucks and loads, each departure once, by
+-- departure and then by arc
 pub record AreTruckLines (p : Problem) (routes : List (List Leg)) (lines : List TruckLine) : Type 0 where
   pub ascending : AllPairs (λ (t u : TruckLine). Precedes t.depart t.arc u.depart u.arc) lines
   pub departures : (k : Leg) → has_leg k (map departure lines) ≡ has_leg k (all_legs routes)

@@ -64,7 +64,7 @@ pub fn plan_cost(instance: &Instance, plan: &Plan, lines: &[TruckLine]) -> u128
     requires lines { AreTruckLines instance.now plan.now lines.now }
     ensures { result ≡ cost_of instance.now plan.now }
 {
-    // An instance that was read is known to be valid.
+    // An instance that was read is known to be valid, so the sums fit.
     let _known = instance.arcs();
     trucks_cost(instance, lines) + routes_flow(instance, plan.routes.as_slice())
 }

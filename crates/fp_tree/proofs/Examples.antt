@@ -5,7 +5,7 @@ use Rattle.fp_tree.specs.declared.sides.Split.TheVariants.{ByArc, ByTime}
 use Rattle.fp_tree.specs.declared.sides.Side.TheVariants.{Without, Only, Before, From}
 use Rattle.fp_tree.specs.declared.ways.Step.{Step}
 use Rattle.fp_tree.specs.Sides.{Exit, Fork, Meets}
-use Rattle.fp_tree.specs.Trees.{Branch, Leaf, IsTree, splits_before, tree_branches, tree_leaves, tree_splits, with_leaf}
+use Rattle.fp_tree.specs.Trees.{Leaf, IsTree, splits_before, tree_branches, tree_leaves, tree_splits, with_leaf}
 use Rattle.fp_tree.specs.Ways.{way_sides, pending_on}
 
 -- A node is its fork, if it has one.

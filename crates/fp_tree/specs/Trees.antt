@@ -1,7 +1,7 @@
 -- Trees of splits as lists of nodes in preorder: a split, the nodes below its first side, the nodes
 -- below its second. X is any type of nodes. `fork_of` tells at what a node splits, and None at a
 -- leaf.
-use Rattle.std.specs.Prelude.{ℕ, zero, suc, ◌≡◌, ◌≢◌, ◌<◌, List, [], ◌∷◌, ◌++◌, filter, is_some, Option, Some, None, IfSome, ◌⊎◌, slice_index_or}
+use Rattle.std.specs.Prelude.{ℕ, zero, suc, ◌≡◌, ◌≢◌, ◌<◌, List, [], ◌∷◌, ◌++◌, filter, is_some, Option, Some, None, IfSome, slice_index_or}
 use Rattle.std.specs.List.{AllByRecursion}
 use Rattle.fp_lists.specs.Elements.{AnyByRecursion}
 use Rattle.fp_tree.specs.declared.sides.Side.{Side}

@@ -9,7 +9,7 @@ use Rattle.fp_allowed.specs.Settings.{Setting}
 use Rattle.fp_prices.specs.Leaves.{BoundsPlans, IsBoundOf, IsSmallBound}
 use Rattle.fp_prices.specs.Rounds.{LeafModel}
 use Rattle.fp_prices.specs.Tables.{AreTables}
-use Rattle.fp_prices.proofs.LeafFound.{leaf-is}
+use Rattle.fp_prices.proofs.LeafBounds.{leaf-is}
 use Rattle.fp_prices.proofs.SamePoints.{bound-as_of}
 use Rattle.fp_prices.proofs.bounds.bound.Goals as goal
 

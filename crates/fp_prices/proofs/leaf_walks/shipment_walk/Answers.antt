@@ -1,6 +1,6 @@
 use Rattle.std.proofs.Common.{◌∙◌, arith}
 use Rattle.fp_prices.proofs.CostBounds.{classes-fit}
-use Rattle.fp_prices.proofs.ShipmentCosts.{classes-priced, costs-fit, costs-most}
+use Rattle.fp_prices.proofs.ShipmentCosts.{classes-priced, costs-fit, costs-le_alone}
 use Rattle.fp_prices.proofs.WalksSoFar.{walk_ok}
 use Rattle.fp_longestarcs.specs.Networks.{point_count}
 use Rattle.fp_prices.proofs.leaf_walks.shipment_walk.Goals as goal
@@ -19,7 +19,7 @@ least_walk-requires-clause-small c =
     let pricing = c.args.pricing.now in
     let priced = c.requires.priced in
     costs-fit pricing.instance.now c.args.shipment (point_count pricing.network.now) c.fill_costs.new.costs priced.is.valid c.requires.shipment c.requires.graph.few
-    (costs-most pricing c.args.shipment c.args.row.now c.args.graph.now c.fill_costs.new.costs c.requires.graph priced c.requires.shipment (c.fill_costs.auto.costs ∙ c.requires.edges)
+    (costs-le_alone pricing c.args.shipment c.args.row.now c.args.graph.now c.fill_costs.new.costs c.requires.graph priced c.requires.shipment (c.fill_costs.auto.costs ∙ c.requires.edges)
     (c.fill_costs.ensures.costs priced.tables priced.allowed priced.kind priced.chains priced.is priced.allows)
     (λ e from h. c.fill_costs.ensures.others e from ∙ c.requires.free e from (omega (arith, h, c.fill_costs.auto.costs))))
 

@@ -12,7 +12,7 @@ use Rattle.fp_prices.specs.Prices.{AllKeepRule}
 use Rattle.fp_prices.specs.Pricings.{TellsForced}
 use Rattle.fp_prices.specs.Rounds.{LeafModel}
 use Rattle.fp_prices.specs.Rows.{AreRowsOf}
-use Rattle.fp_prices.proofs.LeafFound.{base-fits, base-small, bound-exact, bound-plans, bound-small, leaf-priced, leaf_of, leaf_of-same, prepared-leaf, rows-long, setting_of}
+use Rattle.fp_prices.proofs.LeafBounds.{base-fits, base-small, bound-exact, bound-plans, bound-small, leaf-priced, leaf_of, leaf_of-same, HasForcedClasses-leaf, rows-long, setting_of}
 use Rattle.fp_prices.proofs.leaves.Leaf.bound.Goals as goal
 
 pub forced_classes-requires-clause-under : goal.forced_classes-requires-clause-under
@@ -40,7 +40,7 @@ bases-base-requires-clause-fits c =
     let rows : List (List Bool) = c.self.inside.rows.items in
     let allowed_is : c.allowed.result ≡ setting_of c.self.inside.round.now.problem c.self.inside.windows.now c.self.inside.round.now.network = c.allowed.ensures ∙ ap (λ (l : LeafModel). l.setting) (sym c.self.view_is) in
     let prep =
-    prepared-leaf c.self.inside.round.now windows sides rows c.self.invariant p net c.instance-instance.ensures.same c.network-network.ensures.same c.deref.result.now c.deref.ensures.value c.allowed.result allowed_is
+    HasForcedClasses-leaf c.self.inside.round.now windows sides rows c.self.invariant p net c.instance-instance.ensures.same c.network-network.ensures.same c.deref.result.now c.deref.ensures.value c.allowed.result allowed_is
     c.args.forced c.in_ok-paid.paid c.in_ok-paid.ensures in
     base-fits p windows net sides rows c.args.forced c.in_ok-paid.paid prep
 
@@ -53,7 +53,7 @@ value_over-requires-clause-priced c =
     let rows : List (List Bool) = c.self.inside.rows.items in
     let allowed_is : c.allowed.result ≡ setting_of c.self.inside.round.now.problem c.self.inside.windows.now c.self.inside.round.now.network = c.allowed.ensures ∙ ap (λ (l : LeafModel). l.setting) (sym c.self.view_is) in
     let prep =
-    prepared-leaf c.self.inside.round.now windows sides rows c.self.invariant p net c.instance-instance.ensures.same c.network-network.ensures.same c.deref.result.now c.deref.ensures.value c.allowed.result allowed_is
+    HasForcedClasses-leaf c.self.inside.round.now windows sides rows c.self.invariant p net c.instance-instance.ensures.same c.network-network.ensures.same c.deref.result.now c.deref.ensures.value c.allowed.result allowed_is
     c.args.forced c.in_ok-paid.paid c.in_ok-paid.ensures in
     let prices = λ (allowed : ℕ → Leg → Bool) (chains : List (List Leg)) (are : AreRowsOf net allowed rows) (tells : TellsForced net chains c.in_ok-paid.paid.row).
     c.in_ok-pricing.ensures.pricing allowed chains (subst (λ (l : List (List Bool)). AreRowsOf net allowed l) (sym c.deref-2.ensures.value) are) tells in
@@ -69,7 +69,7 @@ value_over-requires-clause-bases c =
     let rows : List (List Bool) = c.self.inside.rows.items in
     let allowed_is : c.allowed.result ≡ setting_of c.self.inside.round.now.problem c.self.inside.windows.now c.self.inside.round.now.network = c.allowed.ensures ∙ ap (λ (l : LeafModel). l.setting) (sym c.self.view_is) in
     let prep =
-    prepared-leaf c.self.inside.round.now windows sides rows c.self.invariant p net c.instance-instance.ensures.same c.network-network.ensures.same c.deref.result.now c.deref.ensures.value c.allowed.result allowed_is
+    HasForcedClasses-leaf c.self.inside.round.now windows sides rows c.self.invariant p net c.instance-instance.ensures.same c.network-network.ensures.same c.deref.result.now c.deref.ensures.value c.allowed.result allowed_is
     c.args.forced c.in_ok-paid.paid c.in_ok-paid.ensures in
     let prices = λ (allowed : ℕ → Leg → Bool) (chains : List (List Leg)) (are : AreRowsOf net allowed rows) (tells : TellsForced net chains c.in_ok-paid.paid.row).
     c.in_ok-pricing.ensures.pricing allowed chains (subst (λ (l : List (List Bool)). AreRowsOf net allowed l) (sym c.deref-2.ensures.value) are) tells in
@@ -84,7 +84,7 @@ returns-clause-exact c =
     let rows : List (List Bool) = c.self.inside.rows.items in
     let allowed_is : c.allowed.result ≡ setting_of c.self.inside.round.now.problem c.self.inside.windows.now c.self.inside.round.now.network = c.allowed.ensures ∙ ap (λ (l : LeafModel). l.setting) (sym c.self.view_is) in
     let prep =
-    prepared-leaf c.self.inside.round.now windows sides rows c.self.invariant p net c.instance-instance.ensures.same c.network-network.ensures.same c.deref.result.now c.deref.ensures.value c.allowed.result allowed_is
+    HasForcedClasses-leaf c.self.inside.round.now windows sides rows c.self.invariant p net c.instance-instance.ensures.same c.network-network.ensures.same c.deref.result.now c.deref.ensures.value c.allowed.result allowed_is
     c.args.forced c.in_ok-paid.paid c.in_ok-paid.ensures in
     let prices = λ (allowed : ℕ → Leg → Bool) (chains : List (List Leg)) (are : AreRowsOf net allowed rows) (tells : TellsForced net chains c.in_ok-paid.paid.row).
     c.in_ok-pricing.ensures.pricing allowed chains (subst (λ (l : List (List Bool)). AreRowsOf net allowed l) (sym c.deref-2.ensures.value) are) tells in
@@ -103,7 +103,7 @@ returns-clause-plans c =
     let rows : List (List Bool) = c.self.inside.rows.items in
     let allowed_is : c.allowed.result ≡ setting_of c.self.inside.round.now.problem c.self.inside.windows.now c.self.inside.round.now.network = c.allowed.ensures ∙ ap (λ (l : LeafModel). l.setting) (sym c.self.view_is) in
     let prep =
-    prepared-leaf c.self.inside.round.now windows sides rows c.self.invariant p net c.instance-instance.ensures.same c.network-network.ensures.same c.deref.result.now c.deref.ensures.value c.allowed.result allowed_is
+    HasForcedClasses-leaf c.self.inside.round.now windows sides rows c.self.invariant p net c.instance-instance.ensures.same c.network-network.ensures.same c.deref.result.now c.deref.ensures.value c.allowed.result allowed_is
     c.args.forced c.in_ok-paid.paid c.in_ok-paid.ensures in
     let prices = λ (allowed : ℕ → Leg → Bool) (chains : List (List Leg)) (are : AreRowsOf net allowed rows) (tells : TellsForced net chains c.in_ok-paid.paid.row).
     c.in_ok-pricing.ensures.pricing allowed chains (subst (λ (l : List (List Bool)). AreRowsOf net allowed l) (sym c.deref-2.ensures.value) are) tells in
@@ -123,7 +123,7 @@ returns-clause-small c =
     let rows : List (List Bool) = c.self.inside.rows.items in
     let allowed_is : c.allowed.result ≡ setting_of c.self.inside.round.now.problem c.self.inside.windows.now c.self.inside.round.now.network = c.allowed.ensures ∙ ap (λ (l : LeafModel). l.setting) (sym c.self.view_is) in
     let prep =
-    prepared-leaf c.self.inside.round.now windows sides rows c.self.invariant p net c.instance-instance.ensures.same c.network-network.ensures.same c.deref.result.now c.deref.ensures.value c.allowed.result allowed_is
+    HasForcedClasses-leaf c.self.inside.round.now windows sides rows c.self.invariant p net c.instance-instance.ensures.same c.network-network.ensures.same c.deref.result.now c.deref.ensures.value c.allowed.result allowed_is
     c.args.forced c.in_ok-paid.paid c.in_ok-paid.ensures in
     let prices = λ (allowed : ℕ → Leg → Bool) (chains : List (List Leg)) (are : AreRowsOf net allowed rows) (tells : TellsForced net chains c.in_ok-paid.paid.row).
     c.in_ok-pricing.ensures.pricing allowed chains (subst (λ (l : List (List Bool)). AreRowsOf net allowed l) (sym c.deref-2.ensures.value) are) tells in

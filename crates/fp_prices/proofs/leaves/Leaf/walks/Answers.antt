@@ -13,7 +13,7 @@ use Rattle.fp_prices.specs.Leaves.{IsLeafEmpty}
 use Rattle.fp_prices.specs.Pricings.{TellsForced}
 use Rattle.fp_prices.specs.Rounds.{LeafModel}
 use Rattle.fp_prices.specs.Rows.{AreRowsOf}
-use Rattle.fp_prices.proofs.LeafFound.{empty-found, leaf-priced, leaf_of, leaf_of-same, prepared-leaf, rows-long, setting_of, walks-found}
+use Rattle.fp_prices.proofs.LeafBounds.{empty-found, leaf-priced, leaf_of, leaf_of-same, HasForcedClasses-leaf, rows-long, setting_of, walks-found}
 use Rattle.fp_prices.proofs.leaves.Leaf.walks.Goals as goal
 
 -- what is found of an answer that is none, or of its value
@@ -52,7 +52,7 @@ walks_over-requires-clause-priced c =
     let rows : List (List Bool) = c.self.inside.rows.items in
     let allowed_is : c.allowed.result ≡ setting_of c.self.inside.round.now.problem c.self.inside.windows.now c.self.inside.round.now.network = c.allowed.ensures ∙ ap (λ (l : LeafModel). l.setting) (sym c.self.view_is) in
     let prep =
-    prepared-leaf c.self.inside.round.now windows sides rows c.self.invariant p net c.instance-instance.ensures.same c.network-network.ensures.same c.deref.result.now c.deref.ensures.value c.allowed.result allowed_is
+    HasForcedClasses-leaf c.self.inside.round.now windows sides rows c.self.invariant p net c.instance-instance.ensures.same c.network-network.ensures.same c.deref.result.now c.deref.ensures.value c.allowed.result allowed_is
     c.args.forced c.in_ok-paid.paid c.in_ok-paid.ensures in
     let prices = λ (allowed : ℕ → Leg → Bool) (chains : List (List Leg)) (are : AreRowsOf net allowed rows) (tells : TellsForced net chains c.in_ok-paid.paid.row).
     c.in_ok-pricing.ensures.pricing allowed chains (subst (λ (l : List (List Bool)). AreRowsOf net allowed l) (sym c.deref-2.ensures.value) are) tells in
@@ -68,7 +68,7 @@ returns-clause-none c =
     let rows : List (List Bool) = c.self.inside.rows.items in
     let allowed_is : c.allowed.result ≡ setting_of c.self.inside.round.now.problem c.self.inside.windows.now c.self.inside.round.now.network = c.allowed.ensures ∙ ap (λ (l : LeafModel). l.setting) (sym c.self.view_is) in
     let prep =
-    prepared-leaf c.self.inside.round.now windows sides rows c.self.invariant p net c.instance-instance.ensures.same c.network-network.ensures.same c.deref.result.now c.deref.ensures.value c.allowed.result allowed_is
+    HasForcedClasses-leaf c.self.inside.round.now windows sides rows c.self.invariant p net c.instance-instance.ensures.same c.network-network.ensures.same c.deref.result.now c.deref.ensures.value c.allowed.result allowed_is
     c.args.forced c.in_ok-paid.paid c.in_ok-paid.ensures in
     let prices = λ (allowed : ℕ → Leg → Bool) (chains : List (List Leg)) (are : AreRowsOf net allowed rows) (tells : TellsForced net chains c.in_ok-paid.paid.row).
     c.in_ok-pricing.ensures.pricing allowed chains (subst (λ (l : List (List Bool)). AreRowsOf net allowed l) (sym c.deref-2.ensures.value) are) tells in
@@ -89,7 +89,7 @@ returns-clause-walks c =
     let rows : List (List Bool) = c.self.inside.rows.items in
     let allowed_is : c.allowed.result ≡ setting_of c.self.inside.round.now.problem c.self.inside.windows.now c.self.inside.round.now.network = c.allowed.ensures ∙ ap (λ (l : LeafModel). l.setting) (sym c.self.view_is) in
     let prep =
-    prepared-leaf c.self.inside.round.now windows sides rows c.self.invariant p net c.instance-instance.ensures.same c.network-network.ensures.same c.deref.result.now c.deref.ensures.value c.allowed.result allowed_is
+    HasForcedClasses-leaf c.self.inside.round.now windows sides rows c.self.invariant p net c.instance-instance.ensures.same c.network-network.ensures.same c.deref.result.now c.deref.ensures.value c.allowed.result allowed_is
     c.args.forced c.in_ok-paid.paid c.in_ok-paid.ensures in
     let prices = λ (allowed : ℕ → Leg → Bool) (chains : List (List Leg)) (are : AreRowsOf net allowed rows) (tells : TellsForced net chains c.in_ok-paid.paid.row).
     c.in_ok-pricing.ensures.pricing allowed chains (subst (λ (l : List (List Bool)). AreRowsOf net allowed l) (sym c.deref-2.ensures.value) are) tells in
