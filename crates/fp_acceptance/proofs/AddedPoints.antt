@@ -19,6 +19,7 @@ use Rattle.fp_flatnet.specs.Initial.{BeginAt, initial_points}
 use Rattle.fp_lines.specs.Ranges.{IsPointInRange}
 use Rattle.fp_acceptance.specs.Points.{AreAddedPoints, ArePointsOf, points_with_added}
 use Rattle.fp_acceptance.proofs.RoundCounts.{RoundsAscend, count_in, length-count_in}
+use Rattle.fp_timenodes.proofs.Rounds.{greatest_round_least}
 
 -- a point is none of the initial ones
 abbrev pub IsNew : Problem → List Place → AddedPoint → Type 0
@@ -77,7 +78,7 @@ WasAdded-added_at (q ∷ added) terminal round at d has =
     (cases_Bool (q.terminal == terminal && nat_le q.round round))
 
 -- they are, as of each round, the initial points and the added ones
-pub HaveAdded-points_at : (p : Problem) (anchors : List Place) (added : List AddedPoint) (v : TimePoints) (terminal round : ℕ) → HaveAdded p anchors added v → terminal < length p.terminals →
+HaveAdded-points_at : (p : Problem) (anchors : List Place) (added : List AddedPoint) (v : TimePoints) (terminal round : ℕ) → HaveAdded p anchors added v → terminal < length p.terminals →
     HaveSamePoints (points_at v terminal round) (points_with_added p anchors added round terminal)
 HaveAdded-points_at p anchors added v terminal round made lt at =
     let first : List ℕ = times_at v.first terminal in
@@ -92,18 +93,6 @@ HaveAdded-points_at p anchors added v terminal round made lt at =
     ∙ ap (λ (b : Bool). b || list_has later at) (sym (list_has-append first (0 ∷ []) at) ∙ made.start terminal lt at)
     ∙ sym (list_has-append (initial_points p anchors terminal) later at)
 
--- at first none is added
-pub HaveAdded_none : (p : Problem) (anchors : List Place) (v : TimePoints) → BeginAt p anchors v → v.added ≡ [] → length v.first ≤ MOST_ANCHORS + 2 * MOST_SHIPMENTS → HaveAdded p anchors [] v
-HaveAdded_none p anchors v begins unadded few = record {
-  terminals = begins.terminals;
-  few_first = few;
-  added_is = unadded;
-  start = λ terminal lt at.
-      sym (ap (λ (qs : List AddedPoint). list_has (times_at v.first terminal ++ (added_at qs terminal 0 ++ 0 ∷ [])) at) unadded) ∙ begins.same terminal lt at;
-  new = λ k d lt. absurd (omega (arith, lt));
-  once = λ i j d less lt. absurd (omega (arith, lt));
-}
-
 -- a point before a place in the points before it
 take_before : (added : List AddedPoint) (i k : ℕ) (d : AddedPoint) → i < length added → k < length (take i added) → (k < i) × (get_or (take i added) k d ≡ get_or added k d)
 take_before added i k d lt less =
@@ -115,10 +104,6 @@ RoundsAscend-take : (added : List AddedPoint) (i k : ℕ) (d : AddedPoint) → R
 RoundsAscend-take added i k d rise lt less =
     let at = take_before added i k d lt less in
     omega (arith, ap (λ (q : AddedPoint). q.round) at.1, rise k i d at.0 lt)
-
-greatest_round_least : (added : List AddedPoint) (d : AddedPoint) (n : ℕ) → ((k : ℕ) → k < length added → (get_or added k d).round ≤ n) → greatest_round added ≤ n
-greatest_round_least [] d n above = omega arith
-greatest_round_least (q ∷ added) d n above = omega (arith, above 0 (omega arith), greatest_round_least added d n (λ k h. above (suc k) (omega (arith, h))))
 
 -- rounds that don't fall are what adding one more point asks for
 pub HaveAdded-greatest_round : (p : Problem) (anchors : List Place) (added : List AddedPoint) (v : TimePoints) (i : ℕ) (d : AddedPoint) → HaveAdded p anchors (take i added) v → RoundsAscend added → i < length added →

@@ -47,17 +47,13 @@ departures_some p k arc lo hi n sides own (Some w) is own_is n_is =
     let hi_is : w.hi ≡ hi = ap (λ (x : ℕ × ℕ). x.1) pair in
     n_is ∙ rw (← lo_is, ← hi_is) (departures-let p k arc sides own w own_is)
 
-pub departures_none : (p : Problem) (k arc : ℕ) (sides : List Side) (o : Option Window) → option_map {U = ℕ × ℕ} (λ w. (w.lo, w.hi)) o ≡ None → 0 ≡ departures_in p sides k arc o
-departures_none p k arc sides None is = refl
-departures_none p k arc sides (Some w) is = cc is
-
 -- at each arc there are at most as many departures as moments
 pub departures_in_le : (p : Problem) (k arc : ℕ) (sides : List Side) (o : Option Window) → IfSome o IsInTime → departures_in p sides k arc o ≤ 100001
 departures_in_le p k arc sides None in_time = omega arith
 departures_in_le p k arc sides (Some w) in_time = omega (arith, count_below-le (w.hi + 1) (is_departure p sides k arc w), in_time.1)
 
 -- one arc more
-pub departures_here : (p : Problem) (windows : ℕ → ℕ → Option Window) (sides : List Side) (k terminal a n : ℕ) → tails_of p a ≡ terminal → n ≡ departures_in p sides k a (windows k a) →
+departures_here : (p : Problem) (windows : ℕ → ℕ → Option Window) (sides : List Side) (k terminal a n : ℕ) → tails_of p a ≡ terminal → n ≡ departures_in p sides k a (windows k a) →
     n + departures_below p windows sides k terminal a ≡ departures_below p windows sides k terminal (a + 1)
 departures_here p windows sides k terminal a n here is =
     rw (add-one, eq-eqb (tails_of p a) terminal here) (ap (λ (m : ℕ). m + departures_below p windows sides k terminal a) is)

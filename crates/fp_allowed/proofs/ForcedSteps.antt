@@ -157,9 +157,3 @@ module _ (p : Problem) (net : TimedNetwork) (allowed : Leg → Bool) (s : Shipme
         within = so_far.within;
         terminal = so_far.place;
       }
-
--- one terminal more was met
-pub fewer_unmet : (met : List Bool) (here : ℕ) → here < length met → get_or met here false ≡ false → count_by not (set met here true) < count_by not met
-fewer_unmet met here inside unmet =
-    let one : Bool → ℕ = λ b. cond (not b) 1 0 in
-    omega (arith, sum_by-set one met here true false inside, ap one unmet)

@@ -31,10 +31,6 @@ length-classes_from points a (tail ∷ tails) =
       sum_by-cons (λ t. length (points_of points t)) tail tails,
     )
 
--- there are as many classes in the list as there are numbers
-pub length-all_classes : (net : TimedNetwork) → length (all_classes net) ≡ class_count net
-length-all_classes net = length-classes_from net.points 0 net.tails
-
 -- the class at a place of an arc's classes stands so far behind those of the earlier arcs
 listed : (points : List (List ℕ)) (a : ℕ) (tails : List ℕ) (i place : ℕ) → i < length tails → place < length (points_of points (get_or tails i 0)) →
     get_or (classes_from points a tails) (copy_count points (take i tails) + place) no_leg ≡ record { arc = a + i; depart = get_or (points_of points (get_or tails i 0)) place 0 }
@@ -81,11 +77,6 @@ pub class_by-number : (net : TimedNetwork) (a place : ℕ) → IsNetwork net →
 class_by-number net a place valid h within =
     let qs : List ℕ = points_in net (tail_in net a) in
     ap (λ (n : ℕ). first_class net a + n) (place_in-get_or qs place 0 (tail-points net a valid h).ascending within)
-
-pub class_at-place : (net : TimedNetwork) (a place : ℕ) → IsNetwork net → a < length net.tails → place < length (points_in net (tail_in net a)) →
-    class_at net (first_class net a + place) ≡ class_by net a place
-class_at-place net a place valid h within =
-    ap (class_at net) (sym (class_by-number net a place valid h within)) ∙ class_at-number net (class_by net a place) valid (IsClass-class_by net a place h within)
 
 -- the numbers of an arc's classes are a range
 pub class_range : (net : TimedNetwork) (arc tail first count : ℕ) → IsNetwork net → arc < length net.tails → tail ≡ tail_in net arc → first ≡ class_number net (record { arc = arc; depart = 0 }) →

@@ -26,7 +26,7 @@ use Rattle.fp_allowed.proofs.AllowedClasses.{class_allowed}
 
 -- the classes of legs that leave when they can follow the heads, since a head is never after the
 -- true arrival and the hold
-pub classes_follow : (p : Problem) (points : ℕ → List ℕ) (d here there : ℕ) (legs : List Leg) (a ready : ℕ) → Leads p here (arcs_of legs) there → LeavesReady p d ready legs → d * a ≤ ready →
+classes_follow : (p : Problem) (points : ℕ → List ℕ) (d here there : ℕ) (legs : List Leg) (a ready : ℕ) → Leads p here (arcs_of legs) there → LeavesReady p d ready legs → d * a ≤ ready →
     FollowsHeads p points (floor_point (points here) 1 a) (map (class_of p points d) legs)
 classes_follow p points d here there [] a ready leads leaves h = tt
 classes_follow p points d here there (l ∷ legs) a ready leads leaves h =
@@ -54,7 +54,7 @@ from-zero p points ready [] follows = tt
 from-zero p points ready (c ∷ walk) follows = (omega arith, follows.1)
 
 -- the classes of one shipment's legs
-pub classes_timed : (p : Problem) (windows : ℕ → ℕ → Option Window) (points : ℕ → List ℕ) (sides : List Side) (d k : ℕ) (s : Shipment) (legs : List Leg) → 0 < d → Carries p d s legs →
+classes_timed : (p : Problem) (windows : ℕ → ℕ → Option Window) (points : ℕ → List ℕ) (sides : List Side) (d k : ℕ) (s : Shipment) (legs : List Leg) → 0 < d → Carries p d s legs →
     LiesWithin windows d k legs → AllByRecursion (λ (l : Leg). MeetsAll d k sides (exit_of p l)) legs →
     IsTimedWalk p points (is_allowed p windows points sides k) s (map (class_of p points d) legs)
 classes_timed p windows points sides d k s legs h carries within meets =

@@ -71,7 +71,7 @@ pub row_allows_under : (s : Setting) (sides : List Side) (k : ℕ) (row : List B
 row_allows_under s sides k row is under = λ i c. row_tells s sides k row is under c i
 
 -- a row under sides allows the classes of plans
-pub IsRowUnder-AllowsPlans : (s : Setting) (sides : List Side) (k : ℕ) (row : List Bool) → IsSetting s → k < length s.problem.shipments → IsRowUnder s sides k row → AllowsPlans s sides k row
+IsRowUnder-AllowsPlans : (s : Setting) (sides : List Side) (k : ℕ) (row : List Bool) → IsSetting s → k < length s.problem.shipments → IsRowUnder s sides k row → AllowsPlans s sides k row
 IsRowUnder-AllowsPlans s sides k row is exists under d routes h plan within obeys =
     subst (λ (allowed : Leg → Bool). IsTimedWalk s.problem (points_in s.network) allowed (shipment_at s.problem k) (map (class_of s.problem (points_in s.network) d) (route_at routes k)))
     (sym (row_allows_under s sides k row is under))

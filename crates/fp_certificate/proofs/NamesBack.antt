@@ -15,6 +15,7 @@ use Rattle.fp_fields.specs.NamedParts.{joins}
 use Rattle.fp_fields.specs.Names.{number_of}
 use Rattle.fp_fields.specs.NamedParts.{arc_named, shipment_named, terminal_named}
 use Rattle.fp_lines.specs.Rows.{head_name, shipment_name, tail_name, terminal_name}
+use Rattle.fp_model.proofs.Validity.{IsArc-valid}
 
 -- the first place that passes
 first-place : {X : Type 0} (test : X → Bool) (xs : List X) (i : ℕ) (d : X) → i < length xs → test (get_or xs i d) ≡ true
@@ -45,14 +46,10 @@ shipment-back p shipment v within =
     (λ k before. rw (name-at p k) (false_from_ne_true (bytes_eq name (shipment_name p k)) (λ same.
     v.parts.shipments_differ k shipment no_shipment before within (sym ((bytes_eq-Decides name (shipment_name p k)).0 same)))))
 
--- an arc of a valid instance
-pub arc-valid : (p : Problem) (arc : ℕ) → IsValid p → arc < length p.arcs → IsArc (length p.terminals) (arc_at p arc)
-arc-valid p arc v within = v.parts.arcs arc no_arc within
-
 pub arc-back : (p : Problem) (arc : ℕ) → IsValid p → arc < length p.arcs → arc_named p (tail_name p arc) (head_name p arc) ≡ Some arc
 arc-back p arc v within =
     let a = arc_at p arc in
-    let is = arc-valid p arc v within in
+    let is = IsArc-valid p arc v within in
     let passes : joins a.from a.to a ≡ true = and_from (eqb a.from a.from) (eqb a.to a.to) (eq-eqb a.from a.from refl) (eq-eqb a.to a.to refl) in
     let fails : (k : ℕ) → k < arc → joins a.from a.to (arc_at p k) ≡ false = λ k before. false_from_ne_true (joins a.from a.to (arc_at p k)) (λ same.
     let b = arc_at p k in

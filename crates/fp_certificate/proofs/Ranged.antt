@@ -286,7 +286,7 @@ maybe-ranged p before None fields h r = r
 maybe-ranged p before (Some kind) fields h r = kind-ranged p before kind fields h r
 
 -- a line without a fault does
-pub line-ranged : (p : Problem) (before : Draft) (fields : List (List ℕ)) → line_code p before fields ≡ None
+line-ranged : (p : Problem) (before : Draft) (fields : List (List ℕ)) → line_code p before fields ≡ None
     → IsInRange p before.certificate → IsInRange p (with_line p before fields).certificate
 line-ranged p before fields h r =
     let open_still = IsClear-from_none 27 (has_ended before) h in
@@ -305,7 +305,7 @@ pub read-on : (p : Problem) (before : Draft) (ordinal : ℕ) (lines : List (List
 read-on p before ordinal lines place fields within there clean = rw (lines-from lines place fields within there, clean) refl
 
 -- a line that was first_fault-ok has no fault
-pub first_fault-ok : (ordinal : ℕ) (code : Option ℕ) (rest : Result Statement Fault) (c : Statement) → first_fault ordinal code rest ≡ Ok c → (code ≡ None) × (rest ≡ Ok c)
+first_fault-ok : (ordinal : ℕ) (code : Option ℕ) (rest : Result Statement Fault) (c : Statement) → first_fault ordinal code rest ≡ Ok c → (code ≡ None) × (rest ≡ Ok c)
 first_fault-ok ordinal None rest c h = (refl, h)
 first_fault-ok ordinal (Some code) rest c h = cc h
 

@@ -129,7 +129,7 @@ parts-back p c v r few free =
     scale-back p s c legs c.scale refl r.scale free.scale (sooner p 1 2 legs with-scale c (lit≤ tt) two)
 
 -- the lines of a certificate give it
-pub rows-back : (p : Problem) (c : Statement) (ordinal : ℕ) → IsValid p → IsInRange p c → length c.tables < 2 ^ 32 - 1 → IsReadable c
+rows-back : (p : Problem) (c : Statement) (ordinal : ℕ) → IsValid p → IsInRange p c → length c.tables < 2 ^ 32 - 1 → IsReadable c
     → certificate_of p ordinal (rows_of p c) ≡ Ok c
 rows-back p c ordinal v r few readable =
     let step = answer-step p c.answer v r.answer in

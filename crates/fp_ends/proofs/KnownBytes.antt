@@ -14,7 +14,7 @@ Consumes-append (Some u) (Some v) None xs ys first second = absurd second
 Consumes-append (Some u) (Some v) (Some w) xs ys first second =
     first ∙ ap (λ t. xs ++ t) second ∙ sym (append_assoc xs ys w)
 
-pub Appends-append : (a b c : Option (List ℕ)) (xs ys : List ℕ) → Appends a b xs → Appends b c ys → Appends a c (xs ++ ys)
+Appends-append : (a b c : Option (List ℕ)) (xs ys : List ℕ) → Appends a b xs → Appends b c ys → Appends a c (xs ++ ys)
 Appends-append None b c xs ys first second = tt
 Appends-append (Some u) None c xs ys first second = absurd first
 Appends-append (Some u) (Some v) None xs ys first second = absurd second

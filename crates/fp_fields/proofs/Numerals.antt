@@ -15,7 +15,7 @@ value-grows n [] = omega arith
 value-grows n (c ∷ cs) = let more = value-grows (n * 10 + digit_value c) cs in omega (arith, more)
 
 -- a digit's byte and its value
-pub digit-byte : (c : ℕ) → is_ascii_digit c ≡ true → (48 ≤ c) × (c ≤ 57) × (digit_value c ≡ c - 48)
+digit-byte : (c : ℕ) → is_ascii_digit c ≡ true → (48 ≤ c) × (c ≤ 57) × (digit_value c ≡ c - 48)
 digit-byte c h =
     let parts = and_parts (leb 48 c) (leb c 57) h in
     let low = leb-true 48 c parts.0 in
@@ -25,7 +25,7 @@ digit-byte c h =
     (low, high, rw (above, below) refl)
 
 -- each byte of a number is a digit
-pub digit-at : (digits : List ℕ) (i : ℕ) → is_number digits ≡ true → i < length digits → is_ascii_digit (get_or digits i 0) ≡ true
+digit-at : (digits : List ℕ) (i : ℕ) → is_number digits ≡ true → i < length digits → is_ascii_digit (get_or digits i 0) ≡ true
 digit-at digits i h lt =
     let all = (and_parts (not (length digits == 0)) (list_all is_ascii_digit digits) h).1 in
     elim (cases_Bool (is_ascii_digit (get_or digits i 0))) [

@@ -14,7 +14,7 @@ use Rattle.fp_model.specs.Routes.{step}
 use Rattle.fp_model.specs.Times.{IsDistance}
 use Rattle.fp_flatnet.specs.ArcGraphs.{backward_edge, forward_edge, arc_step, step_costs}
 use Rattle.fp_flatnet.proofs.ArcWalks.{IsStepDistance, cost-at, step_distance-bounds, step_distance-time}
-use Rattle.fp_flatnet.proofs.LeastWalks.{arc-valid, hold-small}
+use Rattle.fp_model.proofs.Validity.{hold_at-le, IsArc-valid}
 
 -- a label is at least the last hold, and small
 pub label-fits : (p : Problem) (here there hold : ℕ) (o q : Option ℕ) → IsValid p → here ≢ there → IsStepDistance p here there q → o ≡ q → hold ≡ hold_at p there →
@@ -35,7 +35,7 @@ pub costs-small : (p : Problem) (nodes : ℕ) → IsValid p → nodes ≡ length
 costs-small p nodes valid same =
     λ k d lt.
     let there : k < length p.arcs = omega (arith, lt, length-map p.arcs (λ (x : Arc). Some (arc_step p x))) in
-    let small : step p k ≤ LONGEST_STEP = omega (arith, (arc-valid p k valid there).within.time.1, hold-small p (arc_at p k).to valid) in
+    let small : step p k ≤ LONGEST_STEP = omega (arith, (IsArc-valid p k valid there).within.time.1, hold_at-le p (arc_at p k).to valid) in
     let few : nodes ≤ MOST_TERMINALS = omega (arith, same, valid.parts.few_terminals) in
     let product : nodes * step p k ≤ MOST_TERMINALS * LONGEST_STEP = mul-le-mul few small in
     let P : Option ℕ → Type 0 = λ o. IsSmallFor nodes o in
@@ -58,12 +58,12 @@ pub forward-ends : (p : Problem) → IsValid p → HasEnds (length p.terminals) 
 forward-ends p valid =
     λ k d lt.
     let there : k < length p.arcs = omega (arith, lt, length-map p.arcs forward_edge) in
-    let arc = arc-valid p k valid there in
+    let arc = IsArc-valid p k valid there in
     rw (get_or-map forward_edge p.arcs k no_arc d there) (arc.from, arc.to)
 
 pub backward-ends : (p : Problem) → IsValid p → HasEnds (length p.terminals) (map backward_edge p.arcs)
 backward-ends p valid =
     λ k d lt.
     let there : k < length p.arcs = omega (arith, lt, length-map p.arcs backward_edge) in
-    let arc = arc-valid p k valid there in
+    let arc = IsArc-valid p k valid there in
     rw (get_or-map backward_edge p.arcs k no_arc d there) (arc.to, arc.from)

@@ -43,7 +43,7 @@ times_at-append xs ys terminal =
     ∙ map-append (λ (x : Place). x.at) (filter (λ (x : Place). x.terminal == terminal) xs) (filter (λ (x : Place). x.terminal == terminal) ys)
 
 -- these places are, at each terminal, the initial points
-pub BeginAt-first_places : (p : Problem) (anchors : List Place) → BeginAt p anchors (record { terminals = length p.terminals; first = first_places p anchors; added = [] })
+BeginAt-first_places : (p : Problem) (anchors : List Place) → BeginAt p anchors (record { terminals = length p.terminals; first = first_places p anchors; added = [] })
 BeginAt-first_places p anchors = record {
   terminals = refl;
   same = λ terminal lt at.

@@ -5,7 +5,7 @@ use Rattle.std.specs.List.{AllByRecursion}
 use Rattle.std.proofs.lemmas.Bool.{cases_lt}
 use Rattle.std.proofs.lemmas.List.{get_or_past}
 use Rattle.std.proofs.lemmas.List.Sums.{sum_by-cons, sum_by-le}
-use Rattle.fp_model.specs.declared.limits.TheConstants.{LONGEST_STEP}
+use Rattle.fp_model.specs.declared.limits.TheConstants.{GREATEST_HOLD, LONGEST_STEP}
 use Rattle.fp_flatnet.specs.declared.least_times.TheConstants.{LONGEST_LEAST_TIME}
 use Rattle.fp_model.specs.declared.parts.Arc.{Arc}
 use Rattle.fp_model.specs.Problem.{Problem, IsValid, IsArc, no_arc, arc_at, hold_at}
@@ -15,6 +15,7 @@ use Rattle.fp_model.specs.Times.{IsLeastTime, IsDistance}
 use Rattle.fp_model.proofs.Bounds.{Leads-exist}
 use Rattle.fp_lists.proofs.Distinct.{AreDistinct-from_map, AreDistinct-cons, AreDistinct-nil, AreDistinct-tail}
 use Rattle.fp_lists.proofs.DistinctSums.{sum_by-places-le}
+use Rattle.fp_model.proofs.Validity.{IsArc-valid, hold_at-le}
 
 -- the sum of the steps of a walk: so long after its first departure a shipment can leave the walk's
 -- end
@@ -41,18 +42,6 @@ pub time-steps : (p : Problem) (here there : ℕ) (arcs : List ℕ) → here ≢
 time-steps p here there [] apart leads = absurd (apart leads)
 time-steps p here there (a ∷ arcs) apart leads = steps-held p here there a arcs leads
 
-pub arc-valid : (p : Problem) (a : ℕ) → IsValid p → a < length p.arcs → IsArc (length p.terminals) (arc_at p a)
-arc-valid p a valid exists = valid.parts.arcs a no_arc exists
-
-pub hold-small : (p : Problem) (terminal : ℕ) → IsValid p → hold_at p terminal ≤ 1000
-hold-small p terminal valid =
-    ⊎_elim
-    (λ (inside : terminal < length p.holds). valid.parts.holds terminal 0 inside)
-    (λ (past : length p.holds ≤ terminal).
-    let none : hold_at p terminal ≡ 0 = get_or_past p.holds terminal 0 past in
-    omega (arith, none))
-    (cases_lt terminal (length p.holds))
-
 -- a walk whose steps no other walk with these ends undercuts
 pub record IsLeastWalk (p : Problem) (here there : ℕ) (arcs : List ℕ) : Type 0 where
   pub leads : Leads p here arcs there
@@ -69,7 +58,7 @@ IsLeastWalk-from_time p here there t valid least = record { leads = least.leads;
     fewest : (arcs : List ℕ) → Leads p here arcs there → walk_time p arcs ≡ t → (others : List ℕ) → Leads p here others there → steps p arcs ≤ steps p others
     fewest [] leads time others there_too = omega arith
     fewest (a ∷ arcs) leads time [] there_too =
-        let within : 1 ≤ (arc_at p a).time = (arc-valid p a valid leads.0).within.time.0 in
+        let within : 1 ≤ (arc_at p a).time = (IsArc-valid p a valid leads.0).within.time.0 in
         let none : t ≤ 0 = least.least [] there_too in
         absurd (omega (arith, within, none, time, first-time p a arcs))
     fewest (a ∷ arcs) leads time (b ∷ others) there_too =
@@ -82,7 +71,7 @@ IsLeastTime-from_walk p here there arcs valid least = record { arcs = arcs; lead
         (others : List ℕ) → Leads p here others there → walk_time p arcs ≤ walk_time p others
     fewest [] leads least others there_too = omega arith
     fewest (a ∷ arcs) leads least [] there_too =
-        let within : 1 ≤ (arc_at p a).time = (arc-valid p a valid leads.0).within.time.0 in
+        let within : 1 ≤ (arc_at p a).time = (IsArc-valid p a valid leads.0).within.time.0 in
         absurd (omega (arith, within, least [] there_too))
     fewest (a ∷ arcs) leads least (b ∷ others) there_too =
         omega (arith, steps-held p here there a arcs leads, steps-held p here there b others there_too, least (b ∷ others) there_too)
@@ -110,7 +99,7 @@ pub least-apart : (p : Problem) (here there : ℕ) (arcs : List ℕ) → IsValid
 least-apart p here there [] valid least = AreDistinct-cons here [] tt AreDistinct-nil
 least-apart p here there (a ∷ arcs) valid least =
     let leads : Leads p here (a ∷ arcs) there = least.leads in
-    let within : 1 ≤ (arc_at p a).time = (arc-valid p a valid leads.0).within.time.0 in
+    let within : 1 ≤ (arc_at p a).time = (IsArc-valid p a valid leads.0).within.time.0 in
     AreDistinct-cons here (ends_of p (a ∷ arcs)) (
       (λ (e : (arc_at p a).to ≡ here).
           let from_here : Leads p here arcs there = subst (λ (n : ℕ). Leads p n arcs there) e leads.2 in
@@ -131,15 +120,15 @@ steps-small p here there arcs valid least =
     let once : AreDistinct arcs = AreDistinct-from_map (λ a. (arc_at p a).to) arcs (AreDistinct-tail here (ends_of p arcs) (least-apart p here there arcs valid least)) in
     let within : sum_by at arcs ≤ sum_by (capped_step p) p.arcs = sum_by-places-le (capped_step p) no_arc (omega arith) arcs p.arcs exist once in
     let each : All (λ (x : Arc). capped_step p x ≤ LONGEST_STEP) p.arcs =
-    λ k d lt. omega (arith, hold-small p (get_or p.arcs k d).to valid, (valid.parts.arcs k d lt).within.time.1) in
+    λ k d lt. omega (arith, hold_at-le p (get_or p.arcs k d).to valid, (valid.parts.arcs k d lt).within.time.1) in
     let few : length p.arcs * LONGEST_STEP ≤ LONGEST_LEAST_TIME = omega (arith, valid.parts.few_arcs) in
     omega (arith, within, few, sum_by-le (capped_step p) LONGEST_STEP p.arcs each, all_steps arcs exist)
   where
     all_steps : (arcs : List ℕ) → AllByRecursion (λ a. a < length p.arcs) arcs → steps p arcs ≡ sum_by (λ a. capped_step p (get_or p.arcs a no_arc)) arcs
     all_steps [] exist = refl
     all_steps (a ∷ arcs) exist =
-        let within : 1 ≤ (arc_at p a).time = (arc-valid p a valid exist.0).within.time.0 in
-        let held : hold_at p (arc_at p a).to ≤ 1000 = hold-small p (arc_at p a).to valid in
+        let within : 1 ≤ (arc_at p a).time = (IsArc-valid p a valid exist.0).within.time.0 in
+        let held : hold_at p (arc_at p a).to ≤ GREATEST_HOLD = hold_at-le p (arc_at p a).to valid in
         omega (arith, within, held, all_steps arcs exist.1, sum_by-cons (λ b. capped_step p (get_or p.arcs b no_arc)) a arcs)
 
 time-le-steps : (p : Problem) (arcs : List ℕ) → walk_time p arcs ≤ steps p arcs

@@ -8,7 +8,8 @@ use Rattle.fp_model.specs.Routes.{Leads, walk_time, step}
 use Rattle.fp_model.specs.Times.{IsLeastTime, IsDistance}
 use Rattle.fp_flatnet.specs.Directs.{BeginsLeast}
 use Rattle.fp_flatnet.specs.Windows.{time_onward}
-use Rattle.fp_flatnet.proofs.LeastWalks.{IsLeastWalk, IsLeastWalk-from_time, IsLeastTime-from_walk, IsLeastWalk-next, arc-valid, first-time}
+use Rattle.fp_flatnet.proofs.LeastWalks.{IsLeastWalk, IsLeastWalk-from_time, IsLeastTime-from_walk, IsLeastWalk-next, first-time}
+use Rattle.fp_model.proofs.Validity.{IsArc-valid}
 
 -- an arc and any walk from its head take at least the time onward
 pub onward-le : (p : Problem) (there a : ℕ) (rest : List ℕ) (t : ℕ) → Leads p (arc_at p a).to rest there → IsLeastTime p (arc_at p a).to there t →
@@ -38,7 +39,7 @@ onward-is p there a t valid least =
     stay : (arcs : List ℕ) → Leads p (arc_at p a).to arcs there → walk_time p arcs ≡ t → (arc_at p a).to ≡ there → walk_time p (a ∷ arcs) ≡ (arc_at p a).time
     stay [] leads time here = refl
     stay (b ∷ arcs) leads time here =
-        let within : 1 ≤ (arc_at p b).time = (arc-valid p b valid leads.0).within.time.0 in
+        let within : 1 ≤ (arc_at p b).time = (IsArc-valid p b valid leads.0).within.time.0 in
         let none : t ≤ 0 = least.least [] here in
         absurd (omega (arith, within, none, time, first-time p b arcs))
 
@@ -89,7 +90,7 @@ pub begun-next : (p : Problem) (here there a t : ℕ) → IsValid p → IsLeastT
     GoesOnWithin p there a t (walk_time p begins.rest)
 begun-next p here there a t valid least begins =
     let next : IsLeastWalk p (arc_at p a).to there begins.rest = IsLeastWalk-next p here there a begins.rest (begun-least p here there a valid begins) in
-    let within : 1 ≤ (arc_at p a).time = (arc-valid p a valid begins.leads.0).within.time.0 in
+    let within : 1 ≤ (arc_at p a).time = (IsArc-valid p a valid begins.leads.0).within.time.0 in
     let same : walk_time p (a ∷ begins.rest) ≡ t =
     omega (arith, begins.least least.arcs least.leads, least.time, least.least (a ∷ begins.rest) begins.leads) in record {
       least = IsLeastTime-from_walk p (arc_at p a).to there begins.rest valid next;

@@ -11,7 +11,8 @@ use Rattle.fp_flatnet.specs.Distances.{AreTimesTo, time_at}
 use Rattle.fp_flatnet.proofs.DirectRoutes.{direct-more}
 use Rattle.fp_flatnet.proofs.PlanExistence.{IsDistance-unique}
 use Rattle.fp_flatnet.proofs.OnwardTimes.{GoesOnWithin, begun-next}
-use Rattle.fp_flatnet.proofs.LeastWalks.{arc-valid, first-time, hold-small}
+use Rattle.fp_flatnet.proofs.LeastWalks.{first-time}
+use Rattle.fp_model.proofs.Validity.{hold_at-le, IsArc-valid}
 
 -- the shipment is here and ready, can still be in time, and what is a direct route from here on is
 -- one with the legs before it
@@ -26,7 +27,7 @@ pub record IsUnderway (p : Problem) (s : Shipment) (here ready : ℕ) (legs : Li
 begins-away : (p : Problem) (here there a : ℕ) → IsValid p → BeginsLeast p here there a → here ≢ there
 begins-away p here there a valid begins =
     λ same.
-    let within : 1 ≤ (arc_at p a).time = (arc-valid p a valid begins.leads.0).within.time.0 in
+    let within : 1 ≤ (arc_at p a).time = (IsArc-valid p a valid begins.leads.0).within.time.0 in
     omega (arith, within, first-time p a begins.rest, begins.least [] same)
 
 pub underway-more : (p : Problem) (s : Shipment) (here ready a : ℕ) (legs : List Leg) (l : Leg) → IsValid p → IsUnderway p s here ready legs → BeginsFirst p here s.to a →
@@ -35,7 +36,7 @@ underway-more p s here ready a legs l valid under first same =
     let next : GoesOnWithin p s.to a under.left (walk_time p first.begins.rest) = begun-next p here s.to a under.left valid under.least first.begins in
     let away : here ≢ s.to = begins-away p here s.to a valid first.begins in
     let leg : Leg = record { arc = a; depart = ready } in record {
-      inside = (arc-valid p a valid first.begins.leads.0).to;
+      inside = (IsArc-valid p a valid first.begins.leads.0).to;
       left = walk_time p first.begins.rest;
       least = next.least;
       in_time = λ onward. omega (arith, under.in_time away, next.within onward);
@@ -62,8 +63,8 @@ ready-small p s here ready a legs valid shipment under first =
       arith,
       under.in_time (begins-away p here s.to a valid first.begins),
       shipment.within.due,
-      (arc-valid p a valid first.begins.leads.0).within.time.1,
-      hold-small p (arc_at p a).to valid,
+      (IsArc-valid p a valid first.begins.leads.0).within.time.1,
+      hold_at-le p (arc_at p a).to valid,
     )
 
 -- a table with no arc for a terminal says that none begins a least walk there
@@ -81,7 +82,7 @@ pub time-falls : (p : Problem) (s : Shipment) (here ready a : ℕ) (legs : List 
     BeginsFirst p here s.to a → unwrap_or (time_at times (arc_at p a).to) 0 < unwrap_or (time_at times here) 0
 time-falls p s here ready a legs times valid are under first =
     let next : GoesOnWithin p s.to a under.left (walk_time p first.begins.rest) = begun-next p here s.to a under.left valid under.least first.begins in
-    let head : (arc_at p a).to < length p.terminals = (arc-valid p a valid first.begins.leads.0).to in
+    let head : (arc_at p a).to < length p.terminals = (IsArc-valid p a valid first.begins.leads.0).to in
     let now : time_at times here ≡ Some under.left = time-left p s here ready legs times are under in
     let then : time_at times (arc_at p a).to ≡ Some (walk_time p first.begins.rest) =
     IsDistance-unique p (arc_at p a).to s.to (time_at times (arc_at p a).to) (Some (walk_time p first.begins.rest)) (are.exact (arc_at p a).to head) next.least in

@@ -29,7 +29,7 @@ pub within_weaker : (labels : List (Option Label)) (node a b : ℕ) → a ≤ b 
 within_weaker labels node a b below within = (within.0, within.1, (let le = within.2 in omega arith))
 
 -- the first edge that was to do is done
-pub first_done : (edges : List Edge) (costs : List (Option ℕ)) (labels : List (Option Label)) (settled : List Bool) (e : ℕ) (rest : List ℕ) →
+first_done : (edges : List Edge) (costs : List (Option ℕ)) (labels : List (Option Label)) (settled : List Bool) (e : ℕ) (rest : List ℕ) →
     AreRelaxed edges costs labels settled (Contains (e ∷ rest)) → IsRelaxed edges costs labels e → AreRelaxed edges costs labels settled (Contains rest)
 first_done edges costs labels settled e rest before here other inside is =
     ⊎_elim

@@ -18,7 +18,7 @@ pub settled_count-le : (settled : List Bool) → settled_count settled ≤ lengt
 settled_count-le settled = count_by-le-length (λ (b : Bool). b) settled
 
 -- where all are counted, each is settled
-pub all_counted : (settled : List Bool) → settled_count settled ≡ length settled → (k : ℕ) → k < length settled → is_settled settled k ≡ true
+all_counted : (settled : List Bool) → settled_count settled ≡ length settled → (k : ℕ) → k < length settled → is_settled settled k ≡ true
 all_counted [] counted k below = absurd (omega arith)
 all_counted (true ∷ settled) counted zero below = refl
 all_counted (true ∷ settled) counted (suc k) below =

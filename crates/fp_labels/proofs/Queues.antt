@@ -24,7 +24,7 @@ not_below a b o h =
     (cases_lt b a)
 
 -- the top of the queue costs the least
-pub least_top : (x : Entry) (xs : List Entry) → IsUpperBound entry_cmp x xs → All (λ (e : Entry). x.0.0 ≤ e.0.0) xs
+least_top : (x : Entry) (xs : List Entry) → IsUpperBound entry_cmp x xs → All (λ (e : Entry). x.0.0 ≤ e.0.0) xs
 least_top x [] h = All-nil (λ (e : Entry). x.0.0 ≤ e.0.0)
 least_top x (y ∷ ys) h = All-cons (λ (e : Entry). x.0.0 ≤ e.0.0) y ys (not_below x.0.0 y.0.0 _ h.0) (least_top x ys h.1)
 

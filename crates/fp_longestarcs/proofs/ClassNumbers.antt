@@ -94,7 +94,7 @@ class-unique net c e valid first second same =
     later a b less h = let e : a + 1 + (b - (a + 1)) ≡ b = omega arith in subst (λ (n : ℕ). first_class net (a + 1) ≤ first_class net n) e (first-mono net (b - (a + 1)) (a + 1) (omega arith))
 
 -- so a terminal has no more points than there are times
-pub few-points : (qs : List ℕ) → ArePoints qs → length qs ≤ LATEST + 1
+few-points : (qs : List ℕ) → ArePoints qs → length qs ≤ LATEST + 1
 few-points qs are =
     ⊎_elim
     (λ (some : 0 < length qs). omega (arith, place-le-get_or qs (length qs - 1) are.ascending (omega arith), are.in_time (length qs - 1) 0 (omega arith)))

@@ -26,7 +26,7 @@ rest-of x y xs ys m up is same there =
     (list_has-cons_cases y ys m (sym (same m) ∙ list_has-rest x xs m there))
 
 -- whole networks of an instance with the same points are equal
-pub IsWholeNetwork-unique : (p : Problem) (m n : TimedNetwork) → IsWholeNetwork p m → IsWholeNetwork p n → ((terminal : ℕ) → terminal < length p.terminals → HaveSamePoints (points_in m terminal) (points_in n terminal)) → m ≡ n
+IsWholeNetwork-unique : (p : Problem) (m n : TimedNetwork) → IsWholeNetwork p m → IsWholeNetwork p n → ((terminal : ℕ) → terminal < length p.terminals → HaveSamePoints (points_in m terminal) (points_in n terminal)) → m ≡ n
 IsWholeNetwork-unique p m n first second same =
     let net : List ℕ → List (List ℕ) → List (List ℕ) → TimedNetwork = λ tails points heads. record { tails = tails; points = points; heads = heads } in
     let points : m.points ≡ n.points =

@@ -94,7 +94,7 @@ refined-heads p net terminal at arc whole within h =
         (cases_eq tail terminal)
 
 -- and after restoring, among all points
-pub restored-heads : (p : Problem) (net : TimedNetwork) (terminal at arc : ℕ) → IsWholeNetwork p net → terminal < length net.points → arc < length p.arcs →
+restored-heads : (p : Problem) (net : TimedNetwork) (terminal at arc : ℕ) → IsWholeNetwork p net → terminal < length net.points → arc < length p.arcs →
     heads_to p (refined p net terminal at) terminal at arc ≡ heads_from p (points_in (refined p net terminal at)) arc
 restored-heads p net terminal at arc whole within h =
     ⊎_elim

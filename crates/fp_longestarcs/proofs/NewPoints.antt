@@ -30,7 +30,7 @@ pub points-of : (net : TimedNetwork) (terminal : ℕ) → IsNetwork net → term
 points-of net terminal valid h = valid.points terminal [] h
 
 -- with a new point a network is still one
-pub refined-valid : (p : Problem) (net : TimedNetwork) (terminal at : ℕ) → IsNetwork net → terminal < length net.points → list_has (points_in net terminal) at ≡ false → at ≤ LATEST →
+refined-valid : (p : Problem) (net : TimedNetwork) (terminal at : ℕ) → IsNetwork net → terminal < length net.points → list_has (points_in net terminal) at ≡ false → at ≤ LATEST →
     IsNetwork (refined p net terminal at)
 refined-valid p net terminal at valid within new in_time = record {
   points = All-set ArePoints net.points terminal more (insert-points (points_in net terminal) at here new in_time) valid.points;

@@ -86,7 +86,7 @@ within-limit : (ps qs : List ℕ) (n : ℕ) → AllPairs (λ a b. a < b) ps → 
 within-limit ps qs n up within same = omega (arith, length-below ps n up within, same-below ps qs n same, below-length qs n)
 
 -- the points of a terminal are no more than any list of them has
-pub points-le : (ps qs : List ℕ) → ArePoints ps → HaveSamePoints ps qs → length ps ≤ length qs
+points-le : (ps qs : List ℕ) → ArePoints ps → HaveSamePoints ps qs → length ps ≤ length qs
 points-le ps qs are same = within-limit ps qs (LATEST + 1) are.ascending (λ k h. omega (arith, are.in_time k 0 h)) same
 
 -- none of a range from later on is this number

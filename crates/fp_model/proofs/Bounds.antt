@@ -113,7 +113,7 @@ Leads-exist p here [] there leads = tt
 Leads-exist p here (a ∷ arcs) there leads = (leads.0, Leads-exist p (arc_at p a).to arcs there leads.2)
 
 -- a route alone costs at most what it would cost over every arc
-pub route-le-alone : (p : Problem) (d : ℕ) (s : Shipment) (legs : List Leg) → Carries p d s legs →
+route-le-alone : (p : Problem) (d : ℕ) (s : Shipment) (legs : List Leg) → Carries p d s legs →
     sum_by (alone_trucks p s.size) legs + flow_cost p s.size legs ≤ sum_by (alone_cost s.size) p.arcs
 route-le-alone p d s legs carries =
     let at : ℕ → ℕ = λ a. alone_cost s.size (get_or p.arcs a no_arc) in
@@ -127,7 +127,7 @@ route-le-alone p d s legs carries =
     (AreDistinct-from_map (λ a. (arc_at p a).to) (arcs_of legs) (AreDistinct-tail s.from (ends_of p (arcs_of legs)) carries.route.once)) in
     omega (arith, both, numbers, within)
 
-pub routes-le-alone : (p : Problem) (d : ℕ) (ss : List Shipment) (R : List (List Leg)) → AllZip (Carries p d) ss R →
+routes-le-alone : (p : Problem) (d : ℕ) (ss : List Shipment) (R : List (List Leg)) → AllZip (Carries p d) ss R →
     alone_routes p ss R + flow_total p ss R ≤ alone_total p.arcs ss
 routes-le-alone p d [] [] plan = le_refl 0
 routes-le-alone p d [] (r ∷ R) plan = absurd plan
@@ -136,7 +136,7 @@ routes-le-alone p d (s ∷ ss) (r ∷ R) plan =
     omega (arith, route-le-alone p d s r plan.0, routes-le-alone p d ss R plan.1, sum_by-cons (λ (t : Shipment). sum_by (alone_cost t.size) p.arcs) s ss)
 
 -- a plan costs at most every shipment alone over every arc
-pub cost-le-alone_total : (p : Problem) (d : ℕ) (R : List (List Leg)) → IsPlan p d R → cost p R ≤ alone_total p.arcs p.shipments
+cost-le-alone_total : (p : Problem) (d : ℕ) (R : List (List Leg)) → IsPlan p d R → cost p R ≤ alone_total p.arcs p.shipments
 cost-le-alone_total p d R plan =
     let long : length R ≡ length p.shipments = AllZip-long (Carries p d) p.shipments R plan in
     omega (arith, departures-le-alone p p.shipments R long, routes-le-alone p d p.shipments R plan)

@@ -38,7 +38,7 @@ goes_on p s legs i lt none =
     let far : length p.arcs ≤ (leg_at legs i).arc → ⊥ = λ h. none (inr (lt, inl h)) in
     (omega (arith, far), same-number _ _ (λ ne. none (inr (lt, inr (inl ne)))))
 
-pub enters_last : (p : Problem) (s : Shipment) (legs : List Leg) (i : ℕ) → i + 1 ≡ length legs → (HasLegFault p s legs NotRoute i → ⊥) → (arc_at p (leg_at legs i).arc).to ≡ s.to
+enters_last : (p : Problem) (s : Shipment) (legs : List Leg) (i : ℕ) → i + 1 ≡ length legs → (HasLegFault p s legs NotRoute i → ⊥) → (arc_at p (leg_at legs i).arc).to ≡ s.to
 enters_last p s legs i last none = same-number _ _ (λ ne. none (inr (omega (arith, last), inr (inr (last, ne)))))
 
 -- the places before legs of a front part are those of the whole
@@ -50,7 +50,7 @@ arcs-below : (p : Problem) (origin : ℕ) (legs : List Leg) → ((i : ℕ) → i
 arcs-below p origin [] each = tt
 arcs-below p origin (l ∷ legs) each = (each 0 (omega arith), arcs-below p origin legs (λ i lt. each (suc i) (omega (arith, lt))))
 
-length-arcs_of : (legs : List Leg) → length (arcs_of legs) ≡ length legs
+pub length-arcs_of : (legs : List Leg) → length (arcs_of legs) ≡ length legs
 length-arcs_of [] = refl
 length-arcs_of (l ∷ legs) = omega (arith, length-arcs_of legs)
 
@@ -76,7 +76,7 @@ few_faultless p s legs n le none =
     length-distinct-le (length p.arcs) (arcs_of front) (arcs-below p s.from front exist) apart in
     omega (arith, few, long, length-arcs_of front)
 
-pub Carries-from_faultless : (p : Problem) (s : Shipment) (legs : List Leg) → AreFaultless p s legs → Carries p 1 s legs
+Carries-from_faultless : (p : Problem) (s : Shipment) (legs : List Leg) → AreFaultless p s legs → Carries p 1 s legs
 Carries-from_faultless p s [] none = absurd (none NotRoute 0 (inl (refl, refl)))
 Carries-from_faultless p s (l ∷ legs) none =
     let all : List Leg = l ∷ legs in
@@ -101,7 +101,7 @@ some-legs : (legs : List Leg) → arcs_of legs ≢ [] → length legs ≡ 0 → 
 some-legs [] some none = some refl
 some-legs (l ∷ legs) some none = omega (arith, none)
 
-pub Carries-faultless : (p : Problem) (s : Shipment) (legs : List Leg) → Carries p 1 s legs → AreFaultless p s legs
+Carries-faultless : (p : Problem) (s : Shipment) (legs : List Leg) → Carries p 1 s legs → AreFaultless p s legs
 Carries-faultless p s legs carries Count i fault = fault
 Carries-faultless p s legs carries NotRoute i fault =
     ⊎_elim

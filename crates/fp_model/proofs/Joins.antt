@@ -30,7 +30,7 @@ found f c (k ∷ r) h =
     (or_cases (same_leg c (f k)) (has_leg c (map f r)) h)
 
 -- the load of a class is at most the loads of the departures in it
-pub load-gathered : (f : Leg → Leg) (all : List Leg) (ss : List Shipment) (R : List (List Leg)) → ((k : Leg) → has_leg k (all_legs R) ≡ true → has_leg k all ≡ true) →
+load-gathered : (f : Leg → Leg) (all : List Leg) (ss : List Shipment) (R : List (List Leg)) → ((k : Leg) → has_leg k (all_legs R) ≡ true → has_leg k all ≡ true) →
     (c : Leg) → load ss (map (map f) R) c ≤ gathered f all (load ss R) c
 load-gathered f all [] R within c = omega arith
 load-gathered f all (s ∷ ss) [] within c = omega arith
@@ -62,7 +62,7 @@ load-gathered f all (s ∷ ss) (r ∷ R) within c =
     (cases_Bool (has_leg c (map f r)))
 
 -- the trucks of a class cost at most those of the departures in it
-pub departure-gathered : (p : Problem) (f : Leg → Leg) → ((k : Leg) → (f k).arc ≡ k.arc) → (ss : List Shipment) (R : List (List Leg)) (c : Leg) →
+departure-gathered : (p : Problem) (f : Leg → Leg) → ((k : Leg) → (f k).arc ≡ k.arc) → (ss : List Shipment) (R : List (List Leg)) (c : Leg) →
     departure_of p ss (map (map f) R) c ≤ gathered f (all_legs R) (departure_of p ss R) c
 departure-gathered p f keeps ss R c =
     let all : List Leg = all_legs R in
@@ -96,7 +96,7 @@ departure-gathered p f keeps ss R c =
     omega (arith, costs, apart, each)
 
 -- so do those of all classes
-pub departures_join : (p : Problem) (f : Leg → Leg) → ((k : Leg) → (f k).arc ≡ k.arc) → (ss : List Shipment) (R : List (List Leg)) (ys : List Leg) →
+departures_join : (p : Problem) (f : Leg → Leg) → ((k : Leg) → (f k).arc ≡ k.arc) → (ss : List Shipment) (R : List (List Leg)) (ys : List Leg) →
     distinct_sum (departure_of p ss (map (map f) R)) ys ≤ distinct_sum (departure_of p ss R) (all_legs R)
 departures_join p f keeps ss R ys =
     let all : List Leg = all_legs R in

@@ -10,7 +10,7 @@ use Rattle.fp_model.specs.Numbered.{leg_at}
 use Rattle.fp_model.specs.Faults.{place_before}
 
 -- the place after the first leg, seen from there
-pub place-next : (p : Problem) (origin : ℕ) (l : Leg) (legs : List Leg) (i : ℕ) →
+place-next : (p : Problem) (origin : ℕ) (l : Leg) (legs : List Leg) (i : ℕ) →
     place_before p origin (l ∷ legs) (suc i) ≡ place_before p (arc_at p l.arc).to legs i
 place-next p origin l legs zero = refl
 place-next p origin l legs (suc i) = refl
@@ -70,7 +70,7 @@ AreDistinct-from_legs p origin [] never = AreDistinct-cons origin [] tt AreDisti
 AreDistinct-from_legs p origin (l ∷ legs) never =
     AreDistinct-cons origin (ends_of p (arcs_of (l ∷ legs))) (ends-differ p origin (l ∷ legs) (λ i lt. never i 0 (omega arith) lt))
     (AreDistinct-from_legs p (arc_at p l.arc).to legs (λ i j le lt.
-        subst (λ (n : ℕ). n ≢ (arc_at p (leg_at legs i).arc).to) (place-next p origin l legs j) (never (suc i) (suc j) (omega (arith, le)) (omega (arith, lt)))))
+    subst (λ (n : ℕ). n ≢ (arc_at p (leg_at legs i).arc).to) (place-next p origin l legs j) (never (suc i) (suc j) (omega (arith, le)) (omega (arith, lt)))))
 
 pub AreDistinct-legs : (p : Problem) (origin : ℕ) (legs : List Leg) → AreDistinct (origin ∷ ends_of p (arcs_of legs)) → NeverReturns p origin legs
 AreDistinct-legs p origin legs apart i zero le lt = never-enters p origin legs (AreDistinct-head origin (ends_of p (arcs_of legs)) apart) i lt

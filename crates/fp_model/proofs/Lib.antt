@@ -6,5 +6,6 @@ pub mod SharedDepartures
 pub mod LastArrivals
 pub mod LegByLeg
 pub mod Faultless
+pub mod Validity
 pub mod FirstFaults
 pub mod Examples

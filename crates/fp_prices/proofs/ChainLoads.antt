@@ -19,9 +19,6 @@ pub record AreAdded (size : ℕ) (numbers : List ℕ) (old_loads now_loads : Lis
   pub loads : (n : ℕ) → get_or now_loads n 0 ≡ get_or old_loads n 0 + (if list_has numbers n then size else 0)
   pub told : (n : ℕ) → bit_of now_row n ≡ (bit_of old_row n || list_has numbers n)
 
-pub added_none : (size : ℕ) (loads : List ℕ) (row : List Bool) → AreAdded size [] loads loads row row
-added_none size loads row = record { loads_long = refl; row_long = refl; loads = λ n. omega arith; told = λ n. sym (or-false (bit_of row n)) }
-
 -- one more class of a chain
 pub added_more : (size : ℕ) (numbers : List ℕ) (i x load : ℕ) (loads now : List ℕ) (row bits : List Bool) → AreDistinct numbers → i < length numbers → x ≡ get_or numbers i 0 → x < length loads → x < length row →
     AreAdded size (take i numbers) loads now row bits → load ≡ get_or now x 0 + size → AreAdded size (take (i + 1) numbers) loads (set now x load) row (set bits x true)

@@ -30,7 +30,7 @@ abbrev pub TableKeepsRule : Problem → List ClassShare → Type 0
 TableKeepsRule p table = AllByRecursion (λ (share : ClassShare). KeepsRule p.scale (arc_at p share.arc) share) table
 
 -- the share of a class, if there is one, keeps the price rule of the class's arc
-pub share-keeps : (p : Problem) (table : List ClassShare) (c : Leg) → TableKeepsRule p table →
+share-keeps : (p : Problem) (table : List ClassShare) (c : Leg) → TableKeepsRule p table →
     MatchOption (share_for table c) (Unit {0}) (KeepsRule p.scale (arc_at p c.arc))
 share-keeps p [] c keep = tt
 share-keeps p (share ∷ table) c keep =
@@ -44,7 +44,7 @@ share-keeps p (share ∷ table) c keep =
     (cases_Bool test)
 
 -- so it is in the table with a number
-pub share-at-keeps : (p : Problem) (tables : List (List ClassShare)) (id : ℕ) (c : Leg) → AllKeepRule p tables →
+share-at-keeps : (p : Problem) (tables : List (List ClassShare)) (id : ℕ) (c : Leg) → AllKeepRule p tables →
     MatchOption (share_for (table_at tables id) c) (Unit {0}) (KeepsRule p.scale (arc_at p c.arc))
 share-at-keeps p tables id c keep = share-keeps p (table_at tables id) c (AllByRecursion-get_or_default (TableKeepsRule p) tables (id - 1) [] keep tt)
 

@@ -19,7 +19,7 @@ abbrev pub AreAmong : List Leg → List Leg → Type 0
 AreAmong chain walk = (c : Leg) → has_leg c chain ≡ true → has_leg c walk ≡ true
 
 -- each walk that leads on by allowed classes has the forced ones
-pub forced-among : (p : Problem) (allowed : Leg → Bool) (there : ℕ) (met : List ℕ) (here : ℕ) (chain walk : List Leg) → AreForced p allowed there met here chain →
+forced-among : (p : Problem) (allowed : Leg → Bool) (there : ℕ) (met : List ℕ) (here : ℕ) (chain walk : List Leg) → AreForced p allowed there met here chain →
     Leads p here (arcs_of walk) there → AllByRecursion (λ c. allowed c ≡ true) walk → AreAmong chain walk
 forced-among p allowed there met here [] walk forced leads all c h = absurd (false≢true h)
 forced-among p allowed there met here (f ∷ chain) [] forced leads all c h = absurd (forced.0 leads)
@@ -39,7 +39,7 @@ chain-among p allowed true s chain walk is leads all = forced-among p allowed s.
 chain-among p allowed false s chain walk is leads all = λ c h. absurd (false≢true (subst (λ (legs : List Leg). has_leg c legs ≡ true) is h))
 
 -- chains load a class no more than the walks that have them
-pub load-among : (shipments : List Shipment) (chains walks : List (List Leg)) (c : Leg) → AllZip AreAmong chains walks → load shipments chains c ≤ load shipments walks c
+load-among : (shipments : List Shipment) (chains walks : List (List Leg)) (c : Leg) → AllZip AreAmong chains walks → load shipments chains c ≤ load shipments walks c
 load-among [] chains walks c among = omega arith
 load-among (s ∷ shipments) [] walks c among = omega arith
 load-among (s ∷ shipments) (chain ∷ chains) [] c among = absurd among

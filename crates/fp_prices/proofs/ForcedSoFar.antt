@@ -119,7 +119,7 @@ pub record AreUnloaded (s : Setting) (forced : ForcedClasses) : Type 0 where
   pub loads : (n : ℕ) → get_or forced.loads.items n 0 ≡ 0
   pub told : (n : ℕ) → bit_of forced.row n ≡ false
 
-pub AreUnloaded-replicate : (s : Setting) (forced : ForcedClasses) → forced.loads.items ≡ replicate (class_count s.network) 0 → forced.row ≡ replicate (class_count s.network) false → AreUnloaded s forced
+AreUnloaded-replicate : (s : Setting) (forced : ForcedClasses) → forced.loads.items ≡ replicate (class_count s.network) 0 → forced.row ≡ replicate (class_count s.network) false → AreUnloaded s forced
 AreUnloaded-replicate s forced loads_are row_is = record {
   loads_long = ap (λ (l : List ℕ). length l) loads_are ∙ length-replicate {A = ℕ} (class_count s.network) 0;
   row_long = ap (λ (l : List Bool). length l) row_is ∙ length-replicate (class_count s.network) false;
@@ -228,7 +228,7 @@ so_far_all s rows i forced so_far all =
     }
 
 -- no chain of any shipment
-pub none_forced : (s : Setting) (rows : List (List Bool)) (forced : ForcedClasses) → forced.loads.items ≡ replicate (class_count s.network) 0 → forced.row ≡ replicate (class_count s.network) false → AreForcedOf s rows false forced
+none_forced : (s : Setting) (rows : List (List Bool)) (forced : ForcedClasses) → forced.loads.items ≡ replicate (class_count s.network) 0 → forced.row ≡ replicate (class_count s.network) false → AreForcedOf s rows false forced
 none_forced s rows forced loads_are row_is =
     let start = AreUnloaded-replicate s forced loads_are row_is in
     let chains : List (List Leg) = map (λ (x : Shipment). []) s.problem.shipments in

@@ -36,7 +36,7 @@ sum_below-rest p net loads row next within none =
     ap (λ (k : ℕ). sum_below k f) (sym gap) ∙ sum_below-more f next (length row - next) (λ i from before. cond-false (bit_of row i) (truck_cost_at p net loads i) 0 (none i from))
 
 -- what a set bit adds is part of the whole
-pub sum_below-part : (p : Problem) (net : TimedNetwork) (loads : List ℕ) (row : List Bool) (next place : ℕ) → IsNextSet row next place →
+sum_below-part : (p : Problem) (net : TimedNetwork) (loads : List ℕ) (row : List Bool) (next place : ℕ) → IsNextSet row next place →
     sum_below next (set_cost p net loads row) + truck_cost_at p net loads place ≤ row_cost p net loads row
 sum_below-part p net loads row next place is =
     let f : ℕ → ℕ = set_cost p net loads row in

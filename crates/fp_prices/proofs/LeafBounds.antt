@@ -63,7 +63,7 @@ pub record HasForcedClasses (p : Problem) (windows : WindowTable) (net : TimedNe
   pub under : AreRowsUnder (setting_of p windows net) sides rows
   pub forced_of : AreForcedOf (setting_of p windows net) rows is_forced forced
 
-pub HasForcedClasses-of : (p : Problem) (windows : WindowTable) (net : TimedNetwork) (sides : List Side) (rows others : List (List Bool)) (is_forced : Bool) (forced : ForcedClasses) (s : Setting) → s ≡ setting_of p windows net →
+HasForcedClasses-of : (p : Problem) (windows : WindowTable) (net : TimedNetwork) (sides : List Side) (rows others : List (List Bool)) (is_forced : Bool) (forced : ForcedClasses) (s : Setting) → s ≡ setting_of p windows net →
     BelongsTo p windows → IsWholeNetwork p net → AreRowsUnder s sides rows → others ≡ rows → AreForcedOf s others is_forced forced → HasForcedClasses p windows net sides rows is_forced forced
 HasForcedClasses-of p windows net sides rows others is_forced forced s is belongs whole under same forced_of = record {
   valid = belongs.valid;

@@ -39,11 +39,11 @@ forced-unique p allowed there met here (f ∷ a) (g ∷ b) fa wa fb wb =
     ap₂ (λ (l : Leg) (legs : List Leg). l ∷ legs) (sym same) rest
 
 -- a shipment has one chain at a leaf
-pub chain-unique : (p : Problem) (allowed : Leg → Bool) (forced : Bool) (s : Shipment) (a b : List Leg) → IsChain p allowed forced s a → IsChain p allowed forced s b → a ≡ b
+chain-unique : (p : Problem) (allowed : Leg → Bool) (forced : Bool) (s : Shipment) (a b : List Leg) → IsChain p allowed forced s a → IsChain p allowed forced s b → a ≡ b
 chain-unique p allowed true s a b is_a is_b = forced-unique p allowed s.to [] s.from a b is_a.forced is_a.whole is_b.forced is_b.whole
 chain-unique p allowed false s a b is_a is_b = is_a ∙ sym is_b
 
-pub chains-unique : (p : Problem) (allowed : ℕ → Leg → Bool) (forced : Bool) (i : ℕ) (shipments : List Shipment) (A B : List (List Leg)) →
+chains-unique : (p : Problem) (allowed : ℕ → Leg → Bool) (forced : Bool) (i : ℕ) (shipments : List Shipment) (A B : List (List Leg)) →
     AllZipFrom (λ k. IsChain p (allowed k) forced) i shipments A → AllZipFrom (λ k. IsChain p (allowed k) forced) i shipments B → A ≡ B
 chains-unique p allowed forced i [] [] [] are_a are_b = refl
 chains-unique p allowed forced i [] [] (b ∷ B) are_a are_b = absurd are_b
@@ -55,7 +55,7 @@ chains-unique p allowed forced i (s ∷ shipments) (a ∷ A) (b ∷ B) are_a are
     (chains-unique p allowed forced (i + 1) shipments A B are_a.1 are_b.1)
 
 -- least costs under the same prices are the same
-pub costs-unique : (p : Problem) (points : ℕ → List ℕ) (allowed : ℕ → Leg → Bool) (price : ℕ → Shipment → Leg → ℕ) (i : ℕ) (shipments : List Shipment) (A B : List ℕ) →
+costs-unique : (p : Problem) (points : ℕ → List ℕ) (allowed : ℕ → Leg → Bool) (price : ℕ → Shipment → Leg → ℕ) (i : ℕ) (shipments : List Shipment) (A B : List ℕ) →
     AllZipFrom (λ k (s : Shipment) n. IsLeastCost p points (allowed k) s (price k s) n) i shipments A →
     AllZipFrom (λ k (s : Shipment) n. IsLeastCost p points (allowed k) s (price k s) n) i shipments B → A ≡ B
 costs-unique p points allowed price i [] [] [] are_a are_b = refl

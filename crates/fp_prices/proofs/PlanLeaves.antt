@@ -27,7 +27,7 @@ tails-among p P here there (l ∷ legs) leads first all =
     (subst P (sym leads.1) first, tails-among p P (arc_at p l.arc).to there legs leads.2 all.0 all.1)
 
 -- a route leaves each terminal once
-pub route-apart : (p : Problem) (here there : ℕ) (legs : List Leg) → Leads p here (arcs_of legs) there → AreDistinct (here ∷ ends_of p (arcs_of legs)) →
+route-apart : (p : Problem) (here there : ℕ) (legs : List Leg) → Leads p here (arcs_of legs) there → AreDistinct (here ∷ ends_of p (arcs_of legs)) →
     LeaveApart (tails_of p) (map (exit_of p) legs)
 route-apart p here there [] leads apart = tt
 route-apart p here there (l ∷ legs) leads apart =

@@ -48,7 +48,7 @@ class-numbered net n valid h =
     )
 
 -- the classes' edges are as many as the classes
-pub length-class_edges : (p : Problem) (net : TimedNetwork) → length (class_edges p net) ≡ class_count net
+length-class_edges : (p : Problem) (net : TimedNetwork) → length (class_edges p net) ≡ class_count net
 length-class_edges p net = length-map-range_with_len (λ n. class_edge p net (class_at net n)) 0 (class_count net)
 
 -- and there are as many more edges as holding edges

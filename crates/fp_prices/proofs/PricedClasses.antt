@@ -40,7 +40,7 @@ pub class-exists : (p : Problem) (net : TimedNetwork) (c : Leg) → IsWholeNetwo
 class-exists p net c whole is = omega (arith, is.0, arc-count p net whole.arcs)
 
 -- the truck price of an allowed class and the flow are together at most what all shipments cost over every arc alone
-pub class-small : (p : Problem) (tables : List (List ClassShare)) (allowed : ℕ → Leg → Bool) (kind : Kind) (c : Leg) (k : ℕ) → IsValid p → AllKeepRule p tables → k < length p.shipments →
+class-small : (p : Problem) (tables : List (List ClassShare)) (allowed : ℕ → Leg → Bool) (kind : Kind) (c : Leg) (k : ℕ) → IsValid p → AllKeepRule p tables → k < length p.shipments →
     c.arc < length p.arcs → allowed k c ≡ true →
     truck_price p tables allowed kind c k (shipment_at p k).size + p.scale * (arc_at p c.arc).freight * (shipment_at p k).size ≤ p.scale * alone_total p.arcs p.shipments
 class-small p tables allowed kind c k valid keep exists arc_exists is =

@@ -64,7 +64,7 @@ weight-parts w weights k =
     (cases_Bool (nat_eq w.shipment k))
 
 -- the weights of different shipments sum to at most all weights
-pub weights-le : (weights : List Weight) (set : List ℕ) → AreDistinct set → sum_by (weight_in weights) set ≤ sum_by (λ (w : Weight). w.w) weights
+weights-le : (weights : List Weight) (set : List ℕ) → AreDistinct set → sum_by (weight_in weights) set ≤ sum_by (λ (w : Weight). w.w) weights
 weights-le [] set apart = omega (arith, sum_by-const 0 set)
 weights-le (w ∷ weights) set apart =
     let here : ℕ → ℕ = λ k. cond (nat_eq w.shipment k) w.w 0 in

@@ -51,7 +51,7 @@ shares-parted c table ascend i j d le h before =
     (cases_lt i j)
 
 -- the first share that is the class's is the one at a place where those before are not
-pub share_for-at : (c : Leg) (table : List ClassShare) (place : ℕ) (d : ClassShare) → place < length table → ((k : ℕ) → k < place → is_share c (get_or table k d) ≡ false) →
+share_for-at : (c : Leg) (table : List ClassShare) (place : ℕ) (d : ClassShare) → place < length table → ((k : ℕ) → k < place → is_share c (get_or table k d) ≡ false) →
     is_share c (get_or table place d) ≡ true → share_for table c ≡ Some (get_or table place d)
 share_for-at c [] place d inside before here = absurd (omega arith)
 share_for-at c (s ∷ table) zero d inside before here = cond-true (is_share c s) (Some s) (share_for table c) here
@@ -59,7 +59,7 @@ share_for-at c (s ∷ table) (suc place) d inside before here =
     cond-false (is_share c s) (Some s) (share_for table c) (before 0 (omega arith)) ∙ share_for-at c table place d (omega arith) (λ k h. before (suc k) (omega arith)) here
 
 -- there is none where none is the class's
-pub share_for-none : (c : Leg) (table : List ClassShare) (d : ClassShare) → ((k : ℕ) → k < length table → is_share c (get_or table k d) ≡ false) → share_for table c ≡ None
+share_for-none : (c : Leg) (table : List ClassShare) (d : ClassShare) → ((k : ℕ) → k < length table → is_share c (get_or table k d) ≡ false) → share_for table c ≡ None
 share_for-none c [] d none = refl
 share_for-none c (s ∷ table) d none =
     cond-false (is_share c s) (Some s) (share_for table c) (none 0 (omega arith)) ∙ share_for-none c table d (λ k h. none (suc k) (omega arith))

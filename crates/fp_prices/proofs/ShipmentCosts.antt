@@ -90,7 +90,7 @@ costs-le_alone pricing k row graph costs of priced exists long holds free =
     (mul-le-mul_left p.scale (arc-alone p (shipment_at p k).size c.arc arc_exists)))
 
 -- so many times that fit
-pub most-fits : (p : Problem) (k : ℕ) → IsValid p → k < length p.shipments → 65536 * most_of p k < 2 ^ 127
+most-fits : (p : Problem) (k : ℕ) → IsValid p → k < length p.shipments → 65536 * most_of p k < 2 ^ 127
 most-fits p k valid exists =
     let own : p.scale * sum_by (alone_cost (shipment_at p k).size) p.arcs ≤ p.scale * alone_total p.arcs p.shipments = mul-le-mul_left p.scale (shipment-alone p k exists) in
     omega (arith, own, valid.fits)

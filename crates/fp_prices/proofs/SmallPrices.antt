@@ -78,7 +78,7 @@ pub shipment-alone : (p : Problem) (k : ℕ) → k < length p.shipments → sum_
 shipment-alone p k exists = get_or-le-sum_by (λ (s : Shipment). sum_by (alone_cost s.size) p.arcs) p.shipments k no_shipment exists
 
 -- what a shipment pays for a class that is allowed for it, with its flow, is at most the scaled cost of going over each arc alone
-pub class_cost-small : (p : Problem) (windows : ℕ → ℕ → Option Window) (points : ℕ → List ℕ) (sides : List Side) (tables : List (List ClassShare)) (kind : Kind) (chains : List (List Leg)) (c : Leg) (k : ℕ) →
+class_cost-small : (p : Problem) (windows : ℕ → ℕ → Option Window) (points : ℕ → List ℕ) (sides : List Side) (tables : List (List ClassShare)) (kind : Kind) (chains : List (List Leg)) (c : Leg) (k : ℕ) →
     IsValid p → AllKeepRule p tables → k < length p.shipments → is_allowed p windows points sides k c ≡ true →
     leaf_price p tables (is_allowed p windows points sides) kind chains k (shipment_at p k).size c + p.scale * (arc_at p c.arc).freight * (shipment_at p k).size
     ≤ p.scale * sum_by (alone_cost (shipment_at p k).size) p.arcs
@@ -91,7 +91,7 @@ class_cost-small p windows points sides tables kind chains c k valid keep exists
     le_trans priced (mul-le-mul_left p.scale (arc-alone p size c.arc arc_exists))
 
 -- so a walk by allowed classes costs at most so much for each of its classes
-pub walk_cost-small : (p : Problem) (windows : ℕ → ℕ → Option Window) (points : ℕ → List ℕ) (sides : List Side) (tables : List (List ClassShare)) (kind : Kind) (chains : List (List Leg)) (k : ℕ) (walk : List Leg) →
+walk_cost-small : (p : Problem) (windows : ℕ → ℕ → Option Window) (points : ℕ → List ℕ) (sides : List Side) (tables : List (List ClassShare)) (kind : Kind) (chains : List (List Leg)) (k : ℕ) (walk : List Leg) →
     IsValid p → AllKeepRule p tables → k < length p.shipments → AllByRecursion (λ c. is_allowed p windows points sides k c ≡ true) walk →
     walk_cost p (leaf_price p tables (is_allowed p windows points sides) kind chains k (shipment_at p k).size) (shipment_at p k).size walk
     ≤ length walk * (p.scale * sum_by (alone_cost (shipment_at p k).size) p.arcs)

@@ -23,7 +23,7 @@ use Rattle.fp_prices.proofs.GraphWalks.{AreCosts, Goes, goes-first, goes-later}
 use Rattle.fp_prices.proofs.PointEdges.{Joins, class-joins, edge-of-class, length-edges}
 
 -- an earlier one of ascending points has the earlier place
-pub place-le : (qs : List ℕ) (i j : ℕ) → ArePoints qs → i < length qs → get_or qs i 0 ≤ get_or qs j 0 → i ≤ j
+place-le : (qs : List ℕ) (i j : ℕ) → ArePoints qs → i < length qs → get_or qs i 0 ≤ get_or qs j 0 → i ≤ j
 place-le qs i j are within le =
     ⊎_elim (λ (less : j < i). absurd (omega (arith, are.ascending j i 0 less within, le))) (λ (more : i ≤ j). more) (cases_lt j i)
 

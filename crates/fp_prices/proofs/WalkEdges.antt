@@ -10,7 +10,7 @@ use Rattle.fp_allowed.proofs.ListedClasses.{class_at-number}
 use Rattle.fp_prices.specs.LeastWalks.{classes_on}
 
 -- the edge of a class has that class
-pub classes_on-first : (net : TimedNetwork) (e : ℕ) (edges : List ℕ) → e < class_count net → classes_on net (e ∷ edges) ≡ class_at net e ∷ classes_on net edges
+classes_on-first : (net : TimedNetwork) (e : ℕ) (edges : List ℕ) → e < class_count net → classes_on net (e ∷ edges) ≡ class_at net e ∷ classes_on net edges
 classes_on-first net e edges h = cond-true (nat_lt e (class_count net)) (class_at net e ∷ classes_on net edges) (classes_on net edges) (lt-ltb e (class_count net) h)
 
 -- a holding edge has none

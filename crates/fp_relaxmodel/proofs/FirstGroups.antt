@@ -31,7 +31,7 @@ pub others-other : (c : Leg) (x : NamedLeg) (legs : List NamedLeg) → same_leg 
 others-other c x legs e = cond-true (not (same_leg c x.leg)) (x ∷ others c legs) (others c legs) (ap not e)
 
 -- legs add to the first group what has its class, and to the later ones what has not
-pub after-first : (legs : List NamedLeg) (g : Met) (groups : List Met) → after legs (g ∷ groups) ≡ grown legs g ∷ after (others g.class legs) groups
+after-first : (legs : List NamedLeg) (g : Met) (groups : List Met) → after legs (g ∷ groups) ≡ grown legs g ∷ after (others g.class legs) groups
 after-first [] g groups = ap (λ (ms : List Member). record { class = g.class; members = ms } ∷ groups) (sym (append-nil g.members))
 after-first (x ∷ legs) g groups =
     let whole : List Member → List NamedLeg → List Met = λ ms rest. record { class = g.class; members = ms } ∷ after rest groups in

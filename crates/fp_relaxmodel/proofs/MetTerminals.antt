@@ -57,18 +57,14 @@ new-first n tail xs lt long =
     )
 
 -- one more terminal that was unmet
-pub new-next : (met : List Bool) (x : ℕ) (xs : List ℕ) → x < length met → get_or met x false ≡ false → (AreNew met (x ∷ xs) ↔ AreNew (set met x true) xs)
+new-next : (met : List Bool) (x : ℕ) (xs : List ℕ) → x < length met → get_or met x false ≡ false → (AreNew met (x ∷ xs) ↔ AreNew (set met x true) xs)
 new-next met x xs lt unmet = (
   (λ new. (others-unmet met x xs (AreDistinct-head x xs new.1) new.0.1, AreDistinct-tail x xs new.1)),
   (λ new. let parts : AllByRecursion (λ y. y ≢ x) xs × AreUnmet met xs = unmet-others met x xs lt new.0 in ((unmet, parts.1), AreDistinct-cons x xs parts.0 new.1)),
 )
 
--- one that was met
-pub new-never : (met : List Bool) (x : ℕ) (xs : List ℕ) → get_or met x false ≡ true → AreNew met (x ∷ xs) → ⊥
-new-never met x xs was new = true≢false (sym was ∙ new.0.0)
-
 -- the terminals that are entered from a class on
-pub entered-next : (p : Problem) (stops : List Stop) (i : ℕ) (d : Stop) → i < length stops → entered_by p (drop i stops) ≡ (arc_at p (get_or stops i d).arc).to ∷ entered_by p (drop (i + 1) stops)
+entered-next : (p : Problem) (stops : List Stop) (i : ℕ) (d : Stop) → i < length stops → entered_by p (drop i stops) ≡ (arc_at p (get_or stops i d).arc).to ∷ entered_by p (drop (i + 1) stops)
 entered-next p stops i d lt =
     let next : drop i stops ≡ get_or stops i d ∷ drop (i + 1) stops = rw add-one (drop-cons stops i d lt) in
     ap (entered_by p) next

@@ -33,7 +33,7 @@ obey-from p d k [] = tt
 obey-from p d k (r ∷ routes) = (legs-obey p d k r, obey-from p d (k + 1) routes)
 
 -- so routes over any denominator obey no sides
-pub obeys-none : (p : Problem) (d : ℕ) (routes : List (List Leg)) → PlanObeys p d [] routes
+obeys-none : (p : Problem) (d : ℕ) (routes : List (List Leg)) → PlanObeys p d [] routes
 obeys-none p d routes = obey-from p d 0 routes
 
 -- timed walks over routes are relaxed walks
@@ -54,7 +54,7 @@ routes-from p points d (s ∷ ss) (r ∷ routes) plan =
     (subst (IsRoute p s) (sym (arcs_of-classes p points d r)) plan.0.route, routes-from p points d ss routes plan.1)
 
 -- the arcs of a plan's classes are routes
-pub HasRoutes-coarsened : (p : Problem) (points : ℕ → List ℕ) (d : ℕ) (routes : List (List Leg)) → IsPlan p d routes → HasRoutes p (coarsened p points d routes)
+HasRoutes-coarsened : (p : Problem) (points : ℕ → List ℕ) (d : ℕ) (routes : List (List Leg)) → IsPlan p d routes → HasRoutes p (coarsened p points d routes)
 HasRoutes-coarsened p points d routes plan = routes-from p points d p.shipments routes plan
 
 plan-routes : (p : Problem) (d : ℕ) (ss : List Shipment) (routes : List (List Leg)) → AllZip (Carries p d) ss routes → AllZip (λ s r. IsRoute p s (arcs_of r)) ss routes

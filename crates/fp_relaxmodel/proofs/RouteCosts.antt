@@ -48,7 +48,7 @@ pub HasRoutes-long : (p : Problem) (walks : List (List Leg)) → HasRoutes p wal
 HasRoutes-long p walks routes = AllZip-long (Routes p) p.shipments walks routes
 
 -- walks that are routes of the shipments cost at most every shipment alone over every arc
-pub cost-routes-le : (p : Problem) (walks : List (List Leg)) → HasRoutes p walks → cost p walks ≤ alone_total p.arcs p.shipments
+cost-routes-le : (p : Problem) (walks : List (List Leg)) → HasRoutes p walks → cost p walks ≤ alone_total p.arcs p.shipments
 cost-routes-le p walks routes =
     omega (arith, departures-le-alone p p.shipments walks (HasRoutes-long p walks routes), walks-le-alone p p.shipments walks routes)
 

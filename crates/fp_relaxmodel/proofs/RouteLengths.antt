@@ -18,13 +18,10 @@ use Rattle.fp_lists.proofs.Distinct.{AreDistinct-from_map, AreDistinct-tail}
 use Rattle.fp_lists.proofs.Elements.{AllByRecursion-weaker}
 use Rattle.fp_relaxmodel.specs.Relaxed.{HasRoutes}
 use Rattle.fp_relaxmodel.proofs.RouteCosts.{HasRoutes-long}
-
-length-arcs_of : (walk : List Leg) → length (arcs_of walk) ≡ length walk
-length-arcs_of [] = refl
-length-arcs_of (l ∷ walk) = omega (arith, length-arcs_of walk)
+use Rattle.fp_model.proofs.Faultless.{length-arcs_of}
 
 -- a walk whose arcs are a route has at most as many legs as there are arcs
-pub IsRoute-short : (p : Problem) (s : Shipment) (walk : List Leg) → IsRoute p s (arcs_of walk) → length walk ≤ length p.arcs
+IsRoute-short : (p : Problem) (s : Shipment) (walk : List Leg) → IsRoute p s (arcs_of walk) → length walk ≤ length p.arcs
 IsRoute-short p s walk route =
     let apart : AreDistinct (arcs_of walk) = AreDistinct-from_map (λ a. (arc_at p a).to) (arcs_of walk) (AreDistinct-tail s.from (ends_of p (arcs_of walk)) route.once) in
     let few : length (arcs_of walk) ≤ length p.arcs =

@@ -11,9 +11,6 @@ use Rattle.std.proofs.lemmas.List.Folds.{list_any-append}
 use Rattle.std.proofs.lemmas.Nat.{le_or_l, le_or_r}
 use Rattle.fp_rows.specs.Words.{is_set}
 
-set-zero : is_set 0 ≡ false
-set-zero = refl
-
 set-some : (n : ℕ) → n ≢ 0 → is_set n ≡ true
 set-some n h = ap not (ne_eqb n 0 h)
 

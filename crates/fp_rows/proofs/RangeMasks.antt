@@ -79,14 +79,6 @@ before-range from to i h = rw (lt-leb from i h) refl
 pub after-range : (from to i : ℕ) → to ≤ i → is_within from to i ≡ false
 after-range from to i h = rw (le-ltb i to h) (and-false (nat_le from i))
 
--- at the first word of the range nothing is done
-pub changes-none : (g : Bool → Bool → Bool) (from to : ℕ) (old : List ℕ) → ((b : Bool) → g b false ≡ b) → Changes g from to old old (from / 64)
-changes-none g from to old keeps = record {
-  long = refl;
-  done = λ i h. sym (keeps (bit_in old i)) ∙ ap (g (bit_in old i)) (sym (before-range from to i (omega arith)));
-  left = λ i h. refl;
-}
-
 -- one more word
 pub changes-more : (g : Bool → Bool → Bool) (from to : ℕ) (old now : List ℕ) (n v : ℕ) → Changes g from to old now n → n < length old →
     ((j : ℕ) → j < 64 → has_bit v j ≡ g (has_bit (get_or now n 0) j) (is_within from to (64 * n + j))) → Changes g from to old (set now n v) (n + 1)
@@ -103,12 +95,3 @@ changes-more g from to old now n v c room made = record {
       (cases_eq (i / 64) n);
   left = λ i h. let other : i / 64 ≢ n = omega arith in bit_in-set_other now n v i other ∙ c.left i (omega arith);
 }
-
--- once the range is passed all is done
-pub changes-all : (g : Bool → Bool → Bool) (from to : ℕ) (old now : List ℕ) (n : ℕ) → Changes g from to old now n → ((b : Bool) → g b false ≡ b) → to ≤ 64 * n →
-    (i : ℕ) → bit_in now i ≡ g (bit_in old i) (is_within from to i)
-changes-all g from to old now n c keeps passed i =
-    ⊎_elim
-    (λ (early : i < 64 * n). c.done i early)
-    (λ (late : 64 * n ≤ i). c.left i late ∙ sym (keeps (bit_in old i)) ∙ ap (g (bit_in old i)) (sym (after-range from to i (omega arith))))
-    (cases_lt i (64 * n))

@@ -12,10 +12,6 @@ pub record Combines (f : ℕ → ℕ → ℕ) (old other now : List ℕ) (n : �
   pub done : (k : ℕ) → k < n → get_or now k 0 ≡ f (get_or old k 0) (get_or other k 0)
   pub left : (k : ℕ) → n ≤ k → get_or now k 0 ≡ get_or old k 0
 
--- at the start nothing is done
-pub combines-none : (f : ℕ → ℕ → ℕ) (old other : List ℕ) → Combines f old other old 0
-combines-none f old other = record { long = refl; done = λ k h. absurd (omega arith); left = λ k h. refl }
-
 -- some more elements at once
 pub combines-chunk : (f : ℕ → ℕ → ℕ) (old other now ys : List ℕ) (n m : ℕ) → Combines f old other now n → length ys ≡ m → n + m ≤ length old →
     ((j : ℕ) → j < m → get_or ys j 0 ≡ f (get_or old (n + j) 0) (get_or other (n + j) 0)) → Combines f old other (put_chunk n now ys) (n + m)

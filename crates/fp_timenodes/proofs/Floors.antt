@@ -37,7 +37,7 @@ floor_le (q ∷ qs) d n =
     (cases_lt n (d * q))
 
 -- it is one of the points, or 0
-pub floor_reached : (qs : List ℕ) (d n : ℕ) → (floor_point qs d n ≡ 0) ⊎ (list_has qs (floor_point qs d n) ≡ true)
+floor_reached : (qs : List ℕ) (d n : ℕ) → (floor_point qs d n ≡ 0) ⊎ (list_has qs (floor_point qs d n) ≡ true)
 floor_reached [] d n = inl refl
 floor_reached (q ∷ qs) d n =
     let Reached : ℕ → Type 0 = λ m. (m ≡ 0) ⊎ (list_has (q ∷ qs) m ≡ true) in
@@ -87,7 +87,7 @@ pub floor_itself : (qs : List ℕ) (q : ℕ) → list_has qs q ≡ true → floo
 floor_itself qs q there = floor_is qs 1 q q there (omega arith) (λ p h le. omega (arith, le))
 
 -- with more points the greatest is no earlier
-pub floor_more : (ps qs : List ℕ) (d n : ℕ) → ((q : ℕ) → list_has ps q ≡ true → list_has qs q ≡ true) → floor_point ps d n ≤ floor_point qs d n
+floor_more : (ps qs : List ℕ) (d n : ℕ) → ((q : ℕ) → list_has ps q ≡ true → list_has qs q ≡ true) → floor_point ps d n ≤ floor_point qs d n
 floor_more ps qs d n more = floor_below ps d n (floor_point qs d n) (λ q there h. floor_greatest qs d n q (more q there) h)
 
 -- lists with the same points have the same greatest

@@ -45,7 +45,7 @@ IsNextPoint-next_point (q ∷ qs) at =
     (cases_lt at q)
 
 -- and there is no other
-pub next-unique : (qs : List ℕ) (at : ℕ) (o p : Option ℕ) → IsNextPoint qs at o → IsNextPoint qs at p → o ≡ p
+next-unique : (qs : List ℕ) (at : ℕ) (o p : Option ℕ) → IsNextPoint qs at o → IsNextPoint qs at p → o ≡ p
 next-unique qs at None None h k = refl
 next-unique qs at None (Some m) h k = absurd (omega (arith, h m k.0, k.1))
 next-unique qs at (Some m) None h k = absurd (omega (arith, k m h.0, h.1))

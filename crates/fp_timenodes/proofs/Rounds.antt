@@ -20,7 +20,7 @@ greatest_round_bound (p ∷ added) d zero h = omega arith
 greatest_round_bound (p ∷ added) d (suc k) h = omega (arith, greatest_round_bound added d k (omega arith))
 
 -- what is at least each round is at least the greatest
-greatest_round_least : (added : List AddedPoint) (d : AddedPoint) (n : ℕ) → ((k : ℕ) → k < length added → (get_or added k d).round ≤ n) → greatest_round added ≤ n
+pub greatest_round_least : (added : List AddedPoint) (d : AddedPoint) (n : ℕ) → ((k : ℕ) → k < length added → (get_or added k d).round ≤ n) → greatest_round added ≤ n
 greatest_round_least [] d n above = omega arith
 greatest_round_least (p ∷ added) d n above = omega (arith, above 0 (omega arith), greatest_round_least added d n (λ k h. above (suc k) (omega arith)))
 

@@ -9,7 +9,7 @@ use Rattle.fp_lists.proofs.Elements.{AllByRecursion-weaker}
 use Rattle.fp_timetable.specs.Order.{ArriveWithin, IsWithin}
 
 -- an arc takes at least one unit of time
-pub step-positive : (p : Problem) (a : ℕ) → IsValid p → a < length p.arcs → 1 ≤ step p a
+step-positive : (p : Problem) (a : ℕ) → IsValid p → a < length p.arcs → 1 ≤ step p a
 step-positive p a valid lt =
     let arc : IsArc (length p.terminals) (arc_at p a) = All-get_or (IsArc (length p.terminals)) p.arcs a no_arc lt valid.parts.arcs in
     omega (arith, arc.within.time.0)

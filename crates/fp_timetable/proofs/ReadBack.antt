@@ -65,10 +65,10 @@ same-legs (x ∷ xs) (y ∷ ys) rise other same =
         subst (λ (m : Leg). l.depart < m.depart) at.2 (AllByRecursion-get_or (λ (m : Leg). l.depart < m.depart) legs at.0 no_leg all at.1)
 
 -- a line of another shipment gives no leg, and one of the shipment gives its leg
-route_of-other : (l : LegLine) (lines : List LegLine) (k : ℕ) → nat_eq l.shipment k ≡ false → route_of (l ∷ lines) k ≡ route_of lines k
+pub route_of-other : (l : LegLine) (lines : List LegLine) (k : ℕ) → nat_eq l.shipment k ≡ false → route_of (l ∷ lines) k ≡ route_of lines k
 route_of-other l lines k h = cond-false (nat_eq l.shipment k) (line_leg l ∷ route_of lines k) (route_of lines k) h
 
-route_of-own : (l : LegLine) (lines : List LegLine) (k : ℕ) → nat_eq l.shipment k ≡ true → route_of (l ∷ lines) k ≡ line_leg l ∷ route_of lines k
+pub route_of-own : (l : LegLine) (lines : List LegLine) (k : ℕ) → nat_eq l.shipment k ≡ true → route_of (l ∷ lines) k ≡ line_leg l ∷ route_of lines k
 route_of-own l lines k h = cond-true (nat_eq l.shipment k) (line_leg l ∷ route_of lines k) (route_of lines k) h
 
 -- what holds of the legs of a shipment's lines
@@ -114,7 +114,7 @@ route_of-has (l ∷ lines) k (suc i) d lt own =
     (cases_Bool (nat_eq l.shipment k))
 
 -- the legs of a shipment's lines are its route
-pub route_of-lines : (p : Problem) (routes : List (List Leg)) (lines : List LegLine) (k : ℕ) → AreLegLines p routes lines → k < length routes → Rise (route_at routes k) →
+route_of-lines : (p : Problem) (routes : List (List Leg)) (lines : List LegLine) (k : ℕ) → AreLegLines p routes lines → k < length routes → Rise (route_at routes k) →
     route_of lines k ≡ route_at routes k
 route_of-lines p routes lines k are lt rise =
     let route : List Leg = route_at routes k in

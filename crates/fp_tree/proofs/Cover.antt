@@ -14,7 +14,7 @@ use Rattle.fp_tree.specs.Trees.{Leaf, leaves_of, AreTrees, IsTree, tree_leaves, 
 use Rattle.fp_lists.specs.Elements.{AnyByRecursion}
 
 -- two numbers are equal or not
-pub same_or_not : (a b : ℕ) → (a ≡ b) ⊎ (a ≢ b)
+same_or_not : (a b : ℕ) → (a ≡ b) ⊎ (a ≢ b)
 same_or_not a b =
     ⊎_elim (λ (h : (nat_eq a b ≡ true) × (a ≡ b)). inl h.1) (λ (h : (nat_eq a b ≡ false) × (a ≢ b)). inr h.1) (eqb_tells a b)
 
@@ -94,7 +94,7 @@ one_side tails d routes apart (ByTime shipment terminal at) tail is_tail =
     (λ e. ⊎_elim (λ (h : nat_le (d * at) e.moment ≡ true). inr (leb-true (d * at) e.moment h)) (λ (h : nat_le (d * at) e.moment ≡ false). inl (leb-false (d * at) e.moment h)) (cases_Bool (nat_le (d * at) e.moment))) exits (apart shipment))
 
 -- what obeys the sides of one of the trees to come obeys those of one of their leaves
-pub covers_pending : {X : Type 0} (tails : ℕ → ℕ) (fork_of : X → Option Fork) (d : ℕ) (routes : List (List Exit)) → ((k : ℕ) → LeaveApart tails (slice_index_or routes k [])) →
+covers_pending : {X : Type 0} (tails : ℕ → ℕ) (fork_of : X → Option Fork) (d : ℕ) (routes : List (List Exit)) → ((k : ℕ) → LeaveApart tails (slice_index_or routes k [])) →
     (nodes : List X) (pending : List (List Side)) → HaveTails tails fork_of nodes → AreTrees fork_of (length pending) nodes → AnyByRecursion (Obeys d routes) pending →
     AnyByRecursion (λ (l : Leaf X). Obeys d routes l.sides) (leaves_of fork_of pending nodes)
 covers_pending tails fork_of d routes apart [] [] told trees any = any
