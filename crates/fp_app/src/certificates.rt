@@ -1,5 +1,5 @@
 //! The certificate of an answer that is shown as one.
-ghost use Rattle.std.specs.Prelude.{◌≡◌, ◌<◌, [], length, IfOk};
+ghost use Rattle.std.specs.Prelude.{◌≡◌, [], IfOk};
 ghost use Rattle.fp_model.specs.Plans.{IsPlan};
 ghost use Rattle.fp_lines.specs.Ranges.{IsNamed};
 ghost use Rattle.fp_lines.specs.declared.certificates.Answer.TheVariants as answer;

@@ -1,7 +1,4 @@
 //! Why a run has no answer.
-ghost use Rattle.std.specs.Prelude.{◌≡◌};
-ghost use Rattle.fp_app.specs.declared.failures.Failure.TheVariants as failure;
-
 use crate::NoMemory;
 use thiserror::Error;
 
