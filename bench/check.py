@@ -4,13 +4,17 @@
     bench/check.py [PROGRAM]
 
 PROGRAM is the built program; without it the proved one in crates/freight/out is taken. The first kind of certificate has a tree
-of up to 100,000 splits, the second up to 500,000 price lines, the third is of short lines near the limit of bytes.
+of up to 100,000 splits, the second up to 500,000 price lines, the third is of short lines near the limit of bytes. The fourth has
+a tree of up to 10,000 leaves of one round, over a generated instance of 10 terminals with 40 shipments.
 """
 import os
 import subprocess
 import sys
 import tempfile
 import time
+
+sys.path.insert(0, os.path.dirname(os.path.abspath(__file__)))
+from instances import generated
 
 TOP = os.path.dirname(os.path.dirname(os.path.abspath(__file__)))
 
@@ -51,6 +55,23 @@ def short_lines(count):
     return lines + ["weight,S,0"] * count + ["leaf,1,0,plain", "end"]
 
 
+def leaves(count, program):
+    """The direct plan of a generated instance with the bound 0, and a balanced tree of so many leaves of one round."""
+    lines = generated(1, 10, 40).splitlines()
+    text = ("\n".join(lines) + "\n").encode()
+    direct = subprocess.run([program, "direct"], input=text, stdout=subprocess.PIPE, check=True).stdout.decode().splitlines()
+    ends = [line.split(",")[3] for line in lines if line.startswith("shipment,")]
+
+    def tree(count, depth):
+        # No shipment leaves its destination, so these splits part nothing, and each depth has a shipment of its own.
+        if count == 1:
+            return ["leaf,linear,0,plain"]
+        split = f"split,time,S{depth % len(ends) + 1},{ends[depth % len(ends)]},{50_000 + depth}"
+        return [split] + tree(count // 2, depth + 1) + tree(count - count // 2, depth + 1)
+
+    return lines + [f"answer,unfinished,{direct[0].split(',')[2]},0,rounds"] + direct[1:-1] + tree(count, 0) + ["end"]
+
+
 def measured(program, lines, wanted):
     """Seconds and megabytes of one run."""
     with tempfile.TemporaryFile() as text:
@@ -73,6 +94,7 @@ def main():
         ("splits", splits, (10_000, 100_000), "accepted,unfinished\n"),
         ("prices", prices, (50_000, 500_000), "accepted,unfinished\n"),
         ("short", short_lines, (1_220_000, 12_200_000), "rejected,5\n"),
+        ("leaves", lambda count: leaves(count, program), (1_000, 10_000), "accepted,unfinished\n"),
     ):
         before = None
         for size in sizes:

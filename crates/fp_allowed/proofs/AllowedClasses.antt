@@ -1,34 +1,21 @@
--- What it means that a class is allowed: a whole moment of it lies in the window and meets the sides.
-use Rattle.std.proofs.Common.{◌≡◌, ℕ, zero, suc, ◌+◌, ◌*◌, ◌/◌, ◌<◌, ◌≤◌, Bool, true, false, ◌&&◌, List, length, ⊎_elim, refl, subst, arith}
-use Rattle.std.specs.Prelude.{◌≢◌, nat_eq, nat_lt, nat_le, Option, Some, None, IsSomeAnd}
+-- What it means that a class is allowed: a whole moment of it lies in the window and meets the
+-- sides.
+use Rattle.std.proofs.Common.{◌≡◌, ℕ, ◌+◌, ◌*◌, ◌/◌, ◌<◌, ◌≤◌, Bool, true, ◌&&◌, List, length, refl, arith}
+use Rattle.std.specs.Prelude.{nat_eq, nat_lt, nat_le, Option, Some, None, IsSomeAnd}
 use Rattle.std.proofs.Math.Nat.{le-div_iff_mul-le, div-lt_iff_lt-mul}
-use Rattle.std.proofs.lemmas.Bool.{and_parts, and_from, or_cases, or_left, or_right, le-leb, lt-ltb, leb-true, ltb-true, eq-eqb, eqb-true, false≢true}
-use Rattle.std.proofs.lemmas.Bool.Decides.{eqb_tells}
+use Rattle.std.proofs.lemmas.Bool.{and_parts, and_from, le-leb, lt-ltb, leb-true, ltb-true, eq-eqb, eqb-true, false≢true}
+use Rattle.fp_lists.proofs.CountsBelow.{some_below-true, some_below-witness}
 use Rattle.fp_model.specs.declared.parts.Leg.{Leg}
 use Rattle.fp_model.specs.Problem.{Problem}
 use Rattle.fp_timenodes.specs.Floor.{floor_point}
-use Rattle.fp_timenodes.proofs.Floors.{floor-whole}
+use Rattle.fp_timenodes.proofs.Floors.{floor_whole}
 use Rattle.fp_flatnet.specs.declared.window_tables.Window.{Window}
 use Rattle.fp_flatnet.specs.Windows.{IsInside}
 use Rattle.fp_longestarcs.specs.Classes.{class_of}
 use Rattle.fp_tree.specs.declared.sides.Side.{Side}
 use Rattle.fp_tree.specs.Sides.{MeetsAll}
-use Rattle.fp_allowed.specs.Allowed.{exit_of, has_moment, is_allowed, is_moment, meets_all, some_below, tails_of}
-use Rattle.fp_allowed.proofs.Meeting.{meets_all-true}
-
--- a number below n that passes a test
-pub some_below-true : (n m : ℕ) (test : ℕ → Bool) → m < n → test m ≡ true → some_below n test ≡ true
-some_below-true zero m test h is = absurd (omega (arith, h))
-some_below-true (suc n) m test h is =
-    ⊎_elim
-    (λ (same : (nat_eq m n ≡ true) × (m ≡ n)). or_left (test n) (some_below n test) (subst (λ (k : ℕ). test k ≡ true) same.1 is))
-    (λ (other : (nat_eq m n ≡ false) × (m ≢ n)). or_right (test n) (some_below n test) (some_below-true n m test (omega (arith, h, other.1)) is))
-    (eqb_tells m n)
-
-below-some : (n : ℕ) (test : ℕ → Bool) → some_below n test ≡ true → (m : ℕ) × (test m ≡ true)
-below-some zero test h = absurd (false≢true h)
-below-some (suc n) test h =
-    ⊎_elim (λ (here : test n ≡ true). (n, here)) (λ (later : some_below n test ≡ true). below-some n test later) (or_cases (test n) (some_below n test) h)
+use Rattle.fp_allowed.specs.Allowed.{exit_of, has_moment, is_allowed, is_moment, meets_all, tails_of}
+use Rattle.fp_allowed.proofs.SideTests.{meets_all_true}
 
 -- a whole moment of a class that lies in a window and meets the sides
 pub record HasMoment (p : Problem) (points : ℕ → List ℕ) (sides : List Side) (k : ℕ) (c : Leg) (w : Window) : Type 0 where
@@ -38,9 +25,9 @@ pub record HasMoment (p : Problem) (points : ℕ → List ℕ) (sides : List Sid
   pub before : moment ≤ w.hi
   pub met : meets_all k sides (exit_of p (record { arc = c.arc; depart = moment })) ≡ true
 
-has_moment-from : (p : Problem) (points : ℕ → List ℕ) (sides : List Side) (k : ℕ) (c : Leg) (o : Option Window) → IsSomeAnd o (HasMoment p points sides k c) → has_moment p points sides k c o ≡ true
-has_moment-from p points sides k c None has = absurd has
-has_moment-from p points sides k c (Some w) has =
+has_moment_from : (p : Problem) (points : ℕ → List ℕ) (sides : List Side) (k : ℕ) (c : Leg) (o : Option Window) → IsSomeAnd o (HasMoment p points sides k c) → has_moment p points sides k c o ≡ true
+has_moment_from p points sides k c None has = absurd has
+has_moment_from p points sides k c (Some w) has =
     some_below-true (w.hi + 1) has.moment (is_moment p points sides k c w) (omega (arith, has.before))
     (rw (
       eq-eqb (floor_point (points (tails_of p c.arc)) 1 has.moment) c.depart has.falls,
@@ -49,14 +36,14 @@ has_moment-from p points sides k c (Some w) has =
       has.met,
     ) refl)
 
-has_moment-parts : (p : Problem) (points : ℕ → List ℕ) (sides : List Side) (k : ℕ) (c : Leg) (o : Option Window) → has_moment p points sides k c o ≡ true → IsSomeAnd o (HasMoment p points sides k c)
-has_moment-parts p points sides k c None h = absurd (false≢true h)
-has_moment-parts p points sides k c (Some w) h =
-    let some = below-some (w.hi + 1) (is_moment p points sides k c w) h in
+has_moment_parts : (p : Problem) (points : ℕ → List ℕ) (sides : List Side) (k : ℕ) (c : Leg) (o : Option Window) → has_moment p points sides k c o ≡ true → IsSomeAnd o (HasMoment p points sides k c)
+has_moment_parts p points sides k c None h = absurd (false≢true h)
+has_moment_parts p points sides k c (Some w) h =
+    let some = some_below-witness (w.hi + 1) (is_moment p points sides k c w) h in
     let m : ℕ = some.0 in
     let in_class : Bool = nat_eq (floor_point (points (tails_of p c.arc)) 1 m) c.depart in
     let met : Bool = meets_all k sides (exit_of p (record { arc = c.arc; depart = m })) in
-    let all = and_parts (in_class && nat_le w.lo m && nat_le m w.hi) met some.1 in
+    let all = and_parts (in_class && nat_le w.lo m && nat_le m w.hi) met some.2 in
     let inside = and_parts (in_class && nat_le w.lo m) (nat_le m w.hi) all.0 in
     let starts = and_parts in_class (nat_le w.lo m) inside.0 in
     record {
@@ -68,22 +55,22 @@ has_moment-parts p points sides k c (Some w) h =
     }
 
 -- an allowed class goes by an arc, and has such a moment in the shipment's window for it
-pub is_allowed-from : (p : Problem) (windows : ℕ → ℕ → Option Window) (points : ℕ → List ℕ) (sides : List Side) (k : ℕ) (c : Leg) → c.arc < length p.arcs →
+pub is_allowed_from : (p : Problem) (windows : ℕ → ℕ → Option Window) (points : ℕ → List ℕ) (sides : List Side) (k : ℕ) (c : Leg) → c.arc < length p.arcs →
     IsSomeAnd (windows k c.arc) (HasMoment p points sides k c) → is_allowed p windows points sides k c ≡ true
-is_allowed-from p windows points sides k c exists has =
+is_allowed_from p windows points sides k c exists has =
     and_from (nat_lt c.arc (length p.arcs)) (has_moment p points sides k c (windows k c.arc)) (lt-ltb c.arc (length p.arcs) exists)
-    (has_moment-from p points sides k c (windows k c.arc) has)
+    (has_moment_from p points sides k c (windows k c.arc) has)
 
-pub is_allowed-parts : (p : Problem) (windows : ℕ → ℕ → Option Window) (points : ℕ → List ℕ) (sides : List Side) (k : ℕ) (c : Leg) → is_allowed p windows points sides k c ≡ true →
+pub is_allowed_parts : (p : Problem) (windows : ℕ → ℕ → Option Window) (points : ℕ → List ℕ) (sides : List Side) (k : ℕ) (c : Leg) → is_allowed p windows points sides k c ≡ true →
     (c.arc < length p.arcs) × IsSomeAnd (windows k c.arc) (HasMoment p points sides k c)
-is_allowed-parts p windows points sides k c h =
+is_allowed_parts p windows points sides k c h =
     let parts = and_parts (nat_lt c.arc (length p.arcs)) (has_moment p points sides k c (windows k c.arc)) h in
-    (ltb-true c.arc (length p.arcs) parts.0, has_moment-parts p points sides k c (windows k c.arc) parts.1)
+    (ltb-true c.arc (length p.arcs) parts.0, has_moment_parts p points sides k c (windows k c.arc) parts.1)
 
 -- the class of a leg within its window that meets the sides is allowed
-pub class-allowed : (p : Problem) (windows : ℕ → ℕ → Option Window) (points : ℕ → List ℕ) (sides : List Side) (d k : ℕ) (l : Leg) → 0 < d → l.arc < length p.arcs →
+pub class_allowed : (p : Problem) (windows : ℕ → ℕ → Option Window) (points : ℕ → List ℕ) (sides : List Side) (d k : ℕ) (l : Leg) → 0 < d → l.arc < length p.arcs →
     IsSomeAnd (windows k l.arc) (IsInside d l.depart) → MeetsAll d k sides (exit_of p l) → is_allowed p windows points sides k (class_of p points d l) ≡ true
-class-allowed p windows points sides d k l h exists inside meets = is_allowed-from p windows points sides k (class_of p points d l) exists (has (windows k l.arc) inside)
+class_allowed p windows points sides d k l h exists inside meets = is_allowed_from p windows points sides k (class_of p points d l) exists (has (windows k l.arc) inside)
   where
     has : (o : Option Window) → IsSomeAnd o (IsInside d l.depart) → IsSomeAnd o (HasMoment p points sides k (class_of p points d l))
     has None within = absurd within
@@ -91,8 +78,8 @@ class-allowed p windows points sides d k l h exists inside meets = is_allowed-fr
         let until : l.depart / d < w.hi + 1 = (div-lt_iff_lt-mul h).1 (let e : l.depart < (w.hi + 1) * d = omega (arith, within.1, h) in e) in
         record {
           moment = l.depart / d;
-          falls = floor-whole (points (tails_of p l.arc)) d l.depart h;
+          falls = floor_whole (points (tails_of p l.arc)) d l.depart h;
           after = (le-div_iff_mul-le h).1 (let e : w.lo * d ≤ l.depart = omega (arith, within.0) in e);
           before = omega (arith, until);
-          met = meets_all-true d k (exit_of p l) sides h meets;
+          met = meets_all_true d k (exit_of p l) sides h meets;
         }

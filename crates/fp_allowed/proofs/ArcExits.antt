@@ -8,8 +8,8 @@ use Rattle.fp_longestarcs.proofs.ClassNumbers.{class-place, class-unique}
 use Rattle.fp_allowed.specs.declared.exits.Leaving.TheVariants.{Nothing, One, Several}
 use Rattle.fp_allowed.specs.Bits.{bit_of, row_allows}
 use Rattle.fp_allowed.specs.Leaving.{IsFirstSet, IsRange, OneLeaves, Tells}
-use Rattle.fp_allowed.proofs.ListedClasses.{class_by, class_by-is, class_by-number}
-use Rattle.fp_allowed.proofs.RowClasses.{is_class-parts, row_allows-from}
+use Rattle.fp_allowed.proofs.ListedClasses.{class_by, class_by-number, IsClass-class_by}
+use Rattle.fp_allowed.proofs.RowClasses.{is_class_parts, row_allows_from}
 
 -- an allowed class of an arc
 abbrev pub ByArc : TimedNetwork → List Bool → ℕ → Leg → Type 0
@@ -22,9 +22,9 @@ module _ (net : TimedNetwork) (row : List Bool) (arc start end : ℕ) (valid : I
       let place : ℕ = n - start in
       let within : place < length (points_in net (tail_in net arc)) = omega (arith, range.begins, range.ends) in
       let number : class_number net (class_by net arc place) ≡ n = omega (arith, class_by-number net arc place valid exists within, range.begins) in
-      let is : IsClass net (class_by net arc place) = class_by-is net arc place exists within in (
+      let is : IsClass net (class_by net arc place) = IsClass-class_by net arc place exists within in (
         record {
-          allowed_it = row_allows-from net row (class_by net arc place) is (ap (bit_of row) number ∙ set);
+          allowed_it = row_allows_from net row (class_by net arc place) is (ap (bit_of row) number ∙ set);
           leaves = refl;
         },
         number,
@@ -33,16 +33,16 @@ module _ (net : TimedNetwork) (row : List Bool) (arc start end : ℕ) (valid : I
   -- an allowed class of the arc has a set bit among the numbers
   pub bit-of_class : (c : Leg) → ByArc net row arc c → (start ≤ class_number net c) × (class_number net c < end) × (bit_of row (class_number net c) ≡ true)
   bit-of_class c by =
-      let parts = is_class-parts net row c by.allowed_it in
+      let parts = is_class_parts net row c by.allowed_it in
       let place = (class-place net c valid parts.0).0 in
       let base : first_class net c.arc ≡ first_class net arc = ap (first_class net) by.leaves in
       let long : length (points_in net (tail_in net c.arc)) ≡ length (points_in net (tail_in net arc)) = ap (λ (a : ℕ). length (points_in net (tail_in net a))) by.leaves in
       (omega (arith, base, range.begins), omega (arith, base, long, place, range.ends), parts.1)
 
   -- two allowed classes with one number are the same
-  pub same-class : (c e : Leg) → ByArc net row arc c → ByArc net row arc e → class_number net c ≡ class_number net e → c ≡ e
-  same-class c e first second same =
-      class-unique net c e valid (is_class-parts net row c first.allowed_it).0 (is_class-parts net row e second.allowed_it).0 same
+  same_class : (c e : Leg) → ByArc net row arc c → ByArc net row arc e → class_number net c ≡ class_number net e → c ≡ e
+  same_class c e first second same =
+      class-unique net c e valid (is_class_parts net row c first.allowed_it).0 (is_class_parts net row e second.allowed_it).0 same
 
   pub none_by : IsFirstSet row start end None → Tells net (row_allows net row) (λ c. c.arc ≡ arc) Nothing
   none_by none c by = let bit = bit-of_class c by in both_ways (bit_of row (class_number net c)) (none (class_number net c) bit.0 bit.1) bit.2
@@ -59,7 +59,7 @@ module _ (net : TimedNetwork) (row : List Bool) (arc start end : ℕ) (valid : I
           let bit = bit-of_class other by in
           let number : ℕ = class_number net other in
           ⊎_elim
-          (λ (same : number ≡ class). same-class other (class_by net arc (class - start)) by found.0 (same ∙ sym found.1))
+          (λ (same : number ≡ class). same_class other (class_by net arc (class - start)) by found.0 (same ∙ sym found.1))
           (λ (apart : (number < class) ⊎ (class < number)).
           ⊎_elim
           (λ (less : number < class). absurd (both_ways (bit_of row number) (first.3 number bit.0 less) bit.2))

@@ -5,14 +5,15 @@ use Rattle.std.proofs.lemmas.Bool.{cases_order, eq-eqb, le-ltb, lt-ltb, ne_eqb}
 use Rattle.std.proofs.lemmas.List.{get_or-replicate, length-replicate}
 use Rattle.fp_model.specs.declared.parts.Leg.{Leg}
 use Rattle.fp_longestarcs.specs.Networks.{IsClass, IsNetwork, TimedNetwork, class_count, class_number}
-use Rattle.fp_longestarcs.specs.Whole.{IsWhole}
+use Rattle.fp_longestarcs.specs.Whole.{IsWholeNetwork}
 use Rattle.fp_longestarcs.proofs.ClassNumbers.{number-within}
-use Rattle.fp_longestarcs.proofs.Lengthened.{arc-count}
+use Rattle.fp_longestarcs.proofs.HeadLists.{arc-count}
 use Rattle.fp_tree.specs.declared.sides.Side.{Side}
 use Rattle.fp_allowed.specs.Bits.{FillsArc, IsRowUnder, allowed_in, bit_of}
 use Rattle.fp_allowed.specs.Settings.{Setting}
 
--- the bits of the classes of the arcs before a number are those of a test, and the others are not set
+-- the bits of the classes of the arcs before a number are those of a test, and the others are not
+-- set
 pub record FilledBelow (net : TimedNetwork) (test : Leg → Bool) (arc : ℕ) (row : List Bool) : Type 0 where
   pub long : length row ≡ class_count net
   pub bits : (c : Leg) → IsClass net c → bit_of row (class_number net c) ≡ (nat_lt c.arc arc && test c)
@@ -49,7 +50,7 @@ filled_more net test arc old new below fills = record {
         (cases_order c.arc arc)
 
 -- all arcs
-pub filled_all : (s : Setting) (sides : List Side) (k arcs : ℕ) (row : List Bool) → IsWhole s.problem s.network → length s.problem.arcs ≤ arcs → FilledBelow s.network (allowed_in s sides k) arcs row →
+pub filled_all : (s : Setting) (sides : List Side) (k arcs : ℕ) (row : List Bool) → IsWholeNetwork s.problem s.network → length s.problem.arcs ≤ arcs → FilledBelow s.network (allowed_in s sides k) arcs row →
     IsRowUnder s sides k row
 filled_all s sides k arcs row whole all filled = record {
   long = filled.long;

@@ -4,10 +4,12 @@ use Rattle.std.proofs.lemmas.List.{get_or-map, length-map, get_or_append_left, g
 use Rattle.std.proofs.lemmas.List.Sums.{sum_by-cons}
 use Rattle.fp_model.specs.declared.parts.Leg.{Leg}
 use Rattle.fp_model.specs.Numbered.{no_leg}
-use Rattle.fp_longestarcs.specs.Ascending.{ArePoints, place_of}
+use Rattle.fp_longestarcs.specs.Ascending.{ArePoints}
+use Rattle.fp_lists.specs.Ascending.{place_in}
 use Rattle.fp_longestarcs.specs.Networks.{IsClass, IsNetwork, TimedNetwork, class_count, class_number, copy_count, first_class, points_in, tail_in}
 use Rattle.fp_longestarcs.proofs.ClassNumbers.{class-place, first-mono, first-more, tail-points}
-use Rattle.fp_longestarcs.proofs.Places.{has-place, place-at, place-is}
+use Rattle.fp_lists.proofs.Places.{place_in-get_or, place_in-unique}
+use Rattle.fp_lists.proofs.Membership.{list_has-get_or}
 use Rattle.fp_allowed.specs.Listing.{all_classes, class_at, classes_from}
 
 -- the points of a terminal, none where there is no such terminal
@@ -28,10 +30,6 @@ length-classes_from points a (tail ∷ tails) =
       length-classes_from points (a + 1) tails,
       sum_by-cons (λ t. length (points_of points t)) tail tails,
     )
-
--- there are as many classes in the list as there are numbers
-pub length-all_classes : (net : TimedNetwork) → length (all_classes net) ≡ class_count net
-length-all_classes net = length-classes_from net.points 0 net.tails
 
 -- the class at a place of an arc's classes stands so far behind those of the earlier arcs
 listed : (points : List (List ℕ)) (a : ℕ) (tails : List ℕ) (i place : ℕ) → i < length tails → place < length (points_of points (get_or tails i 0)) →
@@ -60,7 +58,7 @@ listed points a (tail ∷ tails) (suc i) place h within =
 -- a class is the one with its number
 pub class_at-number : (net : TimedNetwork) (c : Leg) → IsNetwork net → IsClass net c → class_at net (class_number net c) ≡ c
 class_at-number net c valid is =
-    let place : ℕ = place_of (points_in net (tail_in net c.arc)) c.depart in
+    let place : ℕ = place_in (points_in net (tail_in net c.arc)) c.depart in
     let there = class-place net c valid is in
     let leg : ℕ → ℕ → Leg = λ a q. record { arc = a; depart = q } in
     let first : 0 + c.arc ≡ c.arc = omega arith in
@@ -71,19 +69,14 @@ class_at-number net c valid is =
 abbrev pub class_by : TimedNetwork → ℕ → ℕ → Leg
 class_by net a place = record { arc = a; depart = get_or (points_in net (tail_in net a)) place 0 }
 
-pub class_by-is : (net : TimedNetwork) (a place : ℕ) → a < length net.tails → place < length (points_in net (tail_in net a)) → IsClass net (class_by net a place)
-class_by-is net a place h within = (h, has-place (points_in net (tail_in net a)) place 0 within)
+pub IsClass-class_by : (net : TimedNetwork) (a place : ℕ) → a < length net.tails → place < length (points_in net (tail_in net a)) → IsClass net (class_by net a place)
+IsClass-class_by net a place h within = (h, list_has-get_or (points_in net (tail_in net a)) place 0 within)
 
 pub class_by-number : (net : TimedNetwork) (a place : ℕ) → IsNetwork net → a < length net.tails → place < length (points_in net (tail_in net a)) →
     class_number net (class_by net a place) ≡ first_class net a + place
 class_by-number net a place valid h within =
     let qs : List ℕ = points_in net (tail_in net a) in
-    ap (λ (n : ℕ). first_class net a + n) (place-at qs place 0 (tail-points net a valid h).ascending within)
-
-pub class_at-place : (net : TimedNetwork) (a place : ℕ) → IsNetwork net → a < length net.tails → place < length (points_in net (tail_in net a)) →
-    class_at net (first_class net a + place) ≡ class_by net a place
-class_at-place net a place valid h within =
-    ap (class_at net) (sym (class_by-number net a place valid h within)) ∙ class_at-number net (class_by net a place) valid (class_by-is net a place h within)
+    ap (λ (n : ℕ). first_class net a + n) (place_in-get_or qs place 0 (tail-points net a valid h).ascending within)
 
 -- the numbers of an arc's classes are a range
 pub class_range : (net : TimedNetwork) (arc tail first count : ℕ) → IsNetwork net → arc < length net.tails → tail ≡ tail_in net arc → first ≡ class_number net (record { arc = arc; depart = 0 }) →
@@ -91,7 +84,7 @@ pub class_range : (net : TimedNetwork) (arc tail first count : ℕ) → IsNetwor
 class_range net arc tail first count valid exists leaves first_is count_is =
     let qs : List ℕ = points_in net (tail_in net arc) in
     let are : ArePoints qs = tail-points net arc valid exists in
-    let none : place_of qs 0 ≡ 0 = place-is qs 0 0 (record { within = omega arith; below = λ k d h. absurd (omega arith); above = λ k d from h. omega arith }) in
+    let none : place_in qs 0 ≡ 0 = place_in-unique qs 0 0 (record { within = omega arith; below = λ k d h. absurd (omega arith); above = λ k d from h. omega arith }) in
     let start : first ≡ first_class net arc = omega (arith, first_is, none) in
     let long : count ≡ length qs = rw (← leaves) count_is in
     (start, omega (arith, start, long, first-more net arc exists, first-mono net (length net.tails - (arc + 1)) (arc + 1) (omega arith), all))

@@ -9,10 +9,11 @@ use Rattle.fp_rows.specs.Bits.{count_true, with_range}
 use Rattle.fp_tree.specs.declared.sides.Side.{Side}
 use Rattle.fp_allowed.specs.declared.departures_left.TheConstants.{MOMENTS}
 use Rattle.fp_allowed.specs.Bits.{bit_of}
-use Rattle.fp_allowed.specs.Departures.{count_below}
+use Rattle.fp_lists.specs.Below.{count_below}
 use Rattle.fp_allowed.specs.Moments.{all_let, in_range, is_open, lets}
-use Rattle.fp_allowed.proofs.Counting.{count_below-more, count_below-same, count_true-below}
-use Rattle.fp_allowed.proofs.Narrowing.{all_let-step}
+use Rattle.fp_lists.proofs.CountsBelow.{count_below-more, count_below-same}
+use Rattle.fp_allowed.proofs.CountsBelow.{count_true-below}
+use Rattle.fp_allowed.proofs.OpenMoments.{all_let_step}
 use Rattle.fp_allowed.proofs.RowBits.{bit_of-with_range, length-with_range}
 
 -- the bits and the sides that are left, from one on, tell what the window and all sides tell
@@ -69,7 +70,7 @@ module _ (w : Window) (arc : ℕ) (sides : List Side) where
             let cut : bit_of new m ≡ (bit_of old m && lets arc m (get_or sides i d)) =
             ap (λ (r : List Bool). bit_of r m) is ∙ bit_of-with_range old from to false order in_row m ∙
             ap (λ (b : Bool). cond b false (bit_of old m)) (forbids m early) ∙ cut-off (bit_of old m) (lets arc m (get_or sides i d)) in
-            all_let-step arc m sides i d (bit_of old m) (bit_of new m) h cut ∙ left.bits m early;
+            all_let_step arc m sides i d (bit_of old m) (bit_of new m) h cut ∙ left.bits m early;
       }
     where
       cut-off : (b t : Bool) → cond (not t) false b ≡ (b && t)

@@ -1,12 +1,13 @@
--- Which classes a shipment may use under sides, and which it must. A class is an arc and a point of its tail, written as a leg
--- that leaves at that point.
--- The source of classes, as timed arcs: Boland, Hewitt, Marshall and Savelsbergh, "The Continuous-Time Service Network Design
--- Problem", Operations Research 65, 2017. Sides and forced chains are this project's own.
-use Rattle.std.specs.Prelude.{ℕ, zero, suc, ◌+◌, ◌≡◌, ◌≢◌, List, [], ◌∷◌, ◌++◌, length, Bool, true, false, ◌&&◌, ◌||◌, not, nat_eq, nat_lt, nat_le, Option, Some, None}
+-- Which classes a shipment may use under sides, and which it must. A class is an arc and a point of
+-- its tail, written as a leg that leaves at that point. The source of classes, as timed arcs:
+-- Boland, Hewitt, Marshall and Savelsbergh, "The Continuous-Time Service Network Design Problem",
+-- Operations Research 65, 2017. Sides and forced chains are this project's own.
+use Rattle.std.specs.Prelude.{ℕ, ◌+◌, ◌≡◌, ◌≢◌, List, [], ◌∷◌, ◌++◌, length, Bool, true, false, ◌&&◌, ◌||◌, not, nat_eq, nat_lt, nat_le, Option, Some, None, All, Contains}
 use Rattle.std.specs.List.{AllByRecursion, list_all}
+use Rattle.fp_lists.specs.Below.{some_below}
 use Rattle.fp_model.specs.declared.parts.Leg.{Leg}
 use Rattle.fp_model.specs.declared.parts.Shipment.{Shipment}
-use Rattle.fp_model.specs.Numbered.{AllFrom}
+use Rattle.fp_lists.specs.Numbered.{AllFrom}
 use Rattle.fp_model.specs.Problem.{Problem, arc_at}
 use Rattle.fp_timenodes.specs.Floor.{floor_point}
 use Rattle.fp_flatnet.specs.declared.window_tables.Window.{Window}
@@ -33,10 +34,9 @@ meets k e (From shipment terminal at) = not (nat_eq k shipment && nat_eq e.tail 
 abbrev pub meets_all : ℕ → List Side → Exit → Bool
 meets_all k sides e = list_all (meets k e) sides
 
--- whether some number below n passes the test
-abbrev pub some_below : ℕ → (ℕ → Bool) → Bool
-some_below zero test = false
-some_below (suc n) test = test n || some_below n test
+-- each of some sides is one of others
+abbrev pub AreAmong : List Side → List Side → Type 0
+AreAmong fewer sides = All (λ side. Contains sides side) fewer
 
 -- whether m is a moment of the class that lies in the window and meets the sides
 abbrev pub is_moment : Problem → (ℕ → List ℕ) → List Side → ℕ → Leg → Window → ℕ → Bool
@@ -49,7 +49,8 @@ abbrev pub has_moment : Problem → (ℕ → List ℕ) → List Side → ℕ →
 has_moment p points sides k c None = false
 has_moment p points sides k c (Some w) = some_below (w.hi + 1) (is_moment p points sides k c w)
 
--- whether a class is allowed for the shipment with the number k: a whole moment of it lies in the shipment's window for the arc and meets the sides
+-- whether a class is allowed for the shipment with the number k: a whole moment of it lies in the
+-- shipment's window for the arc and meets the sides
 abbrev pub is_allowed : Problem → (ℕ → ℕ → Option Window) → (ℕ → List ℕ) → List Side → ℕ → Leg → Bool
 is_allowed p windows points sides k c = nat_lt c.arc (length p.arcs) && has_moment p points sides k c (windows k c.arc)
 
@@ -59,7 +60,8 @@ pub record IsOnly (p : Problem) (allowed : Leg → Bool) (here : ℕ) (c : Leg) 
   pub leaves : tails_of p c.arc ≡ here
   pub alone : (other : Leg) → allowed other ≡ true → tails_of p other.arc ≡ here → other ≡ c
 
--- the classes are forced one after the other on the way from here to there: each is the only one that leaves where it does, which is not there and was not met before
+-- the classes are forced one after the other on the way from here to there: each is the only one
+-- that leaves where it does, which is not there and was not met before
 abbrev pub AreForced : Problem → (Leg → Bool) → (there : ℕ) → (met : List ℕ) → (here : ℕ) → List Leg → Type 0
 AreForced p allowed there met here [] = Unit {0}
 AreForced p allowed there met here (c ∷ chain) =

@@ -17,7 +17,8 @@ pub record OneLeaves (allowed : Leg → Bool) (Leaves : Leg → Type 0) (c : Leg
   pub allowed_it : allowed c ≡ true
   pub leaves : Leaves c
 
--- no allowed class leaves so, or exactly one does, whose number and arc are given, or two or more do
+-- no allowed class leaves so, or exactly one does, whose number and arc are given, or two or more
+-- do
 abbrev pub Tells : TimedNetwork → (Leg → Bool) → (Leg → Type 0) → Leaving → Type 0
 Tells net allowed Leaves Nothing = (c : Leg) → OneLeaves allowed Leaves c → ⊥
 Tells net allowed Leaves (One class arc) =

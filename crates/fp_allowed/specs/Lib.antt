@@ -1,11 +1,14 @@
 pub mod Allowed
 pub mod Walks
+pub mod SamePoints
+pub mod InitialPoints
 pub mod Listing
 pub mod Settings
 pub mod Bits
 pub mod ForcedChains
 pub mod Chains
 pub mod Departures
+pub mod Slack
 pub mod Moments
 pub mod Leaving
 pub mod Choices

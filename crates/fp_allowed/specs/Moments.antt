@@ -32,7 +32,8 @@ concerns p k terminal side = nat_eq k (shipment_of side) && nat_eq terminal (ter
 abbrev pub concerned : Problem → ℕ → ℕ → List Side → List Side
 concerned p k terminal sides = filter (concerns p k terminal) sides
 
--- whether a side lets a leg by an arc leave at a moment, where the side restricts the departures from the arc's tail
+-- whether a side lets a leg by an arc leave at a moment, where the side restricts the departures
+-- from the arc's tail
 abbrev pub lets : ℕ → ℕ → Side → Bool
 lets arc m (Without shipment other) = not (nat_eq arc other)
 lets arc m (Only shipment other tail) = nat_eq arc other
@@ -52,12 +53,14 @@ abbrev pub is_open : Option Window → ℕ → Bool
 is_open None m = false
 is_open (Some w) m = nat_le w.lo m && nat_le m w.hi
 
--- whether a point is between the points of the first and the last moment of a window, if there is one
+-- whether a point is between the points of the first and the last moment of a window, if there is
+-- one
 abbrev pub is_between : List ℕ → Option Window → ℕ → Bool
 is_between points None q = false
 is_between points (Some w) q = nat_le (floor_point points 1 w.lo) q && nat_le q (floor_point points 1 w.hi)
 
--- for each terminal the sides that restrict the departures from it of the shipment with the number k
+-- for each terminal the sides that restrict the departures from it of the shipment with the number
+-- k
 pub record AreByTerminal (p : Problem) (k : ℕ) (sides : List Side) (lists : List (Vec Side Global)) : Type 0 where
   pub one_each : length lists ≡ length p.terminals
   pub exact : (terminal : ℕ) (d : Vec Side Global) → terminal < length lists → (slice_index_or lists terminal d).items ≡ concerned p k terminal sides

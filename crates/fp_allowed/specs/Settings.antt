@@ -3,7 +3,7 @@ use Rattle.fp_model.specs.Problem.{Problem}
 use Rattle.fp_flatnet.specs.Belonging.{BelongsTo}
 use Rattle.fp_flatnet.specs.Tables.{WindowTable}
 use Rattle.fp_longestarcs.specs.Networks.{TimedNetwork}
-use Rattle.fp_longestarcs.specs.Whole.{IsWhole}
+use Rattle.fp_longestarcs.specs.Whole.{IsWholeNetwork}
 
 -- an instance, windows and a network
 pub record Setting : Type 0 where
@@ -14,4 +14,4 @@ pub record Setting : Type 0 where
 -- the windows belong to the instance, and the network is whole for it
 pub record IsSetting (s : Setting) : Type 0 where
   pub belongs : BelongsTo s.problem s.windows
-  pub whole : IsWhole s.problem s.network
+  pub whole : IsWholeNetwork s.problem s.network

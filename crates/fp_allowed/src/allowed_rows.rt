@@ -1,3 +1,5 @@
+//! The row of a shipment under sides: the bits of its allowed classes, arc by arc.
+
 ghost use Rattle.std.specs.Prelude.{ℕ, ◌≡◌, ◌≤◌, ◌<◌, ◌&&◌, Some, List, [], IfOk, IfSome, length, nat_eq, slice_index_or};
 ghost use Rattle.std.specs.declared.alloc.Global.{Global};
 ghost use Rattle.std.specs.declared.vec.Vec.{Vec};
@@ -7,7 +9,7 @@ ghost use Rattle.fp_timenodes.specs.Floor.{floor_point};
 ghost use Rattle.fp_flatnet.specs.Belonging.{BelongsTo};
 ghost use Rattle.fp_flatnet.specs.Tables.{windows_in};
 ghost use Rattle.fp_longestarcs.specs.Networks.{IsNetwork, class_count, class_number, points_in, tail_in};
-ghost use Rattle.fp_longestarcs.specs.Whole.{IsWhole};
+ghost use Rattle.fp_longestarcs.specs.Whole.{IsWholeNetwork};
 ghost use Rattle.fp_tree.specs.declared.sides.Side.{Side};
 ghost use Rattle.fp_allowed.specs.Allowed.{exit_of, is_allowed, meets_all, tails_of};
 ghost use Rattle.fp_allowed.specs.Bits.{FillsArc, IsRowUnder};
@@ -16,7 +18,7 @@ ghost use Rattle.fp_allowed.specs.Moments.{AreByTerminal, all_let, concerned, is
 use crate::NoMemory;
 use crate::moments::{open_moments, shipment_of, terminal_of};
 use fp_flatnet::{Window, Windows};
-use fp_longestarcs::Network;
+use fp_longestarcs::{MOST_CLASSES, Network};
 use fp_model::Instance;
 use fp_rows::Row;
 use fp_tree::Side;
@@ -54,8 +56,8 @@ fn no_sides(alloc: Global, terminals: usize) -> Result<Vec<Vec<Side>>, NoMemory>
     Ok(lists)
 }
 
-// The moments at which a shipment can leave by an arc, where the sides are those that restrict its departures from the
-// arc's tail. They are consecutive.
+// The moments at which a shipment can leave by an arc, where the sides are those that restrict its
+// departures from the arc's tail. They are consecutive.
 fn open_window(windows: &Windows, shipment: u32, arc: u32, sides: &[Side]) -> Option<Window>
     requires shipment { shipment < length windows.now.rows }
     requires arc { arc < length windows.now.tails }
@@ -73,7 +75,7 @@ fn class_until(network: &Network, arc: u32, tail: u32, at: u32) -> u32
     requires arc { arc < length network.now.tails }
     requires tail { tail ≡ tail_in network.now arc }
     ensures number { result ≡ class_number network.now (record { arc = arc; depart = floor_point (points_in network.now tail) 1 at }) }
-    ensures below { result < 100001000 }
+    ensures below { result < MOST_CLASSES }
 {
     network.class(arc, network.floor(tail, at))
 }
@@ -92,8 +94,8 @@ fn fill_classes(network: &Network, arc: u32, tail: u32, window: Window, row: &mu
     row.fill_range(first, last + 1);
 }
 
-// Sets the bits of an arc's allowed classes, where the sides are those that restrict the shipment's departures from the
-// arc's tail.
+// Sets the bits of an arc's allowed classes, where the sides are those that restrict the shipment's
+// departures from the arc's tail.
 fn fill_arc(
     instance: &Instance,
     windows: &Windows,
@@ -106,7 +108,7 @@ fn fill_arc(
     requires shipment { shipment < length instance.now.shipments }
     requires arc { arc < length instance.now.arcs }
     requires belongs { BelongsTo instance.now windows.now }
-    requires whole { IsWhole instance.now network.now }
+    requires whole { IsWholeNetwork instance.now network.now }
     requires long { length row.old ≡ class_count network.now }
     ensures { (others : List Side) → sides.now ≡ concerned instance.now shipment (tails_of instance.now arc) others →
         FillsArc network.now arc (is_allowed instance.now (windows_in windows.now) (points_in network.now) others shipment) row.old row.new }
@@ -127,7 +129,7 @@ pub(crate) fn allowed_row(
 ) -> Result<Row, NoMemory>
     requires shipment { shipment < length instance.now.shipments }
     requires belongs { BelongsTo instance.now windows.now }
-    requires whole { IsWhole instance.now network.now }
+    requires whole { IsWholeNetwork instance.now network.now }
     ensures { IfOk result (λ row. IsRowUnder (record { problem = instance.now; windows = windows.now; network = network.now }) sides.now shipment row) }
 {
     let by_terminal = sides_by_terminal(alloc, instance, shipment, sides)?;

@@ -1,3 +1,5 @@
+//! A forced chain, and how it ends.
+
 use std::marker::Model;
 
 /// How a forced chain ends.
@@ -11,7 +13,8 @@ pub enum ChainEnd {
     Stuck { terminal: u32 },
 }
 
-/// The forced chain of a shipment: the numbers of its classes, in order from the origin on, and how it ends.
+/// The forced chain of a shipment: the numbers of its classes, in order from the origin on, and how
+/// it ends.
 ///
 /// Contracts see the list of the numbers and the end.
 #[derive(Drop)]

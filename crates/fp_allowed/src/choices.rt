@@ -1,11 +1,14 @@
-ghost use Rattle.std.specs.Prelude.{ℕ, ◌≡◌, ◌<◌, ◌≤◌, ◌≢◌, true, false, IfSome, IsNone, MatchBool, MatchOption, length};
+//! The split of a shipment at a terminal that parts the allowed classes that leave it.
+
+ghost use Rattle.std.specs.Prelude.{ℕ, ◌≡◌, ◌<◌, ◌≤◌, true, false, IfSome, MatchBool, MatchOption, length};
 ghost use Rattle.fp_model.specs.declared.parts.Leg.{Leg};
 ghost use Rattle.fp_flatnet.specs.Belonging.{BelongsTo};
+ghost use Rattle.fp_flatnet.specs.Tables.{windows_in};
 ghost use Rattle.fp_longestarcs.specs.Networks.{IsNetwork, class_count, tail_in};
-ghost use Rattle.fp_longestarcs.specs.Whole.{IsWhole};
+ghost use Rattle.fp_longestarcs.specs.Whole.{IsWholeNetwork};
 ghost use Rattle.fp_allowed.specs.Allowed.{tails_of};
 ghost use Rattle.fp_allowed.specs.Bits.{bit_of, row_allows};
-ghost use Rattle.fp_allowed.specs.Choices.{IsBetter, IsParted, OneAtMost, PartsClasses, Picks};
+ghost use Rattle.fp_allowed.specs.Choices.{IsBetter, IsMiddle, IsParted, IsTaken, OneAtMost, PartsClasses, Picks, last_moment as last_moment_of};
 ghost use Rattle.fp_allowed.specs.Leaving.{OneLeaves};
 
 use crate::exits::{class_range, first_set};
@@ -15,7 +18,8 @@ use fp_model::Instance;
 use fp_rows::Row;
 use fp_tree::Split;
 
-/// An arc with allowed classes, and whether it is the only one that leaves its terminal and has some.
+/// An arc with allowed classes, and whether it is the only one that leaves its terminal and has
+/// some.
 #[derive(Clone, Copy)]
 pub struct Pick {
     pub arc: u32,
@@ -26,6 +30,7 @@ pub struct Pick {
 fn last_moment(windows: &Windows, shipment: u32, arc: u32) -> u32
     requires shipment { shipment < length windows.now.rows }
     requires arc { arc < length windows.now.tails }
+    ensures { result ≡ last_moment_of (windows_in windows.now) shipment arc }
 {
     match windows.window(shipment, arc) {
         Some((_, last)) => last,
@@ -38,7 +43,7 @@ fn better(windows: &Windows, shipment: u32, found: Option<Pick>, arc: u32) -> Pi
     requires shipment { shipment < length windows.now.rows }
     requires arc { arc < length windows.now.tails }
     requires found { IfSome found (λ old. old.arc < length windows.now.tails) }
-    ensures { IsBetter found arc result }
+    ensures { IsBetter (last_moment_of (windows_in windows.now) shipment) found arc result }
 {
     match found {
         None => Pick { arc, alone: true },
@@ -77,9 +82,9 @@ fn picked_arc(
 ) -> Option<Pick>
     requires shipment { shipment < length instance.now.shipments }
     requires belongs { BelongsTo instance.now windows.now }
-    requires whole { IsWhole instance.now network.now }
+    requires whole { IsWholeNetwork instance.now network.now }
     requires long { length row.now ≡ class_count network.now }
-    ensures { Picks (row_allows network.now row.now) (λ c. tails_of instance.now c.arc ≡ terminal) result }
+    ensures { Picks (last_moment_of (windows_in windows.now) shipment) (row_allows network.now row.now) (λ c. tails_of instance.now c.arc ≡ terminal) result }
 {
     let mut found = None;
     for arc in 0..instance.arcs().len() as u32 {
@@ -98,6 +103,7 @@ fn last_set(row: &Row, first: u32, to: u32) -> u32
     ensures from { first ≤ result }
     ensures to { result < to }
     ensures set { bit_of row.now result ≡ true }
+    ensures none { (n : ℕ) → result < n → n < to → bit_of row.now n ≡ false }
 {
     let mut last = first;
     for place in first + 1..to {
@@ -114,8 +120,9 @@ fn middle_point(network: &Network, arc: u32, tail: u32, row: &Row) -> Option<u32
     requires arc { arc < length network.now.tails }
     requires tail { tail ≡ tail_in network.now arc }
     requires long { length row.now ≡ class_count network.now }
-    ensures { MatchOption result (OneAtMost (row_allows network.now row.now) (λ c. c.arc ≡ arc))
+    ensures parted { MatchOption result (OneAtMost (row_allows network.now row.now) (λ c. c.arc ≡ arc))
         (IsParted (row_allows network.now row.now) (λ c. c.arc ≡ arc)) }
+    ensures middle { IfSome result (IsMiddle network.now (row_allows network.now row.now) arc) }
 {
     let (start, end) = class_range(network, arc, tail);
     let first = first_set(row, start, end)?;
@@ -125,7 +132,9 @@ fn middle_point(network: &Network, arc: u32, tail: u32, row: &Row) -> Option<u32
     Some(network.points(tail)[(middle - start) as usize])
 }
 
-// A split of a shipment at a terminal that parts the allowed classes that leave it, where there are two or more.
+#[tactic(auto, using(crate::proofs::ArcPicks::taken_by_arc, crate::proofs::ArcPicks::taken_by_time))]
+// A split of a shipment at a terminal that parts the allowed classes that leave it, where there are
+// two or more.
 pub(crate) fn parting_split(
     instance: &Instance,
     windows: &Windows,
@@ -136,10 +145,11 @@ pub(crate) fn parting_split(
 ) -> Option<Split>
     requires shipment { shipment < length instance.now.shipments }
     requires belongs { BelongsTo instance.now windows.now }
-    requires whole { IsWhole instance.now network.now }
+    requires whole { IsWholeNetwork instance.now network.now }
     requires long { length row.now ≡ class_count network.now }
-    ensures { MatchOption result (OneAtMost (row_allows network.now row.now) (λ c. tails_of instance.now c.arc ≡ terminal))
+    ensures parts { MatchOption result (OneAtMost (row_allows network.now row.now) (λ c. tails_of instance.now c.arc ≡ terminal))
         (PartsClasses instance.now (row_allows network.now row.now) shipment terminal) }
+    ensures taken { IfSome result (IsTaken instance.now (windows_in windows.now) network.now (row_allows network.now row.now) shipment terminal) }
 {
     let pick = picked_arc(instance, windows, network, shipment, row, terminal)?;
     if !pick.alone {

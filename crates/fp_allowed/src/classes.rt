@@ -1,14 +1,16 @@
+//! What may be asked of an instance, its windows and a network: rows, forced chains and splits.
+
 ghost use Rattle.std.specs.Prelude.{◌≡◌, ◌<◌, List, IfOk, IfSome, IsNone, IsSome, length};
 ghost use Rattle.fp_model.specs.Numbered.{shipment_at};
 ghost use Rattle.fp_flatnet.specs.Belonging.{BelongsTo};
 ghost use Rattle.fp_flatnet.specs.Tables.{windows_in};
 ghost use Rattle.fp_longestarcs.specs.Networks.{class_count};
-ghost use Rattle.fp_longestarcs.specs.Whole.{IsWhole};
+ghost use Rattle.fp_longestarcs.specs.Whole.{IsWholeNetwork};
 ghost use Rattle.fp_tree.specs.declared.sides.Side.{Side};
 ghost use Rattle.fp_allowed.specs.Allowed.{tails_of};
 ghost use Rattle.fp_allowed.specs.Bits.{AllowsPlans, IsRowUnder, allowed_in};
 ghost use Rattle.fp_allowed.specs.Chains.{IsForced, SeveralLeave};
-ghost use Rattle.fp_allowed.specs.Choices.{OneAtMost};
+ghost use Rattle.fp_allowed.specs.Choices.{IsTaken, OneAtMost};
 ghost use Rattle.fp_allowed.specs.Departures.{DividesDepartures, IsSplitAt};
 ghost use Rattle.fp_allowed.specs.Settings.{IsSetting};
 
@@ -25,10 +27,11 @@ use fp_tree::{Side, Split};
 use std::alloc::Global;
 use std::marker::Model;
 
-/// An instance, windows that belong to it, and a network that is whole for it: they decide which classes a shipment may
-/// use under sides.
+/// An instance, windows that belong to it, and a network that is whole for it: they decide which
+/// classes a shipment may use under sides.
 ///
-/// Contracts see the three as one record. A row has one bit per class of the network, at the class's number.
+/// Contracts see the three as one record. A row has one bit per class of the network, at the
+/// class's number.
 #[derive(Drop)]
 pub struct Allowed<'a> {
     instance: &'a Instance,
@@ -50,7 +53,7 @@ impl<'a> Allowed<'a> {
     /// The three together. Takes no memory.
     pub fn new(instance: &'a Instance, windows: &'a Windows, network: &'a Network) -> Allowed<'a>
         requires belongs { BelongsTo instance.now windows.now }
-        requires whole { IsWhole instance.now network.now }
+        requires whole { IsWholeNetwork instance.now network.now }
         ensures { result ≡ record { problem = instance.now; windows = windows.now; network = network.now } }
     {
         Allowed {
@@ -60,12 +63,13 @@ impl<'a> Allowed<'a> {
         }
     }
 
-    /// The row of a shipment under sides: one bit per class, set exactly where the class has a whole moment inside the
-    /// shipment's window for the arc that no side forbids. The sides of other shipments ask nothing of it.
+    /// The row of a shipment under sides: one bit per class, set exactly where the class has a
+    /// whole moment inside the shipment's window for the arc that no side forbids. The sides of
+    /// other shipments ask nothing of it.
     ///
-    /// So for every plan over any denominator that lies within the windows and obeys the sides, the classes of the
-    /// shipment's legs are set, and each stands at or after the head of the one before. `NoMemory` where memory is
-    /// wanting.
+    /// So for every plan over any denominator that lies within the windows and obeys the sides, the
+    /// classes of the shipment's legs are set, and each stands at or after the head of the one
+    /// before. `NoMemory` only where no memory is found.
     pub fn row(&self, alloc: Global, shipment: u32, sides: &[Side]) -> Result<Row, NoMemory>
         requires { shipment < length self.now.problem.shipments }
         ensures exact { IfOk result (IsRowUnder self.now sides.now shipment) }
@@ -83,9 +87,10 @@ impl<'a> Allowed<'a> {
 
     /// The forced chain of a shipment under a row of its, and how it ends.
     ///
-    /// From the origin, while the terminal isn't the destination, wasn't met before and has exactly one allowed class,
-    /// that class is taken and followed to its arc's head. `row` has one bit per class; the promise is for each list of
-    /// sides under which it is the shipment's row. `NoMemory` where memory is wanting.
+    /// From the origin, while the terminal isn't the destination, wasn't met before and has exactly
+    /// one allowed class, that class is taken and followed to its arc's head. `row` has one bit per
+    /// class; the promise is for each list of sides under which it is the shipment's row. A
+    /// terminal that the end names exists. `NoMemory` only where no memory is found.
     pub fn forced(&self, alloc: Global, shipment: u32, row: &Row) -> Result<Chain, NoMemory>
         requires shipment { shipment < length self.now.problem.shipments }
         requires row { length row.now ≡ class_count self.now.network }
@@ -95,13 +100,15 @@ impl<'a> Allowed<'a> {
         forced_chain(alloc, self.instance, self.network, shipment, row)
     }
 
-    /// A split of a shipment at a terminal, under a row of its, that leaves something on both sides. `None` exactly where
-    /// fewer than two allowed classes leave the terminal.
+    /// A split of a shipment at a terminal, under a row of its, that leaves something on both
+    /// sides. `None` exactly where fewer than two allowed classes leave the terminal.
     ///
-    /// Where several arcs with allowed classes leave the terminal, it is by the arc whose window ends last, the least
-    /// number at a tie. Where one does, it is by the point of the middle one of its allowed classes. `row` has one bit
-    /// per class. For each list of sides under which it is the shipment's row, each side of the split, added to that
-    /// list, leaves the shipment some departures at the terminal, and together they leave those that the list alone
+    /// Where several arcs with allowed classes leave the terminal, it is by the arc whose window
+    /// ends last, the least number at a tie. Where one does, it is by the point of the middle one
+    /// of its allowed classes: of those from the half of the least and the greatest of their
+    /// numbers on, rounded up, the first. `row` has one bit per class. For each list of sides under
+    /// which it is the shipment's row, each side of the split, added to that list, leaves the
+    /// shipment some departures at the terminal, and together they leave those that the list alone
     /// leaves. Takes no memory.
     pub fn choice(&self, shipment: u32, row: &Row, terminal: u32) -> Option<Split>
         requires shipment { shipment < length self.now.problem.shipments }
@@ -113,6 +120,8 @@ impl<'a> Allowed<'a> {
         ensures at { IfSome result (IsSplitAt self.now.problem shipment terminal) }
         ensures divides { (sides : List Side) → IsRowUnder self.now sides shipment row.now →
             IfSome result (DividesDepartures self.now.problem (windows_in self.now.windows) sides shipment terminal) }
+        ensures taken { (sides : List Side) → IsRowUnder self.now sides shipment row.now →
+            IfSome result (IsTaken self.now.problem (windows_in self.now.windows) self.now.network (allowed_in self.now sides shipment) shipment terminal) }
     {
         parting_split(
             self.instance,

@@ -1,27 +1,30 @@
+//! How many departures a shipment has left at a terminal under sides.
+
 ghost use Rattle.std.specs.Prelude.{ℕ, ◌≡◌, ◌+◌, ◌<◌, ◌≤◌, ◌&&◌, not, Some, List, IfOk, IfSome, length, nat_le};
 ghost use Rattle.fp_model.specs.Problem.{Problem};
 ghost use Rattle.fp_flatnet.specs.Belonging.{BelongsTo};
 ghost use Rattle.fp_flatnet.specs.Tables.{windows_in};
 ghost use Rattle.fp_tree.specs.declared.sides.Side.{Side};
 ghost use Rattle.fp_allowed.specs.Allowed.{tails_of};
-ghost use Rattle.fp_allowed.specs.Departures.{count_below, departures_in, departures_left};
+ghost use Rattle.fp_allowed.specs.Departures.{departures_in, departures_left};
+ghost use Rattle.fp_lists.specs.Below.{count_below};
 ghost use Rattle.fp_allowed.specs.Moments.{all_let, concerned as concerned_of, in_range, lets};
 
 use crate::NoMemory;
 use crate::moments::concerned;
 use fp_flatnet::{Window, Windows};
 use fp_model::Instance;
+use fp_model::limits::LATEST;
 use fp_rows::Row;
-use fp_timenodes::LATEST;
 use fp_tree::Side;
 use std::alloc::Global;
 
 // How many whole moments there are, from 0 to the latest one.
 const MOMENTS: u32 = LATEST + 1;
 
-/// The number of departures that a shipment has left at a terminal under sides: of the pairs of an arc that leaves the
-/// terminal and a whole moment in the shipment's window for the arc that no side forbids, at most 100,001,000.
-/// `NoMemory` where memory is wanting.
+/// The number of departures that a shipment has left at a terminal under sides: of the pairs of an
+/// arc that leaves the terminal and a whole moment in the shipment's window for the arc that no
+/// side forbids, at most 100,001,000. `NoMemory` only where no memory is found.
 pub fn departures(
     alloc: Global,
     instance: &Instance,
@@ -45,8 +48,8 @@ pub fn departures(
     Ok(total)
 }
 
-// The departures by one arc, where the sides are those that restrict the shipment's departures from the arc's tail. What
-// the row holds before is free.
+// The departures by one arc, where the sides are those that restrict the shipment's departures from
+// the arc's tail. What the row holds before is free.
 fn departures_by(
     windows: &Windows,
     shipment: u32,

@@ -1,3 +1,5 @@
+//! The allowed classes that leave by an arc, or leave a terminal.
+
 ghost use Rattle.std.specs.Prelude.{ℕ, ◌≡◌, ◌+◌, ◌<◌, ◌≤◌, ◌⊎◌, length};
 ghost use Rattle.fp_model.specs.declared.parts.Leg.{Leg};
 ghost use Rattle.fp_longestarcs.specs.Networks.{IsNetwork, class_count, first_class, points_in, tail_in};
@@ -6,7 +8,7 @@ ghost use Rattle.fp_allowed.specs.Allowed.{tails_of};
 ghost use Rattle.fp_allowed.specs.Bits.{row_allows};
 ghost use Rattle.fp_allowed.specs.Leaving.{IsFirstSet, IsRange, Tells, joined_of};
 
-use fp_longestarcs::Network;
+use fp_longestarcs::{MOST_CLASSES, Network};
 use fp_model::Instance;
 use fp_rows::Row;
 
@@ -36,7 +38,7 @@ pub(crate) fn class_range(network: &Network, arc: u32, tail: u32) -> (u32, u32)
     requires arc { arc < length network.now.tails }
     requires tail { tail ≡ tail_in network.now arc }
     ensures range { IsRange network.now arc result.0 result.1 }
-    ensures few { result.1 ≤ 100001000 }
+    ensures few { result.1 ≤ MOST_CLASSES }
 {
     let first = network.class(arc, 0);
     (first, first + network.points(tail).len() as u32)

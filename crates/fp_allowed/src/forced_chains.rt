@@ -1,7 +1,9 @@
+//! The forced chain of a shipment, class by class.
+
 ghost use Rattle.std.specs.Prelude.{ℕ, ◌≡◌, ◌<◌, IfOk, length};
 ghost use Rattle.fp_model.specs.Numbered.{shipment_at};
 ghost use Rattle.fp_longestarcs.specs.Networks.{class_count};
-ghost use Rattle.fp_longestarcs.specs.Whole.{IsWhole};
+ghost use Rattle.fp_longestarcs.specs.Whole.{IsWholeNetwork};
 ghost use Rattle.fp_allowed.specs.Bits.{row_allows};
 ghost use Rattle.fp_allowed.specs.Chains.{IsForced};
 
@@ -22,7 +24,7 @@ pub(crate) fn forced_chain(
     row: &Row,
 ) -> Result<Chain, NoMemory>
     requires shipment { shipment < length instance.now.shipments }
-    requires whole { IsWhole instance.now network.now }
+    requires whole { IsWholeNetwork instance.now network.now }
     requires long { length row.now ≡ class_count network.now }
     ensures { IfOk result (IsForced instance.now network.now (row_allows network.now row.now) (shipment_at instance.now shipment)) }
 {

@@ -1,3 +1,5 @@
+//! The moments at which a leg by an arc can leave under sides.
+
 ghost use Rattle.std.specs.Prelude.{ℕ, ◌≡◌, ◌≤◌, ◌<◌, ◌&&◌, Some, List, IfOk, IfSome, length, nat_le, nat_lt, slice_index_or};
 ghost use Rattle.std.specs.declared.alloc.Global.{Global};
 ghost use Rattle.std.specs.declared.vec.Vec.{Vec};
@@ -103,7 +105,7 @@ fn from(window: Window, at: u32) -> Option<Window>
     })
 }
 
-#[tactic(auto, using(crate::proofs::Narrowing::narrow_step))]
+#[tactic(auto, using(crate::proofs::OpenMoments::narrow_step))]
 // The moments of a window at which all sides let a leg by the arc leave. They are consecutive.
 pub(crate) fn open_moments(window: Window, arc: u32, sides: &[Side]) -> Option<Window>
     requires { window.lo ≤ window.hi }

@@ -1,3 +1,3 @@
 pub mod OneTable
 pub mod Verdicts
-pub mod Ends
+pub mod StatusCauses

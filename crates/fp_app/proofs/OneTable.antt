@@ -2,35 +2,21 @@
 use Rattle.std.proofs.Common.{◌≡◌, ℕ, zero, suc, ◌+◌, ◌<◌, List, [], ◌∷◌, length, refl, sym, ap, ◌∙◌, subst, arith, rules}
 use Rattle.std.specs.Prelude.{Option, Some, None, All, slice_index_or}
 use Rattle.std.proofs.lemmas.List.{ext_get_or}
+use Rattle.fp_lists.proofs.Numbered.{AllFrom-get_or_zero}
 use Rattle.fp_model.specs.declared.parts.Shipment.{Shipment}
-use Rattle.fp_model.specs.Numbered.{AllFrom, no_shipment, shipment_at}
+use Rattle.fp_model.specs.Numbered.{no_shipment, shipment_at}
+use Rattle.fp_lists.specs.Numbered.{AllFrom}
 use Rattle.fp_model.specs.Problem.{Problem, arc_at}
 use Rattle.fp_flatnet.specs.declared.window_tables.Window.{Window}
 use Rattle.fp_flatnet.specs.Belonging.{BelongsTo}
 use Rattle.fp_flatnet.specs.Tables.{WindowTable, windows_in}
 use Rattle.fp_flatnet.specs.Windows.{IsWindow, IsWindowOrNone, time_after, time_before}
-use Rattle.fp_flatnet.proofs.Walks.{IsLeastTime-unique}
+use Rattle.fp_flatnet.proofs.LeastWalks.{IsLeastTime-unique}
 use Rattle.fp_app.specs.Checks.{AreWindowsOf}
 
--- what holds of all elements and their numbers holds at a number
-all-from : {X : Type 0} (P : ℕ → X → Type 0) (xs : List X) (d : X) (i k : ℕ) → AllFrom P i xs → k < length xs → P (i + k) (slice_index_or xs k d)
-all-from P [] d i k all lt = absurd (omega (arith, lt))
-all-from {X} P (x ∷ xs) d i zero all lt =
-    let same : i ≡ i + 0 = omega arith in
-    subst (λ (n : ℕ). P n x) same all.0
-all-from {X} P (x ∷ xs) d i (suc k) all lt =
-    let there : P (i + 1 + k) (slice_index_or xs k d) = all-from P xs d (i + 1) k all.1 (omega (arith, lt)) in
-    let on : i + 1 + k ≡ i + suc k = omega arith in
-    subst (λ (n : ℕ). P n (slice_index_or xs k d)) on there
-
-all-at : {X : Type 0} (P : ℕ → X → Type 0) (xs : List X) (d : X) (k : ℕ) → AllFrom P 0 xs → k < length xs → P k (slice_index_or xs k d)
-all-at {X} P xs d k all lt =
-    let same : 0 + k ≡ k = omega arith in
-    subst (λ (n : ℕ). P n (slice_index_or xs k d)) same (all-from P xs d 0 k all lt)
-
 -- a shipment and an arc have one window
-window-unique : (p : Problem) (s : Shipment) (a : ℕ) (v w : Window) → IsWindow p s a v → IsWindow p s a w → v ≡ w
-window-unique p s a v w one two =
+IsWindow_unique : (p : Problem) (s : Shipment) (a : ℕ) (v w : Window) → IsWindow p s a v → IsWindow p s a w → v ≡ w
+IsWindow_unique p s a v w one two =
     let before : one.before ≡ two.before = IsLeastTime-unique p s.from (arc_at p a).from one.before two.before one.to_tail two.to_tail in
     let after : one.after ≡ two.after = IsLeastTime-unique p (arc_at p a).to s.to one.after two.after one.from_head two.from_head in
     let begins : time_before p s a one.before ≡ time_before p s a two.before = ap (time_before p s a) before in
@@ -46,37 +32,37 @@ window-unique p s a v w one two =
     same-parts v w lo hi = ap (λ (n : ℕ). record { lo = n; hi = v.hi }) lo ∙ ap (λ (n : ℕ). record { lo = w.lo; hi = n }) hi
 
 -- or none
-option-unique : (p : Problem) (s : Shipment) (a : ℕ) (o q : Option Window) → IsWindowOrNone p s a o → IsWindowOrNone p s a q → o ≡ q
-option-unique p s a None None one two = refl
-option-unique p s a None (Some w) one two = absurd (one w two)
-option-unique p s a (Some v) None one two = absurd (two v one)
-option-unique p s a (Some v) (Some w) one two = ap Some (window-unique p s a v w one two)
+IsWindowOrNone_unique : (p : Problem) (s : Shipment) (a : ℕ) (o q : Option Window) → IsWindowOrNone p s a o → IsWindowOrNone p s a q → o ≡ q
+IsWindowOrNone_unique p s a None None one two = refl
+IsWindowOrNone_unique p s a None (Some w) one two = absurd (one w two)
+IsWindowOrNone_unique p s a (Some v) None one two = absurd (two v one)
+IsWindowOrNone_unique p s a (Some v) (Some w) one two = ap Some (IsWindow_unique p s a v w one two)
 
 -- two tables have the same entry for a shipment and an arc
-entry-same : (p : Problem) (one two : WindowTable) → AreWindowsOf p one → AreWindowsOf p two → (k a : ℕ) → k < length p.shipments → a < length p.arcs →
+windows_in_same : (p : Problem) (one two : WindowTable) → AreWindowsOf p one → AreWindowsOf p two → (k a : ℕ) → k < length p.shipments → a < length p.arcs →
     windows_in one k a ≡ windows_in two k a
-entry-same p one two first second k a ship arc =
-    option-unique p (shipment_at p k) a (windows_in one k a) (windows_in two k a)
-    (all-at (λ (k : ℕ) (s : Shipment). (a : ℕ) → a < length p.arcs → IsWindowOrNone p s a (windows_in one k a)) p.shipments no_shipment k first.exact ship a arc)
-    (all-at (λ (k : ℕ) (s : Shipment). (a : ℕ) → a < length p.arcs → IsWindowOrNone p s a (windows_in two k a)) p.shipments no_shipment k second.exact ship a arc)
+windows_in_same p one two first second k a ship arc =
+    IsWindowOrNone_unique p (shipment_at p k) a (windows_in one k a) (windows_in two k a)
+    (AllFrom-get_or_zero (λ (k : ℕ) (s : Shipment). (a : ℕ) → a < length p.arcs → IsWindowOrNone p s a (windows_in one k a)) p.shipments no_shipment k first.exact ship a arc)
+    (AllFrom-get_or_zero (λ (k : ℕ) (s : Shipment). (a : ℕ) → a < length p.arcs → IsWindowOrNone p s a (windows_in two k a)) p.shipments no_shipment k second.exact ship a arc)
 
 -- the row of a shipment is as long as there are arcs
-row-long : (p : Problem) (table : WindowTable) → BelongsTo p table → (k : ℕ) → k < length p.shipments → length (slice_index_or table.rows k []) ≡ length p.arcs
-row-long p table belongs k ship = long table.rows k belongs.arcs (omega (arith, ship, belongs.shipments))
+length-row : (p : Problem) (table : WindowTable) → BelongsTo p table → (k : ℕ) → k < length p.shipments → length (slice_index_or table.rows k []) ≡ length p.arcs
+length-row p table belongs k ship = long table.rows k belongs.arcs (omega (arith, ship, belongs.shipments))
   where
     long : (rows : List (List (Option Window))) (k : ℕ) → All (λ row. length row ≡ length p.arcs) rows → k < length rows → length (slice_index_or rows k []) ≡ length p.arcs
     long rows k all lt = search rules
 
 -- so the tables are one
-pub windows-one : (p : Problem) (one two : WindowTable) → AreWindowsOf p one → AreWindowsOf p two → one ≡ two
-windows-one p one two first second =
+pub AreWindowsOf_unique : (p : Problem) (one two : WindowTable) → AreWindowsOf p one → AreWindowsOf p two → one ≡ two
+AreWindowsOf_unique p one two first second =
     let long : length one.rows ≡ length two.rows = omega (arith, first.belongs.shipments, second.belongs.shipments) in
     let rows : one.rows ≡ two.rows = ext_get_or [] one.rows two.rows long (λ k lt.
     let ship : k < length p.shipments = omega (arith, lt, first.belongs.shipments) in
     ext_get_or None (slice_index_or one.rows k []) (slice_index_or two.rows k [])
-    (row-long p one first.belongs k ship ∙ sym (row-long p two second.belongs k ship))
-    (λ a at. entry-same p one two first second k a ship (omega (arith, at, row-long p one first.belongs k ship)))) in
-    same-table one two (first.belongs.tails ∙ sym second.belongs.tails) rows (first.bare ∙ sym second.bare)
+    (length-row p one first.belongs k ship ∙ sym (length-row p two second.belongs k ship))
+    (λ a at. windows_in_same p one two first second k a ship (omega (arith, at, length-row p one first.belongs k ship)))) in
+    same-table one two (first.belongs.tails ∙ sym second.belongs.tails) rows (first.unanchored ∙ sym second.unanchored)
   where
     same-table : (one two : WindowTable) → one.tails ≡ two.tails → one.rows ≡ two.rows → one.anchors ≡ two.anchors → one ≡ two
     same-table one two tails rows anchors =

@@ -3,7 +3,7 @@ use Rattle.std.specs.Prelude.{◌≡◌, ◌⊎◌, ℕ, List, length, nat_lt, M
 use Rattle.fp_model.specs.declared.parts.Leg.{Leg}
 use Rattle.fp_model.specs.Plans.{IsPlan, PlanExists}
 use Rattle.fp_model.specs.Problem.{Problem}
-use Rattle.fp_reader.specs.Input.{Fault}
+use Rattle.fp_fields.specs.Faults.{Fault}
 use Rattle.fp_flatnet.specs.Directs.{IsDirectPlan}
 use Rattle.fp_flatnet.specs.Verdicts.{IsBlocked}
 use Rattle.fp_lines.specs.Statements.{Statement}
@@ -15,46 +15,48 @@ use Rattle.fp_app.specs.declared.shown.Shown.TheVariants as shown
 use Rattle.fp_app.specs.declared.shown.Status.{Status}
 use Rattle.fp_app.specs.declared.shown.Status.TheVariants as status
 use Rattle.fp_app.specs.Checks.{IsAcceptedFor, ShowsAccepted, ShowsRejected, scaled}
-use Rattle.fp_app.specs.Inputs.{certificate_in, check_limit, direct_limit, fault_in, given, given_before}
+use Rattle.fp_app.specs.Inputs.{certificate_in, fault_in, instance_in, leading_instance_in}
+use Rattle.fp_app.specs.declared.limits.TheConstants.{CHECK_LIMIT, DIRECT_LIMIT}
 
 -- The input gives an instance, and what is shown is its direct plan.
 pub record ShowsPlan (input : List ℕ) (result : Shown) : Type 0 where
   pub instance : Problem
   pub routes : List (List Leg)
-  pub read : given input ≡ Ok instance
+  pub read : instance_in input ≡ Ok instance
   pub shows : result ≡ shown.Direct instance routes
   pub plan : IsPlan instance 1 routes
   pub direct : IsDirectPlan instance routes
 
--- The input gives an instance of which no plan exists over any denominator, and what is shown is the first shipment
--- that can't be carried in time, with its fastest time.
+-- The input gives an instance of which no plan exists over any denominator, and what is shown is
+-- the first shipment that can't be carried in time, with its fastest time.
 pub record ShowsNone (input : List ℕ) (result : Shown) : Type 0 where
   pub instance : Problem
   pub shipment : ℕ
   pub time : Option ℕ
-  pub read : given input ≡ Ok instance
+  pub read : instance_in input ≡ Ok instance
   pub shows : result ≡ shown.Infeasible instance shipment time
   pub blocked : IsBlocked instance shipment time
   pub none : PlanExists instance → ⊥
 
--- The input gives an instance and a certificate, which is accepted for the instance at the certificate's scale. So what the
--- certificate claims of all plans, over every denominator, is true.
+-- The input gives an instance and a certificate, which is accepted for the instance at the
+-- certificate's scale. So what the certificate claims of all plans, over every denominator, is
+-- true.
 pub record ShowsYes (input : List ℕ) (result : Shown) : Type 0 where
   pub instance : Problem
   pub certificate : Statement
   pub kind : AnswerKind
-  pub read : given_before input ≡ Ok instance
+  pub read : leading_instance_in input ≡ Ok instance
   pub certified : certificate_in instance input ≡ Ok certificate
   pub shows : result ≡ shown.Accepted kind
   pub accepted : ShowsAccepted (scaled instance certificate) certificate kind
 
--- The input gives an instance and a certificate, which isn't accepted for the instance at the certificate's scale, and what is
--- shown is the first part that fails.
+-- The input gives an instance and a certificate, which isn't accepted for the instance at the
+-- certificate's scale, and what is shown is the first part that fails.
 pub record ShowsNo (input : List ℕ) (result : Shown) : Type 0 where
   pub instance : Problem
   pub certificate : Statement
   pub number : ℕ
-  pub read : given_before input ≡ Ok instance
+  pub read : leading_instance_in input ≡ Ok instance
   pub certified : certificate_in instance input ≡ Ok certificate
   pub shows : result ≡ shown.RejectedPart number
   pub rejected : ShowsRejected (scaled instance certificate) certificate number
@@ -75,7 +77,8 @@ ShowsDone (Some order.Check) input result = ShowsYes input result
 abbrev pub DirectStatus : Problem → Status → Type 0
 DirectStatus p result = ((result ≡ status.Done) × PlanExists p) ⊎ ((result ≡ status.Infeasible) × (PlanExists p → ⊥))
 
--- the status of `check` for an instance and a certificate: done where it is accepted, and rejected where it isn't
+-- the status of `check` for an instance and a certificate: done where it is accepted, and rejected
+-- where it isn't
 abbrev pub CheckStatus : Problem → Statement → Status → Type 0
 CheckStatus p c result = ((result ≡ status.Done) × IsAcceptedFor p c) ⊎ ((result ≡ status.Rejected) × (IsAcceptedFor p c → ⊥))
 
@@ -83,10 +86,10 @@ CheckStatus p c result = ((result ≡ status.Done) × IsAcceptedFor p c) ⊎ ((r
 abbrev pub StatusOf : Option Order → List ℕ → Status → Type 0
 StatusOf None input result = result ≡ status.BadWords
 StatusOf (Some order.Direct) input result =
-    MatchBool (nat_lt direct_limit (length input)) (result ≡ status.TooLong)
-    (MatchResult (given input) (λ p. DirectStatus p result) (λ f. result ≡ status.BadInput))
+    MatchBool (nat_lt DIRECT_LIMIT (length input)) (result ≡ status.TooLong)
+    (MatchResult (instance_in input) (λ p. DirectStatus p result) (λ f. result ≡ status.BadInput))
 StatusOf (Some order.Check) input result =
-    MatchBool (nat_lt check_limit (length input)) (result ≡ status.TooLong)
-    (MatchResult (given_before input)
+    MatchBool (nat_lt CHECK_LIMIT (length input)) (result ≡ status.TooLong)
+    (MatchResult (leading_instance_in input)
     (λ p. MatchResult (certificate_in p input) (λ c. CheckStatus (scaled p c) c result) (λ f. result ≡ status.BadInput))
     (λ f. result ≡ status.BadInput))

@@ -1,5 +1,6 @@
 -- What `check` shows.
 use Rattle.std.specs.Prelude.{ℕ, ◌≡◌, [], Option, Some, None}
+use Rattle.fp_model.specs.declared.limits.TheConstants.{SCALE}
 use Rattle.fp_model.specs.Problem.{Problem}
 use Rattle.fp_flatnet.specs.Belonging.{BelongsTo}
 use Rattle.fp_flatnet.specs.Tables.{WindowTable, windows_in}
@@ -7,23 +8,24 @@ use Rattle.fp_flatnet.specs.Windows.{AreWindows}
 use Rattle.fp_lines.specs.declared.certificates.Answer.{Answer}
 use Rattle.fp_lines.specs.declared.certificates.Answer.TheVariants as answer
 use Rattle.fp_lines.specs.Statements.{Statement}
-use Rattle.fp_checker.specs.Accepted.{IsAccepted, IsFirstFailed}
-use Rattle.fp_checker.specs.Claims.{Claims}
+use Rattle.fp_acceptance.specs.Accepted.{IsAccepted}
+use Rattle.fp_checker.specs.Rejections.{IsFirstFailed}
+use Rattle.fp_acceptance.specs.Claims.{Claims}
 use Rattle.fp_app.specs.declared.shown.AnswerKind.{AnswerKind}
 use Rattle.fp_app.specs.declared.shown.AnswerKind.TheVariants as kind
 use Rattle.fp_app.specs.declared.shown.Shown.{Shown}
 use Rattle.fp_app.specs.declared.shown.Shown.TheVariants as shown
 
 -- the kind of an answer
-abbrev pub kind_of : Answer → AnswerKind
-kind_of (answer.Direct cost) = kind.Direct
-kind_of (answer.Optimal cost) = kind.Optimal
-kind_of (answer.Unfinished cost bound spent) = kind.Unfinished
-kind_of (answer.Infeasible shipment time) = kind.Infeasible
+abbrev pub answer_kind : Answer → AnswerKind
+answer_kind (answer.Direct cost) = kind.Direct
+answer_kind (answer.Optimal cost) = kind.Optimal
+answer_kind (answer.Unfinished cost bound spent) = kind.Unfinished
+answer_kind (answer.Infeasible shipment time) = kind.Infeasible
 
--- the scale that a certificate names, and 1,000,000 where it names none
+-- the scale that a certificate names, and the usual one where it names none
 abbrev pub scale_of : Option ℕ → ℕ
-scale_of None = 1000000
+scale_of None = SCALE
 scale_of (Some scale) = scale
 
 -- the instance with a certificate's scale
@@ -33,7 +35,7 @@ scaled p c = record p { scale = scale_of c.scale }
 -- the windows of the instance, without anchors
 pub record AreWindowsOf (p : Problem) (table : WindowTable) : Type 0 where
   pub exact : AreWindows p (windows_in table)
-  pub bare : table.anchors ≡ []
+  pub unanchored : table.anchors ≡ []
   pub belongs : BelongsTo p table
 
 -- the certificate is accepted for the instance and its windows
@@ -42,9 +44,10 @@ pub record IsAcceptedFor (p : Problem) (c : Statement) : Type 0 where
   pub windows : AreWindowsOf p table
   pub accepted : IsAccepted p table c
 
--- the certificate is accepted, its answer is of this kind, and what it claims of all plans, over every denominator, is true
+-- the certificate is accepted, its answer is of this kind, and what it claims of all plans, over
+-- every denominator, is true
 pub record ShowsAccepted (p : Problem) (c : Statement) (k : AnswerKind) : Type 0 where
-  pub is_kind : k ≡ kind_of c.answer
+  pub is_kind : k ≡ answer_kind c.answer
   pub accepted : IsAcceptedFor p c
   pub claims : Claims p c.answer
 

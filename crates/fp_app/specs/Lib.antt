@@ -3,6 +3,6 @@ pub mod Shown
 pub mod Texts
 pub mod Inputs
 pub mod Checks
-pub mod Given
+pub mod CheckInputs
 pub mod Runs
 pub mod Causes

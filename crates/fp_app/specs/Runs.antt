@@ -1,10 +1,10 @@
 -- What a run answers, and what it does to its source and its sink.
-use Rattle.std.specs.Prelude.{◌≡◌, ℕ, List, length, nat_lt, MatchBool, None, Some, IsSomeAnd, ⊤}
+use Rattle.std.specs.Prelude.{◌≡◌, ℕ, ◌+◌, ◌≤◌, List, length, nat_lt, MatchBool, None, Some, IsSomeAnd, ⊤}
 use Rattle.std.specs.declared.alloc.Global.{Global}
 use Rattle.std.specs.declared.vec.Vec.{Vec}
-use Rattle.std.specs.Io.KnownBytes.{Appends, IsAtEnd}
+use Rattle.std.specs.Io.KnownBytes.{Appends, Consumes, IsAtEnd}
 use Rattle.std.specs.declared.option.Option.{Option}
-use Rattle.fp_ends.specs.Moves.{AppendsFront, Tells}
+use Rattle.fp_ends.specs.Moves.{AppendsFront, TellsInput}
 use Rattle.fp_model.specs.Plans.{IsPlan, PlanExists}
 use Rattle.fp_model.specs.Problem.{Problem}
 use Rattle.fp_flatnet.specs.Directs.{IsDirectPlan}
@@ -16,13 +16,15 @@ use Rattle.fp_app.specs.declared.shown.Shown.TheVariants as shown
 use Rattle.fp_app.specs.declared.shown.Status.{Status}
 use Rattle.fp_app.specs.declared.shown.Status.TheVariants as status
 use Rattle.fp_app.specs.Checks.{ShowsCheck, scaled}
-use Rattle.fp_app.specs.Inputs.{OfCertificate, OfInstance, check_limit, direct_limit}
+use Rattle.fp_app.specs.Inputs.{OfCertificate, OfInstance}
+use Rattle.fp_app.specs.declared.limits.TheConstants.{CHECK_LIMIT, DIRECT_LIMIT}
 use Rattle.fp_app.specs.Shown.{status_of}
 use Rattle.fp_app.specs.Texts.{IsText}
 
 -- Each command: what it shows for an instance.
 
--- `direct`: the direct plan where a plan exists, and otherwise the first shipment that can't be carried in time, with its fastest time.
+-- `direct`: the direct plan where a plan exists, and otherwise the first shipment that can't be
+-- carried in time, with its fastest time.
 abbrev pub ShowsDirect : Problem → Shown → Type 0
 ShowsDirect p (shown.Direct instance plan) = (instance ≡ p) × IsPlan p 1 plan × IsDirectPlan p plan
 ShowsDirect p (shown.Infeasible instance shipment time) = (instance ≡ p) × IsBlocked p shipment time × (PlanExists p → ⊥)
@@ -31,22 +33,30 @@ ShowsDirect p _ = ⊥
 -- The whole input was read and P holds of it, or more than the limit came.
 abbrev pub OfInput : ℕ → Option (List ℕ) → Option (List ℕ) → Shown → (List ℕ → Type 0) → Type 0
 OfInput limit old new result P =
-    (input : List ℕ) × Tells old input
+    (input : List ℕ) × TellsInput old input
     × MatchBool (nat_lt limit (length input)) (result ≡ shown.TooLong) (IsAtEnd new × P input)
 
 -- The whole input was read, or `None` where more than the limit came.
 abbrev pub Takes : ℕ → Option (List ℕ) → Option (List ℕ) → Option (Vec ℕ Global) → Type 0
 Takes limit old new result =
-    (input : List ℕ) × Tells old input
+    (input : List ℕ) × TellsInput old input
     × MatchBool (nat_lt limit (length input)) (result ≡ None) (IsAtEnd new × IsSomeAnd result (λ bytes. bytes.items ≡ input))
+
+-- No more bytes were taken than the limit.
+abbrev pub TakesWithin : ℕ → Option (List ℕ) → Option (List ℕ) → Type 0
+TakesWithin limit old new = (taken : List ℕ) × Consumes old new taken × (length taken ≤ limit)
+
+-- One byte more than the limit was taken.
+abbrev pub TakesOneMore : ℕ → Option (List ℕ) → Option (List ℕ) → Type 0
+TakesOneMore limit old new = (taken : List ℕ) × Consumes old new taken × (length taken ≡ limit + 1)
 
 -- What an order shows, by what the source had left and has left now. One line for each command.
 abbrev pub Answers : Option Order → Option (List ℕ) → Option (List ℕ) → Shown → Type 0
 Answers None old new result = result ≡ shown.BadWords
 Answers (Some order.Direct) old new result =
-    OfInput direct_limit old new result (λ input. OfInstance input result (λ p. ShowsDirect p result))
+    OfInput DIRECT_LIMIT old new result (λ input. OfInstance input result (λ p. ShowsDirect p result))
 Answers (Some order.Check) old new result =
-    OfInput check_limit old new result (λ input. OfCertificate input result (λ p c. ShowsCheck (scaled p c) c result))
+    OfInput CHECK_LIMIT old new result (λ input. OfCertificate input result (λ p c. ShowsCheck (scaled p c) c result))
 
 -- Words of no form leave the source alone.
 abbrev pub Leaves : {S : Type 0} → Option Order → S → S → Type 0

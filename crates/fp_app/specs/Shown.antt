@@ -18,17 +18,17 @@ status_of shown.TooLong = status.TooLong
 status_of shown.Nothing = status.NoMemory
 
 -- the number of a status
-abbrev pub code_of : Status → ℕ
-code_of status.Done = 0
-code_of status.Unfinished = 10
-code_of status.Infeasible = 11
-code_of status.Rejected = 12
-code_of status.BadWords = 20
-code_of status.BadInput = 21
-code_of status.TooLong = 22
-code_of status.ReadFault = 30
-code_of status.WriteFault = 31
-code_of status.NoMemory = 40
+abbrev pub status_code : Status → ℕ
+status_code status.Done = 0
+status_code status.Unfinished = 10
+status_code status.Infeasible = 11
+status_code status.Rejected = 12
+status_code status.BadWords = 20
+status_code status.BadInput = 21
+status_code status.TooLong = 22
+status_code status.ReadFault = 30
+status_code status.WriteFault = 31
+status_code status.NoMemory = 40
 
 -- what is shown can be printed: each plan is one of its instance, and each number exists there
 abbrev pub IsPrintable : Shown → Type 0

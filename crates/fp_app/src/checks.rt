@@ -1,29 +1,29 @@
-// What `check` shows.
+//! What `check` shows.
 ghost use Rattle.std.specs.Prelude.{ℕ, ◌≡◌, ◌-◌, ◌<◌, ◌≤◌, ◌^◌, drop, length, IfOk};
-ghost use Rattle.fp_app.specs.Checks.{ShowsCheck, kind_of, scale_of, scaled};
-ghost use Rattle.fp_app.specs.Given.{AreCheckable, AreGiven, AreRead, CanBeChecked};
+ghost use Rattle.fp_app.specs.Checks.{ShowsCheck, scale_of, scaled};
+ghost use Rattle.fp_app.specs.CheckInputs.{AreCheckable, CanBeChecked, IsCheckInput, IsCheckInputOf};
 ghost use Rattle.fp_app.specs.Inputs.{OfCertificate};
+ghost use Rattle.fp_app.specs.declared.limits.TheConstants.{CHECK_LIMIT};
 ghost use Rattle.fp_app.specs.Shown.{IsPrintable};
 
-use crate::{AnswerKind, NoMemory, Shown};
-use fp_certificate::{Answer, CertFault, Certificate, read};
+use crate::{NoMemory, Shown};
+use fp_certificate::{CertFault, Certificate, read};
 use fp_checker::{Rejected, check};
 use fp_flatnet::Windows;
-use fp_model::Instance;
+use fp_model::{Instance, SCALE};
 use fp_reader::{InputFault, Read, Tail, instance};
 use fp_records::{Record, records};
 use std::alloc::{AllocError, Global};
 
-// The scale of a certificate that names none.
-const DEFAULT_SCALE: u32 = 1_000_000;
-
-/// An instance and a certificate, or the first fault of their records.
+/// What an input gives.
 #[derive(Drop)]
-pub enum Given {
+pub enum CheckInput {
+    /// An instance and a certificate.
     Both {
         instance: Instance,
         certificate: Certificate,
     },
+    /// The first fault of its records.
     Fault {
         ordinal: u32,
         code: u32,
@@ -32,30 +32,30 @@ pub enum Given {
 
 /// What `check` shows for the bytes of an input.
 pub fn check_shown(alloc: Global, bytes: Vec<u8>) -> Result<Shown, NoMemory>
-    requires { length bytes.items ≤ 134217728 }
+    requires { length bytes.items ≤ CHECK_LIMIT }
     ensures shown { IfOk result (λ shown. OfCertificate bytes.items shown (λ p c. ShowsCheck (scaled p c) c shown)) }
     ensures printable { IfOk result IsPrintable }
 {
     match read_both(alloc, bytes)? {
-        Given::Both {
+        CheckInput::Both {
             instance,
             certificate,
         } => verdict(alloc, instance, &certificate),
-        Given::Fault { ordinal, code } => Ok(Shown::BadInput { ordinal, code }),
+        CheckInput::Fault { ordinal, code } => Ok(Shown::BadInput { ordinal, code }),
     }
 }
 
 // The instance and the certificate of an input. Neither its bytes nor its records are kept.
-fn read_both(alloc: Global, bytes: Vec<u8>) -> Result<Given, NoMemory>
-    requires { length bytes.items ≤ 134217728 }
-    ensures given { IfOk result (AreGiven bytes.items) }
+fn read_both(alloc: Global, bytes: Vec<u8>) -> Result<CheckInput, NoMemory>
+    requires { length bytes.items ≤ CHECK_LIMIT }
+    ensures given { IfOk result (IsCheckInput bytes.items) }
     ensures checkable { IfOk result AreCheckable }
 {
     let lines = records(alloc, &bytes)?;
     drop(bytes);
     match instance(alloc, &lines, Tail::Certificate) {
         Ok(Read { instance, used }) => read_certificate(alloc, instance, &lines, used),
-        Err(InputFault::Bad { ordinal, code }) => Ok(Given::Fault { ordinal, code }),
+        Err(InputFault::Bad { ordinal, code }) => Ok(CheckInput::Fault { ordinal, code }),
         Err(InputFault::NoMemory) => Err(AllocError),
     }
 }
@@ -66,18 +66,18 @@ fn read_certificate(
     instance: Instance,
     lines: &[Record],
     used: usize,
-) -> Result<Given, NoMemory>
+) -> Result<CheckInput, NoMemory>
     requires used { used ≤ length lines.now }
     requires few { length lines.now < 2 ^ 32 - 1 }
-    ensures read { IfOk result (AreRead instance used lines.now) }
+    ensures read { IfOk result (IsCheckInputOf instance used lines.now) }
     ensures checkable { IfOk result AreCheckable }
 {
     match read(alloc, &instance, lines, used) {
-        Ok(certificate) => Ok(Given::Both {
+        Ok(certificate) => Ok(CheckInput::Both {
             instance,
             certificate,
         }),
-        Err(CertFault::Bad { ordinal, code }) => Ok(Given::Fault { ordinal, code }),
+        Err(CertFault::Bad { ordinal, code }) => Ok(CheckInput::Fault { ordinal, code }),
         Err(CertFault::NoMemory) => Err(AllocError),
     }
 }
@@ -92,7 +92,7 @@ fn verdict(alloc: Global, instance: Instance, certificate: &Certificate) -> Resu
     let windows = Windows::of(alloc, &instance)?;
     match check(alloc, &instance, &windows, certificate) {
         Ok(()) => Ok(Shown::Accepted {
-            kind: kind_of(certificate.answer),
+            kind: certificate.answer.into(),
         }),
         Err(Rejected::Part { number }) => Ok(Shown::RejectedPart { number }),
         Err(Rejected::NoMemory) => Err(AllocError),
@@ -105,18 +105,6 @@ fn scale_of(certificate: &Certificate) -> u32
 {
     match certificate.scale {
         Some(scale) => scale,
-        None => DEFAULT_SCALE,
-    }
-}
-
-// The kind of an answer.
-fn kind_of(answer: Answer) -> AnswerKind
-    ensures { result ≡ kind_of answer }
-{
-    match answer {
-        Answer::Direct { .. } => AnswerKind::Direct,
-        Answer::Optimal { .. } => AnswerKind::Optimal,
-        Answer::Unfinished { .. } => AnswerKind::Unfinished,
-        Answer::Infeasible { .. } => AnswerKind::Infeasible,
+        None => SCALE as u32,
     }
 }

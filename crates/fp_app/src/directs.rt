@@ -1,6 +1,7 @@
-// What `direct` shows.
+//! What `direct` shows.
 ghost use Rattle.std.specs.Prelude.{◌≤◌, length, IfOk};
 ghost use Rattle.fp_app.specs.Inputs.{OfInstance};
+ghost use Rattle.fp_app.specs.declared.limits.TheConstants.{DIRECT_LIMIT};
 ghost use Rattle.fp_app.specs.Runs.{ShowsDirect};
 ghost use Rattle.fp_app.specs.Shown.{IsPrintable};
 
@@ -13,7 +14,7 @@ use std::alloc::{AllocError, Global};
 
 /// What `direct` shows for the bytes of an input.
 pub fn direct_shown(alloc: Global, bytes: &[u8]) -> Result<Shown, NoMemory>
-    requires { length bytes.now ≤ 16777216 }
+    requires { length bytes.now ≤ DIRECT_LIMIT }
     ensures shown { IfOk result (λ shown. OfInstance bytes.now shown (λ p. ShowsDirect p shown)) }
     ensures printable { IfOk result IsPrintable }
 {

@@ -1,7 +1,9 @@
-// What a run answers.
+//! What a run shows, and the status with which it ends.
 ghost use Rattle.std.specs.Prelude.{◌≡◌};
-ghost use Rattle.fp_app.specs.Shown.{code_of, status_of};
+ghost use Rattle.fp_app.specs.Texts.{kind_word};
+ghost use Rattle.fp_app.specs.Shown.{status_of, status_code};
 
+use fp_certificate::Answer;
 use fp_model::{Instance, Plan};
 
 /// How a run ended.
@@ -25,14 +27,14 @@ pub enum Status {
     ReadFault,
     /// A write failed; a front of the text was written.
     WriteFault,
-    /// Memory wasn't found; nothing was written.
+    /// No memory was found; nothing was written.
     NoMemory,
 }
 
 impl Status {
     /// The number with which the program ends.
     pub fn code(&self) -> u8
-        ensures { result ≡ code_of self.now }
+        ensures { result ≡ status_code self.now }
     {
         match self {
             Status::Done => 0,
@@ -49,14 +51,47 @@ impl Status {
     }
 }
 
-/// What an accepted certificate claims: that its legs are a plan of its cost, that moreover no plan is cheaper, or none costs
-/// less than a bound, or that no plan exists.
+/// What an accepted certificate claims.
 #[derive(Clone, Copy, Debug, PartialEq, Eq)]
 pub enum AnswerKind {
+    /// Its legs are a plan of its cost.
     Direct,
+    /// Moreover no plan is cheaper.
     Optimal,
+    /// Moreover no plan costs less than its bound.
     Unfinished,
+    /// No plan exists.
     Infeasible,
+}
+
+impl AnswerKind {
+    /// The word of the kind in a text.
+    pub fn word(&self) -> &'static [u8]
+        ensures { result.now ≡ kind_word self.now }
+    {
+        match self {
+            AnswerKind::Direct => b"direct",
+            AnswerKind::Optimal => b"optimal",
+            AnswerKind::Unfinished => b"unfinished",
+            AnswerKind::Infeasible => b"infeasible",
+        }
+    }
+}
+
+impl From<Answer> for AnswerKind {
+    ghost use Rattle.std.specs.Prelude.{◌≡◌};
+    ghost use Rattle.fp_app.specs.Checks.{answer_kind};
+
+    ghost from_gives = { λ answer kind. kind ≡ answer_kind answer };
+
+    fn from(answer: Answer) -> AnswerKind {
+        match answer {
+            Answer::Direct { .. } => AnswerKind::Direct,
+            Answer::Optimal { .. } => AnswerKind::Optimal,
+            Answer::Unfinished { .. } => AnswerKind::Unfinished,
+            Answer::Infeasible { .. } => AnswerKind::Infeasible,
+        }
+    }
 }
 
 /// What a run shows: the answer whose text it writes.
@@ -67,8 +102,8 @@ pub enum Shown {
         instance: Instance,
         plan: Plan,
     },
-    /// The first shipment that can't be carried in time, by its number, and its fastest time in the input's unit,
-    /// `None` where it has no route.
+    /// The first shipment that can't be carried in time, by its number, and its fastest time in
+    /// the input's unit, `None` where it has no route.
     Infeasible {
         instance: Instance,
         shipment: u32,
@@ -78,15 +113,16 @@ pub enum Shown {
     Accepted {
         kind: AnswerKind,
     },
-    /// The certificate of the input isn't accepted, and this is the first part that fails: 1 the plan, 2 its cost, 3 the trucks,
-    /// 4 the points, 5 the prices, 6 the tree, 7 a leaf below the claim, 8 an answer `infeasible` that isn't so.
+    /// The certificate of the input isn't accepted, and this is the first part that fails: 1 the
+    /// plan, 2 its cost, 3 the trucks, 4 the points, 5 the prices, 6 the tree, 7 a leaf below the
+    /// claim, 8 an answer `infeasible` that isn't so.
     RejectedPart {
         number: u32,
     },
     /// The words are none of the forms.
     BadWords,
-    /// The record with this ordinal, from 1, is the first with a fault, and this is its least code; the ordinal is 0
-    /// where the input as a whole has it.
+    /// The record with this ordinal, from 1, is the first with a fault, and this is the fault's
+    /// code; the ordinal is 0 where the input as a whole has it.
     BadInput {
         ordinal: u32,
         code: u32,
@@ -115,7 +151,8 @@ impl Shown {
     }
 }
 
-/// How a run ended, and what it showed: at `WriteFault` what was being written, at `ReadFault` and `NoMemory` nothing.
+/// How a run ended, and what it showed: at `WriteFault` what was being written, at `ReadFault` and
+/// `NoMemory` nothing.
 #[derive(Drop)]
 pub struct Ran {
     pub status: Status,

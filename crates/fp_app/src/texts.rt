@@ -1,78 +1,20 @@
-// The text of an answer.
-ghost use Rattle.std.specs.Prelude.{◌≡◌, ◌<◌, ◌∷◌, [], codes, decimal, length, IfOk};
-ghost use Rattle.fp_model.specs.Plans.{IsPlan};
+//! The text of an answer.
+ghost use Rattle.std.specs.Prelude.{◌≡◌, ◌∷◌, [], codes, decimal, IfOk};
 ghost use Rattle.fp_records.specs.Text.{line_of};
 ghost use Rattle.fp_app.specs.Shown.{IsPrintable};
-ghost use Rattle.fp_app.specs.Texts.{IsText, kind_text, timetable_of};
+ghost use Rattle.fp_app.specs.Texts.{IsText, kind_word};
 
+use crate::certificates::{direct_certificate, infeasible_certificate};
 use crate::{AnswerKind, NoMemory, Shown};
-use fp_certificate::{Answer, Certificate, write};
-use fp_model::{Instance, Plan, cost};
+use fp_certificate::write;
 use fp_records::Line;
-use fp_timetable::{LegLine, TruckLine, legs, trucks};
 use std::alloc::Global;
-
-// A certificate of an answer with a timetable and no more.
-fn timetable_of(
-    alloc: Global,
-    answer: Answer,
-    legs: Vec<LegLine>,
-    trucks: Vec<TruckLine>,
-) -> Certificate
-    ensures { result ≡ timetable_of answer legs.items trucks.items }
-{
-    Certificate {
-        answer,
-        scale: None,
-        legs,
-        trucks,
-        points: Vec::new(alloc),
-        tables: Vec::new(alloc),
-        tree: Vec::new(alloc),
-    }
-}
-
-// The answer, the leg lines, the truck lines and the end.
-fn direct_text(alloc: Global, instance: &Instance, plan: &Plan) -> Result<Vec<u8>, NoMemory>
-    requires { IsPlan instance.now 1 plan.now }
-    ensures { IfOk result (λ text. IsText (Shown.Direct instance.now plan.now) text.items) }
-{
-    let answer = Answer::Direct {
-        cost: cost(instance, plan),
-    };
-    let legs = legs(alloc, instance, plan)?;
-    let trucks = trucks(alloc, instance, plan)?;
-    write(alloc, instance, &timetable_of(alloc, answer, legs, trucks))
-}
-
-// The name of the shipment, its fastest time and the end.
-fn infeasible_text(
-    alloc: Global,
-    instance: &Instance,
-    shipment: u32,
-    time: Option<u32>,
-) -> Result<Vec<u8>, NoMemory>
-    requires { shipment < length instance.now.shipments }
-    ensures { IfOk result (λ text. IsText (Shown.Infeasible instance.now shipment time) text.items) }
-{
-    let answer = Answer::Infeasible { shipment, time };
-    write(
-        alloc,
-        instance,
-        &timetable_of(alloc, answer, Vec::new(alloc), Vec::new(alloc)),
-    )
-}
 
 // `accepted` and the kind of an answer.
 fn accepted_text(alloc: Global, kind: AnswerKind) -> Result<Vec<u8>, NoMemory>
-    ensures { IfOk result (λ text. text.items ≡ line_of (codes "accepted" ∷ kind_text kind ∷ [])) }
+    ensures { IfOk result (λ text. text.items ≡ line_of (codes "accepted" ∷ kind_word kind ∷ [])) }
 {
-    match kind {
-        AnswerKind::Direct => pair_text(alloc, b"accepted", b"direct"),
-        AnswerKind::Optimal => pair_text(alloc, b"accepted", b"optimal"),
-        AnswerKind::Unfinished => pair_text(alloc, b"accepted", b"unfinished"),
-        AnswerKind::Infeasible => pair_text(alloc, b"accepted", b"infeasible"),
-    }
+    pair_text(alloc, b"accepted", kind.word())
 }
 
 // `rejected` and the number of a part.
@@ -109,20 +51,28 @@ fn fault_text(alloc: Global, ordinal: u32, code: u32) -> Result<Vec<u8>, NoMemor
     Ok(line.into_bytes())
 }
 
-/// The text of what is shown, as the formats describe it: fields joined by commas, lines ended by line feeds.
+/// The text of what is shown: fields joined by commas, lines ended by line feeds. What is shown as
+/// a certificate is written as one.
 ///
-/// It needs that each plan shown is a plan of the instance shown and that each number shown exists there.
+/// It needs that each plan shown is a plan of the instance shown and that each number shown exists
+/// there. `NoMemory` only where no memory is found.
 pub fn text(alloc: Global, shown: &Shown) -> Result<Vec<u8>, NoMemory>
     requires { IsPrintable shown.now }
     ensures { IfOk result (λ text. IsText shown.now text.items) }
 {
     match shown {
-        Shown::Direct { instance, plan } => direct_text(alloc, instance, plan),
+        Shown::Direct { instance, plan } => {
+            write(alloc, instance, &direct_certificate(alloc, instance, plan)?)
+        }
         Shown::Infeasible {
             instance,
             shipment,
             time,
-        } => infeasible_text(alloc, instance, *shipment, *time),
+        } => write(
+            alloc,
+            instance,
+            &infeasible_certificate(alloc, *shipment, *time),
+        ),
         Shown::Accepted { kind } => accepted_text(alloc, *kind),
         Shown::RejectedPart { number } => rejected_text(alloc, *number),
         Shown::BadWords => pair_text(alloc, b"refused", b"words"),

@@ -1,19 +1,19 @@
-// The top call.
-ghost use Rattle.std.specs.Prelude.{◌≡◌, ◌⊎◌, ◌<◌, ◌≤◌, ℕ, List, length, None, Some};
+//! The top call.
+ghost use Rattle.std.specs.Prelude.{◌≡◌, ◌⊎◌, ◌+◌, ◌<◌, ◌≤◌, ℕ, List, length, None, Some};
 ghost use Rattle.fp_ends.specs.Causes.{Rose};
 ghost use Rattle.fp_app.specs.Causes.{ShowsDone, ShowsFault, ShowsNo, ShowsNone, StatusOf};
 ghost use Rattle.fp_app.specs.Inputs.{limit_of};
-ghost use Rattle.fp_app.specs.Runs.{Answers, Leaves, Settles, Writes, reach_of};
+ghost use Rattle.fp_app.specs.Runs.{Answers, Leaves, Settles, TakesOneMore, TakesWithin, Writes, reach_of};
 ghost use Rattle.fp_app.specs.Words.{order_of, texts};
 
 use crate::answer::answer;
-use crate::inputs::Stop;
+use crate::failures::Failure;
 use crate::{Ran, Shown, Status, text};
 use fp_ends::{Sink, Source, WriteFault, write_all};
 use std::alloc::Global;
 
-// A run that ended before its text.
-fn stopped(status: Status) -> Ran
+// A run that has no answer.
+fn without_answer(status: Status) -> Ran
     ensures { result ≡ record { status = status; shown = Shown.Nothing } }
 {
     Ran {
@@ -22,10 +22,12 @@ fn stopped(status: Status) -> Ran
     }
 }
 
-/// All that the program does: reads the words and the source, and writes the text of the answer to the sink.
+/// All that the program does: reads the words and the source, and writes the text of the answer to
+/// the sink.
 ///
-/// The words are those after the program's name. The whole text is built before the first write. Want of memory may
-/// come at any point before that, and ends with `NoMemory`; every other status has its cause among the clauses.
+/// The words are those after the program's name. The whole text is built before the first write.
+/// Want of memory may come at any point before that, and ends with `NoMemory`; every other status
+/// has its cause among the clauses.
 pub fn run<S: Source, K: Sink>(alloc: Global, words: &[String], source: &mut S, sink: &mut K) -> Ran
     // What is shown answers the words and the input, and the status is its own.
     ensures answers { Settles (reach_of result.status) result.status result.shown
@@ -35,10 +37,20 @@ pub fn run<S: Source, K: Sink>(alloc: Global, words: &[String], source: &mut S, 
     ensures writes { Writes K.taken (reach_of result.status) sink.old sink.new result.shown }
 
     // Each fault of the source or the sink has its cause, and no count falls.
-    ensures read_fault { result.status ≡ Status.ReadFault → Rose (S.faults source.old) (S.faults source.new) }
-    ensures write_fault { result.status ≡ Status.WriteFault → Rose (K.faults sink.old) (K.faults sink.new) }
+    ensures read_fault { result.status ≡ Status.ReadFault
+        → Rose (S.faults source.old) (S.faults source.new) }
+    ensures write_fault { result.status ≡ Status.WriteFault
+        → Rose (K.faults sink.old) (K.faults sink.new) }
     ensures reads_later { S.faults source.old ≤ S.faults source.new }
     ensures writes_later { K.faults sink.old ≤ K.faults sink.new }
+
+    // At most one byte past the limit is taken: none before a failed read, and one where the input is
+    // too long.
+    ensures takes_within { TakesWithin (limit_of (order_of (texts words.now)) + 1) (S.left source.old) (S.left source.new) }
+    ensures fault_within { result.status ≡ Status.ReadFault
+        → TakesWithin (limit_of (order_of (texts words.now))) (S.left source.old) (S.left source.new) }
+    ensures long_within { result.shown ≡ Shown.TooLong
+        → TakesOneMore (limit_of (order_of (texts words.now))) (S.left source.old) (S.left source.new) }
 
     // Words of no form leave the source alone.
     ensures leaves { Leaves (order_of (texts words.now)) source.old source.new }
@@ -63,11 +75,11 @@ pub fn run<S: Source, K: Sink>(alloc: Global, words: &[String], source: &mut S, 
 {
     let shown = match answer(alloc, words, source) {
         Ok(shown) => shown,
-        Err(Stop::ReadFault) => return stopped(Status::ReadFault),
-        Err(Stop::NoMemory) => return stopped(Status::NoMemory),
+        Err(Failure::ReadFault) => return without_answer(Status::ReadFault),
+        Err(Failure::NoMemory) => return without_answer(Status::NoMemory),
     };
     let Ok(text) = text(alloc, &shown) else {
-        return stopped(Status::NoMemory);
+        return without_answer(Status::NoMemory);
     };
     match write_all(sink, &text) {
         Ok(()) => Ran {

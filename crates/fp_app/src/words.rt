@@ -1,10 +1,10 @@
-// The words of the command line.
+//! The words of the command line.
 ghost use Rattle.fp_app.specs.Words.{Orders, order_of, texts};
 
 use std::alloc::Global;
 use thiserror::Error;
 
-/// A command with its numbers.
+/// A command.
 #[derive(Clone, Copy, Debug, PartialEq, Eq)]
 pub enum Order {
     /// Each shipment's fastest timetable.
@@ -19,14 +19,15 @@ pub enum WordFault {
     /// The words are none of the forms.
     #[error("the words have none of the forms")]
     BadWords,
-    /// Memory wasn't found.
+    /// No memory was found.
     #[error("out of memory")]
     NoMemory,
 }
 
 /// The order that the words after the program's name give.
 ///
-/// `BadWords` comes exactly where they have none of the forms. The forms are the single words `direct` and `check`.
+/// `BadWords` comes exactly where they have none of the forms, which are the single words `direct`
+/// and `check`. `NoMemory` only where no memory is found.
 pub fn read_words(_alloc: Global, words: &[String]) -> Result<Order, WordFault>
     ensures { Orders (order_of (texts words.now)) result }
 {

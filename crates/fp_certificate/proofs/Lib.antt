@@ -1,4 +1,3 @@
-mod Differing
 mod LastElements
 mod LineRanges
 mod LinesBack
@@ -11,5 +10,5 @@ mod ReadEnds
 mod SegmentsBack
 mod TableCounts
 mod TablesBack
-mod Worked
+mod Examples
 pub mod WrittenBack

@@ -5,32 +5,35 @@ use Rattle.std.proofs.lemmas.List.{length-map}
 use Rattle.std.proofs.lemmas.List.Elements.{All-cons, All-head, All-nil, All-tail}
 use Rattle.std.proofs.lemmas.List.Quantifiers.{position-Some}
 use Rattle.fp_model.specs.declared.parts.Shipment.{Shipment}
+use Rattle.fp_model.specs.declared.limits.TheConstants.{LATEST}
 use Rattle.fp_model.specs.Problem.{Problem, no_arc}
-use Rattle.fp_reader.specs.Faults.{joins, shipment_names}
-use Rattle.fp_reader.specs.Fields.{field, number_at}
-use Rattle.fp_reader.proofs.Fits.{between, there}
-use Rattle.fp_lines.specs.Ranges.{largest}
-use Rattle.fp_certificate.specs.Answers.{is_small}
-use Rattle.fp_certificate.specs.Places.{arc_between, arc_in, lacks_arc, lacks_shipment, lacks_terminal, shipment_in, terminal_in, terminal_named}
+use Rattle.fp_fields.specs.Indexes.{shipment_names}
+use Rattle.fp_fields.specs.NamedParts.{joins}
+use Rattle.fp_fields.specs.Fields.{field, number_at}
+use Rattle.fp_fields.proofs.NameNumbers.{number_of-lt}
+use Rattle.fp_fields.proofs.Numerals.{is_between-limits}
+use Rattle.fp_lines.specs.Ranges.{largest_figure}
+use Rattle.fp_certificate.specs.Answers.{is_figure}
+use Rattle.fp_fields.specs.NamedParts.{arc_between, arc_in, lacks_arc, lacks_shipment, lacks_terminal, shipment_in, terminal_in, terminal_named}
 use Rattle.fp_certificate.specs.Tables.{with_last}
 use Rattle.fp_certificate.specs.Timetables.{is_time}
 
 -- a number that is no larger than a field may be
-pub small : (fields : List (List ℕ)) (place : ℕ) → is_small fields place ≡ true → number_at fields place ≤ largest
-small fields place h = (between 0 largest fields place h).1
+pub small : (fields : List (List ℕ)) (place : ℕ) → is_figure fields place ≡ true → number_at fields place ≤ largest_figure
+small fields place h = (is_between-limits 0 largest_figure fields place h).1
 
 -- a time
-pub in-time : (fields : List (List ℕ)) (place : ℕ) → is_time fields place ≡ true → number_at fields place ≤ 100000
-in-time fields place h = (between 0 100000 fields place h).1
+pub in-time : (fields : List (List ℕ)) (place : ℕ) → is_time fields place ≡ true → number_at fields place ≤ LATEST
+in-time fields place h = (is_between-limits 0 LATEST fields place h).1
 
 -- a shipment that is named
 pub shipment-there : (p : Problem) (fields : List (List ℕ)) (place : ℕ) → lacks_shipment p fields place ≡ false → shipment_in p fields place < length p.shipments
 shipment-there p fields place h =
-    omega (arith, there (shipment_names p) (field fields place) _ refl h, length-map p.shipments (λ (s : Shipment). s.name))
+    omega (arith, number_of-lt (shipment_names p.shipments) (field fields place) _ refl h, length-map p.shipments (λ (s : Shipment). s.name))
 
 -- a terminal that is named
 pub terminal-there : (p : Problem) (fields : List (List ℕ)) (place : ℕ) → lacks_terminal p fields place ≡ false → terminal_in p fields place < length p.terminals
-terminal-there p fields place h = there p.terminals (field fields place) _ refl h
+terminal-there p fields place h = number_of-lt p.terminals (field fields place) _ refl h
 
 found : (p : Problem) (from to : ℕ) (number : Option ℕ) → position (joins from to) p.arcs ≡ number → is_none number ≡ false → unwrap_or number 0 < length p.arcs
 found p from to None e h = absurd (cc h)

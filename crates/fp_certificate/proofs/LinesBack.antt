@@ -3,6 +3,7 @@ use Rattle.std.proofs.Common.{◌≡◌, ℕ, ◌+◌, ◌^◌, ◌<◌, ◌≤�
 use Rattle.std.specs.Prelude.{Option, Some, None, ◌||◌, codes, IfSome, if◌then◌else◌, is_some}
 use Rattle.std.specs.Str.{bytes_eq}
 use Rattle.std.proofs.lemmas.Bool.{eq-eqb, lt-ltb}
+use Rattle.fp_model.specs.declared.limits.TheConstants.{GREATEST_SCALE, LAST_ROUND, LATEST, LONGEST_FASTEST}
 use Rattle.fp_model.specs.Problem.{IsValid, Problem, weight_at}
 use Rattle.fp_prices.specs.declared.leaf_prices.Kind.{Kind}
 use Rattle.fp_prices.specs.declared.leaf_prices.Kind.TheVariants as price
@@ -10,7 +11,7 @@ use Rattle.fp_prices.specs.declared.leaf_prices.LeafPrice.{LeafPrice}
 use Rattle.fp_prices.specs.declared.tables.Weight.{Weight}
 use Rattle.fp_prices.specs.Shares.{ClassShare}
 use Rattle.fp_prices.specs.Tables.{HasKind}
-use Rattle.fp_reader.specs.Fields.{is_number, is_within, number}
+use Rattle.fp_fields.specs.Fields.{is_number, is_within, number}
 use Rattle.fp_records.specs.Fields.{is_empty}
 use Rattle.fp_timenodes.specs.declared.places.AddedPoint.{AddedPoint}
 use Rattle.fp_timetable.specs.declared.lines.LegLine.{LegLine}
@@ -28,7 +29,7 @@ use Rattle.fp_certificate.specs.declared.groups.Group.TheVariants as group
 use Rattle.fp_certificate.specs.Answers.{with_answer, with_scale}
 use Rattle.fp_certificate.specs.Groups.{has_ended, is_misplaced}
 use Rattle.fp_certificate.specs.Points.{with_point}
-use Rattle.fp_lines.specs.Ranges.{IsAnswerInRange, IsLeafInRange, IsLegInRange, IsNodeInRange, IsPointInRange, IsScaleInRange, IsShareInRange, IsSplitInRange, IsTruckInRange, IsWeightInRange, largest}
+use Rattle.fp_lines.specs.Ranges.{IsAnswerInRange, IsLeafInRange, IsLegInRange, IsNodeInRange, IsPointInRange, IsScaleInRange, IsShareInRange, IsSplitInRange, IsTruckInRange, IsWeightInRange, largest_figure}
 use Rattle.fp_certificate.specs.Reading.{line_code, nothing_read, with_line}
 use Rattle.fp_lines.specs.Rows.{answer_fields, end_fields, kind_text, leaf_fields, leg_fields, mode_text, node_fields, point_fields, scale_fields, share_fields, split_fields, table_fields, truck_fields, weight_fields}
 use Rattle.fp_certificate.specs.Tables.{lacks_share, with_share, with_table, with_weight}
@@ -50,7 +51,7 @@ leg-step p before l v r open_still placed =
     let depart = time-back l.depart r.depart in
     let arrive = time-back l.arrive r.arrive in
     record {
-      clean = rw (open_still, placed, depart.is, arrive.is, shipment, arc, within-back 0 100000 l.depart (omega arith) r.depart depart, within-back 0 100000 l.arrive (omega arith) r.arrive arrive) refl;
+      clean = rw (open_still, placed, depart.is, arrive.is, shipment, arc, within-back 0 LATEST l.depart (omega arith) r.depart depart, within-back 0 LATEST l.arrive (omega arith) r.arrive arrive) refl;
       gives = rw (shipment, arc, depart.value, arrive.value) refl;
     }
 
@@ -70,9 +71,9 @@ truck-step p before t v r open_still placed =
             trucks.is,
             load.is,
             arc,
-            within-back 0 100000 t.depart (omega arith) r.depart depart,
-            within-back 0 largest t.trucks (omega arith) r.trucks trucks,
-            within-back 0 largest t.load (omega arith) r.load load,
+            within-back 0 LATEST t.depart (omega arith) r.depart depart,
+            within-back 0 largest_figure t.trucks (omega arith) r.trucks trucks,
+            within-back 0 largest_figure t.load (omega arith) r.load load,
           ) refl;
       gives = rw (arc, depart.value, trucks.value, load.value) refl;
     }
@@ -91,8 +92,8 @@ point-step p before point v r open_still placed =
             at.is,
             round.is,
             terminal,
-            within-back 0 100000 point.at (omega arith) r.time at,
-            within-back 1 4000 point.round r.round.0 r.round.1 round,
+            within-back 0 LATEST point.at (omega arith) r.time at,
+            within-back 1 LAST_ROUND point.round r.round.0 r.round.1 round,
           ) refl;
       gives = rw (terminal, at.value, round.value) refl;
     }
@@ -103,7 +104,7 @@ pub scale-step : (p : Problem) (before : Draft) (n : ℕ) → IsScaleInRange p n
 scale-step p before n r open_still placed none =
     let back = number-back n (omega (arith, r.most)) in
     record {
-      clean = rw (open_still, placed, none, back.is, within-back 1 (10 ^ 9) n r.least r.most back, back.value, lt-ltb (weight_at n p.arcs p.shipments) (2 ^ 127) r.fits) refl;
+      clean = rw (open_still, placed, none, back.is, within-back 1 GREATEST_SCALE n r.least r.most back, back.value, lt-ltb (weight_at n p.arcs p.shipments) (2 ^ 127) r.fits) refl;
       gives = rw back.value refl;
     }
 
@@ -134,8 +135,8 @@ share-step p before s v r open_still placed some =
             point.is,
             v-back.is,
             arc,
-            within-back 0 100000 s.point (omega arith) r.point point,
-            within-back 0 largest s.v (omega arith) r.price v-back,
+            within-back 0 LATEST s.point (omega arith) r.point point,
+            within-back 0 largest_figure s.v (omega arith) r.price v-back,
           ) refl;
       gives = rw (arc, point.value, v-back.value) refl;
     }
@@ -147,7 +148,7 @@ weight-step p before w v r open_still placed some =
     let shipment = shipment-back p w.shipment v r.shipment in
     let back = large-back w.w r.small in
     record {
-      clean = rw (open_still, placed, some, back.is, shipment, within-back 0 largest w.w (omega arith) r.small back) refl;
+      clean = rw (open_still, placed, some, back.is, shipment, within-back 0 largest_figure w.w (omega arith) r.small back) refl;
       gives = rw (shipment, back.value) refl;
     }
 
@@ -163,7 +164,7 @@ split-step p before (split.ByTime shipment terminal at) v r open_still placed =
     let terminal-is = terminal-back p terminal v r.1 in
     let back = time-back at r.2 in
     record {
-      clean = rw (open_still, placed, back.is, shipment-is, terminal-is, within-back 0 100000 at (omega arith) r.2 back) refl;
+      clean = rw (open_still, placed, back.is, shipment-is, terminal-is, within-back 0 LATEST at (omega arith) r.2 back) refl;
       gives = rw (shipment-is, terminal-is, back.value) refl;
     }
 
@@ -208,7 +209,7 @@ leaf-step p before l few r open_still placed =
     let kind = kind-back before.certificate.tables l.kind few r.kind in
     let back = time-back l.round (omega (arith, r.round)) in
     record {
-      clean = rw (open_still, placed, kind.is, kind.within, mode-is l.forced, back.is, within-back 0 4000 l.round (omega arith) r.round back) refl;
+      clean = rw (open_still, placed, kind.is, kind.within, mode-is l.forced, back.is, within-back 0 LAST_ROUND l.round (omega arith) r.round back) refl;
       gives = rw (kind.same, mode-same l.forced, back.value) refl;
     }
 
@@ -223,24 +224,24 @@ pub end-step : (p : Problem) (before : Draft) → has_ended before ≡ false →
 end-step p before open_still placed = record { clean = rw (open_still, placed) refl; gives = refl }
 
 -- the answer, which stands first
-unfinished-step : (p : Problem) (cost bound : ℕ) (s : Spent) → cost ≤ largest → bound ≤ largest
+unfinished-step : (p : Problem) (cost bound : ℕ) (s : Spent) → cost ≤ largest_figure → bound ≤ largest_figure
     → IsStep p nothing_read (answer_fields p (answer.Unfinished cost bound s)) (with_answer nothing_read (answer.Unfinished cost bound s))
 unfinished-step p cost bound spent.Rounds costs bounds =
     let cost-is = large-back cost costs in
     let bound-is = large-back bound bounds in
     record {
-      clean = rw (cost-is.is, bound-is.is, within-back 0 largest cost (omega arith) costs cost-is, within-back 0 largest bound (omega arith) bounds bound-is) refl;
+      clean = rw (cost-is.is, bound-is.is, within-back 0 largest_figure cost (omega arith) costs cost-is, within-back 0 largest_figure bound (omega arith) bounds bound-is) refl;
       gives = rw (cost-is.value, bound-is.value) refl;
     }
 unfinished-step p cost bound spent.Branches costs bounds =
     let cost-is = large-back cost costs in
     let bound-is = large-back bound bounds in
     record {
-      clean = rw (cost-is.is, bound-is.is, within-back 0 largest cost (omega arith) costs cost-is, within-back 0 largest bound (omega arith) bounds bound-is) refl;
+      clean = rw (cost-is.is, bound-is.is, within-back 0 largest_figure cost (omega arith) costs cost-is, within-back 0 largest_figure bound (omega arith) bounds bound-is) refl;
       gives = rw (cost-is.value, bound-is.value) refl;
     }
 
-infeasible-step : (p : Problem) (shipment : ℕ) (time : Option ℕ) → IsValid p → shipment < length p.shipments → IfSome time (λ t. t ≤ 10000000)
+infeasible-step : (p : Problem) (shipment : ℕ) (time : Option ℕ) → IsValid p → shipment < length p.shipments → IfSome time (λ t. t ≤ LONGEST_FASTEST)
     → IsStep p nothing_read (answer_fields p (answer.Infeasible shipment time)) (with_answer nothing_read (answer.Infeasible shipment time))
 infeasible-step p shipment None v there fast =
     let shipment-is = shipment-back p shipment v there in
@@ -250,16 +251,16 @@ infeasible-step p shipment (Some time) v there fast =
     let back = number-back time (omega (arith, fast)) in
     let some = no-word time (codes "none") back refl in
     record {
-      clean = rw (some, back.is, shipment-is, within-back 0 10000000 time (omega arith) fast back) refl;
+      clean = rw (some, back.is, shipment-is, within-back 0 LONGEST_FASTEST time (omega arith) fast back) refl;
       gives = rw (shipment-is, some, back.value) refl;
     }
 
 pub answer-step : (p : Problem) (a : Answer) → IsValid p → IsAnswerInRange p a → IsStep p nothing_read (answer_fields p a) (with_answer nothing_read a)
 answer-step p (answer.Direct cost) v r =
     let back = large-back cost r in
-    record { clean = rw (back.is, within-back 0 largest cost (omega arith) r back) refl; gives = rw back.value refl }
+    record { clean = rw (back.is, within-back 0 largest_figure cost (omega arith) r back) refl; gives = rw back.value refl }
 answer-step p (answer.Optimal cost) v r =
     let back = large-back cost r in
-    record { clean = rw (back.is, within-back 0 largest cost (omega arith) r back) refl; gives = rw back.value refl }
+    record { clean = rw (back.is, within-back 0 largest_figure cost (omega arith) r back) refl; gives = rw back.value refl }
 answer-step p (answer.Unfinished cost bound s) v r = unfinished-step p cost bound s r.0 r.1
 answer-step p (answer.Infeasible shipment time) v r = infeasible-step p shipment time v r.0 r.1

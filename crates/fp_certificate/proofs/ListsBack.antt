@@ -15,7 +15,7 @@ use Rattle.fp_lines.specs.Ranges.{IsLegInRange, IsNodeInRange, IsPointInRange, I
 use Rattle.fp_lines.specs.Rows.{leg_fields, node_fields, point_fields, truck_fields}
 use Rattle.fp_lines.specs.Statements.{Statement}
 use Rattle.fp_certificate.proofs.LinesBack.{leg-step, node-step, point-step, truck-step}
-use Rattle.fp_certificate.proofs.SegmentsBack.{ReadsTo, at, going, placed, segment}
+use Rattle.fp_certificate.proofs.SegmentsBack.{ReadsTo, at, segment, has_ended_at-before_end, is_misplaced_after-later}
 
 -- a test fails, or there is nothing to be tested
 abbrev pub Free : {X : Type 0} → Bool → List X → Type 0
@@ -42,7 +42,7 @@ pub legs-back : (p : Problem) (s c : Statement) (legs : List LegLine) (rest : Li
     → Free (is_forbidden s.answer group.Legs) legs → ReadsTo p 2 rest (record s { legs = s.legs ++ legs }) c → ReadsTo p 2 (map (leg_fields p) legs ++ rest) s c
 legs-back p s c legs rest v all free after =
     segment p 2 group.Legs (leg_fields p) add-leg (λ (t : Statement) (l : LegLine). IsLegInRange p l × (is_forbidden t.answer group.Legs ≡ false)) (lit≤ tt)
-    (λ t g l le fits. leg-step p (at t g) l v fits.0 (going g (omega arith)) (placed g group.Legs t.answer refl le fits.1))
+    (λ t g l le fits. leg-step p (at t g) l v fits.0 (has_ended_at-before_end g (omega arith)) (is_misplaced_after-later g group.Legs t.answer refl le fits.1))
     (λ t x y one other. other) rest c legs s (each (IsLegInRange p) (is_forbidden s.answer group.Legs) legs free all)
     (subst (λ (t : Statement). ReadsTo p 2 rest t c) (sym (legs-added legs s)) after)
 
@@ -58,7 +58,7 @@ pub trucks-back : (p : Problem) (s c : Statement) (trucks : List TruckLine) (res
     → ReadsTo p 3 (map (truck_fields p) trucks ++ rest) s c
 trucks-back p s c trucks rest v all free after =
     segment p 3 group.Trucks (truck_fields p) add-truck (λ (t : Statement) (l : TruckLine). IsTruckInRange p l × (is_forbidden t.answer group.Trucks ≡ false)) (lit≤ tt)
-    (λ t g l le fits. truck-step p (at t g) l v fits.0 (going g (omega arith)) (placed g group.Trucks t.answer refl le fits.1))
+    (λ t g l le fits. truck-step p (at t g) l v fits.0 (has_ended_at-before_end g (omega arith)) (is_misplaced_after-later g group.Trucks t.answer refl le fits.1))
     (λ t x y one other. other) rest c trucks s (each (IsTruckInRange p) (is_forbidden s.answer group.Trucks) trucks free all)
     (subst (λ (t : Statement). ReadsTo p 3 rest t c) (sym (trucks-added trucks s)) after)
 
@@ -74,7 +74,7 @@ pub points-back : (p : Problem) (s c : Statement) (points : List AddedPoint) (re
     → ReadsTo p 4 (map (point_fields p) points ++ rest) s c
 points-back p s c points rest v all free after =
     segment p 4 group.Points (point_fields p) add-point (λ (t : Statement) (x : AddedPoint). IsPointInRange p x × (is_forbidden t.answer group.Points ≡ false)) (lit≤ tt)
-    (λ t g x le fits. point-step p (at t g) x v fits.0 (going g (omega arith)) (placed g group.Points t.answer refl le fits.1))
+    (λ t g x le fits. point-step p (at t g) x v fits.0 (has_ended_at-before_end g (omega arith)) (is_misplaced_after-later g group.Points t.answer refl le fits.1))
     (λ t x y one other. other) rest c points s (each (IsPointInRange p) (is_forbidden s.answer group.Points) points free all)
     (subst (λ (t : Statement). ReadsTo p 4 rest t c) (sym (points-added points s)) after)
 
@@ -95,7 +95,7 @@ pub tree-back : (p : Problem) (s c : Statement) (tree : List Node) (rest : List 
     → ReadsTo p 6 (map (node_fields p) tree ++ rest) s c
 tree-back p s c tree rest v few all free after =
     segment p 6 group.Tree (node_fields p) add-node (λ (t : Statement) (n : Node). IsNodeFit p t n × (is_forbidden t.answer group.Tree ≡ false)) (lit≤ tt)
-    (λ t g n le fits. node-step p (at t g) n v fits.0.few fits.0.range (going g le) (placed g group.Tree t.answer refl le fits.1))
+    (λ t g n le fits. node-step p (at t g) n v fits.0.few fits.0.range (has_ended_at-before_end g le) (is_misplaced_after-later g group.Tree t.answer refl le fits.1))
     (λ t x y one other. (record { range = other.0.range; few = other.0.few }, other.1)) rest c tree s
     (each (IsNodeFit p s) (is_forbidden s.answer group.Tree) tree free (λ k d lt. record { range = all k d lt; few = few }))
     (subst (λ (t : Statement). ReadsTo p 6 rest t c) (sym (nodes-added tree s)) after)

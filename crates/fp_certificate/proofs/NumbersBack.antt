@@ -9,10 +9,11 @@ use Rattle.std.proofs.lemmas.Bool.{and_from, and_parts, both_ways, false_from_ne
 use Rattle.std.proofs.lemmas.Fmt.{decimal_is_IsNumeral_wide}
 use Rattle.std.proofs.lemmas.Slice.Eq.{bytes_eq-Decides}
 use Rattle.std.proofs.lemmas.Str.Parse.{digit_from_value}
-use Rattle.fp_reader.specs.Fields.{is_number, is_within, number}
+use Rattle.fp_model.specs.declared.limits.TheConstants.{LATEST}
+use Rattle.fp_fields.specs.Fields.{is_number, is_within, number}
 use Rattle.fp_records.specs.Fields.{is_empty}
 use Rattle.fp_records.specs.Text.{is_plain, is_plain_field}
-use Rattle.fp_lines.specs.Ranges.{largest}
+use Rattle.fp_lines.specs.Ranges.{largest_figure}
 
 -- digits are such by their bytes
 all-digits : (ds : List ℕ) → AllDigits 10 ds → list_all is_ascii_digit ds ≡ true
@@ -56,11 +57,11 @@ number-back n small =
       plain = and_from (not (is_empty (decimal n))) (list_all is_plain (decimal n)) (not_from_false (is_empty (decimal n)) some) (plain-digits (decimal n) digits);
     }
 
--- a time, and the largest number of a field
-pub time-back : (n : ℕ) → n ≤ 100000 → IsReadBack n
+-- a time, and the largest_figure number of a field
+pub time-back : (n : ℕ) → n ≤ LATEST → IsReadBack n
 time-back n h = number-back n (omega arith)
 
-pub large-back : (n : ℕ) → n ≤ largest → IsReadBack n
+pub large-back : (n : ℕ) → n ≤ largest_figure → IsReadBack n
 large-back n h = number-back n (omega arith)
 
 -- it lies where the number lies

@@ -13,7 +13,7 @@ use Rattle.fp_prices.specs.declared.leaf_prices.Kind.TheVariants as price
 use Rattle.fp_prices.specs.declared.tables.Weight.{Weight}
 use Rattle.fp_prices.specs.Shares.{ClassShare}
 use Rattle.fp_prices.specs.Tables.{HasKind}
-use Rattle.fp_reader.proofs.NameForm.{name-test}
+use Rattle.fp_fields.proofs.NameForm.{name-test}
 use Rattle.fp_records.specs.Fields.{is_empty}
 use Rattle.fp_records.specs.Text.{is_plain, is_plain_field, is_plain_record}
 use Rattle.fp_timenodes.specs.declared.places.AddedPoint.{AddedPoint}
@@ -29,7 +29,7 @@ use Rattle.fp_lines.specs.Ranges.{IsAnswerInRange, IsInRange, IsLegInRange, IsNo
 use Rattle.fp_certificate.specs.Readable.{HaveNames}
 use Rattle.fp_lines.specs.Rows.{answer_fields, head_name, kind_text, leg_fields, mode_text, node_fields, point_fields, rows_of, scale_rows, share_fields, share_rows, shipment_name, table_fields, table_rows, tables_rows, tail_name, terminal_name, truck_fields, weight_fields}
 use Rattle.fp_lines.specs.Statements.{Statement}
-use Rattle.fp_certificate.proofs.NamesBack.{arc-valid}
+use Rattle.fp_model.proofs.Validity.{IsArc-valid}
 use Rattle.fp_certificate.proofs.NumbersBack.{large-back, number-back, time-back}
 
 -- a byte of a name needs no quotes and is not stripped
@@ -59,16 +59,16 @@ plain-name name is =
 
 -- what a terminal, a shipment and the ends of an arc are called
 terminal-plain : (p : Problem) (terminal : ℕ) → IsValid p → terminal < length p.terminals → is_plain_field (terminal_name p terminal) ≡ true
-terminal-plain p terminal v there = plain-name (terminal_name p terminal) (v.names terminal [] there)
+terminal-plain p terminal v there = plain-name (terminal_name p terminal) (v.parts.names terminal [] there)
 
 shipment-plain : (p : Problem) (shipment : ℕ) → HaveNames p → shipment < length p.shipments → is_plain_field (shipment_name p shipment) ≡ true
 shipment-plain p shipment named there = plain-name (shipment_name p shipment) (named shipment no_shipment there)
 
 tail-plain : (p : Problem) (arc : ℕ) → IsValid p → arc < length p.arcs → is_plain_field (tail_name p arc) ≡ true
-tail-plain p arc v there = terminal-plain p (arc_at p arc).from v (arc-valid p arc v there).from
+tail-plain p arc v there = terminal-plain p (arc_at p arc).from v (IsArc-valid p arc v there).from
 
 head-plain : (p : Problem) (arc : ℕ) → IsValid p → arc < length p.arcs → is_plain_field (head_name p arc) ≡ true
-head-plain p arc v there = terminal-plain p (arc_at p arc).to v (arc-valid p arc v there).to
+head-plain p arc v there = terminal-plain p (arc_at p arc).to v (IsArc-valid p arc v there).to
 
 -- the line of an answer
 answer-plain : (p : Problem) (a : Answer) → HaveNames p → IsAnswerInRange p a → is_plain_record (answer_fields p a) ≡ true

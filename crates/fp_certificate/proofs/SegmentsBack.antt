@@ -17,24 +17,25 @@ use Rattle.fp_certificate.proofs.LinesBack.{IsStep}
 abbrev pub at : Statement → Group → Draft
 at s g = record { certificate = s; latest = Some g }
 
--- from a statement, and a latest line of a group up to a place, the records that are left give a certificate
+-- from a statement, and a latest line of a group up to a place, the records that are left give a
+-- certificate
 abbrev pub ReadsTo : Problem → ℕ → List (List (List ℕ)) → Statement → Statement → Type 0
 ReadsTo p k rest s c = (g : Group) (ordinal : ℕ) → place_of g ≤ k → certificate_from p (at s g) ordinal rest ≡ Ok c
 
 -- no group before the end is that of the end
-pub going : (g : Group) → place_of g ≤ 6 → has_ended_at (Some g) ≡ false
-going group.Answer le = refl
-going group.Scale le = refl
-going group.Legs le = refl
-going group.Trucks le = refl
-going group.Points le = refl
-going group.Tables le = refl
-going group.Tree le = refl
-going group.End le = absurd (omega arith)
+pub has_ended_at-before_end : (g : Group) → place_of g ≤ 6 → has_ended_at (Some g) ≡ false
+has_ended_at-before_end group.Answer le = refl
+has_ended_at-before_end group.Scale le = refl
+has_ended_at-before_end group.Legs le = refl
+has_ended_at-before_end group.Trucks le = refl
+has_ended_at-before_end group.Points le = refl
+has_ended_at-before_end group.Tables le = refl
+has_ended_at-before_end group.Tree le = refl
+has_ended_at-before_end group.End le = absurd (omega arith)
 
 -- a line that is not before the latest, and is not forbidden, can stand
-pub placed : (g h : Group) (a : Answer) → is_after_answer h ≡ true → place_of g ≤ place_of h → is_forbidden a h ≡ false → is_misplaced_after (Some g) a h ≡ false
-placed g h a after le free = rw (after, le-ltb (place_of h) (place_of g) le, free) refl
+pub is_misplaced_after-later : (g h : Group) (a : Answer) → is_after_answer h ≡ true → place_of g ≤ place_of h → is_forbidden a h ≡ false → is_misplaced_after (Some g) a h ≡ false
+is_misplaced_after-later g h a after le free = rw (after, le-ltb (place_of h) (place_of g) le, free) refl
 
 -- one line
 pub one-line : (p : Problem) (k : ℕ) (h : Group) (fields : List (List ℕ)) (s t c : Statement) (rest : List (List (List ℕ))) → place_of h ≤ k

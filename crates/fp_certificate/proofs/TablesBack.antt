@@ -17,7 +17,7 @@ use Rattle.fp_lines.specs.Statements.{Statement}
 use Rattle.fp_certificate.specs.Tables.{and_share, and_weight, lacks_share, with_last}
 use Rattle.fp_certificate.proofs.LinesBack.{share-step, table-step, weight-step}
 use Rattle.fp_certificate.proofs.ListsBack.{Free}
-use Rattle.fp_certificate.proofs.SegmentsBack.{ReadsTo, at, going, one-line, placed, segment}
+use Rattle.fp_certificate.proofs.SegmentsBack.{ReadsTo, at, one-line, segment, has_ended_at-before_end, is_misplaced_after-later}
 use Rattle.fp_certificate.proofs.TableCounts.{length-with_last}
 
 -- the last element of a list with one more
@@ -89,13 +89,13 @@ share-back p s c tables table share rest v r free after =
     let some : lacks_share now.tables ≡ false = lacks_share-push tables (table ++ (bare ∷ [])) ∙ some-pushed table bare in
     let weights : ReadsTo p 5 (map (weight_fields p) share.weights ++ rest) now c =
     segment p 5 group.Tables (weight_fields p) add-weight (IsWeightFit p) (lit≤ tt)
-    (λ t g w le fits. weight-step p (at t g) w v fits.range (going g (omega arith)) (placed g group.Tables t.answer refl le fits.free) fits.some)
+    (λ t g w le fits. weight-step p (at t g) w v fits.range (has_ended_at-before_end g (omega arith)) (is_misplaced_after-later g group.Tables t.answer refl le fits.free) fits.some)
     (λ t x y one other. record { range = other.range; some = lacks_share-changed (and_weight x) t.tables ∙ other.some; free = other.free })
     rest c share.weights now (fit-each p now share.weights some free (recursion_from_All (IsWeightInRange p) share.weights r.weights))
     (subst (λ (t : Statement). ReadsTo p 5 rest t c) (sym (weights-added s tables table share.weights bare)) after) in
     one-line p 5 group.Tables (share_fields p share) (with s (tables ++ (table ∷ []))) (with s (with_last (and_share bare) (tables ++ (table ∷ [])))) c
     (map (weight_fields p) share.weights ++ rest) (lit≤ tt)
-    (λ g le. share-step p (at (with s (tables ++ (table ∷ []))) g) share v r (going g (omega arith)) (placed g group.Tables s.answer refl le free) (some-pushed tables table))
+    (λ g le. share-step p (at (with s (tables ++ (table ∷ []))) g) share v r (has_ended_at-before_end g (omega arith)) (is_misplaced_after-later g group.Tables s.answer refl le free) (some-pushed tables table))
     (subst (λ (ts : List (List ClassShare)). ReadsTo p 5 (map (weight_fields p) share.weights ++ rest) (with s ts) c) (sym (with_last-push (and_share bare) tables table)) weights)
 
 -- the shares of the last table
@@ -127,7 +127,7 @@ numbered-back p c rest v (table ∷ tables) s id next few all free after =
     (subst (λ (ts : List (List ClassShare)). ReadsTo p 5 rest (with s ts) c) (sym (append_assoc s.tables (table ∷ []) tables)) after) in
     let inside = shares-back p s c s.tables (others ++ rest) v free table [] (All-head (All (IsShareInRange p)) table tables all) later in
     one-line p 5 group.Tables (table_fields id) s (with s (s.tables ++ ([] ∷ []))) c ((shares ++ others) ++ rest) (lit≤ tt)
-    (λ g le. table-step p (at s g) id next (omega arith) (going g (omega arith)) (placed g group.Tables s.answer refl le free))
+    (λ g le. table-step p (at s g) id next (omega arith) (has_ended_at-before_end g (omega arith)) (is_misplaced_after-later g group.Tables s.answer refl le free))
     (subst (λ (lines : List (List (List ℕ))). ReadsTo p 5 lines (with s (s.tables ++ ([] ∷ []))) c) (sym (append_assoc shares others rest)) inside)
 
 -- all tables

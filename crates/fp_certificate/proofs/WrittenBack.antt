@@ -18,7 +18,7 @@ use Rattle.fp_lines.specs.Statements.{Statement}
 use Rattle.fp_certificate.proofs.LinesBack.{IsStep, answer-step, end-step, scale-step}
 use Rattle.fp_certificate.proofs.ListsBack.{Free, legs-back, points-back, tree-back, trucks-back}
 use Rattle.fp_certificate.proofs.PlainRows.{rows-plain}
-use Rattle.fp_certificate.proofs.SegmentsBack.{ReadsTo, at, going, placed}
+use Rattle.fp_certificate.proofs.SegmentsBack.{ReadsTo, at, has_ended_at-before_end, is_misplaced_after-later}
 use Rattle.fp_certificate.proofs.TablesBack.{tables-back}
 
 -- what the answer forbids isn't there
@@ -85,7 +85,7 @@ one-line-then p k m h fields s t c rest small step after g ordinal le =
 -- the end gives what there is
 end-back : (p : Problem) (c : Statement) → ReadsTo p 6 (end_fields ∷ []) c c
 end-back p c g ordinal le =
-    let step = end-step p (at c g) (going g le) (placed g group.End c.answer refl (omega arith) (end-free c.answer)) in
+    let step = end-step p (at c g) (has_ended_at-before_end g le) (is_misplaced_after-later g group.End c.answer refl (omega arith) (end-free c.answer)) in
     rw step.clean refl
 
 -- a scale, where there is one
@@ -95,7 +95,7 @@ scale-back p s c rest None none range free after =
     sooner p 0 1 rest s c (lit≤ tt) (subst (λ (o : Option ℕ). ReadsTo p 1 rest (record s { scale = o }) c) (sym none) after)
 scale-back p s c rest (Some n) none range (inl free) after =
     one-line-then p 0 1 group.Scale (scale_fields n) s (record s { scale = Some n }) c rest (lit≤ tt)
-    (λ g le. scale-step p (at s g) n range (going g (omega arith)) (placed g group.Scale s.answer refl (omega arith) free) (rw none refl)) after
+    (λ g le. scale-step p (at s g) n range (has_ended_at-before_end g (omega arith)) (is_misplaced_after-later g group.Scale s.answer refl (omega arith) free) (rw none refl)) after
 scale-back p s c rest (Some n) none range (inr missing) after = cc missing
 
 -- after the answer, the lines of all other parts
@@ -129,7 +129,7 @@ parts-back p c v r few free =
     scale-back p s c legs c.scale refl r.scale free.scale (sooner p 1 2 legs with-scale c (lit≤ tt) two)
 
 -- the lines of a certificate give it
-pub rows-back : (p : Problem) (c : Statement) (ordinal : ℕ) → IsValid p → IsInRange p c → length c.tables < 2 ^ 32 - 1 → IsReadable c
+rows-back : (p : Problem) (c : Statement) (ordinal : ℕ) → IsValid p → IsInRange p c → length c.tables < 2 ^ 32 - 1 → IsReadable c
     → certificate_of p ordinal (rows_of p c) ≡ Ok c
 rows-back p c ordinal v r few readable =
     let step = answer-step p c.answer v r.answer in

@@ -1,10 +1,11 @@
--- The lines of answers and of a scale: their faults, each with its code, in the order in which they are looked for, and what they
--- give. The first fault decides.
+-- The lines of answers and of a scale: their faults, each with its code, in the order in which they
+-- are looked for, and what they give. The first fault decides.
 use Rattle.std.specs.Prelude.{ℕ, ◌^◌, List, [], ◌∷◌, length, Bool, ◌&&◌, ◌||◌, not, ◌==◌, nat_lt, is_some, if◌then◌else◌, Option, Some, None, codes}
-use Rattle.std.specs.Str.{bytes_eq}
+use Rattle.fp_model.specs.declared.limits.TheConstants.{GREATEST_SCALE, LONGEST_FASTEST}
 use Rattle.fp_model.specs.Problem.{Problem, weight_at}
-use Rattle.fp_reader.specs.Faults.{Finding, fault}
-use Rattle.fp_reader.specs.Fields.{field, has_number, is_between, number_at}
+use Rattle.fp_fields.specs.Findings.{finding}
+use Rattle.fp_fields.specs.Findings.{Finding}
+use Rattle.fp_fields.specs.Fields.{field, has_number, is_between, number_at}
 use Rattle.fp_lines.specs.declared.certificates.Answer.{Answer}
 use Rattle.fp_lines.specs.declared.certificates.Answer.TheVariants as answer
 use Rattle.fp_lines.specs.declared.certificates.Spent.{Spent}
@@ -12,24 +13,20 @@ use Rattle.fp_lines.specs.declared.certificates.Spent.TheVariants.{Rounds, Branc
 use Rattle.fp_certificate.specs.declared.drafts.Draft.{Draft}
 use Rattle.fp_certificate.specs.declared.groups.Group.TheVariants as group
 use Rattle.fp_certificate.specs.Groups.{is_misplaced}
-use Rattle.fp_lines.specs.Ranges.{largest}
-use Rattle.fp_certificate.specs.Places.{lacks_shipment, shipment_in}
+use Rattle.fp_lines.specs.Ranges.{largest_figure}
+use Rattle.fp_fields.specs.NamedParts.{lacks_shipment, shipment_in}
 
 -- whether the number in the field at a place is no larger
-abbrev pub is_small : List (List ℕ) → ℕ → Bool
-is_small fields place = is_between 0 largest fields place
-
--- whether the field at a place is a word
-abbrev pub has_word : List ℕ → List (List ℕ) → ℕ → Bool
-has_word word fields place = bytes_eq (field fields place) word
+abbrev pub is_figure : List (List ℕ) → ℕ → Bool
+is_figure fields place = is_between 0 largest_figure fields place
 
 -- the faults of `answer,direct,COST` and of `answer,optimal,COST`
 abbrev pub cost_faults : Draft → List (List ℕ) → List Finding
 cost_faults before fields =
-    fault 22 (not (length fields == 3))
-    ∷ fault 23 (not (has_number fields 2))
-    ∷ fault 24 (is_misplaced before group.Answer)
-    ∷ fault 28 (not (is_small fields 2))
+    finding 22 (not (length fields == 3))
+    ∷ finding 23 (not (has_number fields 2))
+    ∷ finding 24 (is_misplaced before group.Answer)
+    ∷ finding 28 (not (is_figure fields 2))
     ∷ []
 
 -- whether the numbers and the word of an unfinished answer are such
@@ -40,10 +37,10 @@ has_unfinished_digits fields =
 -- the faults of `answer,unfinished,COST,BOUND,SPENT`
 abbrev pub unfinished_faults : Draft → List (List ℕ) → List Finding
 unfinished_faults before fields =
-    fault 22 (not (length fields == 5))
-    ∷ fault 23 (not (has_unfinished_digits fields))
-    ∷ fault 24 (is_misplaced before group.Answer)
-    ∷ fault 28 (not (is_small fields 2 && is_small fields 3))
+    finding 22 (not (length fields == 5))
+    ∷ finding 23 (not (has_unfinished_digits fields))
+    ∷ finding 24 (is_misplaced before group.Answer)
+    ∷ finding 28 (not (is_figure fields 2 && is_figure fields 3))
     ∷ []
 
 -- whether a fastest time is `none` or a number
@@ -52,16 +49,16 @@ has_time fields = has_word (codes "none") fields 3 || has_number fields 3
 
 -- whether a fastest time is `none` or at most 10,000,000
 abbrev pub has_time_in_range : List (List ℕ) → Bool
-has_time_in_range fields = has_word (codes "none") fields 3 || is_between 0 10000000 fields 3
+has_time_in_range fields = has_word (codes "none") fields 3 || is_between 0 LONGEST_FASTEST fields 3
 
 -- the faults of `answer,infeasible,SHIPMENT,TIME`
 abbrev pub infeasible_faults : Problem → Draft → List (List ℕ) → List Finding
 infeasible_faults p before fields =
-    fault 22 (not (length fields == 4))
-    ∷ fault 23 (not (has_time fields))
-    ∷ fault 24 (is_misplaced before group.Answer)
-    ∷ fault 25 (lacks_shipment p fields 2)
-    ∷ fault 28 (not (has_time_in_range fields))
+    finding 22 (not (length fields == 4))
+    ∷ finding 23 (not (has_time fields))
+    ∷ finding 24 (is_misplaced before group.Answer)
+    ∷ finding 25 (lacks_shipment p fields 2)
+    ∷ finding 28 (not (has_time_in_range fields))
     ∷ []
 
 -- what was spent by an unfinished answer
@@ -87,15 +84,15 @@ with_answer before a = record { certificate = record before.certificate { answer
 -- whether a scale is out of its range, or does not fit the instance
 abbrev pub has_bad_scale : Problem → List (List ℕ) → Bool
 has_bad_scale p fields =
-    not (is_between 1 (10 ^ 9) fields 1 && nat_lt (weight_at (number_at fields 1) p.arcs p.shipments) (2 ^ 127))
+    not (is_between 1 GREATEST_SCALE fields 1 && nat_lt (weight_at (number_at fields 1) p.arcs p.shipments) (2 ^ 127))
 
 -- the faults of `scale,N`
 abbrev pub scale_faults : Problem → Draft → List (List ℕ) → List Finding
 scale_faults p before fields =
-    fault 22 (not (length fields == 2))
-    ∷ fault 23 (not (has_number fields 1))
-    ∷ fault 24 (is_misplaced before group.Scale || is_some before.certificate.scale)
-    ∷ fault 28 (has_bad_scale p fields)
+    finding 22 (not (length fields == 2))
+    ∷ finding 23 (not (has_number fields 1))
+    ∷ finding 24 (is_misplaced before group.Scale || is_some before.certificate.scale)
+    ∷ finding 28 (has_bad_scale p fields)
     ∷ []
 
 -- a draft with a scale

@@ -42,8 +42,9 @@ abbrev pub is_after_answer : Group → Bool
 is_after_answer group.Answer = false
 is_after_answer _ = true
 
--- whether a line of the group can't stand after the lines so far: an answer stands first, and nothing else does; no line stands
--- after one of a later group; and none under an answer that forbids it
+-- whether a line of the group can't stand after the lines so far: an answer stands first, and
+-- nothing else does; no line stands after one of a later group; and none under an answer that
+-- forbids it
 abbrev pub is_misplaced_after : Option Group → Answer → Group → Bool
 is_misplaced_after None a g = is_after_answer g
 is_misplaced_after (Some latest) a g = not (is_after_answer g) || nat_lt (place_of g) (place_of latest) || is_forbidden a g

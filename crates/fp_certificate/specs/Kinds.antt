@@ -1,7 +1,7 @@
 -- The kinds of a certificate's lines, told by their first fields.
 use Rattle.std.specs.Prelude.{ℕ, List, if◌then◌else◌, Option, Some, None, codes}
 use Rattle.std.specs.Str.{bytes_eq}
-use Rattle.fp_reader.specs.Fields.{field, is_kind}
+use Rattle.fp_fields.specs.Fields.{field, is_kind}
 use Rattle.fp_certificate.specs.declared.kinds.LineKind.{LineKind}
 use Rattle.fp_certificate.specs.declared.kinds.LineKind.TheVariants as kind
 

@@ -1,5 +1,4 @@
 pub mod Kinds
-pub mod Places
 pub mod Groups
 pub mod Answers
 pub mod Timetables
@@ -9,5 +8,4 @@ pub mod Trees
 pub mod Reading
 pub mod Codes
 pub mod Outcomes
-pub mod Indexes
 pub mod Readable

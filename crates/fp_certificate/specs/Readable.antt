@@ -41,10 +41,12 @@ IsReadable c = Allows c.answer c
 abbrev pub HaveNames : Problem → Type 0
 HaveNames p = All (λ (s : Shipment). IsName s.name) p.shipments
 
--- the records of a certificate's text give the certificate back, whatever the ordinal of the first of them is
+-- the records of a certificate's text give the certificate back, whatever the ordinal of the first
+-- of them is
 abbrev pub ReadsBack : Problem → Statement → Type 0
 ReadsBack p c = (ordinal : ℕ) → certificate_of p ordinal (records_of (lines_of (rows_of p c))) ≡ Ok c
 
--- that is so for each certificate in range, of countable tables, whose lines stand in an order that reading takes
+-- that is so for each certificate in range, of countable tables, whose lines stand in an order that
+-- reading takes
 abbrev pub WrittenReadsBack : Problem → Type 0
 WrittenReadsBack p = (c : Statement) → IsInRange p c → AreCountable p c.tables → IsReadable c → ReadsBack p c

@@ -1,9 +1,9 @@
 -- The certificate that records give, or their first fault.
 use Rattle.std.specs.Prelude.{ℕ, ◌+◌, List, [], ◌∷◌, if◌then◌else◌, Option, Some, None, Result, Ok, Err}
 use Rattle.fp_model.specs.Problem.{Problem}
-use Rattle.fp_reader.specs.Faults.{Finding, first_code}
-use Rattle.fp_reader.specs.Fields.{number_at}
-use Rattle.fp_reader.specs.Input.{Fault, first_fault}
+use Rattle.fp_fields.specs.Findings.{Finding, first_code}
+use Rattle.fp_fields.specs.Fields.{number_at}
+use Rattle.fp_fields.specs.Faults.{first_fault, Fault}
 use Rattle.fp_lines.specs.declared.certificates.Answer.TheVariants as answer
 use Rattle.fp_certificate.specs.declared.drafts.Draft.{Draft}
 use Rattle.fp_certificate.specs.declared.kinds.LineKind.{LineKind}
@@ -78,12 +78,13 @@ with_kind_of p before (Some kind) fields = with_kind p before kind fields
 abbrev pub with_line : Problem → Draft → List (List ℕ) → Draft
 with_line p before fields = with_kind_of p before (kind_of fields) fields
 
--- what was read, where the lines have ended; records that end without `end` have the fault 26 one past the last of them
+-- what was read, where the lines have ended; records that end without `end` have the fault 26 one
+-- past the last of them
 abbrev pub finished : Draft → ℕ → Result Statement Fault
 finished before ordinal = if has_ended before then Ok before.certificate else Err (record { ordinal = ordinal; code = 26 })
 
--- what records give, where `ordinal` is that of the first of them and `before` is what those before it have given:
--- the first record with a fault decides
+-- what records give, where `ordinal` is that of the first of them and `before` is what those before
+-- it have given: the first record with a fault decides
 abbrev pub certificate_from : Problem → Draft → ℕ → List (List (List ℕ)) → Result Statement Fault
 certificate_from p before ordinal [] = finished before ordinal
 certificate_from p before ordinal (fields ∷ records) =

@@ -1,16 +1,18 @@
--- The lines of tables, shares and weights: their faults in the order in which they are looked for, and what they give.
+-- The lines of tables, shares and weights: their faults in the order in which they are looked for,
+-- and what they give.
 use Rattle.std.specs.Prelude.{ℕ, ◌+◌, List, [], ◌∷◌, ◌++◌, length, Bool, true, ◌&&◌, ◌||◌, not, ◌==◌, Some}
 use Rattle.fp_model.specs.Problem.{Problem}
 use Rattle.fp_prices.specs.declared.tables.Weight.{Weight}
 use Rattle.fp_prices.specs.Shares.{ClassShare}
-use Rattle.fp_reader.specs.Faults.{Finding, fault}
-use Rattle.fp_reader.specs.Fields.{has_number, number_at}
+use Rattle.fp_fields.specs.Findings.{finding}
+use Rattle.fp_fields.specs.Findings.{Finding}
+use Rattle.fp_fields.specs.Fields.{has_number, number_at}
 use Rattle.fp_records.specs.Fields.{is_empty}
 use Rattle.fp_certificate.specs.declared.drafts.Draft.{Draft}
 use Rattle.fp_certificate.specs.declared.groups.Group.TheVariants as group
-use Rattle.fp_certificate.specs.Answers.{is_small}
+use Rattle.fp_certificate.specs.Answers.{is_figure}
 use Rattle.fp_certificate.specs.Groups.{is_misplaced}
-use Rattle.fp_certificate.specs.Places.{arc_in, lacks_arc, lacks_shipment, shipment_in}
+use Rattle.fp_fields.specs.NamedParts.{arc_in, lacks_arc, lacks_shipment, shipment_in}
 use Rattle.fp_certificate.specs.Timetables.{is_time}
 
 -- a list with what a function makes of its last element
@@ -28,9 +30,9 @@ lacks_share (table ∷ next ∷ tables) = lacks_share (next ∷ tables)
 -- the faults of `table,ID`. An ID has to be the next number, so none that passes is out of range
 abbrev pub table_faults : Draft → List (List ℕ) → List Finding
 table_faults before fields =
-    fault 22 (not (length fields == 2))
-    ∷ fault 23 (not (has_number fields 1))
-    ∷ fault 24 (is_misplaced before group.Tables || not (number_at fields 1 == length before.certificate.tables + 1))
+    finding 22 (not (length fields == 2))
+    ∷ finding 23 (not (has_number fields 1))
+    ∷ finding 24 (is_misplaced before group.Tables || not (number_at fields 1 == length before.certificate.tables + 1))
     ∷ []
 
 -- a draft with other tables
@@ -44,11 +46,11 @@ with_table before = with_tables before (before.certificate.tables ++ ([] ∷ [])
 -- the faults of `share,FROM,TO,POINT,V`
 abbrev pub share_faults : Problem → Draft → List (List ℕ) → List Finding
 share_faults p before fields =
-    fault 22 (not (length fields == 5))
-    ∷ fault 23 (not (has_number fields 3 && has_number fields 4))
-    ∷ fault 24 (is_misplaced before group.Tables || is_empty before.certificate.tables)
-    ∷ fault 25 (lacks_arc p fields 1 2)
-    ∷ fault 28 (not (is_time fields 3 && is_small fields 4))
+    finding 22 (not (length fields == 5))
+    ∷ finding 23 (not (has_number fields 3 && has_number fields 4))
+    ∷ finding 24 (is_misplaced before group.Tables || is_empty before.certificate.tables)
+    ∷ finding 25 (lacks_arc p fields 1 2)
+    ∷ finding 28 (not (is_time fields 3 && is_figure fields 4))
     ∷ []
 
 -- the share of a line, which has no weights yet
@@ -66,11 +68,11 @@ with_share before share = with_tables before (with_last (and_share share) before
 -- the faults of `weight,SHIPMENT,W`
 abbrev pub weight_faults : Problem → Draft → List (List ℕ) → List Finding
 weight_faults p before fields =
-    fault 22 (not (length fields == 3))
-    ∷ fault 23 (not (has_number fields 2))
-    ∷ fault 24 (is_misplaced before group.Tables || lacks_share before.certificate.tables)
-    ∷ fault 25 (lacks_shipment p fields 1)
-    ∷ fault 28 (not (is_small fields 2))
+    finding 22 (not (length fields == 3))
+    ∷ finding 23 (not (has_number fields 2))
+    ∷ finding 24 (is_misplaced before group.Tables || lacks_share before.certificate.tables)
+    ∷ finding 25 (lacks_shipment p fields 1)
+    ∷ finding 28 (not (is_figure fields 2))
     ∷ []
 
 -- the weight of a line

@@ -1,28 +1,31 @@
--- The lines of legs and of trucks: their faults in the order in which they are looked for, and what they give.
+-- The lines of legs and of trucks: their faults in the order in which they are looked for, and what
+-- they give.
 use Rattle.std.specs.Prelude.{ℕ, List, [], ◌∷◌, ◌++◌, length, Bool, ◌&&◌, ◌||◌, not, ◌==◌, Some}
+use Rattle.fp_model.specs.declared.limits.TheConstants.{LATEST}
 use Rattle.fp_model.specs.Problem.{Problem}
-use Rattle.fp_reader.specs.Faults.{Finding, fault}
-use Rattle.fp_reader.specs.Fields.{has_number, is_between, number_at}
+use Rattle.fp_fields.specs.Findings.{finding}
+use Rattle.fp_fields.specs.Findings.{Finding}
+use Rattle.fp_fields.specs.Fields.{has_number, is_between, number_at}
 use Rattle.fp_timetable.specs.declared.lines.LegLine.{LegLine}
 use Rattle.fp_timetable.specs.declared.lines.TruckLine.{TruckLine}
 use Rattle.fp_certificate.specs.declared.drafts.Draft.{Draft}
 use Rattle.fp_certificate.specs.declared.groups.Group.TheVariants as group
-use Rattle.fp_certificate.specs.Answers.{is_small}
+use Rattle.fp_certificate.specs.Answers.{is_figure}
 use Rattle.fp_certificate.specs.Groups.{is_misplaced}
-use Rattle.fp_certificate.specs.Places.{arc_in, lacks_arc, lacks_shipment, shipment_in}
+use Rattle.fp_fields.specs.NamedParts.{arc_in, lacks_arc, lacks_shipment, shipment_in}
 
 -- whether the field at a place is a time in range
 abbrev pub is_time : List (List ℕ) → ℕ → Bool
-is_time fields place = is_between 0 100000 fields place
+is_time fields place = is_between 0 LATEST fields place
 
 -- the faults of `leg,SHIPMENT,FROM,TO,DEPART,ARRIVE`
 abbrev pub leg_faults : Problem → Draft → List (List ℕ) → List Finding
 leg_faults p before fields =
-    fault 22 (not (length fields == 6))
-    ∷ fault 23 (not (has_number fields 4 && has_number fields 5))
-    ∷ fault 24 (is_misplaced before group.Legs)
-    ∷ fault 25 (lacks_shipment p fields 1 || lacks_arc p fields 2 3)
-    ∷ fault 28 (not (is_time fields 4 && is_time fields 5))
+    finding 22 (not (length fields == 6))
+    ∷ finding 23 (not (has_number fields 4 && has_number fields 5))
+    ∷ finding 24 (is_misplaced before group.Legs)
+    ∷ finding 25 (lacks_shipment p fields 1 || lacks_arc p fields 2 3)
+    ∷ finding 28 (not (is_time fields 4 && is_time fields 5))
     ∷ []
 
 -- the leg of a line
@@ -42,11 +45,11 @@ with_leg before leg =
 -- the faults of `truck,FROM,TO,DEPART,TRUCKS,LOAD`
 abbrev pub truck_faults : Problem → Draft → List (List ℕ) → List Finding
 truck_faults p before fields =
-    fault 22 (not (length fields == 6))
-    ∷ fault 23 (not (has_number fields 3 && has_number fields 4 && has_number fields 5))
-    ∷ fault 24 (is_misplaced before group.Trucks)
-    ∷ fault 25 (lacks_arc p fields 1 2)
-    ∷ fault 28 (not (is_time fields 3 && is_small fields 4 && is_small fields 5))
+    finding 22 (not (length fields == 6))
+    ∷ finding 23 (not (has_number fields 3 && has_number fields 4 && has_number fields 5))
+    ∷ finding 24 (is_misplaced before group.Trucks)
+    ∷ finding 25 (lacks_arc p fields 1 2)
+    ∷ finding 28 (not (is_time fields 3 && is_figure fields 4 && is_figure fields 5))
     ∷ []
 
 -- the truck line of a line

@@ -1,26 +1,28 @@
--- The lines of a tree and of the end: their faults in the order in which they are looked for, and what they give.
+-- The lines of a tree and of the end: their faults in the order in which they are looked for, and
+-- what they give.
 use Rattle.std.specs.Prelude.{ℕ, List, [], ◌∷◌, ◌++◌, length, Bool, ◌&&◌, ◌||◌, not, ◌==◌, if◌then◌else◌, Some, codes}
+use Rattle.fp_model.specs.declared.limits.TheConstants.{LAST_ROUND}
 use Rattle.fp_model.specs.Problem.{Problem}
 use Rattle.fp_prices.specs.declared.leaf_prices.Kind.{Kind}
 use Rattle.fp_prices.specs.declared.leaf_prices.Kind.TheVariants.{Linear, Even, Table}
-use Rattle.fp_reader.specs.Faults.{Finding, fault}
-use Rattle.fp_reader.specs.Fields.{has_number, is_between, number_at}
+use Rattle.fp_fields.specs.Findings.{finding}
+use Rattle.fp_fields.specs.Findings.{Finding}
+use Rattle.fp_fields.specs.Fields.{has_number, is_between, number_at, has_word}
 use Rattle.fp_tree.specs.declared.sides.Split.TheVariants.{ByArc, ByTime}
 use Rattle.fp_lines.specs.declared.certificates.Node.{Node}
 use Rattle.fp_lines.specs.declared.certificates.Node.TheVariants.{Branch, Leaf}
 use Rattle.fp_certificate.specs.declared.drafts.Draft.{Draft}
 use Rattle.fp_certificate.specs.declared.groups.Group.TheVariants as group
-use Rattle.fp_certificate.specs.Answers.{has_word}
 use Rattle.fp_certificate.specs.Groups.{is_misplaced}
-use Rattle.fp_certificate.specs.Places.{arc_in, lacks_arc, lacks_shipment, lacks_terminal, shipment_in, terminal_in}
+use Rattle.fp_fields.specs.NamedParts.{arc_in, lacks_arc, lacks_shipment, lacks_terminal, shipment_in, terminal_in}
 use Rattle.fp_certificate.specs.Timetables.{is_time}
 
 -- the faults of `split,arc,SHIPMENT,FROM,TO`
 abbrev pub by_arc_faults : Problem → Draft → List (List ℕ) → List Finding
 by_arc_faults p before fields =
-    fault 22 (not (length fields == 5))
-    ∷ fault 24 (is_misplaced before group.Tree)
-    ∷ fault 25 (lacks_shipment p fields 2 || lacks_arc p fields 3 4)
+    finding 22 (not (length fields == 5))
+    ∷ finding 24 (is_misplaced before group.Tree)
+    ∷ finding 25 (lacks_shipment p fields 2 || lacks_arc p fields 3 4)
     ∷ []
 
 -- the node of such a line
@@ -30,11 +32,11 @@ by_arc_in p fields = Branch (ByArc (shipment_in p fields 2) (arc_in p fields 3 4
 -- the faults of `split,time,SHIPMENT,TERMINAL,AT`
 abbrev pub by_time_faults : Problem → Draft → List (List ℕ) → List Finding
 by_time_faults p before fields =
-    fault 22 (not (length fields == 5))
-    ∷ fault 23 (not (has_number fields 4))
-    ∷ fault 24 (is_misplaced before group.Tree)
-    ∷ fault 25 (lacks_shipment p fields 2 || lacks_terminal p fields 3)
-    ∷ fault 28 (not (is_time fields 4))
+    finding 22 (not (length fields == 5))
+    ∷ finding 23 (not (has_number fields 4))
+    ∷ finding 24 (is_misplaced before group.Tree)
+    ∷ finding 25 (lacks_shipment p fields 2 || lacks_terminal p fields 3)
+    ∷ finding 28 (not (is_time fields 4))
     ∷ []
 
 -- the node of such a line
@@ -50,17 +52,18 @@ abbrev pub has_leaf_digits : List (List ℕ) → Bool
 has_leaf_digits fields =
     (has_kind_word fields || has_number fields 1) && has_number fields 2 && (has_word (codes "plain") fields 3 || has_word (codes "forced") fields 3)
 
--- whether a leaf's table exists, where it is priced by one, among so many tables, and its round is in range
+-- whether a leaf's table exists, where it is priced by one, among so many tables, and its round is
+-- in range
 abbrev pub has_leaf_ranges : ℕ → List (List ℕ) → Bool
-has_leaf_ranges tables fields = (has_kind_word fields || is_between 1 tables fields 1) && is_between 0 4000 fields 2
+has_leaf_ranges tables fields = (has_kind_word fields || is_between 1 tables fields 1) && is_between 0 LAST_ROUND fields 2
 
 -- the faults of `leaf,KIND,ROUND,MODE`
 abbrev pub leaf_faults : Draft → List (List ℕ) → List Finding
 leaf_faults before fields =
-    fault 22 (not (length fields == 4))
-    ∷ fault 23 (not (has_leaf_digits fields))
-    ∷ fault 24 (is_misplaced before group.Tree)
-    ∷ fault 28 (not (has_leaf_ranges (length before.certificate.tables) fields))
+    finding 22 (not (length fields == 4))
+    ∷ finding 23 (not (has_leaf_digits fields))
+    ∷ finding 24 (is_misplaced before group.Tree)
+    ∷ finding 28 (not (has_leaf_ranges (length before.certificate.tables) fields))
     ∷ []
 
 -- the kind of a leaf's prices
@@ -81,7 +84,7 @@ with_node before node =
 
 -- the faults of `end`
 abbrev pub end_faults : Draft → List (List ℕ) → List Finding
-end_faults before fields = fault 22 (not (length fields == 1)) ∷ fault 24 (is_misplaced before group.End) ∷ []
+end_faults before fields = finding 22 (not (length fields == 1)) ∷ finding 24 (is_misplaced before group.End) ∷ []
 
 -- a draft that has ended
 abbrev pub with_end : Draft → Draft

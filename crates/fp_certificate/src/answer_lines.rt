@@ -1,23 +1,21 @@
-// Lines of answers.
+//! Lines of answers.
 ghost use Rattle.std.specs.Prelude.{◌≡◌, ◌<◌, false, Some, None, true, MatchOption, MatchResult};
-ghost use Rattle.fp_reader.specs.Faults.{first_code};
-ghost use Rattle.fp_reader.specs.Fields.{has_number, number_at};
+ghost use Rattle.fp_fields.specs.Findings.{IsFirstFault, first_code};
+ghost use Rattle.fp_fields.specs.Fields.{has_number, number_at};
 ghost use Rattle.fp_certificate.specs.Answers.{cost_faults, has_time, has_time_in_range, has_unfinished_digits, infeasible_faults, infeasible_in, spent_in, time_in, unfinished_faults, unfinished_in, with_answer};
 ghost use Rattle.fp_certificate.specs.Codes.{code_of};
-ghost use Rattle.fp_certificate.specs.Outcomes.{IsLeast};
 ghost use Rattle.fp_lines.specs.declared.certificates.Answer.{Answer};
 
 use crate::drafts::Draft;
 use crate::groups::Group;
-use crate::line_faults::{AddFault, LineFault};
-use crate::line_fields::{has_word, shipment_at, small_at};
-use crate::lookups::Lookup;
+use crate::line_faults::LineFault;
+use crate::line_fields::figure_at;
+use fp_fields::digits::short_between;
+use fp_fields::fields::{field_at, has_fields, has_number, has_word};
+use fp_fields::{Lookup, RecordError};
 use fp_lines::{Answer, Spent};
-use fp_reader::digits::short_between;
-use fp_reader::fields::{field_at, has_fields, has_number};
+use fp_model::limits::LONGEST_FASTEST;
 use fp_records::Record;
-
-const LONGEST_TIME: u32 = 10_000_000;
 
 /// The cost of a direct or of an optimal answer's line, or the first of the line's faults.
 fn cost_of(draft: &Draft, line: &Record) -> Result<u128, LineFault>
@@ -34,17 +32,17 @@ fn cost_of(draft: &Draft, line: &Record) -> Result<u128, LineFault>
     if draft.is_misplaced(Group::Answer) {
         return Err(LineFault::Order);
     }
-    match small_at(line, 2) {
+    match figure_at(line, 2) {
         Some(cost) => Ok(cost),
         None => Err(LineFault::Range),
     }
 }
 
 /// Takes the answer of `answer,direct,COST`, or tells the first of the line's faults.
-pub fn read_direct(draft: &mut Draft, line: &Record) -> Result<(), AddFault>
+pub fn read_direct(draft: &mut Draft, line: &Record) -> Result<(), RecordError<LineFault>>
     ensures { MatchResult result
         (λ _. (first_code (cost_faults draft.old line.now) ≡ None) × (draft.new ≡ with_answer draft.old (Answer.Direct (number_at line.now 2))))
-        (λ e. IsLeast e (first_code (cost_faults draft.old line.now))) }
+        (λ e. IsFirstFault code_of e (first_code (cost_faults draft.old line.now))) }
 {
     let cost = cost_of(draft, line)?;
     draft.set_answer(Answer::Direct { cost });
@@ -52,10 +50,10 @@ pub fn read_direct(draft: &mut Draft, line: &Record) -> Result<(), AddFault>
 }
 
 /// Takes the answer of `answer,optimal,COST`, or tells the first of the line's faults.
-pub fn read_optimal(draft: &mut Draft, line: &Record) -> Result<(), AddFault>
+pub fn read_optimal(draft: &mut Draft, line: &Record) -> Result<(), RecordError<LineFault>>
     ensures { MatchResult result
         (λ _. (first_code (cost_faults draft.old line.now) ≡ None) × (draft.new ≡ with_answer draft.old (Answer.Optimal (number_at line.now 2))))
-        (λ e. IsLeast e (first_code (cost_faults draft.old line.now))) }
+        (λ e. IsFirstFault code_of e (first_code (cost_faults draft.old line.now))) }
 {
     let cost = cost_of(draft, line)?;
     draft.set_answer(Answer::Optimal { cost });
@@ -97,10 +95,10 @@ fn unfinished_of(draft: &Draft, line: &Record) -> Result<Answer, LineFault>
     if draft.is_misplaced(Group::Answer) {
         return Err(LineFault::Order);
     }
-    let Some(cost) = small_at(line, 2) else {
+    let Some(cost) = figure_at(line, 2) else {
         return Err(LineFault::Range);
     };
-    let Some(bound) = small_at(line, 3) else {
+    let Some(bound) = figure_at(line, 3) else {
         return Err(LineFault::Range);
     };
     Ok(Answer::Unfinished {
@@ -110,11 +108,12 @@ fn unfinished_of(draft: &Draft, line: &Record) -> Result<Answer, LineFault>
     })
 }
 
-/// Takes the answer of `answer,unfinished,COST,BOUND,SPENT`, or tells the first of the line's faults.
-pub fn read_unfinished(draft: &mut Draft, line: &Record) -> Result<(), AddFault>
+/// Takes the answer of `answer,unfinished,COST,BOUND,SPENT`, or tells the first of the line's
+/// faults.
+pub fn read_unfinished(draft: &mut Draft, line: &Record) -> Result<(), RecordError<LineFault>>
     ensures { MatchResult result
         (λ _. (first_code (unfinished_faults draft.old line.now) ≡ None) × (draft.new ≡ with_answer draft.old (unfinished_in line.now)))
-        (λ e. IsLeast e (first_code (unfinished_faults draft.old line.now))) }
+        (λ e. IsFirstFault code_of e (first_code (unfinished_faults draft.old line.now))) }
 {
     let answer = unfinished_of(draft, line)?;
     draft.set_answer(answer);
@@ -137,7 +136,7 @@ fn time_of(line: &Record) -> Option<Option<u32>>
     if has_word(line, 3, b"none") {
         return Some(None);
     }
-    let time = short_between(field_at(line, 3), 0, LONGEST_TIME)?;
+    let time = short_between(field_at(line, 3), 0, LONGEST_FASTEST)?;
     Some(Some(time))
 }
 
@@ -156,7 +155,7 @@ fn infeasible_of(lookup: &Lookup<'_>, draft: &Draft, line: &Record) -> Result<An
     if draft.is_misplaced(Group::Answer) {
         return Err(LineFault::Order);
     }
-    let Some(shipment) = shipment_at(lookup, line, 2) else {
+    let Some(shipment) = lookup.shipment_at(line, 2) else {
         return Err(LineFault::Name);
     };
     let Some(time) = time_of(line) else {
@@ -170,11 +169,11 @@ pub fn read_infeasible(
     lookup: &Lookup<'_>,
     draft: &mut Draft,
     line: &Record,
-) -> Result<(), AddFault>
+) -> Result<(), RecordError<LineFault>>
     ensures { MatchResult result
         (λ _. (first_code (infeasible_faults lookup.now draft.old line.now) ≡ None)
         × (draft.new ≡ with_answer draft.old (infeasible_in lookup.now line.now)))
-        (λ e. IsLeast e (first_code (infeasible_faults lookup.now draft.old line.now))) }
+        (λ e. IsFirstFault code_of e (first_code (infeasible_faults lookup.now draft.old line.now))) }
 {
     let answer = infeasible_of(lookup, draft, line)?;
     draft.set_answer(answer);

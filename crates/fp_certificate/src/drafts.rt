@@ -1,4 +1,4 @@
-// What the lines of a certificate have given so far.
+//! What the lines of a certificate have given so far.
 ghost use Rattle.std.specs.Prelude.{◌≡◌, ◌<◌, false, length, MatchResult, Ok, OnOk};
 ghost use Rattle.fp_certificate.specs.Answers.{with_answer, with_scale};
 ghost use Rattle.fp_certificate.specs.Groups.{has_ended, is_misplaced};
@@ -158,7 +158,8 @@ impl Draft {
         self.latest = Some(Group::End);
     }
 
-    /// The certificate, or, where the lines have not ended, that the record with this ordinal is missing.
+    /// The certificate, or, where the lines have not ended, that the record with this ordinal is
+    /// missing.
     pub fn finish(self, ordinal: u32) -> Result<Certificate, CertFault>
         ensures { MatchResult result (λ c. finished self ordinal ≡ Ok c) (λ e. IsFirst e (finished self ordinal)) }
     {

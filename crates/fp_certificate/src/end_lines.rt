@@ -1,14 +1,14 @@
-// The line `end`.
+//! The line `end`.
 ghost use Rattle.std.specs.Prelude.{◌≡◌, Some, None, MatchResult};
-ghost use Rattle.fp_reader.specs.Faults.{first_code};
+ghost use Rattle.fp_fields.specs.Findings.{IsFirstFault, first_code};
 ghost use Rattle.fp_certificate.specs.Codes.{code_of};
-ghost use Rattle.fp_certificate.specs.Outcomes.{IsLeast};
 ghost use Rattle.fp_certificate.specs.Trees.{end_faults, with_end};
 
 use crate::drafts::Draft;
 use crate::groups::Group;
-use crate::line_faults::{AddFault, LineFault};
-use fp_reader::fields::has_fields;
+use crate::line_faults::LineFault;
+use fp_fields::RecordError;
+use fp_fields::fields::has_fields;
 use fp_records::Record;
 
 // Nothing where the line of the end has no fault, or else the first of the line's faults.
@@ -27,10 +27,10 @@ fn test_end(draft: &Draft, line: &Record) -> Result<(), LineFault>
 }
 
 /// Takes the end, or tells the first of the line's faults.
-pub fn read_end(draft: &mut Draft, line: &Record) -> Result<(), AddFault>
+pub fn read_end(draft: &mut Draft, line: &Record) -> Result<(), RecordError<LineFault>>
     ensures { MatchResult result
         (λ _. (first_code (end_faults draft.old line.now) ≡ None) × (draft.new ≡ with_end draft.old))
-        (λ e. IsLeast e (first_code (end_faults draft.old line.now))) }
+        (λ e. IsFirstFault code_of e (first_code (end_faults draft.old line.now))) }
 {
     test_end(draft, line)?;
     draft.set_end();

@@ -1,4 +1,4 @@
-// The groups of a certificate's lines, and where they can stand.
+//! The groups of a certificate's lines, and where they can stand.
 ghost use Rattle.std.specs.Prelude.{◌≡◌};
 ghost use Rattle.fp_certificate.specs.Groups.{is_after_answer, is_before_end, is_beyond_direct, is_forbidden, is_misplaced_after, place_of};
 
@@ -70,8 +70,8 @@ impl Group {
         }
     }
 
-    /// Whether a line of the group can't stand after lines of which the latest is of one group, `None` where there are none,
-    /// and the first has the answer.
+    /// Whether a line of the group can't stand after lines of which the latest is of one group,
+    /// `None` where there are none, and the first has the answer.
     pub fn is_misplaced_after(self, latest: Option<Group>, answer: Answer) -> bool
         ensures { result ≡ is_misplaced_after latest answer self }
     {

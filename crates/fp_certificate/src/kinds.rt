@@ -1,8 +1,8 @@
-// The kinds of a certificate's lines.
+//! The kinds of a certificate's lines.
 ghost use Rattle.std.specs.Prelude.{◌≡◌};
 ghost use Rattle.fp_certificate.specs.Kinds.{answer_kind, kind_of, split_kind};
 
-use fp_reader::fields::{field_at, is_of_kind};
+use fp_fields::fields::{field_at, is_of_kind};
 use fp_records::Record;
 
 /// A kind of line.

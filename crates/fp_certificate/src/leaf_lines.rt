@@ -1,22 +1,21 @@
-// Lines `leaf,KIND,ROUND,MODE`.
+//! Lines `leaf,KIND,ROUND,MODE`.
 ghost use Rattle.std.specs.Prelude.{◌≡◌, false, ◌||◌, ◌<◌, ◌^◌, Some, None, true, length, MatchOption, MatchResult};
-ghost use Rattle.fp_reader.specs.Faults.{first_code};
-ghost use Rattle.fp_reader.specs.Fields.{has_number, is_between, number_at};
+ghost use Rattle.fp_fields.specs.Findings.{IsFirstFault, first_code};
+ghost use Rattle.fp_fields.specs.Fields.{has_number, is_between, number_at};
+ghost use Rattle.fp_model.specs.declared.limits.TheConstants.{LAST_ROUND};
 ghost use Rattle.fp_certificate.specs.Codes.{code_of};
-ghost use Rattle.fp_certificate.specs.Outcomes.{IsLeast};
 ghost use Rattle.fp_certificate.specs.Trees.{has_kind_word, has_leaf_digits, kind_in, leaf_faults, leaf_in, with_node};
 
 use crate::drafts::Draft;
 use crate::groups::Group;
-use crate::line_faults::{AddFault, LineFault};
-use crate::line_fields::has_word;
+use crate::line_faults::LineFault;
+use fp_fields::RecordError;
+use fp_fields::digits::short_between;
+use fp_fields::fields::{field_at, has_fields, has_number, has_word};
 use fp_lines::Node;
+use fp_model::limits::LAST_ROUND;
 use fp_prices::{Kind, LeafPrice};
-use fp_reader::digits::short_between;
-use fp_reader::fields::{field_at, has_fields, has_number};
 use fp_records::Record;
-
-const LAST_ROUND: u32 = 4_000;
 
 // Whether the kind of a leaf's prices is a word.
 fn has_kind_word(line: &Record) -> bool
@@ -53,8 +52,8 @@ fn kind_of(line: &Record, tables: u32) -> Option<Kind>
 // The round of a leaf; `None` exactly where it is above 4,000.
 fn round_of(line: &Record) -> Option<u32>
     requires { has_number line.now 2 ≡ true }
-    ensures { MatchOption result (is_between 0 4000 line.now 2 ≡ false)
-        (λ n. (is_between 0 4000 line.now 2 ≡ true) × (n ≡ number_at line.now 2)) }
+    ensures { MatchOption result (is_between 0 LAST_ROUND line.now 2 ≡ false)
+        (λ n. (is_between 0 LAST_ROUND line.now 2 ≡ true) × (n ≡ number_at line.now 2)) }
 {
     short_between(field_at(line, 2), 0, LAST_ROUND)
 }
@@ -93,11 +92,11 @@ fn leaf_of(draft: &Draft, line: &Record) -> Result<Node, LineFault>
 }
 
 /// Adds the leaf of a line, or tells the first of the line's faults.
-pub fn read_leaf(draft: &mut Draft, line: &Record) -> Result<(), AddFault>
+pub fn read_leaf(draft: &mut Draft, line: &Record) -> Result<(), RecordError<LineFault>>
     requires { length draft.old.certificate.tables < 2 ^ 32 }
     ensures { MatchResult result
         (λ _. (first_code (leaf_faults draft.old line.now) ≡ None) × (draft.new ≡ with_node draft.old (leaf_in line.now)))
-        (λ e. IsLeast e (first_code (leaf_faults draft.old line.now))) }
+        (λ e. IsFirstFault code_of e (first_code (leaf_faults draft.old line.now))) }
 {
     let node = leaf_of(draft, line)?;
     draft.add_node(node)?;

@@ -1,17 +1,16 @@
-// Lines `leg,SHIPMENT,FROM,TO,DEPART,ARRIVE`.
+//! Lines `leg,SHIPMENT,FROM,TO,DEPART,ARRIVE`.
 ghost use Rattle.std.specs.Prelude.{◌≡◌, ◌&&◌, Some, None, MatchResult};
-ghost use Rattle.fp_reader.specs.Faults.{first_code};
-ghost use Rattle.fp_reader.specs.Fields.{has_number};
+ghost use Rattle.fp_fields.specs.Findings.{IsFirstFault, first_code};
+ghost use Rattle.fp_fields.specs.Fields.{has_number};
 ghost use Rattle.fp_certificate.specs.Codes.{code_of};
-ghost use Rattle.fp_certificate.specs.Outcomes.{IsLeast};
 ghost use Rattle.fp_certificate.specs.Timetables.{leg_faults, leg_in, with_leg};
 
 use crate::drafts::Draft;
 use crate::groups::Group;
-use crate::line_faults::{AddFault, LineFault};
-use crate::line_fields::{arc_at, shipment_at, time_at};
-use crate::lookups::Lookup;
-use fp_reader::fields::{has_fields, has_number};
+use crate::line_faults::LineFault;
+use crate::line_fields::time_at;
+use fp_fields::fields::{has_fields, has_number};
+use fp_fields::{Lookup, RecordError};
 use fp_records::Record;
 use fp_timetable::LegLine;
 
@@ -37,10 +36,10 @@ fn leg_of(lookup: &Lookup<'_>, draft: &Draft, line: &Record) -> Result<LegLine, 
     if draft.is_misplaced(Group::Legs) {
         return Err(LineFault::Order);
     }
-    let Some(shipment) = shipment_at(lookup, line, 1) else {
+    let Some(shipment) = lookup.shipment_at(line, 1) else {
         return Err(LineFault::Name);
     };
-    let Some(arc) = arc_at(lookup, line, 2, 3) else {
+    let Some(arc) = lookup.arc_at(line, 2, 3) else {
         return Err(LineFault::Name);
     };
     let Some(depart) = time_at(line, 4) else {
@@ -58,10 +57,14 @@ fn leg_of(lookup: &Lookup<'_>, draft: &Draft, line: &Record) -> Result<LegLine, 
 }
 
 /// Adds the leg of a line, or tells the first of the line's faults.
-pub fn read_leg(lookup: &Lookup<'_>, draft: &mut Draft, line: &Record) -> Result<(), AddFault>
+pub fn read_leg(
+    lookup: &Lookup<'_>,
+    draft: &mut Draft,
+    line: &Record,
+) -> Result<(), RecordError<LineFault>>
     ensures { MatchResult result
         (λ _. (first_code (leg_faults lookup.now draft.old line.now) ≡ None) × (draft.new ≡ with_leg draft.old (leg_in lookup.now line.now)))
-        (λ e. IsLeast e (first_code (leg_faults lookup.now draft.old line.now))) }
+        (λ e. IsFirstFault code_of e (first_code (leg_faults lookup.now draft.old line.now))) }
 {
     let leg = leg_of(lookup, draft, line)?;
     draft.add_leg(leg)?;

@@ -1,5 +1,5 @@
-//! The certificate of an answer, and its text both ways. What it is made of and how it is written stand in `fp_lines`; here it
-//! is read from the records of its text, or the first fault is named.
+//! The certificate of an answer, and its text both ways. What it is made of and how it is written
+//! stand in `fp_lines`; here it is read from the records of its text, or the first fault is named.
 #![tactic(auto)]
 
 mod answer_lines;
@@ -13,7 +13,6 @@ mod leaf_lines;
 mod leg_lines;
 mod line_faults;
 mod line_fields;
-mod lookups;
 mod open_tables;
 mod point_lines;
 mod reading;
@@ -27,10 +26,7 @@ mod weight_lines;
 pub use faults::CertFault;
 pub use fp_lines::{Answer, Certificate, Node, Spent, write};
 pub use laws::written_reads_back;
-pub use reading::read;
+pub use reading::{read, read_with_index};
 
-/// No memory was found.
+/// The error of a call that finds no memory.
 pub type NoMemory = std::alloc::AllocError;
-
-#[cfg(test)]
-mod tests;

@@ -1,8 +1,8 @@
-// The faults that a line may have, and their codes.
+//! The faults that a line may have, and their codes.
 ghost use Rattle.std.specs.Prelude.{◌≡◌};
 ghost use Rattle.fp_certificate.specs.Codes.{code_of};
 
-use std::alloc::AllocError;
+use fp_fields::RecordError;
 
 /// A fault of one line. They are looked for in this order, and the first is told.
 #[derive(Clone, Copy)]
@@ -40,33 +40,13 @@ impl LineFault {
     }
 }
 
-/// Why a line isn't added.
-#[derive(Clone, Copy)]
-pub enum AddFault {
-    /// The line has this fault, and none that is looked for before it.
-    Line(LineFault),
-    /// No memory was found.
-    NoMemory,
-}
-
-impl From<LineFault> for AddFault {
+impl From<LineFault> for RecordError<LineFault> {
     ghost use Rattle.std.specs.Prelude.{◌≡◌};
-    ghost use Rattle.fp_certificate.specs.declared.line_faults.AddFault.TheVariants as add;
+    ghost use Rattle.fp_fields.specs.declared.errors.RecordError.TheVariants as error;
 
-    ghost from_gives = { λ fault e. e ≡ add.Line fault };
+    ghost from_gives = { λ fault e. e ≡ error.Fault fault };
 
-    fn from(fault: LineFault) -> AddFault {
-        AddFault::Line(fault)
-    }
-}
-
-impl From<AllocError> for AddFault {
-    ghost use Rattle.std.specs.Prelude.{◌≡◌};
-    ghost use Rattle.fp_certificate.specs.declared.line_faults.AddFault.TheVariants.{NoMemory};
-
-    ghost from_gives = { λ _ e. e ≡ NoMemory };
-
-    fn from(_error: AllocError) -> AddFault {
-        AddFault::NoMemory
+    fn from(fault: LineFault) -> RecordError<LineFault> {
+        RecordError::Fault(fault)
     }
 }

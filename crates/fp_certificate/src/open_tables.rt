@@ -1,4 +1,4 @@
-// The last of the tables that are read, and its last share: what comes next is theirs.
+//! The last of the tables that are read, and its last share: what comes next is theirs.
 ghost use Rattle.std.specs.Prelude.{◌≡◌, ◌<◌, false, length, OnOk};
 ghost use Rattle.fp_certificate.specs.Tables.{and_share, and_weight, lacks_share, with_last};
 

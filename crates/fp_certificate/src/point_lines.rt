@@ -1,22 +1,21 @@
-// Lines `point,TERMINAL,TIME,ROUND`.
+//! Lines `point,TERMINAL,TIME,ROUND`.
 ghost use Rattle.std.specs.Prelude.{◌≡◌, ◌<◌, false, ◌&&◌, Some, None, true, MatchOption, MatchResult};
-ghost use Rattle.fp_reader.specs.Faults.{first_code};
-ghost use Rattle.fp_reader.specs.Fields.{has_number, is_between, number_at};
+ghost use Rattle.fp_fields.specs.Findings.{IsFirstFault, first_code};
+ghost use Rattle.fp_fields.specs.Fields.{has_number, is_between, number_at};
+ghost use Rattle.fp_model.specs.declared.limits.TheConstants.{LAST_ROUND};
 ghost use Rattle.fp_certificate.specs.Codes.{code_of};
-ghost use Rattle.fp_certificate.specs.Outcomes.{IsLeast};
 ghost use Rattle.fp_certificate.specs.Points.{point_faults, point_in, with_point};
 
 use crate::drafts::Draft;
 use crate::groups::Group;
-use crate::line_faults::{AddFault, LineFault};
-use crate::line_fields::{terminal_at, time_at};
-use crate::lookups::Lookup;
-use fp_reader::digits::short_between;
-use fp_reader::fields::{field_at, has_fields, has_number};
+use crate::line_faults::LineFault;
+use crate::line_fields::time_at;
+use fp_fields::digits::short_between;
+use fp_fields::fields::{field_at, has_fields, has_number};
+use fp_fields::{Lookup, RecordError};
+use fp_model::limits::LAST_ROUND;
 use fp_records::Record;
 use fp_timenodes::AddedPoint;
-
-const LAST_ROUND: u32 = 4_000;
 
 // Whether the time and the round are numbers.
 fn has_point_digits(line: &Record) -> bool
@@ -28,8 +27,8 @@ fn has_point_digits(line: &Record) -> bool
 // The round of a point; `None` exactly where it isn't 1 to 4,000.
 fn round_of(line: &Record) -> Option<u32>
     requires { has_number line.now 3 ≡ true }
-    ensures { MatchOption result (is_between 1 4000 line.now 3 ≡ false)
-        (λ n. (is_between 1 4000 line.now 3 ≡ true) × (n ≡ number_at line.now 3)) }
+    ensures { MatchOption result (is_between 1 LAST_ROUND line.now 3 ≡ false)
+        (λ n. (is_between 1 LAST_ROUND line.now 3 ≡ true) × (n ≡ number_at line.now 3)) }
 {
     short_between(field_at(line, 3), 1, LAST_ROUND)
 }
@@ -49,7 +48,7 @@ fn point_of(lookup: &Lookup<'_>, draft: &Draft, line: &Record) -> Result<AddedPo
     if draft.is_misplaced(Group::Points) {
         return Err(LineFault::Order);
     }
-    let Some(terminal) = terminal_at(lookup, line, 1) else {
+    let Some(terminal) = lookup.terminal_at(line, 1) else {
         return Err(LineFault::Name);
     };
     let Some(at) = time_at(line, 2) else {
@@ -66,11 +65,15 @@ fn point_of(lookup: &Lookup<'_>, draft: &Draft, line: &Record) -> Result<AddedPo
 }
 
 /// Adds the point of a line, or tells the first of the line's faults.
-pub fn read_point(lookup: &Lookup<'_>, draft: &mut Draft, line: &Record) -> Result<(), AddFault>
+pub fn read_point(
+    lookup: &Lookup<'_>,
+    draft: &mut Draft,
+    line: &Record,
+) -> Result<(), RecordError<LineFault>>
     ensures { MatchResult result
         (λ _. (first_code (point_faults lookup.now draft.old line.now) ≡ None)
         × (draft.new ≡ with_point draft.old (point_in lookup.now line.now)))
-        (λ e. IsLeast e (first_code (point_faults lookup.now draft.old line.now))) }
+        (λ e. IsFirstFault code_of e (first_code (point_faults lookup.now draft.old line.now))) }
 {
     let point = point_of(lookup, draft, line)?;
     draft.add_point(point)?;

@@ -1,8 +1,10 @@
-// Reads a certificate.
+//! Reads a certificate.
 ghost use Rattle.std.specs.Prelude.{◌≡◌, ◌≤◌, ◌+◌, ◌-◌, ◌^◌, ◌<◌, ℕ, drop, length, Err, IfOk, MatchResult, None, Ok};
 ghost use Rattle.fp_prices.specs.Tables.{AreCountable};
-ghost use Rattle.fp_reader.specs.Faults.{first_code};
-ghost use Rattle.fp_certificate.specs.Outcomes.{IsFirst, IsLeast};
+ghost use Rattle.fp_fields.specs.Indexes.{entries_of};
+ghost use Rattle.fp_fields.specs.Findings.{IsFirstFault, first_code};
+ghost use Rattle.fp_certificate.specs.Codes.{code_of};
+ghost use Rattle.fp_certificate.specs.Outcomes.{IsFirst};
 ghost use Rattle.fp_lines.specs.Ranges.{IsInRange};
 ghost use Rattle.fp_certificate.specs.Reading.{certificate_from, certificate_of, faults_of, finished, line_code, nothing_read, with_kind, with_line};
 
@@ -13,8 +15,7 @@ use crate::faults::CertFault;
 use crate::kinds::{LineKind, kind_of};
 use crate::leaf_lines::read_leaf;
 use crate::leg_lines::read_leg;
-use crate::line_faults::{AddFault, LineFault};
-use crate::lookups::Lookup;
+use crate::line_faults::LineFault;
 use crate::point_lines::read_point;
 use crate::scale_lines::read_scale;
 use crate::share_lines::read_share;
@@ -22,6 +23,7 @@ use crate::split_lines::{read_by_arc, read_by_time};
 use crate::table_lines::read_table;
 use crate::truck_lines::read_truck;
 use crate::weight_lines::read_weight;
+use fp_fields::{Index, Lookup, RecordError};
 use fp_lines::Certificate;
 use fp_model::Instance;
 use fp_records::Record;
@@ -34,11 +36,11 @@ fn read_kind(
     draft: &mut Draft,
     kind: LineKind,
     line: &Record,
-) -> Result<(), AddFault>
+) -> Result<(), RecordError<LineFault>>
     requires { length draft.old.certificate.tables < 2 ^ 32 }
     ensures { MatchResult result
         (λ _. (first_code (faults_of lookup.now draft.old kind line.now) ≡ None) × (draft.new ≡ with_kind lookup.now draft.old kind line.now))
-        (λ e. IsLeast e (first_code (faults_of lookup.now draft.old kind line.now))) }
+        (λ e. IsFirstFault code_of e (first_code (faults_of lookup.now draft.old kind line.now))) }
 {
     match kind {
         LineKind::Direct => read_direct(draft, line),
@@ -65,18 +67,18 @@ fn read_line(
     lookup: &Lookup<'_>,
     draft: &mut Draft,
     line: &Record,
-) -> Result<(), AddFault>
+) -> Result<(), RecordError<LineFault>>
     requires { length draft.old.certificate.tables < 2 ^ 32 }
     ensures { MatchResult result
         (λ _. (line_code lookup.now draft.old line.now ≡ None) × (draft.new ≡ with_line lookup.now draft.old line.now))
-        (λ e. IsLeast e (line_code lookup.now draft.old line.now)) }
+        (λ e. IsFirstFault code_of e (line_code lookup.now draft.old line.now)) }
 {
     if draft.has_ended() {
-        return Err(AddFault::Line(LineFault::AfterEnd));
+        return Err(RecordError::Fault(LineFault::AfterEnd));
     }
     match kind_of(line) {
         Some(kind) => read_kind(alloc, lookup, draft, kind, line),
-        None => Err(AddFault::Line(LineFault::Kind)),
+        None => Err(RecordError::Fault(LineFault::Kind)),
     }
 }
 
@@ -96,13 +98,13 @@ fn draft_of(
     for (place, line) in lines.iter().enumerate() {
         match read_line(alloc, lookup, &mut draft, line) {
             Ok(()) => {}
-            Err(AddFault::Line(fault)) => {
+            Err(RecordError::Fault(fault)) => {
                 return Err(CertFault::Bad {
                     ordinal: (first + place) as u32,
                     code: fault.code(),
                 });
             }
-            Err(AddFault::NoMemory) => return Err(CertFault::NoMemory),
+            Err(RecordError::NoMemory) => return Err(CertFault::NoMemory),
         }
     }
     Ok(draft)
@@ -110,15 +112,17 @@ fn draft_of(
 
 /// The certificate of an instance that the records from place `from` on give, or the first fault.
 ///
-/// There are fewer than `2^32 - 1` records, and `from` is at most their number. Ordinals count from 1 over all records. The
-/// records are the lines that [`fp_lines::write`] tells of, in that order; legs, trucks, shares and weights may stand in any
-/// order among themselves. A number is one or more ASCII digits, leading zeros allowed. A certificate that was read is in
-/// range: times are at most 100,000, rounds at most 4,000, a point's round at least 1, a fastest time at most 10,000,000, a
-/// scale is 1 to 1,000,000,000 and fits the instance, all other numbers are at most `2^127 - 1`, and the tables that leaves
-/// name exist. Its tables, and the shares of each, are fewer than `2^32 - 1`.
+/// There are fewer than `2^32 - 1` records, and `from` is at most their number. Ordinals count from
+/// 1 over all records. The records are the lines that [`fp_lines::write`] tells of, in that order;
+/// legs, trucks, shares and weights may stand in any order among themselves. A number is one or
+/// more ASCII digits, leading zeros allowed. A certificate that was read is in range: times are at
+/// most 100,000, rounds at most 4,000, a point's round at least 1, a fastest time at most
+/// 10,000,000, a scale is 1 to 1,000,000,000 and fits the instance, all other numbers are at most
+/// `2^127 - 1`, and the tables that leaves name exist. Its tables, and the shares of each, are
+/// fewer than `2^32 - 1`.
 ///
-/// `Bad` comes exactly where there is a fault: the first record with one decides ([`CertFault`] has the codes). `NoMemory`
-/// comes only where no memory is found.
+/// `Bad` comes exactly where there is a fault: the first record with one decides ([`CertFault`] has
+/// the codes). `NoMemory` comes only where no memory is found.
 pub fn read(
     alloc: Global,
     instance: &Instance,
@@ -133,7 +137,28 @@ pub fn read(
     ensures range { IfOk result (IsInRange instance.now) }
     ensures countable { IfOk result (λ c. AreCountable instance.now c.tables) }
 {
-    let lookup = Lookup::new(alloc, instance)?;
+    let index = Index::of(alloc, instance)?;
+    read_with_index(alloc, instance, &index, lines, from)
+}
+
+/// What [`read`] reads, where the index of the instance is there already.
+pub fn read_with_index(
+    alloc: Global,
+    instance: &Instance,
+    index: &Index<'_>,
+    lines: &[Record],
+    from: usize,
+) -> Result<Certificate, CertFault>
+    requires index { index.now ≡ entries_of instance.now }
+    requires from { from ≤ length lines.now }
+    requires few { length lines.now < 2 ^ 32 - 1 }
+    ensures read { IfOk result (λ c. certificate_of instance.now (from + 1) (drop from lines.now) ≡ Ok c) }
+    ensures bad { (ordinal code : ℕ) → result ≡ Err (CertFault.Bad ordinal code)
+        → certificate_of instance.now (from + 1) (drop from lines.now) ≡ Err (record { ordinal = ordinal; code = code }) }
+    ensures range { IfOk result (IsInRange instance.now) }
+    ensures countable { IfOk result (λ c. AreCountable instance.now c.tables) }
+{
+    let lookup = Lookup::new(instance, index);
     let draft = draft_of(alloc, &lookup, &lines[from..], from + 1)?;
     draft.finish(lines.len() as u32 + 1)
 }

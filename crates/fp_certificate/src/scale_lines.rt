@@ -1,28 +1,27 @@
-// Lines `scale,N`.
+//! Lines `scale,N`.
 ghost use Rattle.std.specs.Prelude.{◌≡◌, false, Some, None, true, MatchOption, MatchResult};
-ghost use Rattle.fp_reader.specs.Faults.{first_code};
-ghost use Rattle.fp_reader.specs.Fields.{has_number, number_at};
+ghost use Rattle.fp_fields.specs.Findings.{IsFirstFault, first_code};
+ghost use Rattle.fp_fields.specs.Fields.{has_number, number_at};
 ghost use Rattle.fp_certificate.specs.Answers.{has_bad_scale, scale_faults, with_scale};
 ghost use Rattle.fp_certificate.specs.Codes.{code_of};
-ghost use Rattle.fp_certificate.specs.Outcomes.{IsLeast};
 
 use crate::drafts::Draft;
 use crate::groups::Group;
-use crate::line_faults::{AddFault, LineFault};
-use crate::lookups::Lookup;
-use fp_reader::digits::short_between;
-use fp_reader::fields::{field_at, has_fields, has_number};
+use crate::line_faults::LineFault;
+use fp_fields::digits::short_between;
+use fp_fields::fields::{field_at, has_fields, has_number};
+use fp_fields::{Lookup, RecordError};
+use fp_model::limits::GREATEST_SCALE;
 use fp_records::Record;
 
-const LARGEST_SCALE: u32 = 1_000_000_000;
-
-// The scale of a line; `None` exactly where it isn't 1 to 1,000,000,000 or doesn't fit the instance.
+// The scale of a line; `None` exactly where it isn't 1 to 1,000,000,000 or doesn't fit the
+// instance.
 fn scale_at(lookup: &Lookup<'_>, line: &Record) -> Option<u32>
     requires { has_number line.now 1 ≡ true }
     ensures { MatchOption result (has_bad_scale lookup.now line.now ≡ true)
         (λ n. (has_bad_scale lookup.now line.now ≡ false) × (n ≡ number_at line.now 1)) }
 {
-    let scale = short_between(field_at(line, 1), 1, LARGEST_SCALE)?;
+    let scale = short_between(field_at(line, 1), 1, GREATEST_SCALE)?;
     if lookup.fits(scale) {
         Some(scale)
     } else {
@@ -52,10 +51,14 @@ fn scale_of(lookup: &Lookup<'_>, draft: &Draft, line: &Record) -> Result<u32, Li
 }
 
 /// Takes the scale of a line, or tells the first of the line's faults.
-pub fn read_scale(lookup: &Lookup<'_>, draft: &mut Draft, line: &Record) -> Result<(), AddFault>
+pub fn read_scale(
+    lookup: &Lookup<'_>,
+    draft: &mut Draft,
+    line: &Record,
+) -> Result<(), RecordError<LineFault>>
     ensures { MatchResult result
         (λ _. (first_code (scale_faults lookup.now draft.old line.now) ≡ None) × (draft.new ≡ with_scale draft.old (number_at line.now 1)))
-        (λ e. IsLeast e (first_code (scale_faults lookup.now draft.old line.now))) }
+        (λ e. IsFirstFault code_of e (first_code (scale_faults lookup.now draft.old line.now))) }
 {
     let scale = scale_of(lookup, draft, line)?;
     draft.set_scale(scale);

@@ -1,18 +1,17 @@
-// Lines `share,FROM,TO,POINT,V`, each followed by its weights.
+//! Lines `share,FROM,TO,POINT,V`, each followed by its weights.
 ghost use Rattle.std.specs.Prelude.{◌≡◌, ◌<◌, length, OnOk, ◌&&◌, Some, None, MatchResult};
-ghost use Rattle.fp_reader.specs.Faults.{first_code};
-ghost use Rattle.fp_reader.specs.Fields.{has_number};
+ghost use Rattle.fp_fields.specs.Findings.{IsFirstFault, first_code};
+ghost use Rattle.fp_fields.specs.Fields.{has_number};
 ghost use Rattle.fp_certificate.specs.Codes.{code_of};
-ghost use Rattle.fp_certificate.specs.Outcomes.{IsLeast};
 ghost use Rattle.fp_certificate.specs.Tables.{share_faults, share_in, with_share};
 
 use crate::drafts::Draft;
 use crate::groups::Group;
-use crate::line_faults::{AddFault, LineFault};
-use crate::line_fields::{arc_at, small_at, time_at};
-use crate::lookups::Lookup;
+use crate::line_faults::LineFault;
+use crate::line_fields::{figure_at, time_at};
+use fp_fields::fields::{has_fields, has_number};
+use fp_fields::{Lookup, RecordError};
 use fp_prices::Share;
-use fp_reader::fields::{has_fields, has_number};
 use fp_records::Record;
 use std::alloc::Global;
 
@@ -44,13 +43,13 @@ fn share_of(
     if draft.is_misplaced(Group::Tables) || draft.certificate.tables.is_empty() {
         return Err(LineFault::Order);
     }
-    let Some(arc) = arc_at(lookup, line, 1, 2) else {
+    let Some(arc) = lookup.arc_at(line, 1, 2) else {
         return Err(LineFault::Name);
     };
     let Some(point) = time_at(line, 3) else {
         return Err(LineFault::Range);
     };
-    let Some(v) = small_at(line, 4) else {
+    let Some(v) = figure_at(line, 4) else {
         return Err(LineFault::Range);
     };
     Ok(Share {
@@ -67,11 +66,11 @@ pub fn read_share(
     lookup: &Lookup<'_>,
     draft: &mut Draft,
     line: &Record,
-) -> Result<(), AddFault>
+) -> Result<(), RecordError<LineFault>>
     ensures { MatchResult result
         (λ _. (first_code (share_faults lookup.now draft.old line.now) ≡ None)
         × (draft.new ≡ with_share draft.old (share_in lookup.now line.now)))
-        (λ e. IsLeast e (first_code (share_faults lookup.now draft.old line.now))) }
+        (λ e. IsFirstFault code_of e (first_code (share_faults lookup.now draft.old line.now))) }
 {
     let share = share_of(alloc, lookup, draft, line)?;
     draft.add_share(share)?;

@@ -1,19 +1,18 @@
-// Lines `split,arc,SHIPMENT,FROM,TO` and `split,time,SHIPMENT,TERMINAL,AT`.
+//! Lines `split,arc,SHIPMENT,FROM,TO` and `split,time,SHIPMENT,TERMINAL,AT`.
 ghost use Rattle.std.specs.Prelude.{◌≡◌, ◌<◌, Some, None, MatchResult};
-ghost use Rattle.fp_reader.specs.Faults.{first_code};
-ghost use Rattle.fp_reader.specs.Fields.{has_number};
+ghost use Rattle.fp_fields.specs.Findings.{IsFirstFault, first_code};
+ghost use Rattle.fp_fields.specs.Fields.{has_number};
 ghost use Rattle.fp_tree.specs.declared.sides.Split.TheVariants.{ByArc, ByTime};
 ghost use Rattle.fp_certificate.specs.Codes.{code_of};
-ghost use Rattle.fp_certificate.specs.Outcomes.{IsLeast};
 ghost use Rattle.fp_certificate.specs.Trees.{by_arc_faults, by_arc_in, by_time_faults, by_time_in, with_node};
 
 use crate::drafts::Draft;
 use crate::groups::Group;
-use crate::line_faults::{AddFault, LineFault};
-use crate::line_fields::{arc_at, shipment_at, terminal_at, time_at};
-use crate::lookups::Lookup;
+use crate::line_faults::LineFault;
+use crate::line_fields::time_at;
+use fp_fields::fields::{has_fields, has_number};
+use fp_fields::{Lookup, RecordError};
 use fp_lines::Node;
-use fp_reader::fields::{has_fields, has_number};
 use fp_records::Record;
 use fp_tree::Split;
 
@@ -29,10 +28,10 @@ fn by_arc_of(lookup: &Lookup<'_>, draft: &Draft, line: &Record) -> Result<Node, 
     if draft.is_misplaced(Group::Tree) {
         return Err(LineFault::Order);
     }
-    let Some(shipment) = shipment_at(lookup, line, 2) else {
+    let Some(shipment) = lookup.shipment_at(line, 2) else {
         return Err(LineFault::Name);
     };
-    let Some(arc) = arc_at(lookup, line, 3, 4) else {
+    let Some(arc) = lookup.arc_at(line, 3, 4) else {
         return Err(LineFault::Name);
     };
     Ok(Node::Branch {
@@ -41,11 +40,15 @@ fn by_arc_of(lookup: &Lookup<'_>, draft: &Draft, line: &Record) -> Result<Node, 
 }
 
 /// Adds the node of `split,arc,SHIPMENT,FROM,TO`, or tells the first of the line's faults.
-pub fn read_by_arc(lookup: &Lookup<'_>, draft: &mut Draft, line: &Record) -> Result<(), AddFault>
+pub fn read_by_arc(
+    lookup: &Lookup<'_>,
+    draft: &mut Draft,
+    line: &Record,
+) -> Result<(), RecordError<LineFault>>
     ensures { MatchResult result
         (λ _. (first_code (by_arc_faults lookup.now draft.old line.now) ≡ None)
         × (draft.new ≡ with_node draft.old (by_arc_in lookup.now line.now)))
-        (λ e. IsLeast e (first_code (by_arc_faults lookup.now draft.old line.now))) }
+        (λ e. IsFirstFault code_of e (first_code (by_arc_faults lookup.now draft.old line.now))) }
 {
     let node = by_arc_of(lookup, draft, line)?;
     draft.add_node(node)?;
@@ -67,10 +70,10 @@ fn by_time_of(lookup: &Lookup<'_>, draft: &Draft, line: &Record) -> Result<Node,
     if draft.is_misplaced(Group::Tree) {
         return Err(LineFault::Order);
     }
-    let Some(shipment) = shipment_at(lookup, line, 2) else {
+    let Some(shipment) = lookup.shipment_at(line, 2) else {
         return Err(LineFault::Name);
     };
-    let Some(terminal) = terminal_at(lookup, line, 3) else {
+    let Some(terminal) = lookup.terminal_at(line, 3) else {
         return Err(LineFault::Name);
     };
     let Some(at) = time_at(line, 4) else {
@@ -86,11 +89,15 @@ fn by_time_of(lookup: &Lookup<'_>, draft: &Draft, line: &Record) -> Result<Node,
 }
 
 /// Adds the node of `split,time,SHIPMENT,TERMINAL,AT`, or tells the first of the line's faults.
-pub fn read_by_time(lookup: &Lookup<'_>, draft: &mut Draft, line: &Record) -> Result<(), AddFault>
+pub fn read_by_time(
+    lookup: &Lookup<'_>,
+    draft: &mut Draft,
+    line: &Record,
+) -> Result<(), RecordError<LineFault>>
     ensures { MatchResult result
         (λ _. (first_code (by_time_faults lookup.now draft.old line.now) ≡ None)
         × (draft.new ≡ with_node draft.old (by_time_in lookup.now line.now)))
-        (λ e. IsLeast e (first_code (by_time_faults lookup.now draft.old line.now))) }
+        (λ e. IsFirstFault code_of e (first_code (by_time_faults lookup.now draft.old line.now))) }
 {
     let node = by_time_of(lookup, draft, line)?;
     draft.add_node(node)?;

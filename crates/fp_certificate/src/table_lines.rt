@@ -1,16 +1,16 @@
-// Lines `table,ID`, each followed by its shares.
+//! Lines `table,ID`, each followed by its shares.
 ghost use Rattle.std.specs.Prelude.{◌≡◌, ◌+◌, ◌==◌, Some, None, true, length, MatchResult};
-ghost use Rattle.fp_reader.specs.Faults.{first_code};
-ghost use Rattle.fp_reader.specs.Fields.{has_number, number_at};
+ghost use Rattle.fp_fields.specs.Findings.{IsFirstFault, first_code};
+ghost use Rattle.fp_fields.specs.Fields.{has_number, number_at};
 ghost use Rattle.fp_certificate.specs.Codes.{code_of};
-ghost use Rattle.fp_certificate.specs.Outcomes.{IsLeast};
 ghost use Rattle.fp_certificate.specs.Tables.{table_faults, with_table};
 
 use crate::drafts::Draft;
 use crate::groups::Group;
-use crate::line_faults::{AddFault, LineFault};
-use fp_reader::digits::number_between;
-use fp_reader::fields::{field_at, has_fields, has_number};
+use crate::line_faults::LineFault;
+use fp_fields::RecordError;
+use fp_fields::digits::number_between;
+use fp_fields::fields::{field_at, has_fields, has_number};
 use fp_records::Record;
 use std::alloc::Global;
 
@@ -42,10 +42,14 @@ fn test_table(draft: &Draft, line: &Record) -> Result<(), LineFault>
 }
 
 /// Adds a table without shares, or tells the first of the line's faults.
-pub fn read_table(alloc: Global, draft: &mut Draft, line: &Record) -> Result<(), AddFault>
+pub fn read_table(
+    alloc: Global,
+    draft: &mut Draft,
+    line: &Record,
+) -> Result<(), RecordError<LineFault>>
     ensures { MatchResult result
         (λ _. (first_code (table_faults draft.old line.now) ≡ None) × (draft.new ≡ with_table draft.old))
-        (λ e. IsLeast e (first_code (table_faults draft.old line.now))) }
+        (λ e. IsFirstFault code_of e (first_code (table_faults draft.old line.now))) }
 {
     test_table(draft, line)?;
     draft.add_table(alloc)?;

@@ -1,17 +1,16 @@
-// Lines `truck,FROM,TO,DEPART,TRUCKS,LOAD`.
+//! Lines `truck,FROM,TO,DEPART,TRUCKS,LOAD`.
 ghost use Rattle.std.specs.Prelude.{◌≡◌, ◌&&◌, Some, None, MatchResult};
-ghost use Rattle.fp_reader.specs.Faults.{first_code};
-ghost use Rattle.fp_reader.specs.Fields.{has_number};
+ghost use Rattle.fp_fields.specs.Findings.{IsFirstFault, first_code};
+ghost use Rattle.fp_fields.specs.Fields.{has_number};
 ghost use Rattle.fp_certificate.specs.Codes.{code_of};
-ghost use Rattle.fp_certificate.specs.Outcomes.{IsLeast};
 ghost use Rattle.fp_certificate.specs.Timetables.{truck_faults, truck_in, with_truck};
 
 use crate::drafts::Draft;
 use crate::groups::Group;
-use crate::line_faults::{AddFault, LineFault};
-use crate::line_fields::{arc_at, small_at, time_at};
-use crate::lookups::Lookup;
-use fp_reader::fields::{has_fields, has_number};
+use crate::line_faults::LineFault;
+use crate::line_fields::{figure_at, time_at};
+use fp_fields::fields::{has_fields, has_number};
+use fp_fields::{Lookup, RecordError};
 use fp_records::Record;
 use fp_timetable::TruckLine;
 
@@ -37,16 +36,16 @@ fn truck_of(lookup: &Lookup<'_>, draft: &Draft, line: &Record) -> Result<TruckLi
     if draft.is_misplaced(Group::Trucks) {
         return Err(LineFault::Order);
     }
-    let Some(arc) = arc_at(lookup, line, 1, 2) else {
+    let Some(arc) = lookup.arc_at(line, 1, 2) else {
         return Err(LineFault::Name);
     };
     let Some(depart) = time_at(line, 3) else {
         return Err(LineFault::Range);
     };
-    let Some(trucks) = small_at(line, 4) else {
+    let Some(trucks) = figure_at(line, 4) else {
         return Err(LineFault::Range);
     };
-    let Some(load) = small_at(line, 5) else {
+    let Some(load) = figure_at(line, 5) else {
         return Err(LineFault::Range);
     };
     Ok(TruckLine {
@@ -58,11 +57,15 @@ fn truck_of(lookup: &Lookup<'_>, draft: &Draft, line: &Record) -> Result<TruckLi
 }
 
 /// Adds the departure of a line, or tells the first of the line's faults.
-pub fn read_truck(lookup: &Lookup<'_>, draft: &mut Draft, line: &Record) -> Result<(), AddFault>
+pub fn read_truck(
+    lookup: &Lookup<'_>,
+    draft: &mut Draft,
+    line: &Record,
+) -> Result<(), RecordError<LineFault>>
     ensures { MatchResult result
         (λ _. (first_code (truck_faults lookup.now draft.old line.now) ≡ None)
         × (draft.new ≡ with_truck draft.old (truck_in lookup.now line.now)))
-        (λ e. IsLeast e (first_code (truck_faults lookup.now draft.old line.now))) }
+        (λ e. IsFirstFault code_of e (first_code (truck_faults lookup.now draft.old line.now))) }
 {
     let truck = truck_of(lookup, draft, line)?;
     draft.add_truck(truck)?;

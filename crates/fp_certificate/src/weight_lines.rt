@@ -1,19 +1,18 @@
-// Lines `weight,SHIPMENT,W`.
+//! Lines `weight,SHIPMENT,W`.
 ghost use Rattle.std.specs.Prelude.{◌≡◌, false, OnOk, Some, None, MatchResult};
-ghost use Rattle.fp_reader.specs.Faults.{first_code};
-ghost use Rattle.fp_reader.specs.Fields.{has_number};
+ghost use Rattle.fp_fields.specs.Findings.{IsFirstFault, first_code};
+ghost use Rattle.fp_fields.specs.Fields.{has_number};
 ghost use Rattle.fp_certificate.specs.Codes.{code_of};
-ghost use Rattle.fp_certificate.specs.Outcomes.{IsLeast};
 ghost use Rattle.fp_certificate.specs.Tables.{lacks_share, weight_faults, weight_in, with_weight};
 
 use crate::drafts::Draft;
 use crate::groups::Group;
-use crate::line_faults::{AddFault, LineFault};
-use crate::line_fields::{shipment_at, small_at};
-use crate::lookups::Lookup;
+use crate::line_faults::LineFault;
+use crate::line_fields::figure_at;
 use crate::open_tables::lacks_share;
+use fp_fields::fields::{has_fields, has_number};
+use fp_fields::{Lookup, RecordError};
 use fp_prices::Weight;
-use fp_reader::fields::{has_fields, has_number};
 use fp_records::Record;
 
 // The weight of a line, or the first of the line's faults.
@@ -32,21 +31,25 @@ fn weight_of(lookup: &Lookup<'_>, draft: &Draft, line: &Record) -> Result<Weight
     if draft.is_misplaced(Group::Tables) || lacks_share(&draft.certificate.tables) {
         return Err(LineFault::Order);
     }
-    let Some(shipment) = shipment_at(lookup, line, 1) else {
+    let Some(shipment) = lookup.shipment_at(line, 1) else {
         return Err(LineFault::Name);
     };
-    let Some(w) = small_at(line, 2) else {
+    let Some(w) = figure_at(line, 2) else {
         return Err(LineFault::Range);
     };
     Ok(Weight { shipment, w })
 }
 
 /// Adds the weight of a line to the last share, or tells the first of the line's faults.
-pub fn read_weight(lookup: &Lookup<'_>, draft: &mut Draft, line: &Record) -> Result<(), AddFault>
+pub fn read_weight(
+    lookup: &Lookup<'_>,
+    draft: &mut Draft,
+    line: &Record,
+) -> Result<(), RecordError<LineFault>>
     ensures { MatchResult result
         (λ _. (first_code (weight_faults lookup.now draft.old line.now) ≡ None)
         × (draft.new ≡ with_weight draft.old (weight_in lookup.now line.now)))
-        (λ e. IsLeast e (first_code (weight_faults lookup.now draft.old line.now))) }
+        (λ e. IsFirstFault code_of e (first_code (weight_faults lookup.now draft.old line.now))) }
 {
     let weight = weight_of(lookup, draft, line)?;
     draft.add_weight(weight)?;

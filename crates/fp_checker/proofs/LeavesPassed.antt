@@ -22,9 +22,10 @@ use Rattle.fp_prices.proofs.SamePoints.{bound-same}
 use Rattle.fp_lines.specs.declared.certificates.Node.{Node}
 use Rattle.fp_lines.specs.declared.certificates.Node.TheVariants as node
 use Rattle.fp_lines.specs.Statements.{Statement}
-use Rattle.fp_checker.specs.Accepted.{claim_of}
-use Rattle.fp_checker.specs.Leaves.{IsBoundWorth, IsLeafWorth, fork_of, split_tail}
-use Rattle.fp_checker.specs.Points.{ArePointsOf, points_as_of}
+use Rattle.fp_acceptance.specs.Accepted.{claim_of}
+use Rattle.fp_acceptance.specs.Leaves.{IsLeafWorth, fork_of, split_tail}
+use Rattle.fp_checker.specs.Bounds.{IsBoundWorth}
+use Rattle.fp_acceptance.specs.Points.{ArePointsOf, points_as_of}
 use Rattle.fp_checker.proofs.TreeNodes.{nodes-from}
 
 -- a leaf is worth what a certificate claims
@@ -60,11 +61,6 @@ worth-leaf p table c whole way nodes i d price lt is same =
     ap (leaves_on (fork_of p) way) (nodes-from nodes i d (node.Leaf price) lt is) ∙ leaves_on-leaf (fork_of p) way (node.Leaf price) (drop (i + 1) nodes) refl in
     subst (λ (leaves : List (Leaf Node)). AllByRecursion (IsWorth p table c) leaves ↔ whole) on same
 
--- a leaf that isn't worth the claim
-pub worth-not : (p : Problem) (table : WindowTable) (c : Statement) (whole : Type 0) (way : List Step) (nodes : List Node) (i : ℕ) (d : Node) (price : LeafPrice) → i < length nodes →
-    get_or nodes i d ≡ node.Leaf price → (AreWorthFrom p table c way (drop i nodes) ↔ whole) → (IsLeafWorth p table c (claim_of c.answer) (node.Leaf price) (way_sides way) → ⊥) → whole → ⊥
-worth-not p table c whole way nodes i d price lt is same not_worth all = not_worth ((worth-leaf p table c whole way nodes i d price lt is same).1 all).0
-
 -- a leaf that is, after which others come
 pub worth-more : (p : Problem) (table : WindowTable) (c : Statement) (whole : Type 0) (way new : List Step) (nodes : List Node) (i : ℕ) (d : Node) (price : LeafPrice) → i < length nodes →
     get_or nodes i d ≡ node.Leaf price → (AreWorthFrom p table c way (drop i nodes) ↔ whole) → IsLeafWorth p table c (claim_of c.answer) (node.Leaf price) (way_sides way) →
@@ -83,11 +79,6 @@ worth-last p table c whole way nodes i d price lt is same worth ended =
     subst (λ (pending : List (List Side)). AreWorthIn p table c pending (drop (i + 1) nodes)) (sym ended)
     (subst (AllByRecursion (IsWorth p table c)) (sym (leaves_of-none (fork_of p) (drop (i + 1) nodes))) tt) in
     (worth-leaf p table c whole way nodes i d price lt is same).0 (worth, none)
-
--- no node is left
-pub worth-end : (p : Problem) (table : WindowTable) (c : Statement) (whole : Type 0) (way : List Step) (nodes : List Node) (i : ℕ) → length nodes ≤ i → (AreWorthFrom p table c way (drop i nodes) ↔ whole) → whole
-worth-end p table c whole way nodes i long same =
-    (subst (λ (rest : List Node). AreWorthFrom p table c way rest ↔ whole) (drop_all i nodes long) same).0 tt
 
 -- a bound tells whether its leaf is worth a claim
 told-worth : (p : Problem) (table : WindowTable) (c : Statement) (claim : ℕ) (price : LeafPrice) (sides : List Side) (bound : LeafBound) →

@@ -1,11 +1,6 @@
-pub mod Accepting
-pub mod Ascents
-pub mod Failing
-pub mod RoundCounts
-pub mod AddedOneByOne
+pub mod Results
 pub mod RoutesOfLines
 pub mod ToldPlans
-pub mod DepartureLines
 pub mod TreeNodes
 pub mod SharesInOrder
 pub mod LeavesPassed

@@ -8,20 +8,15 @@ use Rattle.std.proofs.lemmas.Bool.{cases_Bool, cond-false, cond-true, eqb-false}
 use Rattle.std.proofs.lemmas.List.{get_or-set_other, get_or-set_same, length-set, take_more}
 use Rattle.fp_model.specs.declared.parts.Leg.{Leg}
 use Rattle.fp_model.specs.declared.parts.Shipment.{Shipment}
-use Rattle.fp_model.specs.Costs.{lists_of}
-use Rattle.fp_model.specs.Numbered.{AllFrom, route_at}
+use Rattle.fp_lists.specs.Vectors.{lists_of}
+use Rattle.fp_model.specs.Numbered.{route_at}
+use Rattle.fp_lists.specs.Numbered.{AllFrom}
 use Rattle.fp_flatnet.specs.declared.window_tables.Window.{Window}
 use Rattle.fp_flatnet.specs.Windows.{IsInside, LiesWithin, PlanLiesWithin}
 use Rattle.fp_timetable.specs.declared.lines.LegLine.{LegLine}
 use Rattle.fp_timetable.specs.Lines.{line_leg, route_of, routes_from}
-use Rattle.fp_checker.specs.Plans.{LeavesInside}
-
--- a line of another shipment gives no leg, and one of the shipment gives its leg
-route_of-other : (l : LegLine) (lines : List LegLine) (k : ℕ) → nat_eq l.shipment k ≡ false → route_of (l ∷ lines) k ≡ route_of lines k
-route_of-other l lines k h = cond-false (nat_eq l.shipment k) (line_leg l ∷ route_of lines k) (route_of lines k) h
-
-route_of-own : (l : LegLine) (lines : List LegLine) (k : ℕ) → nat_eq l.shipment k ≡ true → route_of (l ∷ lines) k ≡ line_leg l ∷ route_of lines k
-route_of-own l lines k h = cond-true (nat_eq l.shipment k) (line_leg l ∷ route_of lines k) (route_of lines k) h
+use Rattle.fp_checker.specs.Lines.{LeavesInside}
+use Rattle.fp_timetable.proofs.ReadBack.{route_of-other, route_of-own}
 
 -- one more line at the end
 route_of-push_other : (lines : List LegLine) (l : LegLine) (k : ℕ) → nat_eq l.shipment k ≡ false → route_of (lines ++ (l ∷ [])) k ≡ route_of lines k

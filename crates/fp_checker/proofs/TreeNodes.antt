@@ -8,7 +8,7 @@ use Rattle.fp_tree.specs.declared.sides.Split.{Split}
 use Rattle.fp_tree.specs.Trees.{AreTrees}
 use Rattle.fp_lines.specs.declared.certificates.Node.{Node}
 use Rattle.fp_lines.specs.declared.certificates.Node.TheVariants.{Branch, Leaf}
-use Rattle.fp_checker.specs.Leaves.{fork_of}
+use Rattle.fp_acceptance.specs.Leaves.{fork_of}
 
 -- the nodes from a place on, where the node there is known
 pub nodes-from : (nodes : List Node) (i : ℕ) (d x : Node) → i < length nodes → get_or nodes i d ≡ x → drop i nodes ≡ x ∷ drop (i + 1) nodes

@@ -1,5 +1,3 @@
-pub mod Plans
-pub mod Points
-pub mod Leaves
-pub mod Accepted
-pub mod Claims
+pub mod Lines
+pub mod Bounds
+pub mod Rejections

@@ -1,18 +1,17 @@
-// The points that a certificate adds to the initial ones.
+//! The points that a certificate adds to the initial ones.
 ghost use Rattle.std.specs.Prelude.{ℕ, ◌≡◌, ◌≤◌, ◌==◌, ◌↔◌, All, AllPairs, IfOk, IsTrue, OnOk, count_by};
 ghost use Rattle.fp_timenodes.specs.declared.places.AddedPoint.{AddedPoint};
 ghost use Rattle.fp_flatnet.specs.Belonging.{BelongsTo};
 ghost use Rattle.fp_lines.specs.Ranges.{IsPointInRange};
-ghost use Rattle.fp_checker.specs.Points.{ArePointsOf, AreAddedPoints};
+ghost use Rattle.fp_acceptance.specs.Points.{ArePointsOf, AreAddedPoints};
+ghost use Rattle.fp_acceptance.specs.declared.limits.TheConstants.{MOST_IN_ROUND};
 
 use crate::rejections::{POINTS, Rejected};
+use fp_acceptance::MOST_IN_ROUND;
 use fp_flatnet::{Windows, initial};
 use fp_model::Instance;
 use fp_timenodes::{Added, AddedPoint, Points};
 use std::alloc::Global;
-
-// How many points one round may add.
-const MOST_IN_ROUND: usize = 8;
 
 // Whether rounds don't fall from point to point.
 fn rounds_ascend(added: &[AddedPoint]) -> bool
@@ -26,11 +25,11 @@ fn rounds_ascend(added: &[AddedPoint]) -> bool
     true
 }
 
-// Whether at most 8 of points whose rounds don't fall have one round.
+// Whether at most the limit of points whose rounds don't fall have one round.
 fn few_in_rounds(added: &[AddedPoint]) -> bool
     requires { AllPairs (λ (q r : AddedPoint). q.round ≤ r.round) added.now }
     ensures { IsTrue result
-        ↔ ((round : ℕ) → count_by (λ (q : AddedPoint). q.round == round) added.now ≤ 8) }
+        ↔ ((round : ℕ) → count_by (λ (q : AddedPoint). q.round == round) added.now ≤ MOST_IN_ROUND) }
 {
     for place in MOST_IN_ROUND..added.len() {
         if added[place - MOST_IN_ROUND].round == added[place].round {

@@ -1,3 +1,4 @@
+//! Tests a certificate part by part.
 ghost use Rattle.std.specs.Prelude.{ℕ, ◌≡◌, ◌<◌, ◌≤◌, IfOk, OnOk, length};
 ghost use Rattle.fp_model.specs.Numbered.{shipment_at};
 ghost use Rattle.fp_flatnet.specs.Belonging.{BelongsTo};
@@ -5,12 +6,13 @@ ghost use Rattle.fp_flatnet.specs.Tables.{windows_in};
 ghost use Rattle.fp_flatnet.specs.Windows.{AreWindows};
 ghost use Rattle.fp_prices.specs.Tables.{AreCountable};
 ghost use Rattle.fp_lines.specs.Ranges.{IsInRange};
-ghost use Rattle.fp_checker.specs.Accepted.{HoldBelow, IsAccepted, IsFirstFailed, IsFirstUnmet, IsPlanRejected, IsTooLate, TellsPlan};
-ghost use Rattle.fp_checker.specs.Claims.{Claims, ClaimsWithin};
-ghost use Rattle.fp_checker.specs.Plans.{HasTimetable, routes_of, stated_cost as stated_cost_of};
+ghost use Rattle.fp_acceptance.specs.Accepted.{IsAccepted, IsTooLate};
+ghost use Rattle.fp_checker.specs.Rejections.{IsPlanRejected, TellsPlan, IsFirstUnmet, HoldBelow, IsFirstFailed};
+ghost use Rattle.fp_acceptance.specs.Claims.{Claims, ClaimsWithin};
+ghost use Rattle.fp_acceptance.specs.Plans.{HasTimetable, routes_of, stated_cost as stated_cost_of};
 
 use crate::added_points::told_points;
-use crate::departures::{are_same, plan_cost};
+use crate::departures::are_same;
 use crate::fastest_times::is_too_late;
 use crate::leaves::are_leaves_worth;
 use crate::plans::told_plan;
@@ -20,11 +22,9 @@ use crate::trees::{is_tree, split_count};
 use fp_certificate::{Answer, Certificate};
 use fp_flatnet::Windows;
 use fp_model::{Instance, Plan};
-use fp_timetable::trucks;
+use fp_timetable::{plan_cost, trucks};
+use fp_tree::MOST_SPLITS;
 use std::alloc::Global;
-
-// How many splits a tree may have.
-const MOST_SPLITS: usize = 100_000;
 
 // The cost that an answer states of its plan, and 0 where it has none.
 fn stated_cost(answer: Answer) -> u128
@@ -83,7 +83,7 @@ fn test_bound(
         return Err(Rejected::Part { number: PRICES });
     }
     let nodes = certificate.tree.as_slice();
-    if !is_tree(nodes) || split_count(nodes) > MOST_SPLITS {
+    if !is_tree(nodes) || split_count(nodes) > MOST_SPLITS as usize {
         return Err(Rejected::Part { number: TREE });
     }
     if !are_leaves_worth(alloc, instance, windows, certificate, &points)? {
@@ -167,7 +167,7 @@ fn test_parts(
 /// The instance has the scale of prices under which the certificate was made. The certificate's
 /// numbers are in range, as those of one that was read, and there are fewer than `2^32 - 1` tables
 /// and shares in each. Takes time that grows with its lines, but for the leaves, each of which is
-/// bounded anew. `NoMemory` comes only where no memory is found.
+/// bounded anew. `NoMemory` only where no memory is found.
 pub fn check(
     alloc: Global,
     instance: &Instance,
@@ -194,7 +194,7 @@ pub fn check(
 /// claims of other plans isn't looked at.
 ///
 /// `Rejected` tells the first of these parts that fails, and 1 where the answer is an infeasible
-/// one. `NoMemory` comes only where no memory is found.
+/// one. `NoMemory` only where no memory is found.
 pub fn plan_of(
     alloc: Global,
     instance: &Instance,

@@ -1,7 +1,7 @@
-// Whether a shipment can't arrive in time.
+//! Whether a shipment can't arrive in time.
 ghost use Rattle.std.specs.Prelude.{◌+◌, ◌<◌, ◌↔◌, IfOk, IfSome, IsTrue, length};
 ghost use Rattle.fp_model.specs.Numbered.{shipment_at};
-ghost use Rattle.fp_checker.specs.Accepted.{IsTooLate};
+ghost use Rattle.fp_acceptance.specs.Accepted.{IsTooLate};
 
 use crate::NoMemory;
 use fp_flatnet::fastest;

@@ -1,12 +1,13 @@
-// What the leaves of a certificate's tree are worth.
+//! What the leaves of a certificate's tree are worth.
 ghost use Rattle.std.specs.Prelude.{◌≡◌, ◌≤◌, ◌↔◌, IfOk, IsTrue};
 ghost use Rattle.fp_flatnet.specs.Belonging.{BelongsTo};
 ghost use Rattle.fp_prices.specs.Tables.{AreTables, HasKind};
 ghost use Rattle.fp_lines.specs.declared.certificates.Node.TheVariants as node;
 ghost use Rattle.fp_lines.specs.Ranges.{IsInRange, IsSplitInRange};
-ghost use Rattle.fp_checker.specs.Accepted.{claim_of as claim_of_answer};
-ghost use Rattle.fp_checker.specs.Leaves.{AreLeavesWorth, IsBoundWorth, IsLeafWorth, split_tail as tail_of_split};
-ghost use Rattle.fp_checker.specs.Points.{ArePointsOf};
+ghost use Rattle.fp_acceptance.specs.Accepted.{claim_of as claim_of_answer};
+ghost use Rattle.fp_acceptance.specs.Leaves.{AreLeavesWorth, IsLeafWorth, split_tail as tail_of_split};
+ghost use Rattle.fp_checker.specs.Bounds.{IsBoundWorth};
+ghost use Rattle.fp_acceptance.specs.Points.{ArePointsOf};
 
 use crate::NoMemory;
 use fp_certificate::{Answer, Certificate, Node};

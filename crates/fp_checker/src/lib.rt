@@ -9,7 +9,6 @@ mod added_points;
 mod checks;
 mod departures;
 mod fastest_times;
-mod laws;
 mod leaves;
 mod orders;
 mod plans;
@@ -18,11 +17,7 @@ mod rejections;
 mod trees;
 
 pub use checks::{check, plan_of};
-pub use laws::accepted_claims;
 pub use rejections::Rejected;
 
 /// The error of a call that finds no memory.
 pub type NoMemory = std::alloc::AllocError;
-
-#[cfg(test)]
-mod tests;

@@ -1,6 +1,6 @@
-// The order of lines.
+//! The order of lines.
 ghost use Rattle.std.specs.Prelude.{◌↔◌, IsTrue};
-ghost use Rattle.fp_timetable.specs.Lines.{Precedes};
+ghost use Rattle.fp_lists.specs.Order.{Precedes};
 
 // Whether one pair of numbers stands before another: by the first numbers, and where these are
 // equal by the second.

@@ -1,15 +1,17 @@
-// The plan that the leg lines of a certificate tell.
+//! The plan that the leg lines of a certificate tell.
 ghost use Rattle.std.specs.Prelude.{ℕ, ◌≡◌, ◌+◌, ◌<◌, ◌≤◌, ◌↔◌, All, AllPairs, IfOk, IsSomeAnd, IsTrue, OnOk, [], length, replicate};
-ghost use Rattle.fp_model.specs.Costs.{lists_of};
+ghost use Rattle.fp_lists.specs.Vectors.{lists_of};
 ghost use Rattle.fp_model.specs.Numbered.{route_at};
 ghost use Rattle.fp_model.specs.Problem.{arc_at};
 ghost use Rattle.fp_flatnet.specs.Belonging.{BelongsTo};
 ghost use Rattle.fp_flatnet.specs.Tables.{windows_in};
 ghost use Rattle.fp_flatnet.specs.Windows.{IsInside};
 ghost use Rattle.fp_timetable.specs.declared.lines.LegLine.{LegLine};
-ghost use Rattle.fp_timetable.specs.Lines.{LegExists, Precedes, route_of, routes_from};
+ghost use Rattle.fp_timetable.specs.Lines.{LegExists, route_of, routes_from};
+ghost use Rattle.fp_lists.specs.Order.{Precedes};
 ghost use Rattle.fp_lines.specs.Ranges.{IsInRange};
-ghost use Rattle.fp_checker.specs.Plans.{HasPlan, LeavesInside, routes_of};
+ghost use Rattle.fp_acceptance.specs.Plans.{HasPlan, routes_of};
+ghost use Rattle.fp_checker.specs.Lines.{LeavesInside};
 
 use crate::NoMemory;
 use crate::orders::stands_before;

@@ -1,8 +1,9 @@
-// Whether tables of prices are in order.
+//! Whether tables of prices are in order.
 ghost use Rattle.std.specs.Prelude.{◌<◌, ◌↔◌, All, AllPairs, IsTrue};
 ghost use Rattle.fp_prices.specs.declared.tables.Weight.{Weight};
 ghost use Rattle.fp_prices.specs.Shares.{ClassShare};
-ghost use Rattle.fp_prices.specs.Tables.{AreCountable, AreTables, IsAscendingTable, Precedes};
+ghost use Rattle.fp_prices.specs.Tables.{AreCountable, AreTables, IsAscendingTable};
+ghost use Rattle.fp_lists.specs.Order.{Precedes};
 
 use crate::orders::stands_before;
 use fp_model::Instance;

@@ -1,4 +1,4 @@
-// Why a certificate isn't accepted.
+//! Why a certificate isn't accepted.
 use crate::NoMemory;
 use thiserror::Error;
 

@@ -1,8 +1,8 @@
-// Whether nodes are a tree.
+//! Whether nodes are a tree.
 ghost use Rattle.std.specs.Prelude.{◌≡◌, ◌↔◌, IsTrue, length};
 ghost use Rattle.fp_model.specs.Problem.{Problem};
 ghost use Rattle.fp_tree.specs.Trees.{IsTree, tree_splits};
-ghost use Rattle.fp_checker.specs.Leaves.{fork_of};
+ghost use Rattle.fp_acceptance.specs.Leaves.{fork_of};
 
 use fp_certificate::Node;
 

@@ -10,7 +10,8 @@ use Rattle.fp_ends.specs.declared.sure.SureSource.{SureSource}
 abbrev pub bytes_left : SureSource → List ℕ
 bytes_left s = drop s.at s.bytes.items
 
--- A source in memory: what is left, the most that a call gives, which calls fail, how many calls and faults there were.
+-- A source in memory: what is left, the most that a call gives, which calls fail, how many calls
+-- and faults there were.
 pub record SourceState : Type 0 where
   pub left : List ℕ
   pub step : ℕ
@@ -26,7 +27,8 @@ source_state s = record { left = drop s.at s.bytes.items; step = s.step; fails =
 abbrev pub give_count : SourceState → ℕ → ℕ
 give_count state room = min state.step (min room (length state.left))
 
--- A read fails exactly where its number was chosen, and takes nothing then; else it gives all that step, room and rest allow.
+-- A read fails exactly where its number was chosen, and takes nothing then; else it gives all that
+-- step, room and rest allow.
 abbrev pub ReadsMemory : SourceState → SourceState → ℕ → Result ℕ Failed → Type 0
 ReadsMemory old new room (Ok n) =
     (Contains old.fails (next_count old.calls) → ⊥) × (n ≡ give_count old room)
@@ -35,7 +37,8 @@ ReadsMemory old new room (Err _) =
     Contains old.fails (next_count old.calls)
     × (new ≡ record old { calls = next_count old.calls; faults = next_count old.faults })
 
--- A sink in memory: what was taken, its room, the most that a call takes, which calls fail, how many calls and faults there were.
+-- A sink in memory: what was taken, its room, the most that a call takes, which calls fail, how
+-- many calls and faults there were.
 pub record SinkState : Type 0 where
   pub bytes : List ℕ
   pub room : ℕ
@@ -56,7 +59,8 @@ take_count state piece = min state.step (min (length piece) (state.room - length
 abbrev pub IsRefused : SinkState → List ℕ → Type 0
 IsRefused state piece = Contains state.fails (next_count state.calls) ⊎ ((0 < length piece) × (state.room ≤ length state.bytes))
 
--- A write fails exactly where it is refused, and takes nothing then; else it takes all that step, piece and room allow.
+-- A write fails exactly where it is refused, and takes nothing then; else it takes all that step,
+-- piece and room allow.
 abbrev pub WritesMemory : SinkState → SinkState → List ℕ → Result ℕ Failed → Type 0
 WritesMemory old new piece (Ok n) =
     (IsRefused old piece → ⊥) × (n ≡ take_count old piece)

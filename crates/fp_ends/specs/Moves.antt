@@ -10,7 +10,8 @@ use Rattle.fp_ends.specs.declared.reading.ReadEnd.TheVariants.{ReadFault, TooLon
 abbrev pub AppendsFront : Option (List ℕ) → Option (List ℕ) → List ℕ → Type 0
 AppendsFront old new text = (n : ℕ) × (n ≤ length text) × Appends old new (take n text)
 
--- What the bytes taken are: all of the answer up to the end, one more than the limit, or at most so many before a fault.
+-- What the bytes taken are: all of the answer up to the end, one more than the limit, or at most so
+-- many before a fault.
 abbrev pub ExplainsEnd : ℕ → Option (List ℕ) → List ℕ → Result (Vec ℕ Global) ReadEnd → Type 0
 ExplainsEnd limit left taken (Ok bytes) = (bytes.items ≡ taken) × (length taken ≤ limit) × IsAtEnd left
 ExplainsEnd limit left taken (Err ReadFault) = length taken ≤ limit
@@ -22,18 +23,19 @@ abbrev pub ReadsAll : ℕ → Option (List ℕ) → Option (List ℕ) → Result
 ReadsAll limit old new result = (taken : List ℕ) × Consumes old new taken × ExplainsEnd limit new taken result
 
 -- These are the bytes that are left, where they are told.
-abbrev pub Tells : Option (List ℕ) → List ℕ → Type 0
-Tells None input = ⊤
-Tells (Some left) input = input ≡ left
+abbrev pub TellsInput : Option (List ℕ) → List ℕ → Type 0
+TellsInput None input = ⊤
+TellsInput (Some left) input = input ≡ left
 
 -- The answer is the whole input, or the whole input is longer than the limit.
-abbrev pub IsWhole : ℕ → Option (List ℕ) → Option (List ℕ) → Result (Vec ℕ Global) ReadEnd → Type 0
-IsWhole limit old new (Ok bytes) = Tells old bytes.items × (length bytes.items ≤ limit) × IsAtEnd new
-IsWhole limit old new (Err TooLong) = (input : List ℕ) × Tells old input × (limit < length input)
-IsWhole limit old new (Err ReadFault) = ⊤
-IsWhole limit old new (Err NoMemory) = ⊤
+abbrev pub IsWholeInput : ℕ → Option (List ℕ) → Option (List ℕ) → Result (Vec ℕ Global) ReadEnd → Type 0
+IsWholeInput limit old new (Ok bytes) = TellsInput old bytes.items × (length bytes.items ≤ limit) × IsAtEnd new
+IsWholeInput limit old new (Err TooLong) = (input : List ℕ) × TellsInput old input × (limit < length input)
+IsWholeInput limit old new (Err ReadFault) = ⊤
+IsWholeInput limit old new (Err NoMemory) = ⊤
 
--- What the bytes of one read are: those added behind what was there, none only at the end, or none before a fault.
+-- What the bytes of one read are: those added behind what was there, none only at the end, or none
+-- before a fault.
 abbrev pub ExplainsPiece : ℕ → Option (List ℕ) → List ℕ → List ℕ → List ℕ → Result ℕ ReadEnd → Type 0
 ExplainsPiece room left old new taken (Ok n) =
     (new ≡ old ++ taken) × (length taken ≡ n) × (n ≤ room + 1) × (n ≡ 0 → IsAtEnd left)

@@ -21,8 +21,5 @@ pub use standard::{StdSink, StdSource};
 pub use sure::{SureSink, SureSource};
 pub use writing::{WriteFault, write_all};
 
-/// There was not enough memory.
+/// The error of a call that finds no memory.
 pub type NoMemory = std::alloc::AllocError;
-
-#[cfg(test)]
-mod tests;

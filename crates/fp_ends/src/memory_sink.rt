@@ -31,7 +31,7 @@ impl MemSink {
     /// whose calls with the numbers in `fails` fail. The memory for the room is taken here.
     ///
     /// # Errors
-    /// `NoMemory` where there is not enough memory for the room.
+    /// `NoMemory` only where no memory is found for the room.
     pub fn new(
         alloc: Global,
         room: usize,

@@ -2,7 +2,7 @@
 
 ghost use Rattle.std.specs.Prelude.{◌≡◌, ◌≤◌};
 ghost use Rattle.fp_ends.specs.Causes.{Rose};
-ghost use Rattle.fp_ends.specs.Moves.{IsWhole, ReadsAll, ReadsPiece};
+ghost use Rattle.fp_ends.specs.Moves.{ReadsAll, ReadsPiece, IsWholeInput};
 
 use crate::Source;
 use std::alloc::Global;
@@ -17,7 +17,7 @@ pub enum ReadEnd {
     /// More bytes came than the limit.
     #[error("the input is too long")]
     TooLong,
-    /// There was not enough memory for the bytes.
+    /// No memory was found for the bytes.
     #[error("out of memory")]
     NoMemory,
 }
@@ -30,13 +30,13 @@ const PIECE: usize = 4096;
 ///
 /// # Errors
 /// `ReadFault` only where the source's count of faults rose in this call, `TooLong` exactly where
-/// more than `limit` bytes came before the end, and `NoMemory` where there was not enough of it.
-/// The source may have given bytes before each of them.
+/// more than `limit` bytes came before the end. `NoMemory` only where no memory is found. The source
+/// may have given bytes before each of them.
 pub fn read_all<S: Source>(alloc: Global, source: &mut S, limit: usize) -> Result<Vec<u8>, ReadEnd>
     // What came was taken from the front, and is all of the answer, too long, or cut off.
     ensures bytes { ReadsAll limit (S.left source.old) (S.left source.new) result }
     // The answer is all that there was, or more than the limit was there.
-    ensures whole { IsWhole limit (S.left source.old) (S.left source.new) result }
+    ensures whole { IsWholeInput limit (S.left source.old) (S.left source.new) result }
     ensures later { S.faults source.old ≤ S.faults source.new }
     ensures fault { result ≡ Err ReadEnd.ReadFault → Rose (S.faults source.old) (S.faults source.new) }
 {

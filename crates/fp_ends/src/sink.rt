@@ -19,7 +19,8 @@ pub trait Sink {
     /// Takes the first `n` bytes of `piece` at `Ok(n)`, one or more where there are any.
     ///
     /// # Errors
-    /// `Failed` where the write failed or could take nothing: nothing was taken, and the count rose.
+    /// `Failed` where the write failed or could take nothing: nothing was taken, and the count
+    /// rose.
     fn write(&mut self, piece: &[u8]) -> Result<usize, Failed>
         ensures bound { WritesAtMost result piece.now }
         ensures bytes { WriteAppends (taken self.old) (taken self.new) result piece.now }

@@ -8,13 +8,14 @@ use Rattle.std.proofs.lemmas.List.Sums.{sum_by-cons}
 use Rattle.fp_labels.specs.declared.graphs.Edge.{Edge}
 use Rattle.fp_labels.specs.Graphs.{edge_at, no_edge}
 use Rattle.fp_labels.specs.Walks.{Leads as EdgesLead, IsOpen, walk_cost, cost_of, IsDistance as IsCostDistance}
+use Rattle.fp_flatnet.specs.declared.least_times.TheConstants.{LONGEST_LEAST_TIME}
 use Rattle.fp_model.specs.declared.parts.Arc.{Arc}
 use Rattle.fp_model.specs.Problem.{Problem, IsValid, no_arc, arc_at, hold_at}
 use Rattle.fp_model.specs.Routes.{Leads, step, walk_time}
 use Rattle.fp_model.specs.Times.{IsLeastTime, IsDistance}
 use Rattle.fp_model.proofs.Bounds.{Leads-exist}
 use Rattle.fp_flatnet.specs.ArcGraphs.{forward_edge, backward_edge, forward_shape, backward_shape, arc_step, step_costs}
-use Rattle.fp_flatnet.proofs.Walks.{steps, steps-append, steps-small, time-steps, Leads-append, IsLeastWalk, IsLeastTime-from_walk}
+use Rattle.fp_flatnet.proofs.LeastWalks.{steps, steps-append, steps-small, time-steps, Leads-append, IsLeastWalk, IsLeastTime-from_walk}
 
 reverse-cons : (a : ℕ) (walk : List ℕ) → reverse (a ∷ walk) ≡ reverse walk ++ (a ∷ [])
 reverse-cons a walk = reverse-append (a ∷ []) walk
@@ -41,7 +42,7 @@ cost-steps p (a ∷ arcs) exist =
     omega (arith, one, cost-steps p arcs exist.1, sum_by-cons (λ e. unwrap_or (cost_of (step_costs p) e) 0) a arcs)
 
 -- walks along arcs and along their edges
-pub forward-leads : (p : Problem) (here there : ℕ) (walk : List ℕ) → EdgesLead (map forward_edge p.arcs) here walk there → Leads p here walk there
+forward-leads : (p : Problem) (here there : ℕ) (walk : List ℕ) → EdgesLead (map forward_edge p.arcs) here walk there → Leads p here walk there
 forward-leads p here there [] leads = leads
 forward-leads p here there (a ∷ walk) leads =
     let lt : a < length p.arcs = omega (arith, leads.0, length-map p.arcs forward_edge) in
@@ -50,7 +51,7 @@ forward-leads p here there (a ∷ walk) leads =
     let there_on : P (forward_edge (arc_at p a)) = subst P edge (leads.1, leads.2) in
     (lt, there_on.0, forward-leads p (arc_at p a).to there walk there_on.1)
 
-pub leads-forward : (p : Problem) (here there : ℕ) (walk : List ℕ) → Leads p here walk there → EdgesLead (map forward_edge p.arcs) here walk there
+leads-forward : (p : Problem) (here there : ℕ) (walk : List ℕ) → Leads p here walk there → EdgesLead (map forward_edge p.arcs) here walk there
 leads-forward p here there [] leads = leads
 leads-forward p here there (a ∷ walk) leads =
     let edge : edge_at (map forward_edge p.arcs) a ≡ forward_edge (arc_at p a) = forward-at p a leads.0 in
@@ -67,7 +68,7 @@ backward-exist p there here (a ∷ walk) leads = (
 )
 
 -- a walk along arcs turned round, seen the other way round
-pub backward-leads : (p : Problem) (there here : ℕ) (walk : List ℕ) → EdgesLead (map backward_edge p.arcs) there walk here → Leads p here (reverse walk) there
+backward-leads : (p : Problem) (there here : ℕ) (walk : List ℕ) → EdgesLead (map backward_edge p.arcs) there walk here → Leads p here (reverse walk) there
 backward-leads p there here [] leads = sym leads
 backward-leads p there here (a ∷ walk) leads =
     let lt : a < length p.arcs = omega (arith, leads.0, length-map p.arcs backward_edge) in
@@ -81,7 +82,7 @@ edges-append : (edges : List Edge) (here mid there : ℕ) (xs ys : List ℕ) →
 edges-append edges here mid there [] ys first later = subst (λ (n : ℕ). EdgesLead edges n ys there) (sym first) later
 edges-append edges here mid there (e ∷ xs) ys first later = (first.0, first.1, edges-append edges (edge_at edges e).to mid there xs ys first.2 later)
 
-pub leads-backward : (p : Problem) (here there : ℕ) (walk : List ℕ) → Leads p here walk there → EdgesLead (map backward_edge p.arcs) there (reverse walk) here
+leads-backward : (p : Problem) (here there : ℕ) (walk : List ℕ) → Leads p here walk there → EdgesLead (map backward_edge p.arcs) there (reverse walk) here
 leads-backward p here there [] leads = sym leads
 leads-backward p here there (a ∷ walk) leads =
     let edge : edge_at (map backward_edge p.arcs) a ≡ backward_edge (arc_at p a) = backward-at p a leads.0 in
@@ -91,7 +92,7 @@ leads-backward p here there (a ∷ walk) leads =
     let last : P (edge_at edges a) = subst P (sym edge) (refl, leads.1) in
     rw reverse-cons (edges-append edges there (arc_at p a).to here (reverse walk) (a ∷ []) before (omega (arith, leads.0, length-map p.arcs backward_edge), last.0, last.1))
 
-pub steps-reverse : (p : Problem) (walk : List ℕ) → steps p (reverse walk) ≡ steps p walk
+steps-reverse : (p : Problem) (walk : List ℕ) → steps p (reverse walk) ≡ steps p walk
 steps-reverse p [] = refl
 steps-reverse p (a ∷ walk) = rw reverse-cons (omega (arith, steps-append p (reverse walk) (a ∷ []), steps-reverse p walk))
 
@@ -141,7 +142,7 @@ backward-distance p here there (Some n) is =
 
 -- what a label tells fits
 pub step_distance-bounds : (p : Problem) (here there : ℕ) (o : Option ℕ) → IsValid p → here ≢ there → IsStepDistance p here there o →
-    IfSome o (λ n. (hold_at p there ≤ n) × (n ≤ 101000000))
+    IfSome o (λ n. (hold_at p there ≤ n) × (n ≤ LONGEST_LEAST_TIME))
 step_distance-bounds p here there None valid away is = tt
 step_distance-bounds p here there (Some n) valid away is =
     (omega (arith, is.2, time-steps p here there is.0 away is.1.leads), omega (arith, is.2, steps-small p here there is.0 valid is.1))
@@ -154,7 +155,3 @@ step_distance-time p here there (Some n) valid away is =
     let least : IsLeastTime p here there (walk_time p is.0) = IsLeastTime-from_walk p here there is.0 valid is.1 in
     let same : walk_time p is.0 ≡ n - hold_at p there = omega (arith, is.2, time-steps p here there is.0 away is.1.leads) in
     subst (λ (t : ℕ). IsLeastTime p here there t) same least
-
--- no time is needed to be where one is
-pub distance-here : (p : Problem) (here there : ℕ) → here ≡ there → IsDistance p here there (Some 0)
-distance-here p here there same = record { arcs = []; leads = same; time = refl; least = λ others leads. omega arith }

@@ -10,12 +10,12 @@ use Rattle.fp_model.specs.Problem.{Problem, IsValid, IsShipment, arc_at}
 use Rattle.fp_model.specs.Routes.{Carries, walk_time, step, arcs_of}
 use Rattle.fp_flatnet.specs.Directs.{BeginsFirst, IsDirect, IsDirectRoute, IsDirectPlan}
 use Rattle.fp_flatnet.specs.Verdicts.{IsInTime, AllInTime}
-use Rattle.fp_flatnet.proofs.AtOnce.{at_once, carries-at_once}
-use Rattle.fp_flatnet.proofs.Onward.{begun-least}
-use Rattle.fp_flatnet.proofs.Walks.{IsLeastWalk, IsLeastTime-from_walk, IsLeastTime-unique}
+use Rattle.fp_flatnet.proofs.PromptLegs.{at_once, carries-at_once}
+use Rattle.fp_flatnet.proofs.OnwardTimes.{begun-least}
+use Rattle.fp_flatnet.proofs.LeastWalks.{IsLeastWalk, IsLeastTime-from_walk, IsLeastTime-unique}
 
 -- a direct route goes along a least walk
-pub direct-least : (p : Problem) (there here ready : ℕ) (legs : List Leg) → IsValid p → IsDirectRoute p there here ready legs → IsLeastWalk p here there (arcs_of legs)
+direct-least : (p : Problem) (there here ready : ℕ) (legs : List Leg) → IsValid p → IsDirectRoute p there here ready legs → IsLeastWalk p here there (arcs_of legs)
 direct-least p there here ready [] valid direct = record { leads = direct; least = λ others leads. omega arith }
 direct-least p there here ready (l ∷ legs) valid direct =
     let later : IsLeastWalk p (arc_at p l.arc).to there (arcs_of legs) = direct-least p there (arc_at p l.arc).to (ready + step p l.arc) legs valid direct.3 in
@@ -25,7 +25,7 @@ direct-least p there here ready (l ∷ legs) valid direct =
     }
 
 -- its legs leave at once
-pub direct-at_once : (p : Problem) (there here ready : ℕ) (legs : List Leg) → IsDirectRoute p there here ready legs → at_once p ready (arcs_of legs) ≡ legs
+direct-at_once : (p : Problem) (there here ready : ℕ) (legs : List Leg) → IsDirectRoute p there here ready legs → at_once p ready (arcs_of legs) ≡ legs
 direct-at_once p there here ready [] direct = refl
 direct-at_once p there here ready (l ∷ legs) direct =
     let leg : ℕ → ℕ → Leg = λ a n. record { arc = a; depart = n } in
@@ -33,7 +33,7 @@ direct-at_once p there here ready (l ∷ legs) direct =
     ap₂ (λ (k : Leg) (ks : List Leg). k ∷ ks) first (direct-at_once p there (arc_at p l.arc).to (ready + step p l.arc) legs direct.3)
 
 -- a direct route carries a shipment that is in time
-pub direct-carries : (p : Problem) (s : Shipment) (legs : List Leg) → IsValid p → s.from ≢ s.to → IsInTime p s → IsDirectRoute p s.to s.from s.release legs → Carries p 1 s legs
+direct-carries : (p : Problem) (s : Shipment) (legs : List Leg) → IsValid p → s.from ≢ s.to → IsInTime p s → IsDirectRoute p s.to s.from s.release legs → Carries p 1 s legs
 direct-carries p s legs valid ends in_time direct =
     let along : IsLeastWalk p s.from s.to (arcs_of legs) = direct-least p s.to s.from s.release legs valid direct in
     let time : walk_time p (arcs_of legs) ≡ in_time.0 =
@@ -44,7 +44,7 @@ direct-carries p s legs valid ends in_time direct =
 -- direct routes of shipments that are in time are a plan
 pub IsPlan-from_direct : (p : Problem) (routes : List (List Leg)) → IsValid p → AllInTime p → IsDirectPlan p routes → IsPlan p 1 routes
 IsPlan-from_direct p routes valid in_time direct =
-    each p.shipments routes (λ k lt. valid.shipments k no_shipment lt) (λ k lt. in_time k no_shipment lt) direct
+    each p.shipments routes (λ k lt. valid.parts.shipments k no_shipment lt) (λ k lt. in_time k no_shipment lt) direct
   where
     each : (ss : List Shipment) (routes : List (List Leg)) → ((k : ℕ) → k < length ss → IsShipment (length p.terminals) (slice_index_or ss k no_shipment)) →
         ((k : ℕ) → k < length ss → IsInTime p (slice_index_or ss k no_shipment)) → AllZip (IsDirect p) ss routes → AllZip (Carries p 1) ss routes

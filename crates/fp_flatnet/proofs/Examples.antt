@@ -1,4 +1,5 @@
--- The definitions on two arcs, from A to B in 4 and from B to C in 5, with a shipment from A to C and one from B to C that is due at 8.
+-- The definitions on two arcs, from A to B in 4 and from B to C in 5, with a shipment from A to C
+-- and one from B to C that is due at 8.
 use Rattle.std.proofs.Common.{◌≡◌, ℕ, [], ◌∷◌, Some, None, refl, arith, lit≤}
 use Rattle.fp_model.specs.declared.parts.Arc.{Arc}
 use Rattle.fp_model.specs.declared.parts.Shipment.{Shipment}
@@ -8,7 +9,7 @@ use Rattle.fp_model.specs.Times.{IsLeastTime}
 use Rattle.fp_flatnet.specs.Initial.{initial_points}
 use Rattle.fp_flatnet.specs.Tables.{WindowTable, closed, narrowed, windows_in}
 use Rattle.fp_flatnet.specs.Windows.{IsWindow, time_before, time_after}
-use Rattle.fp_flatnet.proofs.AtOnce.{at_once}
+use Rattle.fp_flatnet.proofs.PromptLegs.{at_once}
 
 -- an arc of a time
 abbrev arc_of : (from to time : ℕ) → Arc
@@ -63,7 +64,8 @@ second_window = record {
   enters = λ e. cc;
 }
 
--- the initial points: at C both due times, and at B its release and, once its window is narrowed, the start
+-- the initial points: at C both due times, and at B its release and, once its window is narrowed,
+-- the start
 points_at_c : initial_points (two_arcs 0 9) [] 2 ≡ 0 ∷ 9 ∷ 8 ∷ []
 points_at_c = refl
 

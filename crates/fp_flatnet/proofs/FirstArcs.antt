@@ -7,7 +7,7 @@ use Rattle.fp_model.specs.Problem.{Problem, arc_at}
 use Rattle.fp_flatnet.specs.Directs.{BeginsLeast, BeginsFirst, IsFirstBelow}
 
 -- an arc that begins no least walk changes nothing
-pub below-stays : (p : Problem) (there n here : ℕ) (o : Option ℕ) → IsFirstBelow p there n here o → (BeginsLeast p here there n → ⊥) → IsFirstBelow p there (n + 1) here o
+below-stays : (p : Problem) (there n here : ℕ) (o : Option ℕ) → IsFirstBelow p there n here o → (BeginsLeast p here there n → ⊥) → IsFirstBelow p there (n + 1) here o
 below-stays p there n here (Some a) first not = first
 below-stays p there n here None none not =
     λ a lt begins.

@@ -9,7 +9,7 @@ use Rattle.fp_model.specs.declared.parts.Shipment.{Shipment}
 use Rattle.fp_model.specs.Numbered.{no_shipment}
 use Rattle.fp_model.specs.Problem.{Problem}
 use Rattle.fp_timenodes.specs.declared.places.Place.{Place}
-use Rattle.fp_timenodes.specs.Floor.{has_point}
+use Rattle.fp_lists.specs.Membership.{list_has}
 use Rattle.fp_timenodes.specs.Points.{IsPlace, TimePoints, times_at}
 use Rattle.fp_flatnet.specs.Belonging.{BelongsTo}
 use Rattle.fp_flatnet.specs.Initial.{BeginAt, releases_at, dues_at, release_place, due_place}
@@ -43,7 +43,7 @@ times_at-append xs ys terminal =
     ∙ map-append (λ (x : Place). x.at) (filter (λ (x : Place). x.terminal == terminal) xs) (filter (λ (x : Place). x.terminal == terminal) ys)
 
 -- these places are, at each terminal, the initial points
-pub BeginAt-first_places : (p : Problem) (anchors : List Place) → BeginAt p anchors (record { terminals = length p.terminals; first = first_places p anchors; added = [] })
+BeginAt-first_places : (p : Problem) (anchors : List Place) → BeginAt p anchors (record { terminals = length p.terminals; first = first_places p anchors; added = [] })
 BeginAt-first_places p anchors = record {
   terminals = refl;
   same = λ terminal lt at.
@@ -55,42 +55,42 @@ BeginAt-first_places p anchors = record {
       let times : List ℕ = times_at (first_places p anchors) terminal in
       let is_at : ℕ → Bool = λ q. q == at in
       list_any-append is_at times (0 ∷ [])
-      ∙ or_comm (has_point times at) (has_point (0 ∷ []) at)
+      ∙ or_comm (list_has times at) (list_has (0 ∷ []) at)
       ∙ sym (list_any-append is_at (0 ∷ []) times)
-      ∙ ap (λ (ts : List ℕ). has_point (0 ∷ ts) at) split;
+      ∙ ap (λ (ts : List ℕ). list_has (0 ∷ ts) at) split;
 }
 
 -- they are at terminals of the instance, and in time
-pub first_places-are : (p : Problem) (table : WindowTable) → BelongsTo p table → All (IsPlace (length p.terminals)) (first_places p table.anchors)
+first_places-are : (p : Problem) (table : WindowTable) → BelongsTo p table → All (IsPlace (length p.terminals)) (first_places p table.anchors)
 first_places-are p table belongs =
     All-append (IsPlace (length p.terminals)) (map release_place p.shipments ++ map due_place p.shipments) table.anchors
     (All-append (IsPlace (length p.terminals)) (map release_place p.shipments) (map due_place p.shipments)
     (λ k d lt.
     let there : k < length p.shipments = omega (arith, lt, length-map p.shipments release_place) in
-    let shipment = belongs.valid.shipments k no_shipment there in
+    let shipment = belongs.valid.parts.shipments k no_shipment there in
     rw (get_or-map release_place p.shipments k no_shipment d there) (shipment.from, omega (arith, shipment.window, shipment.within.due)))
     (λ k d lt.
     let there : k < length p.shipments = omega (arith, lt, length-map p.shipments due_place) in
-    let shipment = belongs.valid.shipments k no_shipment there in
+    let shipment = belongs.valid.parts.shipments k no_shipment there in
     rw (get_or-map due_place p.shipments k no_shipment d there) (shipment.to, omega (arith, shipment.within.due))))
     belongs.places
 
 -- the same of what the code has made
-pub made-are : (p : Problem) (table : WindowTable) (places : List Place) (terminals : List (List ℕ)) → BelongsTo p table →
+pub ArePlaces-first_places : (p : Problem) (table : WindowTable) (places : List Place) (terminals : List (List ℕ)) → BelongsTo p table →
     places ≡ first_places p table.anchors → terminals ≡ p.terminals → All (IsPlace (length terminals)) places
-made-are p table places terminals belongs same names =
+ArePlaces-first_places p table places terminals belongs same names =
     subst (λ (names : List (List ℕ)). All (IsPlace (length names)) places) (sym names)
     (subst (λ (xs : List Place). All (IsPlace (length p.terminals)) xs) (sym same) (first_places-are p table belongs))
 
-pub made-begin : (p : Problem) (anchors places : List Place) (terminals : List (List ℕ)) (points : TimePoints) →
+pub BeginAt-places : (p : Problem) (anchors places : List Place) (terminals : List (List ℕ)) (points : TimePoints) →
     places ≡ first_places p anchors → terminals ≡ p.terminals → points ≡ record { terminals = length terminals; first = places; added = [] } → BeginAt p anchors points
-made-begin p anchors places terminals points same names made =
+BeginAt-places p anchors places terminals points same names made =
     let begun : List (List ℕ) → List Place → TimePoints = λ names xs. record { terminals = length names; first = xs; added = [] } in
     subst (λ (v : TimePoints). BeginAt p anchors v) (sym (made ∙ ap₂ begun names same)) (BeginAt-first_places p anchors)
 
 -- there are two places for each shipment, and the anchors
-pub made-few : (p : Problem) (table : WindowTable) (places : List Place) → BelongsTo p table → places ≡ first_places p table.anchors → length places ≤ 31000
-made-few p table places belongs same =
+pub length-places : (p : Problem) (table : WindowTable) (places : List Place) → BelongsTo p table → places ≡ first_places p table.anchors → length places ≤ 31000
+length-places p table places belongs same =
     let ends : List Place = map release_place p.shipments ++ map due_place p.shipments in
     let long : length places ≡ length (first_places p table.anchors) = ap (λ (xs : List Place). length xs) same in
     omega (
@@ -100,6 +100,6 @@ made-few p table places belongs same =
       length-append (map release_place p.shipments) (map due_place p.shipments),
       length-map p.shipments release_place,
       length-map p.shipments due_place,
-      belongs.valid.few_shipments,
+      belongs.valid.parts.few_shipments,
       belongs.few_anchors,
     )

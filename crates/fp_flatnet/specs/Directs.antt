@@ -1,4 +1,5 @@
--- The direct route of a shipment: always onward by the arc of least number that begins a walk of least time.
+-- The direct route of a shipment: always onward by the arc of least number that begins a walk of
+-- least time.
 use Rattle.std.specs.Prelude.{ℕ, ◌+◌, ◌≤◌, ◌<◌, ◌≡◌, ◌≢◌, List, [], ◌∷◌, length, Option, None, MatchOption, slice_index_or}
 use Rattle.std.specs.List.{AllZip}
 use Rattle.fp_model.specs.declared.parts.Leg.{Leg}
@@ -21,12 +22,14 @@ pub record BeginsFirst (p : Problem) (here there a : ℕ) : Type 0 where
 abbrev pub IsFirstBelow : Problem → (there number here : ℕ) → Option ℕ → Type 0
 IsFirstBelow p there number here o = MatchOption o ((a : ℕ) → a < number → BeginsLeast p here there a → ⊥) (BeginsFirst p here there)
 
--- for each terminal the first arc that begins a walk of least time from it to there, or that there is none
+-- for each terminal the first arc that begins a walk of least time from it to there, or that there
+-- is none
 pub record AreOnwardArcs (p : Problem) (there : ℕ) (onward : List (Option ℕ)) : Type 0 where
   pub one_each : length onward ≡ length p.terminals
   pub exact : (here : ℕ) → here < length p.terminals → IsFirstBelow p there (length p.arcs) here (slice_index_or onward here None)
 
--- legs from here to there, each by the first arc that begins a walk of least time: the first leaves when ready, each next one a step after the one before
+-- legs from here to there, each by the first arc that begins a walk of least time: the first leaves
+-- when ready, each next one a step after the one before
 abbrev pub IsDirectRoute : Problem → (there here ready : ℕ) → List Leg → Type 0
 IsDirectRoute p there here ready [] = here ≡ there
 IsDirectRoute p there here ready (l ∷ legs) =

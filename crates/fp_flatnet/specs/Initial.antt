@@ -22,7 +22,8 @@ release_place s = record { terminal = s.from; at = s.release }
 abbrev pub due_place : Shipment → Place
 due_place s = record { terminal = s.to; at = s.due }
 
--- the initial points of a terminal: 0, each release at its origin, each due time at its destination, and each anchor
+-- the initial points of a terminal: 0, each release at its origin, each due time at its
+-- destination, and each anchor
 abbrev pub initial_points : Problem → List Place → ℕ → List ℕ
 initial_points p anchors terminal = 0 ∷ (releases_at p terminal ++ dues_at p terminal ++ times_at anchors terminal)
 

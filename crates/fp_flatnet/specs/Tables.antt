@@ -6,7 +6,8 @@ use Rattle.fp_model.specs.declared.parts.Arc.{Arc}
 use Rattle.fp_timenodes.specs.declared.places.Place.{Place}
 use Rattle.fp_flatnet.specs.declared.window_tables.Window.{Window}
 
--- the tails of the arcs, for each shipment a row with each arc's window if there is one, and the anchors
+-- the tails of the arcs, for each shipment a row with each arc's window if there is one, and the
+-- anchors
 pub record WindowTable : Type 0 where
   pub tails : List ℕ
   pub rows : List (List (Option Window))
@@ -17,8 +18,8 @@ abbrev pub tail_of : Arc → ℕ
 tail_of arc = arc.from
 
 -- rows as lists
-abbrev pub rows_of : List (Vec (Option Window) Global) → List (List (Option Window))
-rows_of rows = map (λ (r : Vec (Option Window) Global). r.items) rows
+abbrev pub row_lists : List (Vec (Option Window) Global) → List (List (Option Window))
+row_lists rows = map (λ (r : Vec (Option Window) Global). r.items) rows
 
 -- each row has as many entries as there are tails
 abbrev pub AreFull : List ℕ → List (Vec (Option Window) Global) → Type 0

@@ -1,28 +1,34 @@
--- When a shipment can leave by an arc, and plans that keep to it. A plan over the denominator d leaves at `depart / d`.
+-- When a shipment can leave by an arc, and plans that keep to it. A plan over the denominator d
+-- leaves at `depart / d`.
 use Rattle.std.specs.Prelude.{ℕ, ◌+◌, ◌*◌, ◌≤◌, ◌<◌, ◌≡◌, ◌≢◌, List, [], length, cond, nat_eq, Option, None, IsSomeAnd, MatchOption, slice_index_or}
 use Rattle.std.specs.List.{AllByRecursion}
 use Rattle.fp_model.specs.declared.parts.Leg.{Leg}
 use Rattle.fp_model.specs.declared.parts.Shipment.{Shipment}
-use Rattle.fp_model.specs.Numbered.{AllFrom, shipment_at}
+use Rattle.fp_model.specs.Numbered.{shipment_at}
+use Rattle.fp_lists.specs.Numbered.{AllFrom}
 use Rattle.fp_model.specs.Plans.{IsPlan}
 use Rattle.fp_model.specs.Problem.{Problem, arc_at, hold_at}
 use Rattle.fp_model.specs.Routes.{step}
 use Rattle.fp_model.specs.Times.{IsLeastTime}
 use Rattle.fp_flatnet.specs.declared.window_tables.Window.{Window}
 
--- how long after its release a shipment can leave by an arc, where t is the least time to the arc's tail
+-- how long after its release a shipment can leave by an arc, where t is the least time to the arc's
+-- tail
 abbrev pub time_before : Problem → Shipment → ℕ → ℕ → ℕ
 time_before p s a t = cond (nat_eq (arc_at p a).from s.from) 0 (t + hold_at p (arc_at p a).from)
 
--- the time of the arc and a walk onward to a terminal, where the walk from the arc's head takes the time t
+-- the time of the arc and a walk onward to a terminal, where the walk from the arc's head takes the
+-- time t
 abbrev pub time_onward : Problem → ℕ → ℕ → ℕ → ℕ
 time_onward p there a t = cond (nat_eq (arc_at p a).to there) (arc_at p a).time (step p a + t)
 
--- how long before its due time it must leave by the arc, where t is the least time from the arc's head
+-- how long before its due time it must leave by the arc, where t is the least time from the arc's
+-- head
 abbrev pub time_after : Problem → Shipment → ℕ → ℕ → ℕ
 time_after p s a t = time_onward p s.to a t
 
--- the window of a shipment and an arc that does not leave its destination and does not enter its origin: least times to the tail and from the head exist, and leave room
+-- the window of a shipment and an arc that does not leave its destination and does not enter its
+-- origin: least times to the tail and from the head exist, and leave room
 pub record IsWindow (p : Problem) (s : Shipment) (a : ℕ) (w : Window) : Type 0 where
   pub before : ℕ
   pub after : ℕ

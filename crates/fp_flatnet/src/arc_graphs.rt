@@ -1,8 +1,8 @@
+//! The arcs of an instance as edges of graphs, as they lead and turned round, with their steps.
 ghost use Rattle.std.specs.Prelude.{◌≡◌, ◌<◌, ◌^◌, length, map, All, IfOk};
 ghost use Rattle.fp_labels.specs.Graphs.{HasEnds};
 ghost use Rattle.fp_labels.specs.Labels.{AreLabels};
 ghost use Rattle.fp_model.specs.Problem.{IsValid};
-ghost use Rattle.fp_model.specs.Routes.{step as step_of};
 ghost use Rattle.fp_flatnet.specs.ArcGraphs.{backward_edge, backward_shape, forward_edge, forward_shape, step_costs, IsArcGraph};
 
 use crate::NoMemory;
@@ -17,22 +17,13 @@ pub(crate) struct ArcGraph {
     costs: Vec<Option<u128>>,
 }
 
-// The step of an arc: so long after it left by the arc a shipment can leave the next terminal.
-pub(crate) fn step(instance: &Instance, number: u32) -> u32
-    requires { number < length instance.now.arcs }
-    ensures { result ≡ step_of instance.now number }
-{
-    let arc = instance.arc(number);
-    arc.time + instance.hold(arc.to)
-}
-
 // The step of each arc, as the cost of its edge.
 fn arc_costs(alloc: Global, instance: &Instance) -> Result<Vec<Option<u128>>, NoMemory>
     ensures { IfOk result (λ costs. costs.items ≡ step_costs instance.now) }
 {
     let mut costs = Vec::new(alloc);
     for number in 0..instance.arcs().len() {
-        costs.push(Some(u128::from(step(instance, number as u32))))?;
+        costs.push(Some(u128::from(instance.step(number as u32))))?;
     }
     Ok(costs)
 }
@@ -102,6 +93,7 @@ impl ArcGraph {
         requires start { start < length instance.now.terminals }
         ensures { IfOk result (AreLabels self.now.graph (step_costs instance.now) start) }
     {
+        // Brings the instance's validity into the proof: so the costs are small.
         let _known = instance.arcs();
         distances(alloc, &self.graph, &self.costs, start)
     }

@@ -1,3 +1,4 @@
+//! The direct plan: each shipment by itself, by the first arcs that begin walks of least time.
 ghost use Rattle.std.specs.Prelude.{◌≡◌, ◌+◌, ◌<◌, ◌↔◌, length, IfOk, IsTrue};
 ghost use Rattle.fp_model.specs.Plans.{IsPlan};
 ghost use Rattle.fp_model.specs.Problem.{IsShipment, IsValid, arc_at};
@@ -7,7 +8,7 @@ ghost use Rattle.fp_flatnet.specs.Distances.{AreTimesTo};
 ghost use Rattle.fp_flatnet.specs.Verdicts.{AllInTime, IsInTime};
 
 use crate::NoMemory;
-use crate::arc_graphs::{backward_graph, step};
+use crate::arc_graphs::backward_graph;
 use crate::least_times::times_to;
 use crate::window_rows::time_onward;
 use fp_model::{Instance, Leg, Plan, Shipment};
@@ -15,8 +16,9 @@ use std::alloc::Global;
 
 /// The direct plan of an instance for which the verdict is `All`.
 ///
-/// At each terminal a shipment takes the arc of least number with which a walk of least time from there to its
-/// destination begins. It leaves at its release, and leaves each next terminal at its arrival plus the hold.
+/// At each terminal a shipment takes the arc of least number with which a walk of least time from
+/// there to its destination begins. It leaves at its release, and leaves each next terminal at its
+/// arrival plus the hold. `NoMemory` only where no memory is found.
 pub fn direct(alloc: Global, instance: &Instance) -> Result<Plan, NoMemory>
     requires { AllInTime instance.now }
     ensures plan { IfOk result (IsPlan instance.now 1) }
@@ -32,7 +34,8 @@ pub fn direct(alloc: Global, instance: &Instance) -> Result<Plan, NoMemory>
     Ok(Plan { routes })
 }
 
-// Whether an arc begins a walk of least time to a terminal, where the least times from its tail and its head are known.
+// Whether an arc begins a walk of least time to a terminal, where the least times from its tail and
+// its head are known.
 fn begins_least(
     instance: &Instance,
     there: u32,
@@ -46,6 +49,7 @@ fn begins_least(
     ensures begins { IsTrue result ↔ BeginsLeast instance.now (arc_at instance.now number).from there number }
     ensures valid { IsValid instance.now }
 {
+    // Brings the instance's validity into the proof, for the caller.
     let _known = instance.arcs();
     match (from_tail, from_head) {
         (Some(least), Some(after)) => time_onward(instance, there, number, after) == least,
@@ -53,8 +57,8 @@ fn begins_least(
     }
 }
 
-// The first arc up to and with a number that begins a walk of least time from that arc's tail to a terminal, where the
-// first one before it is known.
+// The first arc up to and with a number that begins a walk of least time from that arc's tail to a
+// terminal, where the first one before it is known.
 fn first_onward(
     instance: &Instance,
     there: u32,
@@ -78,7 +82,8 @@ fn first_onward(
     None
 }
 
-// For each terminal the arc of least number that begins a walk of least time from it to a terminal, if there is one.
+// For each terminal the arc of least number that begins a walk of least time from it to a terminal,
+// if there is one.
 pub(crate) fn onward_arcs(
     alloc: Global,
     instance: &Instance,
@@ -120,6 +125,7 @@ pub(crate) fn direct_route(
     requires onward { AreOnwardArcs instance.now shipment.now.to onward.now }
     ensures { IfOk result (λ legs. IsDirect instance.now shipment.now legs.items) }
 {
+    // Brings the instance's validity into the proof: so the walk's times are small.
     let _known = instance.arcs();
     let mut legs = Vec::new(alloc);
     let mut here = shipment.from;
@@ -127,7 +133,7 @@ pub(crate) fn direct_route(
     while let Some(arc) = onward[here as usize] {
         legs.push(Leg { arc, depart: ready })?;
         here = instance.arc(arc).to;
-        ready += step(instance, arc);
+        ready += instance.step(arc);
     }
     Ok(legs)
 }

@@ -1,20 +1,23 @@
-ghost use Rattle.std.specs.Prelude.{◌≡◌, ◌≤◌, ◌++◌, [], length, map, IfOk};
+//! The time points that an instance and its windows begin with.
+ghost use Rattle.std.specs.Prelude.{◌≡◌, ◌≤◌, ◌+◌, ◌*◌, ◌++◌, [], length, map, IfOk};
 ghost use Rattle.fp_flatnet.specs.Belonging.{BelongsTo};
 ghost use Rattle.fp_flatnet.specs.Initial.{BeginAt, due_place, release_place};
 
 use crate::NoMemory;
-use crate::window_tables::Windows;
+use crate::window_tables::{MOST_ANCHORS, Windows};
+use fp_model::limits::MOST_SHIPMENTS;
 use fp_model::{Instance, Shipment};
 use fp_timenodes::{Place, Points};
 use std::alloc::Global;
 
-/// The time points that an instance and windows that belong to it begin with: 0 at each terminal, each release at its
-/// origin, each due time at its destination, and each anchor. No point is added to them.
+/// The time points that an instance and windows that belong to it begin with: 0 at each terminal,
+/// each release at its origin, each due time at its destination, and each anchor. No point is added
+/// to them. `NoMemory` only where no memory is found.
 pub fn initial(alloc: Global, instance: &Instance, windows: &Windows) -> Result<Points, NoMemory>
     requires { BelongsTo instance.now windows.now }
     ensures begins { IfOk result (BeginAt instance.now windows.now.anchors) }
     ensures unadded { IfOk result (λ points. points.added ≡ []) }
-    ensures few { IfOk result (λ points. length points.first ≤ 31000) }
+    ensures few { IfOk result (λ points. length points.first ≤ MOST_ANCHORS + 2 * MOST_SHIPMENTS) }
 {
     let terminals = instance.terminals().len() as u32;
     let places = first_places(alloc, instance.shipments(), windows.anchors())?;

@@ -1,3 +1,4 @@
+//! Least times of walks, read from the labels of the flat network's graphs.
 ghost use Rattle.std.specs.Prelude.{◌≡◌, ◌-◌, ◌<◌, ◌≤◌, length, IfOk, IfSome};
 ghost use Rattle.std.specs.Option.{option_map};
 ghost use Rattle.fp_labels.specs.Labels.{AreLabels};
@@ -9,16 +10,19 @@ ghost use Rattle.fp_flatnet.specs.Distances.{AreTimesFrom, AreTimesTo};
 use crate::NoMemory;
 use crate::arc_graphs::ArcGraph;
 use fp_labels::Labels;
+use fp_model::limits::{LONGEST_STEP, MOST_ARCS};
 use fp_model::{Instance, Shipment};
 use std::alloc::Global;
 
-// No least time is above this, in the input's unit: a walk of least time goes by each of at most 1,000 arcs at most once, and
-// no step is above 101,000.
-pub(crate) const LONGEST_TIME: u32 = 101_000_000;
+// No least time is longer than this, in the input's unit: a walk of least time goes by each arc at
+// most once, and no step is longer than the longest.
+pub(crate) const LONGEST_LEAST_TIME: u32 = 101_000_000;
+
+const _: () = prove!(LONGEST_LEAST_TIME as usize == MOST_ARCS * LONGEST_STEP as usize);
 
 // The time of a walk with these steps, the last of which has this hold.
 fn without_hold(steps: Option<u128>, hold: u32) -> Option<u32>
-    requires { IfSome steps (λ n. (hold ≤ n) × (n ≤ LONGEST_TIME)) }
+    requires { IfSome steps (λ n. (hold ≤ n) × (n ≤ LONGEST_LEAST_TIME)) }
     ensures { result ≡ option_map (λ n. n - hold) steps }
 {
     steps.map(|steps| (steps - u128::from(hold)) as u32)
@@ -36,7 +40,8 @@ fn time_from(instance: &Instance, labels: &Labels, here: u32, there: u32) -> Opt
     without_hold(labels.to(there), instance.hold(there))
 }
 
-// The least time from one terminal to another, read from the labels of the second along the arcs turned round.
+// The least time from one terminal to another, read from the labels of the second along the arcs
+// turned round.
 fn time_to(instance: &Instance, labels: &Labels, here: u32, there: u32) -> Option<u32>
     requires labels { AreLabels (backward_shape instance.now) (step_costs instance.now) there labels.now }
     requires here { here < length instance.now.terminals }

@@ -1,23 +1,26 @@
+//! The windows of each shipment, from the least times from its origin and to its destination.
 ghost use Rattle.std.specs.Prelude.{◌≡◌, ◌+◌, ◌<◌, ◌≤◌, length, IfOk};
 ghost use Rattle.fp_model.specs.Problem.{IsShipment, arc_at};
 ghost use Rattle.fp_model.specs.Times.{IsDistance};
 ghost use Rattle.fp_flatnet.specs.Distances.{AreTimesFrom, AreTimesTo};
-ghost use Rattle.fp_flatnet.specs.Tables.{rows_of};
+ghost use Rattle.fp_flatnet.specs.Tables.{row_lists};
 ghost use Rattle.fp_flatnet.specs.Windows.{AreWindowRows, IsWindowOrNone, IsWindowRow, time_before as time_before_of, time_onward as time_onward_of};
 
 use crate::NoMemory;
 use crate::arc_graphs::{backward_graph, forward_graph};
-use crate::least_times::{LONGEST_TIME, times_from, times_to};
+use crate::least_times::{LONGEST_LEAST_TIME, times_from, times_to};
 use crate::window_tables::Window;
+use fp_model::limits::{GREATEST_HOLD, LONGEST_STEP};
 use fp_model::{Instance, Shipment};
 use std::alloc::Global;
 
-// How long after its release a shipment can leave by an arc, where the least time to the arc's tail is known.
+// How long after its release a shipment can leave by an arc, where the least time to the arc's tail
+// is known.
 fn time_before(instance: &Instance, shipment: &Shipment, number: u32, to_tail: u32) -> u32
     requires number { number < length instance.now.arcs }
-    requires small { to_tail ≤ LONGEST_TIME }
+    requires small { to_tail ≤ LONGEST_LEAST_TIME }
     ensures value { result ≡ time_before_of instance.now shipment.now number to_tail }
-    ensures small { result ≤ LONGEST_TIME + 1000 }
+    ensures small { result ≤ LONGEST_LEAST_TIME + GREATEST_HOLD }
 {
     let tail = instance.arc(number).from;
     if tail == shipment.from {
@@ -26,21 +29,23 @@ fn time_before(instance: &Instance, shipment: &Shipment, number: u32, to_tail: u
     to_tail + instance.hold(tail)
 }
 
-// The time of an arc and a walk onward to a terminal, where the least time from the arc's head is known.
+// The time of an arc and a walk onward to a terminal, where the least time from the arc's head is
+// known.
 pub(crate) fn time_onward(instance: &Instance, there: u32, number: u32, from_head: u32) -> u32
     requires number { number < length instance.now.arcs }
-    requires small { from_head ≤ LONGEST_TIME }
+    requires small { from_head ≤ LONGEST_LEAST_TIME }
     ensures value { result ≡ time_onward_of instance.now there number from_head }
-    ensures small { result ≤ LONGEST_TIME + 101000 }
+    ensures small { result ≤ LONGEST_LEAST_TIME + LONGEST_STEP }
 {
     let arc = instance.arc(number);
     if arc.to == there {
         return arc.time;
     }
-    arc.time + instance.hold(arc.to) + from_head
+    instance.step(number) + from_head
 }
 
-// The window of a shipment and an arc, where the least times to the arc's tail and from its head are known.
+// The window of a shipment and an arc, where the least times to the arc's tail and from its head
+// are known.
 fn window_of(
     instance: &Instance,
     shipment: &Shipment,
@@ -74,7 +79,7 @@ pub(crate) fn all_rows(
     alloc: Global,
     instance: &Instance,
 ) -> Result<Vec<Vec<Option<Window>>>, NoMemory>
-    ensures { IfOk result (λ rows. AreWindowRows instance.now (rows_of rows.items)) }
+    ensures { IfOk result (λ rows. AreWindowRows instance.now (row_lists rows.items)) }
 {
     let forward = forward_graph(alloc, instance)?;
     let backward = backward_graph(alloc, instance)?;
@@ -88,7 +93,8 @@ pub(crate) fn all_rows(
     Ok(rows)
 }
 
-// The row of a shipment's windows, where the least times from its origin and to its destination are known.
+// The row of a shipment's windows, where the least times from its origin and to its destination are
+// known.
 fn window_row(
     alloc: Global,
     instance: &Instance,

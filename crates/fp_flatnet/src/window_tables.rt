@@ -1,9 +1,10 @@
+//! Windows: when each shipment can leave by each arc, and the anchors of those that were narrowed.
 ghost use Rattle.std.specs.Prelude.{ℕ, ◌≡◌, ◌<◌, List, [], length, map, slice_index_or, IfOk, OnOk, OnErr};
 ghost use Rattle.std.specs.Option.{option_map};
 ghost use Rattle.fp_model.specs.Problem.{Problem};
 ghost use Rattle.fp_flatnet.specs.Belonging.{BelongsTo};
 ghost use Rattle.fp_flatnet.specs.Windows.{AreWindows, CoverPlans};
-ghost use Rattle.fp_flatnet.specs.Tables.{AreFull, CanNarrow, closed, tail_of, narrowed, rows_of, windows_in, with_entry};
+ghost use Rattle.fp_flatnet.specs.Tables.{AreFull, CanNarrow, closed, tail_of, narrowed, windows_in, with_entry, row_lists};
 
 use crate::NoMemory;
 use crate::window_rows::all_rows;
@@ -12,18 +13,22 @@ use fp_timenodes::Place;
 use std::alloc::Global;
 use std::marker::Model;
 
-/// The first and the last time at which a shipment can leave by an arc, in the input's unit of time.
+/// The most anchors: a window can be narrowed so often.
+pub const MOST_ANCHORS: usize = 30_000;
+
+/// The first and the last time at which a shipment can leave by an arc, in the input's unit of
+/// time.
 #[derive(Clone, Copy, PartialEq, Eq, Debug)]
 pub struct Window {
     pub lo: u32,
     pub hi: u32,
 }
 
-/// For each shipment and arc of an instance its window, if there is one, and the anchors: the places at which windows
-/// begin that were narrowed.
+/// For each shipment and arc of an instance its window, if there is one, and the anchors: the
+/// places at which windows begin that were narrowed.
 ///
-/// Contracts see the table of the arcs' tails, the shipments' rows of windows and the anchors. `narrow` and `close` keep
-/// windows that belong to an instance so.
+/// Contracts see the table of the arcs' tails, the shipments' rows of windows and the anchors.
+/// `narrow` and `close` keep windows that belong to an instance so.
 #[derive(Drop)]
 pub struct Windows {
     tails: Vec<u32>,
@@ -32,13 +37,13 @@ pub struct Windows {
 }
 
 impl Model for Windows {
-    ghost use Rattle.fp_flatnet.specs.Tables.{AreFull, WindowTable, rows_of};
+    ghost use Rattle.fp_flatnet.specs.Tables.{AreFull, WindowTable, row_lists};
 
     ghost Value = { WindowTable };
 
     ghost view = { λ w. record {
       tails = w.tails.items;
-      rows = rows_of w.rows.items;
+      rows = row_lists w.rows.items;
       anchors = w.anchors.items;
     } };
 
@@ -48,11 +53,13 @@ impl Model for Windows {
 impl Windows {
     /// The windows of an instance.
     ///
-    /// `lo` is the release where the arc leaves the origin, and otherwise the release plus the least time of a walk from
-    /// the origin to the arc's tail plus the tail's hold. `hi` is the due time minus the arc's time where the arc enters
-    /// the destination, and otherwise the due time minus the arc's step minus the least time of a walk from the arc's
-    /// head to the destination. There is no window where one of these does not exist, where `lo > hi`, where the arc
-    /// leaves the destination, or where it enters the origin. Every plan lies within these windows.
+    /// `lo` is the release where the arc leaves the origin, and otherwise the release plus the
+    /// least time of a walk from the origin to the arc's tail plus the tail's hold. `hi` is the due
+    /// time minus the arc's time where the arc enters the destination, and otherwise the due time
+    /// minus the arc's step minus the least time of a walk from the arc's head to the destination.
+    /// There is no window where one of these does not exist, where `lo > hi`, where the arc leaves
+    /// the destination, or where it enters the origin. Every plan lies within these windows.
+    /// `NoMemory` only where no memory is found.
     pub fn of(alloc: Global, instance: &Instance) -> Result<Windows, NoMemory>
         ensures windows { IfOk result (λ w. AreWindows instance.now (windows_in w)) }
         ensures anchors { IfOk result (λ w. w.anchors ≡ []) }
@@ -66,7 +73,8 @@ impl Windows {
         })
     }
 
-    /// The first and the last time at which a shipment can leave by an arc, if there is such a time. Takes no memory.
+    /// The first and the last time at which a shipment can leave by an arc, if there is such a
+    /// time. Takes no memory.
     pub fn window(&self, shipment: u32, arc: u32) -> Option<(u32, u32)>
         requires shipment { shipment < length self.now.rows }
         requires arc { arc < length self.now.tails }
@@ -76,9 +84,11 @@ impl Windows {
         row[arc as usize].map(|window| (window.lo, window.hi))
     }
 
-    /// Narrows the window of a shipment and an arc to the times from `lo` to `hi`, and makes `lo` at the arc's tail an anchor.
+    /// Narrows the window of a shipment and an arc to the times from `lo` to `hi`, and makes `lo`
+    /// at the arc's tail an anchor.
     ///
-    /// The pair has a window, `lo <= hi` lies inside it, and there are fewer than 30,000 anchors.
+    /// The pair has a window, `lo <= hi` lies inside it, and there are fewer than [`MOST_ANCHORS`]
+    /// anchors. `NoMemory` only where no memory is found: then nothing changes.
     pub fn narrow(
         &mut self,
         _alloc: Global,
@@ -88,7 +98,7 @@ impl Windows {
         hi: u32,
     ) -> Result<(), NoMemory>
         requires inside { CanNarrow self.old shipment arc lo hi }
-        requires few { length self.old.anchors < 30000 }
+        requires few { length self.old.anchors < MOST_ANCHORS }
         ensures ok { OnOk result (self.new ≡ narrowed self.old shipment arc lo hi) }
         ensures err { OnErr result (self.new ≡ self.old) }
         ensures belongs { (p : Problem) → BelongsTo p self.old → BelongsTo p self.new }
@@ -127,8 +137,8 @@ fn tails_of(alloc: Global, arcs: &[Arc]) -> Result<Vec<u32>, NoMemory>
 // Sets one entry of the rows.
 fn set_entry(rows: &mut [Vec<Option<Window>>], shipment: u32, arc: u32, to: Option<Window>)
     requires shipment { shipment < length rows.old }
-    requires arc { arc < length (slice_index_or (rows_of rows.old) shipment []) }
-    ensures set { rows_of rows.new ≡ with_entry (rows_of rows.old) shipment arc to }
+    requires arc { arc < length (slice_index_or (row_lists rows.old) shipment []) }
+    ensures set { row_lists rows.new ≡ with_entry (row_lists rows.old) shipment arc to }
     ensures full { (tails : List ℕ) → AreFull tails rows.old → AreFull tails rows.new }
 {
     let row = &mut rows[shipment as usize];

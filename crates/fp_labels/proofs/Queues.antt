@@ -10,6 +10,7 @@ use Rattle.std.proofs.lemmas.Option.{same_Some, none-some}
 use Rattle.std.proofs.lemmas.List.{get_or_past, get_or-set_same, get_or-set_other}
 use Rattle.std.proofs.lemmas.List.Elements.{All-nil, All-cons, All-head, All-tail, All-weaker, All-contains}
 use Rattle.std.proofs.lemmas.List.Sorted.{All-permutation, Contains-permutation}
+use Rattle.fp_lists.proofs.Membership.{Contains-cons_cases}
 use Rattle.fp_labels.specs.declared.walks.Label.{Label}
 use Rattle.fp_labels.specs.Labels.{label_at}
 use Rattle.fp_labels.specs.Searches.{Entry, entry_cmp, is_settled, IsWithin, AreBehind, IsQueue, SettlesNext}
@@ -23,14 +24,9 @@ not_below a b o h =
     (cases_lt b a)
 
 -- the top of the queue costs the least
-pub least_top : (x : Entry) (xs : List Entry) → IsUpperBound entry_cmp x xs → All (λ (e : Entry). x.0.0 ≤ e.0.0) xs
+least_top : (x : Entry) (xs : List Entry) → IsUpperBound entry_cmp x xs → All (λ (e : Entry). x.0.0 ≤ e.0.0) xs
 least_top x [] h = All-nil (λ (e : Entry). x.0.0 ≤ e.0.0)
 least_top x (y ∷ ys) h = All-cons (λ (e : Entry). x.0.0 ≤ e.0.0) y ys (not_below x.0.0 y.0.0 _ h.0) (least_top x ys h.1)
-
--- an element is the first one or a later one
-pub cons_cases : {X : Type 0} (x : X) (xs : List X) (y : X) → Contains (x ∷ xs) y → (x ≡ y) ⊎ Contains xs y
-cons_cases x xs y (zero, below, is) = inl is
-cons_cases x xs y (suc k, below, is) = inr (k, omega arith, is)
 
 -- a node with a label is within the list
 pub label_inside : (labels : List (Option Label)) (node : ℕ) (l : Label) → label_at labels node ≡ Some l → node < length labels
@@ -55,7 +51,7 @@ module _ (labels : List (Option Label)) (settled : List Bool) (queue rest : List
       ⊎_elim
       (λ (is : x ≡ e). absurd (ne (sym (ap (λ (y : Entry). y.0.1) is))))
       (λ (found : Contains rest e). found)
-      (cons_cases x rest e (Contains-permutation queue (x ∷ rest) e perm (queued.waiting node l at unsettled)))
+      (Contains-cons_cases x rest e (Contains-permutation queue (x ∷ rest) e perm (queued.waiting node l at unsettled)))
 
   -- it is stale
   stale_popped : is_settled settled x.0.1 ≡ true → IsQueue labels settled rest
@@ -111,7 +107,7 @@ module _ (labels : List (Option Label)) (settled : List Bool) (queue rest : List
           (λ (found : Contains rest e).
           let above : x.0.0 ≤ within.0.cost = All-contains (λ (y : Entry). x.0.0 ≤ y.0.0) rest e (least_top x rest top) found in
           omega (arith, within.2))
-          (cons_cases x rest e (Contains-permutation queue (x ∷ rest) e perm (queued.waiting x.0.1 within.0 within.1 fresh)))
+          (Contains-cons_cases x rest e (Contains-permutation queue (x ∷ rest) e perm (queued.waiting x.0.1 within.0 within.1 fresh)))
 
       behind : AreBehind labels new x.0.0
       behind node l at is =
@@ -129,9 +125,9 @@ pub record Pops (labels : List (Option Label)) (settled : List Bool) (rest : Lis
   pub stale : is_settled settled x.0.1 ≡ true → IsQueue labels settled rest
   pub fresh : is_settled settled x.0.1 ≡ false → SettlesNext labels settled (slice_set settled x.0.1 true) rest x.0.0 x.0.1
 
-pub pops : (labels : List (Option Label)) (settled : List Bool) (queue rest : List Entry) (x : Entry) → length settled ≡ length labels → IsQueue labels settled queue →
+pub IsQueue-pop : (labels : List (Option Label)) (settled : List Bool) (queue rest : List Entry) (x : Entry) → length settled ≡ length labels → IsQueue labels settled queue →
     IsPermutation queue (x ∷ rest) → PopsGreatest entry_cmp queue x rest → (IsHeap entry_cmp queue → IsUpperBound entry_cmp x rest) → Pops labels settled rest x
-pops labels settled queue rest x len queued perm popped top =
+IsQueue-pop labels settled queue rest x len queued perm popped top =
     let ordered : IsHeap entry_cmp rest = (popped queued.ordered).0 in
     record {
       inside = omega (arith, popped_inside labels settled queue rest x queued perm ordered);

@@ -6,7 +6,8 @@ use Rattle.fp_labels.specs.declared.graphs.Edge.{Edge}
 use Rattle.fp_labels.specs.declared.walks.Label.{Label}
 use Rattle.fp_labels.specs.declared.walks.Step.{Step}
 use Rattle.fp_labels.specs.Graphs.{Shape}
-use Rattle.fp_labels.specs.Walks.{IsDistance, IsWalk, AreApart, nodes_on}
+use Rattle.fp_labels.specs.Walks.{IsDistance, IsWalk, nodes_on}
+use Rattle.fp_lists.specs.Distinct.{AreDistinct}
 
 -- for each node the least cost from the start, where there is a walk, and a walk of that cost
 pub record Distances : Type 0 where
@@ -24,9 +25,10 @@ walk_to labels node = slice_index_or labels.walks node []
 -- a walk over open edges of this cost that repeats no node
 pub record IsSimpleWalk (edges : List Edge) (costs : List (Option ℕ)) (here there : ℕ) (walk : List ℕ) (cost : ℕ) : Type 0 where
   pub goes : IsWalk edges costs here there walk cost
-  pub apart : AreApart (nodes_on edges here walk)
+  pub apart : AreDistinct (nodes_on edges here walk)
 
--- each node has its distance from the start, and where there is a walk a walk of that cost that repeats no node
+-- each node has its distance from the start, and where there is a walk a walk of that cost that
+-- repeats no node
 pub record AreLabels (graph : Shape) (costs : List (Option ℕ)) (start : ℕ) (labels : Distances) : Type 0 where
   pub costs_len : length labels.costs ≡ graph.nodes
   pub walks_len : length labels.walks ≡ graph.nodes

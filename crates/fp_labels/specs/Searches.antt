@@ -40,7 +40,8 @@ AreSettled labels settled = (node : ℕ) (l : Label) → label_at labels node �
 abbrev pub AreBehind : List (Option Label) → List Bool → ℕ → Type 0
 AreBehind labels settled cost = (node : ℕ) (l : Label) → label_at labels node ≡ Some l → is_settled settled node ≡ true → l.cost ≤ cost
 
--- the queue has an entry for each label of a node that isn't settled, and no entry is below the label of its node or of a settled one
+-- the queue has an entry for each label of a node that isn't settled, and no entry is below the
+-- label of its node or of a settled one
 pub record IsQueue (labels : List (Option Label)) (settled : List Bool) (queue : List Entry) : Type 0 where
   pub ordered : IsHeap entry_cmp queue
   pub reached : All (λ (e : Entry). IsWithin labels e.0.1 e.0.0) queue
@@ -64,7 +65,8 @@ Improves old_labels old_queue labels queue node cost step =
     × (labels ≡ slice_set old_labels node (Some (record { cost = cost; step = Some step })))
     × IsPermutation (record { 0 = (cost, node) } ∷ old_queue) queue × KeepsHeap entry_cmp old_queue queue)
 
--- the walk to a node that its steps tell: at most so many edges, no node twice, and each node before its end is settled
+-- the walk to a node that its steps tell: at most so many edges, no node twice, and each node
+-- before its end is settled
 pub record IsTraced (edges : List Edge) (costs : List (Option ℕ)) (start : ℕ) (labels : List (Option Label)) (settled : List Bool) (count node cost : ℕ) (walk : List ℕ) : Type 0 where
   pub simple : IsSimpleWalk edges costs start node walk cost
   pub inside : AllByRecursion (λ m. (m ≡ node) ⊎ (is_settled settled m ≡ true)) (nodes_on edges start walk)
@@ -109,7 +111,8 @@ pub record IsLast (graph : Shape) (costs : List (Option ℕ)) (start : ℕ) (lab
   pub walk : (walk : List ℕ) × IsTraced graph.edges costs start labels settled before node cost walk
   pub small : graph.nodes * cost ≤ before * greatest_cost
 
--- the edges that leave the node that was settled last are all relaxed, and else the search is as it was
+-- the edges that leave the node that was settled last are all relaxed, and else the search is as it
+-- was
 abbrev pub Relaxes : Shape → List (Option ℕ) → ℕ → ℕ → List (Option Label) → List Bool → List Entry → List (Option Label) → List Entry → Type 0
 Relaxes graph costs node cost old_labels settled old_queue labels queue =
     (start : ℕ) → IsSearch graph costs start old_labels settled old_queue (λ e. (edge_at graph.edges e).from ≡ node) →

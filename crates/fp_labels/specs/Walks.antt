@@ -1,4 +1,5 @@
--- Walks in a graph whose edges have costs, and the least cost of a walk. A walk is the list of its edges' numbers.
+-- Walks in a graph whose edges have costs, and the least cost of a walk. A walk is the list of its
+-- edges' numbers.
 use Rattle.std.specs.Prelude.{ℕ, ◌≡◌, ◌≢◌, ◌<◌, ◌≤◌, List, [], ◌∷◌, length, map, Option, None, Some, IsSome, unwrap_or, slice_index_or}
 use Rattle.std.specs.List.{AllByRecursion, sum_by}
 use Rattle.fp_labels.specs.declared.graphs.Edge.{Edge}
@@ -26,23 +27,20 @@ walk_cost costs walk = sum_by (λ e. unwrap_or (cost_of costs e) 0) walk
 abbrev pub nodes_on : List Edge → ℕ → List ℕ → List ℕ
 nodes_on edges here walk = here ∷ map (λ e. (edge_at edges e).to) walk
 
--- no number stands twice in a list
-abbrev pub AreApart : List ℕ → Type 0
-AreApart [] = Unit {0}
-AreApart (x ∷ xs) = AllByRecursion (λ y. y ≢ x) xs × AreApart xs
-
 -- a walk over open edges from one node to another at this cost
 pub record IsWalk (edges : List Edge) (costs : List (Option ℕ)) (here there : ℕ) (walk : List ℕ) (cost : ℕ) : Type 0 where
   pub leads : Leads edges here walk there
   pub open_edges : IsOpen costs walk
   pub costs_so : walk_cost costs walk ≡ cost
 
--- the least cost of a walk from one node to another: some walk over open edges costs it, and none costs less
+-- the least cost of a walk from one node to another: some walk over open edges costs it, and none
+-- costs less
 pub record IsLeastCost (edges : List Edge) (costs : List (Option ℕ)) (here there cost : ℕ) : Type 0 where
   pub attained : (walk : List ℕ) × IsWalk edges costs here there walk cost
   pub least : (walk : List ℕ) → Leads edges here walk there → IsOpen costs walk → cost ≤ walk_cost costs walk
 
--- the distance from one node to another: the least cost, or nothing where each walk has a barred edge
+-- the distance from one node to another: the least cost, or nothing where each walk has a barred
+-- edge
 abbrev pub IsDistance : List Edge → List (Option ℕ) → ℕ → ℕ → Option ℕ → Type 0
 IsDistance edges costs here there None = (walk : List ℕ) → Leads edges here walk there → IsOpen costs walk → ⊥
 IsDistance edges costs here there (Some cost) = IsLeastCost edges costs here there cost

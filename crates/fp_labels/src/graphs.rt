@@ -1,4 +1,5 @@
-// A graph by its numbered edges, which are grouped by their tails once.
+//! A graph by its numbered edges, which are grouped by their tails once.
+
 ghost use Rattle.std.specs.Prelude.{◌≡◌, ◌<◌, ◌≤◌, ◌-◌, ◌^◌, length, take, drop, IfOk};
 ghost use Rattle.fp_labels.specs.Graphs.{Shape, edge_at, HasEnds};
 ghost use Rattle.fp_labels.specs.Rows.{IsRow, IsGrouped};
@@ -17,8 +18,8 @@ pub struct Edge {
     pub to: u32,
 }
 
-/// A directed graph. Its nodes are numbered from 0, and so are its edges, by their places. Loops are allowed, and several
-/// edges with the same ends are too.
+/// A directed graph. Its nodes are numbered from 0, and so are its edges, by their places. Loops
+/// are allowed, and several edges with the same ends are too.
 #[derive(Drop)]
 pub struct Graph {
     nodes: u32,
@@ -38,8 +39,8 @@ impl Model for Graph {
 }
 
 impl Graph {
-    /// The graph of `nodes` nodes and these edges. The ends of the edges are below `nodes`, and there are fewer than
-    /// 2^32 - 1 edges. `NoMemory` comes only where memory is refused.
+    /// The graph of `nodes` nodes and these edges. The ends of the edges are below `nodes`, and
+    /// there are fewer than 2^32 - 1 edges. `NoMemory` only where no memory is found.
     pub fn new(alloc: Global, nodes: u32, edges: &[Edge]) -> Result<Graph, NoMemory>
         requires ends { HasEnds nodes edges.now }
         requires few { length edges.now < 2 ^ 32 - 1 }

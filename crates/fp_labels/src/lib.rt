@@ -1,4 +1,5 @@
-//! Least distances from one node of a numbered graph whose edges have costs of their own at each call.
+//! Least distances from one node of a numbered graph whose edges have costs of their own at each
+//! call.
 #![tactic(auto)]
 
 ghost use Rattle.std.specs.Prelude.{◌≡◌, ◌<◌, length, All, IfOk};
@@ -7,8 +8,6 @@ ghost use Rattle.fp_labels.specs.Labels.{IsSmallFor, AreLabels};
 mod counting;
 mod graphs;
 mod settling;
-#[cfg(test)]
-mod tests;
 mod walks;
 
 pub use graphs::{Edge, Graph};
@@ -16,13 +15,14 @@ use settling::find_labels;
 use std::alloc::Global;
 pub use walks::Labels;
 
-/// Memory was refused.
+/// The error of a call that finds no memory.
 pub type NoMemory = std::alloc::AllocError;
 
-/// The least costs from `start` to each node, and walks of these costs. `costs` has the cost of each edge; `None` bars the
-/// edge. A cost may be 0, also of all edges round a cycle. `start` is a node, and each cost times the number of nodes is at
-/// most 2^127 - 1. Each node is settled once: the work grows as the nodes and edges, times the logarithm of the edges.
-/// `NoMemory` comes only where memory is refused.
+/// The least costs from `start` to each node, and walks of these costs. `costs` has the cost of
+/// each edge; `None` bars the edge. A cost may be 0, also of all edges round a cycle. `start` is a
+/// node, and each cost times the number of nodes is at most 2^127 - 1. Each node is settled once:
+/// the work grows as the nodes and edges, times the logarithm of the edges. `NoMemory` only where
+/// no memory is found.
 pub fn distances(
     alloc: Global,
     graph: &Graph,

@@ -1,5 +1,6 @@
-// A search that settles one node after the other, the least label first: E. W. Dijkstra, "A note on two problems in
-// connexion with graphs", Numerische Mathematik 1, 1959.
+//! A search that settles one node after the other, the least label first: E. W. Dijkstra, "A note
+//! on two problems in connexion with graphs", Numerische Mathematik 1, 1959.
+
 ghost use Rattle.std.specs.Prelude.{◌≡◌, ◌<◌, ◌≤◌, ◌↔◌, length, All, IfOk, IfSome, IfNone, OnOk, OnErr, IsTrue};
 ghost use Rattle.std.specs.BinaryHeap.{heap_items, HeapUnchanged};
 ghost use Rattle.fp_labels.specs.Labels.{IsSmallFor, greatest_cost};
@@ -12,8 +13,8 @@ use std::alloc::Global;
 use std::cmp::Reverse;
 use std::collections::BinaryHeap;
 
-// Labels are final at settled nodes. The queue has an entry for each label of a node that isn't settled, and may have
-// stale ones.
+// Labels are final at settled nodes. The queue has an entry for each label of a node that isn't
+// settled, and may have stale ones.
 #[derive(Drop)]
 struct Search {
     labels: Vec<Option<Label>>,
@@ -43,7 +44,8 @@ impl Search {
         })
     }
 
-    // Settles the node of the least label among those that aren't settled: that label's cost, and the node.
+    // Settles the node of the least label among those that aren't settled: that label's cost, and
+    // the node.
     fn settle_next(&mut self) -> Option<(u128, u32)>
         requires len { length self.old.settled.items ≡ length self.old.labels.items }
         requires queued { IsQueue self.old.labels.items self.old.settled.items (heap_items self.old.queue) }
@@ -84,8 +86,8 @@ impl Search {
         Ok(())
     }
 
-    // Goes on over each open edge that leaves a node, which is settled at this cost. It takes the search by value, since a
-    // search whose memory was refused midway is of no use.
+    // Goes on over each open edge that leaves a node, which is settled at this cost. It takes the
+    // search by value, since a search whose memory was refused midway is of no use.
     fn relax(
         mut self,
         graph: &Graph,

@@ -1,4 +1,5 @@
-// What a search found: the least cost to each node, and the edge by which it is reached.
+//! What a search found: the least cost to each node, and the edge by which it is reached.
+
 ghost use Rattle.std.specs.Prelude.{◌≡◌, ◌<◌, ◌≤◌, length, IfOk, IfSome, IsSome};
 ghost use Rattle.fp_labels.specs.Labels.{Distances, distances_of, cost_to, walk_to, greatest_cost, label_at, step_to, traced, AreSound};
 
@@ -42,8 +43,8 @@ impl Labels {
         Labels { labels }
     }
 
-    /// The least cost over all walks from the start to a node, at most 2^127 - 1. `None` exactly where there is no walk
-    /// over edges that aren't barred.
+    /// The least cost over all walks from the start to a node, at most 2^127 - 1. `None` exactly
+    /// where there is no walk over edges that aren't barred.
     pub fn to(&self, node: u32) -> Option<u128>
         requires { node < length self.now.costs }
         ensures label { result ≡ cost_to self.now node }
@@ -55,8 +56,8 @@ impl Labels {
         }
     }
 
-    /// The numbers of the edges of a walk of least cost from the start to a reached node. It repeats no node, and is empty
-    /// for the start. `NoMemory` comes only where memory is refused.
+    /// The numbers of the edges of a walk of least cost from the start to a reached node. It
+    /// repeats no node, and is empty for the start. `NoMemory` only where no memory is found.
     pub fn walk(&self, alloc: Global, node: u32) -> Result<Vec<u32>, NoMemory>
         requires inside { node < length self.now.costs }
         requires reached { IsSome (cost_to self.now node) }

@@ -2,7 +2,7 @@
 use Rattle.std.proofs.Common.{◌≡◌, ◌∙◌, ℕ, List, ◌∷◌, ◌++◌, false, ap}
 use Rattle.std.specs.Prelude.{Result, Ok, Err, OnOk}
 use Rattle.fp_records.specs.Text.{Lines, line_of, with_end}
-use Rattle.fp_records.proofs.Built.{built-line, with_fields}
+use Rattle.fp_records.proofs.LineTexts.{built-line, with_fields}
 
 -- Where the end was written, the text has the line.
 pub ended-line : {T E : Type 0} (r : Result T E) (line new : Lines) (f : List ℕ) (fields : List (List ℕ)) → line.begun ≡ false

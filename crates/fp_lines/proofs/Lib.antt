@@ -1,4 +1,4 @@
 mod EndedLines
 pub mod Named
 mod RowTexts
-pub mod Worked
+pub mod Examples

@@ -8,7 +8,7 @@ use Rattle.fp_lines.specs.Rows.{answer_fields, end_fields, leg_fields, node_fiel
 use Rattle.fp_lines.specs.Statements.{Statement}
 
 -- the text of more lines
-pub lines_of-append : (rows more : List (List (List ℕ))) → lines_of (rows ++ more) ≡ lines_of rows ++ lines_of more
+lines_of-append : (rows more : List (List (List ℕ))) → lines_of (rows ++ more) ≡ lines_of rows ++ lines_of more
 lines_of-append rows more = flat_map-append line_of rows more
 
 -- the text up to some lines, and the text of these

@@ -1,5 +1,6 @@
 -- Certificates whose numbers are in range, and whose terminals, arcs, shipments and tables exist.
 use Rattle.std.specs.Prelude.{ℕ, ◌-◌, ◌<◌, ◌≤◌, ◌^◌, List, length, All, IfSome}
+use Rattle.fp_model.specs.declared.limits.TheConstants.{GREATEST_SCALE, LAST_ROUND, LATEST, LONGEST_FASTEST}
 use Rattle.fp_model.specs.Problem.{Problem, weight_at}
 use Rattle.fp_prices.specs.declared.leaf_prices.LeafPrice.{LeafPrice}
 use Rattle.fp_prices.specs.declared.tables.Weight.{Weight}
@@ -17,63 +18,66 @@ use Rattle.fp_lines.specs.declared.certificates.Node.{Node}
 use Rattle.fp_lines.specs.declared.certificates.Node.TheVariants.{Branch, Leaf}
 use Rattle.fp_lines.specs.Statements.{Statement}
 
--- the largest number that a field may have where no other limit is named
-abbrev pub largest : ℕ
-largest = 2 ^ 127 - 1
+-- the largest_figure number that a field may have where no other limit is named
+abbrev pub largest_figure : ℕ
+largest_figure = 2 ^ 127 - 1
 
--- costs and bounds are no larger than a field may be, a shipment exists, and a fastest time is at most 10,000,000
+-- costs and bounds are no larger than a field may be, a shipment exists, and a fastest time is at
+-- most 10,000,000
 abbrev pub IsAnswerInRange : Problem → Answer → Type 0
-IsAnswerInRange p (Direct cost) = cost ≤ largest
-IsAnswerInRange p (Optimal cost) = cost ≤ largest
-IsAnswerInRange p (Unfinished cost bound spent) = (cost ≤ largest) × (bound ≤ largest)
-IsAnswerInRange p (Infeasible shipment time) = (shipment < length p.shipments) × IfSome time (λ t. t ≤ 10000000)
+IsAnswerInRange p (Direct cost) = cost ≤ largest_figure
+IsAnswerInRange p (Optimal cost) = cost ≤ largest_figure
+IsAnswerInRange p (Unfinished cost bound spent) = (cost ≤ largest_figure) × (bound ≤ largest_figure)
+IsAnswerInRange p (Infeasible shipment time) = (shipment < length p.shipments) × IfSome time (λ t. t ≤ LONGEST_FASTEST)
 
 -- a scale is 1 to 1,000,000,000 and fits the instance
 pub record IsScaleInRange (p : Problem) (scale : ℕ) : Type 0 where
   pub least : 1 ≤ scale
-  pub most : scale ≤ 10 ^ 9
+  pub most : scale ≤ GREATEST_SCALE
   pub fits : weight_at scale p.arcs p.shipments < 2 ^ 127
 
 -- a leg's shipment and arc exist, and its times are at most 100,000
 pub record IsLegInRange (p : Problem) (l : LegLine) : Type 0 where
   pub exists : LegExists p l
-  pub depart : l.depart ≤ 100000
-  pub arrive : l.arrive ≤ 100000
+  pub depart : l.depart ≤ LATEST
+  pub arrive : l.arrive ≤ LATEST
 
--- a truck line's arc exists, its time is at most 100,000, and its numbers are no larger than a field may be
+-- a truck line's arc exists, its time is at most 100,000, and its numbers are no larger than a
+-- field may be
 pub record IsTruckInRange (p : Problem) (t : TruckLine) : Type 0 where
   pub exists : TruckExists p t
-  pub depart : t.depart ≤ 100000
-  pub trucks : t.trucks ≤ largest
-  pub load : t.load ≤ largest
+  pub depart : t.depart ≤ LATEST
+  pub trucks : t.trucks ≤ largest_figure
+  pub load : t.load ≤ largest_figure
 
 -- a point's terminal exists, its time is at most 100,000, and its round is 1 to 4,000
 pub record IsPointInRange (p : Problem) (point : AddedPoint) : Type 0 where
   pub terminal : point.terminal < length p.terminals
-  pub time : point.at ≤ 100000
-  pub round : (1 ≤ point.round) × (point.round ≤ 4000)
+  pub time : point.at ≤ LATEST
+  pub round : (1 ≤ point.round) × (point.round ≤ LAST_ROUND)
 
 -- a weight's shipment exists, and it is no larger than a field may be
 pub record IsWeightInRange (p : Problem) (weight : Weight) : Type 0 where
   pub shipment : weight.shipment < length p.shipments
-  pub small : weight.w ≤ largest
+  pub small : weight.w ≤ largest_figure
 
--- a share's arc exists, its point is at most 100,000, its price is no larger than a field may be, and its weights are in range
+-- a share's arc exists, its point is at most 100,000, its price is no larger than a field may be,
+-- and its weights are in range
 pub record IsShareInRange (p : Problem) (share : ClassShare) : Type 0 where
   pub arc : share.arc < length p.arcs
-  pub point : share.point ≤ 100000
-  pub price : share.v ≤ largest
+  pub point : share.point ≤ LATEST
+  pub price : share.v ≤ largest_figure
   pub weights : All (IsWeightInRange p) share.weights
 
 -- a split's shipment, arc and terminal exist, and its time is at most 100,000
 abbrev pub IsSplitInRange : Problem → Split → Type 0
 IsSplitInRange p (ByArc shipment arc) = (shipment < length p.shipments) × (arc < length p.arcs)
-IsSplitInRange p (ByTime shipment terminal at) = (shipment < length p.shipments) × (terminal < length p.terminals) × (at ≤ 100000)
+IsSplitInRange p (ByTime shipment terminal at) = (shipment < length p.shipments) × (terminal < length p.terminals) × (at ≤ LATEST)
 
 -- a leaf's table exists, where it is priced by one, and its round is at most 4,000
 pub record IsLeafInRange (tables : List (List ClassShare)) (price : LeafPrice) : Type 0 where
   pub kind : HasKind tables price.kind
-  pub round : price.round ≤ 4000
+  pub round : price.round ≤ LAST_ROUND
 
 -- a node is in range beside these tables
 abbrev pub IsNodeInRange : Problem → List (List ClassShare) → Node → Type 0

@@ -1,4 +1,5 @@
--- The fields of a certificate's lines, in order. A field is a list of bytes; numbers are decimal without leading zeros.
+-- The fields of a certificate's lines, in order. A field is a list of bytes; numbers are decimal
+-- without leading zeros.
 use Rattle.std.specs.Prelude.{ℕ, ◌+◌, Bool, List, [], ◌∷◌, ◌++◌, map, if◌then◌else◌, Option, Some, None, codes, decimal, slice_index_or}
 use Rattle.std.specs.List.{flat_map}
 use Rattle.fp_records.specs.Text.{Lines, with_field}

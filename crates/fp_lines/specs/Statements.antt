@@ -7,8 +7,8 @@ use Rattle.fp_timetable.specs.declared.lines.TruckLine.{TruckLine}
 use Rattle.fp_lines.specs.declared.certificates.Answer.{Answer}
 use Rattle.fp_lines.specs.declared.certificates.Node.{Node}
 
--- what is claimed, the scale of prices if one is named, the plan's legs and departures, the added points, the tables of prices,
--- and the tree of the search in preorder
+-- what is claimed, the scale of prices if one is named, the plan's legs and departures, the added
+-- points, the tables of prices, and the tree of the search in preorder
 pub record Statement : Type 0 where
   pub answer : Answer
   pub scale : Option ℕ

@@ -1,4 +1,4 @@
-// Lines of answers.
+//! Lines of answers.
 ghost use Rattle.std.specs.Prelude.{◌≡◌, ◌<◌, ◌++◌, ◌∷◌, [], codes, decimal, false, length, OnOk};
 ghost use Rattle.fp_records.specs.Text.{line_of, with_field};
 ghost use Rattle.fp_lines.specs.Ranges.{AnswerExists};

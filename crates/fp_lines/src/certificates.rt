@@ -1,3 +1,4 @@
+//! What a certificate is made of.
 use fp_prices::{LeafPrice, Table};
 use fp_timenodes::AddedPoint;
 use fp_timetable::{LegLine, TruckLine};
@@ -13,8 +14,8 @@ pub enum Spent {
     Branches,
 }
 
-/// What a certificate claims. Costs and bounds are in the input's unit of money, at most `2^127 - 1` in a certificate that was
-/// read.
+/// What a certificate claims. Costs and bounds are in the input's unit of money, at most `2^127 -
+/// 1` in a certificate that was read.
 #[derive(Clone, Copy, Debug, PartialEq, Eq)]
 pub enum Answer {
     /// The legs are a plan of this cost, and no more.
@@ -25,14 +26,15 @@ pub enum Answer {
     Optimal {
         cost: u128,
     },
-    /// The legs are a plan of this cost, no plan costs less than `bound`, and the search had spent what it was given.
+    /// The legs are a plan of this cost, no plan costs less than `bound`, and the search had spent
+    /// what it was given.
     Unfinished {
         cost: u128,
         bound: u128,
         spent: Spent,
     },
-    /// The shipment with this number can't be carried in time. `time` is the fastest time from its origin to its destination,
-    /// in the input's unit, and `None` where it has no route.
+    /// The shipment with this number can't be carried in time. `time` is the fastest time from its
+    /// origin to its destination, in the input's unit, and `None` where it has no route.
     Infeasible {
         shipment: u32,
         time: Option<u32>,
@@ -48,14 +50,17 @@ pub enum Node {
     Leaf { price: LeafPrice },
 }
 
-/// An answer with all that tells why it is true. Contracts see a certificate as the record of these parts, with lists.
+/// An answer with all that tells why it is true. Contracts see a certificate as the record of these
+/// parts, with lists.
 ///
-/// A certificate may be of any numbers: `read` gives only those in range, and the checker tells which are true.
+/// A certificate may be of any numbers: `read` gives only those in range, and the checker tells
+/// which are true.
 #[derive(Drop)]
 pub struct Certificate {
     /// What it claims.
     pub answer: Answer,
-    /// How many parts of prices make a unit of money, 1 to 1,000,000,000. `None` stands for 1,000,000.
+    /// How many parts of prices make a unit of money, 1 to 1,000,000,000. `None` stands for
+    /// 1,000,000.
     pub scale: Option<u32>,
     /// The legs of the plan, by departure and then by shipment.
     pub legs: Vec<LegLine>,

@@ -1,4 +1,4 @@
-// Lines `leaf,KIND,ROUND,MODE`.
+//! Lines `leaf,KIND,ROUND,MODE`.
 ghost use Rattle.std.specs.Prelude.{◌≡◌, ◌++◌, false, OnOk};
 ghost use Rattle.fp_records.specs.Text.{line_of, with_field};
 ghost use Rattle.fp_lines.specs.Rows.{kind_text, leaf_fields, mode_text};

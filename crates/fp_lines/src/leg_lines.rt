@@ -1,4 +1,4 @@
-// Lines `leg,SHIPMENT,FROM,TO,DEPART,ARRIVE`.
+//! Lines `leg,SHIPMENT,FROM,TO,DEPART,ARRIVE`.
 ghost use Rattle.std.specs.Prelude.{◌≡◌, ◌++◌, All, false, map, OnOk};
 ghost use Rattle.fp_records.specs.Text.{line_of, lines_of};
 ghost use Rattle.fp_timetable.specs.Lines.{LegExists};

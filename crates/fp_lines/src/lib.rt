@@ -1,7 +1,7 @@
 //! The certificate of an answer, and its text.
 //!
-//! A certificate tells why an answer is true: a plan's legs and departures, the points of a time-expanded network, tables of
-//! prices, and the tree of a search. It is this project's own.
+//! A certificate tells why an answer is true: a plan's legs and departures, the points of a
+//! time-expanded network, tables of prices, and the tree of a search. It is this project's own.
 #![tactic(auto)]
 
 mod answer_lines;
@@ -22,5 +22,5 @@ mod writing;
 pub use certificates::{Answer, Certificate, Node, Spent};
 pub use writing::write;
 
-/// No memory was found.
+/// The error of a call that finds no memory.
 pub type NoMemory = std::alloc::AllocError;

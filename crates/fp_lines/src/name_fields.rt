@@ -1,4 +1,4 @@
-// The names of terminals, shipments and arcs' ends in lines that are written.
+//! The names of terminals, shipments and arcs' ends in lines that are written.
 ghost use Rattle.std.specs.Prelude.{◌≡◌, ◌<◌, length, OnOk};
 ghost use Rattle.fp_records.specs.Text.{with_field};
 ghost use Rattle.fp_lines.specs.Rows.{shipment_name, terminal_name, with_ends};

@@ -1,4 +1,4 @@
-// The lines of a tree, in preorder.
+//! The lines of a tree, in preorder.
 ghost use Rattle.std.specs.Prelude.{◌≡◌, ◌++◌, All, false, map, OnOk};
 ghost use Rattle.fp_records.specs.Text.{line_of, lines_of};
 ghost use Rattle.fp_lines.specs.Ranges.{NodeExists};

@@ -1,4 +1,4 @@
-// Lines `point,TERMINAL,TIME,ROUND`.
+//! Lines `point,TERMINAL,TIME,ROUND`.
 ghost use Rattle.std.specs.Prelude.{◌≡◌, ◌<◌, ◌++◌, All, false, length, map, OnOk};
 ghost use Rattle.fp_records.specs.Text.{line_of, lines_of};
 ghost use Rattle.fp_lines.specs.Ranges.{PointExists};

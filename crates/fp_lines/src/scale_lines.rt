@@ -1,4 +1,4 @@
-// Lines `scale,N`.
+//! Lines `scale,N`.
 ghost use Rattle.std.specs.Prelude.{◌≡◌, ◌++◌, false, OnOk};
 ghost use Rattle.fp_records.specs.Text.{lines_of};
 ghost use Rattle.fp_lines.specs.Rows.{scale_rows};

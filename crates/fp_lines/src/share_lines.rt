@@ -1,4 +1,4 @@
-// Lines `share,FROM,TO,POINT,V`, each followed by its weights.
+//! Lines `share,FROM,TO,POINT,V`, each followed by its weights.
 ghost use Rattle.std.specs.Prelude.{◌≡◌, ◌++◌, ◌<◌, All, false, length, map, OnOk};
 ghost use Rattle.std.specs.List.{flat_map};
 ghost use Rattle.fp_records.specs.Text.{line_of, lines_of};

@@ -1,4 +1,4 @@
-// Lines `split,arc,SHIPMENT,FROM,TO` and `split,time,SHIPMENT,TERMINAL,AT`.
+//! Lines `split,arc,SHIPMENT,FROM,TO` and `split,time,SHIPMENT,TERMINAL,AT`.
 ghost use Rattle.std.specs.Prelude.{◌≡◌, ◌<◌, ◌++◌, false, length, OnOk};
 ghost use Rattle.fp_records.specs.Text.{line_of};
 ghost use Rattle.fp_lines.specs.Ranges.{SplitExists};

@@ -1,4 +1,4 @@
-// Lines `table,ID`, each followed by its shares.
+//! Lines `table,ID`, each followed by its shares.
 ghost use Rattle.std.specs.Prelude.{◌≡◌, ◌++◌, All, false, OnOk};
 ghost use Rattle.fp_records.specs.Text.{line_of, lines_of};
 ghost use Rattle.fp_lines.specs.Ranges.{ShareExists};

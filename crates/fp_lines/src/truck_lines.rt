@@ -1,4 +1,4 @@
-// Lines `truck,FROM,TO,DEPART,TRUCKS,LOAD`.
+//! Lines `truck,FROM,TO,DEPART,TRUCKS,LOAD`.
 ghost use Rattle.std.specs.Prelude.{◌≡◌, ◌++◌, All, false, map, OnOk};
 ghost use Rattle.fp_records.specs.Text.{line_of, lines_of};
 ghost use Rattle.fp_timetable.specs.Lines.{TruckExists};

@@ -1,4 +1,4 @@
-// Lines `weight,SHIPMENT,W`.
+//! Lines `weight,SHIPMENT,W`.
 ghost use Rattle.std.specs.Prelude.{◌≡◌, ◌++◌, All, false, map, OnOk};
 ghost use Rattle.fp_records.specs.Text.{line_of, lines_of};
 ghost use Rattle.fp_lines.specs.Ranges.{WeightExists};

@@ -1,4 +1,4 @@
-// Writes a certificate.
+//! Writes a certificate.
 ghost use Rattle.std.specs.Prelude.{◌≡◌, ◌++◌, false, IfOk, OnOk};
 ghost use Rattle.fp_records.specs.Text.{line_of, lines_of};
 ghost use Rattle.fp_lines.specs.Ranges.{IsNamed};
@@ -28,21 +28,23 @@ fn write_end(line: &mut Line) -> Result<(), NoMemory>
 
 /// The text of a certificate of an instance.
 ///
-/// Each line ends with a line feed, and its fields are joined by commas. Numbers are decimal without leading zeros, and names
-/// stand without quotes. The lines are, in this order:
+/// Each line ends with a line feed, and its fields are joined by commas. Numbers are decimal
+/// without leading zeros, and names stand without quotes. The lines are, in this order:
 ///
-/// - `answer,direct,COST`, `answer,optimal,COST`, `answer,unfinished,COST,BOUND,SPENT` with `rounds` or `branches`, or
-///   `answer,infeasible,SHIPMENT,TIME` with a fastest time or `none`.
+/// - `answer,direct,COST`, `answer,optimal,COST`, `answer,unfinished,COST,BOUND,SPENT` with
+///   `rounds` or `branches`, or `answer,infeasible,SHIPMENT,TIME` with a fastest time or `none`.
 /// - `scale,N`, where the certificate has a scale.
-/// - `leg,SHIPMENT,FROM,TO,DEPART,ARRIVE` for each leg, `truck,FROM,TO,DEPART,TRUCKS,LOAD` for each departure, and
-///   `point,TERMINAL,TIME,ROUND` for each added point.
-/// - `table,ID` for each table, followed by `share,FROM,TO,POINT,V` for each of its shares, each followed by
-///   `weight,SHIPMENT,W` for each of its weights.
-/// - For each node of the tree `split,arc,SHIPMENT,FROM,TO`, `split,time,SHIPMENT,TERMINAL,AT` or `leaf,KIND,ROUND,MODE`, with
-///   `linear`, `even` or a table's ID for the kind, and `plain` or `forced` for the mode.
+/// - `leg,SHIPMENT,FROM,TO,DEPART,ARRIVE` for each leg, `truck,FROM,TO,DEPART,TRUCKS,LOAD` for each
+///   departure, and `point,TERMINAL,TIME,ROUND` for each added point.
+/// - `table,ID` for each table, followed by `share,FROM,TO,POINT,V` for each of its shares, each
+///   followed by `weight,SHIPMENT,W` for each of its weights.
+/// - For each node of the tree `split,arc,SHIPMENT,FROM,TO`, `split,time,SHIPMENT,TERMINAL,AT` or
+///   `leaf,KIND,ROUND,MODE`, with `linear`, `even` or a table's ID for the kind, and `plain` or
+///   `forced` for the mode.
 /// - `end`.
 ///
-/// The terminals, arcs and shipments of the certificate have to be the instance's. Fails only where no memory is found.
+/// The terminals, arcs and shipments of the certificate have to be the instance's. Fails only where
+/// no memory is found.
 pub fn write(
     alloc: Global,
     instance: &Instance,

@@ -1,7 +1,6 @@
 -- Classes numbered by arc and then by point, and the head of each.
 use Rattle.std.proofs.Common.{◌≡◌, ℕ, zero, suc, ◌+◌, ◌-◌, ◌*◌, ◌<◌, ◌≤◌, true, List, [], ◌∷◌, length, get_or, map, ◌⊎◌, ⊎_elim, sym, ap, ◌∙◌, subst, arith}
 use Rattle.std.specs.Prelude.{All}
-use Rattle.std.specs.List.{AllPairs}
 use Rattle.std.specs.List.Sorted.{IsNonDecreasingBy}
 use Rattle.std.proofs.lemmas.Bool.{cases_lt, cases_order}
 use Rattle.std.proofs.lemmas.List.{get_or-map, get_or_default, get_or_past, take_all}
@@ -9,14 +8,16 @@ use Rattle.std.proofs.lemmas.List.Sums.{sum_by_more, sum_by-cons, sum_by-take-le
 use Rattle.fp_model.specs.declared.parts.Leg.{Leg}
 use Rattle.fp_model.specs.Problem.{Problem, arc_at}
 use Rattle.fp_timenodes.specs.declared.places.TheConstants.{LATEST}
-use Rattle.fp_timenodes.specs.Floor.{has_point}
+use Rattle.fp_lists.specs.Membership.{list_has}
+use Rattle.fp_longestarcs.specs.declared.networks.TheConstants.{MOST_CLASSES}
 use Rattle.fp_longestarcs.specs.Classes.{head_of}
-use Rattle.fp_longestarcs.specs.Ascending.{place_of, ArePoints, IsCut}
+use Rattle.fp_longestarcs.specs.Ascending.{ArePoints}
+use Rattle.fp_lists.specs.Ascending.{IsCut, place_in}
 use Rattle.fp_longestarcs.specs.Networks.{TimedNetwork, points_in, tail_in, heads_in, kept_head, IsArcOfClass, IsClass, copy_count, class_count, first_class, class_number, IsNetwork}
 use Rattle.fp_longestarcs.specs.Vectors.{AreOffsets}
-use Rattle.fp_longestarcs.specs.Whole.{HasArcsOf, IsWhole}
-use Rattle.fp_longestarcs.proofs.Places.{at-place, place-at}
-use Rattle.fp_longestarcs.proofs.Lengthened.{arc-count, tail-of, whole-heads}
+use Rattle.fp_longestarcs.specs.Whole.{HasArcsOf, IsWholeNetwork}
+use Rattle.fp_lists.proofs.Places.{place_in-get_or, get_or-place_in, place-le-get_or}
+use Rattle.fp_longestarcs.proofs.HeadLists.{arc-count, tail-of, whole-heads}
 
 -- the points of an arc's tail
 pub tail-points : (net : TimedNetwork) (arc : ℕ) → IsNetwork net → arc < length net.tails → ArePoints (points_in net (tail_in net arc))
@@ -24,21 +25,21 @@ tail-points net arc valid h = valid.points (tail_in net arc) [] (valid.tails arc
 
 -- a class's place is one of its arc's
 pub class-place : (net : TimedNetwork) (c : Leg) → IsNetwork net → IsClass net c →
-    (place_of (points_in net (tail_in net c.arc)) c.depart < length (points_in net (tail_in net c.arc))) × (get_or (points_in net (tail_in net c.arc)) (place_of (points_in net (tail_in net c.arc)) c.depart) 0 ≡ c.depart)
+    (place_in (points_in net (tail_in net c.arc)) c.depart < length (points_in net (tail_in net c.arc))) × (get_or (points_in net (tail_in net c.arc)) (place_in (points_in net (tail_in net c.arc)) c.depart) 0 ≡ c.depart)
 class-place net c valid is =
     let are : ArePoints (points_in net (tail_in net c.arc)) = tail-points net c.arc valid is.0 in
-    let there = at-place (points_in net (tail_in net c.arc)) c.depart are.ascending is.1 in
+    let there = get_or-place_in (points_in net (tail_in net c.arc)) c.depart are.ascending is.1 in
     (there.0, there.1 0)
 
 -- an arc of the instance and a point of its tail are a class
-pub class-of-arc : (p : Problem) (net : TimedNetwork) (arc point : ℕ) → HasArcsOf p net → arc < length p.arcs → has_point (points_in net (arc_at p arc).from) point ≡ true → IsClass net (record { arc = arc; depart = point })
+pub class-of-arc : (p : Problem) (net : TimedNetwork) (arc point : ℕ) → HasArcsOf p net → arc < length p.arcs → list_has (points_in net (arc_at p arc).from) point ≡ true → IsClass net (record { arc = arc; depart = point })
 class-of-arc p net arc point has exists there = (
   omega (arith, arc-count p net has),
-  ap (λ (t : ℕ). has_point (points_in net t) point) (tail-of p net arc has exists) ∙ there,
+  ap (λ (t : ℕ). list_has (points_in net t) point) (tail-of p net arc has exists) ∙ there,
 )
 
 -- in a whole network the head that is kept is the greatest
-pub kept-greatest : (p : Problem) (net : TimedNetwork) (c : Leg) → IsWhole p net → IsClass net c → kept_head net c ≡ head_of p (points_in net) c
+pub kept-greatest : (p : Problem) (net : TimedNetwork) (c : Leg) → IsWholeNetwork p net → IsClass net c → kept_head net c ≡ head_of p (points_in net) c
 kept-greatest p net c whole is =
     let there = class-place net c whole.valid is in
     let here : c.arc < length p.arcs = omega (arith, is.0, arc-count p net whole.arcs) in
@@ -46,7 +47,7 @@ kept-greatest p net c whole is =
     let head : ℕ → ℕ = λ q. head_of p (points_in net) (record { arc = c.arc; depart = q }) in
     let heads : heads_in net c.arc ≡ map head qs =
     whole-heads p net c.arc whole here ∙ ap (λ (t : ℕ). map head (points_in net t)) (sym (tail-of p net c.arc whole.arcs here)) in
-    ap (λ (l : List ℕ). get_or l (place_of qs c.depart) 0) heads ∙ get_or-map head qs (place_of qs c.depart) 0 0 there.0 ∙ ap head there.1
+    ap (λ (l : List ℕ). get_or l (place_in qs c.depart) 0) heads ∙ get_or-map head qs (place_in qs c.depart) 0 0 there.0 ∙ ap head there.1
 
 -- one more arc has as many classes more as its tail has points
 pub first-more : (net : TimedNetwork) (arc : ℕ) → arc < length net.tails → first_class net (arc + 1) ≡ first_class net arc + length (points_in net (tail_in net arc))
@@ -76,10 +77,10 @@ class-unique net c e valid first second same =
     (λ (arc : c.arc ≡ e.arc).
     let qs : List ℕ = points_in net (tail_in net c.arc) in
     let begin : first_class net c.arc ≡ first_class net e.arc = ap (λ (n : ℕ). first_class net n) arc in
-    let place : place_of qs c.depart ≡ place_of (points_in net (tail_in net e.arc)) e.depart = omega (arith, same, begin) in
+    let place : place_in qs c.depart ≡ place_in (points_in net (tail_in net e.arc)) e.depart = omega (arith, same, begin) in
     let depart : c.depart ≡ e.depart =
     sym (class-place net c valid first).1 ∙ ap (λ (n : ℕ). get_or qs n 0) place ∙
-    ap (λ (n : ℕ). get_or (points_in net (tail_in net n)) (place_of (points_in net (tail_in net e.arc)) e.depart) 0) arc ∙ (class-place net e valid second).1 in
+    ap (λ (n : ℕ). get_or (points_in net (tail_in net n)) (place_in (points_in net (tail_in net e.arc)) e.depart) 0) arc ∙ (class-place net e valid second).1 in
     let leg : ℕ → ℕ → Leg = λ a n. record { arc = a; depart = n } in
     ap (λ (a : ℕ). leg a c.depart) arc ∙ ap (λ (n : ℕ). leg e.arc n) depart)
     (λ (apart : (c.arc < e.arc) ⊎ (e.arc < c.arc)).
@@ -92,16 +93,11 @@ class-unique net c e valid first second same =
     later : (a b : ℕ) → a < b → b < length net.tails → first_class net (a + 1) ≤ first_class net b
     later a b less h = let e : a + 1 + (b - (a + 1)) ≡ b = omega arith in subst (λ (n : ℕ). first_class net (a + 1) ≤ first_class net n) e (first-mono net (b - (a + 1)) (a + 1) (omega arith))
 
--- ascending points are at least their places
-rises : (qs : List ℕ) (k : ℕ) → AllPairs (λ a b. a < b) qs → k < length qs → k ≤ get_or qs k 0
-rises qs zero up h = omega arith
-rises qs (suc k) up h = omega (arith, rises qs k up (omega arith), up k (suc k) 0 (omega arith) h)
-
 -- so a terminal has no more points than there are times
-pub few-points : (qs : List ℕ) → ArePoints qs → length qs ≤ LATEST + 1
+few-points : (qs : List ℕ) → ArePoints qs → length qs ≤ LATEST + 1
 few-points qs are =
     ⊎_elim
-    (λ (some : 0 < length qs). omega (arith, rises qs (length qs - 1) are.ascending (omega arith), are.in_time (length qs - 1) 0 (omega arith)))
+    (λ (some : 0 < length qs). omega (arith, place-le-get_or qs (length qs - 1) are.ascending (omega arith), are.in_time (length qs - 1) 0 (omega arith)))
     (λ (none : length qs ≤ 0). omega arith)
     (cases_lt 0 (length qs))
 
@@ -119,7 +115,7 @@ few-copies points (tail ∷ tails) are =
         (cases_lt tail (length points))
 
 -- so all classes have numbers of 32 bits
-pub few-classes : (net : TimedNetwork) → IsNetwork net → class_count net ≤ 100001000
+pub few-classes : (net : TimedNetwork) → IsNetwork net → class_count net ≤ MOST_CLASSES
 few-classes net valid = omega (arith, few-copies net.points net.tails valid.points, valid.few)
 
 -- the last arc whose first class is not after a number is the arc of the class
@@ -159,4 +155,4 @@ offsets-rise net offsets are i j d le h =
 pub number-of : (net : TimedNetwork) (class arc : ℕ) → IsNetwork net → IsArcOfClass net class arc →
     class_number net (record { arc = arc; depart = get_or (points_in net (tail_in net arc)) (class - first_class net arc) 0 }) ≡ class
 number-of net class arc valid is =
-    omega (arith, is.from, place-at (points_in net (tail_in net arc)) (class - first_class net arc) 0 (tail-points net arc valid is.exists).ascending (omega (arith, is.from, is.before)))
+    omega (arith, is.from, place_in-get_or (points_in net (tail_in net arc)) (class - first_class net arc) 0 (tail-points net arc valid is.exists).ascending (omega (arith, is.from, is.before)))

@@ -1,14 +1,15 @@
-pub mod Mapped
 pub mod Places
-pub mod Lengthened
-pub mod Grown
-pub mod Same
+pub mod HeadLists
+pub mod NewPoints
+pub mod EqualNetworks
 pub mod ClassNumbers
 pub mod FourProperties
-pub mod Listed
-pub mod Written
-pub mod Shorter
-pub mod Made
+pub mod PointLists
+pub mod VectorLists
+pub mod ShortCopies
+pub mod WholeNetworks
 pub mod PointCounts
 pub mod ClassCosts
-mod TwoArcs
+mod Examples
+pub mod HeadBounds
+pub mod NetworkRounds

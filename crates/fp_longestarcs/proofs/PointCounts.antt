@@ -6,34 +6,36 @@ use Rattle.std.proofs.lemmas.Bool.{cases_Bool, cases_eq, eq-eqb, ne_eqb, eqb-tru
 use Rattle.std.proofs.lemmas.List.{length-append, length-map}
 use Rattle.std.proofs.lemmas.List.Edits.{length-insert}
 use Rattle.std.proofs.lemmas.List.Sums.{sum_by-set, sum_by-cons, sum_by-le-sum_by}
-use Rattle.fp_model.proofs.Sums.{sum_by-both}
+use Rattle.fp_lists.proofs.Pairs.{AllPairs-tail}
+use Rattle.fp_lists.proofs.Sums.{sum_by-both}
 use Rattle.fp_timenodes.specs.declared.places.Place.{Place}
 use Rattle.fp_timenodes.specs.declared.places.AddedPoint.{AddedPoint}
 use Rattle.fp_timenodes.specs.declared.places.TheConstants.{LATEST}
-use Rattle.fp_timenodes.specs.Floor.{has_point, HaveSamePoints}
+use Rattle.fp_timenodes.specs.Floor.{HaveSamePoints}
+use Rattle.fp_lists.specs.Membership.{list_has}
 use Rattle.fp_timenodes.specs.Points.{TimePoints, points_at, times_at, added_at}
-use Rattle.fp_longestarcs.specs.Ascending.{ArePoints, IsPlace, place_of}
+use Rattle.fp_longestarcs.specs.Ascending.{ArePoints}
+use Rattle.fp_lists.specs.Ascending.{IsPlaceIn, place_in}
 use Rattle.fp_longestarcs.specs.Networks.{TimedNetwork, IsNetwork, points_in, point_count}
-use Rattle.fp_longestarcs.specs.Changes.{points_with}
-use Rattle.fp_longestarcs.proofs.Places.{place-of, tail-ascends}
-use Rattle.fp_longestarcs.proofs.Same.{first-before}
+use Rattle.fp_longestarcs.specs.Changes.{extended_points}
+use Rattle.fp_lists.proofs.Places.{IsPlaceIn-place_in, first-lt}
 
 -- a new point is one more
-pub count-with : (net : TimedNetwork) (terminal at : ℕ) → IsNetwork net → terminal < length net.points → sum_by (λ (qs : List ℕ). length qs) (points_with net terminal at) ≡ point_count net + 1
+pub count-with : (net : TimedNetwork) (terminal at : ℕ) → IsNetwork net → terminal < length net.points → sum_by (λ (qs : List ℕ). length qs) (extended_points net terminal at) ≡ point_count net + 1
 count-with net terminal at valid within =
     let qs : List ℕ = points_in net terminal in
     let are : ArePoints qs = valid.points terminal [] within in
-    let place : IsPlace qs at (place_of qs at) = place-of qs at are.ascending in
+    let place : IsPlaceIn qs at (place_in qs at) = IsPlaceIn-place_in qs at are.ascending in
     omega (
       arith,
-      sum_by-set (λ (l : List ℕ). length l) net.points terminal (insert qs (place_of qs at) at) [] within,
-      length-insert qs (place_of qs at) at place.within,
+      sum_by-set (λ (l : List ℕ). length l) net.points terminal (insert qs (place_in qs at) at) [] within,
+      length-insert qs (place_in qs at) at place.within,
     )
 
 -- how many of the times below a limit are points
 abbrev points_below : List ℕ → ℕ → ℕ
 points_below qs zero = 0
-points_below qs (suc n) = cond (has_point qs n) 1 0 + points_below qs n
+points_below qs (suc n) = cond (list_has qs n) 1 0 + points_below qs n
 
 -- lists with the same points have as many below a limit
 same-below : (ps qs : List ℕ) (n : ℕ) → HaveSamePoints ps qs → points_below ps n ≡ points_below qs n
@@ -55,12 +57,12 @@ below-le q qs (suc n) =
     (cases_eq q n)
 
 -- and one that was not in it is one more
-below-more : (q : ℕ) (qs : List ℕ) (n : ℕ) → has_point qs q ≡ false → q < n → points_below (q ∷ qs) n ≡ 1 + points_below qs n
+below-more : (q : ℕ) (qs : List ℕ) (n : ℕ) → list_has qs q ≡ false → q < n → points_below (q ∷ qs) n ≡ 1 + points_below qs n
 below-more q qs zero new h = absurd (omega arith)
 below-more q qs (suc n) new h =
     ⊎_elim
     (λ (same : q ≡ n).
-    let none : has_point qs n ≡ false = subst (λ (m : ℕ). has_point qs m ≡ false) same new in
+    let none : list_has qs n ≡ false = subst (λ (m : ℕ). list_has qs m ≡ false) same new in
     rw (eq-eqb q n same, none) (omega (arith, late-below q qs n (omega arith))))
     (λ (other : q ≡ n → ⊥). rw (ne_eqb q n other) (omega (arith, below-more q qs n new (omega arith))))
     (cases_eq q n)
@@ -76,15 +78,15 @@ length-below : (qs : List ℕ) (n : ℕ) → AllPairs (λ a b. a < b) qs → ((k
 length-below [] zero up within = refl
 length-below [] (suc n) up within = omega (arith, length-below [] n up (λ k h. absurd (omega arith)))
 length-below (q ∷ qs) n up within =
-    let new : has_point qs q ≡ false = false_from_ne_true (has_point qs q) (λ there. absurd (omega (arith, first-before q qs q up there))) in
-    omega (arith, below-more q qs n new (within 0 (omega arith)), length-below qs n (tail-ascends q qs up) (λ k h. within (suc k) (omega arith)))
+    let new : list_has qs q ≡ false = false_from_ne_true (list_has qs q) (λ there. absurd (omega (arith, first-lt q qs q up there))) in
+    omega (arith, below-more q qs n new (within 0 (omega arith)), length-below qs n (AllPairs-tail (λ a b. a < b) q qs up) (λ k h. within (suc k) (omega arith)))
 
 -- an ascending list is no longer than any list with the same points
 within-limit : (ps qs : List ℕ) (n : ℕ) → AllPairs (λ a b. a < b) ps → ((k : ℕ) → k < length ps → get_or ps k 0 < n) → HaveSamePoints ps qs → length ps ≤ length qs
 within-limit ps qs n up within same = omega (arith, length-below ps n up within, same-below ps qs n same, below-length qs n)
 
 -- the points of a terminal are no more than any list of them has
-pub points-le : (ps qs : List ℕ) → ArePoints ps → HaveSamePoints ps qs → length ps ≤ length qs
+points-le : (ps qs : List ℕ) → ArePoints ps → HaveSamePoints ps qs → length ps ≤ length qs
 points-le ps qs are same = within-limit ps qs (LATEST + 1) are.ascending (λ k h. omega (arith, are.in_time k 0 h)) same
 
 -- none of a range from later on is this number
@@ -149,7 +151,8 @@ sum-lengths (l ∷ lists) g a each =
       sum-lengths lists g (a + 1) (λ k t h e. each (suc k) t (omega arith) (omega arith)),
     )
 
--- a network with the points as of a round has no more points than there are zeros, places of the start and added points
+-- a network with the points as of a round has no more points than there are zeros, places of the
+-- start and added points
 pub count-made : (v : TimePoints) (round : ℕ) (net : TimedNetwork) → IsNetwork net → ((terminal : ℕ) → terminal < length net.points → HaveSamePoints (points_in net terminal) (points_at v terminal round)) →
     point_count net ≤ length net.points + length v.first + length v.added
 count-made v round net valid same =

@@ -3,32 +3,34 @@ use Rattle.std.specs.Prelude.{ℕ, ◌+◌, ◌<◌, ◌≡◌, List, [], ◌∷
 use Rattle.std.specs.List.{range_with_len}
 use Rattle.fp_model.specs.Problem.{Problem, arc_at}
 use Rattle.fp_model.specs.Routes.{step}
-use Rattle.fp_timenodes.specs.Floor.{has_point}
+use Rattle.fp_lists.specs.Membership.{list_has}
 use Rattle.fp_timenodes.specs.Points.{TimePoints, points_at}
 use Rattle.fp_longestarcs.specs.Classes.{head_of}
-use Rattle.fp_longestarcs.specs.Ascending.{place_of}
+use Rattle.fp_lists.specs.Ascending.{place_in}
 use Rattle.fp_longestarcs.specs.Networks.{TimedNetwork, points_in, tail_in, heads_in}
 
 -- the points of the terminals, with one more at a terminal
-abbrev pub points_with : TimedNetwork → ℕ → ℕ → List (List ℕ)
-points_with net terminal at = slice_set net.points terminal (insert (points_in net terminal) (place_of (points_in net terminal) at) at)
+abbrev pub extended_points : TimedNetwork → ℕ → ℕ → List (List ℕ)
+extended_points net terminal at = slice_set net.points terminal (insert (points_in net terminal) (place_in (points_in net terminal) at) at)
 
--- the heads of an arc, with a copy from the new point at its greatest head where the arc leaves the terminal
+-- the heads of an arc, with a copy from the new point at its greatest head where the arc leaves the
+-- terminal
 abbrev pub heads_with : Problem → TimedNetwork → ℕ → ℕ → ℕ → List ℕ
 heads_with p net terminal at arc =
     if tail_in net arc == terminal
-    then insert (heads_in net arc) (place_of (points_in net terminal) at) (head_of p (points_in net) (record { arc = arc; depart = at }))
+    then insert (heads_in net arc) (place_in (points_in net terminal) at) (head_of p (points_in net) (record { arc = arc; depart = at }))
     else heads_in net arc
 
 -- the network with a new point and its outgoing copies, where all other heads stay
 abbrev pub refined : Problem → TimedNetwork → ℕ → ℕ → TimedNetwork
 refined p net terminal at = record {
   tails = net.tails;
-  points = points_with net terminal at;
+  points = extended_points net terminal at;
   heads = map (heads_with p net terminal at) (range_with_len 0 (length net.tails));
 }
 
--- the head of a copy that leaves at q, lifted to a time that it lies before and that the copy can reach with the arc's step
+-- the head of a copy that leaves at q, lifted to a time that it lies before and that the copy can
+-- reach with the arc's step
 abbrev pub lifted_head : ℕ → ℕ → ℕ → ℕ → ℕ
 lifted_head step at q head = if nat_lt head at && nat_le at (q + step) then at else head
 
@@ -56,4 +58,4 @@ restored p net terminal at = record {
 abbrev pub HasAlso : TimedNetwork → ℕ → ℕ → TimePoints → ℕ → Type 0
 HasAlso net terminal at v round =
     (t q : ℕ) → t < length net.points →
-    has_point (points_at v t round) q ≡ (t == terminal && at == q || has_point (points_in net t) q)
+    list_has (points_at v t round) q ≡ (t == terminal && at == q || list_has (points_in net t) q)

@@ -1,12 +1,9 @@
 -- How vectors hold a network.
-use Rattle.std.specs.Prelude.{ℕ, ◌+◌, ◌<◌, ◌≤◌, ◌≡◌, List, length, map, take, slice_index, slice_index_or, vec_len, vec_capacity}
+use Rattle.std.specs.Prelude.{ℕ, ◌+◌, ◌<◌, ◌≤◌, ◌≡◌, List, length, take, slice_index, slice_index_or, vec_len, vec_capacity}
 use Rattle.std.specs.declared.alloc.Global.{Global}
 use Rattle.std.specs.declared.vec.Vec.{Vec}
+use Rattle.fp_lists.specs.Vectors.{lists_of}
 use Rattle.fp_longestarcs.specs.Networks.{TimedNetwork, copy_count, IsNetwork}
-
--- the lists that vectors hold
-abbrev pub lists_of : List (Vec ℕ Global) → List (List ℕ)
-lists_of vectors = map (λ (v : Vec ℕ Global). v.items) vectors
 
 -- the network that vectors hold
 abbrev pub network_of : List ℕ → List (Vec ℕ Global) → List (Vec ℕ Global) → TimedNetwork
@@ -18,7 +15,7 @@ pub record AreOffsets (points : List (List ℕ)) (tails : List ℕ) (offsets : L
   pub each : (arc : ℕ) → arc ≤ length tails → slice_index offsets arc ≡ copy_count points (take arc tails)
 
 -- a network with its offsets
-pub record IsIndexed (net : TimedNetwork) (starts : List ℕ) : Type 0 where
+pub record IsIndexedNetwork (net : TimedNetwork) (starts : List ℕ) : Type 0 where
   pub valid : IsNetwork net
   pub offsets : AreOffsets net.points net.tails starts
 

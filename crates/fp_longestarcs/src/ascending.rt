@@ -1,21 +1,15 @@
+//! Look-ups among points in ascending order.
 ghost use Rattle.std.specs.Prelude.{◌≡◌};
-ghost use Rattle.std.specs.List.Sorted.{IsNonDecreasing};
-ghost use Rattle.fp_timenodes.specs.Floor.{has_point, floor_point};
-ghost use Rattle.fp_longestarcs.specs.Ascending.{ArePoints, IsCut, IsPlace, place_of};
+ghost use Rattle.fp_timenodes.specs.Floor.{floor_point};
+ghost use Rattle.fp_lists.specs.Membership.{list_has};
+ghost use Rattle.fp_longestarcs.specs.Ascending.{ArePoints};
 
-// How many of the points are before the time.
-pub(crate) fn place_among(points: &[u32], at: u32) -> usize
-    requires { ArePoints points.now }
-    ensures place { result ≡ place_of points.now at }
-    ensures parts { IsPlace points.now at result }
-{
-    points.partition_point(|point| *point < at)
-}
+use fp_lists::place_among;
 
 // Whether the time is one of the points.
 pub(crate) fn is_among(points: &[u32], at: u32) -> bool
     requires { ArePoints points.now }
-    ensures { result ≡ has_point points.now at }
+    ensures { result ≡ list_has points.now at }
 {
     let place = place_among(points, at);
     place < points.len() && points[place] == at
@@ -31,12 +25,4 @@ pub(crate) fn floor_among(points: &[u32], at: u32) -> u32
         return at;
     }
     points[place - 1]
-}
-
-// How many of the numbers, which do not fall, are at most this one.
-pub(crate) fn count_until(numbers: &[u32], most: u32) -> usize
-    requires { IsNonDecreasing numbers.now }
-    ensures { IsCut numbers.now most result }
-{
-    numbers.partition_point(|number| *number <= most)
 }

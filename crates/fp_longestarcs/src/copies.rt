@@ -1,14 +1,18 @@
+//! A new point in a network: its outgoing copies, and the heads that are lifted to it.
 ghost use Rattle.std.specs.Prelude.{◌≡◌, ◌+◌, ◌<◌, ◌≤◌, All, OnErr, OnOk, false, length};
-ghost use Rattle.fp_timenodes.specs.Floor.{has_point};
+ghost use Rattle.fp_lists.specs.Membership.{list_has};
 ghost use Rattle.fp_longestarcs.specs.Networks.{IsNetwork, TimedNetwork, points_in};
-ghost use Rattle.fp_longestarcs.specs.Vectors.{HasRoom, IsIndexed, lists_of, network_of};
+ghost use Rattle.fp_longestarcs.specs.Vectors.{HasRoom, network_of, IsIndexedNetwork};
+ghost use Rattle.fp_lists.specs.Vectors.{lists_of};
 ghost use Rattle.fp_longestarcs.specs.Changes.{lifted, refined, restored};
 
 use crate::NoMemory;
-use crate::ascending::{floor_among, place_among};
-use crate::listing::{count_classes, step_of};
+use crate::ascending::floor_among;
+use crate::listing::count_classes;
 use crate::lists::{list_at, put};
+use fp_lists::place_among;
 use fp_model::Instance;
+use fp_model::limits::LONGEST_STEP;
 use fp_timenodes::{LATEST, Place};
 
 // Makes room for one more point of the terminal, and for one more copy of each arc that leaves it.
@@ -33,7 +37,8 @@ fn make_room(
     Ok(())
 }
 
-// Gives each arc that leaves the new point's terminal a copy from that point, at its place and with its greatest head.
+// Gives each arc that leaves the new point's terminal a copy from that point, at its place and with
+// its greatest head.
 fn insert_copies(
     instance: &Instance,
     tails: &[u32],
@@ -53,7 +58,7 @@ fn insert_copies(
     for (arc, tail) in tails.iter().enumerate() {
         if *tail == new.terminal {
             let ends = list_at(points, instance.arc(arc as u32).to);
-            let head = floor_among(ends, new.at + step_of(instance, arc as u32));
+            let head = floor_among(ends, new.at + instance.step(arc as u32));
             put(&mut heads[arc], place, head);
         }
     }
@@ -80,7 +85,8 @@ fn insert_point(
     put(&mut points[new.terminal as usize], place, new.at);
 }
 
-// Adds a new point with its outgoing copies at their greatest heads. Without memory nothing changes.
+// Adds a new point with its outgoing copies at their greatest heads. `NoMemory` only where no
+// memory is found: then nothing changes.
 pub(crate) fn add_point(
     instance: &Instance,
     tails: &[u32],
@@ -89,17 +95,17 @@ pub(crate) fn add_point(
     offsets: &mut [u32],
     new: Place,
 ) -> Result<(), NoMemory>
-    requires indexed { IsIndexed (network_of tails.now points.old heads.old) offsets.old }
+    requires indexed { IsIndexedNetwork (network_of tails.now points.old heads.old) offsets.old }
     requires arcs { length tails.now ≡ length instance.now.arcs }
     requires terminals { length points.old ≡ length instance.now.terminals }
     requires terminal { new.terminal < length points.old }
-    requires new { has_point (points_in (network_of tails.now points.old heads.old) new.terminal) new.at ≡ false }
+    requires new { list_has (points_in (network_of tails.now points.old heads.old) new.terminal) new.at ≡ false }
     requires in_time { new.at ≤ LATEST }
     ensures ok { OnOk result (network_of tails.now points.new heads.new ≡ refined instance.now (network_of tails.now points.old heads.old) new.terminal new.at) }
-    ensures indexed { IsIndexed (network_of tails.now points.new heads.new) offsets.new }
+    ensures indexed { IsIndexedNetwork (network_of tails.now points.new heads.new) offsets.new }
     ensures err { OnErr result (network_of tails.now points.new heads.new ≡ network_of tails.now points.old heads.old) }
 {
-    // Room first, so that nothing has changed where memory is wanting.
+    // Room first, so that nothing has changed where no memory is found.
     make_room(tails, points, heads, new.terminal)?;
     insert_point(instance, tails, points, heads, new);
     count_classes(offsets, tails, points);
@@ -110,7 +116,7 @@ pub(crate) fn add_point(
 fn lift_heads(points: &[u32], heads: &mut [u32], step: u32, at: u32)
     requires copies { length heads.old ≡ length points.now }
     requires points { All (λ q. q ≤ LATEST) points.now }
-    requires step { step ≤ 101000 }
+    requires step { step ≤ LONGEST_STEP }
     ensures { heads.new ≡ lifted step at points.now heads.old }
 {
     for (copy, point) in points.iter().enumerate() {
@@ -136,7 +142,7 @@ pub(crate) fn lift_copies(
     for (arc, tail) in tails.iter().enumerate() {
         if instance.arc(arc as u32).to == point.terminal {
             let starts = list_at(points, *tail);
-            let step = step_of(instance, arc as u32);
+            let step = instance.step(arc as u32);
             lift_heads(starts, &mut heads[arc], step, point.at);
         }
     }

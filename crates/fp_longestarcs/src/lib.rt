@@ -1,10 +1,11 @@
 //! The partially time-expanded network whose timed arcs are as long as its points allow.
 //!
-//! The network is that of Boland, Hewitt, Marshall and Savelsbergh, "The Continuous-Time Service Network Design
-//! Problem", Operations Research 65, 2017: time points at each terminal, and a timed copy of each arc from each
-//! point of its tail. The head of a copy is the greatest point of the arc's head that is not after the copy's point
-//! and the arc's step, its time and the hold of its head. A class is an arc and a point of its tail; it stands for
-//! all moments from that point up to, and without, the next one. Times are whole numbers of the input's unit.
+//! The network is that of Boland, Hewitt, Marshall and Savelsbergh, "The Continuous-Time Service
+//! Network Design Problem", Operations Research 65, 2017: time points at each terminal, and a timed
+//! copy of each arc from each point of its tail. The head of a copy is the greatest point of the
+//! arc's head that is not after the copy's point and the arc's step, its time and the hold of its
+//! head. A class is an arc and a point of its tail; it stands for all moments from that point up
+//! to, and without, the next one. Times are whole numbers of the input's unit.
 #![tactic(auto)]
 
 mod ascending;
@@ -13,10 +14,7 @@ mod listing;
 mod lists;
 mod networks;
 
-pub use networks::Network;
+pub use networks::{MOST_CLASSES, Network};
 
-/// What a call that allocates can fail with.
+/// The error of a call that finds no memory.
 pub type NoMemory = std::alloc::AllocError;
-
-#[cfg(test)]
-mod tests;

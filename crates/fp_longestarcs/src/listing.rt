@@ -1,16 +1,18 @@
+//! The lists that a whole network is made of: points, tails, heads, and the classes before each
+//! arc.
 ghost use Rattle.std.specs.Prelude.{ℕ, ◌≡◌, ◌+◌, ◌<◌, ◌≤◌, [], All, IfOk, length, map, slice_index_or};
-ghost use Rattle.fp_model.specs.Problem.{IsValid};
-ghost use Rattle.fp_model.specs.Routes.{step};
 ghost use Rattle.fp_timenodes.specs.Floor.{HaveSamePoints, floor_point};
 ghost use Rattle.fp_timenodes.specs.Points.{points_at};
 ghost use Rattle.fp_longestarcs.specs.Ascending.{ArePoints};
-ghost use Rattle.fp_longestarcs.specs.Vectors.{AreOffsets, lists_of};
-ghost use Rattle.fp_longestarcs.specs.Whole.{heads_of, tails_of};
+ghost use Rattle.fp_longestarcs.specs.Vectors.{AreOffsets};
+ghost use Rattle.fp_lists.specs.Vectors.{lists_of};
+ghost use Rattle.fp_longestarcs.specs.Whole.{heads_of, arc_tails};
 
 use crate::NoMemory;
 use crate::ascending::floor_among;
 use crate::lists::list_at;
 use fp_model::Instance;
+use fp_model::limits::{LONGEST_STEP, MOST_ARCS};
 use fp_timenodes::Points;
 use std::alloc::Global;
 
@@ -51,23 +53,13 @@ pub(crate) fn all_times(
 
 // The tails of the arcs.
 pub(crate) fn all_tails(alloc: Global, instance: &Instance) -> Result<Vec<u32>, NoMemory>
-    ensures { IfOk result (λ tails. tails.items ≡ tails_of instance.now.arcs) }
+    ensures { IfOk result (λ tails. tails.items ≡ arc_tails instance.now.arcs) }
 {
     instance.arcs().iter().map(|arc| arc.from).collect(alloc)
 }
 
-// The step of an arc: its time and the hold of its head.
-pub(crate) fn step_of(instance: &Instance, arc: u32) -> u32
-    requires { arc < length instance.now.arcs }
-    ensures same { result ≡ step instance.now arc }
-    ensures short { result ≤ 101000 }
-    ensures valid { IsValid instance.now }
-{
-    let taken = instance.arc(arc);
-    taken.time + instance.hold(taken.to)
-}
-
-// The greatest heads of an arc's copies from these points of its tail among these points of its head.
+// The greatest heads of an arc's copies from these points of its tail among these points of its
+// head.
 fn greatest_heads(
     alloc: Global,
     starts: &[u32],
@@ -76,7 +68,7 @@ fn greatest_heads(
 ) -> Result<Vec<u32>, NoMemory>
     requires starts { ArePoints starts.now }
     requires ends { ArePoints ends.now }
-    requires step { step ≤ 101000 }
+    requires step { step ≤ LONGEST_STEP }
     ensures { IfOk result (λ heads. heads.items ≡ map (λ q. floor_point ends.now 1 (q + step)) starts.now) }
 {
     let mut heads = Vec::with_capacity(alloc, starts.len())?;
@@ -102,7 +94,7 @@ pub(crate) fn all_heads(
         let taken = instance.arc(arc);
         let starts = list_at(points, taken.from);
         let ends = list_at(points, taken.to);
-        heads.push(greatest_heads(alloc, starts, ends, step_of(instance, arc))?)?;
+        heads.push(greatest_heads(alloc, starts, ends, instance.step(arc))?)?;
     }
     Ok(heads)
 }
@@ -110,7 +102,7 @@ pub(crate) fn all_heads(
 // Writes for each arc how many classes the arcs before it have, and last how many there are.
 pub(crate) fn count_classes(offsets: &mut [u32], tails: &[u32], points: &[Vec<u32>])
     requires room { length offsets.old ≡ length tails.now + 1 }
-    requires few { length tails.now ≤ 1000 }
+    requires few { length tails.now ≤ MOST_ARCS }
     requires tails { All (λ tail. tail < length points.now) tails.now }
     requires are { All ArePoints (lists_of points.now) }
     ensures { AreOffsets (lists_of points.now) tails.now offsets.new }

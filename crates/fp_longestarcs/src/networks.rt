@@ -1,35 +1,44 @@
+//! The network of points and timed copies of arcs, and the calls on it.
 ghost use Rattle.std.specs.Prelude.{ℕ, ◌≡◌, ◌+◌, ◌<◌, ◌≤◌, false, true, IfOk, OnErr, OnOk, length};
 ghost use Rattle.fp_model.specs.Problem.{Problem, arc_at};
 ghost use Rattle.fp_model.specs.Routes.{step};
-ghost use Rattle.fp_timenodes.specs.Floor.{floor_point, has_point};
+ghost use Rattle.fp_timenodes.specs.Floor.{floor_point};
+ghost use Rattle.fp_lists.specs.Membership.{list_has};
 ghost use Rattle.fp_timenodes.specs.Points.{TimePoints, points_at};
-ghost use Rattle.fp_longestarcs.specs.Ascending.{place_of};
+ghost use Rattle.fp_lists.specs.Ascending.{place_in};
 ghost use Rattle.fp_longestarcs.specs.Classes.{head_of};
 ghost use Rattle.fp_longestarcs.specs.Networks.{IsArcOfClass, IsClass, IsNetwork, TimedNetwork, class_count, class_number, first_class, kept_head, point_count, points_in, tail_in};
-ghost use Rattle.fp_longestarcs.specs.Whole.{HasArcsOf, IsNetworkOf, IsWhole};
-ghost use Rattle.fp_longestarcs.specs.Changes.{HasAlso, points_with, refined, restored};
+ghost use Rattle.fp_longestarcs.specs.Whole.{HasArcsOf, IsNetworkOf, IsWholeNetwork};
+ghost use Rattle.fp_longestarcs.specs.Changes.{HasAlso, refined, restored, extended_points};
 ghost use Rattle.fp_longestarcs.specs.Properties.{HasProperties};
 
 use crate::NoMemory;
-use crate::ascending::{count_until, floor_among, is_among, place_among};
+use crate::ascending::{floor_among, is_among};
 use crate::copies::{add_point, lift_copies};
-use crate::listing::{all_heads, all_tails, all_times, count_classes, step_of};
+use crate::listing::{all_heads, all_tails, all_times, count_classes};
 use crate::lists::{copied, list_at};
+use fp_lists::{count_until, place_among};
 use fp_model::Instance;
+use fp_model::limits::MOST_ARCS;
 use fp_timenodes::{LATEST, Place, Points};
 use std::alloc::Global;
 use std::marker::Model;
 
+/// The most classes of a network: one for each arc and each time up to [`LATEST`].
+pub const MOST_CLASSES: u32 = 100_001_000;
+
+const _: () = prove!(MOST_CLASSES as usize == MOST_ARCS * (LATEST as usize + 1));
+
 /// The points of each terminal, and for each arc a timed copy from each point of its tail.
 ///
-/// A contract sees the tails of the arcs, the points of each terminal in ascending order, and for each arc the heads
-/// of its timed copies in the order of its tail's points. A network is *whole* for an instance where it has the
-/// timed copies of the instance's arcs and each head is the greatest point of the arc's head that is not after the
-/// copy's point and the arc's step.
+/// A contract sees the tails of the arcs, the points of each terminal in ascending order, and for
+/// each arc the heads of its timed copies in the order of its tail's points. A network is *whole*
+/// for an instance where it has the timed copies of the instance's arcs and each head is the
+/// greatest point of the arc's head that is not after the copy's point and the arc's step.
 ///
-/// A terminal and an arc are numbers below their counts. A time to look up may be any number; a point of a terminal
-/// is at most [`LATEST`], in the input's unit. A look-up takes time that grows with the logarithm of a terminal's
-/// points or of the arcs, and no memory.
+/// A terminal and an arc are numbers below their counts. A time to look up may be any number; a
+/// point of a terminal is at most [`LATEST`], in the input's unit. A look-up takes time that grows
+/// with the logarithm of a terminal's points or of the arcs, and no memory.
 #[derive(Drop)]
 pub struct Network {
     tails: Vec<u32>,
@@ -40,18 +49,18 @@ pub struct Network {
 
 impl Model for Network {
     ghost use Rattle.fp_longestarcs.specs.Networks.{TimedNetwork};
-    ghost use Rattle.fp_longestarcs.specs.Vectors.{network_of, IsIndexed};
+    ghost use Rattle.fp_longestarcs.specs.Vectors.{network_of, IsIndexedNetwork};
 
     ghost Value = { TimedNetwork };
 
     ghost view = { λ n. network_of n.tails.items n.points.items n.heads.items };
 
-    ghost invariant = { λ n. IsIndexed (network_of n.tails.items n.points.items n.heads.items) n.offsets.items };
+    ghost invariant = { λ n. IsIndexedNetwork (network_of n.tails.items n.points.items n.heads.items) n.offsets.items };
 }
 
 impl Network {
-    /// The whole network of the instance with the points as of the round, which may be any number. `points` has the
-    /// instance's number of terminals. `NoMemory` where memory is wanting.
+    /// The whole network of the instance with the points as of the round, which may be any number.
+    /// `points` has the instance's number of terminals. `NoMemory` only where no memory is found.
     pub fn of(
         alloc: Global,
         instance: &Instance,
@@ -88,7 +97,7 @@ impl Network {
     /// Whether the time is a point of the terminal.
     pub fn is_point(&self, terminal: u32, at: u32) -> bool
         requires { terminal < length self.now.points }
-        ensures { result ≡ has_point (points_in self.now terminal) at }
+        ensures { result ≡ list_has (points_in self.now terminal) at }
     {
         is_among(self.points(terminal), at)
     }
@@ -101,17 +110,19 @@ impl Network {
         floor_among(self.points(terminal), at)
     }
 
-    /// The head that is kept for the class of the arc and the point, which is one of its tail's. In a whole network it
-    /// is the greatest point of the arc's head that is not after the point and the arc's step.
+    /// The head that is kept for the class of the arc and the point, which is one of its tail's. In
+    /// a whole network it is the greatest point of the arc's head that is not after the point and
+    /// the arc's step.
     pub fn head(&self, arc: u32, point: u32) -> u32
         requires { IsClass self.now (record { arc = arc; depart = point }) }
         ensures kept { result ≡ kept_head self.now (record { arc = arc; depart = point }) }
-        ensures greatest { (p : Problem) → IsWhole p self.now → result ≡ head_of p (points_in self.now) (record { arc = arc; depart = point }) }
+        ensures greatest { (p : Problem) → IsWholeNetwork p self.now → result ≡ head_of p (points_in self.now) (record { arc = arc; depart = point }) }
     {
         list_at(&self.heads, arc)[self.place(arc, point)]
     }
 
-    /// How many classes there are, one for each arc and point of its tail: at most 100,001,000.
+    /// How many classes there are, one for each arc and point of its tail: at most
+    /// [`MOST_CLASSES`].
     pub fn classes(&self) -> u32
         ensures count { result ≡ class_count self.now }
         ensures valid { IsNetwork self.now }
@@ -119,8 +130,8 @@ impl Network {
         self.offsets[self.tails.len()]
     }
 
-    /// The number of the class of the arc and the point of its tail, which is one of its points. Classes are numbered
-    /// from 0, by arc and then by point.
+    /// The number of the class of the arc and the point of its tail, which is one of its points.
+    /// Classes are numbered from 0, by arc and then by point.
     pub fn class(&self, arc: u32, point: u32) -> u32
         requires { IsClass self.now (record { arc = arc; depart = point }) }
         ensures number { result ≡ class_number self.now (record { arc = arc; depart = point }) }
@@ -152,7 +163,7 @@ impl Network {
     // The place of a point among those of an arc's tail.
     fn place(&self, arc: u32, point: u32) -> usize
         requires { IsClass self.now (record { arc = arc; depart = point }) }
-        ensures place { result ≡ place_of (points_in self.now (tail_in self.now arc)) point }
+        ensures place { result ≡ place_in (points_in self.now (tail_in self.now arc)) point }
         ensures within { result < length (points_in self.now (tail_in self.now arc)) }
         ensures valid { IsNetwork self.now }
     {
@@ -176,9 +187,10 @@ impl Network {
         (count_until(&self.offsets, class) - 1) as u32
     }
 
-    /// Adds a point that isn't there, at most [`LATEST`], with its outgoing copies at their greatest heads. All other
-    /// heads stay. The network has the timed copies of the instance's arcs. `NoMemory` where memory is wanting: then
-    /// nothing changes. Takes time that grows with the points of the terminal for each arc out of it, and with the arcs.
+    /// Adds a point that isn't there, at most [`LATEST`], with its outgoing copies at their
+    /// greatest heads. All other heads stay. The network has the timed copies of the instance's
+    /// arcs. `NoMemory` only where no memory is found: then nothing changes. Takes time that grows
+    /// with the points of the terminal for each arc out of it, and with the arcs.
     pub fn refine(
         &mut self,
         _alloc: Global,
@@ -188,7 +200,7 @@ impl Network {
     ) -> Result<(), NoMemory>
         requires arcs { HasArcsOf instance.now self.old }
         requires terminal { terminal < length instance.now.terminals }
-        requires new { has_point (points_in self.old terminal) at ≡ false }
+        requires new { list_has (points_in self.old terminal) at ≡ false }
         requires in_time { at ≤ LATEST }
         ensures ok { OnOk result (self.new ≡ refined instance.now self.old terminal at) }
         ensures err { OnErr result (self.new ≡ self.old) }
@@ -203,10 +215,10 @@ impl Network {
         )
     }
 
-    /// Moves each head at the terminal that lies before `at`, and whose copy can reach `at`, to `at`. All else stays.
-    /// The network has the timed copies of the instance's arcs, and `at` is meant to be a point of the terminal, as
-    /// after `refine`. Takes no memory, and time that grows with the copies of the arcs into the terminal, and with
-    /// the arcs.
+    /// Moves each head at the terminal that lies before `at`, and whose copy can reach `at`, to
+    /// `at`. All else stays. The network has the timed copies of the instance's arcs, and `at` is
+    /// meant to be a point of the terminal, as after `refine`. Takes no memory, and time that grows
+    /// with the copies of the arcs into the terminal, and with the arcs.
     pub fn restore(&mut self, instance: &Instance, terminal: u32, at: u32)
         requires arcs { HasArcsOf instance.now self.old }
         ensures { self.new ≡ restored instance.now self.old terminal at }
@@ -220,9 +232,10 @@ impl Network {
         );
     }
 
-    /// Adds, at the head of an arc, the time that its copy from a point can reach, the point and the arc's step, and
-    /// answers that place. The network is whole for the instance and stays so; the copy's head lies before that time,
-    /// which is at most [`LATEST`]. `NoMemory` where memory is wanting: then nothing changes.
+    /// Adds, at the head of an arc, the time that its copy from a point can reach, the point and
+    /// the arc's step, and answers that place. The network is whole for the instance and stays so;
+    /// the copy's head lies before that time, which is at most [`LATEST`]. `NoMemory` only where no
+    /// memory is found: then nothing changes.
     pub fn lengthen(
         &mut self,
         alloc: Global,
@@ -230,26 +243,26 @@ impl Network {
         arc: u32,
         point: u32,
     ) -> Result<Place, NoMemory>
-        requires whole { IsWhole instance.now self.old }
+        requires whole { IsWholeNetwork instance.now self.old }
         requires class { IsClass self.old (record { arc = arc; depart = point }) }
         requires short { kept_head self.old (record { arc = arc; depart = point }) < point + step instance.now arc }
         requires in_time { point + step instance.now arc ≤ LATEST }
         ensures place { IfOk result (λ place. place ≡ record { terminal = (arc_at instance.now arc).to; at = point + step instance.now arc }) }
-        ensures whole { OnOk result (IsWhole instance.now self.new) }
-        ensures points { OnOk result (self.new.points ≡ points_with self.old (arc_at instance.now arc).to (point + step instance.now arc)) }
+        ensures whole { OnOk result (IsWholeNetwork instance.now self.new) }
+        ensures points { OnOk result (self.new.points ≡ extended_points self.old (arc_at instance.now arc).to (point + step instance.now arc)) }
         ensures count { OnOk result (point_count self.new ≡ point_count self.old + 1) }
         ensures equal { OnOk result ((v : TimePoints) (round : ℕ) (net : TimedNetwork) → IsNetworkOf instance.now v round net →
             HasAlso self.old (arc_at instance.now arc).to (point + step instance.now arc) v round → self.new ≡ net) }
         ensures err { OnErr result (self.new ≡ self.old) }
     {
         let terminal = instance.arc(arc).to;
-        let at = point + step_of(instance, arc);
+        let at = point + instance.step(arc);
         self.refine(alloc, instance, terminal, at)?;
         self.restore(instance, terminal, at);
         Ok(Place { terminal, at })
     }
 
-    /// An equal network. `NoMemory` where memory is wanting.
+    /// An equal network. `NoMemory` only where no memory is found.
     pub fn copy(&self, alloc: Global) -> Result<Network, NoMemory>
         ensures { IfOk result (λ net. net ≡ self.now) }
     {

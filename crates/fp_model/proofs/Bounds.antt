@@ -11,16 +11,21 @@ use Rattle.std.proofs.lemmas.List.Elements.{All-cons, All-nil}
 use Rattle.std.proofs.lemmas.List.Folds.{list_any-append}
 use Rattle.std.proofs.lemmas.List.Sums.{sum_by-cons, sum_by-le-sum_by, sum_by-set}
 use Rattle.std.proofs.lemmas.Slice.Zip.{AllZip-long}
+use Rattle.fp_lists.proofs.Distinct.{AreDistinct-from_map, AreDistinct-tail}
+use Rattle.fp_lists.proofs.DistinctSums.{sum_by-places-le}
 use Rattle.fp_model.specs.declared.parts.Arc.{Arc}
 use Rattle.fp_model.specs.declared.parts.Leg.{Leg}
 use Rattle.fp_model.specs.declared.parts.Shipment.{Shipment}
 use Rattle.fp_model.specs.Problem.{Problem, IsValid, no_arc, arc_at, truck_cost, alone_cost, alone_total}
-use Rattle.fp_model.specs.Routes.{AreApart, Leads, ArcsExist, Carries, arcs_of}
-use Rattle.fp_model.specs.Costs.{same_leg, has_leg, distinct, all_legs, load, flow_cost, flow_total, cost, lists_of}
+use Rattle.fp_model.specs.Routes.{Leads, ArcsExist, Carries, arcs_of, ends_of}
+use Rattle.fp_lists.specs.Distinct.{AreDistinct}
+use Rattle.fp_model.specs.Costs.{same_leg, has_leg, distinct, all_legs, load, flow_cost, flow_total, cost}
+use Rattle.fp_lists.specs.Vectors.{lists_of}
 use Rattle.fp_model.specs.Plans.{IsPlan}
 use Rattle.fp_model.proofs.Distinct.{distinct_sum, distinct_sum-le, distinct_sum-le-sum_by}
-use Rattle.fp_model.proofs.Sums.{each-weaker, sum_by-both, sum_by-each, sum_by-map}
-use Rattle.fp_model.proofs.Ceilings.{div_ceil-zero, div_ceil-add}
+use Rattle.fp_lists.proofs.Sums.{sum_by-both, sum_by-map, sum_by-same_each}
+use Rattle.fp_lists.proofs.Elements.{AllByRecursion-weaker}
+use Rattle.fp_lists.proofs.Ceilings.{div_ceil-add, div_ceil-zero}
 
 -- a departure that no route has carries nothing
 pub load-outside : (ss : List Shipment) (R : List (List Leg)) (k : Leg) → has_leg k (all_legs R) ≡ false → load ss R k ≡ 0
@@ -102,36 +107,13 @@ departures-le-alone p (s ∷ ss) (r ∷ R) long =
     let later : distinct_sum others (all_legs R) ≤ alone_routes p ss R = departures-le-alone p ss R short in
     omega (arith, apart, split, own_here, own_each, own_alone, others_there, later)
 
--- the values at different places sum to at most the whole sum, where an element of value 0 can take a place
-pub sum_by-places-le : {X : Type 0} (g : X → ℕ) (d : X) → g d ≡ 0 → (places : List ℕ) (xs : List X) →
-    AllByRecursion (λ i. i < length xs) places → AreApart places → sum_by (λ i. g (get_or xs i d)) places ≤ sum_by g xs
-sum_by-places-le g d none [] xs below apart = omega arith
-sum_by-places-le {X} g d none (i ∷ places) xs below apart =
-    let ys : List X = set xs i d in
-    let still : AllByRecursion (λ j. j < length ys) places =
-    each-weaker (λ j. j < length xs) (λ j. j < length ys) (λ j h. simp length-set h) places below.1 in
-    let rest : sum_by (λ j. g (get_or ys j d)) places ≤ sum_by g ys = sum_by-places-le g d none places ys still apart.1 in
-    let same : sum_by (λ j. g (get_or ys j d)) places ≡ sum_by (λ j. g (get_or xs j d)) places =
-    sum_by-each (λ j. g (get_or ys j d)) (λ j. g (get_or xs j d)) places
-    (each-weaker (λ j. j ≢ i) (λ j. g (get_or ys j d) ≡ g (get_or xs j d)) (λ j ne. ap g (rw get_or-set_other refl)) places apart.0) in
-    omega (arith, rest, same, none, sum_by-set g xs i d d below.0, sum_by-cons (λ j. g (get_or xs j d)) i places)
-
 -- the arcs that lead somewhere exist
 pub Leads-exist : (p : Problem) (here : ℕ) (arcs : List ℕ) (there : ℕ) → Leads p here arcs there → AllByRecursion (λ a. a < length p.arcs) arcs
 Leads-exist p here [] there leads = tt
 Leads-exist p here (a ∷ arcs) there leads = (leads.0, Leads-exist p (arc_at p a).to arcs there leads.2)
 
--- numbers with different values are different
-pub AreApart-map : (f : ℕ → ℕ) (xs : List ℕ) → AreApart (map f xs) → AreApart xs
-AreApart-map f [] apart = tt
-AreApart-map f (x ∷ xs) apart = (others xs apart.0, AreApart-map f xs apart.1)
-  where
-    others : (ys : List ℕ) → AllByRecursion (λ y. y ≢ f x) (map f ys) → AllByRecursion (λ y. y ≢ x) ys
-    others [] all = tt
-    others (y ∷ ys) all = ((λ e. all.0 (ap f e)), others ys all.1)
-
 -- a route alone costs at most what it would cost over every arc
-pub route-le-alone : (p : Problem) (d : ℕ) (s : Shipment) (legs : List Leg) → Carries p d s legs →
+route-le-alone : (p : Problem) (d : ℕ) (s : Shipment) (legs : List Leg) → Carries p d s legs →
     sum_by (alone_trucks p s.size) legs + flow_cost p s.size legs ≤ sum_by (alone_cost s.size) p.arcs
 route-le-alone p d s legs carries =
     let at : ℕ → ℕ = λ a. alone_cost s.size (get_or p.arcs a no_arc) in
@@ -142,10 +124,10 @@ route-le-alone p d s legs carries =
     let within : sum_by at (arcs_of legs) ≤ sum_by (alone_cost s.size) p.arcs =
     sum_by-places-le (alone_cost s.size) no_arc (omega arith) (arcs_of legs) p.arcs
     (Leads-exist p s.from (arcs_of legs) s.to carries.route.leads)
-    (AreApart-map (λ a. (arc_at p a).to) (arcs_of legs) carries.route.once.1) in
+    (AreDistinct-from_map (λ a. (arc_at p a).to) (arcs_of legs) (AreDistinct-tail s.from (ends_of p (arcs_of legs)) carries.route.once)) in
     omega (arith, both, numbers, within)
 
-pub routes-le-alone : (p : Problem) (d : ℕ) (ss : List Shipment) (R : List (List Leg)) → AllZip (Carries p d) ss R →
+routes-le-alone : (p : Problem) (d : ℕ) (ss : List Shipment) (R : List (List Leg)) → AllZip (Carries p d) ss R →
     alone_routes p ss R + flow_total p ss R ≤ alone_total p.arcs ss
 routes-le-alone p d [] [] plan = le_refl 0
 routes-le-alone p d [] (r ∷ R) plan = absurd plan
@@ -154,7 +136,7 @@ routes-le-alone p d (s ∷ ss) (r ∷ R) plan =
     omega (arith, route-le-alone p d s r plan.0, routes-le-alone p d ss R plan.1, sum_by-cons (λ (t : Shipment). sum_by (alone_cost t.size) p.arcs) s ss)
 
 -- a plan costs at most every shipment alone over every arc
-pub cost-le-alone_total : (p : Problem) (d : ℕ) (R : List (List Leg)) → IsPlan p d R → cost p R ≤ alone_total p.arcs p.shipments
+cost-le-alone_total : (p : Problem) (d : ℕ) (R : List (List Leg)) → IsPlan p d R → cost p R ≤ alone_total p.arcs p.shipments
 cost-le-alone_total p d R plan =
     let long : length R ≡ length p.shipments = AllZip-long (Carries p d) p.shipments R plan in
     omega (arith, departures-le-alone p p.shipments R long, routes-le-alone p d p.shipments R plan)

@@ -22,7 +22,7 @@ same_leg-refl k = and_from (k.arc == k.arc) (k.depart == k.depart) (eq-eqb k.arc
 abbrev pub distinct_sum : (Leg → ℕ) → List Leg → ℕ
 distinct_sum f xs = sum_by f (distinct xs)
 
-pub distinct_sum_again : (f : Leg → ℕ) (x : Leg) (xs : List Leg) → has_leg x xs ≡ true → distinct_sum f (x ∷ xs) ≡ distinct_sum f xs
+distinct_sum_again : (f : Leg → ℕ) (x : Leg) (xs : List Leg) → has_leg x xs ≡ true → distinct_sum f (x ∷ xs) ≡ distinct_sum f xs
 distinct_sum_again f x xs h = ap (sum_by f) (cond-true (has_leg x xs) (distinct xs) (x ∷ distinct xs) h)
 
 pub distinct_sum_new : (f : Leg → ℕ) (x : Leg) (xs : List Leg) → has_leg x xs ≡ false → distinct_sum f (x ∷ xs) ≡ f x + distinct_sum f xs
@@ -44,7 +44,7 @@ distinct_sum_same f g (x ∷ xs) agree =
     (cases_Bool (has_leg x xs))
 
 -- the term of one leg, and the sum of the others
-pub distinct_sum_split : (f : Leg → ℕ) (x : Leg) (ys : List Leg) → distinct_sum f ys ≡ (if has_leg x ys then f x else 0) + distinct_sum (except x f) ys
+distinct_sum_split : (f : Leg → ℕ) (x : Leg) (ys : List Leg) → distinct_sum f ys ≡ (if has_leg x ys then f x else 0) + distinct_sum (except x f) ys
 distinct_sum_split f x [] = refl
 distinct_sum_split f x (y ∷ ys) =
     let later : distinct_sum f ys ≡ (if has_leg x ys then f x else 0) + distinct_sum (except x f) ys = distinct_sum_split f x ys in

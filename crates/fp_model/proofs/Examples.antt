@@ -1,5 +1,6 @@
 -- The definitions, worked on small instances.
 use Rattle.std.proofs.Common.{◌≡◌, ℕ, ◌*◌, ◌≤◌, List, [], ◌∷◌, inl, inr, refl, lit≤, lit<}
+use Rattle.fp_lists.proofs.Distinct.{AreDistinct-cons, AreDistinct-nil}
 use Rattle.fp_model.specs.declared.faults.PlanKind.TheVariants.{Count, NotRoute, TerminalTwice, BeforeRelease, BeforeArrival, AfterDue}
 use Rattle.fp_model.specs.declared.parts.Arc.{Arc}
 use Rattle.fp_model.specs.declared.parts.Leg.{Leg}
@@ -74,7 +75,7 @@ two_end = refl
 carried : (others : List Shipment) (size release due number : ℕ) → 2 * release ≤ 7 → 17 ≤ 2 * due →
     Carries (one_arc others) 2 (shipment_to number 1 size release due) (over 7)
 carried others size release due number after before = record {
-  route = record { some = λ e. cc; leads = (lit< tt, refl, refl); once = ((λ e. cc, tt), (tt, tt)) };
+  route = record { some = λ e. cc; leads = (lit< tt, refl, refl); once = AreDistinct-cons 0 (1 ∷ []) ((λ e. cc), tt) (AreDistinct-cons 1 [] tt AreDistinct-nil) };
   ready = (after, tt);
   due = before;
 }
@@ -101,7 +102,7 @@ held_time = refl
 held_plan : IsPlan held 1 ((leaving 0 1 ∷ leaving 1 8 ∷ []) ∷ [])
 held_plan = (
   record {
-    route = record { some = λ e. cc; leads = (lit< tt, refl, (lit< tt, refl, refl)); once = ((λ e. cc, (λ e. cc, tt)), ((λ e. cc, tt), (tt, tt))) };
+    route = record { some = λ e. cc; leads = (lit< tt, refl, (lit< tt, refl, refl)); once = AreDistinct-cons 0 (1 ∷ 2 ∷ []) ((λ e. cc), ((λ e. cc), tt)) (AreDistinct-cons 1 (2 ∷ []) ((λ e. cc), tt) (AreDistinct-cons 2 [] tt AreDistinct-nil)) };
     ready = (lit≤ tt, (lit≤ tt, tt));
     due = lit≤ tt;
   },

@@ -12,15 +12,18 @@ use Rattle.fp_model.specs.declared.faults.PlanKind.TheVariants.{Count, NotRoute,
 use Rattle.fp_model.specs.declared.parts.Leg.{Leg}
 use Rattle.fp_model.specs.declared.parts.Shipment.{Shipment}
 use Rattle.fp_model.specs.Problem.{Problem, arc_at}
-use Rattle.fp_model.specs.Routes.{AreApart, Carries, arcs_of, step}
+use Rattle.fp_model.specs.Routes.{Carries, arcs_of, step, ends_of}
+use Rattle.fp_lists.specs.Distinct.{AreDistinct}
 use Rattle.fp_model.specs.Numbered.{leg_at, no_leg, route_at, shipment_at, no_shipment}
 use Rattle.fp_model.specs.Faults.{place_before, HasLegFault, AreFaultless, HasFault, IsFaultless}
 use Rattle.fp_model.specs.Plans.{IsPlan}
-use Rattle.fp_model.proofs.Bounds.{AreApart-map}
-use Rattle.fp_model.proofs.Sums.{each-weaker}
-use Rattle.fp_model.proofs.LegByLeg.{GoesOn, Leads-from_legs, Leads-legs, Leads-last, NeverReturns, AreApart-from_legs, AreApart-legs, StartsFrom, KeepsSteps, LeavesReady-from_legs, LeavesReady-first, LeavesReady-legs}
-use Rattle.fp_model.proofs.Places.{AllZip-from_places, AllZip-places}
-use Rattle.fp_model.proofs.Steps.{arrives_at_last}
+use Rattle.fp_lists.proofs.Distinct.{AreDistinct-from_map, AreDistinct-tail}
+use Rattle.fp_lists.proofs.Elements.{AllByRecursion-weaker}
+use Rattle.fp_model.proofs.LegByLeg.{GoesOn, Leads-from_legs, Leads-legs, Leads-last, NeverReturns, AreDistinct-from_legs, AreDistinct-legs, StartsFrom, KeepsSteps, LeavesReady-from_legs, LeavesReady-first, LeavesReady-legs}
+use Rattle.fp_lists.proofs.Numbered.{AllZip-get_or}
+use Rattle.fp_lists.proofs.DistinctSums.{length-distinct-le}
+use Rattle.fp_lists.proofs.Numbered.{AllZip-from_get_or}
+use Rattle.fp_model.proofs.LastArrivals.{arrives_at_last}
 
 -- the legs below a number have no fault
 abbrev pub AreFaultlessBelow : Problem → Shipment → List Leg → ℕ → Type 0
@@ -35,7 +38,7 @@ goes_on p s legs i lt none =
     let far : length p.arcs ≤ (leg_at legs i).arc → ⊥ = λ h. none (inr (lt, inl h)) in
     (omega (arith, far), same-number _ _ (λ ne. none (inr (lt, inr (inl ne)))))
 
-pub enters_last : (p : Problem) (s : Shipment) (legs : List Leg) (i : ℕ) → i + 1 ≡ length legs → (HasLegFault p s legs NotRoute i → ⊥) → (arc_at p (leg_at legs i).arc).to ≡ s.to
+enters_last : (p : Problem) (s : Shipment) (legs : List Leg) (i : ℕ) → i + 1 ≡ length legs → (HasLegFault p s legs NotRoute i → ⊥) → (arc_at p (leg_at legs i).arc).to ≡ s.to
 enters_last p s legs i last none = same-number _ _ (λ ne. none (inr (omega (arith, last), inr (inr (last, ne)))))
 
 -- the places before legs of a front part are those of the whole
@@ -43,27 +46,11 @@ place_before-take : (p : Problem) (origin : ℕ) (legs : List Leg) (n j : ℕ) �
 place_before-take p origin legs n zero le = refl
 place_before-take p origin legs n (suc j) le = ap (λ (l : Leg). (arc_at p l.arc).to) (get_or-take n legs j no_leg (omega (arith, le)))
 
-distinct-apart : (xs : List ℕ) → AreApart xs → IsDistinct eqb xs
-unfolding IsDistinct
-distinct-apart [] apart = tt
-distinct-apart (x ∷ xs) apart = (
-  each-weaker (λ y. y ≢ x) (λ y. eqb x y ≡ false) (λ y ne. ne_eqb x y (λ e. ne (sym e))) xs apart.0,
-  distinct-apart xs apart.1,
-)
-
-below-any : (n : ℕ) (xs : List ℕ) → AllByRecursion (λ x. x < n) xs → (q : ℕ) → list_any (eqb q) xs ≡ true → q < n
-below-any n [] all q any = absurd (false≢true any)
-below-any n (x ∷ xs) all q any =
-    ⊎_elim
-    (λ (here : eqb q x ≡ true). subst (λ (m : ℕ). m < n) (sym (eqb-true q x here)) all.0)
-    (λ (later : list_any (eqb q) xs ≡ true). below-any n xs all.1 q later)
-    (or_cases (eqb q x) (list_any (eqb q) xs) any)
-
 arcs-below : (p : Problem) (origin : ℕ) (legs : List Leg) → ((i : ℕ) → i < length legs → (leg_at legs i).arc < length p.arcs) → AllByRecursion (λ a. a < length p.arcs) (arcs_of legs)
 arcs-below p origin [] each = tt
 arcs-below p origin (l ∷ legs) each = (each 0 (omega arith), arcs-below p origin legs (λ i lt. each (suc i) (omega (arith, lt))))
 
-length-arcs_of : (legs : List Leg) → length (arcs_of legs) ≡ length legs
+pub length-arcs_of : (legs : List Leg) → length (arcs_of legs) ≡ length legs
 length-arcs_of [] = refl
 length-arcs_of (l ∷ legs) = omega (arith, length-arcs_of legs)
 
@@ -84,12 +71,12 @@ few_faultless p s legs n le none =
     λ i lt.
     let below : i < n = omega (arith, lt, long) in
     subst (λ (l : Leg). l.arc < length p.arcs) (sym (same i below)) (goes_on p s legs i (omega (arith, below, le)) (none NotRoute i below)).0 in
-    let apart : AreApart (arcs_of front) = AreApart-map (λ a. (arc_at p a).to) (arcs_of front) (AreApart-from_legs p s.from front returns).1 in
+    let apart : AreDistinct (arcs_of front) = AreDistinct-from_map (λ a. (arc_at p a).to) (arcs_of front) (AreDistinct-tail s.from (ends_of p (arcs_of front)) (AreDistinct-from_legs p s.from front returns)) in
     let few : length (arcs_of front) ≤ length p.arcs =
-    length-le_from_distinct_below (arcs_of front) (length p.arcs) (distinct-apart (arcs_of front) apart) (below-any (length p.arcs) (arcs_of front) (arcs-below p s.from front exist)) in
+    length-distinct-le (length p.arcs) (arcs_of front) (arcs-below p s.from front exist) apart in
     omega (arith, few, long, length-arcs_of front)
 
-pub Carries-from_faultless : (p : Problem) (s : Shipment) (legs : List Leg) → AreFaultless p s legs → Carries p 1 s legs
+Carries-from_faultless : (p : Problem) (s : Shipment) (legs : List Leg) → AreFaultless p s legs → Carries p 1 s legs
 Carries-from_faultless p s [] none = absurd (none NotRoute 0 (inl (refl, refl)))
 Carries-from_faultless p s (l ∷ legs) none =
     let all : List Leg = l ∷ legs in
@@ -103,7 +90,7 @@ Carries-from_faultless p s (l ∷ legs) none =
       route = record {
         some = λ e. cc;
         leads = Leads-from_legs p s.from s.to all (λ i lt. goes_on p s all i lt (none NotRoute i)) (enters_last p s all (length legs) (omega arith) (none NotRoute (length legs)));
-        once = AreApart-from_legs p s.from all (λ i j le lt e. none TerminalTwice i (lt, (j, le, e)));
+        once = AreDistinct-from_legs p s.from all (λ i j le lt e. none TerminalTwice i (lt, (j, le, e)));
       };
       ready = LeavesReady-from_legs p (1 * s.release) all starts keeps;
       due = (arrives_at_last p 1 s.due all no_leg (omega arith)).1 (omega (arith, early));
@@ -114,7 +101,7 @@ some-legs : (legs : List Leg) → arcs_of legs ≢ [] → length legs ≡ 0 → 
 some-legs [] some none = some refl
 some-legs (l ∷ legs) some none = omega (arith, none)
 
-pub Carries-faultless : (p : Problem) (s : Shipment) (legs : List Leg) → Carries p 1 s legs → AreFaultless p s legs
+Carries-faultless : (p : Problem) (s : Shipment) (legs : List Leg) → Carries p 1 s legs → AreFaultless p s legs
 Carries-faultless p s legs carries Count i fault = fault
 Carries-faultless p s legs carries NotRoute i fault =
     ⊎_elim
@@ -134,7 +121,7 @@ Carries-faultless p s legs carries NotRoute i fault =
     other)
     at.1)
     fault
-Carries-faultless p s legs carries TerminalTwice i fault = AreApart-legs p s.from legs carries.route.once i fault.1.0 fault.1.1 fault.0 fault.1.2
+Carries-faultless p s legs carries TerminalTwice i fault = AreDistinct-legs p s.from legs carries.route.once i fault.1.0 fault.1.1 fault.0 fault.1.2
 Carries-faultless p s legs carries BeforeRelease i fault =
     let same : i ≡ 0 = fault.1 in
     let early : (leg_at legs 0).depart < s.release = subst (λ (n : ℕ). (leg_at legs n).depart < s.release) same fault.2 in
@@ -172,11 +159,11 @@ HasLegFault-fault p routes AfterDue k i long fault = (fault.0, fault.2)
 pub IsPlan-from_faultless : (p : Problem) (routes : List (List Leg)) → IsFaultless p routes → IsPlan p 1 routes
 IsPlan-from_faultless p routes none =
     let long : length routes ≡ length p.shipments = same-number _ _ (λ ne. none Count 0 0 (ne, refl, refl)) in
-    AllZip-from_places (Carries p 1) p.shipments routes no_shipment [] long
+    AllZip-from_get_or (Carries p 1) p.shipments routes no_shipment [] long
     (λ k lt. Carries-from_faultless p (shipment_at p k) (route_at routes k) (λ kind i fault. none kind k i (HasFault-leg p routes kind k i lt (omega (arith, lt, long)) fault)))
 
 pub IsPlan-faultless : (p : Problem) (routes : List (List Leg)) → IsPlan p 1 routes → IsFaultless p routes
 IsPlan-faultless p routes plan kind k i fault =
     let long : length routes ≡ length p.shipments = AllZip-long (Carries p 1) p.shipments routes plan in
     let at = HasLegFault-fault p routes kind k i long fault in
-    Carries-faultless p (shipment_at p k) (route_at routes k) (AllZip-places (Carries p 1) p.shipments routes no_shipment [] plan k at.0) kind i at.1
+    Carries-faultless p (shipment_at p k) (route_at routes k) (AllZip-get_or (Carries p 1) p.shipments routes k no_shipment [] plan at.0) kind i at.1

@@ -9,7 +9,7 @@ use Rattle.fp_model.specs.declared.faults.PlanKind.TheVariants.{Count, NotRoute,
 use Rattle.fp_model.specs.declared.parts.Leg.{Leg}
 use Rattle.fp_model.specs.declared.parts.Shipment.{Shipment}
 use Rattle.fp_model.specs.Problem.{Problem}
-use Rattle.fp_model.specs.Costs.{lists_of}
+use Rattle.fp_lists.specs.Vectors.{lists_of}
 use Rattle.fp_model.specs.Numbered.{leg_at, route_at, shipment_at}
 use Rattle.fp_model.specs.Faults.{HasLegFault, AreFaultless, HasFault, IsFirstFault, IsFirstLegFault, kind_number}
 use Rattle.fp_model.specs.Plans.{IsPlan}
@@ -56,25 +56,6 @@ first_of_all p routes kind k i lt long none at = record {
       (λ (less : j < i). at.earlier other j less (here same.0))
       (λ lesser. at.lesser other lesser.1 (subst (λ (m : ℕ). HasLegFault p (shipment_at p k) (route_at routes k) other m) lesser.0 (here same.0)))
       same.1)
-      before;
-}
-
-kind_number-positive : (kind : PlanKind) → 1 ≤ kind_number kind
-kind_number-positive Count = omega arith
-kind_number-positive NotRoute = omega arith
-kind_number-positive TerminalTwice = omega arith
-kind_number-positive BeforeRelease = omega arith
-kind_number-positive BeforeArrival = omega arith
-kind_number-positive AfterDue = omega arith
-
--- no fault comes before a false count
-pub first_of_count : (p : Problem) (routes : List (List Leg)) → length routes ≢ length p.shipments → IsFirstFault p routes Count 0 0
-first_of_count p routes other_count = record {
-  there = (other_count, refl, refl);
-  first = λ other l j before fault.
-      ⊎_elim
-      (λ earlier. omega (arith, earlier))
-      (λ same. ⊎_elim (λ less. omega (arith, less)) (λ lesser. omega (arith, lesser.1, kind_number-positive other)) same.1)
       before;
 }
 

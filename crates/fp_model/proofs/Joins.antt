@@ -12,8 +12,8 @@ use Rattle.fp_model.specs.declared.parts.Shipment.{Shipment}
 use Rattle.fp_model.specs.Problem.{Problem, arc_at, truck_cost}
 use Rattle.fp_model.specs.Costs.{same_leg, has_leg, distinct, all_legs, load, cost, flow_cost, flow_total}
 use Rattle.fp_model.proofs.Distinct.{same_leg-true, same_leg-refl, distinct_sum, term-le, one-le}
-use Rattle.fp_model.proofs.Sums.{sum_by-both, sum_by-map, sum_by-scaled, sum_by-swap, same_sum}
-use Rattle.fp_model.proofs.Ceilings.{div_ceil-zero, div_ceil-mono, div_ceil-sum_by}
+use Rattle.fp_lists.proofs.Sums.{sum_by-scaled, sum_by-swap, sum_by-same, sum_by-both, sum_by-map}
+use Rattle.fp_lists.proofs.Ceilings.{div_ceil_mono, div_ceil-sum_by, div_ceil-zero}
 use Rattle.fp_model.proofs.Bounds.{departure_of}
 
 -- the legs that a map takes to c, summed over
@@ -30,7 +30,7 @@ found f c (k ∷ r) h =
     (or_cases (same_leg c (f k)) (has_leg c (map f r)) h)
 
 -- the load of a class is at most the loads of the departures in it
-pub load-gathered : (f : Leg → Leg) (all : List Leg) (ss : List Shipment) (R : List (List Leg)) → ((k : Leg) → has_leg k (all_legs R) ≡ true → has_leg k all ≡ true) →
+load-gathered : (f : Leg → Leg) (all : List Leg) (ss : List Shipment) (R : List (List Leg)) → ((k : Leg) → has_leg k (all_legs R) ≡ true → has_leg k all ≡ true) →
     (c : Leg) → load ss (map (map f) R) c ≤ gathered f all (load ss R) c
 load-gathered f all [] R within c = omega arith
 load-gathered f all (s ∷ ss) [] within c = omega arith
@@ -39,7 +39,7 @@ load-gathered f all (s ∷ ss) (r ∷ R) within c =
     let rest : load ss (map (map f) R) c ≤ gathered f all (load ss R) c =
     load-gathered f all ss R (λ k h. within k (list_any-append (same_leg k) r (all_legs R) ∙ or_right (has_leg k r) (has_leg k (all_legs R)) h)) c in
     let split : gathered f all (load (s ∷ ss) (r ∷ R)) c ≡ gathered f all own c + gathered f all (load ss R) c =
-    same_sum (λ k. if same_leg (f k) c then own k + load ss R k else 0) (λ k. (if same_leg (f k) c then own k else 0) + (if same_leg (f k) c then load ss R k else 0))
+    sum_by-same (λ k. if same_leg (f k) c then own k + load ss R k else 0) (λ k. (if same_leg (f k) c then own k else 0) + (if same_leg (f k) c then load ss R k else 0))
     (λ k.
     ⊎_elim
     (λ (h : same_leg (f k) c ≡ true).
@@ -62,7 +62,7 @@ load-gathered f all (s ∷ ss) (r ∷ R) within c =
     (cases_Bool (has_leg c (map f r)))
 
 -- the trucks of a class cost at most those of the departures in it
-pub departure-gathered : (p : Problem) (f : Leg → Leg) → ((k : Leg) → (f k).arc ≡ k.arc) → (ss : List Shipment) (R : List (List Leg)) (c : Leg) →
+departure-gathered : (p : Problem) (f : Leg → Leg) → ((k : Leg) → (f k).arc ≡ k.arc) → (ss : List Shipment) (R : List (List Leg)) (c : Leg) →
     departure_of p ss (map (map f) R) c ≤ gathered f (all_legs R) (departure_of p ss R) c
 departure-gathered p f keeps ss R c =
     let all : List Leg = all_legs R in
@@ -70,13 +70,13 @@ departure-gathered p f keeps ss R c =
     let part : Leg → ℕ = λ k. if same_leg (f k) c then load ss R k else 0 in
     let loaded : load ss (map (map f) R) c ≤ sum_by part (distinct all) = load-gathered f all ss R (λ k h. h) c in
     let few : div_ceil (load ss (map (map f) R) c) arc.capacity ≤ sum_by (λ k. div_ceil (part k) arc.capacity) (distinct all) =
-    omega (arith, div_ceil-mono (load ss (map (map f) R) c) (sum_by part (distinct all)) arc.capacity loaded, div_ceil-sum_by part arc.capacity (distinct all)) in
+    omega (arith, div_ceil_mono (load ss (map (map f) R) c) (sum_by part (distinct all)) arc.capacity loaded, div_ceil-sum_by part arc.capacity (distinct all)) in
     let costs : arc.truck * div_ceil (load ss (map (map f) R) c) arc.capacity ≤ arc.truck * sum_by (λ k. div_ceil (part k) arc.capacity) (distinct all) =
     mul-le-mul_left arc.truck few in
     let apart : sum_by (λ k. arc.truck * div_ceil (part k) arc.capacity) (distinct all) ≡ arc.truck * sum_by (λ k. div_ceil (part k) arc.capacity) (distinct all) =
     sum_by-scaled arc.truck (λ k. div_ceil (part k) arc.capacity) (distinct all) in
     let each : sum_by (λ k. arc.truck * div_ceil (part k) arc.capacity) (distinct all) ≡ gathered f all (departure_of p ss R) c =
-    same_sum (λ k. arc.truck * div_ceil (part k) arc.capacity) (λ k. if same_leg (f k) c then departure_of p ss R k else 0)
+    sum_by-same (λ k. arc.truck * div_ceil (part k) arc.capacity) (λ k. if same_leg (f k) c then departure_of p ss R k else 0)
     (λ k.
     ⊎_elim
     (λ (h : same_leg (f k) c ≡ true).
@@ -96,9 +96,9 @@ departure-gathered p f keeps ss R c =
     omega (arith, costs, apart, each)
 
 -- so do those of all classes
-pub departures-join : (p : Problem) (f : Leg → Leg) → ((k : Leg) → (f k).arc ≡ k.arc) → (ss : List Shipment) (R : List (List Leg)) (ys : List Leg) →
+departures_join : (p : Problem) (f : Leg → Leg) → ((k : Leg) → (f k).arc ≡ k.arc) → (ss : List Shipment) (R : List (List Leg)) (ys : List Leg) →
     distinct_sum (departure_of p ss (map (map f) R)) ys ≤ distinct_sum (departure_of p ss R) (all_legs R)
-departures-join p f keeps ss R ys =
+departures_join p f keeps ss R ys =
     let all : List Leg = all_legs R in
     let g : Leg → ℕ = departure_of p ss R in
     let part : Leg → Leg → ℕ = λ k c. if same_leg (f k) c then g k else 0 in
@@ -110,17 +110,17 @@ departures-join p f keeps ss R ys =
     sum_by-le-sum_by (λ k. sum_by (part k) (distinct ys)) g (distinct all) (λ k. one-le (f k) (g k) ys) in
     omega (arith, first, swapped, last)
 
-flow-joins : (p : Problem) (f : Leg → Leg) → ((k : Leg) → (f k).arc ≡ k.arc) → (ss : List Shipment) (R : List (List Leg)) →
+flow_joins : (p : Problem) (f : Leg → Leg) → ((k : Leg) → (f k).arc ≡ k.arc) → (ss : List Shipment) (R : List (List Leg)) →
     flow_total p ss (map (map f) R) ≡ flow_total p ss R
-flow-joins p f keeps [] R = refl
-flow-joins p f keeps (s ∷ ss) [] = refl
-flow-joins p f keeps (s ∷ ss) (r ∷ R) =
+flow_joins p f keeps [] R = refl
+flow_joins p f keeps (s ∷ ss) [] = refl
+flow_joins p f keeps (s ∷ ss) (r ∷ R) =
     let flow : Leg → ℕ = λ k. (arc_at p k.arc).freight * s.size in
     let here : flow_cost p s.size (map f r) ≡ flow_cost p s.size r =
-    sum_by-map flow f r ∙ same_sum (λ k. flow (f k)) flow (λ k. ap (λ (a : ℕ). (arc_at p a).freight * s.size) (keeps k)) r in
-    omega (arith, here, flow-joins p f keeps ss R)
+    sum_by-map flow f r ∙ sum_by-same (λ k. flow (f k)) flow (λ k. ap (λ (a : ℕ). (arc_at p a).freight * s.size) (keeps k)) r in
+    omega (arith, here, flow_joins p f keeps ss R)
 
 -- routes whose departures are taken together, each on its arc, cost no more
-pub cost-joins : (p : Problem) (f : Leg → Leg) → ((k : Leg) → (f k).arc ≡ k.arc) → (R : List (List Leg)) → cost p (map (map f) R) ≤ cost p R
-cost-joins p f keeps R =
-    omega (arith, departures-join p f keeps p.shipments R (all_legs (map (map f) R)), flow-joins p f keeps p.shipments R)
+pub cost_joins : (p : Problem) (f : Leg → Leg) → ((k : Leg) → (f k).arc ≡ k.arc) → (R : List (List Leg)) → cost p (map (map f) R) ≤ cost p R
+cost_joins p f keeps R =
+    omega (arith, departures_join p f keeps p.shipments R (all_legs (map (map f) R)), flow_joins p f keeps p.shipments R)

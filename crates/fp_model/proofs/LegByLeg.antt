@@ -1,14 +1,16 @@
 -- What the rules on routes and times say, leg by leg.
 use Rattle.std.proofs.Common.{◌≡◌, ◌≢◌, ℕ, zero, suc, ◌+◌, ◌*◌, ◌<◌, ◌≤◌, List, [], ◌∷◌, length, refl, sym, subst, arith}
 use Rattle.std.specs.List.{AllByRecursion}
+use Rattle.fp_lists.proofs.Distinct.{AreDistinct-cons, AreDistinct-head, AreDistinct-nil, AreDistinct-tail}
 use Rattle.fp_model.specs.declared.parts.Leg.{Leg}
 use Rattle.fp_model.specs.Problem.{Problem, arc_at}
-use Rattle.fp_model.specs.Routes.{Leads, AreApart, LeavesReady, arcs_of, ends_of, step}
+use Rattle.fp_model.specs.Routes.{Leads, LeavesReady, arcs_of, ends_of, step}
+use Rattle.fp_lists.specs.Distinct.{AreDistinct}
 use Rattle.fp_model.specs.Numbered.{leg_at}
 use Rattle.fp_model.specs.Faults.{place_before}
 
 -- the place after the first leg, seen from there
-pub place-next : (p : Problem) (origin : ℕ) (l : Leg) (legs : List Leg) (i : ℕ) →
+place-next : (p : Problem) (origin : ℕ) (l : Leg) (legs : List Leg) (i : ℕ) →
     place_before p origin (l ∷ legs) (suc i) ≡ place_before p (arc_at p l.arc).to legs i
 place-next p origin l legs zero = refl
 place-next p origin l legs (suc i) = refl
@@ -63,21 +65,20 @@ never-enters p terminal (l ∷ legs) all (suc i) lt = never-enters p terminal le
 abbrev pub NeverReturns : Problem → ℕ → List Leg → Type 0
 NeverReturns p origin legs = (i j : ℕ) → j ≤ i → i < length legs → place_before p origin legs j ≢ (arc_at p (leg_at legs i).arc).to
 
-pub AreApart-from_legs : (p : Problem) (origin : ℕ) (legs : List Leg) → NeverReturns p origin legs → AreApart (origin ∷ ends_of p (arcs_of legs))
-AreApart-from_legs p origin [] never = (tt, tt)
-AreApart-from_legs p origin (l ∷ legs) never = (
-  ends-differ p origin (l ∷ legs) (λ i lt. never i 0 (omega arith) lt),
-  AreApart-from_legs p (arc_at p l.arc).to legs (λ i j le lt.
-      subst (λ (n : ℕ). n ≢ (arc_at p (leg_at legs i).arc).to) (place-next p origin l legs j) (never (suc i) (suc j) (omega (arith, le)) (omega (arith, lt)))),
-)
+pub AreDistinct-from_legs : (p : Problem) (origin : ℕ) (legs : List Leg) → NeverReturns p origin legs → AreDistinct (origin ∷ ends_of p (arcs_of legs))
+AreDistinct-from_legs p origin [] never = AreDistinct-cons origin [] tt AreDistinct-nil
+AreDistinct-from_legs p origin (l ∷ legs) never =
+    AreDistinct-cons origin (ends_of p (arcs_of (l ∷ legs))) (ends-differ p origin (l ∷ legs) (λ i lt. never i 0 (omega arith) lt))
+    (AreDistinct-from_legs p (arc_at p l.arc).to legs (λ i j le lt.
+    subst (λ (n : ℕ). n ≢ (arc_at p (leg_at legs i).arc).to) (place-next p origin l legs j) (never (suc i) (suc j) (omega (arith, le)) (omega (arith, lt)))))
 
-pub AreApart-legs : (p : Problem) (origin : ℕ) (legs : List Leg) → AreApart (origin ∷ ends_of p (arcs_of legs)) → NeverReturns p origin legs
-AreApart-legs p origin legs apart i zero le lt = never-enters p origin legs apart.0 i lt
-AreApart-legs p origin [] apart i (suc j) le lt = absurd (omega (arith, lt))
-AreApart-legs p origin (l ∷ legs) apart zero (suc j) le lt = absurd (omega (arith, le))
-AreApart-legs p origin (l ∷ legs) apart (suc i) (suc j) le lt =
+pub AreDistinct-legs : (p : Problem) (origin : ℕ) (legs : List Leg) → AreDistinct (origin ∷ ends_of p (arcs_of legs)) → NeverReturns p origin legs
+AreDistinct-legs p origin legs apart i zero le lt = never-enters p origin legs (AreDistinct-head origin (ends_of p (arcs_of legs)) apart) i lt
+AreDistinct-legs p origin [] apart i (suc j) le lt = absurd (omega (arith, lt))
+AreDistinct-legs p origin (l ∷ legs) apart zero (suc j) le lt = absurd (omega (arith, le))
+AreDistinct-legs p origin (l ∷ legs) apart (suc i) (suc j) le lt =
     subst (λ (n : ℕ). n ≢ (arc_at p (leg_at legs i).arc).to) (sym (place-next p origin l legs j))
-    (AreApart-legs p (arc_at p l.arc).to legs apart.1 i j (omega (arith, le)) (omega (arith, lt)))
+    (AreDistinct-legs p (arc_at p l.arc).to legs (AreDistinct-tail origin (ends_of p (arcs_of (l ∷ legs))) apart) i j (omega (arith, le)) (omega (arith, lt)))
 
 -- the first leg leaves at a moment or later
 abbrev pub StartsFrom : ℕ → List Leg → Type 0

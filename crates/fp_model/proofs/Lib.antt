@@ -1,11 +1,11 @@
-pub mod Sums
 pub mod Distinct
-pub mod Ceilings
 pub mod Bounds
 pub mod Joins
-pub mod Places
-pub mod Steps
+pub mod Members
+pub mod SharedDepartures
+pub mod LastArrivals
 pub mod LegByLeg
 pub mod Faultless
+pub mod Validity
 pub mod FirstFaults
 pub mod Examples

@@ -1,7 +1,8 @@
--- Departures, their loads and trucks, and what they cost. A departure is a leg: an arc and a number.
--- The number may be a time, a time over some denominator, or what stands for several times.
--- The source of the problem: Boland, Hewitt, Marshall and Savelsbergh, "The Continuous-Time Service Network Design Problem",
--- Operations Research 65, 2017.
+-- Departures, their loads and trucks, and what they cost.
+-- A departure is a leg: an arc and a number. The number may be a time, a time over some
+-- denominator, or what stands for several times.
+-- The source of the problem: Boland, Hewitt, Marshall and Savelsbergh, "The Continuous-Time Service
+-- Network Design Problem", Operations Research 65, 2017.
 use Rattle.std.specs.Prelude.{ℕ, ◌+◌, ◌*◌, List, [], ◌∷◌, ◌++◌, Bool, ◌==◌, ◌&&◌, sum_by, map, if◌then◌else◌}
 use Rattle.std.specs.List.{list_any}
 use Rattle.std.specs.declared.alloc.Global.{Global}
@@ -23,10 +24,6 @@ has_leg k legs = list_any (same_leg k) legs
 abbrev pub distinct : List Leg → List Leg
 distinct [] = []
 distinct (k ∷ legs) = if has_leg k legs then distinct legs else k ∷ distinct legs
-
--- routes, each as the list of its legs
-abbrev pub lists_of : List (Vec Leg Global) → List (List Leg)
-lists_of routes = map (λ (r : Vec Leg Global). r.items) routes
 
 -- all legs of all routes
 abbrev pub all_legs : List (List Leg) → List Leg

@@ -6,3 +6,4 @@ pub mod Plans
 pub mod Numbered
 pub mod Times
 pub mod Faults
+pub mod Members

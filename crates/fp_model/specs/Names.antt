@@ -1,4 +1,5 @@
 -- What may be a name.
+use Rattle.fp_model.specs.declared.limits.TheConstants.{LONGEST_NAME}
 use Rattle.std.specs.Prelude.{ℕ, ◌≤◌, List, length, Bool, ◌&&◌, ◌||◌, ◌==◌, nat_le, IsTrue, All}
 
 -- a byte is an ASCII digit, an ASCII letter, `_` or `-`
@@ -9,5 +10,5 @@ is_name_byte b =
 -- bytes are a name: one to 32 of these
 pub record IsName (bytes : List ℕ) : Type 0 where
   pub some : 1 ≤ length bytes
-  pub few : length bytes ≤ 32
+  pub few : length bytes ≤ LONGEST_NAME
   pub letters : All (λ b. IsTrue (is_name_byte b)) bytes

@@ -4,18 +4,6 @@ use Rattle.fp_model.specs.declared.parts.Leg.{Leg}
 use Rattle.fp_model.specs.declared.parts.Shipment.{Shipment}
 use Rattle.fp_model.specs.Problem.{Problem}
 
--- P holds of each element and its number, where the first element has the number i
-abbrev pub AllFrom : {X : Type 0} → (ℕ → X → Type 0) → ℕ → List X → Type 0
-AllFrom P i [] = Unit {0}
-AllFrom P i (x ∷ xs) = P i x × AllFrom P (i + 1) xs
-
--- two lists are equally long, and Q holds of the elements at each place and its number
-abbrev pub AllZipFrom : {X Y : Type 0} → (ℕ → X → Y → Type 0) → ℕ → List X → List Y → Type 0
-AllZipFrom Q i [] [] = Unit {0}
-AllZipFrom Q i [] (y ∷ ys) = ⊥
-AllZipFrom Q i (x ∷ xs) [] = ⊥
-AllZipFrom Q i (x ∷ xs) (y ∷ ys) = Q i x y × AllZipFrom Q (i + 1) xs ys
-
 -- stands for the shipment of a number that no shipment has
 abbrev pub no_shipment : Shipment
 no_shipment = record { name = []; from = 0; to = 0; size = 0; release = 0; due = 0 }

@@ -1,6 +1,6 @@
 -- Plans over a denominator, and what no plan undercuts.
--- The source of the problem: Boland, Hewitt, Marshall and Savelsbergh, "The Continuous-Time Service Network Design Problem",
--- Operations Research 65, 2017.
+-- The source of the problem: Boland, Hewitt, Marshall and Savelsbergh, "The Continuous-Time Service
+-- Network Design Problem", Operations Research 65, 2017.
 use Rattle.std.specs.Prelude.{ℕ, ◌≤◌, List}
 use Rattle.std.specs.List.{AllZip}
 use Rattle.fp_model.specs.declared.parts.Leg.{Leg}

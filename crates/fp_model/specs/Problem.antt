@@ -1,13 +1,16 @@
 -- What a planner is given, when it is valid, and how heavy it is.
--- The source of the problem: Boland, Hewitt, Marshall and Savelsbergh, "The Continuous-Time Service Network Design Problem",
--- Operations Research 65, 2017. Holds, scales and limits are this project's own.
+-- The source of the problem: Boland, Hewitt, Marshall and Savelsbergh, "The Continuous-Time Service
+-- Network Design Problem", Operations Research 65, 2017. Holds, scales and limits are this
+-- project's own.
 use Rattle.std.specs.Prelude.{ℕ, ◌+◌, ◌*◌, ◌^◌, ◌<◌, ◌≤◌, ◌≡◌, ◌≢◌, List, length, All, AllPairs, sum_by, slice_index_or, max, [], ◌∷◌}
 use Rattle.std.specs.Int.{div_ceil}
+use Rattle.fp_model.specs.declared.limits.TheConstants.{GREATEST_AMOUNT, GREATEST_HOLD, GREATEST_SCALE, LATEST, MOST_ARCS, MOST_SHIPMENTS, MOST_TERMINALS, MOST_TIMED_NODES, SCALE}
 use Rattle.fp_model.specs.declared.parts.Arc.{Arc}
 use Rattle.fp_model.specs.declared.parts.Shipment.{Shipment}
 use Rattle.fp_model.specs.Names.{IsName}
 
--- what is given: the terminals by their names, their holds, the arcs, the shipments, and the scale of prices
+-- what is given: the terminals by their names, their holds, the arcs, the shipments, and the scale
+-- of prices
 pub record Problem : Type 0 where
   pub terminals : List (List ℕ)
   pub holds : List ℕ
@@ -35,24 +38,25 @@ truck_cost arc size = arc.truck * div_ceil size arc.capacity
 abbrev pub alone_cost : ℕ → Arc → ℕ
 alone_cost size arc = arc.freight * size + truck_cost arc size
 
--- the sum, over every shipment and every arc, of what the shipment costs that goes over the arc alone
+-- the sum, over every shipment and every arc, of what the shipment costs that goes over the arc
+-- alone
 abbrev pub alone_total : List Arc → List Shipment → ℕ
 alone_total arcs shipments = sum_by (λ (s : Shipment). sum_by (alone_cost s.size) arcs) shipments
 
 -- the weight at a scale, which bounds every sum of prices
 abbrev pub weight_at : ℕ → List Arc → List Shipment → ℕ
-weight_at scale arcs shipments = scale * 65536 * alone_total arcs shipments
+weight_at scale arcs shipments = scale * MOST_TIMED_NODES * alone_total arcs shipments
 
 -- the weight of an instance, whatever its scale: the weight at 1,000,000
 abbrev pub weight : List Arc → List Shipment → ℕ
-weight arcs shipments = weight_at 1000000 arcs shipments
+weight arcs shipments = weight_at SCALE arcs shipments
 
 -- an arc's time, capacity and costs are within the limits
 pub record IsArcWithin (a : Arc) : Type 0 where
-  pub time : (1 ≤ a.time) × (a.time ≤ 100000)
-  pub capacity : (1 ≤ a.capacity) × (a.capacity ≤ 10 ^ 18)
-  pub truck : a.truck ≤ 10 ^ 18
-  pub freight : a.freight ≤ 10 ^ 18
+  pub time : (1 ≤ a.time) × (a.time ≤ LATEST)
+  pub capacity : (1 ≤ a.capacity) × (a.capacity ≤ GREATEST_AMOUNT)
+  pub truck : a.truck ≤ GREATEST_AMOUNT
+  pub freight : a.freight ≤ GREATEST_AMOUNT
 
 -- an arc within the limits, between two of so many terminals
 pub record IsArc (terminals : ℕ) (a : Arc) : Type 0 where
@@ -63,8 +67,8 @@ pub record IsArc (terminals : ℕ) (a : Arc) : Type 0 where
 
 -- a shipment's size and due time are within the limits
 pub record IsShipmentWithin (s : Shipment) : Type 0 where
-  pub size : (1 ≤ s.size) × (s.size ≤ 10 ^ 18)
-  pub due : s.due ≤ 100000
+  pub size : (1 ≤ s.size) × (s.size ≤ GREATEST_AMOUNT)
+  pub due : s.due ≤ LATEST
 
 -- a shipment within the limits, between two of so many terminals, released no later than it is due
 pub record IsShipment (terminals : ℕ) (s : Shipment) : Type 0 where
@@ -78,21 +82,26 @@ pub record IsShipment (terminals : ℕ) (s : Shipment) : Type 0 where
 abbrev pub EndsDiffer : Arc → Arc → Type 0
 EndsDiffer a b = a.from ≡ b.from → a.to ≢ b.to
 
--- every limit holds, there is one hold per terminal, names and ordered ends differ, and the weight and the scale are within their limits
-pub record IsValid (p : Problem) : Type 0 where
-  pub few_terminals : length p.terminals ≤ 100
-  pub few_arcs : length p.arcs ≤ 1000
-  pub few_shipments : length p.shipments ≤ 500
+-- the parts are sound in themselves: every limit on them holds, there is one hold per terminal, and
+-- names and ordered ends differ
+pub record HasSoundParts (p : Problem) : Type 0 where
+  pub few_terminals : length p.terminals ≤ MOST_TERMINALS
+  pub few_arcs : length p.arcs ≤ MOST_ARCS
+  pub few_shipments : length p.shipments ≤ MOST_SHIPMENTS
   pub names : All IsName p.terminals
   pub arcs : All (IsArc (length p.terminals)) p.arcs
   pub shipments : All (IsShipment (length p.terminals)) p.shipments
   pub terminals_differ : AllPairs (λ m n. m ≢ n) p.terminals
   pub arcs_differ : AllPairs EndsDiffer p.arcs
   pub shipments_differ : AllPairs (λ (s t : Shipment). s.name ≢ t.name) p.shipments
-  pub weight : weight p.arcs p.shipments < 2 ^ 127
   pub one_each : length p.holds ≡ length p.terminals
-  pub holds : All (λ h. h ≤ 1000) p.holds
-  pub scale : (1 ≤ p.scale) × (p.scale ≤ 10 ^ 9)
+  pub holds : All (λ h. h ≤ GREATEST_HOLD) p.holds
+
+-- the parts are sound, and the weight and the scale are within their limits
+pub record IsValid (p : Problem) : Type 0 where
+  pub parts : HasSoundParts p
+  pub weight : weight p.arcs p.shipments < 2 ^ 127
+  pub scale : (1 ≤ p.scale) × (p.scale ≤ GREATEST_SCALE)
   pub fits : weight_at p.scale p.arcs p.shipments < 2 ^ 127
 
 -- the greatest due time, 0 without shipments

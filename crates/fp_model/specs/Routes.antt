@@ -1,8 +1,11 @@
--- Where a shipment goes, and when. A plan over the denominator d has each leg leave at the moment `depart / d`.
--- The source of the problem: Boland, Hewitt, Marshall and Savelsbergh, "The Continuous-Time Service Network Design Problem",
--- Operations Research 65, 2017. The hold at a terminal is this project's own.
+-- Where a shipment goes, and when.
+-- A plan over the denominator d has each leg leave at the moment `depart / d`.
+-- The source of the problem: Boland, Hewitt, Marshall and Savelsbergh, "The Continuous-Time Service
+-- Network Design Problem", Operations Research 65, 2017. The hold at a terminal is this project's
+-- own.
 use Rattle.std.specs.Prelude.{ℕ, ◌+◌, ◌*◌, ◌<◌, ◌≤◌, ◌≡◌, ◌≢◌, List, [], ◌∷◌, length, map, All}
 use Rattle.std.specs.List.{AllByRecursion}
+use Rattle.fp_lists.specs.Distinct.{AreDistinct}
 use Rattle.fp_model.specs.declared.parts.Shipment.{Shipment}
 use Rattle.fp_model.specs.declared.parts.Leg.{Leg}
 use Rattle.fp_model.specs.Problem.{Problem, arc_at, hold_at}
@@ -17,18 +20,14 @@ Leads p here (a ∷ arcs) there =
 abbrev pub ends_of : Problem → List ℕ → List ℕ
 ends_of p arcs = map (λ a. (arc_at p a).to) arcs
 
--- no number stands twice in a list
-abbrev pub AreApart : List ℕ → Type 0
-AreApart [] = Unit {0}
-AreApart (x ∷ xs) = AllByRecursion (λ y. y ≢ x) xs × AreApart xs
-
 -- a route of a shipment: not empty, from its origin to its destination, and no terminal twice
 pub record IsRoute (p : Problem) (s : Shipment) (arcs : List ℕ) : Type 0 where
   pub some : arcs ≢ []
   pub leads : Leads p s.from arcs s.to
-  pub once : AreApart (s.from ∷ ends_of p arcs)
+  pub once : AreDistinct (s.from ∷ ends_of p arcs)
 
--- the step of an arc, its time and the hold of its head: so long after it left by the arc a shipment can leave the next terminal
+-- the step of an arc, its time and the hold of its head: so long after it left by the arc a
+-- shipment can leave the next terminal
 abbrev pub step : Problem → ℕ → ℕ
 step p a = (arc_at p a).time + hold_at p (arc_at p a).to
 
@@ -38,7 +37,8 @@ walk_time p [] = 0
 walk_time p (a ∷ []) = (arc_at p a).time
 walk_time p (a ∷ b ∷ arcs) = step p a + walk_time p (b ∷ arcs)
 
--- over the denominator d, the first leg leaves at `ready` or later, and each next one a step after the one before or later
+-- over the denominator d, the first leg leaves at `ready` or later, and each next one a step after
+-- the one before or later
 abbrev pub LeavesReady : Problem → ℕ → ℕ → List Leg → Type 0
 LeavesReady p d ready [] = Unit {0}
 LeavesReady p d ready (leg ∷ legs) =

@@ -1,11 +1,14 @@
+//! What a plan costs, and the loads and the trucks of its departures.
 ghost use Rattle.std.specs.Prelude.{ℕ, ◌≡◌, ◌+◌, ◌<◌, ◌≤◌, ◌^◌, length, All};
 ghost use Rattle.std.specs.declared.alloc.Global.{Global};
 ghost use Rattle.std.specs.declared.vec.Vec.{Vec};
-ghost use Rattle.fp_model.specs.Costs.{all_legs, cost as cost_of, cost_with, departure_cost, departures_cost, has_leg, lists_of, load as load_of, trucks as trucks_of};
+ghost use Rattle.fp_model.specs.Costs.{all_legs, cost as cost_of, cost_with, departure_cost, departures_cost, has_leg, load as load_of, trucks as trucks_of};
+ghost use Rattle.fp_lists.specs.Vectors.{lists_of};
 ghost use Rattle.fp_model.specs.Plans.{IsPlan};
 ghost use Rattle.fp_model.specs.Routes.{ArcsExist};
 
 use crate::instances::Instance;
+use crate::limits::MOST_SHIPMENTS;
 use crate::parts::{Leg, Shipment};
 use crate::plans::Plan;
 
@@ -31,7 +34,7 @@ fn any_goes_by(routes: &[Vec<Leg>], leg: Leg) -> bool
 // The sizes of the shipments whose routes have the leg.
 fn load_on(shipments: &[Shipment], routes: &[Vec<Leg>], leg: Leg) -> u128
     requires routes { length routes.now ≡ length shipments.now }
-    requires few { length shipments.now ≤ 500 }
+    requires few { length shipments.now ≤ MOST_SHIPMENTS }
     ensures { result ≡ load_of shipments.now (lists_of routes.now) leg }
 {
     let mut total: u128 = 0;
@@ -104,11 +107,13 @@ fn routes_cost(instance: &Instance, routes: &[Vec<Leg>]) -> u128
 
 /// What a plan costs: its trucks, counted once for each distinct departure, and its flow.
 ///
-/// The cost is below `2^127` at every plan. Takes no memory.
+/// The cost is below `2^127` at every plan. Takes no memory, so it looks at each pair of legs:
+/// `fp_timetable::cost` takes some, and time that grows with the legs but for a sort.
 pub fn cost(instance: &Instance, plan: &Plan) -> u128
     requires { IsPlan instance.now 1 plan.now }
     ensures { result ≡ cost_of instance.now plan.now }
 {
+    // An instance that was read is known to be valid, so its sums fit.
     let _known = instance.arcs();
     routes_cost(instance, plan.routes.as_slice())
 }

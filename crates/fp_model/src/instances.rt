@@ -1,8 +1,11 @@
+//! Instances: what a planner is given.
 ghost use Rattle.std.specs.Prelude.{ℕ, ◌≡◌, ◌<◌, ◌≤◌, ◌^◌, ◌↔◌, All, IfOk, IsTrue, length};
 ghost use Rattle.fp_model.specs.Numbered.{shipment_at};
+ghost use Rattle.fp_model.specs.Routes.{step};
 ghost use Rattle.fp_model.specs.Problem.{IsArcWithin, IsShipmentWithin, IsValid, arc_at, hold_at, horizon as horizon_of, weight_at};
 
 use crate::NoMemory;
+use crate::limits::{GREATEST_SCALE, LONGEST_STEP, MOST_TIMED_NODES, SCALE};
 use crate::names::Name;
 use crate::parts::{Arc, Shipment};
 use crate::weights::total_alone;
@@ -61,14 +64,14 @@ impl Instance {
           holds = holds.items;
           arcs = arcs.items;
           shipments = shipments.items;
-          scale = 1000000;
+          scale = SCALE;
         }) }
         ensures { result ≡ record {
           terminals = terminals.items;
           holds = holds.items;
           arcs = arcs.items;
           shipments = shipments.items;
-          scale = 1000000;
+          scale = SCALE;
         } }
     {
         Instance {
@@ -76,14 +79,14 @@ impl Instance {
             holds,
             arcs,
             shipments,
-            scale: 1_000_000,
+            scale: SCALE as u32,
         }
     }
 
     /// The same instance at another scale, 1 to 1,000,000,000, that fits it (`fits`). Takes no
     /// memory.
     pub fn with_scale(self, scale: u32) -> Instance
-        requires range { (1 ≤ scale) × (scale ≤ 10 ^ 9) }
+        requires range { (1 ≤ scale) × (scale ≤ GREATEST_SCALE) }
         requires fits { weight_at scale self.arcs self.shipments < 2 ^ 127 }
         ensures { result ≡ record self { scale = scale } }
     {
@@ -149,6 +152,18 @@ impl Instance {
         self.arcs()[number as usize]
     }
 
+    /// The step of the arc with a number: its travel time and the hold of its head. So long after
+    /// it left by the arc a shipment can leave the next terminal.
+    pub fn step(&self, arc: u32) -> u32
+        requires { arc < length self.now.arcs }
+        ensures same { result ≡ step self.now arc }
+        ensures short { result ≤ LONGEST_STEP }
+        ensures valid { IsValid self.now }
+    {
+        let taken = self.arc(arc);
+        taken.time + self.hold(taken.to)
+    }
+
     /// The shipments.
     pub fn shipments(&self) -> &[Shipment]
         ensures same { result.now ≡ self.now.shipments }
@@ -174,7 +189,7 @@ impl Instance {
         greatest_due(self.shipments())
     }
 
-    /// An equal instance, with its scale. Fails only where no memory is found.
+    /// An equal instance, with its scale. `NoMemory` only where no memory is found.
     pub fn copy(&self, alloc: Global) -> Result<Instance, NoMemory>
         ensures { IfOk result (λ i. i ≡ self.now) }
     {
@@ -200,10 +215,10 @@ impl Instance {
 fn scale_fits(scale: u32, arcs: &[Arc], shipments: &[Shipment]) -> bool
     requires arcs { All IsArcWithin arcs.now }
     requires shipments { All IsShipmentWithin shipments.now }
-    requires weight { weight_at 1000000 arcs.now shipments.now < 2 ^ 127 }
+    requires weight { weight_at SCALE arcs.now shipments.now < 2 ^ 127 }
     ensures { IsTrue result ↔ (weight_at scale arcs.now shipments.now < 2 ^ 127) }
 {
-    let price = u128::from(scale) * 65_536;
+    let price = u128::from(scale) * u128::from(MOST_TIMED_NODES);
     match total_alone(arcs, shipments) {
         Some(total) => match price.checked_mul(total) {
             Some(weight) => weight < 1 << 127,

@@ -9,6 +9,7 @@
 mod costs;
 mod faults;
 mod instances;
+pub mod limits;
 mod names;
 mod parts;
 mod plans;
@@ -18,13 +19,11 @@ mod weights;
 pub use costs::{cost, load, trucks};
 pub use faults::{PlanFault, PlanKind, test_plan};
 pub use instances::Instance;
+pub use limits::SCALE;
 pub use names::{Name, is_name};
 pub use parts::{Arc, Leg, Member, Shipment};
 pub use plans::Plan;
-pub use weights::{SCALE, weight};
+pub use weights::weight;
 
 /// The error of a call that finds no memory.
 pub type NoMemory = std::alloc::AllocError;
-
-#[cfg(test)]
-mod tests;

@@ -1,7 +1,9 @@
+//! Names of terminals and shipments.
 ghost use Rattle.std.specs.Prelude.{◌≡◌, ◌↔◌, IfOk, IsTrue};
 ghost use Rattle.fp_model.specs.Names.{IsName, is_name_byte};
 
 use crate::NoMemory;
+use crate::limits::LONGEST_NAME;
 use std::alloc::Global;
 use std::marker::Model;
 
@@ -16,7 +18,7 @@ fn is_name_byte(b: u8) -> bool
 pub fn is_name(bytes: &[u8]) -> bool
     ensures { IsTrue result ↔ IsName bytes.now }
 {
-    if bytes.is_empty() || bytes.len() > 32 {
+    if bytes.is_empty() || bytes.len() > LONGEST_NAME {
         return false;
     }
     bytes.iter().all(|b| is_name_byte(*b))
@@ -40,7 +42,7 @@ impl Model for Name {
 }
 
 impl Name {
-    /// The name of these bytes. Fails only where no memory is found.
+    /// The name of these bytes. `NoMemory` only where no memory is found.
     pub fn new(alloc: Global, bytes: &[u8]) -> Result<Name, NoMemory>
         requires { IsName bytes.now }
         ensures { IfOk result (λ name. name ≡ bytes.now) }
@@ -58,7 +60,7 @@ impl Name {
         &self.bytes
     }
 
-    /// An equal name. Fails only where no memory is found.
+    /// An equal name. `NoMemory` only where no memory is found.
     pub fn copy(&self, alloc: Global) -> Result<Name, NoMemory>
         ensures { IfOk result (λ name. name ≡ self.now) }
     {

@@ -1,3 +1,4 @@
+//! The parts of an instance and of a plan: arcs, shipments, legs, and what names a leg.
 ghost use Rattle.std.specs.Prelude.{◌≡◌, IfOk};
 
 use crate::NoMemory;

@@ -1,3 +1,4 @@
+//! Plans: for each shipment a list of legs.
 ghost use Rattle.std.specs.Prelude.{◌≡◌, IfOk};
 
 use crate::NoMemory;
@@ -18,7 +19,7 @@ pub struct Plan {
 impl Model for Plan {
     ghost use Rattle.std.specs.Prelude.{List};
     ghost use Rattle.fp_model.specs.declared.parts.Leg.{Leg};
-    ghost use Rattle.fp_model.specs.Costs.{lists_of};
+    ghost use Rattle.fp_lists.specs.Vectors.{lists_of};
 
     ghost Value = { List (List Leg) };
 
@@ -26,7 +27,7 @@ impl Model for Plan {
 }
 
 impl Plan {
-    /// An equal plan. Fails only where no memory is found.
+    /// An equal plan. `NoMemory` only where no memory is found.
     pub fn copy(&self, alloc: Global) -> Result<Plan, NoMemory>
         ensures { IfOk result (λ plan. plan ≡ self.now) }
     {

@@ -1,8 +1,8 @@
+//! What is wrong with a leg at its place in a route.
 ghost use Rattle.std.specs.Prelude.{ℕ, ◌≡◌, ◌+◌, ◌<◌, ◌≤◌, ◌^◌, ◌↔◌, IsTrue, length};
 ghost use Rattle.fp_model.specs.Faults.{ArrivesLate, BreaksOff, LeavesEarly, Returns, place_before as place_before_of};
 ghost use Rattle.fp_model.specs.Numbered.{leg_at};
 ghost use Rattle.fp_model.specs.Problem.{IsValid};
-ghost use Rattle.fp_model.specs.Routes.{step};
 
 use crate::instances::Instance;
 use crate::parts::{Leg, Shipment};
@@ -63,16 +63,6 @@ pub(crate) fn leaves_before_release(shipment: &Shipment, route: &[Leg], place: u
     place == 0 && route[place].depart < shipment.release
 }
 
-// How long after it left by an arc a shipment can leave the next terminal.
-fn step_of(instance: &Instance, number: u32) -> u64
-    requires { number < length instance.now.arcs }
-    ensures value { result ≡ step instance.now number }
-    ensures small { result < 2 ^ 33 }
-{
-    let arc = instance.arc(number);
-    u64::from(arc.time) + u64::from(instance.hold(arc.to))
-}
-
 // Whether the leg at a place leaves before its shipment can.
 pub(crate) fn leaves_early(instance: &Instance, route: &[Leg], place: usize) -> bool
     requires place { place < length route.now }
@@ -83,7 +73,7 @@ pub(crate) fn leaves_early(instance: &Instance, route: &[Leg], place: usize) -> 
         return false;
     }
     let last = &route[place - 1];
-    u64::from(route[place].depart) < u64::from(last.depart) + step_of(instance, last.arc)
+    u64::from(route[place].depart) < u64::from(last.depart) + u64::from(instance.step(last.arc))
 }
 
 // Whether the leg at a place is the last and arrives after the due time.

@@ -1,18 +1,17 @@
+//! The weight of an instance, which bounds every sum of prices.
 ghost use Rattle.std.specs.Prelude.{ℕ, ◌≡◌, ◌+◌, ◌*◌, ◌<◌, ◌≤◌, ◌^◌, ◌↔◌, All, IfSome, IsNone, sum_by};
 ghost use Rattle.fp_model.specs.Problem.{IsArcWithin, IsShipmentWithin, alone_cost, alone_total, weight as weight_of};
 
+use crate::limits::{GREATEST_AMOUNT, MOST_TIMED_NODES, SCALE};
 use crate::parts::{Arc, Shipment};
 
-/// The scale of prices of an instance for which no other was given.
-pub const SCALE: u128 = 1_000_000;
-
 // The greatest total whose weight is below 2^127.
-const MOST: u128 = 2_596_148_429_267_413_814_265_248_164;
+const MOST_ALONE: u128 = 2_596_148_429_267_413_814_265_248_164;
 
 // What a shipment of that size costs alone over an arc.
 fn alone(arc: &Arc, size: u64) -> u128
     requires arc { IsArcWithin arc.now }
-    requires size { size ≤ 10 ^ 18 }
+    requires size { size ≤ GREATEST_AMOUNT }
     ensures cost { result ≡ alone_cost size arc.now }
     ensures small { result ≤ 2 * 10 ^ 36 }
 {
@@ -24,16 +23,16 @@ fn alone(arc: &Arc, size: u64) -> u128
 // The total with a shipment of that size alone over every arc, or `None` where it is above the
 // most.
 fn with_alone(mut total: u128, arcs: &[Arc], size: u64) -> Option<u128>
-    requires total { total ≤ MOST }
+    requires total { total ≤ MOST_ALONE }
     requires arcs { All IsArcWithin arcs.now }
-    requires size { size ≤ 10 ^ 18 }
+    requires size { size ≤ GREATEST_AMOUNT }
     ensures sum { IfSome result (λ t. t ≡ total + sum_by (alone_cost size) arcs.now) }
-    ensures most { IfSome result (λ t. t ≤ MOST) }
-    ensures above { IsNone result → MOST < total + sum_by (alone_cost size) arcs.now }
+    ensures most { IfSome result (λ t. t ≤ MOST_ALONE) }
+    ensures above { IsNone result → MOST_ALONE < total + sum_by (alone_cost size) arcs.now }
 {
     for arc in arcs {
         total += alone(arc, size);
-        if total > MOST {
+        if total > MOST_ALONE {
             return None;
         }
     }
@@ -45,8 +44,8 @@ pub(crate) fn total_alone(arcs: &[Arc], shipments: &[Shipment]) -> Option<u128>
     requires arcs { All IsArcWithin arcs.now }
     requires shipments { All IsShipmentWithin shipments.now }
     ensures some { IfSome result (λ t. t ≡ alone_total arcs.now shipments.now) }
-    ensures most { IfSome result (λ t. t ≤ MOST) }
-    ensures none { IsNone result → MOST < alone_total arcs.now shipments.now }
+    ensures most { IfSome result (λ t. t ≤ MOST_ALONE) }
+    ensures none { IsNone result → MOST_ALONE < alone_total arcs.now shipments.now }
 {
     let mut total: u128 = 0;
     for shipment in shipments {
@@ -68,5 +67,5 @@ pub fn weight(arcs: &[Arc], shipments: &[Shipment]) -> Option<u128>
     ensures none { IsNone result ↔ (2 ^ 127 ≤ weight_of arcs.now shipments.now) }
 {
     let total = total_alone(arcs, shipments)?;
-    Some(SCALE * 65_536 * total)
+    Some(SCALE * u128::from(MOST_TIMED_NODES) * total)
 }

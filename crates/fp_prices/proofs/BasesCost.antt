@@ -5,6 +5,7 @@ use Rattle.std.specs.Int.{div_ceil}
 use Rattle.std.specs.List.{AllByRecursion}
 use Rattle.std.proofs.lemmas.Bool.{cases_Bool, cases_eq, cond-false, cond-true, false_from_ne_true, or_right}
 use Rattle.std.proofs.lemmas.List.Sums.{sum_by-cons}
+use Rattle.fp_lists.proofs.SumsBelow.{sum_below-same, sum_below-zero, sum_below-changed}
 use Rattle.fp_model.specs.declared.parts.Leg.{Leg}
 use Rattle.fp_model.specs.Costs.{all_legs, departure_cost, departures_cost, distinct, has_leg, load, same_leg}
 use Rattle.fp_model.specs.Problem.{Problem, arc_at}
@@ -15,32 +16,9 @@ use Rattle.fp_allowed.specs.Bits.{bit_of}
 use Rattle.fp_allowed.specs.Listing.{class_at}
 use Rattle.fp_allowed.proofs.ListedClasses.{class_at-number}
 use Rattle.fp_prices.specs.declared.bases.ForcedClasses.{ForcedClasses}
-use Rattle.fp_prices.specs.Forced.{AreForcedClasses, row_cost, sum_below, truck_cost_at}
+use Rattle.fp_prices.specs.Forced.{AreForcedClasses, row_cost, truck_cost_at}
+use Rattle.fp_lists.specs.Below.{sum_below}
 use Rattle.fp_prices.proofs.NumberedClasses.{number-class}
-
--- functions that agree below n have the same sum
-sum_below-same : (n : ℕ) (f g : ℕ → ℕ) → ((i : ℕ) → i < n → f i ≡ g i) → sum_below n f ≡ sum_below n g
-sum_below-same zero f g same = refl
-sum_below-same (suc n) f g same = omega (arith, same n (omega arith), sum_below-same n f g (λ i h. same i (omega arith)))
-
-sum_below-zero : (n : ℕ) → sum_below n (λ (i : ℕ). 0) ≡ 0
-sum_below-zero zero = refl
-sum_below-zero (suc n) = omega (arith, sum_below-zero n)
-
--- a function that gives something more at one number
-sum_below-changed : (n at : ℕ) (f g : ℕ → ℕ) → at < n → ((i : ℕ) → i < n → i ≢ at → g i ≡ f i) → f at ≡ 0 → sum_below n g ≡ sum_below n f + g at
-sum_below-changed zero at f g inside same none = absurd (omega arith)
-sum_below-changed (suc n) at f g inside same none =
-    ⊎_elim
-    (λ (here : at ≡ n).
-    let rest : sum_below n g ≡ sum_below n f = sum_below-same n g f (λ i h. same i (omega arith) (λ e. absurd (omega arith))) in
-    let last : f n ≡ 0 = subst (λ (m : ℕ). f m ≡ 0) here none in
-    let moved : g at ≡ g n = ap g here in
-    omega (arith, rest, last, moved))
-    (λ (other : at ≡ n → ⊥).
-    let rest : sum_below n g ≡ sum_below n f + g at = sum_below-changed n at f g (omega arith) (λ i h apart. same i (omega arith) apart) none in
-    omega (arith, rest, same n (omega arith) (λ e. other (sym e))))
-    (cases_eq at n)
 
 module _ (net : TimedNetwork) (valid : IsNetwork net) (cost : Leg → ℕ) where
   -- what the class with a number adds, where it is among legs

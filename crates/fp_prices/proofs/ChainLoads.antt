@@ -6,50 +6,21 @@ use Rattle.std.proofs.Math.Bool.{or-false}
 use Rattle.std.proofs.lemmas.Bool.{both_ways, cases_eq, cond-false, cond-true, eq-eqb, eqb-true, false_from_ne_true, ne_eqb, or_cases, or_right}
 use Rattle.std.proofs.lemmas.List.{get_or-set_other, get_or-set_same, length-set, take_more}
 use Rattle.std.proofs.lemmas.List.Folds.{list_any-append}
-use Rattle.fp_model.specs.Routes.{AreApart}
-use Rattle.fp_timenodes.specs.Floor.{has_point}
+use Rattle.fp_lists.proofs.Distinct.{list_has-take_distinct}
+use Rattle.fp_lists.proofs.Membership.{list_has-take_more}
+use Rattle.fp_lists.specs.Distinct.{AreDistinct}
+use Rattle.fp_lists.specs.Membership.{list_has}
 use Rattle.fp_allowed.specs.Bits.{bit_of}
 
 -- loads and bits with those of the classes with some numbers added
 pub record AreAdded (size : ℕ) (numbers : List ℕ) (old_loads now_loads : List ℕ) (old_row now_row : List Bool) : Type 0 where
   pub loads_long : length now_loads ≡ length old_loads
   pub row_long : length now_row ≡ length old_row
-  pub loads : (n : ℕ) → get_or now_loads n 0 ≡ get_or old_loads n 0 + (if has_point numbers n then size else 0)
-  pub told : (n : ℕ) → bit_of now_row n ≡ (bit_of old_row n || has_point numbers n)
-
-pub added_none : (size : ℕ) (loads : List ℕ) (row : List Bool) → AreAdded size [] loads loads row row
-added_none size loads row = record { loads_long = refl; row_long = refl; loads = λ n. omega arith; told = λ n. sym (or-false (bit_of row n)) }
-
--- a number that isn't among others
-not-among : (x : ℕ) (numbers : List ℕ) → AllByRecursion (λ y. y ≢ x) numbers → has_point numbers x ≡ false
-not-among x [] others = refl
-not-among x (y ∷ numbers) others = false_from_ne_true (has_point (y ∷ numbers) x) (λ is.
-    ⊎_elim (λ (here : nat_eq y x ≡ true). others.0 (eqb-true y x here)) (λ (later : has_point numbers x ≡ true). both_ways (has_point numbers x) (not-among x numbers others.1) later)
-    (or_cases (nat_eq y x) (has_point numbers x) is))
-
--- among numbers that are apart none stands before itself
-apart-before : (numbers : List ℕ) (i : ℕ) → AreApart numbers → i < length numbers → has_point (take i numbers) (get_or numbers i 0) ≡ false
-apart-before [] i apart inside = absurd (omega arith)
-apart-before (x ∷ numbers) zero apart inside = refl
-apart-before (x ∷ numbers) (suc i) apart inside = false_from_ne_true (has_point (take (suc i) (x ∷ numbers)) (get_or numbers i 0)) (λ is.
-    ⊎_elim
-    (λ (here : nat_eq x (get_or numbers i 0) ≡ true). other numbers i apart.0 (omega arith) (sym (eqb-true x (get_or numbers i 0) here)))
-    (λ (later : has_point (take i numbers) (get_or numbers i 0) ≡ true). both_ways (has_point (take i numbers) (get_or numbers i 0)) (apart-before numbers i apart.1 (omega arith)) later)
-    (or_cases (nat_eq x (get_or numbers i 0)) (has_point (take i numbers) (get_or numbers i 0)) is))
-  where
-    other : (ys : List ℕ) (k : ℕ) → AllByRecursion (λ y. y ≢ x) ys → k < length ys → get_or ys k 0 ≡ x → ⊥
-    other [] k others h = absurd (omega arith)
-    other (y ∷ ys) zero others h = others.0
-    other (y ∷ ys) (suc k) others h = other ys k others.1 (omega arith)
-
--- whether a number is among some and one more
-has-more : (numbers : List ℕ) (i n : ℕ) → i < length numbers → has_point (take (i + 1) numbers) n ≡ (has_point (take i numbers) n || nat_eq (get_or numbers i 0) n)
-has-more numbers i n inside =
-    ap (λ (l : List ℕ). has_point l n) (take_more numbers i 0 inside) ∙ list_any-append (λ q. nat_eq q n) (take i numbers) (get_or numbers i 0 ∷ []) ∙
-    ap (λ (b : Bool). has_point (take i numbers) n || b) (or-false (nat_eq (get_or numbers i 0) n))
+  pub loads : (n : ℕ) → get_or now_loads n 0 ≡ get_or old_loads n 0 + (if list_has numbers n then size else 0)
+  pub told : (n : ℕ) → bit_of now_row n ≡ (bit_of old_row n || list_has numbers n)
 
 -- one more class of a chain
-pub added_more : (size : ℕ) (numbers : List ℕ) (i x load : ℕ) (loads now : List ℕ) (row bits : List Bool) → AreApart numbers → i < length numbers → x ≡ get_or numbers i 0 → x < length loads → x < length row →
+pub added_more : (size : ℕ) (numbers : List ℕ) (i x load : ℕ) (loads now : List ℕ) (row bits : List Bool) → AreDistinct numbers → i < length numbers → x ≡ get_or numbers i 0 → x < length loads → x < length row →
     AreAdded size (take i numbers) loads now row bits → load ≡ get_or now x 0 + size → AreAdded size (take (i + 1) numbers) loads (set now x load) row (set bits x true)
 added_more size numbers i x load loads now row bits apart inside x_is in_loads in_row so_far load_is = record {
   loads_long = length-set now x load ∙ so_far.loads_long;
@@ -57,11 +28,11 @@ added_more size numbers i x load loads now row bits apart inside x_is in_loads i
   loads = λ n.
       ⊎_elim
       (λ (here : x ≡ n).
-      let none : has_point (take i numbers) x ≡ false = ap (has_point (take i numbers)) x_is ∙ apart-before numbers i apart inside in
-      let old : get_or now x 0 ≡ get_or loads x 0 = so_far.loads x ∙ (let e : get_or loads x 0 + (if has_point (take i numbers) x then size else 0) ≡ get_or loads x 0 = omega (arith, cond-false {A = ℕ} (has_point (take i numbers) x) size 0 none) in e) in
-      let told : has_point (take (i + 1) numbers) x ≡ true = more x ∙ or_right (has_point (take i numbers) x) (nat_eq x x) (eq-eqb x x refl) in
-      subst (λ (m : ℕ). get_or (set now x load) m 0 ≡ get_or loads m 0 + (if has_point (take (i + 1) numbers) m then size else 0)) here
-      (omega (arith, get_or-set_same now x load 0 (omega (arith, in_loads, so_far.loads_long)), load_is, old, cond-true {A = ℕ} (has_point (take (i + 1) numbers) x) size 0 told)))
+      let none : list_has (take i numbers) x ≡ false = ap (list_has (take i numbers)) x_is ∙ list_has-take_distinct numbers i apart inside in
+      let old : get_or now x 0 ≡ get_or loads x 0 = so_far.loads x ∙ (let e : get_or loads x 0 + (if list_has (take i numbers) x then size else 0) ≡ get_or loads x 0 = omega (arith, cond-false {A = ℕ} (list_has (take i numbers) x) size 0 none) in e) in
+      let told : list_has (take (i + 1) numbers) x ≡ true = more x ∙ or_right (list_has (take i numbers) x) (nat_eq x x) (eq-eqb x x refl) in
+      subst (λ (m : ℕ). get_or (set now x load) m 0 ≡ get_or loads m 0 + (if list_has (take (i + 1) numbers) m then size else 0)) here
+      (omega (arith, get_or-set_same now x load 0 (omega (arith, in_loads, so_far.loads_long)), load_is, old, cond-true {A = ℕ} (list_has (take (i + 1) numbers) x) size 0 told)))
       (λ (other : x ≡ n → ⊥).
       let kept : get_or (set now x load) n 0 ≡ get_or now n 0 = get_or-set_other now x n load 0 (λ e. other (sym e)) in
       kept ∙ so_far.loads n ∙ ap (λ (b : Bool). get_or loads n 0 + (if b then size else 0)) (sym (same n other)))
@@ -69,23 +40,23 @@ added_more size numbers i x load loads now row bits apart inside x_is in_loads i
   told = λ n.
       ⊎_elim
       (λ (here : x ≡ n).
-      let told : has_point (take (i + 1) numbers) x ≡ true = more x ∙ or_right (has_point (take i numbers) x) (nat_eq x x) (eq-eqb x x refl) in
-      subst (λ (m : ℕ). bit_of (set bits x true) m ≡ (bit_of row m || has_point (take (i + 1) numbers) m)) here
-      (get_or-set_same bits x true false (omega (arith, in_row, so_far.row_long)) ∙ sym (or_right (bit_of row x) (has_point (take (i + 1) numbers) x) told)))
+      let told : list_has (take (i + 1) numbers) x ≡ true = more x ∙ or_right (list_has (take i numbers) x) (nat_eq x x) (eq-eqb x x refl) in
+      subst (λ (m : ℕ). bit_of (set bits x true) m ≡ (bit_of row m || list_has (take (i + 1) numbers) m)) here
+      (get_or-set_same bits x true false (omega (arith, in_row, so_far.row_long)) ∙ sym (or_right (bit_of row x) (list_has (take (i + 1) numbers) x) told)))
       (λ (other : x ≡ n → ⊥).
       get_or-set_other bits x n true false (λ e. other (sym e)) ∙ so_far.told n ∙ ap (λ (b : Bool). bit_of row n || b) (sym (same n other)))
       (cases_eq x n);
 }
   where
-    more : (n : ℕ) → has_point (take (i + 1) numbers) n ≡ (has_point (take i numbers) n || nat_eq x n)
-    more n = has-more numbers i n inside ∙ ap (λ (m : ℕ). has_point (take i numbers) n || nat_eq m n) (sym x_is)
+    more : (n : ℕ) → list_has (take (i + 1) numbers) n ≡ (list_has (take i numbers) n || nat_eq x n)
+    more n = list_has-take_more numbers i n inside ∙ ap (λ (m : ℕ). list_has (take i numbers) n || nat_eq m n) (sym x_is)
 
-    same : (n : ℕ) → (x ≡ n → ⊥) → has_point (take (i + 1) numbers) n ≡ has_point (take i numbers) n
-    same n other = more n ∙ ap (λ (b : Bool). has_point (take i numbers) n || b) (ne_eqb x n other) ∙ or-false (has_point (take i numbers) n)
+    same : (n : ℕ) → (x ≡ n → ⊥) → list_has (take (i + 1) numbers) n ≡ list_has (take i numbers) n
+    same n other = more n ∙ ap (λ (b : Bool). list_has (take i numbers) n || b) (ne_eqb x n other) ∙ or-false (list_has (take i numbers) n)
 
 -- before a class of a chain is added it has its old load
-pub added_before : (size : ℕ) (numbers : List ℕ) (i : ℕ) (loads now : List ℕ) (row bits : List Bool) → AreApart numbers → i < length numbers → AreAdded size (take i numbers) loads now row bits →
+pub added_before : (size : ℕ) (numbers : List ℕ) (i : ℕ) (loads now : List ℕ) (row bits : List Bool) → AreDistinct numbers → i < length numbers → AreAdded size (take i numbers) loads now row bits →
     get_or now (get_or numbers i 0) 0 ≡ get_or loads (get_or numbers i 0) 0
 added_before size numbers i loads now row bits apart inside so_far =
     let x : ℕ = get_or numbers i 0 in
-    so_far.loads x ∙ (let e : get_or loads x 0 + (if has_point (take i numbers) x then size else 0) ≡ get_or loads x 0 = omega (arith, cond-false {A = ℕ} (has_point (take i numbers) x) size 0 (apart-before numbers i apart inside)) in e)
+    so_far.loads x ∙ (let e : get_or loads x 0 + (if list_has (take i numbers) x then size else 0) ≡ get_or loads x 0 = omega (arith, cond-false {A = ℕ} (list_has (take i numbers) x) size 0 (list_has-take_distinct numbers i apart inside)) in e)

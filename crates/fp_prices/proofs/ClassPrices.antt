@@ -5,21 +5,22 @@ use Rattle.std.specs.List.{AllByRecursion, AllZip}
 use Rattle.std.specs.Int.{div_ceil}
 use Rattle.std.proofs.Math.Nat.{mul-le-mul_left}
 use Rattle.std.proofs.lemmas.Bool.{cases_Bool, cond-true, cond-false, and_parts, eqb-true}
+use Rattle.fp_lists.proofs.Elements.{AllByRecursion-get_or_default}
 use Rattle.fp_model.specs.declared.parts.Arc.{Arc}
 use Rattle.fp_model.specs.declared.parts.Leg.{Leg}
 use Rattle.fp_model.specs.declared.parts.Shipment.{Shipment}
 use Rattle.fp_model.specs.Problem.{Problem, arc_at, truck_cost}
-use Rattle.fp_model.specs.Routes.{AreApart}
+use Rattle.fp_lists.specs.Distinct.{AreDistinct}
 use Rattle.fp_model.specs.Costs.{has_leg, all_legs, load}
 use Rattle.fp_model.proofs.Bounds.{departure_of, load-outside}
-use Rattle.fp_model.proofs.Ceilings.{div_ceil-zero}
-use Rattle.fp_model.proofs.Sums.{same_sum}
+use Rattle.fp_lists.proofs.Ceilings.{div_ceil-zero}
+use Rattle.fp_lists.proofs.Sums.{sum_by-same, sum_by-const}
 use Rattle.fp_prices.specs.declared.leaf_prices.Kind.{Kind}
 use Rattle.fp_prices.specs.declared.leaf_prices.Kind.TheVariants.{Linear, Even, Table}
 use Rattle.fp_prices.specs.Shares.{ClassShare}
 use Rattle.fp_prices.specs.Prices.{KeepsRule, AllKeepRule, share_for, table_at, table_price, truck_price, allowed_count, allowed_size}
 use Rattle.fp_prices.specs.Leaves.{leaf_price}
-use Rattle.fp_prices.proofs.SetPrices.{sum_by-const, linear-fits, even-fits, share-fits}
+use Rattle.fp_prices.proofs.SetPrices.{linear-fits, even-fits, share-fits}
 use Rattle.fp_prices.proofs.TakenByClasses.{users}
 use Rattle.fp_prices.proofs.Users.{AgreesFrom, users-size, users-apart, users-none, load-some}
 use Rattle.fp_prices.proofs.ForcedClasses.{AreAmong, base-le}
@@ -28,14 +29,8 @@ use Rattle.fp_prices.proofs.ForcedClasses.{AreAmong, base-le}
 abbrev pub TableKeepsRule : Problem → List ClassShare → Type 0
 TableKeepsRule p table = AllByRecursion (λ (share : ClassShare). KeepsRule p.scale (arc_at p share.arc) share) table
 
--- what holds of each element and of what stands for a missing one holds at every number
-pub each-at : {X : Type 0} (P : X → Type 0) (xs : List X) (i : ℕ) (d : X) → AllByRecursion P xs → P d → P (slice_index_or xs i d)
-each-at P [] i d all default = default
-each-at P (x ∷ xs) zero d all default = all.0
-each-at P (x ∷ xs) (suc i) d all default = each-at P xs i d all.1 default
-
 -- the share of a class, if there is one, keeps the price rule of the class's arc
-pub share-keeps : (p : Problem) (table : List ClassShare) (c : Leg) → TableKeepsRule p table →
+share-keeps : (p : Problem) (table : List ClassShare) (c : Leg) → TableKeepsRule p table →
     MatchOption (share_for table c) (Unit {0}) (KeepsRule p.scale (arc_at p c.arc))
 share-keeps p [] c keep = tt
 share-keeps p (share ∷ table) c keep =
@@ -49,13 +44,13 @@ share-keeps p (share ∷ table) c keep =
     (cases_Bool test)
 
 -- so it is in the table with a number
-pub share-at-keeps : (p : Problem) (tables : List (List ClassShare)) (id : ℕ) (c : Leg) → AllKeepRule p tables →
+share-at-keeps : (p : Problem) (tables : List (List ClassShare)) (id : ℕ) (c : Leg) → AllKeepRule p tables →
     MatchOption (share_for (table_at tables id) c) (Unit {0}) (KeepsRule p.scale (arc_at p c.arc))
-share-at-keeps p tables id c keep = share-keeps p (table_at tables id) c (each-at (TableKeepsRule p) tables (id - 1) [] keep tt)
+share-at-keeps p tables id c keep = share-keeps p (table_at tables id) c (AllByRecursion-get_or_default (TableKeepsRule p) tables (id - 1) [] keep tt)
 
 -- different shipments pay at most for the trucks that they need
 pub trucks-fit : (p : Problem) (tables : List (List ClassShare)) (allowed : ℕ → Leg → Bool) (kind : Kind) (c : Leg) (size : ℕ → ℕ) (set : List ℕ) → AllKeepRule p tables →
-    0 < (arc_at p c.arc).capacity → AreApart set → 0 < sum_by size set → length set ≤ allowed_count (λ j. allowed j c) 0 p.shipments →
+    0 < (arc_at p c.arc).capacity → AreDistinct set → 0 < sum_by size set → length set ≤ allowed_count (λ j. allowed j c) 0 p.shipments →
     sum_by (λ k. truck_price p tables allowed kind c k (size k)) set ≤ p.scale * truck_cost (arc_at p c.arc) (sum_by size set)
 trucks-fit p tables allowed Linear c size set keep h apart some few = linear-fits p.scale (arc_at p c.arc) size set h
 trucks-fit p tables allowed Even c size set keep h apart some few =
@@ -112,10 +107,10 @@ class-fits p tables allowed kind size chains walks c keep are =
     (λ (forced : has_leg c (all_legs chains) ≡ true).
     let base : p.scale * departure_of p p.shipments chains c ≤ p.scale * departure_of p p.shipments walks c =
     mul-le-mul_left p.scale (base-le p p.shipments chains walks c are.among) in
-    let free : sum_by of_leaf set ≡ sum_by (λ (k : ℕ). 0) set = same_sum of_leaf (λ (k : ℕ). 0) (λ k. cond-true (has_leg c (all_legs chains)) 0 (of_trucks k) forced) set in
+    let free : sum_by of_leaf set ≡ sum_by (λ (k : ℕ). 0) set = sum_by-same of_leaf (λ (k : ℕ). 0) (λ k. cond-true (has_leg c (all_legs chains)) 0 (of_trucks k) forced) set in
     omega (arith, base, free, sum_by-const 0 set))
     (λ (not_forced : has_leg c (all_legs chains) ≡ false).
-    let priced : sum_by of_leaf set ≡ sum_by of_trucks set = same_sum of_leaf of_trucks (λ k. cond-false (has_leg c (all_legs chains)) 0 (of_trucks k) not_forced) set in
+    let priced : sum_by of_leaf set ≡ sum_by of_trucks set = sum_by-same of_leaf of_trucks (λ k. cond-false (has_leg c (all_legs chains)) 0 (of_trucks k) not_forced) set in
     let none : p.scale * departure_of p p.shipments chains c ≡ p.scale * 0 = ap (λ (n : ℕ). p.scale * n) (no-base p p.shipments chains c not_forced) in
     omega (arith, priced, none, users-fit p tables allowed kind size chains walks c keep are))
     (cases_Bool (has_leg c (all_legs chains)))

@@ -10,7 +10,7 @@ use Rattle.fp_model.specs.Problem.{Problem, arc_at}
 use Rattle.fp_model.specs.Routes.{Leads, arcs_of}
 use Rattle.fp_model.specs.Costs.{same_leg, has_leg, load}
 use Rattle.fp_model.proofs.Bounds.{departure_of}
-use Rattle.fp_model.proofs.Ceilings.{div_ceil-mono}
+use Rattle.fp_lists.proofs.Ceilings.{div_ceil_mono}
 use Rattle.fp_allowed.specs.Allowed.{AreForced}
 use Rattle.fp_prices.specs.Leaves.{IsChain}
 
@@ -19,7 +19,7 @@ abbrev pub AreAmong : List Leg → List Leg → Type 0
 AreAmong chain walk = (c : Leg) → has_leg c chain ≡ true → has_leg c walk ≡ true
 
 -- each walk that leads on by allowed classes has the forced ones
-pub forced-among : (p : Problem) (allowed : Leg → Bool) (there : ℕ) (met : List ℕ) (here : ℕ) (chain walk : List Leg) → AreForced p allowed there met here chain →
+forced-among : (p : Problem) (allowed : Leg → Bool) (there : ℕ) (met : List ℕ) (here : ℕ) (chain walk : List Leg) → AreForced p allowed there met here chain →
     Leads p here (arcs_of walk) there → AllByRecursion (λ c. allowed c ≡ true) walk → AreAmong chain walk
 forced-among p allowed there met here [] walk forced leads all c h = absurd (false≢true h)
 forced-among p allowed there met here (f ∷ chain) [] forced leads all c h = absurd (forced.0 leads)
@@ -39,7 +39,7 @@ chain-among p allowed true s chain walk is leads all = forced-among p allowed s.
 chain-among p allowed false s chain walk is leads all = λ c h. absurd (false≢true (subst (λ (legs : List Leg). has_leg c legs ≡ true) is h))
 
 -- chains load a class no more than the walks that have them
-pub load-among : (shipments : List Shipment) (chains walks : List (List Leg)) (c : Leg) → AllZip AreAmong chains walks → load shipments chains c ≤ load shipments walks c
+load-among : (shipments : List Shipment) (chains walks : List (List Leg)) (c : Leg) → AllZip AreAmong chains walks → load shipments chains c ≤ load shipments walks c
 load-among [] chains walks c among = omega arith
 load-among (s ∷ shipments) [] walks c among = omega arith
 load-among (s ∷ shipments) (chain ∷ chains) [] c among = absurd among
@@ -55,4 +55,4 @@ pub base-le : (p : Problem) (shipments : List Shipment) (chains walks : List (Li
     departure_of p shipments chains c ≤ departure_of p shipments walks c
 base-le p shipments chains walks c among =
     let arc : Arc = arc_at p c.arc in
-    mul-le-mul_left arc.truck (div_ceil-mono (load shipments chains c) (load shipments walks c) arc.capacity (load-among shipments chains walks c among))
+    mul-le-mul_left arc.truck (div_ceil_mono (load shipments chains c) (load shipments walks c) arc.capacity (load-among shipments chains walks c among))

@@ -8,14 +8,17 @@ use Rattle.std.proofs.lemmas.Bool.{cases_eq, cases_lt, eq-eqb, false_from_ne_tru
 use Rattle.std.proofs.lemmas.List.{get_or-replicate, get_or_past, length-append, length-replicate, length-take, take_all, take_more}
 use Rattle.std.proofs.lemmas.List.Elements.{recursion_from_All}
 use Rattle.std.proofs.lemmas.List.Folds.{list_any-append}
+use Rattle.fp_lists.proofs.Numbered.{AllZipFrom-push}
 use Rattle.fp_model.specs.declared.parts.Leg.{Leg}
 use Rattle.fp_model.specs.declared.parts.Shipment.{Shipment}
 use Rattle.fp_model.specs.Costs.{all_legs, has_leg, load, same_leg}
-use Rattle.fp_model.specs.Numbered.{AllZipFrom, no_shipment, shipment_at}
-use Rattle.fp_model.specs.Routes.{AreApart, arcs_of}
-use Rattle.fp_model.proofs.Bounds.{AreApart-map}
+use Rattle.fp_model.specs.Numbered.{no_shipment, shipment_at}
+use Rattle.fp_lists.specs.Numbered.{AllZipFrom}
+use Rattle.fp_model.specs.Routes.{arcs_of}
+use Rattle.fp_lists.specs.Distinct.{AreDistinct}
+use Rattle.fp_lists.proofs.Distinct.{AreDistinct-from_map}
 use Rattle.fp_model.proofs.Distinct.{same_leg-refl, same_leg-true}
-use Rattle.fp_timenodes.specs.Floor.{has_point}
+use Rattle.fp_lists.specs.Membership.{list_has}
 use Rattle.fp_flatnet.specs.Tables.{windows_in}
 use Rattle.fp_longestarcs.specs.Networks.{IsClass, IsNetwork, TimedNetwork, class_count, class_number, points_in}
 use Rattle.fp_tree.specs.declared.sides.Side.{Side}
@@ -25,22 +28,13 @@ use Rattle.fp_allowed.specs.Chains.{IsForced}
 use Rattle.fp_allowed.specs.ForcedChains.{ForcedChain}
 use Rattle.fp_allowed.specs.Listing.{class_at, classes_at}
 use Rattle.fp_allowed.specs.Settings.{Setting}
-use Rattle.fp_allowed.proofs.AllowedClasses.{is_allowed-parts}
+use Rattle.fp_allowed.proofs.AllowedClasses.{is_allowed_parts}
 use Rattle.fp_allowed.proofs.ListedClasses.{class_at-number}
 use Rattle.fp_prices.specs.declared.bases.ForcedClasses.{ForcedClasses}
 use Rattle.fp_prices.specs.Forced.{AreForcedOf, AreRowsUnder}
 use Rattle.fp_prices.specs.Leaves.{IsChain}
 use Rattle.fp_prices.proofs.NumberedClasses.{number-class}
 use Rattle.fp_prices.proofs.SmallBounds.{chain-arcs}
-
--- one more element at the end of both lists
-pub zip-push : {X Y : Type 0} (Q : ℕ → X → Y → Type 0) (i : ℕ) (xs : List X) (ys : List Y) (x : X) (y : Y) → AllZipFrom Q i xs ys → Q (i + length xs) x y → AllZipFrom Q i (xs ++ (x ∷ [])) (ys ++ (y ∷ []))
-zip-push Q i [] [] x y all one = let e : i + 0 ≡ i = omega arith in (subst (λ (n : ℕ). Q n x y) e one, tt)
-zip-push Q i [] (z ∷ ys) x y all one = absurd all
-zip-push Q i (z ∷ xs) [] x y all one = absurd all
-zip-push Q i (z ∷ xs) (w ∷ ys) x y all one =
-    let e : i + suc (length xs) ≡ i + 1 + length xs = omega arith in
-    (all.0, zip-push Q (i + 1) xs ys x y all.1 (subst (λ (n : ℕ). Q n x y) e one))
 
 -- a load with one more chain
 load-push : (shipments : List Shipment) (chains : List (List Leg)) (s : Shipment) (chain : List Leg) (c : Leg) → length chains ≡ length shipments →
@@ -83,7 +77,7 @@ legs-all-push P (x ∷ chains) chain all one = append-all x (all_legs (chains ++
     back (y ∷ xs) a = back xs a.1
 
 -- a class is among the classes with some numbers where its number is among them
-has-number : (net : TimedNetwork) (numbers : List ℕ) (c : Leg) → IsNetwork net → IsClass net c → All (λ n. n < class_count net) numbers → has_leg c (classes_at net numbers) ≡ has_point numbers (class_number net c)
+has-number : (net : TimedNetwork) (numbers : List ℕ) (c : Leg) → IsNetwork net → IsClass net c → All (λ n. n < class_count net) numbers → has_leg c (classes_at net numbers) ≡ list_has numbers (class_number net c)
 has-number net numbers c valid is within = go numbers (recursion_from_All (λ n. n < class_count net) numbers within)
   where
     one : (n : ℕ) → n < class_count net → same_leg c (class_at net n) ≡ nat_eq n (class_number net c)
@@ -97,7 +91,7 @@ has-number net numbers c valid is within = go numbers (recursion_from_All (λ n.
         false_from_ne_true (same_leg c (class_at net n)) (λ t. other (sym at.1 ∙ ap (class_number net) (sym (same_leg-true c (class_at net n) t)))) ∙ sym (ne_eqb n (class_number net c) other))
         (cases_eq n (class_number net c))
 
-    go : (ns : List ℕ) → AllByRecursion (λ n. n < class_count net) ns → has_leg c (classes_at net ns) ≡ has_point ns (class_number net c)
+    go : (ns : List ℕ) → AllByRecursion (λ n. n < class_count net) ns → has_leg c (classes_at net ns) ≡ list_has ns (class_number net c)
     go [] all = refl
     go (n ∷ ns) all = ap (λ (b : Bool). b || has_leg c (classes_at net ns)) (one n all.0) ∙ ap (λ (b : Bool). nat_eq n (class_number net c) || b) (go ns all.1)
 
@@ -119,14 +113,14 @@ pub record ForcedSoFar (s : Setting) (rows : List (List Bool)) (i : ℕ) (forced
   pub told : (c : Leg) → IsClass s.network c → bit_of forced.row (class_number s.network c) ≡ has_leg c (all_legs chains)
 
 -- what no chain loads
-pub record AreBare (s : Setting) (forced : ForcedClasses) : Type 0 where
+pub record AreUnloaded (s : Setting) (forced : ForcedClasses) : Type 0 where
   pub loads_long : length forced.loads.items ≡ class_count s.network
   pub row_long : length forced.row ≡ class_count s.network
   pub loads : (n : ℕ) → get_or forced.loads.items n 0 ≡ 0
   pub told : (n : ℕ) → bit_of forced.row n ≡ false
 
-pub bare : (s : Setting) (forced : ForcedClasses) → forced.loads.items ≡ replicate (class_count s.network) 0 → forced.row ≡ replicate (class_count s.network) false → AreBare s forced
-bare s forced loads_are row_is = record {
+AreUnloaded-replicate : (s : Setting) (forced : ForcedClasses) → forced.loads.items ≡ replicate (class_count s.network) 0 → forced.row ≡ replicate (class_count s.network) false → AreUnloaded s forced
+AreUnloaded-replicate s forced loads_are row_is = record {
   loads_long = ap (λ (l : List ℕ). length l) loads_are ∙ length-replicate {A = ℕ} (class_count s.network) 0;
   row_long = ap (λ (l : List Bool). length l) row_is ∙ length-replicate (class_count s.network) false;
   loads = λ n. ap (λ (l : List ℕ). get_or l n 0) loads_are ∙ zeros (class_count s.network) n 0 refl;
@@ -144,7 +138,7 @@ bare s forced loads_are row_is = record {
 -- at first there is none
 pub so_far_none : (s : Setting) (rows : List (List Bool)) (forced : ForcedClasses) → forced.loads.items ≡ replicate (class_count s.network) 0 → forced.row ≡ replicate (class_count s.network) false → ForcedSoFar s rows 0 forced
 so_far_none s rows forced loads_are row_is =
-    let none = bare s forced loads_are row_is in
+    let none = AreUnloaded-replicate s forced loads_are row_is in
     record {
       chains = [];
       long = refl;
@@ -160,12 +154,12 @@ so_far_none s rows forced loads_are row_is =
     }
 
 -- the numbers of a forced chain are apart
-pub numbers-apart : (s : Setting) (sides : List Side) (k : ℕ) (chain : ForcedChain) → IsForced s.problem s.network (allowed_in s sides k) (shipment_at s.problem k) chain → AreApart chain.classes
+pub numbers-apart : (s : Setting) (sides : List Side) (k : ℕ) (chain : ForcedChain) → IsForced s.problem s.network (allowed_in s sides k) (shipment_at s.problem k) chain → AreDistinct chain.classes
 numbers-apart s sides k chain is =
     let arc : ℕ → ℕ = λ n. (class_at s.network n).arc in
-    let apart : AreApart (arcs_of (classes_at s.network chain.classes)) =
-    (chain-arcs s.problem (allowed_in s sides k) true (shipment_at s.problem k) (classes_at s.network chain.classes) (λ c h. (is_allowed-parts s.problem (windows_in s.windows) (points_in s.network) sides k c h).0) is.forced).1 in
-    AreApart-map arc chain.classes (subst AreApart (joined chain.classes) apart)
+    let apart : AreDistinct (arcs_of (classes_at s.network chain.classes)) =
+    (chain-arcs s.problem (allowed_in s sides k) true (shipment_at s.problem k) (classes_at s.network chain.classes) (λ c h. (is_allowed_parts s.problem (windows_in s.windows) (points_in s.network) sides k c h).0) is.forced).1 in
+    AreDistinct-from_map arc chain.classes (subst AreDistinct (joined chain.classes) apart)
   where
     joined : (numbers : List ℕ) → arcs_of (classes_at s.network numbers) ≡ map (λ n. (class_at s.network n).arc) numbers
     joined [] = refl
@@ -176,14 +170,14 @@ pub so_far_more : (s : Setting) (rows : List (List Bool)) (i : ℕ) (old new : F
     ForcedSoFar s rows i old → All (λ n. n < class_count s.network) numbers →
     ((sides : List Side) → AreRowsUnder s sides rows → IsForcedChain s.problem (allowed_in s sides i) (shipment_at s.problem i) (classes_at s.network numbers)) →
     length new.loads.items ≡ length old.loads.items → length new.row ≡ length old.row →
-    ((n : ℕ) → get_or new.loads.items n 0 ≡ get_or old.loads.items n 0 + (if has_point numbers n then (shipment_at s.problem i).size else 0)) →
-    ((n : ℕ) → bit_of new.row n ≡ (bit_of old.row n || has_point numbers n)) → ForcedSoFar s rows (i + 1) new
+    ((n : ℕ) → get_or new.loads.items n 0 ≡ get_or old.loads.items n 0 + (if list_has numbers n then (shipment_at s.problem i).size else 0)) →
+    ((n : ℕ) → bit_of new.row n ≡ (bit_of old.row n || list_has numbers n)) → ForcedSoFar s rows (i + 1) new
 so_far_more s rows i old new numbers valid exists within so_far in_net forced loads_long row_long loads_are bits_are = record {
   chains = so_far.chains ++ (classes_at s.network numbers ∷ []);
   long = (let e : length (so_far.chains ++ (classes_at s.network numbers ∷ [])) ≡ i + 1 = omega (arith, length-append so_far.chains (classes_at s.network numbers ∷ []), so_far.long) in e);
   forced_all = λ sides are.
       subst (λ (l : List Shipment). AllZipFrom (λ k. IsChain s.problem (allowed_in s sides k) true) 0 l (so_far.chains ++ (classes_at s.network numbers ∷ []))) (sym more)
-      (zip-push (λ k. IsChain s.problem (allowed_in s sides k) true) 0 (take i s.problem.shipments) so_far.chains (shipment_at s.problem i) (classes_at s.network numbers) (so_far.forced_all sides are)
+      (AllZipFrom-push (λ k. IsChain s.problem (allowed_in s sides k) true) 0 (take i s.problem.shipments) so_far.chains (shipment_at s.problem i) (classes_at s.network numbers) (so_far.forced_all sides are)
       (subst (λ (k : ℕ). IsForcedChain s.problem (allowed_in s sides k) (shipment_at s.problem i) (classes_at s.network numbers)) (sym number) (forced sides are)));
   classes = legs-all-push (IsClass s.network) so_far.chains (classes_at s.network numbers) so_far.classes (are-classes s.network numbers valid (recursion_from_All (λ n. n < class_count s.network) numbers in_net));
   loads_long = loads_long ∙ so_far.loads_long;
@@ -191,14 +185,14 @@ so_far_more s rows i old new numbers valid exists within so_far in_net forced lo
   small = λ k d h.
       let before : get_or old.loads.items k 0 ≤ i * 10 ^ 18 = so_far.small k 0 (omega (arith, h, loads_long)) in
       let any : get_or new.loads.items k d ≡ get_or new.loads.items k 0 = get_or-any new.loads.items k d 0 h in
-      omega (arith, before, any, loads_are k, at-most (has_point numbers k) (shipment_at s.problem i).size, within);
+      omega (arith, before, any, loads_are k, at-most (list_has numbers k) (shipment_at s.problem i).size, within);
   loads = λ c is.
-      loads_are (class_number s.network c) ∙ ap (λ (n : ℕ). n + (if has_point numbers (class_number s.network c) then (shipment_at s.problem i).size else 0)) (so_far.loads c is) ∙
+      loads_are (class_number s.network c) ∙ ap (λ (n : ℕ). n + (if list_has numbers (class_number s.network c) then (shipment_at s.problem i).size else 0)) (so_far.loads c is) ∙
       ap (λ (b : Bool). load (take i s.problem.shipments) so_far.chains c + (if b then (shipment_at s.problem i).size else 0)) (sym (has-number s.network numbers c valid is in_net)) ∙
       sym (ap (λ (l : List Shipment). load l (so_far.chains ++ (classes_at s.network numbers ∷ [])) c) more ∙
       load-push (take i s.problem.shipments) so_far.chains (shipment_at s.problem i) (classes_at s.network numbers) c (omega (arith, so_far.long, length-take i s.problem.shipments, exists)));
   told = λ c is.
-      bits_are (class_number s.network c) ∙ ap (λ (b : Bool). b || has_point numbers (class_number s.network c)) (so_far.told c is) ∙
+      bits_are (class_number s.network c) ∙ ap (λ (b : Bool). b || list_has numbers (class_number s.network c)) (so_far.told c is) ∙
       ap (λ (b : Bool). has_leg c (all_legs so_far.chains) || b) (sym (has-number s.network numbers c valid is in_net)) ∙ sym (legs-push so_far.chains (classes_at s.network numbers) c);
 }
   where
@@ -234,9 +228,9 @@ so_far_all s rows i forced so_far all =
     }
 
 -- no chain of any shipment
-pub none_forced : (s : Setting) (rows : List (List Bool)) (forced : ForcedClasses) → forced.loads.items ≡ replicate (class_count s.network) 0 → forced.row ≡ replicate (class_count s.network) false → AreForcedOf s rows false forced
+none_forced : (s : Setting) (rows : List (List Bool)) (forced : ForcedClasses) → forced.loads.items ≡ replicate (class_count s.network) 0 → forced.row ≡ replicate (class_count s.network) false → AreForcedOf s rows false forced
 none_forced s rows forced loads_are row_is =
-    let start = bare s forced loads_are row_is in
+    let start = AreUnloaded-replicate s forced loads_are row_is in
     let chains : List (List Leg) = map (λ (x : Shipment). []) s.problem.shipments in
     record {
       chains = chains;

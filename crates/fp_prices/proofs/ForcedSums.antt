@@ -3,28 +3,13 @@ use Rattle.std.proofs.Common.{◌≡◌, ℕ, zero, suc, ◌+◌, ◌*◌, ◌-�
 use Rattle.std.specs.Prelude.{if◌then◌else◌}
 use Rattle.std.proofs.lemmas.Bool.{cond-false, cond-true}
 use Rattle.std.proofs.Math.Nat.{mul-le-mul_left}
+use Rattle.fp_lists.proofs.SumsBelow.{sum_below-more, sum_below-has}
 use Rattle.fp_model.specs.Problem.{Problem}
 use Rattle.fp_longestarcs.specs.Networks.{TimedNetwork}
 use Rattle.fp_allowed.specs.Bits.{bit_of}
-use Rattle.fp_prices.specs.Forced.{row_cost, sum_below, truck_cost_at}
+use Rattle.fp_prices.specs.Forced.{row_cost, truck_cost_at}
+use Rattle.fp_lists.specs.Below.{sum_below}
 use Rattle.fp_prices.proofs.SetBits.{IsNextSet}
-
--- numbers at which the function is 0 add nothing
-sum_below-zeros : (f : ℕ → ℕ) (n m : ℕ) → ((i : ℕ) → n ≤ i → i < n + m → f i ≡ 0) → sum_below (n + m) f ≡ sum_below n f
-sum_below-zeros f n zero none = ap (λ (k : ℕ). sum_below k f) (let e : n + 0 ≡ n = omega arith in e)
-sum_below-zeros f n (suc m) none =
-    let e : n + suc m ≡ suc (n + m) = omega arith in
-    let last : f (n + m) ≡ 0 = none (n + m) (omega arith) (omega arith) in
-    let rest : sum_below (n + m) f ≡ sum_below n f = sum_below-zeros f n m (λ i from before. none i from (omega arith)) in
-    ap (λ (k : ℕ). sum_below k f) e ∙ (let r : f (n + m) + sum_below (n + m) f ≡ sum_below n f = omega (arith, last, rest) in r)
-
--- each number adds what the function gives for it
-sum_below-has : (f : ℕ → ℕ) (n m : ℕ) → sum_below n f + f n ≤ sum_below (suc n + m) f
-sum_below-has f n zero = let e : suc n + 0 ≡ suc n = omega arith in rw e (omega arith)
-sum_below-has f n (suc m) =
-    let e : suc n + suc m ≡ suc (suc n + m) = omega arith in
-    let rest : sum_below n f + f n ≤ sum_below (suc n + m) f = sum_below-has f n m in
-    rw e (omega (arith, rest))
 
 -- what the class with a number adds
 abbrev pub set_cost : Problem → TimedNetwork → List ℕ → List Bool → ℕ → ℕ
@@ -38,7 +23,7 @@ sum_below-next p net loads row next place is =
     let here : f place ≡ truck_cost_at p net loads place = cond-true (bit_of row place) (truck_cost_at p net loads place) 0 is.set_it in
     let gap : next + (place - next) ≡ place = omega (arith, is.from) in
     let same : sum_below place f ≡ sum_below next f =
-    ap (λ (k : ℕ). sum_below k f) (sym gap) ∙ sum_below-zeros f next (place - next) (λ i from before. cond-false (bit_of row i) (truck_cost_at p net loads i) 0 (is.between i from (omega (arith, gap)))) in
+    ap (λ (k : ℕ). sum_below k f) (sym gap) ∙ sum_below-more f next (place - next) (λ i from before. cond-false (bit_of row i) (truck_cost_at p net loads i) 0 (is.between i from (omega (arith, gap)))) in
     let e : place + 1 ≡ suc place = omega arith in
     ap (λ (k : ℕ). sum_below k f) e ∙ (let r : f place + sum_below place f ≡ sum_below next f + truck_cost_at p net loads place = omega (arith, here, same) in r)
 
@@ -48,10 +33,10 @@ pub sum_below-rest : (p : Problem) (net : TimedNetwork) (loads : List ℕ) (row 
 sum_below-rest p net loads row next within none =
     let f : ℕ → ℕ = set_cost p net loads row in
     let gap : next + (length row - next) ≡ length row = omega (arith, within) in
-    ap (λ (k : ℕ). sum_below k f) (sym gap) ∙ sum_below-zeros f next (length row - next) (λ i from before. cond-false (bit_of row i) (truck_cost_at p net loads i) 0 (none i from))
+    ap (λ (k : ℕ). sum_below k f) (sym gap) ∙ sum_below-more f next (length row - next) (λ i from before. cond-false (bit_of row i) (truck_cost_at p net loads i) 0 (none i from))
 
 -- what a set bit adds is part of the whole
-pub sum_below-part : (p : Problem) (net : TimedNetwork) (loads : List ℕ) (row : List Bool) (next place : ℕ) → IsNextSet row next place →
+sum_below-part : (p : Problem) (net : TimedNetwork) (loads : List ℕ) (row : List Bool) (next place : ℕ) → IsNextSet row next place →
     sum_below next (set_cost p net loads row) + truck_cost_at p net loads place ≤ row_cost p net loads row
 sum_below-part p net loads row next place is =
     let f : ℕ → ℕ = set_cost p net loads row in

@@ -11,21 +11,22 @@ use Rattle.fp_labels.specs.Walks.{IsOpen, cost_of, Leads as LeadsOver, walk_cost
 use Rattle.fp_model.specs.declared.parts.Leg.{Leg}
 use Rattle.fp_model.specs.Problem.{Problem, arc_at}
 use Rattle.fp_model.specs.Routes.{Leads, arcs_of}
-use Rattle.fp_longestarcs.specs.Ascending.{place_of}
+use Rattle.fp_lists.specs.Ascending.{place_in}
 use Rattle.fp_longestarcs.specs.Classes.{head_of}
 use Rattle.fp_longestarcs.specs.Networks.{TimedNetwork, IsClass, class_count, class_number, points_in}
-use Rattle.fp_longestarcs.proofs.Grown.{points-of}
+use Rattle.fp_longestarcs.proofs.NewPoints.{points-of}
 use Rattle.fp_allowed.specs.Walks.{FollowsHeads}
+use Rattle.fp_prices.specs.LeastWalks.{classes_on}
 use Rattle.fp_prices.specs.Leaves.{walk_cost}
 use Rattle.fp_prices.specs.Points.{class_edge, edges_of, first_node, last_node}
 use Rattle.fp_prices.proofs.GraphWalks.{AreCosts}
 use Rattle.fp_prices.proofs.Nodes.{first-point, node-unique}
 use Rattle.fp_prices.proofs.PointEdges.{IsHolding, Joins, class-joins, edge-cases, edge-of-class}
 use Rattle.fp_prices.proofs.TimedInGraph.{price-first}
+use Rattle.fp_prices.proofs.WalkEdges.{classes_on-class, classes_on-holding}
 
--- an allowed timed walk from a terminal and a time on that costs so much
-pub record IsTimedFrom (p : Problem) (net : TimedNetwork) (allowed : Leg → Bool) (price : Leg → ℕ) (size here ready there cost : ℕ) : Type 0 where
-  pub walk : List Leg
+-- a walk of classes is an allowed timed walk from a terminal and a time on that costs so much
+pub record IsTimedFrom (p : Problem) (net : TimedNetwork) (allowed : Leg → Bool) (price : Leg → ℕ) (size here ready there cost : ℕ) (walk : List Leg) : Type 0 where
   pub leads : Leads p here (arcs_of walk) there
   pub allowed_all : AllByRecursion (λ c. allowed c ≡ true) walk
   pub follows : FollowsHeads p (points_in net) ready walk
@@ -47,24 +48,24 @@ open-allowed b n o is some =
 pub timed-walk : (p : Problem) (net : TimedNetwork) (allowed : Leg → Bool) (price : Leg → ℕ) (size : ℕ) (costs : List (Option ℕ)) → AreCosts p net allowed price size costs →
     (there : ℕ) → there < length net.points → (walk : List ℕ) (here place : ℕ) → here < length net.points → place < length (points_in net here) →
     LeadsOver (edges_of p net) (first_node net here + place) walk (last_node net there) → IsOpen costs walk →
-    IsTimedFrom p net allowed price size here (get_or (points_in net here) place 0) there (edges_cost costs walk)
+    IsTimedFrom p net allowed price size here (get_or (points_in net here) place 0) there (edges_cost costs walk) (classes_on net walk)
 timed-walk p net allowed price size costs are there ends [] here place exists within leads all =
     let last = first-point (points_in net there) (points-of net there are.whole.valid ends) in
     let same = node-unique net here there place (length (points_in net there) - 1) exists ends within (omega (arith, last.1)) leads in
-    record { walk = []; leads = same.0; allowed_all = tt; follows = tt; costs_so = refl }
+    record { leads = same.0; allowed_all = tt; follows = tt; costs_so = refl }
 timed-walk p net allowed price size costs are there ends (e ∷ walk) here place exists within leads all =
     ⊎_elim
     (class (λ next enters is_there inside goes. timed-walk p net allowed price size costs are there ends walk next enters is_there inside goes all.1))
     (holding (λ next enters is_there inside goes. timed-walk p net allowed price size costs are there ends walk next enters is_there inside goes all.1))
     (edge-cases p net e are.whole.valid leads.0)
   where
-    Timed : (from ready cost : ℕ) → Type 0
+    Timed : (from ready cost : ℕ) → List Leg → Type 0
     Timed from ready cost = IsTimedFrom p net allowed price size from ready there cost
 
     Rest : Type 0
     Rest =
         (next enters : ℕ) → next < length net.points → enters < length (points_in net next) →
-        LeadsOver (edges_of p net) (first_node net next + enters) walk (last_node net there) → Timed next (get_or (points_in net next) enters 0) (edges_cost costs walk)
+        LeadsOver (edges_of p net) (first_node net next + enters) walk (last_node net there) → Timed next (get_or (points_in net next) enters 0) (edges_cost costs walk) (classes_on net walk)
 
     ready : ℕ
     ready = get_or (points_in net here) place 0
@@ -72,13 +73,13 @@ timed-walk p net allowed price size costs are there ends (e ∷ walk) here place
     first : edges_cost costs (e ∷ walk) ≡ unwrap_or (cost_of costs e) 0 + edges_cost costs walk
     first = sum_by-cons (λ n. unwrap_or (cost_of costs n) 0) e walk
 
-    class : Rest → ((c : Leg) × IsClass net c × (class_number net c ≡ e)) → Timed here ready (edges_cost costs (e ∷ walk))
+    class : Rest → ((c : Leg) × IsClass net c × (class_number net c ≡ e)) → Timed here ready (edges_cost costs (e ∷ walk)) (classes_on net (e ∷ walk))
     class again (c, is, number) =
         let joins : Joins p net c = class-joins p net c are.valid are.whole is in
         let from : ℕ = (arc_at p c.arc).from in
         let to : ℕ = (arc_at p c.arc).to in
-        let leaves : ℕ = place_of (points_in net from) c.depart in
-        let enters : ℕ = place_of (points_in net to) (head_of p (points_in net) c) in
+        let leaves : ℕ = place_in (points_in net from) c.depart in
+        let enters : ℕ = place_in (points_in net to) (head_of p (points_in net) c) in
         let more : ℕ = price c + p.scale * (arc_at p c.arc).freight * size in
         let edge : edge_at (edges_of p net) e ≡ class_edge p net c = ap (edge_at (edges_of p net)) (sym number) ∙ edge-of-class p net c are.whole.valid is in
         let same = node-unique net from here leaves place joins.tail exists joins.leaves within (ap (λ (g : Edge). g.from) (sym edge) ∙ leads.1) in
@@ -86,15 +87,15 @@ timed-walk p net allowed price size costs are there ends (e ∷ walk) here place
         let departs : ready ≡ c.depart =
         ap (λ (n : ℕ). get_or (points_in net here) n 0) (sym same.1) ∙ ap (λ (t : ℕ). get_or (points_in net t) leaves 0) (sym same.0) ∙ joins.departs in
         let rest = again to enters joins.head joins.enters (subst (λ (n : ℕ). LeadsOver (edges_of p net) n walk (last_node net there)) (ap (λ (g : Edge). g.to) edge) leads.2) in
-        record {
-          walk = c ∷ rest.walk;
+        subst (Timed here ready (edges_cost costs (e ∷ walk))) (sym (classes_on-class net c e walk are.whole.valid is number))
+        (record {
           leads = (joins.exists, same.0, rest.leads);
           allowed_all = (is_open.0, rest.allowed_all);
-          follows = (omega (arith, departs), subst (λ (n : ℕ). FollowsHeads p (points_in net) n rest.walk) joins.arrives rest.follows);
-          costs_so = omega (arith, price-first p price size c rest.walk, rest.costs_so, is_open.1, first);
-        }
+          follows = (omega (arith, departs), subst (λ (n : ℕ). FollowsHeads p (points_in net) n (classes_on net walk)) joins.arrives rest.follows);
+          costs_so = omega (arith, price-first p price size c (classes_on net walk), rest.costs_so, is_open.1, first);
+        })
 
-    holding : Rest → ((class_count net ≤ e) × IsHolding net (edge_at (edges_of p net) e)) → Timed here ready (edges_cost costs (e ∷ walk))
+    holding : Rest → ((class_count net ≤ e) × IsHolding net (edge_at (edges_of p net) e)) → Timed here ready (edges_cost costs (e ∷ walk)) (classes_on net (e ∷ walk))
     holding again (late, is) =
         let same = node-unique net is.terminal here is.place place is.exists exists (omega (arith, is.within)) within (ap (λ (g : Edge). g.from) (sym is.is) ∙ leads.1) in
         let later : place + 1 < length (points_in net here) = subst (λ (n : ℕ). n + 1 < length (points_in net here)) same.1 (subst (λ (t : ℕ). is.place + 1 < length (points_in net t)) same.0 is.within) in
@@ -104,10 +105,10 @@ timed-walk p net allowed price size costs are there ends (e ∷ walk) here place
         let before : ready ≤ get_or (points_in net here) (place + 1) 0 =
         omega (arith, (points-of net here are.whole.valid exists).ascending place (place + 1) 0 (omega arith) later) in
         let free : unwrap_or (cost_of costs e) 0 ≡ 0 = ap (λ (o : Option ℕ). unwrap_or o 0) (are.free e late (omega (arith, are.count, leads.0))) in
-        record {
-          walk = rest.walk;
+        subst (Timed here ready (edges_cost costs (e ∷ walk))) (sym (classes_on-holding net e walk late))
+        (record {
           leads = rest.leads;
           allowed_all = rest.allowed_all;
-          follows = ready-before p (points_in net) (get_or (points_in net here) (place + 1) 0) ready rest.walk before rest.follows;
+          follows = ready-before p (points_in net) (get_or (points_in net here) (place + 1) 0) ready (classes_on net walk) before rest.follows;
           costs_so = omega (arith, rest.costs_so, free, first);
-        }
+        })

@@ -8,7 +8,7 @@ use Rattle.fp_labels.specs.Walks.{IsWalk, cost_of, walk_cost}
 use Rattle.fp_model.specs.declared.parts.Leg.{Leg}
 use Rattle.fp_model.specs.Problem.{Problem, IsValid}
 use Rattle.fp_longestarcs.specs.Networks.{TimedNetwork, class_count, points_in}
-use Rattle.fp_longestarcs.specs.Whole.{IsWhole}
+use Rattle.fp_longestarcs.specs.Whole.{IsWholeNetwork}
 use Rattle.fp_prices.specs.ClassCosts.{AllowsClasses, HoldsClassCosts, IsFree}
 use Rattle.fp_prices.specs.Points.{edges_of, first_node}
 use Rattle.fp_prices.proofs.PointEdges.{holding-edge}
@@ -16,7 +16,7 @@ use Rattle.fp_prices.proofs.PointEdges.{holding-edge}
 -- costs of all edges of the graph of a whole network, for a shipment of a size
 pub record AreCosts (p : Problem) (net : TimedNetwork) (allowed : Leg → Bool) (price : Leg → ℕ) (size : ℕ) (costs : List (Option ℕ)) : Type 0 where
   pub valid : IsValid p
-  pub whole : IsWhole p net
+  pub whole : IsWholeNetwork p net
   pub count : length costs ≡ length (edges_of p net)
   pub free : IsFree (class_count net) costs
   pub classes : AllowsClasses net allowed

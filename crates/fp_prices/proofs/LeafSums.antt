@@ -7,13 +7,13 @@ use Rattle.std.proofs.lemmas.List.Sums.{sum_by-cons, sum_by-le-sum_by}
 use Rattle.fp_model.specs.declared.parts.Arc.{Arc}
 use Rattle.fp_model.specs.declared.parts.Leg.{Leg}
 use Rattle.fp_model.specs.declared.parts.Shipment.{Shipment}
-use Rattle.fp_model.specs.Numbered.{AllZipFrom}
+use Rattle.fp_lists.specs.Numbered.{AllZipFrom}
 use Rattle.fp_model.specs.Problem.{Problem, arc_at}
 use Rattle.fp_model.specs.Costs.{has_leg, distinct, all_legs, departures_cost, flow_cost, flow_total}
 use Rattle.fp_model.proofs.Bounds.{departure_of, load-outside}
-use Rattle.fp_model.proofs.Ceilings.{div_ceil-zero}
+use Rattle.fp_lists.proofs.Ceilings.{div_ceil-zero}
 use Rattle.fp_model.proofs.Distinct.{distinct_sum, distinct_sum-le}
-use Rattle.fp_model.proofs.Sums.{same_sum, sum_by-both, sum_by-scaled}
+use Rattle.fp_lists.proofs.Sums.{sum_by-scaled, sum_by-same, sum_by-both}
 use Rattle.fp_allowed.specs.Walks.{IsTimedWalk}
 use Rattle.fp_prices.specs.declared.leaf_prices.Kind.{Kind}
 use Rattle.fp_prices.specs.Shares.{ClassShare}
@@ -61,11 +61,11 @@ bases-and-paid p tables allowed kind size chains walks keep are once =
     )
 
 -- what a walk costs is what its shipment pays, and its flow
-walk-parts : (p : Problem) (price : Leg → ℕ) (size : ℕ) (walk : List Leg) → walk_cost p price size walk ≡ sum_by price walk + p.scale * flow_cost p size walk
+pub walk-parts : (p : Problem) (price : Leg → ℕ) (size : ℕ) (walk : List Leg) → walk_cost p price size walk ≡ sum_by price walk + p.scale * flow_cost p size walk
 walk-parts p price size walk =
     let flow : Leg → ℕ = λ c. (arc_at p c.arc).freight * size in
     let parts : walk_cost p price size walk ≡ sum_by price walk + sum_by (λ c. p.scale * flow c) walk =
-    same_sum (λ c. price c + p.scale * (arc_at p c.arc).freight * size) (λ c. price c + p.scale * flow c) (λ c. omega arith) walk
+    sum_by-same (λ c. price c + p.scale * (arc_at p c.arc).freight * size) (λ c. price c + p.scale * flow c) (λ c. omega arith) walk
     ∙ sum_by-both price (λ c. p.scale * flow c) walk in
     omega (arith, parts, sum_by-scaled p.scale flow walk)
 

@@ -7,24 +7,27 @@ use Rattle.std.proofs.Math.Nat.{mul-le-mul_right}
 use Rattle.std.proofs.lemmas.Bool.{cases_lt}
 use Rattle.std.proofs.lemmas.List.{get_or_past, get_or-replicate, length-map, length-replicate}
 use Rattle.std.proofs.lemmas.List.Sums.{sum_by-cons, sum_by-le}
+use Rattle.fp_lists.specs.Distinct.{AreDistinct}
 use Rattle.fp_labels.specs.declared.graphs.Edge.{Edge}
 use Rattle.fp_labels.specs.Graphs.{HasEnds, edge_at, no_edge}
 use Rattle.fp_labels.specs.Labels.{IsSimpleWalk}
-use Rattle.fp_labels.specs.Walks.{AreApart, IsDistance, IsWalk, cost_of, nodes_on, Leads as LeadsOver, walk_cost as edges_cost}
+use Rattle.fp_labels.specs.Walks.{IsDistance, IsWalk, cost_of, nodes_on, Leads as LeadsOver, walk_cost as edges_cost}
 use Rattle.fp_model.specs.declared.parts.Leg.{Leg}
 use Rattle.fp_model.specs.declared.parts.Shipment.{Shipment}
 use Rattle.fp_model.specs.Problem.{Problem}
-use Rattle.fp_model.proofs.Bounds.{sum_by-places-le}
-use Rattle.fp_model.proofs.Sums.{each-weaker}
+use Rattle.fp_lists.proofs.DistinctSums.{sum_by-places-le, length-distinct-le}
+use Rattle.fp_lists.proofs.Elements.{AllByRecursion-weaker}
 use Rattle.fp_longestarcs.specs.Networks.{TimedNetwork, points_in}
-use Rattle.fp_longestarcs.proofs.Grown.{points-of}
+use Rattle.fp_longestarcs.proofs.NewPoints.{points-of}
 use Rattle.fp_allowed.specs.Walks.{FollowsHeads, IsTimedWalk}
 use Rattle.fp_prices.specs.ClassCosts.{IsLeastOver}
+use Rattle.fp_prices.specs.LeastWalks.{IsLeastWalk, classes_on, nodes_met}
 use Rattle.fp_prices.specs.Leaves.{walk_cost}
 use Rattle.fp_prices.specs.Points.{edges_of, first_node, last_node}
 use Rattle.fp_prices.proofs.GraphTimed.{IsTimedFrom, timed-walk}
 use Rattle.fp_prices.proofs.GraphWalks.{AreCosts, Goes}
 use Rattle.fp_prices.proofs.Nodes.{first-point}
+use Rattle.fp_prices.proofs.NodesMet.{distinct-met}
 use Rattle.fp_prices.proofs.TimedInGraph.{goes-timed}
 
 -- each allowed timed walk of a shipment goes from the origin's first node to the destination's last
@@ -37,16 +40,16 @@ shipment-goes p net allowed price costs s are from walk timed =
     (goes-timed p net allowed price s.size costs are s.to walk s.from 0 from begins.1 timed.leads timed.allowed_all
     (subst (λ (n : ℕ). FollowsHeads p (points_in net) n walk) (sym begins.2) timed.follows))
 
--- and each open walk between these nodes is an allowed timed walk
+-- and the classes of each open walk between these nodes are an allowed timed walk
 shipment-timed : (p : Problem) (net : TimedNetwork) (allowed : Leg → Bool) (price : Leg → ℕ) (costs : List (Option ℕ)) (s : Shipment) → AreCosts p net allowed price s.size costs → s.from < length net.points → s.to < length net.points →
-    (walk : List ℕ) (cost : ℕ) → IsWalk (edges_of p net) costs (first_node net s.from) (last_node net s.to) walk cost → IsTimedFrom p net allowed price s.size s.from 0 s.to cost
+    (walk : List ℕ) (cost : ℕ) → IsWalk (edges_of p net) costs (first_node net s.from) (last_node net s.to) walk cost → IsTimedFrom p net allowed price s.size s.from 0 s.to cost (classes_on net walk)
 shipment-timed p net allowed price costs s are from to walk cost goes =
     let begins = first-point (points_in net s.from) (points-of net s.from are.whole.valid from) in
     let node : first_node net s.from ≡ first_node net s.from + 0 = omega arith in
     let timed = timed-walk p net allowed price s.size costs are s.to to walk s.from 0 from begins.1
     (subst (λ (n : ℕ). LeadsOver (edges_of p net) n walk (last_node net s.to)) node goes.leads) goes.open_edges in
-    subst (λ (n : ℕ). IsTimedFrom p net allowed price s.size s.from 0 s.to n) goes.costs_so
-    (subst (λ (n : ℕ). IsTimedFrom p net allowed price s.size s.from n s.to (edges_cost costs walk)) begins.2 timed)
+    subst (λ (n : ℕ). IsTimedFrom p net allowed price s.size s.from 0 s.to n (classes_on net walk)) goes.costs_so
+    (subst (λ (n : ℕ). IsTimedFrom p net allowed price s.size s.from n s.to (edges_cost costs walk) (classes_on net walk)) begins.2 timed)
 
 pub least-over : (p : Problem) (net : TimedNetwork) (allowed : Leg → Bool) (price : Leg → ℕ) (costs : List (Option ℕ)) (s : Shipment) → AreCosts p net allowed price s.size costs → s.from < length net.points → s.to < length net.points →
     (o : Option ℕ) → IsDistance (edges_of p net) costs (first_node net s.from) (last_node net s.to) o → IsLeastOver p (points_in net) allowed s price o
@@ -56,7 +59,7 @@ least-over p net allowed price costs s are from to None none = λ walk timed.
 least-over p net allowed price costs s are from to (Some n) least =
     let timed = shipment-timed p net allowed price costs s are from to least.attained.0 n least.attained.1 in
     record {
-      walk = timed.walk;
+      walk = classes_on net least.attained.0;
       timed = record { leads = timed.leads; allowed_all = timed.allowed_all; follows = timed.follows };
       cost = timed.costs_so;
       least = λ other is.
@@ -64,22 +67,23 @@ least-over p net allowed price costs s are from to (Some n) least =
           subst (λ (m : ℕ). n ≤ m) goes.1.costs_so (least.least goes.0 goes.1.leads goes.1.open_edges);
     }
 
--- numbers below n that are all different are at most n
-few-apart : (n : ℕ) (places : List ℕ) → AllByRecursion (λ i. i < n) places → AreApart places → length places ≤ n
-few-apart n places below apart =
-    let each : All (λ (i : ℕ). i ≤ 1) row = λ k d h. omega (arith, get_or-replicate {A = ℕ} n k 1 d (omega (arith, h, long))) in
-    let inside : AllByRecursion (λ i. i < length row) places = each-weaker (λ i. i < n) (λ i. i < length row) (λ i h. omega (arith, h, long)) places below in
-    omega (arith, sum_by-places-le (λ (i : ℕ). i) 0 refl places row inside apart, ones places below, sum_by-le (λ (i : ℕ). i) 1 row each, long)
-  where
-    row : List ℕ
-    row = replicate n 1
-
-    long : length row ≡ n
-    long = length-replicate {A = ℕ} n 1
-
-    ones : (numbers : List ℕ) → AllByRecursion (λ i. i < n) numbers → sum_by (λ i. get_or row i 0) numbers ≡ length numbers
-    ones [] h = refl
-    ones (x ∷ xs) h = omega (arith, sum_by-cons (λ i. get_or row i 0) x xs, get_or-replicate {A = ℕ} n x 1 0 h.0, ones xs h.1)
+-- the classes of a walk in the graph that repeats no node and whose cost is the distance are a walk of least cost that repeats no timed node
+pub least-walk : (p : Problem) (net : TimedNetwork) (allowed : Leg → Bool) (price : Leg → ℕ) (costs : List (Option ℕ)) (s : Shipment) → AreCosts p net allowed price s.size costs → s.from < length net.points → s.to < length net.points →
+    (n : ℕ) (walk : List ℕ) → IsDistance (edges_of p net) costs (first_node net s.from) (last_node net s.to) (Some n) → IsSimpleWalk (edges_of p net) costs (first_node net s.from) (last_node net s.to) walk n →
+    IsLeastWalk p (points_in net) allowed s price (classes_on net walk)
+least-walk p net allowed price costs s are from to n walk least simple =
+    let timed = shipment-timed p net allowed price costs s are from to walk n simple.goes in
+    let begins = first-point (points_in net s.from) (points-of net s.from are.whole.valid from) in
+    let node : first_node net s.from ≡ first_node net s.from + 0 = omega arith in
+    record {
+      timed = record { leads = timed.leads; allowed_all = timed.allowed_all; follows = timed.follows };
+      least = λ other is.
+          let goes = shipment-goes p net allowed price costs s are from other is in
+          subst (λ (m : ℕ). m ≤ walk_cost p price s.size other) (sym timed.costs_so) (subst (λ (m : ℕ). n ≤ m) goes.1.costs_so (least.least goes.0 goes.1.leads goes.1.open_edges));
+      apart = subst (λ (q : ℕ). AreDistinct (nodes_met p (points_in net) (s.from, q) (classes_on net walk))) begins.2
+          (distinct-met p net are.valid are.whole (last_node net s.to) walk s.from 0 from begins.1 (subst (λ (m : ℕ). LeadsOver (edges_of p net) m walk (last_node net s.to)) node simple.goes.leads)
+          (subst (λ (m : ℕ). AreDistinct (nodes_on (edges_of p net) m walk)) node simple.apart));
+    }
 
 -- the nodes on a walk are nodes
 nodes-below : (edges : List Edge) (nodes here there : ℕ) (walk : List ℕ) → HasEnds nodes edges → here < nodes → LeadsOver edges here walk there → AllByRecursion (λ i. i < nodes) (nodes_on edges here walk)
@@ -91,7 +95,7 @@ nodes-below edges nodes here there (e ∷ walk) ends inside leads =
 pub simple-small : (edges : List Edge) (costs : List (Option ℕ)) (nodes here there : ℕ) (walk : List ℕ) (cost most : ℕ) → HasEnds nodes edges → here < nodes →
     IsSimpleWalk edges costs here there walk cost → All (λ o. IfSome o (λ (n : ℕ). n ≤ most)) costs → cost ≤ nodes * most
 simple-small edges costs nodes here there walk cost most ends inside simple all =
-    let few : length (nodes_on edges here walk) ≤ nodes = few-apart nodes (nodes_on edges here walk) (nodes-below edges nodes here there walk ends inside simple.goes.leads) simple.apart in
+    let few : length (nodes_on edges here walk) ≤ nodes = length-distinct-le nodes (nodes_on edges here walk) (nodes-below edges nodes here there walk ends inside simple.goes.leads) simple.apart in
     let short : length walk ≤ nodes = omega (arith, few, length-map walk (λ (e : ℕ). (edge_at edges e).to)) in
     let each : edges_cost costs walk ≤ length walk * most = sum_by-le (λ (e : ℕ). unwrap_or (cost_of costs e) 0) most walk (λ k d h. each-small (get_or walk k d)) in
     omega (arith, each, mul-le-mul_right most short, simple.goes.costs_so)

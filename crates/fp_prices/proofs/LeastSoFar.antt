@@ -6,9 +6,10 @@ use Rattle.std.proofs.lemmas.List.{get_or-take, length-take, take_all, take_more
 use Rattle.std.proofs.lemmas.List.Sums.{sum_by-append, sum_by-cons, sum_by_more_le}
 use Rattle.fp_model.specs.declared.parts.Leg.{Leg}
 use Rattle.fp_model.specs.declared.parts.Shipment.{Shipment}
-use Rattle.fp_model.specs.Numbered.{AllZipFrom, no_shipment, shipment_at}
+use Rattle.fp_model.specs.Numbered.{no_shipment, shipment_at}
+use Rattle.fp_lists.specs.Numbered.{AllZipFrom}
 use Rattle.fp_model.specs.Problem.{IsValid, Problem, alone_cost, alone_total}
-use Rattle.fp_model.proofs.Places.{zip-places}
+use Rattle.fp_lists.proofs.Numbered.{AllZipFrom-get_or, AllZipFrom-push}
 use Rattle.fp_longestarcs.specs.Networks.{points_in}
 use Rattle.fp_allowed.specs.Walks.{IsTimedWalk}
 use Rattle.fp_prices.specs.declared.bounds.LeafBound.TheVariants.{Empty, Value}
@@ -20,7 +21,6 @@ use Rattle.fp_prices.specs.Leaves.{IsLeastCost, leaf_price}
 use Rattle.fp_prices.specs.Pricings.{IsPricing, RowAllows}
 use Rattle.fp_prices.specs.Rows.{AreRowsOf}
 use Rattle.fp_prices.specs.Shares.{ClassShare}
-use Rattle.fp_prices.proofs.ForcedSoFar.{zip-push}
 use Rattle.fp_prices.proofs.SmallBounds.{AreSmallCosts, costs-small}
 
 -- what a leaf's prices are taken for: a kind, tables, chains, and which classes are allowed for whom
@@ -73,13 +73,13 @@ least_more pricing rows bases i value cost row o found exists inside is so_far s
       least = λ tables allowed kind chains leaf.
           let Q : ℕ → Shipment → ℕ → Type 0 = λ k s n. IsLeastCost p (points_in pricing.network.now) (allowed k) s (leaf_price p tables allowed kind chains k s.size) n in
           subst (λ (l : List Shipment). AllZipFrom Q 0 l (so_far.costs ++ (cost ∷ []))) (sym more)
-          (zip-push Q 0 (take i p.shipments) so_far.costs (shipment_at p i) cost (so_far.least tables allowed kind chains leaf)
+          (AllZipFrom-push Q 0 (take i p.shipments) so_far.costs (shipment_at p i) cost (so_far.least tables allowed kind chains leaf)
           (subst (λ (k : ℕ). Q k (shipment_at p i) cost) (sym number)
           (subst (λ (x : Option ℕ). IsLeastOver p (points_in pricing.network.now) (allowed i) (shipment_at p i) (leaf_prices p tables allowed kind chains i) x) found
           (least tables allowed kind chains leaf.is (row-allows pricing rows allowed i row inside is leaf.rows_of) (leaf.classes i)))));
       small =
           let Q : ℕ → Shipment → ℕ → Type 0 = λ k s n. n ≤ 65536 * (p.scale * sum_by (alone_cost s.size) p.arcs) in
-          subst (λ (l : List Shipment). AllZipFrom Q 0 l (so_far.costs ++ (cost ∷ []))) (sym more) (zip-push Q 0 (take i p.shipments) so_far.costs (shipment_at p i) cost so_far.small (subst (IsSmallCost p i) found small));
+          subst (λ (l : List Shipment). AllZipFrom Q 0 l (so_far.costs ++ (cost ∷ []))) (sym more) (AllZipFrom-push Q 0 (take i p.shipments) so_far.costs (shipment_at p i) cost so_far.small (subst (IsSmallCost p i) found small));
       is = omega (arith, so_far.is, one, sum_by-append (λ (n : ℕ). n) so_far.costs (cost ∷ []));
     }
 
@@ -111,7 +111,7 @@ first_without pricing rows bases i value row o found exists inside is so_far non
           (none tables allowed kind chains leaf.is (row-allows pricing rows allowed i row inside is leaf.rows_of) (leaf.classes i));
       before = λ j h no_walk.
           let Q : ℕ → Shipment → ℕ → Type 0 = λ k s n. IsLeastCost p (points_in pricing.network.now) (allowed k) s (leaf_price p tables allowed kind chains k s.size) n in
-          let at = zip-places Q (take i p.shipments) so_far.costs no_shipment 0 0 j (so_far.least tables allowed kind chains leaf) (omega (arith, h, length-take i p.shipments, exists)) in
+          let at = AllZipFrom-get_or Q (take i p.shipments) so_far.costs no_shipment 0 0 j (so_far.least tables allowed kind chains leaf) (omega (arith, h, length-take i p.shipments, exists)) in
           let same : get_or (take i p.shipments) j no_shipment ≡ shipment_at p j = get_or-take i p.shipments j no_shipment h in
           let number : 0 + j ≡ j = omega arith in
           no_walk at.walk

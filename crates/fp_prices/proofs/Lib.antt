@@ -1,9 +1,10 @@
-pub mod LeafFound
+pub mod LeafBounds
 pub mod LeastSoFar
 pub mod ShipmentCosts
+pub mod WalksSoFar
 pub mod BasesCost
 pub mod SamePoints
-pub mod Searched
+pub mod ShareSearches
 pub mod ForcedSoFar
 pub mod ChainLoads
 pub mod ForcedSums
@@ -18,18 +19,25 @@ pub mod Users
 pub mod ForcedClasses
 pub mod ClassPrices
 pub mod LeafSums
+pub mod FlatBounds
+pub mod ForcedValues
+pub mod TableAppends
+pub mod EarnedLeaves
 pub mod WalkClasses
 pub mod PlanBounds
 pub mod PlanLeaves
 pub mod OneValue
 pub mod SmallPrices
 pub mod SmallBounds
-mod Worked
+mod Examples
 pub mod Nodes
+pub mod NodesMet
+pub mod OriginLabels
+pub mod WalkEdges
 pub mod PointEdges
 pub mod GraphWalks
 pub mod TimedInGraph
 pub mod GraphTimed
 pub mod LeastOver
 pub mod CostBounds
-mod WorkedGraph
+mod GraphExamples

@@ -2,9 +2,10 @@
 use Rattle.std.proofs.Common.{◌≡◌, ℕ, zero, suc, ◌+◌, ◌-◌, ◌<◌, ◌≤◌, ◌⊎◌, ⊎_elim, List, [], length, get_or, ap, subst, arith}
 use Rattle.std.proofs.lemmas.Bool.{cases_order}
 use Rattle.std.proofs.lemmas.List.Sums.{sum_by_more, sum_by-take-le}
-use Rattle.fp_longestarcs.specs.Ascending.{ArePoints, place_of}
+use Rattle.fp_longestarcs.specs.Ascending.{ArePoints}
+use Rattle.fp_lists.specs.Ascending.{place_in}
 use Rattle.fp_longestarcs.specs.Networks.{TimedNetwork, point_count, points_in}
-use Rattle.fp_longestarcs.proofs.Places.{at-place, place-is}
+use Rattle.fp_lists.proofs.Places.{get_or-place_in, place_in-unique}
 use Rattle.fp_prices.specs.Points.{first_node}
 
 -- a terminal has as many nodes as it has points
@@ -49,8 +50,8 @@ node-unique net t u i j h k within inside same =
     (cases_order t u)
 
 -- the first point of a terminal is 0
-pub first-point : (qs : List ℕ) → ArePoints qs → (place_of qs 0 ≡ 0) × (0 < length qs) × (get_or qs 0 0 ≡ 0)
+pub first-point : (qs : List ℕ) → ArePoints qs → (place_in qs 0 ≡ 0) × (0 < length qs) × (get_or qs 0 0 ≡ 0)
 first-point qs are =
-    let none : place_of qs 0 ≡ 0 = place-is qs 0 0 (record { within = omega arith; below = λ k d h. absurd (omega arith); above = λ k d from h. omega arith }) in
-    let there = at-place qs 0 are.ascending are.zero in
+    let none : place_in qs 0 ≡ 0 = place_in-unique qs 0 0 (record { within = omega arith; below = λ k d h. absurd (omega arith); above = λ k d from h. omega arith }) in
+    let there = get_or-place_in qs 0 are.ascending are.zero in
     (none, omega (arith, there.0, none), subst (λ (n : ℕ). get_or qs n 0 ≡ 0) none (there.1 0))

@@ -4,10 +4,11 @@ use Rattle.std.specs.Prelude.{sum_by, slice_index_or, Option}
 use Rattle.std.proofs.lemmas.Bool.{cases_order}
 use Rattle.fp_model.specs.declared.parts.Leg.{Leg}
 use Rattle.fp_model.specs.declared.parts.Shipment.{Shipment}
-use Rattle.fp_model.specs.Numbered.{AllZipFrom, no_shipment, shipment_at}
+use Rattle.fp_model.specs.Numbered.{no_shipment, shipment_at}
+use Rattle.fp_lists.specs.Numbered.{AllZipFrom}
 use Rattle.fp_model.specs.Problem.{Problem, arc_at}
 use Rattle.fp_model.specs.Costs.{all_legs, departures_cost}
-use Rattle.fp_model.proofs.Places.{zip-places}
+use Rattle.fp_lists.proofs.Numbered.{AllZipFrom-get_or}
 use Rattle.fp_flatnet.specs.declared.window_tables.Window.{Window}
 use Rattle.fp_tree.specs.declared.sides.Side.{Side}
 use Rattle.fp_allowed.specs.Allowed.{AreForced, is_allowed}
@@ -38,11 +39,11 @@ forced-unique p allowed there met here (f ∷ a) (g ∷ b) fa wa fb wb =
     ap₂ (λ (l : Leg) (legs : List Leg). l ∷ legs) (sym same) rest
 
 -- a shipment has one chain at a leaf
-pub chain-unique : (p : Problem) (allowed : Leg → Bool) (forced : Bool) (s : Shipment) (a b : List Leg) → IsChain p allowed forced s a → IsChain p allowed forced s b → a ≡ b
+chain-unique : (p : Problem) (allowed : Leg → Bool) (forced : Bool) (s : Shipment) (a b : List Leg) → IsChain p allowed forced s a → IsChain p allowed forced s b → a ≡ b
 chain-unique p allowed true s a b is_a is_b = forced-unique p allowed s.to [] s.from a b is_a.forced is_a.whole is_b.forced is_b.whole
 chain-unique p allowed false s a b is_a is_b = is_a ∙ sym is_b
 
-pub chains-unique : (p : Problem) (allowed : ℕ → Leg → Bool) (forced : Bool) (i : ℕ) (shipments : List Shipment) (A B : List (List Leg)) →
+chains-unique : (p : Problem) (allowed : ℕ → Leg → Bool) (forced : Bool) (i : ℕ) (shipments : List Shipment) (A B : List (List Leg)) →
     AllZipFrom (λ k. IsChain p (allowed k) forced) i shipments A → AllZipFrom (λ k. IsChain p (allowed k) forced) i shipments B → A ≡ B
 chains-unique p allowed forced i [] [] [] are_a are_b = refl
 chains-unique p allowed forced i [] [] (b ∷ B) are_a are_b = absurd are_b
@@ -54,7 +55,7 @@ chains-unique p allowed forced i (s ∷ shipments) (a ∷ A) (b ∷ B) are_a are
     (chains-unique p allowed forced (i + 1) shipments A B are_a.1 are_b.1)
 
 -- least costs under the same prices are the same
-pub costs-unique : (p : Problem) (points : ℕ → List ℕ) (allowed : ℕ → Leg → Bool) (price : ℕ → Shipment → Leg → ℕ) (i : ℕ) (shipments : List Shipment) (A B : List ℕ) →
+costs-unique : (p : Problem) (points : ℕ → List ℕ) (allowed : ℕ → Leg → Bool) (price : ℕ → Shipment → Leg → ℕ) (i : ℕ) (shipments : List Shipment) (A B : List ℕ) →
     AllZipFrom (λ k (s : Shipment) n. IsLeastCost p points (allowed k) s (price k s) n) i shipments A →
     AllZipFrom (λ k (s : Shipment) n. IsLeastCost p points (allowed k) s (price k s) n) i shipments B → A ≡ B
 costs-unique p points allowed price i [] [] [] are_a are_b = refl
@@ -86,7 +87,7 @@ leaf-value-some p windows points sides tables kind forced v is empty =
     let allowed : ℕ → Leg → Bool = is_allowed p windows points sides in
     let k : ℕ = empty.shipment in
     let there : IsLeastCost p points (allowed (0 + k)) (shipment_at p k) (leaf_price p tables allowed kind is.chains (0 + k) (shipment_at p k).size) (slice_index_or is.costs k 0) =
-    zip-places (λ j (s : Shipment) n. IsLeastCost p points (allowed j) s (leaf_price p tables allowed kind is.chains j s.size) n) p.shipments is.costs no_shipment 0 0 k is.are_least empty.exists in
+    AllZipFrom-get_or (λ j (s : Shipment) n. IsLeastCost p points (allowed j) s (leaf_price p tables allowed kind is.chains j s.size) n) p.shipments is.costs no_shipment 0 0 k is.are_least empty.exists in
     let same : 0 + k ≡ k = omega arith in
     empty.none there.walk (subst (λ (j : ℕ). IsTimedWalk p points (allowed j) (shipment_at p k) there.walk) same there.timed)
 

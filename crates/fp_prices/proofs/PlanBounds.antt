@@ -16,7 +16,7 @@ use Rattle.fp_longestarcs.specs.Classes.{class_of}
 use Rattle.fp_longestarcs.proofs.ClassCosts.{cost-classes}
 use Rattle.fp_tree.specs.declared.sides.Side.{Side}
 use Rattle.fp_allowed.specs.Allowed.{is_allowed}
-use Rattle.fp_allowed.proofs.PlanClasses.{plan-timed, route-timed}
+use Rattle.fp_allowed.proofs.PlanClasses.{plan_timed, route_timed}
 use Rattle.fp_prices.specs.declared.leaf_prices.Kind.{Kind}
 use Rattle.fp_prices.specs.declared.bounds.LeafBound.{LeafBound}
 use Rattle.fp_prices.specs.declared.bounds.LeafBound.TheVariants.{Empty, Value}
@@ -63,8 +63,8 @@ leaf-walks p windows points sides tables kind forced value walks valid leaf long
     record {
       long = long;
       sizes = sizes-agree p;
-      sized = sizes-some (length p.terminals) p.shipments valid.shipments;
-      capacity = λ c h. (All-get_or (IsArc (length p.terminals)) p.arcs c.arc no_arc (used-exist p points allowed 0 p.shipments walks c timed h) valid.arcs).within.capacity.0;
+      sized = sizes-some (length p.terminals) p.shipments valid.parts.shipments;
+      capacity = λ c h. (All-get_or (IsArc (length p.terminals)) p.arcs c.arc no_arc (used-exist p points allowed 0 p.shipments walks c timed h) valid.parts.arcs).within.capacity.0;
       few = λ c. users-few (λ j. allowed j c) 0 p.shipments walks c long (used-allowed p points allowed 0 p.shipments walks c timed);
       among = chains-among p points allowed forced 0 p.shipments leaf.chains walks leaf.are_chains timed;
     }
@@ -76,7 +76,7 @@ leaf-bounds p windows points sides tables kind forced value valid keep leaf d pl
     let walks : List (List Leg) = map (map (class_of p points d)) plan in
     let allowed : ℕ → Leg → Bool = is_allowed p windows points sides in
     let price : ℕ → ℕ → Leg → ℕ = λ k size. leaf_price p tables allowed kind leaf.chains k size in
-    let timed : AreTimedWalks p points allowed 0 p.shipments walks = plan-timed p windows points sides d plan of_leaf.denominator of_leaf.plan of_leaf.within of_leaf.obeys in
+    let timed : AreTimedWalks p points allowed 0 p.shipments walks = plan_timed p windows points sides d plan of_leaf.denominator of_leaf.plan of_leaf.within of_leaf.obeys in
     let long : length walks ≡ length p.shipments = same-length (class_of p points d) plan ∙ AllZip-long (Carries p d) p.shipments plan of_leaf.plan in
     let are : AreWalks p allowed (size_at p) leaf.chains walks = leaf-walks p windows points sides tables kind forced value walks valid leaf long timed in
     let bases : p.scale * departures_cost p leaf.chains (all_legs leaf.chains) + paid (λ c k. price k (size_at p k) c) 0 walks ≤ p.scale * departures_cost p walks (all_legs walks) =
@@ -91,7 +91,7 @@ pub leaf-empty : (p : Problem) (windows : ℕ → ℕ → Option Window) (points
     (d : ℕ) (plan : List (List Leg)) → IsPlanOfLeaf p windows sides d plan → ⊥
 leaf-empty p windows points sides empty d plan of_leaf =
     empty.none (map (class_of p points d) (route_at plan empty.shipment))
-    (route-timed p windows points sides d empty.shipment plan of_leaf.denominator empty.exists of_leaf.plan of_leaf.within of_leaf.obeys)
+    (route_timed p windows points sides d empty.shipment plan of_leaf.denominator empty.exists of_leaf.plan of_leaf.within of_leaf.obeys)
 
 -- the bound of a leaf, whoever finds it, bounds the plans of the leaf
 pub bounds-plans : (p : Problem) (windows : ℕ → ℕ → Option Window) (points : ℕ → List ℕ) (sides : List Side) (tables : List (List ClassShare)) (kind : Kind) (forced : Bool) (bound : LeafBound) → IsValid p →

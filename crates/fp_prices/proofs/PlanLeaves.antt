@@ -2,18 +2,22 @@
 use Rattle.std.proofs.Common.{◌≡◌, ◌≢◌, ℕ, ◌+◌, List, [], ◌∷◌, map, ⊎_elim, inl, inr, refl, sym, subst, arith}
 use Rattle.std.specs.Prelude.{Option, slice_index_or}
 use Rattle.std.specs.List.{AllByRecursion, AllZip}
+use Rattle.fp_lists.proofs.Distinct.{AreDistinct-head, AreDistinct-tail}
 use Rattle.fp_model.specs.declared.parts.Leg.{Leg}
 use Rattle.fp_model.specs.declared.parts.Shipment.{Shipment}
 use Rattle.fp_model.specs.Plans.{IsPlan}
 use Rattle.fp_model.specs.Problem.{Problem, arc_at}
-use Rattle.fp_model.specs.Routes.{AreApart, Carries, Leads, arcs_of, ends_of}
-use Rattle.fp_model.proofs.Places.{at-map, from-places, unmapped}
+use Rattle.fp_model.specs.Routes.{Carries, Leads, arcs_of, ends_of}
+use Rattle.fp_lists.specs.Distinct.{AreDistinct}
+use Rattle.fp_lists.proofs.Elements.{AllByRecursion-from_map, AllByRecursion-get_or_default, AnyByRecursion-weaker}
+use Rattle.fp_lists.proofs.Maps.{get_or-map_default}
+use Rattle.fp_lists.proofs.Numbered.{AllFrom-from_get_or}
 use Rattle.fp_tree.specs.declared.sides.Side.{Side}
 use Rattle.fp_tree.specs.Sides.{Exit, Fork, MeetsAll, Obeys}
-use Rattle.fp_tree.specs.Trees.{AnyByRecursion, HaveTails, IsTree, Leaf, LeaveApart, tree_leaves}
-use Rattle.fp_tree.proofs.Covers.{covers}
+use Rattle.fp_tree.specs.Trees.{HaveTails, IsTree, Leaf, LeaveApart, tree_leaves}
+use Rattle.fp_lists.specs.Elements.{AnyByRecursion}
+use Rattle.fp_tree.proofs.Cover.{CoversAll-tree_leaves}
 use Rattle.fp_allowed.specs.Allowed.{PlanObeys, exit_of, tails_of}
-use Rattle.fp_prices.proofs.ClassPrices.{each-at}
 
 -- what holds of the terminals of a walk but its last holds of the tails of its legs
 tails-among : (p : Problem) (P : ℕ → Type 0) (here there : ℕ) (legs : List Leg) → Leads p here (arcs_of legs) there → P here → AllByRecursion P (ends_of p (arcs_of legs)) →
@@ -23,15 +27,16 @@ tails-among p P here there (l ∷ legs) leads first all =
     (subst P (sym leads.1) first, tails-among p P (arc_at p l.arc).to there legs leads.2 all.0 all.1)
 
 -- a route leaves each terminal once
-pub route-apart : (p : Problem) (here there : ℕ) (legs : List Leg) → Leads p here (arcs_of legs) there → AreApart (here ∷ ends_of p (arcs_of legs)) →
+route-apart : (p : Problem) (here there : ℕ) (legs : List Leg) → Leads p here (arcs_of legs) there → AreDistinct (here ∷ ends_of p (arcs_of legs)) →
     LeaveApart (tails_of p) (map (exit_of p) legs)
 route-apart p here there [] leads apart = tt
 route-apart p here there (l ∷ legs) leads apart =
     let next : ℕ = (arc_at p l.arc).to in
-    let others : AllByRecursion (λ (e : Exit). e.tail ≢ here) (map (exit_of p) legs) = tails-among p (λ t. t ≢ here) next there legs leads.2 apart.0.0 apart.0.1 in (
+    let first : AllByRecursion (λ y. y ≢ here) (ends_of p (arcs_of (l ∷ legs))) = AreDistinct-head here (ends_of p (arcs_of (l ∷ legs))) apart in
+    let others : AllByRecursion (λ (e : Exit). e.tail ≢ here) (map (exit_of p) legs) = tails-among p (λ t. t ≢ here) next there legs leads.2 first.0 first.1 in (
       refl,
       subst (λ (t : ℕ). AllByRecursion (λ (e : Exit). e.tail ≢ t) (map (exit_of p) legs)) (sym leads.1) others,
-      route-apart p next there legs leads.2 apart.1,
+      route-apart p next there legs leads.2 (AreDistinct-tail here (ends_of p (arcs_of (l ∷ legs))) apart),
     )
 
 plan-apart : (p : Problem) (d : ℕ) (shipments : List Shipment) (plan : List (List Leg)) → AllZip (Carries p d) shipments plan → AllByRecursion (LeaveApart (tails_of p)) (map (map (exit_of p)) plan)
@@ -43,22 +48,18 @@ plan-apart p d (s ∷ shipments) (r ∷ plan) is = (route-apart p s.from s.to r 
 -- the legs of a plan, as a tree sees them, obey sides where the plan does
 obeys-plan : (p : Problem) (d : ℕ) (sides : List Side) (plan : List (List Leg)) → Obeys d (map (map (exit_of p)) plan) sides → PlanObeys p d sides plan
 obeys-plan p d sides plan obeys =
-    from-places (λ k r. AllByRecursion (λ (l : Leg). MeetsAll d k sides (exit_of p l)) r) plan [] 0 (λ k lt.
+    AllFrom-from_get_or (λ k r. AllByRecursion (λ (l : Leg). MeetsAll d k sides (exit_of p l)) r) plan [] 0 (λ k lt.
     let route : List Leg = slice_index_or plan k [] in
     let there : AllByRecursion (MeetsAll d k sides) (map (exit_of p) route) =
-    subst (λ (exits : List Exit). AllByRecursion (MeetsAll d k sides) exits) (at-map (map (exit_of p)) plan k []) (obeys k) in
+    subst (λ (exits : List Exit). AllByRecursion (MeetsAll d k sides) exits) (get_or-map_default (map (exit_of p)) plan k []) (obeys k) in
     let number : k ≡ 0 + k = omega arith in
-    subst (λ (j : ℕ). AllByRecursion (λ (l : Leg). MeetsAll d j sides (exit_of p l)) route) number (unmapped (MeetsAll d k sides) (exit_of p) route there))
-
-any-weaker : {X : Type 0} (P Q : X → Type 0) → ((x : X) → P x → Q x) → (xs : List X) → AnyByRecursion P xs → AnyByRecursion Q xs
-any-weaker P Q h [] any = any
-any-weaker P Q h (x ∷ xs) any = ⊎_elim (λ (here : P x). inl (h x here)) (λ (later : AnyByRecursion P xs). inr (any-weaker P Q h xs later)) any
+    subst (λ (j : ℕ). AllByRecursion (λ (l : Leg). MeetsAll d j sides (exit_of p l)) route) number (AllByRecursion-from_map (MeetsAll d k sides) (exit_of p) route there))
 
 -- every plan, over whatever denominator, obeys all sides of some leaf of any tree whose splits by arcs have the arcs' tails
 pub plan-obeys-leaf : {X : Type 0} (p : Problem) (fork_of : X → Option Fork) (nodes : List X) (d : ℕ) (plan : List (List Leg)) → HaveTails (tails_of p) fork_of nodes → IsTree fork_of nodes →
     IsPlan p d plan → AnyByRecursion (λ (l : Leaf X). PlanObeys p d l.sides plan) (tree_leaves fork_of nodes)
 plan-obeys-leaf {X} p fork_of nodes d plan told tree is =
     let routes : List (List Exit) = map (map (exit_of p)) plan in
-    any-weaker (λ (l : Leaf X). Obeys d routes l.sides) (λ (l : Leaf X). PlanObeys p d l.sides plan) (λ l. obeys-plan p d l.sides plan)
+    AnyByRecursion-weaker (λ (l : Leaf X). Obeys d routes l.sides) (λ (l : Leaf X). PlanObeys p d l.sides plan) (λ l. obeys-plan p d l.sides plan)
     (tree_leaves fork_of nodes)
-    (covers (tails_of p) fork_of nodes told tree d routes (λ k. each-at (LeaveApart (tails_of p)) routes k [] (plan-apart p d p.shipments plan is) tt))
+    (CoversAll-tree_leaves (tails_of p) fork_of nodes told tree d routes (λ k. AllByRecursion-get_or_default (LeaveApart (tails_of p)) routes k [] (plan-apart p d p.shipments plan is) tt))

@@ -7,18 +7,19 @@ use Rattle.fp_labels.specs.declared.graphs.Edge.{Edge}
 use Rattle.fp_labels.specs.Graphs.{edge_at, no_edge, HasEnds}
 use Rattle.fp_model.specs.declared.parts.Leg.{Leg}
 use Rattle.fp_model.specs.Problem.{Problem, arc_at, IsValid}
-use Rattle.fp_timenodes.proofs.Floors.{floor_point-is}
-use Rattle.fp_longestarcs.specs.Ascending.{ArePoints, place_of}
+use Rattle.fp_timenodes.proofs.Floors.{IsFloorPoint-floor_point}
+use Rattle.fp_longestarcs.specs.Ascending.{ArePoints}
+use Rattle.fp_lists.specs.Ascending.{place_in}
 use Rattle.fp_longestarcs.specs.Classes.{head_of}
 use Rattle.fp_longestarcs.specs.Networks.{TimedNetwork, IsArcOfClass, IsClass, IsNetwork, class_count, class_number, copy_count, first_class, point_count, points_in, tail_in}
-use Rattle.fp_longestarcs.specs.Whole.{IsWhole}
+use Rattle.fp_longestarcs.specs.Whole.{IsWholeNetwork}
 use Rattle.fp_longestarcs.proofs.ClassNumbers.{class-place, few-classes, first-more, number-within}
-use Rattle.fp_longestarcs.proofs.Grown.{points-of}
-use Rattle.fp_longestarcs.proofs.Lengthened.{arc-count, tail-of}
-use Rattle.fp_longestarcs.proofs.Places.{at-place}
-use Rattle.fp_longestarcs.proofs.Shorter.{head-within}
+use Rattle.fp_longestarcs.proofs.NewPoints.{points-of}
+use Rattle.fp_longestarcs.proofs.HeadLists.{arc-count, tail-of}
+use Rattle.fp_lists.proofs.Places.{get_or-place_in}
+use Rattle.fp_longestarcs.proofs.ShortCopies.{head-within}
 use Rattle.fp_allowed.specs.Listing.{class_at}
-use Rattle.fp_allowed.proofs.ListedClasses.{class_at-number, class_by, class_by-is, class_by-number}
+use Rattle.fp_allowed.proofs.ListedClasses.{class_at-number, class_by, class_by-number, IsClass-class_by}
 use Rattle.fp_prices.specs.Points.{class_edge, class_edges, edges_of, first_node, holding_at, holding_below, next_edge}
 use Rattle.fp_prices.proofs.Nodes.{nodes-more, nodes-within, node-within}
 
@@ -42,12 +43,12 @@ class-numbered net n valid h =
     let place : ℕ = n - first_class net arc in
     let within : place < length (points_in net (tail_in net arc)) = omega (arith, found.1.from, found.1.before) in (
       class_by net arc place,
-      class_by-is net arc place found.1.exists within,
+      IsClass-class_by net arc place found.1.exists within,
       omega (arith, class_by-number net arc place valid found.1.exists within, found.1.from),
     )
 
 -- the classes' edges are as many as the classes
-pub length-class_edges : (p : Problem) (net : TimedNetwork) → length (class_edges p net) ≡ class_count net
+length-class_edges : (p : Problem) (net : TimedNetwork) → length (class_edges p net) ≡ class_count net
 length-class_edges p net = length-map-range_with_len (λ n. class_edge p net (class_at net n)) 0 (class_count net)
 
 -- and there are as many more edges as holding edges
@@ -163,31 +164,31 @@ pub record Joins (p : Problem) (net : TimedNetwork) (c : Leg) : Type 0 where
   pub exists : c.arc < length p.arcs
   pub tail : (arc_at p c.arc).from < length net.points
   pub head : (arc_at p c.arc).to < length net.points
-  pub leaves : place_of (points_in net (arc_at p c.arc).from) c.depart < length (points_in net (arc_at p c.arc).from)
-  pub departs : get_or (points_in net (arc_at p c.arc).from) (place_of (points_in net (arc_at p c.arc).from) c.depart) 0 ≡ c.depart
-  pub enters : place_of (points_in net (arc_at p c.arc).to) (head_of p (points_in net) c) < length (points_in net (arc_at p c.arc).to)
-  pub arrives : get_or (points_in net (arc_at p c.arc).to) (place_of (points_in net (arc_at p c.arc).to) (head_of p (points_in net) c)) 0 ≡ head_of p (points_in net) c
+  pub leaves : place_in (points_in net (arc_at p c.arc).from) c.depart < length (points_in net (arc_at p c.arc).from)
+  pub departs : get_or (points_in net (arc_at p c.arc).from) (place_in (points_in net (arc_at p c.arc).from) c.depart) 0 ≡ c.depart
+  pub enters : place_in (points_in net (arc_at p c.arc).to) (head_of p (points_in net) c) < length (points_in net (arc_at p c.arc).to)
+  pub arrives : get_or (points_in net (arc_at p c.arc).to) (place_in (points_in net (arc_at p c.arc).to) (head_of p (points_in net) c)) 0 ≡ head_of p (points_in net) c
 
-pub class-joins : (p : Problem) (net : TimedNetwork) (c : Leg) → IsValid p → IsWhole p net → IsClass net c → Joins p net c
+pub class-joins : (p : Problem) (net : TimedNetwork) (c : Leg) → IsValid p → IsWholeNetwork p net → IsClass net c → Joins p net c
 class-joins p net c valid whole is =
     let exists : c.arc < length p.arcs = omega (arith, is.0, arc-count p net whole.arcs) in
     let tail : tail_in net c.arc ≡ (arc_at p c.arc).from = tail-of p net c.arc whole.arcs exists in
     let there = class-place net c whole.valid is in
     let head : (arc_at p c.arc).to < length net.points = head-within p net c.arc valid whole is.0 in
     let ends : ArePoints (points_in net (arc_at p c.arc).to) = points-of net (arc_at p c.arc).to whole.valid head in
-    let enters = at-place (points_in net (arc_at p c.arc).to) (head_of p (points_in net) c) ends.ascending (floor_point-is (points_in net (arc_at p c.arc).to) _ ends.zero).0 in
+    let enters = get_or-place_in (points_in net (arc_at p c.arc).to) (head_of p (points_in net) c) ends.ascending (IsFloorPoint-floor_point (points_in net (arc_at p c.arc).to) _ ends.zero).0 in
     record {
       exists = exists;
       tail = subst (λ (t : ℕ). t < length net.points) tail (whole.valid.tails c.arc 0 is.0);
       head = head;
-      leaves = subst (λ (t : ℕ). place_of (points_in net t) c.depart < length (points_in net t)) tail there.0;
-      departs = subst (λ (t : ℕ). get_or (points_in net t) (place_of (points_in net t) c.depart) 0 ≡ c.depart) tail there.1;
+      leaves = subst (λ (t : ℕ). place_in (points_in net t) c.depart < length (points_in net t)) tail there.0;
+      departs = subst (λ (t : ℕ). get_or (points_in net t) (place_in (points_in net t) c.depart) 0 ≡ c.depart) tail there.1;
       enters = enters.0;
       arrives = enters.1 0;
     }
 
 -- both ends of each edge are nodes
-pub has-ends : (p : Problem) (net : TimedNetwork) → IsValid p → IsWhole p net → HasEnds (point_count net) (edges_of p net)
+pub has-ends : (p : Problem) (net : TimedNetwork) → IsValid p → IsWholeNetwork p net → HasEnds (point_count net) (edges_of p net)
 has-ends p net valid whole k d h =
     subst (λ (e : Edge). (e.from < point_count net) × (e.to < point_count net)) (get_or_default (edges_of p net) k no_edge d h)
     (⊎_elim class holding (edge-cases p net k whole.valid h))
@@ -199,8 +200,8 @@ has-ends p net valid whole k d h =
     class (c, is, number) =
         let joins = class-joins p net c valid whole is in
         subst Ends (sym (edge-of-class p net c whole.valid is) ∙ ap (edge_at (edges_of p net)) number) (
-          node-within net (arc_at p c.arc).from (place_of (points_in net (arc_at p c.arc).from) c.depart) joins.tail joins.leaves,
-          node-within net (arc_at p c.arc).to (place_of (points_in net (arc_at p c.arc).to) (head_of p (points_in net) c)) joins.head joins.enters,
+          node-within net (arc_at p c.arc).from (place_in (points_in net (arc_at p c.arc).from) c.depart) joins.tail joins.leaves,
+          node-within net (arc_at p c.arc).to (place_in (points_in net (arc_at p c.arc).to) (head_of p (points_in net) c)) joins.head joins.enters,
         )
 
     holding : ((class_count net ≤ k) × IsHolding net (edge_at (edges_of p net) k)) → Ends (edge_at (edges_of p net) k)

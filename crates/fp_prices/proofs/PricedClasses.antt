@@ -11,8 +11,8 @@ use Rattle.fp_model.specs.Costs.{all_legs, has_leg}
 use Rattle.fp_model.specs.Numbered.{shipment_at}
 use Rattle.fp_model.specs.Problem.{IsValid, Problem, alone_total, arc_at, no_arc}
 use Rattle.fp_longestarcs.specs.Networks.{IsClass, TimedNetwork, class_count, class_number}
-use Rattle.fp_longestarcs.specs.Whole.{IsWhole}
-use Rattle.fp_longestarcs.proofs.Lengthened.{arc-count}
+use Rattle.fp_longestarcs.specs.Whole.{IsWholeNetwork}
+use Rattle.fp_longestarcs.proofs.HeadLists.{arc-count}
 use Rattle.fp_allowed.specs.Bits.{bit_of}
 use Rattle.fp_allowed.specs.Listing.{class_at}
 use Rattle.fp_prices.specs.declared.class_prices.LeafPricing.{LeafPricing}
@@ -36,11 +36,11 @@ pub alone-fits : (p : Problem) → IsValid p → p.scale * alone_total p.arcs p.
 alone-fits p valid = omega (arith, valid.fits)
 
 -- a class of a whole network goes by an arc that exists
-pub class-exists : (p : Problem) (net : TimedNetwork) (c : Leg) → IsWhole p net → IsClass net c → c.arc < length p.arcs
+pub class-exists : (p : Problem) (net : TimedNetwork) (c : Leg) → IsWholeNetwork p net → IsClass net c → c.arc < length p.arcs
 class-exists p net c whole is = omega (arith, is.0, arc-count p net whole.arcs)
 
 -- the truck price of an allowed class and the flow are together at most what all shipments cost over every arc alone
-pub class-small : (p : Problem) (tables : List (List ClassShare)) (allowed : ℕ → Leg → Bool) (kind : Kind) (c : Leg) (k : ℕ) → IsValid p → AllKeepRule p tables → k < length p.shipments →
+class-small : (p : Problem) (tables : List (List ClassShare)) (allowed : ℕ → Leg → Bool) (kind : Kind) (c : Leg) (k : ℕ) → IsValid p → AllKeepRule p tables → k < length p.shipments →
     c.arc < length p.arcs → allowed k c ≡ true →
     truck_price p tables allowed kind c k (shipment_at p k).size + p.scale * (arc_at p c.arc).freight * (shipment_at p k).size ≤ p.scale * alone_total p.arcs p.shipments
 class-small p tables allowed kind c k valid keep exists arc_exists is =
@@ -85,10 +85,8 @@ price-in_parts p net tables allowed Even users c k size count all price rule is 
 price-in_parts p net tables allowed (Table id) users c k size count all price rule is count_is all_is price_is = absurd rule
 
 -- the rate of an arc
-pub rate-at : (p : Problem) (rates : List ℕ) (a r : ℕ) → rates ≡ map (rate_of p.scale) p.arcs → a < length p.arcs → r ≡ get_or rates a r → r ≡ rate_of p.scale (arc_at p a)
-rate-at p rates a r are exists is =
-    let inside : a < length rates = omega (arith, exists, ap (λ (l : List ℕ). length l) are, length-map p.arcs (rate_of p.scale)) in
-    get_or_read rates a r inside is 0 ∙ ap (λ (l : List ℕ). get_or l a 0) are ∙ get_or-map (rate_of p.scale) p.arcs a no_arc 0 exists
+pub rate-at : (p : Problem) (rates : List ℕ) (a : ℕ) → rates ≡ map (rate_of p.scale) p.arcs → a < length p.arcs → get_or rates a 0 ≡ rate_of p.scale (arc_at p a)
+rate-at p rates a are exists = ap (λ (l : List ℕ). get_or l a 0) are ∙ get_or-map (rate_of p.scale) p.arcs a no_arc 0 exists
 
 -- the shares by which a rule prices are those of a table in order
 pub rule-shares : (p : Problem) (net : TimedNetwork) (tables : List (List ClassShare)) (allowed : ℕ → Leg → Bool) (kind : Kind) (shares : Bor (List Share)) (c : Leg) (k size : ℕ) (share : ClassShare) →

@@ -6,37 +6,15 @@ use Rattle.std.specs.Int.{div_ceil}
 use Rattle.std.proofs.Math.Nat.{mul-le-mul_left, mul-le-mul_right, div-mul-le_self}
 use Rattle.std.proofs.lemmas.Bool.{cases_Bool, cond-true, cond-false, eqb-true, ne_eqb}
 use Rattle.std.proofs.lemmas.List.Sums.{sum_by-cons, sum_by-le-sum_by}
+use Rattle.fp_lists.proofs.DistinctSums.{sum_by-one-le}
 use Rattle.fp_model.specs.declared.parts.Arc.{Arc}
 use Rattle.fp_model.specs.Problem.{truck_cost}
-use Rattle.fp_model.specs.Routes.{AreApart}
-use Rattle.fp_model.proofs.Ceilings.{div_ceil-holds}
-use Rattle.fp_model.proofs.Sums.{same_sum, sum_by-both}
+use Rattle.fp_lists.specs.Distinct.{AreDistinct}
+use Rattle.fp_lists.proofs.Ceilings.{div_ceil-holds, div_ceil-some}
+use Rattle.fp_lists.proofs.Sums.{sum_by-same, sum_by-both, sum_by-scaled_right, sum_by-const}
 use Rattle.fp_prices.specs.declared.tables.Weight.{Weight}
 use Rattle.fp_prices.specs.Shares.{ClassShare}
 use Rattle.fp_prices.specs.Prices.{weight_in, KeepsRule, linear_price, even_price, share_price}
-
-sum_by-times : {X : Type 0} (size : X → ℕ) (rate : ℕ) (set : List X) → sum_by (λ k. size k * rate) set ≡ sum_by size set * rate
-sum_by-times size rate [] = omega arith
-sum_by-times size rate (k ∷ set) =
-    let all : sum_by size (k ∷ set) * rate ≡ (size k + sum_by size set) * rate = ap (λ (n : ℕ). n * rate) (sum_by-cons size k set) in
-    omega (arith, sum_by-times size rate set, sum_by-cons (λ j. size j * rate) k set, all)
-
-pub sum_by-const : {X : Type 0} (n : ℕ) (set : List X) → sum_by (λ k. n) set ≡ length set * n
-sum_by-const n [] = omega arith
-sum_by-const n (k ∷ set) = omega (arith, sum_by-const n set, sum_by-cons (λ j. n) k set)
-
--- what weighs something needs a truck
-pub div_ceil-some : (a u : ℕ) → 0 < u → 0 < a → 1 ≤ div_ceil a u
-div_ceil-some a u h some =
-    let holds : a ≤ div_ceil a u * u = div_ceil-holds a u h in
-    ⊎_elim
-    (λ (none : div_ceil a u ≡ 0). absurd (let holds_none : a ≤ 0 * u = subst (λ (n : ℕ). a ≤ n * u) none holds in omega arith))
-    (λ (any : 1 ≤ div_ceil a u). any)
-    (none_or_some (div_ceil a u))
-  where
-    none_or_some : (n : ℕ) → (n ≡ 0) ⊎ (1 ≤ n)
-    none_or_some zero = inl refl
-    none_or_some (suc n) = inr (omega arith)
 
 -- linear prices
 pub linear-fits : (scale : ℕ) (arc : Arc) (size : ℕ → ℕ) (set : List ℕ) → 0 < arc.capacity →
@@ -46,7 +24,7 @@ linear-fits scale arc size set h =
     let rate : ℕ = most / arc.capacity in
     let all : ℕ = sum_by size set in
     let count : ℕ = div_ceil all arc.capacity in
-    let each : sum_by (λ k. size k * rate) set ≡ all * rate = sum_by-times size rate set in
+    let each : sum_by (λ k. size k * rate) set ≡ all * rate = sum_by-scaled_right size rate set in
     let held : all * rate ≤ count * arc.capacity * rate = mul-le-mul_right rate (div_ceil-holds all arc.capacity h) in
     let rated : count * (rate * arc.capacity) ≤ count * most = mul-le-mul_left count (div-mul-le_self most arc.capacity) in
     omega (arith, each, held, rated)
@@ -61,7 +39,7 @@ even-fits scale arc count all size set h few some =
     ⊎_elim
     (λ (fits : test ≡ true).
     let same : sum_by (λ k. even_price scale arc count all (size k)) set ≡ sum_by (λ (k : ℕ). most / count) set =
-    same_sum (λ k. even_price scale arc count all (size k)) (λ (k : ℕ). most / count)
+    sum_by-same (λ k. even_price scale arc count all (size k)) (λ (k : ℕ). most / count)
     (λ k. cond-true test (most / count) (linear_price scale arc (size k)) fits) set in
     let each : sum_by (λ (k : ℕ). most / count) set ≡ length set * (most / count) = sum_by-const (most / count) set in
     let parts : length set * (most / count) ≤ count * (most / count) = mul-le-mul_right (most / count) few in
@@ -70,28 +48,10 @@ even-fits scale arc count all size set h few some =
     omega (arith, same, each, parts, whole, once))
     (λ (over : test ≡ false).
     let same : sum_by (λ k. even_price scale arc count all (size k)) set ≡ sum_by (λ k. linear_price scale arc (size k)) set =
-    same_sum (λ k. even_price scale arc count all (size k)) (λ k. linear_price scale arc (size k))
+    sum_by-same (λ k. even_price scale arc count all (size k)) (λ k. linear_price scale arc (size k))
     (λ k. cond-false test (most / count) (linear_price scale arc (size k)) over) set in
     omega (arith, same, linear-fits scale arc size set h))
     (cases_Bool test)
-
--- a value at one number counts at most once among different numbers
-none-there : (x n : ℕ) (set : List ℕ) → AllByRecursion (λ y. y ≢ x) set → sum_by (λ k. cond (nat_eq x k) n 0) set ≡ 0
-none-there x n [] others = refl
-none-there x n (k ∷ set) others =
-    omega (arith, none-there x n set others.1, sum_by-cons (λ j. cond (nat_eq x j) n 0) k set, cond-false (nat_eq x k) n 0 (ne_eqb x k (λ e. others.0 (sym e))))
-
-once-there : (x n : ℕ) (set : List ℕ) → AreApart set → sum_by (λ k. cond (nat_eq x k) n 0) set ≤ n
-once-there x n [] apart = omega arith
-once-there x n (k ∷ set) apart =
-    ⊎_elim
-    (λ (same : nat_eq x k ≡ true).
-    let here : k ≡ x = sym (eqb-true x k same) in
-    let others : AllByRecursion (λ y. y ≢ x) set = subst (λ (z : ℕ). AllByRecursion (λ y. y ≢ z) set) here apart.0 in
-    omega (arith, sum_by-cons (λ j. cond (nat_eq x j) n 0) k set, cond-true (nat_eq x k) n 0 same, none-there x n set others))
-    (λ (other : nat_eq x k ≡ false).
-    omega (arith, sum_by-cons (λ j. cond (nat_eq x j) n 0) k set, cond-false (nat_eq x k) n 0 other, once-there x n set apart.1))
-    (cases_Bool (nat_eq x k))
 
 -- a weight counts for one number at most
 weight-parts : (w : Weight) (weights : List Weight) (k : ℕ) → weight_in (w ∷ weights) k ≤ cond (nat_eq w.shipment k) w.w 0 + weight_in weights k
@@ -104,7 +64,7 @@ weight-parts w weights k =
     (cases_Bool (nat_eq w.shipment k))
 
 -- the weights of different shipments sum to at most all weights
-pub weights-le : (weights : List Weight) (set : List ℕ) → AreApart set → sum_by (weight_in weights) set ≤ sum_by (λ (w : Weight). w.w) weights
+weights-le : (weights : List Weight) (set : List ℕ) → AreDistinct set → sum_by (weight_in weights) set ≤ sum_by (λ (w : Weight). w.w) weights
 weights-le [] set apart = omega (arith, sum_by-const 0 set)
 weights-le (w ∷ weights) set apart =
     let here : ℕ → ℕ = λ k. cond (nat_eq w.shipment k) w.w 0 in
@@ -114,13 +74,13 @@ weights-le (w ∷ weights) set apart =
       arith,
       pointwise,
       sum_by-both here (weight_in weights) set,
-      once-there w.shipment w.w set apart,
+      sum_by-one-le w.shipment w.w set apart,
       weights-le weights set apart,
       sum_by-cons (λ (x : Weight). x.w) w weights,
     )
 
 -- prices by a share that keeps the price rule
-pub share-fits : (scale : ℕ) (arc : Arc) (share : ClassShare) (size : ℕ → ℕ) (set : List ℕ) → 0 < arc.capacity → KeepsRule scale arc share → AreApart set → 0 < sum_by size set →
+pub share-fits : (scale : ℕ) (arc : Arc) (share : ClassShare) (size : ℕ → ℕ) (set : List ℕ) → 0 < arc.capacity → KeepsRule scale arc share → AreDistinct set → 0 < sum_by size set →
     sum_by (λ k. share_price share k (size k)) set ≤ scale * truck_cost arc (sum_by size set)
 share-fits scale arc share size set h rule apart some =
     let most : ℕ = scale * arc.truck in
@@ -130,7 +90,7 @@ share-fits scale arc share size set h rule apart some =
     let total : ℕ = sum_by (λ (w : Weight). w.w) share.weights in
     let split : sum_by (λ k. share_price share k (size k)) set ≡ paid + sum_by (λ k. size k * share.v) set =
     sum_by-both (weight_in share.weights) (λ k. size k * share.v) set in
-    let sized : sum_by (λ k. size k * share.v) set ≡ all * share.v = sum_by-times size share.v set in
+    let sized : sum_by (λ k. size k * share.v) set ≡ all * share.v = sum_by-scaled_right size share.v set in
     let weighed : paid ≤ total = weights-le share.weights set apart in
     let once : total * 1 ≤ total * count = mul-le-mul_left total (div_ceil-some all arc.capacity h some) in
     let held : all * share.v ≤ count * arc.capacity * share.v = mul-le-mul_right share.v (div_ceil-holds all arc.capacity h) in

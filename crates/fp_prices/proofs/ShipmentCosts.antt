@@ -72,11 +72,11 @@ if_some-weaker None P Q on h = tt
 if_some-weaker (Some n) P Q on h = on n h
 
 -- all costs are at most that
-pub costs-most : (pricing : LeafPricing) (k : ℕ) (row : List Bool) (graph : PointGraph) (costs : List (Option ℕ)) → IsPointGraph pricing.instance.now pricing.network.now graph → (priced : IsPricedRow pricing k row) →
+pub costs-le_alone : (pricing : LeafPricing) (k : ℕ) (row : List Bool) (graph : PointGraph) (costs : List (Option ℕ)) → IsPointGraph pricing.instance.now pricing.network.now graph → (priced : IsPricedRow pricing k row) →
     k < length pricing.instance.now.shipments → length costs ≡ graph.edges →
     HoldsClassCosts pricing.instance.now pricing.network.now (priced.allowed k) (leaf_prices pricing.instance.now priced.tables priced.allowed priced.kind priced.chains k) (shipment_at pricing.instance.now k).size costs →
     IsFree (class_count pricing.network.now) costs → All (λ (o : Option ℕ). IfSome o (λ n. n ≤ most_of pricing.instance.now k)) costs
-costs-most pricing k row graph costs of priced exists long holds free =
+costs-le_alone pricing k row graph costs of priced exists long holds free =
     let p : Problem = pricing.instance.now in
     let net : TimedNetwork = pricing.network.now in
     let price : Leg → ℕ = leaf_prices p priced.tables priced.allowed priced.kind priced.chains k in
@@ -90,7 +90,7 @@ costs-most pricing k row graph costs of priced exists long holds free =
     (mul-le-mul_left p.scale (arc-alone p (shipment_at p k).size c.arc arc_exists)))
 
 -- so many times that fit
-pub most-fits : (p : Problem) (k : ℕ) → IsValid p → k < length p.shipments → 65536 * most_of p k < 2 ^ 127
+most-fits : (p : Problem) (k : ℕ) → IsValid p → k < length p.shipments → 65536 * most_of p k < 2 ^ 127
 most-fits p k valid exists =
     let own : p.scale * sum_by (alone_cost (shipment_at p k).size) p.arcs ≤ p.scale * alone_total p.arcs p.shipments = mul-le-mul_left p.scale (shipment-alone p k exists) in
     omega (arith, own, valid.fits)

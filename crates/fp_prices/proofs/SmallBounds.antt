@@ -6,16 +6,19 @@ use Rattle.std.proofs.Math.Nat.{mul-le-mul_left}
 use Rattle.std.proofs.lemmas.List.Sums.{sum_by-cons, sum_by-le-sum_by}
 use Rattle.fp_model.specs.declared.parts.Leg.{Leg}
 use Rattle.fp_model.specs.declared.parts.Shipment.{Shipment}
-use Rattle.fp_model.specs.Numbered.{AllZipFrom}
+use Rattle.fp_lists.specs.Numbered.{AllZipFrom}
 use Rattle.fp_model.specs.Problem.{Problem, IsValid, alone_cost, alone_total, arc_at, no_arc}
-use Rattle.fp_model.specs.Routes.{AreApart, arcs_of}
+use Rattle.fp_model.specs.Routes.{arcs_of}
+use Rattle.fp_lists.specs.Distinct.{AreDistinct}
 use Rattle.fp_model.specs.Costs.{all_legs, departures_cost}
-use Rattle.fp_model.proofs.Bounds.{AreApart-map, alone_routes, alone_trucks, departures-le-alone, sum_by-places-le}
-use Rattle.fp_model.proofs.Sums.{sum_by-map}
+use Rattle.fp_model.proofs.Bounds.{alone_routes, alone_trucks, departures-le-alone}
+use Rattle.fp_lists.proofs.Distinct.{AreDistinct-from_map, AreDistinct-cons, AreDistinct-nil}
+use Rattle.fp_lists.proofs.DistinctSums.{sum_by-places-le}
+use Rattle.fp_lists.proofs.Sums.{sum_by-map}
 use Rattle.fp_flatnet.specs.declared.window_tables.Window.{Window}
 use Rattle.fp_tree.specs.declared.sides.Side.{Side}
 use Rattle.fp_allowed.specs.Allowed.{AreForced, is_allowed, tails_of}
-use Rattle.fp_allowed.proofs.AllowedClasses.{is_allowed-parts}
+use Rattle.fp_allowed.proofs.AllowedClasses.{is_allowed_parts}
 use Rattle.fp_prices.specs.declared.leaf_prices.Kind.{Kind}
 use Rattle.fp_prices.specs.declared.bounds.LeafBound.TheVariants.{Value}
 use Rattle.fp_prices.specs.Shares.{ClassShare}
@@ -29,14 +32,14 @@ not-met p allowed there met here (c ∷ chain) t among forced =
     ((λ e. among here forced.1 (sym e ∙ forced.2.leaves)), not-met p allowed there (here ∷ met) (arc_at p c.arc).to chain t (λ x others. among x others.1) forced.3)
 
 -- so they leave different terminals
-tails-apart : (p : Problem) (allowed : Leg → Bool) (there : ℕ) (met : List ℕ) (here : ℕ) (chain : List Leg) → AreForced p allowed there met here chain → AreApart (map (tails_of p) (arcs_of chain))
-tails-apart p allowed there met here [] forced = tt
+tails-apart : (p : Problem) (allowed : Leg → Bool) (there : ℕ) (met : List ℕ) (here : ℕ) (chain : List Leg) → AreForced p allowed there met here chain → AreDistinct (map (tails_of p) (arcs_of chain))
+tails-apart p allowed there met here [] forced = AreDistinct-nil
 tails-apart p allowed there met here (c ∷ chain) forced =
     let others : AllByRecursion (λ y. y ≢ here) (map (tails_of p) (arcs_of chain)) =
-    not-met p allowed there (here ∷ met) (arc_at p c.arc).to chain here (λ x others e. others.0 e) forced.3 in (
-      subst (λ (t : ℕ). AllByRecursion (λ y. y ≢ t) (map (tails_of p) (arcs_of chain))) (sym forced.2.leaves) others,
-      tails-apart p allowed there (here ∷ met) (arc_at p c.arc).to chain forced.3,
-    )
+    not-met p allowed there (here ∷ met) (arc_at p c.arc).to chain here (λ x others e. others.0 e) forced.3 in
+    AreDistinct-cons (tails_of p c.arc) (map (tails_of p) (arcs_of chain))
+    (subst (λ (t : ℕ). AllByRecursion (λ y. y ≢ t) (map (tails_of p) (arcs_of chain))) (sym forced.2.leaves) others)
+    (tails-apart p allowed there (here ∷ met) (arc_at p c.arc).to chain forced.3)
 
 forced-exist : (p : Problem) (allowed : Leg → Bool) (there : ℕ) (met : List ℕ) (here : ℕ) (chain : List Leg) → ((c : Leg) → allowed c ≡ true → c.arc < length p.arcs) →
     AreForced p allowed there met here chain → AllByRecursion (λ a. a < length p.arcs) (arcs_of chain)
@@ -46,14 +49,14 @@ forced-exist p allowed there met here (c ∷ chain) exist forced =
 
 -- the forced chain of a shipment goes by different arcs that exist
 pub chain-arcs : (p : Problem) (allowed : Leg → Bool) (forced : Bool) (s : Shipment) (chain : List Leg) → ((c : Leg) → allowed c ≡ true → c.arc < length p.arcs) → IsChain p allowed forced s chain →
-    AllByRecursion (λ a. a < length p.arcs) (arcs_of chain) × AreApart (arcs_of chain)
+    AllByRecursion (λ a. a < length p.arcs) (arcs_of chain) × AreDistinct (arcs_of chain)
 chain-arcs p allowed true s chain exist is =
-    (forced-exist p allowed s.to [] s.from chain exist is.forced, AreApart-map (tails_of p) (arcs_of chain) (tails-apart p allowed s.to [] s.from chain is.forced))
+    (forced-exist p allowed s.to [] s.from chain exist is.forced, AreDistinct-from_map (tails_of p) (arcs_of chain) (tails-apart p allowed s.to [] s.from chain is.forced))
 chain-arcs p allowed false s chain exist is =
-    subst (λ (legs : List Leg). AllByRecursion (λ a. a < length p.arcs) (arcs_of legs) × AreApart (arcs_of legs)) (sym is) (tt, tt)
+    subst (λ (legs : List Leg). AllByRecursion (λ a. a < length p.arcs) (arcs_of legs) × AreDistinct (arcs_of legs)) (sym is) (tt, AreDistinct-nil)
 
 -- so its trucks alone cost at most what the shipment would cost over every arc alone
-chain-alone : (p : Problem) (size : ℕ) (chain : List Leg) → AllByRecursion (λ a. a < length p.arcs) (arcs_of chain) → AreApart (arcs_of chain) →
+chain-alone : (p : Problem) (size : ℕ) (chain : List Leg) → AllByRecursion (λ a. a < length p.arcs) (arcs_of chain) → AreDistinct (arcs_of chain) →
     sum_by (alone_trucks p size) chain ≤ sum_by (alone_cost size) p.arcs
 chain-alone p size chain exist apart =
     let at : ℕ → ℕ = λ a. alone_cost size (get_or p.arcs a no_arc) in
@@ -79,7 +82,7 @@ chains-alone p allowed forced i (s ∷ shipments) (chain ∷ chains) exist are =
 pub bases-small : (p : Problem) (windows : ℕ → ℕ → Option Window) (points : ℕ → List ℕ) (sides : List Side) (forced : Bool) (chains : List (List Leg)) →
     AllZipFrom (λ k. IsChain p (is_allowed p windows points sides k) forced) 0 p.shipments chains → departures_cost p chains (all_legs chains) ≤ alone_total p.arcs p.shipments
 bases-small p windows points sides forced chains are =
-    let alone = chains-alone p (is_allowed p windows points sides) forced 0 p.shipments chains (λ k c is. (is_allowed-parts p windows points sides k c is).0) are in
+    let alone = chains-alone p (is_allowed p windows points sides) forced 0 p.shipments chains (λ k c is. (is_allowed_parts p windows points sides k c is).0) are in
     let routes : alone_routes p p.shipments chains ≤ alone_total p.arcs p.shipments = alone.1 in
     omega (arith, departures-le-alone p p.shipments chains alone.0, routes)
 

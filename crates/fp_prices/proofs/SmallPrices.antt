@@ -6,6 +6,7 @@ use Rattle.std.proofs.lemmas.Bool.{cases_Bool, cond-true, cond-false}
 use Rattle.std.proofs.lemmas.List.Elements.{All-get_or}
 use Rattle.std.proofs.lemmas.List.Sums.{sum_by-cons, get_or-le-sum_by}
 use Rattle.std.proofs.Math.Nat.{mul-le-mul_left}
+use Rattle.fp_lists.proofs.Distinct.{AreDistinct-cons, AreDistinct-nil}
 use Rattle.fp_model.specs.declared.parts.Arc.{Arc}
 use Rattle.fp_model.specs.declared.parts.Leg.{Leg}
 use Rattle.fp_model.specs.declared.parts.Shipment.{Shipment}
@@ -15,7 +16,7 @@ use Rattle.fp_model.specs.Costs.{all_legs, has_leg}
 use Rattle.fp_flatnet.specs.declared.window_tables.Window.{Window}
 use Rattle.fp_tree.specs.declared.sides.Side.{Side}
 use Rattle.fp_allowed.specs.Allowed.{is_allowed}
-use Rattle.fp_allowed.proofs.AllowedClasses.{is_allowed-parts}
+use Rattle.fp_allowed.proofs.AllowedClasses.{is_allowed_parts}
 use Rattle.fp_prices.specs.declared.leaf_prices.Kind.{Kind}
 use Rattle.fp_prices.specs.Shares.{ClassShare}
 use Rattle.fp_prices.specs.Prices.{AllKeepRule, allowed_count, truck_price}
@@ -39,15 +40,15 @@ pub price-small : (p : Problem) (tables : List (List ClassShare)) (allowed : ℕ
 price-small p tables allowed kind c k valid keep exists arc_exists is =
     let size : ℕ = (shipment_at p k).size in
     let price : ℕ → ℕ = λ j. truck_price p tables allowed kind c j size in
-    let some : 1 ≤ size = (All-get_or (IsShipment (length p.terminals)) p.shipments k no_shipment exists valid.shipments).within.size.0 in
-    let capacity : 1 ≤ (arc_at p c.arc).capacity = (All-get_or (IsArc (length p.terminals)) p.arcs c.arc no_arc arc_exists valid.arcs).within.capacity.0 in
+    let some : 1 ≤ size = (All-get_or (IsShipment (length p.terminals)) p.shipments k no_shipment exists valid.parts.shipments).within.size.0 in
+    let capacity : 1 ≤ (arc_at p c.arc).capacity = (All-get_or (IsArc (length p.terminals)) p.arcs c.arc no_arc arc_exists valid.parts.arcs).within.capacity.0 in
     let number : 0 + k ≡ k = omega arith in
     let few : 1 ≤ allowed_count (λ j. allowed j c) 0 p.shipments =
     allowed_count-some (λ j. allowed j c) 0 k p.shipments exists (subst (λ (n : ℕ). allowed n c ≡ true) (sym number) is) in
     let one_size : sum_by (λ (j : ℕ). size) (k ∷ []) ≡ size = omega (arith, sum_by-cons (λ (j : ℕ). size) k []) in
     let one_price : sum_by price (k ∷ []) ≡ price k = omega (arith, sum_by-cons price k []) in
     let fit : sum_by price (k ∷ []) ≤ p.scale * truck_cost (arc_at p c.arc) (sum_by (λ (j : ℕ). size) (k ∷ [])) =
-    trucks-fit p tables allowed kind c (λ (j : ℕ). size) (k ∷ []) keep (omega (arith, capacity)) (tt, tt) (omega (arith, one_size, some)) few in
+    trucks-fit p tables allowed kind c (λ (j : ℕ). size) (k ∷ []) keep (omega (arith, capacity)) (AreDistinct-cons k [] tt AreDistinct-nil) (omega (arith, one_size, some)) few in
     let there : sum_by price (k ∷ []) ≤ p.scale * truck_cost (arc_at p c.arc) size =
     subst (λ (n : ℕ). sum_by price (k ∷ []) ≤ p.scale * truck_cost (arc_at p c.arc) n) one_size fit in
     omega (arith, there, one_price)
@@ -77,20 +78,20 @@ pub shipment-alone : (p : Problem) (k : ℕ) → k < length p.shipments → sum_
 shipment-alone p k exists = get_or-le-sum_by (λ (s : Shipment). sum_by (alone_cost s.size) p.arcs) p.shipments k no_shipment exists
 
 -- what a shipment pays for a class that is allowed for it, with its flow, is at most the scaled cost of going over each arc alone
-pub class_cost-small : (p : Problem) (windows : ℕ → ℕ → Option Window) (points : ℕ → List ℕ) (sides : List Side) (tables : List (List ClassShare)) (kind : Kind) (chains : List (List Leg)) (c : Leg) (k : ℕ) →
+class_cost-small : (p : Problem) (windows : ℕ → ℕ → Option Window) (points : ℕ → List ℕ) (sides : List Side) (tables : List (List ClassShare)) (kind : Kind) (chains : List (List Leg)) (c : Leg) (k : ℕ) →
     IsValid p → AllKeepRule p tables → k < length p.shipments → is_allowed p windows points sides k c ≡ true →
     leaf_price p tables (is_allowed p windows points sides) kind chains k (shipment_at p k).size c + p.scale * (arc_at p c.arc).freight * (shipment_at p k).size
     ≤ p.scale * sum_by (alone_cost (shipment_at p k).size) p.arcs
 class_cost-small p windows points sides tables kind chains c k valid keep exists is =
     let size : ℕ = (shipment_at p k).size in
     let allowed : ℕ → Leg → Bool = is_allowed p windows points sides in
-    let arc_exists : c.arc < length p.arcs = (is_allowed-parts p windows points sides k c is).0 in
+    let arc_exists : c.arc < length p.arcs = (is_allowed_parts p windows points sides k c is).0 in
     let priced : leaf_price p tables allowed kind chains k size c + p.scale * (arc_at p c.arc).freight * size ≤ p.scale * alone_cost size (arc_at p c.arc) =
     priced-alone p (arc_at p c.arc) (leaf_price p tables allowed kind chains k size c) size (leaf_price-small p tables allowed kind chains c k valid keep exists arc_exists is) in
     le_trans priced (mul-le-mul_left p.scale (arc-alone p size c.arc arc_exists))
 
 -- so a walk by allowed classes costs at most so much for each of its classes
-pub walk_cost-small : (p : Problem) (windows : ℕ → ℕ → Option Window) (points : ℕ → List ℕ) (sides : List Side) (tables : List (List ClassShare)) (kind : Kind) (chains : List (List Leg)) (k : ℕ) (walk : List Leg) →
+walk_cost-small : (p : Problem) (windows : ℕ → ℕ → Option Window) (points : ℕ → List ℕ) (sides : List Side) (tables : List (List ClassShare)) (kind : Kind) (chains : List (List Leg)) (k : ℕ) (walk : List Leg) →
     IsValid p → AllKeepRule p tables → k < length p.shipments → AllByRecursion (λ c. is_allowed p windows points sides k c ≡ true) walk →
     walk_cost p (leaf_price p tables (is_allowed p windows points sides) kind chains k (shipment_at p k).size) (shipment_at p k).size walk
     ≤ length walk * (p.scale * sum_by (alone_cost (shipment_at p k).size) p.arcs)

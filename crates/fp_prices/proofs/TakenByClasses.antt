@@ -7,7 +7,7 @@ use Rattle.std.proofs.lemmas.List.Sums.{sum_by-cons}
 use Rattle.fp_model.specs.declared.parts.Leg.{Leg}
 use Rattle.fp_model.specs.Costs.{same_leg, has_leg, distinct, all_legs}
 use Rattle.fp_model.proofs.Distinct.{distinct_sum, distinct_sum_new, distinct_sum_same, distinct_sum-le}
-use Rattle.fp_model.proofs.Sums.{same_sum, sum_by-both}
+use Rattle.fp_lists.proofs.Sums.{sum_by-same, sum_by-both}
 
 -- the shipments, numbered from i, whose walks have the class
 abbrev pub users : ℕ → List (List Leg) → Leg → List ℕ
@@ -61,7 +61,7 @@ paid-le price all i (walk ∷ walks) once within =
     let out : (k : Leg) → has_leg k all ≡ false → (has_leg k walk ≡ false) × (has_leg k (all_legs walks) ≡ false) =
     λ k h. or_parts (has_leg k walk) (has_leg k (all_legs walks)) (sym (list_any-append (same_leg k) walk (all_legs walks)) ∙ within k h) in
     let split : distinct_sum (λ c. sum_by (price c) (users i (walk ∷ walks) c)) all ≡ distinct_sum own all + distinct_sum others all =
-    same_sum (λ c. sum_by (price c) (users i (walk ∷ walks) c)) (λ c. own c + others c) (taken-parts price i walk walks) (distinct all)
+    sum_by-same (λ c. sum_by (price c) (users i (walk ∷ walks) c)) (λ c. own c + others c) (taken-parts price i walk walks) (distinct all)
     ∙ sum_by-both own others (distinct all) in
     let each : sum_by (λ c. price c i) walk ≡ distinct_sum own walk =
     sum_by-distinct (λ c. price c i) walk once.0 ∙ distinct_sum_same (λ c. price c i) own walk (λ k h. sym (cond-true (has_leg k walk) (price k i) 0 h)) in

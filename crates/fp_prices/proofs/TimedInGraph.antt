@@ -10,11 +10,12 @@ use Rattle.fp_labels.specs.Walks.{cost_of}
 use Rattle.fp_model.specs.declared.parts.Leg.{Leg}
 use Rattle.fp_model.specs.Problem.{Problem, arc_at}
 use Rattle.fp_model.specs.Routes.{Leads, arcs_of}
-use Rattle.fp_longestarcs.specs.Ascending.{ArePoints, place_of}
+use Rattle.fp_longestarcs.specs.Ascending.{ArePoints}
+use Rattle.fp_lists.specs.Ascending.{place_in}
 use Rattle.fp_longestarcs.specs.Classes.{head_of}
 use Rattle.fp_longestarcs.specs.Networks.{TimedNetwork, IsClass, class_number, points_in}
 use Rattle.fp_longestarcs.proofs.ClassNumbers.{number-within}
-use Rattle.fp_longestarcs.proofs.Grown.{points-of}
+use Rattle.fp_longestarcs.proofs.NewPoints.{points-of}
 use Rattle.fp_allowed.specs.Walks.{FollowsHeads}
 use Rattle.fp_prices.specs.Leaves.{walk_cost}
 use Rattle.fp_prices.specs.Points.{class_edge, edges_of, first_node, last_node}
@@ -22,7 +23,7 @@ use Rattle.fp_prices.proofs.GraphWalks.{AreCosts, Goes, goes-first, goes-later}
 use Rattle.fp_prices.proofs.PointEdges.{Joins, class-joins, edge-of-class, length-edges}
 
 -- an earlier one of ascending points has the earlier place
-pub place-le : (qs : List ℕ) (i j : ℕ) → ArePoints qs → i < length qs → get_or qs i 0 ≤ get_or qs j 0 → i ≤ j
+place-le : (qs : List ℕ) (i j : ℕ) → ArePoints qs → i < length qs → get_or qs i 0 ≤ get_or qs j 0 → i ≤ j
 place-le qs i j are within le =
     ⊎_elim (λ (less : j < i). absurd (omega (arith, are.ascending j i 0 less within, le))) (λ (more : i ≤ j). more) (cases_lt j i)
 
@@ -47,17 +48,17 @@ goes-timed p net allowed price size costs are there (c ∷ walk) here place exis
     let e : ℕ = class_number net c in
     let to : ℕ = (arc_at p c.arc).to in
     let edge : edge_at (edges_of p net) e ≡ class_edge p net c = edge-of-class p net c are.whole.valid is in
-    let there_first : ℕ = first_node net to + place_of (points_in net to) (head_of p (points_in net) c) in
+    let there_first : ℕ = first_node net to + place_in (points_in net to) (head_of p (points_in net) c) in
     let rest : Goes (edges_of p net) costs there_first (last_node net there) (walk_cost p price size walk) =
-    goes-timed p net allowed price size costs are there walk to (place_of (points_in net to) (head_of p (points_in net) c)) joins.head joins.enters leads.2 all.1
+    goes-timed p net allowed price size costs are there walk to (place_in (points_in net to) (head_of p (points_in net) c)) joins.head joins.enters leads.2 all.1
     (subst (λ (n : ℕ). FollowsHeads p (points_in net) n walk) (sym joins.arrives) follows.1) in
     let more : ℕ = price c + p.scale * (arc_at p c.arc).freight * size in
     let open_edge : cost_of costs e ≡ Some more = are.holds c is ∙ cond-true (allowed c) (Some more) None all.0 in
-    let leaves : ℕ = place_of (points_in net here) c.depart in
+    let leaves : ℕ = place_in (points_in net here) c.depart in
     let here_at : (leaves < length (points_in net here)) × (get_or (points_in net here) leaves 0 ≡ c.depart) =
-    subst (λ (t : ℕ). (place_of (points_in net t) c.depart < length (points_in net t)) × (get_or (points_in net t) (place_of (points_in net t) c.depart) 0 ≡ c.depart)) leads.1 (joins.leaves, joins.departs) in
+    subst (λ (t : ℕ). (place_in (points_in net t) c.depart < length (points_in net t)) × (get_or (points_in net t) (place_in (points_in net t) c.depart) 0 ≡ c.depart)) leads.1 (joins.leaves, joins.departs) in
     let from : (edge_at (edges_of p net) e).from ≡ first_node net here + leaves =
-    ap (λ (g : Edge). g.from) edge ∙ ap (λ (t : ℕ). first_node net t + place_of (points_in net t) c.depart) leads.1 in
+    ap (λ (g : Edge). g.from) edge ∙ ap (λ (t : ℕ). first_node net t + place_in (points_in net t) c.depart) leads.1 in
     let goes : Goes (edges_of p net) costs (first_node net here + leaves) (last_node net there) (more + walk_cost p price size walk) =
     goes-first (edges_of p net) costs (first_node net here + leaves) (last_node net there) e more (walk_cost p price size walk)
     (omega (arith, number-within net c are.whole.valid is, length-edges p net)) from open_edge

@@ -5,12 +5,13 @@ use Rattle.std.specs.List.{AllByRecursion}
 use Rattle.std.proofs.lemmas.Bool.{cases_Bool, cond-true, cond-false, or_parts, or_cases, false≢true}
 use Rattle.std.proofs.lemmas.List.Folds.{list_any-append}
 use Rattle.std.proofs.lemmas.List.Sums.{sum_by-cons}
+use Rattle.fp_lists.proofs.Distinct.{AreDistinct-cons, AreDistinct-nil}
 use Rattle.fp_model.specs.declared.parts.Leg.{Leg}
 use Rattle.fp_model.specs.declared.parts.Shipment.{Shipment}
-use Rattle.fp_model.specs.Numbered.{AllFrom}
-use Rattle.fp_model.specs.Routes.{AreApart}
+use Rattle.fp_lists.specs.Numbered.{AllFrom}
+use Rattle.fp_lists.specs.Distinct.{AreDistinct}
 use Rattle.fp_model.specs.Costs.{same_leg, has_leg, all_legs, load}
-use Rattle.fp_model.proofs.Sums.{each-weaker}
+use Rattle.fp_lists.proofs.Elements.{AllByRecursion-weaker}
 use Rattle.fp_prices.specs.Prices.{allowed_count}
 use Rattle.fp_prices.proofs.TakenByClasses.{users}
 
@@ -48,14 +49,14 @@ users-above low i (walk ∷ walks) c h =
     elim (has_leg c walk) as (λ b. AllByRecursion (λ y. low ≤ y) (cond b (i ∷ others) others)) [ true ↦ (h, rest) | false ↦ rest ]
 
 -- they are different shipments
-pub users-apart : (i : ℕ) (walks : List (List Leg)) (c : Leg) → AreApart (users i walks c)
-users-apart i [] c = tt
+pub users-apart : (i : ℕ) (walks : List (List Leg)) (c : Leg) → AreDistinct (users i walks c)
+users-apart i [] c = AreDistinct-nil
 users-apart i (walk ∷ walks) c =
     let others : List ℕ = users (i + 1) walks c in
-    let rest : AreApart others = users-apart (i + 1) walks c in
+    let rest : AreDistinct others = users-apart (i + 1) walks c in
     let differ : AllByRecursion (λ y. y ≢ i) others =
-    each-weaker (λ y. i + 1 ≤ y) (λ y. y ≢ i) (λ y above same. omega (arith, above, same)) others (users-above (i + 1) (i + 1) walks c (le_refl (i + 1))) in
-    elim (has_leg c walk) as (λ b. AreApart (cond b (i ∷ others) others)) [ true ↦ (differ, rest) | false ↦ rest ]
+    AllByRecursion-weaker (λ y. i + 1 ≤ y) (λ y. y ≢ i) (λ y above same. omega (arith, above, same)) others (users-above (i + 1) (i + 1) walks c (le_refl (i + 1))) in
+    elim (has_leg c walk) as (λ b. AreDistinct (cond b (i ∷ others) others)) [ true ↦ AreDistinct-cons i others differ rest | false ↦ rest ]
 
 -- a class that no walk has has none
 pub users-none : (i : ℕ) (walks : List (List Leg)) (c : Leg) → has_leg c (all_legs walks) ≡ false → users i walks c ≡ []

@@ -6,13 +6,15 @@ use Rattle.std.proofs.lemmas.Bool.{and_left, or_from, or_cases, ne_eqb, false≢
 use Rattle.std.proofs.lemmas.List.Folds.{list_any-append}
 use Rattle.fp_model.specs.declared.parts.Leg.{Leg}
 use Rattle.fp_model.specs.declared.parts.Shipment.{Shipment}
-use Rattle.fp_model.specs.Numbered.{AllFrom, AllZipFrom}
+use Rattle.fp_lists.specs.Numbered.{AllZipFrom, AllFrom}
 use Rattle.fp_model.specs.Problem.{Problem, arc_at}
-use Rattle.fp_model.specs.Routes.{AreApart, Carries, arcs_of}
+use Rattle.fp_model.specs.Routes.{Carries, arcs_of, ends_of}
+use Rattle.fp_lists.specs.Distinct.{AreDistinct}
 use Rattle.fp_model.specs.Costs.{same_leg, has_leg, all_legs}
-use Rattle.fp_model.proofs.Bounds.{AreApart-map, Leads-exist}
+use Rattle.fp_model.proofs.Bounds.{Leads-exist}
+use Rattle.fp_lists.proofs.Distinct.{AreDistinct-from_map, AreDistinct-head, AreDistinct-tail}
 use Rattle.fp_model.proofs.Distinct.{same_leg-true}
-use Rattle.fp_model.proofs.Places.{unmapped}
+use Rattle.fp_lists.proofs.Elements.{AllByRecursion-from_map}
 use Rattle.fp_longestarcs.specs.Classes.{class_of}
 use Rattle.fp_allowed.specs.Walks.{IsTimedWalk}
 use Rattle.fp_allowed.proofs.PlanClasses.{arcs_of-classes}
@@ -30,9 +32,9 @@ not-among k (l ∷ legs) others =
     or_from (same_leg k l) (has_leg k legs) (and_left (k.arc == l.arc) (k.depart == l.depart) (ne_eqb k.arc l.arc (λ e. others.0 (sym e)))) (not-among k legs others.1)
 
 -- legs by different arcs are different
-pub none-twice : (legs : List Leg) → AreApart (arcs_of legs) → NoneTwice legs
+none-twice : (legs : List Leg) → AreDistinct (arcs_of legs) → NoneTwice legs
 none-twice [] apart = tt
-none-twice (k ∷ legs) apart = (not-among k legs apart.0, none-twice legs apart.1)
+none-twice (k ∷ legs) apart = (not-among k legs (AreDistinct-head k.arc (arcs_of legs) apart), none-twice legs (AreDistinct-tail k.arc (arcs_of legs) apart))
 
 -- a plan has no class twice in a route, since a route enters no terminal twice
 pub classes-once : (p : Problem) (points : ℕ → List ℕ) (d : ℕ) (shipments : List Shipment) (plan : List (List Leg)) → AllZip (Carries p d) shipments plan →
@@ -41,8 +43,8 @@ classes-once p points d [] [] is = tt
 classes-once p points d [] (r ∷ plan) is = absurd is
 classes-once p points d (s ∷ shipments) [] is = absurd is
 classes-once p points d (s ∷ shipments) (r ∷ plan) is =
-    let apart : AreApart (arcs_of r) = AreApart-map (λ a. (arc_at p a).to) (arcs_of r) is.0.route.once.1 in
-    (none-twice (map (class_of p points d) r) (subst AreApart (sym (arcs_of-classes p points d r)) apart), classes-once p points d shipments plan is.1)
+    let apart : AreDistinct (arcs_of r) = AreDistinct-from_map (λ a. (arc_at p a).to) (arcs_of r) (AreDistinct-tail s.from (ends_of p (arcs_of r)) is.0.route.once) in
+    (none-twice (map (class_of p points d) r) (subst AreDistinct (sym (arcs_of-classes p points d r)) apart), classes-once p points d shipments plan is.1)
 
 -- P of a leg that the legs have
 each-has : (P : Leg → Type 0) (legs : List Leg) (c : Leg) → AllByRecursion P legs → has_leg c legs ≡ true → P c
@@ -72,7 +74,7 @@ used-exist p points allowed i (s ∷ shipments) (walk ∷ walks) c timed h =
     ⊎_elim
     (λ (here : has_leg c walk ≡ true).
     each-has (λ l. l.arc < length p.arcs) walk c
-    (unmapped (λ a. a < length p.arcs) (λ (l : Leg). l.arc) walk (Leads-exist p s.from (arcs_of walk) s.to timed.0.leads)) here)
+    (AllByRecursion-from_map (λ a. a < length p.arcs) (λ (l : Leg). l.arc) walk (Leads-exist p s.from (arcs_of walk) s.to timed.0.leads)) here)
     (λ (later : has_leg c (all_legs walks) ≡ true). used-exist p points allowed (i + 1) shipments walks c timed.1 later)
     (or_cases (has_leg c walk) (has_leg c (all_legs walks)) (sym (list_any-append (same_leg c) walk (all_legs walks)) ∙ h))
 

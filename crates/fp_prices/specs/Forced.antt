@@ -2,9 +2,10 @@
 use Rattle.std.specs.Prelude.{ℕ, zero, suc, ◌+◌, ◌*◌, ◌≡◌, ◌<◌, List, length, Bool, slice_index, if◌then◌else◌}
 use Rattle.std.specs.Int.{div_ceil}
 use Rattle.std.specs.List.{AllByRecursion}
+use Rattle.fp_lists.specs.Below.{sum_below}
 use Rattle.fp_model.specs.declared.parts.Leg.{Leg}
 use Rattle.fp_model.specs.Costs.{all_legs, has_leg, load}
-use Rattle.fp_model.specs.Numbered.{AllZipFrom}
+use Rattle.fp_lists.specs.Numbered.{AllZipFrom}
 use Rattle.fp_model.specs.Problem.{Problem, arc_at}
 use Rattle.fp_longestarcs.specs.Networks.{TimedNetwork, IsClass, class_count, class_number}
 use Rattle.fp_tree.specs.declared.sides.Side.{Side}
@@ -32,11 +33,6 @@ pub record AreForcedOf (s : Setting) (rows : List (List Bool)) (forced : Bool) (
   pub chains : List (List Leg)
   pub are_chains : (sides : List Side) → AreRowsUnder s sides rows → AllZipFrom (λ k. IsChain s.problem (allowed_in s sides k) forced) 0 s.problem.shipments chains
   pub are : AreForcedClasses s.problem s.network chains classes
-
--- the sum of what a function gives for the numbers below n
-abbrev pub sum_below : ℕ → (ℕ → ℕ) → ℕ
-sum_below zero f = 0
-sum_below (suc n) f = f n + sum_below n f
 
 -- what the trucks cost that a load needs in the class with a number
 abbrev pub truck_cost_at : Problem → TimedNetwork → List ℕ → ℕ → ℕ

@@ -5,7 +5,8 @@ use Rattle.std.specs.Prelude.{ℕ, ◌+◌, ◌*◌, ◌≤◌, ◌≡◌, ◌<�
 use Rattle.fp_model.specs.declared.parts.Leg.{Leg}
 use Rattle.fp_model.specs.declared.parts.Shipment.{Shipment}
 use Rattle.fp_model.specs.Costs.{all_legs, cost, departures_cost, has_leg}
-use Rattle.fp_model.specs.Numbered.{AllZipFrom, shipment_at}
+use Rattle.fp_model.specs.Numbered.{shipment_at}
+use Rattle.fp_lists.specs.Numbered.{AllZipFrom}
 use Rattle.fp_model.specs.Plans.{IsPlan}
 use Rattle.fp_model.specs.Problem.{Problem, IsValid, arc_at, alone_total}
 use Rattle.fp_flatnet.specs.declared.window_tables.Window.{Window}

@@ -11,3 +11,8 @@ pub mod Points
 pub mod PointGraphs
 pub mod Forced
 pub mod Found
+pub mod Rounds
+pub mod LeastWalks
+pub mod FoundWalks
+pub mod FlatBounds
+pub mod EarnedLeaves

@@ -1,15 +1,21 @@
 -- What is kept of the graph of a network's points.
-use Rattle.std.specs.Prelude.{◌≡◌, ◌≤◌, length}
+use Rattle.std.specs.Prelude.{ℕ, ◌≡◌, ◌≤◌, List, length, Option}
+use Rattle.fp_labels.specs.Labels.{AreLabels, Distances}
+use Rattle.fp_model.specs.Numbered.{shipment_at}
 use Rattle.fp_model.specs.Problem.{Problem}
 use Rattle.fp_longestarcs.specs.Networks.{TimedNetwork, point_count}
-use Rattle.fp_longestarcs.specs.Whole.{IsWhole}
+use Rattle.fp_longestarcs.specs.Whole.{IsWholeNetwork}
 use Rattle.fp_prices.specs.declared.point_graphs.PointGraph.{PointGraph}
-use Rattle.fp_prices.specs.Points.{AreFirstNodes, edges_of, shape_of}
+use Rattle.fp_prices.specs.Points.{AreFirstNodes, edges_of, first_node, shape_of}
 
 -- the graph of the points of a whole network that has few points
 pub record IsPointGraph (p : Problem) (net : TimedNetwork) (g : PointGraph) : Type 0 where
-  pub whole : IsWhole p net
+  pub whole : IsWholeNetwork p net
   pub few : point_count net ≤ 65000
   pub shape : g.graph ≡ shape_of p net
   pub firsts : AreFirstNodes net g.firsts.items
   pub count : g.edges ≡ length (edges_of p net)
+
+-- the least costs and walks from the first node of the origin of the shipment with the number k
+abbrev pub AreOriginLabels : Problem → TimedNetwork → List (Option ℕ) → ℕ → Distances → Type 0
+AreOriginLabels p net costs k labels = AreLabels (shape_of p net) costs (first_node net (shipment_at p k).from) labels

@@ -7,7 +7,7 @@ use Rattle.fp_labels.specs.declared.graphs.Edge.{Edge}
 use Rattle.fp_labels.specs.Graphs.{Shape}
 use Rattle.fp_model.specs.declared.parts.Leg.{Leg}
 use Rattle.fp_model.specs.Problem.{Problem, arc_at}
-use Rattle.fp_longestarcs.specs.Ascending.{place_of}
+use Rattle.fp_lists.specs.Ascending.{place_in}
 use Rattle.fp_longestarcs.specs.Classes.{head_of}
 use Rattle.fp_longestarcs.specs.Networks.{TimedNetwork, class_count, point_count, points_in}
 use Rattle.fp_allowed.specs.Listing.{class_at}
@@ -23,7 +23,7 @@ pub record AreFirstNodes (net : TimedNetwork) (firsts : List ℕ) : Type 0 where
 
 -- the node of a point of a terminal
 abbrev pub point_node : TimedNetwork → ℕ → ℕ → ℕ
-point_node net terminal at = first_node net terminal + place_of (points_in net terminal) at
+point_node net terminal at = first_node net terminal + place_in (points_in net terminal) at
 
 -- the node of a terminal's last point
 abbrev pub last_node : TimedNetwork → ℕ → ℕ

@@ -5,7 +5,7 @@ use Rattle.fp_model.specs.Costs.{all_legs, has_leg}
 use Rattle.fp_model.specs.Numbered.{shipment_at}
 use Rattle.fp_model.specs.Problem.{Problem, IsValid, arc_at}
 use Rattle.fp_longestarcs.specs.Networks.{TimedNetwork, IsClass, class_count, class_number}
-use Rattle.fp_longestarcs.specs.Whole.{IsWhole}
+use Rattle.fp_longestarcs.specs.Whole.{IsWholeNetwork}
 use Rattle.fp_allowed.specs.Bits.{bit_of}
 use Rattle.fp_allowed.specs.Listing.{class_at}
 use Rattle.fp_prices.specs.declared.leaf_prices.Kind.{Kind}
@@ -36,9 +36,9 @@ pub record TellsForced (net : TimedNetwork) (chains : List (List Leg)) (row : Li
 -- a pricing is that of a leaf by a kind, where `allowed` tells which classes are allowed for whom, and the chains are those that are forced
 pub record IsPricing (tables : List (List ClassShare)) (allowed : ℕ → Leg → Bool) (kind : Kind) (chains : List (List Leg)) (pricing : LeafPricing) : Type 0 where
   pub valid : IsValid pricing.instance.now
-  pub whole : IsWhole pricing.instance.now pricing.network.now
+  pub whole : IsWholeNetwork pricing.instance.now pricing.network.now
   pub keep : AllKeepRule pricing.instance.now tables
-  pub rates : pricing.rates.items ≡ map (rate_of pricing.instance.now.scale) pricing.instance.now.arcs
+  pub rates : pricing.rates.now ≡ map (rate_of pricing.instance.now.scale) pricing.instance.now.arcs
   pub rule : IsRuleOf pricing.instance.now pricing.network.now tables allowed kind pricing.rule
   pub forced : TellsForced pricing.network.now chains pricing.forced.now
 

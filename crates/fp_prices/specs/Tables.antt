@@ -1,5 +1,6 @@
 -- What is asked of tables of prices, and the first share that breaks the price rule.
 use Rattle.std.specs.Prelude.{ℕ, ◌≡◌, ◌<◌, ◌≤◌, ◌-◌, ◌⊎◌, List, length, take, All, AllPairs, slice_index_or, [], ◌^◌}
+use Rattle.fp_lists.specs.Order.{Precedes}
 use Rattle.fp_model.specs.Problem.{Problem, arc_at}
 use Rattle.fp_prices.specs.declared.leaf_prices.Kind.{Kind}
 use Rattle.fp_prices.specs.declared.leaf_prices.Kind.TheVariants.{Linear, Even, Table}
@@ -7,10 +8,6 @@ use Rattle.fp_prices.specs.declared.tables.TableFault.{TableFault}
 use Rattle.fp_prices.specs.declared.tables.Weight.{Weight}
 use Rattle.fp_prices.specs.Shares.{ClassShare}
 use Rattle.fp_prices.specs.Prices.{AllKeepRule, KeepsRule, table_at}
-
--- one pair of numbers stands before another: by the first numbers, and where these are equal by the second
-abbrev pub Precedes : (a b c d : ℕ) → Type 0
-Precedes a b c d = (a < c) ⊎ ((a ≡ c) × (b < d))
 
 -- the shares ascend strictly by arc and then by point, and in each share the weights ascend strictly by shipment
 pub record IsAscendingTable (table : List ClassShare) : Type 0 where

@@ -1,3 +1,4 @@
+//! What a unit of size pays for each arc by the linear price.
 ghost use Rattle.std.specs.Prelude.{◌≡◌, ◌*◌, ◌/◌, IfOk, map};
 ghost use Rattle.fp_model.specs.declared.parts.Arc.{Arc};
 ghost use Rattle.fp_model.specs.Problem.{IsValid};
@@ -7,8 +8,9 @@ use crate::NoMemory;
 use fp_model::Instance;
 use std::alloc::Global;
 
-/// For each arc what a unit of size pays by the linear price: the truck's cost, in parts of a unit of money, divided by the
-/// truck's capacity and rounded down. `NoMemory` where memory is wanting.
+/// For each arc what a unit of size pays by the linear price: the truck's cost, in parts of a unit
+/// of money, divided by the truck's capacity and rounded down. `NoMemory` only where no memory is
+/// found.
 pub(crate) fn linear_rates(alloc: Global, instance: &Instance) -> Result<Vec<u128>, NoMemory>
     ensures valid { IsValid instance.now }
     ensures rates { IfOk result (λ rates. rates.items ≡ map (rate_of instance.now.scale) instance.now.arcs) }

@@ -1,3 +1,4 @@
+//! The bound of a leaf: the bases, and the least cost of each shipment.
 ghost use Rattle.std.specs.Prelude.{◌≡◌, ◌+◌, ◌*◌, ◌<◌, ◌≤◌, IfOk, length};
 ghost use Rattle.fp_model.specs.Problem.{alone_total};
 ghost use Rattle.fp_timenodes.specs.Points.{points_at};
@@ -12,16 +13,14 @@ ghost use Rattle.fp_prices.specs.PointGraphs.{IsPointGraph};
 ghost use Rattle.fp_prices.specs.Tables.{AreTables, HasKind};
 
 use crate::NoMemory;
-use crate::bases::{bases, forced_classes};
 use crate::class_prices::LeafPricing;
 use crate::leaf_prices::LeafPrice;
-use crate::leaf_rules::leaf_pricing;
 use crate::least_costs::least_cost;
+use crate::leaves::Leaf;
 use crate::point_graphs::PointGraph;
+use crate::rounds::RoundNetwork;
 use crate::tables::Table;
-use fp_allowed::Allowed;
 use fp_flatnet::Windows;
-use fp_longestarcs::Network;
 use fp_model::Instance;
 use fp_rows::Row;
 use fp_timenodes::Points;
@@ -31,32 +30,15 @@ use std::alloc::Global;
 /// The bound of a leaf.
 #[derive(Clone, Copy, Debug, PartialEq, Eq)]
 pub enum LeafBound {
-    /// Some shipment has no allowed timed walk, so no plan obeys the leaf's sides; the first such shipment.
+    /// Some shipment has no allowed timed walk, so no plan obeys the leaf's sides; the first such
+    /// shipment.
     Empty { shipment: u32 },
     /// The leaf bound, in parts of a unit of money of which the instance's scale makes one.
     Value { value: u128 },
 }
 
-// The rows of all shipments under sides.
-fn all_rows(
-    alloc: Global,
-    instance: &Instance,
-    allowed: &Allowed,
-    sides: &[Side],
-) -> Result<Vec<Row>, NoMemory>
-    requires { instance.now ≡ allowed.now.problem }
-    ensures one_each { IfOk result (λ rows. length rows.items ≡ length instance.now.shipments) }
-    ensures under { IfOk result (λ rows. AreRowsUnder allowed.now sides.now rows.items) }
-{
-    let mut rows = Vec::new(alloc);
-    for shipment in 0..instance.shipments().len() as u32 {
-        rows.push(allowed.row(alloc, shipment, sides)?)?;
-    }
-    Ok(rows)
-}
-
-// The least cost of a shipment whose row this is, `None` exactly where it has no allowed timed walk. The costs of the
-// classes are put in anew.
+// The least cost of a shipment whose row this is, `None` exactly where it has no allowed timed
+// walk. The costs of the classes are put in anew.
 fn shipment_cost(
     alloc: Global,
     pricing: &LeafPricing,
@@ -86,8 +68,8 @@ fn shipment_cost(
     )
 }
 
-// The bases and the least cost of each shipment, whose rows these are, or the first that has none.
-fn value_over(
+/// The bases and the least cost of each shipment, whose rows these are, or the first that has none.
+pub(crate) fn value_over(
     alloc: Global,
     pricing: &LeafPricing,
     graph: &PointGraph,
@@ -112,19 +94,22 @@ fn value_over(
     Ok(LeafBound::Value { value })
 }
 
-/// The bound of a leaf by prices, with the points as of a round: what the trucks of its forced chains cost, where forced
-/// classes are paid whole, and the least cost of each shipment's allowed timed walks under the prices; or that the leaf is
-/// empty, with the first shipment that has no allowed timed walk.
+/// The bound of a leaf by prices, with the points as of a round: what the trucks of its forced
+/// chains cost, where forced classes are paid whole, and the least cost of each shipment's allowed
+/// timed walks under the prices; or that the leaf is empty, with the first shipment that has no
+/// allowed timed walk.
 ///
-/// Over every denominator, the scale times the cost of each plan that lies within the windows and obeys the sides is at least
-/// the value, and where the leaf is empty there is no such plan. The value counts parts of a unit of money, of which the
-/// instance's scale makes one; it is at most 65,537 times the scale times what all shipments cost that each go over every arc
-/// alone, so it's below 2^128.
+/// Over every denominator, the scale times the cost of each plan that lies within the windows and
+/// obeys the sides is at least the value, and where the leaf is empty there is no such plan. The
+/// value counts parts of a unit of money, of which the instance's scale makes one; it is at most
+/// 65,537 times the scale times what all shipments cost that each go over every arc alone, so it's
+/// below 2^128.
 ///
-/// The windows and the points belong to the instance; the terminals, the first points and the added points are together at
-/// most 65,000; the tables are in order and keep the price rule ([`check_tables`](crate::check_tables)), and a kind by a
-/// table names one of them. `NoMemory` where memory is wanting. One search over the points for each shipment; their graph
-/// and the prices are made once.
+/// The windows and the points belong to the instance; the terminals, the first points and the added
+/// points are together at most 65,000; the tables are in order and keep the price rule
+/// ([`check_tables`](crate::check_tables)), and a kind by a table names one of them. `NoMemory`
+/// only where no memory is found. One search over the points for each shipment; their graph and the
+/// prices are made once.
 pub fn bound(
     alloc: Global,
     instance: &Instance,
@@ -143,27 +128,7 @@ pub fn bound(
     ensures plans { IfOk result (BoundsPlans instance.now (windows_in windows.now) sides.now) }
     ensures small { IfOk result (IsSmallBound instance.now) }
 {
-    let network = Network::of(alloc, instance, points, price.round)?;
-    let allowed = Allowed::new(instance, windows, &network);
-    let rows = all_rows(alloc, instance, &allowed, sides)?;
-    let forced = forced_classes(
-        alloc,
-        instance,
-        &allowed,
-        network.classes(),
-        &rows,
-        price.forced,
-    )?;
-    let pricing = leaf_pricing(
-        alloc,
-        instance,
-        &network,
-        tables,
-        price.kind,
-        &rows,
-        &forced.row,
-    )?;
-    let graph = PointGraph::of(alloc, instance, &network)?;
-    let base = bases(instance, &network, &forced);
-    value_over(alloc, &pricing, &graph, &rows, base)
+    let network = RoundNetwork::of(alloc, instance, points, price.round)?;
+    let leaf = Leaf::of(alloc, &network, windows, sides)?;
+    leaf.bound(alloc, tables, price.kind, price.forced)
 }

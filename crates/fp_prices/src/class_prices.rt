@@ -1,3 +1,4 @@
+//! What the classes of a network cost a shipment at a leaf.
 ghost use Rattle.std.specs.Prelude.{ℕ, ◌≡◌, ◌<◌, ◌≤◌, None, length, slice_index_or, true};
 ghost use Rattle.fp_model.specs.Numbered.{shipment_at};
 ghost use Rattle.fp_longestarcs.specs.Networks.{IsClass, class_count, class_number};
@@ -29,14 +30,15 @@ pub(crate) enum Rule<'a> {
 pub(crate) struct LeafPricing<'a> {
     pub(crate) instance: &'a Instance,
     pub(crate) network: &'a Network,
-    pub(crate) rates: Vec<u128>,
+    pub(crate) rates: &'a [u128],
     pub(crate) rule: Rule<'a>,
     pub(crate) forced: &'a Row,
 }
 
 impl<'a> LeafPricing<'a> {
-    /// Puts in, for each class by its number, what it costs the shipment with a number, its price and its flow, in parts of
-    /// a unit of money, and `None` where the row's bit isn't set. Entries past the classes stay. Takes no memory.
+    /// Puts in, for each class by its number, what it costs the shipment with a number, its price
+    /// and its flow, in parts of a unit of money, and `None` where the row's bit isn't set. Entries
+    /// past the classes stay. Takes no memory.
     pub(crate) fn fill_costs(&self, shipment: u32, row: &Row, costs: &mut [Option<u128>])
         requires shipment { shipment < length self.now.instance.now.shipments }
         requires long { length row.now ≡ class_count self.now.network.now }
@@ -54,7 +56,8 @@ impl<'a> LeafPricing<'a> {
         }
     }
 
-    // What a class that is allowed for the shipment with a number and a size costs it: its price and the flow.
+    // What a class that is allowed for the shipment with a number and a size costs it: its price
+    // and the flow.
     fn cost(&self, class: u32, shipment: u32, size: u64) -> u128
         requires shipment { shipment < length self.now.instance.now.shipments }
         requires class { class < class_count self.now.network.now }

@@ -1,3 +1,4 @@
+//! For how many shipments each class is allowed, and their sizes in all.
 ghost use Rattle.std.specs.Prelude.{ℕ, ◌≡◌, ◌+◌, ◌<◌, ◌≤◌, ◌^◌, All, Bool, IfOk, List, if◌then◌else◌, length, slice_index};
 ghost use Rattle.fp_model.specs.declared.parts.Leg.{Leg};
 ghost use Rattle.fp_longestarcs.specs.Networks.{TimedNetwork};
@@ -30,8 +31,8 @@ fn add_size(sizes: &mut [u128], row: &Row, size: u64)
     }
 }
 
-/// The users of each of so many classes, where the rows, one per shipment, have a bit per class. `NoMemory` where memory
-/// is wanting.
+/// The users of each of so many classes, where the rows, one per shipment, have a bit per class.
+/// `NoMemory` where memory is wanting.
 pub(crate) fn class_users(
     alloc: Global,
     instance: &Instance,

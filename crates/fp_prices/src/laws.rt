@@ -1,3 +1,4 @@
+//! The theory of leaves as contracts without a body.
 ghost use Rattle.fp_prices.specs.Leaves.{LeavesBoundPlans, LeavesHaveOneValue};
 
 /// No plan of a leaf costs less than the leaf is worth, and an empty leaf has no plan; whoever

@@ -1,13 +1,15 @@
-ghost use Rattle.std.specs.Prelude.{ℕ, ◌≡◌, All, Bool, IfOk, List, length};
+//! The rule by which a kind prices the classes of a leaf.
+ghost use Rattle.std.specs.Prelude.{ℕ, ◌≡◌, All, Bool, IfOk, List, length, map};
 ghost use Rattle.fp_model.specs.declared.parts.Leg.{Leg};
+ghost use Rattle.fp_model.specs.Problem.{IsValid};
 ghost use Rattle.fp_longestarcs.specs.Networks.{class_count};
-ghost use Rattle.fp_longestarcs.specs.Whole.{IsWhole};
+ghost use Rattle.fp_longestarcs.specs.Whole.{IsWholeNetwork};
 ghost use Rattle.fp_prices.specs.Pricings.{IsPricing, IsRuleOf, TellsForced};
+ghost use Rattle.fp_prices.specs.Rates.{rate_of};
 ghost use Rattle.fp_prices.specs.Rows.{AreRowsOf};
 ghost use Rattle.fp_prices.specs.Tables.{AreTables, HasKind};
 
 use crate::NoMemory;
-use crate::arc_rates::linear_rates;
 use crate::class_prices::{LeafPricing, Rule};
 use crate::class_users::class_users;
 use crate::leaf_prices::Kind;
@@ -46,18 +48,22 @@ fn rule_of<'a>(
     }
 }
 
-/// The pricing of a leaf by a kind, where the rows are those of the shipments and `forced` has the bits of the classes that
-/// someone is forced to use. `NoMemory` where memory is wanting.
+/// The pricing of a leaf by a kind, where the rates are the linear ones of the arcs, the rows are
+/// those of the shipments and `forced` has the bits of the classes that someone is forced to use.
+/// `NoMemory` only where no memory is found.
 pub(crate) fn leaf_pricing<'a>(
     alloc: Global,
     instance: &'a Instance,
     network: &'a Network,
+    rates: &'a [u128],
     tables: &'a [Table],
     kind: Kind,
     rows: &[Row],
     forced: &'a Row,
 ) -> Result<LeafPricing<'a>, NoMemory>
-    requires whole { IsWhole instance.now network.now }
+    requires valid { IsValid instance.now }
+    requires whole { IsWholeNetwork instance.now network.now }
+    requires rates { rates.now ≡ map (rate_of instance.now.scale) instance.now.arcs }
     requires tables { AreTables instance.now tables.now }
     requires kind { HasKind tables.now kind }
     requires rows { length rows.now ≡ length instance.now.shipments }
@@ -69,7 +75,7 @@ pub(crate) fn leaf_pricing<'a>(
     Ok(LeafPricing {
         instance,
         network,
-        rates: linear_rates(alloc, instance)?,
+        rates,
         rule: rule_of(alloc, instance, network, tables, kind, rows)?,
         forced,
     })

@@ -1,21 +1,60 @@
-// The least cost of a shipment's way, by a search over the graph of points.
+//! The least cost of a shipment's way, and a walk of that cost, by a search over the graph of
+//! points.
 ghost use Rattle.std.specs.Prelude.{ℕ, ◌≡◌, ◌*◌, ◌<◌, ◌≤◌, All, Bool, IfOk, IfSome, length};
 ghost use Rattle.fp_labels.specs.Labels.{IsSmallFor};
 ghost use Rattle.fp_model.specs.declared.parts.Leg.{Leg};
 ghost use Rattle.fp_model.specs.Numbered.{shipment_at};
+ghost use Rattle.fp_model.specs.Problem.{IsValid};
 ghost use Rattle.fp_longestarcs.specs.Networks.{class_count, point_count, points_in};
 ghost use Rattle.fp_prices.specs.ClassCosts.{AllowsClasses, HoldsClassCosts, IsFree, IsLeastOver};
-ghost use Rattle.fp_prices.specs.PointGraphs.{IsPointGraph};
+ghost use Rattle.fp_prices.specs.LeastWalks.{IsLeastWalkOver};
+ghost use Rattle.fp_prices.specs.PointGraphs.{AreOriginLabels, IsPointGraph};
+ghost use Rattle.fp_prices.specs.Points.{last_node};
 
 use crate::NoMemory;
+use crate::class_walks::{ClassWalk, class_walk};
 use crate::point_graphs::{PointGraph, last_node_of};
-use fp_labels::distances;
+use fp_labels::{Labels, distances};
 use fp_longestarcs::Network;
 use fp_model::Instance;
 use std::alloc::Global;
 
-// The least cost over the allowed timed walks of a shipment, `None` exactly where it has none. The costs are those of the
-// classes, by their numbers, `None` where a class isn't allowed, and nothing for each holding edge.
+// The least costs and walks from the origin of a shipment over the graph of points. The costs are
+// those of the classes, by their numbers, `None` where a class isn't allowed, and nothing for each
+// holding edge.
+fn origin_labels(
+    alloc: Global,
+    instance: &Instance,
+    network: &Network,
+    graph: &PointGraph,
+    costs: &[Option<u128>],
+    shipment: u32,
+) -> Result<Labels, NoMemory>
+    requires graph { IsPointGraph instance.now network.now graph.now }
+    requires shipment { shipment < length instance.now.shipments }
+    requires count { length costs.now ≡ graph.now.edges }
+    requires small { All (IsSmallFor (point_count network.now)) costs.now }
+    ensures { IfOk result (AreOriginLabels instance.now network.now costs.now shipment) }
+{
+    let origin = instance.shipment(shipment).from;
+    distances(alloc, &graph.graph, costs, graph.firsts[origin as usize])
+}
+
+// The node at which a shipment ends: the last point of its destination.
+fn end_node(instance: &Instance, network: &Network, graph: &PointGraph, shipment: u32) -> u32
+    requires graph { IsPointGraph instance.now network.now graph.now }
+    requires shipment { shipment < length instance.now.shipments }
+    ensures valid { IsValid instance.now }
+    ensures node { result ≡ last_node network.now (shipment_at instance.now shipment).to }
+    ensures exists { result < point_count network.now }
+{
+    let destination = instance.shipment(shipment).to;
+    last_node_of(network, &graph.firsts, destination)
+}
+
+/// The least cost over the allowed timed walks of a shipment, `None` exactly where it has none. The
+/// costs are those of the classes, by their numbers, `None` where a class isn't allowed, and
+/// nothing for each holding edge. `NoMemory` only where no memory is found.
 pub(crate) fn least_cost(
     alloc: Global,
     instance: &Instance,
@@ -35,9 +74,36 @@ pub(crate) fn least_cost(
     ensures small { IfOk result (λ cost. (most : ℕ) → All (λ o. IfSome o (λ n. n ≤ most)) costs.now →
         IfSome cost (λ n. n ≤ point_count network.now * most)) }
 {
-    let taken = instance.shipment(shipment);
-    let start = graph.firsts[taken.from as usize];
-    let end = last_node_of(network, &graph.firsts, taken.to);
-    let labels = distances(alloc, &graph.graph, costs, start)?;
-    Ok(labels.to(end))
+    let labels = origin_labels(alloc, instance, network, graph, costs, shipment)?;
+    Ok(labels.to(end_node(instance, network, graph, shipment)))
+}
+
+/// A walk of least cost among the allowed timed walks of a shipment that repeats no timed node,
+/// `None` exactly where it has none, under such costs. `NoMemory` only where no memory is found.
+pub(crate) fn least_walk(
+    alloc: Global,
+    instance: &Instance,
+    network: &Network,
+    graph: &PointGraph,
+    costs: &[Option<u128>],
+    shipment: u32,
+) -> Result<Option<ClassWalk>, NoMemory>
+    requires graph { IsPointGraph instance.now network.now graph.now }
+    requires shipment { shipment < length instance.now.shipments }
+    requires count { length costs.now ≡ graph.now.edges }
+    requires small { All (IsSmallFor (point_count network.now)) costs.now }
+    requires free { IsFree (class_count network.now) costs.now }
+    ensures { IfOk result (λ walk. (allowed : Leg → Bool) (price : Leg → ℕ) → AllowsClasses network.now allowed →
+        HoldsClassCosts instance.now network.now allowed price (shipment_at instance.now shipment).size costs.now →
+        IsLeastWalkOver instance.now (points_in network.now) allowed (shipment_at instance.now shipment) price walk) }
+{
+    let labels = origin_labels(alloc, instance, network, graph, costs, shipment)?;
+    let end = end_node(instance, network, graph, shipment);
+    match labels.to(end) {
+        None => Ok(None),
+        Some(_) => {
+            let edges = labels.walk(alloc, end)?;
+            Ok(Some(class_walk(alloc, network, &edges)?))
+        }
+    }
 }

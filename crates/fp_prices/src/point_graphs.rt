@@ -1,10 +1,11 @@
-// The graph of a network's points, over which each shipment goes at a leaf.
+//! The graph of a network's points, over which each shipment goes at a leaf.
 ghost use Rattle.std.specs.Prelude.{◌≡◌, ◌+◌, ◌-◌, ◌<◌, ◌≤◌, ◌++◌, IfOk, OnOk, length, map};
 ghost use Rattle.std.specs.List.{range_with_len};
 ghost use Rattle.fp_labels.specs.Graphs.{HasEnds};
-ghost use Rattle.fp_longestarcs.specs.Ascending.{ArePoints, place_of};
+ghost use Rattle.fp_longestarcs.specs.Ascending.{ArePoints};
+ghost use Rattle.fp_lists.specs.Ascending.{place_in};
 ghost use Rattle.fp_longestarcs.specs.Networks.{class_count, point_count, points_in};
-ghost use Rattle.fp_longestarcs.specs.Whole.{IsWhole};
+ghost use Rattle.fp_longestarcs.specs.Whole.{IsWholeNetwork};
 ghost use Rattle.fp_allowed.specs.Listing.{class_at};
 ghost use Rattle.fp_prices.specs.Points.{AreFirstNodes, class_edge, class_edges, edges_of, last_node, next_edge, point_node};
 ghost use Rattle.fp_prices.specs.PointGraphs.{IsPointGraph};
@@ -12,13 +13,15 @@ ghost use Rattle.fp_prices.specs.ClassCosts.{IsFree};
 
 use crate::NoMemory;
 use fp_labels::{Edge, Graph};
+use fp_lists::place_among;
 use fp_longestarcs::Network;
 use fp_model::Instance;
 use std::alloc::Global;
 
-// The points of a network as nodes, by terminal and then by time. Its edges are first those of the classes, by their
-// numbers, each from its point to its head, and then the holding edges, each from a point to the next one of its terminal,
-// over which a shipment waits. The shape is that of the network alone, so all shipments share it.
+// The points of a network as nodes, by terminal and then by time. Its edges are first those of the
+// classes, by their numbers, each from its point to its head, and then the holding edges, each from
+// a point to the next one of its terminal, over which a shipment waits. The shape is that of the
+// network alone, so all shipments share it.
 #[derive(Drop)]
 pub(crate) struct PointGraph {
     pub(crate) graph: Graph,
@@ -35,7 +38,7 @@ impl PointGraph {
         instance: &Instance,
         network: &Network,
     ) -> Result<PointGraph, NoMemory>
-        requires whole { IsWhole instance.now network.now }
+        requires whole { IsWholeNetwork instance.now network.now }
         requires few { point_count network.now ≤ 65000 }
         ensures { IfOk result (IsPointGraph instance.now network.now) }
     {
@@ -49,7 +52,8 @@ impl PointGraph {
         })
     }
 
-    // Costs of all edges, at which every one is free. Those of the classes come first, by their numbers.
+    // Costs of all edges, at which every one is free. Those of the classes come first, by their
+    // numbers.
     pub(crate) fn free_costs(&self, alloc: Global) -> Result<Vec<Option<u128>>, NoMemory>
         ensures count { IfOk result (λ costs. length costs.items ≡ self.now.edges) }
         ensures free { IfOk result (λ costs. IsFree 0 costs.items) }
@@ -85,7 +89,7 @@ fn all_edges(
     network: &Network,
     firsts: &[u32],
 ) -> Result<Vec<Edge>, NoMemory>
-    requires whole { IsWhole instance.now network.now }
+    requires whole { IsWholeNetwork instance.now network.now }
     requires few { point_count network.now ≤ 65000 }
     requires firsts { AreFirstNodes network.now firsts.now }
     ensures edges { IfOk result (λ edges. edges.items ≡ edges_of instance.now network.now) }
@@ -121,7 +125,7 @@ fn edges_of_classes(
     network: &Network,
     firsts: &[u32],
 ) -> Result<Vec<Edge>, NoMemory>
-    requires whole { IsWhole instance.now network.now }
+    requires whole { IsWholeNetwork instance.now network.now }
     requires few { point_count network.now ≤ 65000 }
     requires firsts { AreFirstNodes network.now firsts.now }
     ensures { IfOk result (λ edges. edges.items ≡ class_edges instance.now network.now) }
@@ -135,7 +139,7 @@ fn edges_of_classes(
 
 // The edge of the class with a number.
 fn edge_of_class(instance: &Instance, network: &Network, firsts: &[u32], class: u32) -> Edge
-    requires whole { IsWhole instance.now network.now }
+    requires whole { IsWholeNetwork instance.now network.now }
     requires few { point_count network.now ≤ 65000 }
     requires firsts { AreFirstNodes network.now firsts.now }
     requires class { class < class_count network.now }
@@ -156,17 +160,7 @@ fn node_of(network: &Network, firsts: &[u32], terminal: u32, at: u32) -> u32
     requires firsts { AreFirstNodes network.now firsts.now }
     ensures { result ≡ point_node network.now terminal at }
 {
-    firsts[terminal as usize] + place_among(network.points(terminal), at)
-}
-
-// How many of the points, of which there are few, are before the time.
-fn place_among(points: &[u32], at: u32) -> u32
-    requires points { ArePoints points.now }
-    requires few { length points.now ≤ 65000 }
-    ensures place { result ≡ place_of points.now at }
-    ensures within { result ≤ length points.now }
-{
-    points.partition_point(|point| *point < at) as u32
+    firsts[terminal as usize] + place_among(network.points(terminal), at) as u32
 }
 
 // The node of a terminal's last point.

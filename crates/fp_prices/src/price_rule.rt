@@ -1,3 +1,4 @@
+//! Tests tables of prices against the price rule.
 ghost use Rattle.std.specs.Prelude.{◌≡◌, ◌+◌, ◌*◌, ◌-◌, ◌<◌, ◌≤◌, ◌^◌, ◌↔◌, All, IfErr, IfNone, IfSome, IsTrue, MatchOption, OnOk, length, sum_by};
 ghost use Rattle.fp_model.specs.Problem.{arc_at};
 ghost use Rattle.fp_prices.specs.declared.tables.Weight.{Weight};
@@ -8,7 +9,8 @@ ghost use Rattle.fp_prices.specs.Tables.{AreCountable, BreaksRule, IsFirstBroken
 use crate::tables::{Share, Table, TableFault, Weight};
 use fp_model::Instance;
 
-// Whether all weights are together within a limit. No sum is made, so the weights may be any numbers.
+// Whether all weights are together within a limit. No sum is made, so the weights may be any
+// numbers.
 fn are_within(limit: u128, weights: &[Weight]) -> bool
     ensures { IsTrue result ↔ (sum_by (λ (w : Weight). w.w) weights.now ≤ limit) }
 {
@@ -50,13 +52,14 @@ fn first_broken(instance: &Instance, shares: &[Share]) -> Option<u32>
     None
 }
 
-/// Whether all shares of all tables keep the price rule: that the weights of a share and its `v` times the arc's capacity
-/// are together at most the scale times the arc's truck cost.
+/// Whether all shares of all tables keep the price rule: that the weights of a share and its `v`
+/// times the arc's capacity are together at most the scale times the arc's truck cost.
 ///
-/// The shares are of arcs that exist, and there are fewer than 2^32 - 1 tables and shares in each; in which order they
-/// stand isn't asked. `Err` exactly where one breaks the rule, with the first one, by its table and then by its place in
-/// it. Weights and `v` may be any numbers: no sum of them is made, only what they leave of the limit, which is below
-/// 2^127. Takes no memory, and time that grows with the weights in all.
+/// The shares are of arcs that exist, and there are fewer than 2^32 - 1 tables and shares in each;
+/// in which order they stand isn't asked. `Err` exactly where one breaks the rule, with the first
+/// one, by its table and then by its place in it. Weights and `v` may be any numbers: no sum of
+/// them is made, only what they leave of the limit, which is below 2^127. Takes no memory, and time
+/// that grows with the weights in all.
 pub fn check_tables(instance: &Instance, tables: &[Table]) -> Result<(), TableFault>
     requires { AreCountable instance.now tables.now }
     ensures ok { OnOk result (AllKeepRule instance.now tables.now) }

@@ -1,3 +1,4 @@
+//! Prices of a class for one shipment: even prices, and prices by a share.
 ghost use Rattle.std.specs.Prelude.{ℕ, ◌≡◌, ◌<◌, ◌^◌, AllPairs, length};
 ghost use Rattle.fp_model.specs.Problem.{arc_at};
 ghost use Rattle.fp_prices.specs.declared.tables.Weight.{Weight};
@@ -7,8 +8,9 @@ use crate::share_searches::weight_of;
 use crate::tables::Share;
 use fp_model::Instance;
 
-/// The even price for a shipment of a class of an arc that exists, where so many shipments of so much size in all are allowed,
-/// one at least: an equal part of one truck where it holds them all, and the linear price elsewhere.
+/// The even price for a shipment of a class of an arc that exists, where so many shipments of so
+/// much size in all are allowed, one at least: an equal part of one truck where it holds them all,
+/// and the linear price elsewhere.
 pub(crate) fn even_price(instance: &Instance, arc: u32, count: u32, all: u128, linear: u128) -> u128
     requires arc { arc < length instance.now.arcs }
     requires some { 0 < count }

@@ -1,3 +1,4 @@
+//! Finds a share in its table, and a weight in its share.
 ghost use Rattle.std.specs.Prelude.{◌≡◌, ◌<◌, AllPairs, option_copied};
 ghost use Rattle.fp_prices.specs.declared.tables.Weight.{Weight};
 ghost use Rattle.fp_prices.specs.Prices.{share_for, weight_in};

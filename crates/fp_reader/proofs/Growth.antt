@@ -7,15 +7,17 @@ use Rattle.std.proofs.lemmas.List.Elements.{All-push, All-weaker}
 use Rattle.std.proofs.lemmas.List.Folds.{list_any_at}
 use Rattle.std.proofs.lemmas.List.Quantifiers.{all_pairs_push}
 use Rattle.std.proofs.lemmas.Slice.Eq.{bytes_eq-Decides}
+use Rattle.fp_model.specs.declared.limits.TheConstants.{GREATEST_HOLD, MOST_ARCS, MOST_SHIPMENTS, MOST_TERMINALS}
 use Rattle.fp_model.specs.declared.parts.Arc.{Arc}
 use Rattle.fp_model.specs.declared.parts.Shipment.{Shipment}
 use Rattle.fp_model.specs.Names.{IsName}
-use Rattle.fp_model.specs.Problem.{Problem, IsArc, IsShipment, EndsDiffer}
-use Rattle.fp_reader.specs.Drafts.{IsSound, names_of}
-use Rattle.fp_reader.specs.Faults.{has_arc, joins}
-use Rattle.fp_reader.specs.Names.{is_taken}
+use Rattle.fp_model.specs.Problem.{Problem, HasSoundParts, IsArc, IsShipment, EndsDiffer}
+use Rattle.fp_fields.specs.Indexes.{shipment_names}
+use Rattle.fp_fields.specs.NamedParts.{joins}
+use Rattle.fp_reader.specs.Faults.{has_arc}
+use Rattle.fp_fields.specs.Names.{is_taken}
 use Rattle.fp_reader.specs.Parts.{with_arc, with_shipment, with_terminal}
-use Rattle.fp_reader.proofs.Places.{list_any-map}
+use Rattle.fp_fields.proofs.MappedLists.{list_any-map}
 
 -- a name that is not taken differs from each of the names
 fresh-name : (names : List (List ℕ)) (name : List ℕ) → is_taken names name ≡ false
@@ -42,8 +44,8 @@ shipment-of-more n s h =
     record { within = h.within; from = omega (arith, h.from); to = omega (arith, h.to); ends = h.ends; window = h.window }
 
 -- one more terminal
-pub more-terminals : (p : Problem) (name : List ℕ) (hold : ℕ) → IsSound p → IsName name → is_taken p.terminals name ≡ false
-    → length p.terminals < 100 → hold ≤ 1000 → IsSound (with_terminal p name hold)
+pub more-terminals : (p : Problem) (name : List ℕ) (hold : ℕ) → HasSoundParts p → IsName name → is_taken p.terminals name ≡ false
+    → length p.terminals < MOST_TERMINALS → hold ≤ GREATEST_HOLD → HasSoundParts (with_terminal p name hold)
 more-terminals p name hold s form fresh room fits =
     let more : length (p.terminals ++ (name ∷ [])) ≡ length p.terminals + 1 = length-append p.terminals (name ∷ []) in
     let held : length (p.holds ++ (hold ∷ [])) ≡ length p.holds + 1 = length-append p.holds (hold ∷ []) in
@@ -58,13 +60,12 @@ more-terminals p name hold s form fresh room fits =
       arcs_differ = s.arcs_differ;
       shipments_differ = s.shipments_differ;
       one_each = omega (arith, s.one_each);
-      holds = All-push (λ h. h ≤ 1000) p.holds hold s.holds fits;
-      scale = s.scale;
+      holds = All-push (λ h. h ≤ GREATEST_HOLD) p.holds hold s.holds fits;
     }
 
 -- one more arc
-pub more-arcs : (p : Problem) (arc : Arc) → IsSound p → IsArc (length p.terminals) arc → has_arc p arc.from arc.to ≡ false
-    → length p.arcs < 1000 → IsSound (with_arc p arc)
+pub more-arcs : (p : Problem) (arc : Arc) → HasSoundParts p → IsArc (length p.terminals) arc → has_arc p arc.from arc.to ≡ false
+    → length p.arcs < MOST_ARCS → HasSoundParts (with_arc p arc)
 more-arcs p arc s within fresh room =
     let more : length (p.arcs ++ (arc ∷ [])) ≡ length p.arcs + 1 = length-append p.arcs (arc ∷ []) in
     record {
@@ -79,20 +80,19 @@ more-arcs p arc s within fresh room =
       shipments_differ = s.shipments_differ;
       one_each = s.one_each;
       holds = s.holds;
-      scale = s.scale;
     }
 
 -- a shipment whose name is not taken differs from each of the shipments by its name
-fresh-shipment : (shipments : List Shipment) (s : Shipment) → is_taken (names_of shipments) s.name ≡ false
+fresh-shipment : (shipments : List Shipment) (s : Shipment) → is_taken (shipment_names shipments) s.name ≡ false
     → (k : ℕ) (d : Shipment) → k < length shipments → (get_or shipments k d).name ≢ s.name
 fresh-shipment shipments s h k d lt same =
-    both_ways (is_taken (names_of shipments) s.name) h
+    both_ways (is_taken (shipment_names shipments) s.name) h
     (sym (list_any-map (bytes_eq s.name) (λ (t : Shipment). t.name) shipments)
     ∙ list_any_at (λ (t : Shipment). bytes_eq s.name t.name) shipments k d lt ((bytes_eq-Decides s.name (get_or shipments k d).name).1 (sym same)))
 
 -- one more shipment
-pub more-shipments : (p : Problem) (t : Shipment) → IsSound p → IsShipment (length p.terminals) t → is_taken (names_of p.shipments) t.name ≡ false
-    → length p.shipments < 500 → IsSound (with_shipment p t)
+pub more-shipments : (p : Problem) (t : Shipment) → HasSoundParts p → IsShipment (length p.terminals) t → is_taken (shipment_names p.shipments) t.name ≡ false
+    → length p.shipments < MOST_SHIPMENTS → HasSoundParts (with_shipment p t)
 more-shipments p t s within fresh room =
     let more : length (p.shipments ++ (t ∷ [])) ≡ length p.shipments + 1 = length-append p.shipments (t ∷ []) in
     record {
@@ -107,5 +107,4 @@ more-shipments p t s within fresh room =
       shipments_differ = all_pairs_push (λ (a b : Shipment). a.name ≢ b.name) p.shipments t s.shipments_differ (fresh-shipment p.shipments t fresh);
       one_each = s.one_each;
       holds = s.holds;
-      scale = s.scale;
     }

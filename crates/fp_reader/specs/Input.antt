@@ -1,24 +1,15 @@
 -- The instance that records give, or their first fault.
-use Rattle.std.specs.Prelude.{ℕ, ◌+◌, ◌^◌, List, [], ◌∷◌, Bool, not, nat_le, if◌then◌else◌, Option, Some, None, Result, Ok, Err, codes, take_while}
+use Rattle.std.specs.Prelude.{ℕ, ◌+◌, ◌^◌, List, [], ◌∷◌, Bool, not, nat_le, if◌then◌else◌, Result, Ok, Err, codes, take_while}
 use Rattle.fp_model.specs.Problem.{Problem, weight}
 use Rattle.fp_reader.specs.declared.reading.Tail.{Tail}
 use Rattle.fp_reader.specs.declared.reading.Tail.TheVariants.{Alone, Certificate}
 use Rattle.fp_reader.specs.Faults.{record_code}
-use Rattle.fp_reader.specs.Fields.{is_kind}
+use Rattle.fp_fields.specs.Faults.{Fault, first_fault}
+use Rattle.fp_fields.specs.Fields.{is_kind}
 use Rattle.fp_reader.specs.Parts.{nothing_read, with_record}
 
--- a fault of an input: the ordinal of its record, from 1, or 0 for the input as a whole, and its code
-pub record Fault : Type 0 where
-  pub ordinal : ℕ
-  pub code : ℕ
-
--- the fault of the record with this ordinal, if it has a code, or else what is read with the records after it
-abbrev pub first_fault : {A : Type 0} → ℕ → Option ℕ → Result A Fault → Result A Fault
-first_fault ordinal (Some code) rest = Err (record { ordinal = ordinal; code = code })
-first_fault ordinal None rest = rest
-
--- what records give, where `ordinal` is that of the first of them and `before` is what those before it have given:
--- the first record with a fault decides
+-- what records give, where `ordinal` is that of the first of them and `before` is what those before
+-- it have given: the first record with a fault decides
 abbrev pub parts_from : Problem → ℕ → List (List (List ℕ)) → Result Problem Fault
 parts_from before ordinal [] = Ok before
 parts_from before ordinal (fields ∷ records) =
@@ -28,7 +19,8 @@ parts_from before ordinal (fields ∷ records) =
 abbrev pub is_answer : List (List ℕ) → Bool
 is_answer fields = is_kind (codes "answer") fields
 
--- the records of the instance: all of them, or, where a certificate may follow, those before the first `answer`
+-- the records of the instance: all of them, or, where a certificate may follow, those before the
+-- first `answer`
 abbrev pub instance_records : Tail → List (List (List ℕ)) → List (List (List ℕ))
 instance_records Alone records = records
 instance_records Certificate records = take_while (λ fields. not (is_answer fields)) records

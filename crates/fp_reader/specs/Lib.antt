@@ -1,5 +1,3 @@
-pub mod Fields
-pub mod Names
 pub mod Parts
 pub mod Faults
 pub mod Codes

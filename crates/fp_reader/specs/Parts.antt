@@ -1,22 +1,19 @@
 -- What the records without a fault give, each after those before it.
-use Rattle.std.specs.Prelude.{ℕ, List, [], ◌∷◌, ◌++◌, length, if◌then◌else◌, ◌==◌, unwrap_or, codes}
+use Rattle.std.specs.Prelude.{ℕ, List, [], ◌∷◌, ◌++◌, length, if◌then◌else◌, ◌==◌, codes}
+use Rattle.fp_model.specs.declared.limits.TheConstants.{SCALE}
 use Rattle.fp_model.specs.declared.parts.Arc.{Arc}
 use Rattle.fp_model.specs.declared.parts.Shipment.{Shipment}
 use Rattle.fp_model.specs.Problem.{Problem}
-use Rattle.fp_reader.specs.Fields.{field, is_kind, number_at}
-use Rattle.fp_reader.specs.Names.{number_of}
+use Rattle.fp_fields.specs.Fields.{field, is_kind, number_at}
+use Rattle.fp_fields.specs.NamedParts.{terminal_in}
 
 -- nothing read so far; the scale of prices is the default
 abbrev pub nothing_read : Problem
-nothing_read = record { terminals = []; holds = []; arcs = []; shipments = []; scale = 1000000 }
+nothing_read = record { terminals = []; holds = []; arcs = []; shipments = []; scale = SCALE }
 
 -- the hold of a terminal's record, in the input's unit of time: 0 where it gives none
 abbrev pub hold_in : List (List ℕ) → ℕ
 hold_in fields = if length fields == 3 then number_at fields 2 else 0
-
--- the number of the terminal that a field names
-abbrev pub terminal_in : Problem → List (List ℕ) → ℕ → ℕ
-terminal_in before fields place = unwrap_or (number_of before.terminals (field fields place)) 0
 
 -- the arc of a record `arc,FROM,TO,TIME,CAPACITY,TRUCK,FREIGHT`
 abbrev pub arc_in : Problem → List (List ℕ) → Arc

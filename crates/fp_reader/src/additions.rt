@@ -1,48 +1,30 @@
-// A draft with one more record.
+//! A draft with one more record.
 ghost use Rattle.std.specs.Prelude.{◌≡◌, MatchResult};
-ghost use Rattle.fp_reader.specs.Answers.{IsLeast};
-ghost use Rattle.fp_reader.specs.Faults.{arc_faults, first_code, record_code, shipment_faults, terminal_faults};
-ghost use Rattle.fp_reader.specs.Fields.{field};
+ghost use Rattle.fp_fields.specs.Fields.{field};
+ghost use Rattle.fp_fields.specs.Findings.{IsFirstFault, first_code};
+ghost use Rattle.fp_reader.specs.Codes.{code_of};
+ghost use Rattle.fp_reader.specs.Faults.{arc_faults, record_code, shipment_faults, terminal_faults};
 ghost use Rattle.fp_reader.specs.Parts.{arc_in, hold_in, shipment_in, with_arc, with_record, with_shipment, with_terminal};
 
 use crate::arc_records::read_arc;
 use crate::codes::RecordFault;
 use crate::drafts::Draft;
-use crate::fields::{field_at, is_of_kind};
 use crate::shipment_records::read_shipment;
 use crate::terminal_records::read_terminal;
+use fp_fields::RecordError;
+use fp_fields::fields::{field_at, is_of_kind};
 use fp_model::{Name, Shipment};
 use fp_records::Record;
-use std::alloc::{AllocError, Global};
+use std::alloc::Global;
 
-/// Why a record isn't added.
-#[derive(Clone, Copy)]
-pub enum AddFault {
-    /// The record has this fault and none with a lesser code.
-    Record(RecordFault),
-    /// No memory was found.
-    NoMemory,
-}
-
-impl From<RecordFault> for AddFault {
+impl From<RecordFault> for RecordError<RecordFault> {
     ghost use Rattle.std.specs.Prelude.{◌≡◌};
-    ghost use Rattle.fp_reader.specs.declared.additions.AddFault.TheVariants as add;
+    ghost use Rattle.fp_fields.specs.declared.errors.RecordError.TheVariants as error;
 
-    ghost from_gives = { λ fault e. e ≡ add.Record fault };
+    ghost from_gives = { λ fault e. e ≡ error.Fault fault };
 
-    fn from(fault: RecordFault) -> AddFault {
-        AddFault::Record(fault)
-    }
-}
-
-impl From<AllocError> for AddFault {
-    ghost use Rattle.std.specs.Prelude.{◌≡◌};
-    ghost use Rattle.fp_reader.specs.declared.additions.AddFault.TheVariants.{NoMemory};
-
-    ghost from_gives = { λ _ e. e ≡ NoMemory };
-
-    fn from(_error: AllocError) -> AddFault {
-        AddFault::NoMemory
+    fn from(fault: RecordFault) -> RecordError<RecordFault> {
+        RecordError::Fault(fault)
     }
 }
 
@@ -51,11 +33,11 @@ fn add_terminal<'a>(
     alloc: Global,
     draft: Draft<'a>,
     line: &'a Record,
-) -> Result<Draft<'a>, AddFault>
+) -> Result<Draft<'a>, RecordError<RecordFault>>
     ensures { MatchResult result
         (λ d. (first_code (terminal_faults draft.entry line.now) ≡ None)
         × (d ≡ with_terminal draft.entry (field line.now 1) (hold_in line.now)))
-        (λ e. IsLeast e (first_code (terminal_faults draft.entry line.now))) }
+        (λ e. IsFirstFault code_of e (first_code (terminal_faults draft.entry line.now))) }
 {
     let hold = read_terminal(&draft, line)?;
     let more = draft.with_terminal(alloc, field_at(line, 1), hold)?;
@@ -63,10 +45,10 @@ fn add_terminal<'a>(
 }
 
 // With one more arc's record.
-fn add_arc<'a>(draft: Draft<'a>, line: &'a Record) -> Result<Draft<'a>, AddFault>
+fn add_arc<'a>(draft: Draft<'a>, line: &'a Record) -> Result<Draft<'a>, RecordError<RecordFault>>
     ensures { MatchResult result
         (λ d. (first_code (arc_faults draft.entry line.now) ≡ None) × (d ≡ with_arc draft.entry (arc_in draft.entry line.now)))
-        (λ e. IsLeast e (first_code (arc_faults draft.entry line.now))) }
+        (λ e. IsFirstFault code_of e (first_code (arc_faults draft.entry line.now))) }
 {
     let arc = read_arc(&draft, line)?;
     let more = draft.with_arc(arc)?;
@@ -78,11 +60,11 @@ fn add_shipment<'a>(
     alloc: Global,
     draft: Draft<'a>,
     line: &'a Record,
-) -> Result<Draft<'a>, AddFault>
+) -> Result<Draft<'a>, RecordError<RecordFault>>
     ensures { MatchResult result
         (λ d. (first_code (shipment_faults draft.entry line.now) ≡ None)
         × (d ≡ with_shipment draft.entry (shipment_in draft.entry line.now)))
-        (λ e. IsLeast e (first_code (shipment_faults draft.entry line.now))) }
+        (λ e. IsFirstFault code_of e (first_code (shipment_faults draft.entry line.now))) }
 {
     let consignment = read_shipment(&draft, line)?;
     let shipment = Shipment {
@@ -97,16 +79,16 @@ fn add_shipment<'a>(
     Ok(more)
 }
 
-/// The draft with what one more record gives, or the least of the record's faults. It takes the draft, so after an `Err` there
-/// is none.
+/// The draft with what one more record gives, or the least of the record's faults. It takes the
+/// draft, so after an `Err` there is none.
 pub fn add_record<'a>(
     alloc: Global,
     draft: Draft<'a>,
     line: &'a Record,
-) -> Result<Draft<'a>, AddFault>
+) -> Result<Draft<'a>, RecordError<RecordFault>>
     ensures { MatchResult result
         (λ d. (record_code draft.entry line.now ≡ None) × (d ≡ with_record draft.entry line.now))
-        (λ e. IsLeast e (record_code draft.entry line.now)) }
+        (λ e. IsFirstFault code_of e (record_code draft.entry line.now)) }
 {
     if is_of_kind(line, b"terminal") {
         add_terminal(alloc, draft, line)
@@ -115,6 +97,6 @@ pub fn add_record<'a>(
     } else if is_of_kind(line, b"shipment") {
         add_shipment(alloc, draft, line)
     } else {
-        Err(AddFault::Record(RecordFault::Kind))
+        Err(RecordError::Fault(RecordFault::Kind))
     }
 }

@@ -1,21 +1,19 @@
-// Records `arc,FROM,TO,TIME,CAPACITY,TRUCK,FREIGHT`.
+//! Records `arc,FROM,TO,TIME,CAPACITY,TRUCK,FREIGHT`.
 ghost use Rattle.std.specs.Prelude.{◌≡◌, true, false, MatchOption, MatchResult};
 ghost use Rattle.fp_reader.specs.Codes.{code_of};
-ghost use Rattle.fp_reader.specs.Faults.{arc_faults, first_code, has_arc_digits, has_arc_names, has_arc_ranges};
-ghost use Rattle.fp_reader.specs.Fields.{number_at};
+ghost use Rattle.fp_fields.specs.Findings.{first_code};
+ghost use Rattle.fp_reader.specs.Faults.{arc_faults, has_arc_digits, has_arc_names, has_arc_ranges};
+ghost use Rattle.fp_fields.specs.Fields.{number_at};
 ghost use Rattle.fp_reader.specs.Parts.{arc_in};
 
 use crate::codes::RecordFault;
-use crate::digits::{long_between, short_between};
 use crate::drafts::Draft;
 use crate::ends::ends_of;
-use crate::fields::{field_at, has_fields, has_name, has_number};
+use fp_fields::digits::{long_between, short_between};
+use fp_fields::fields::{field_at, has_fields, has_name, has_number};
 use fp_model::Arc;
+use fp_model::limits::{GREATEST_AMOUNT, LATEST};
 use fp_records::Record;
-
-const LONGEST_TIME: u32 = 100_000;
-
-const MOST: u64 = 1_000_000_000_000_000_000;
 
 // The numbers of an arc.
 #[derive(Clone, Copy)]
@@ -47,10 +45,10 @@ fn arc_numbers(line: &Record) -> Option<ArcNumbers>
         (λ n. (has_arc_ranges line.now ≡ true)
         × (n ≡ record { time = number_at line.now 3; capacity = number_at line.now 4; truck = number_at line.now 5; freight = number_at line.now 6 })) }
 {
-    let time = short_between(field_at(line, 3), 1, LONGEST_TIME)?;
-    let capacity = long_between(field_at(line, 4), 1, MOST)?;
-    let truck = long_between(field_at(line, 5), 0, MOST)?;
-    let freight = long_between(field_at(line, 6), 0, MOST)?;
+    let time = short_between(field_at(line, 3), 1, LATEST)?;
+    let capacity = long_between(field_at(line, 4), 1, GREATEST_AMOUNT)?;
+    let truck = long_between(field_at(line, 5), 0, GREATEST_AMOUNT)?;
+    let freight = long_between(field_at(line, 6), 0, GREATEST_AMOUNT)?;
     Some(ArcNumbers {
         time,
         capacity,

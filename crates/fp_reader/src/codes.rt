@@ -1,4 +1,4 @@
-// The faults that a record may have, and their codes.
+//! The faults that a record may have, and their codes.
 ghost use Rattle.std.specs.Prelude.{◌≡◌};
 ghost use Rattle.fp_reader.specs.Codes.{code_of};
 

@@ -1,10 +1,10 @@
-// The terminals that two fields of a record name.
+//! The terminals that two fields of a record name.
 ghost use Rattle.std.specs.Prelude.{◌≡◌, true, false, MatchOption};
-ghost use Rattle.fp_reader.specs.Faults.{lacks_terminal};
-ghost use Rattle.fp_reader.specs.Parts.{terminal_in};
+ghost use Rattle.fp_reader.specs.Faults.{lacks_end};
+ghost use Rattle.fp_fields.specs.NamedParts.{terminal_in};
 
 use crate::drafts::Draft;
-use crate::fields::field_at;
+use fp_fields::fields::field_at;
 use fp_records::Record;
 
 /// Two terminals by their numbers.
@@ -16,8 +16,8 @@ pub struct Ends {
 
 /// The terminals that two fields name; `None` exactly where one names no earlier terminal.
 pub fn ends_of(draft: &Draft<'_>, line: &Record, from: usize, to: usize) -> Option<Ends>
-    ensures { MatchOption result (lacks_terminal draft.now line.now from to ≡ true)
-        (λ ends. (lacks_terminal draft.now line.now from to ≡ false)
+    ensures { MatchOption result (lacks_end draft.now line.now from to ≡ true)
+        (λ ends. (lacks_end draft.now line.now from to ≡ false)
         × (ends ≡ record { from = terminal_in draft.now line.now from; to = terminal_in draft.now line.now to })) }
 {
     let from = draft.terminal(field_at(line, from))?;

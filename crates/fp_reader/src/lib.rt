@@ -4,24 +4,15 @@
 mod additions;
 mod arc_records;
 mod codes;
-/// Numbers written in digits, of any count.
-pub mod digits;
 mod drafts;
 mod ends;
 mod faults;
-/// The fields of a record, and what they hold.
-pub mod fields;
-/// Names, numbered in the order in which they come.
-pub mod numbering;
 mod reading;
 mod shipment_records;
 mod terminal_records;
 
 pub use faults::InputFault;
-pub use reading::{Read, Tail, instance};
+pub use reading::{IndexedRead, Read, Tail, instance, instance_with_index};
 
-/// No memory was found.
+/// The error of a call that finds no memory.
 pub type NoMemory = std::alloc::AllocError;
-
-#[cfg(test)]
-mod tests;

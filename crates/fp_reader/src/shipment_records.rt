@@ -1,20 +1,18 @@
-// Records `shipment,NAME,FROM,TO,SIZE,RELEASE,DUE`.
+//! Records `shipment,NAME,FROM,TO,SIZE,RELEASE,DUE`.
 ghost use Rattle.std.specs.Prelude.{◌≡◌, true, false, MatchOption, MatchResult};
 ghost use Rattle.fp_reader.specs.Codes.{code_of};
-ghost use Rattle.fp_reader.specs.Faults.{first_code, has_shipment_digits, has_shipment_names, has_shipment_ranges, shipment_faults};
-ghost use Rattle.fp_reader.specs.Fields.{number_at};
-ghost use Rattle.fp_reader.specs.Parts.{terminal_in};
+ghost use Rattle.fp_fields.specs.Findings.{first_code};
+ghost use Rattle.fp_reader.specs.Faults.{has_shipment_digits, has_shipment_names, has_shipment_ranges, shipment_faults};
+ghost use Rattle.fp_fields.specs.Fields.{number_at};
+ghost use Rattle.fp_fields.specs.NamedParts.{terminal_in};
 
 use crate::codes::RecordFault;
-use crate::digits::{long_between, short_between};
 use crate::drafts::Draft;
 use crate::ends::ends_of;
-use crate::fields::{field_at, has_fields, has_name, has_number};
+use fp_fields::digits::{long_between, short_between};
+use fp_fields::fields::{field_at, has_fields, has_name, has_number};
+use fp_model::limits::{GREATEST_AMOUNT, LATEST};
 use fp_records::Record;
-
-const LATEST: u32 = 100_000;
-
-const LARGEST_SIZE: u64 = 1_000_000_000_000_000_000;
 
 /// A shipment without its name.
 #[derive(Clone, Copy)]
@@ -55,7 +53,7 @@ fn shipment_numbers(line: &Record) -> Option<ShipmentNumbers>
         (λ n. (has_shipment_ranges line.now ≡ true)
         × (n ≡ record { size = number_at line.now 4; release = number_at line.now 5; due = number_at line.now 6 })) }
 {
-    let size = long_between(field_at(line, 4), 1, LARGEST_SIZE)?;
+    let size = long_between(field_at(line, 4), 1, GREATEST_AMOUNT)?;
     let release = short_between(field_at(line, 5), 0, LATEST)?;
     let due = short_between(field_at(line, 6), 0, LATEST)?;
     Some(ShipmentNumbers { size, release, due })

@@ -1,16 +1,17 @@
-// Records `terminal,NAME` and `terminal,NAME,HOLD`.
+//! Records `terminal,NAME` and `terminal,NAME,HOLD`.
 ghost use Rattle.std.specs.Prelude.{◌≡◌, nat_lt, true, false, MatchOption, MatchResult};
+ghost use Rattle.fp_model.specs.declared.limits.TheConstants.{GREATEST_HOLD};
 ghost use Rattle.fp_reader.specs.Codes.{code_of};
-ghost use Rattle.fp_reader.specs.Faults.{first_code, has_bad_hold, has_terminal_fields, terminal_faults};
+ghost use Rattle.fp_fields.specs.Findings.{first_code};
+ghost use Rattle.fp_reader.specs.Faults.{has_bad_hold, has_terminal_fields, terminal_faults};
 ghost use Rattle.fp_reader.specs.Parts.{hold_in};
 
 use crate::codes::RecordFault;
-use crate::digits::short_between;
 use crate::drafts::Draft;
-use crate::fields::{field_at, has_fields, has_name, has_number};
+use fp_fields::digits::short_between;
+use fp_fields::fields::{field_at, has_fields, has_name, has_number};
+use fp_model::limits::GREATEST_HOLD;
 use fp_records::Record;
-
-const LONGEST_HOLD: u32 = 1_000;
 
 // Whether the number of fields is right.
 fn has_terminal_fields(line: &Record) -> bool
@@ -29,17 +30,18 @@ fn has_bad_hold(line: &Record) -> bool
 // The hold, 0 where the record gives none; `None` exactly where it is above its limit.
 fn hold_of(line: &Record) -> Option<u32>
     requires { has_bad_hold line.now ≡ false }
-    ensures { MatchOption result (nat_lt 1000 (hold_in line.now) ≡ true)
-        (λ hold. (hold ≡ hold_in line.now) × (nat_lt 1000 (hold_in line.now) ≡ false)) }
+    ensures { MatchOption result (nat_lt GREATEST_HOLD (hold_in line.now) ≡ true)
+        (λ hold. (hold ≡ hold_in line.now) × (nat_lt GREATEST_HOLD (hold_in line.now) ≡ false)) }
 {
     if has_fields(line, 3) {
-        short_between(field_at(line, 2), 0, LONGEST_HOLD)
+        short_between(field_at(line, 2), 0, GREATEST_HOLD)
     } else {
         Some(0)
     }
 }
 
-/// The hold of a terminal's record, in the input's unit of time, or the least of the record's faults.
+/// The hold of a terminal's record, in the input's unit of time, or the least of the record's
+/// faults.
 pub fn read_terminal(draft: &Draft<'_>, line: &Record) -> Result<u32, RecordFault>
     ensures { MatchResult result
         (λ hold. (first_code (terminal_faults draft.now line.now) ≡ None) × (hold ≡ hold_in line.now))

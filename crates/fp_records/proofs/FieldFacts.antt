@@ -16,7 +16,7 @@ field_at-slice_get (f ∷ fs) zero = refl
 field_at-slice_get (f ∷ fs) (suc i) = field_at-slice_get fs i
 
 -- The elements up to a place, and the one at it.
-pub take-next : {A : Type 0} (xs : List A) (i : ℕ) (x : A) → slice_get xs i ≡ Some x → take (i + 1) xs ≡ take i xs ++ (x ∷ [])
+take-next : {A : Type 0} (xs : List A) (i : ℕ) (x : A) → slice_get xs i ≡ Some x → take (i + 1) xs ≡ take i xs ++ (x ∷ [])
 take-next xs i x e = rw (take_more xs i x (slice_get_within xs i x e), get_or_from_slice_get xs i x x e) refl
 
 -- What a function gives of those elements.

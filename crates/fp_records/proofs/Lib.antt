@@ -1,7 +1,7 @@
-pub mod Built
+pub mod LineTexts
 mod FieldFacts
-mod Plain
+mod PlainFields
 mod ReaderFacts
 pub mod RoundTrip
 mod RowFacts
-mod Worked
+mod Examples

@@ -1,6 +1,6 @@
 -- What one more read of a record adds to what was read of a text.
-use Rattle.std.proofs.Common.{◌≡◌, ◌∙◌, ℕ, ◌<◌, ◌≤◌, true, false, inl, List, [], ◌∷◌, ◌++◌, length, refl, sym, ap, true≢false, Bor}
-use Rattle.std.specs.Prelude.{Option, Some, None, Result, Ok, Err, MatchResult, is_ok, unwrap_or}
+use Rattle.std.proofs.Common.{◌≡◌, ◌∙◌, ℕ, ◌<◌, ◌≤◌, true, false, inl, List, [], ◌∷◌, ◌++◌, length, refl, Bor}
+use Rattle.std.specs.Prelude.{Option, Some, None, unwrap_or}
 use Rattle.csv.proofs.ReadFacts.{reached-more, rows-end}
 use Rattle.csv.specs.Machine.{Read, ends_at_end, next_record}
 use Rattle.csv.specs.Reading.{NextIs, Reached, ReadRecord, ReadsNext, Ready, default_config, pending_of, records, source_of}
@@ -9,11 +9,6 @@ use Rattle.csv.specs.declared.parser.State.TheVariants as st
 use Rattle.csv.specs.declared.reader.Reader.{Reader}
 use Rattle.csv.specs.declared.reader.Trim.TheVariants as trim
 use Rattle.fp_records.proofs.RowFacts.{all-records, next-shrinks}
-
--- A call whose error was changed gave the value that the whole gives.
-pub ok-before_map_err : {T E D : Type 0} (P : E → Type 0) (r : Result T E) (s : Result T D) (x : T) → MatchResult r (λ y. s ≡ Ok y) P → is_ok s ≡ is_ok r → s ≡ Ok x → r ≡ Ok x
-ok-before_map_err P (Ok y) s x h same e = cc (h, e)
-ok-before_map_err P (Err y) s x h same e = absurd (true≢false (ap is_ok (sym e) ∙ same))
 
 found : (o : Option Read) (f : List (List ℕ)) (t : State) (z : List ℕ) → NextIs o true f t z → o ≡ Some (f, t, z)
 found None f t z n = cc n
@@ -28,6 +23,7 @@ found-next s t y (Some z) f r = (z, refl, found _ f t z r)
 -- A reader of a text has read these records of it, and stands between two records.
 pub record IsBetween (text : List ℕ) (rows : List (List (List ℕ))) (reader : Reader (Bor (List ℕ))) : Type 0 where
   pub plain : reader.trim ≡ trim.None
+  pub flexible : reader.flexible ≡ true
   pub ready : Ready reader
   pub config : reader.config ≡ default_config
   pub rests : ends_at_end reader.state ≡ false
@@ -42,14 +38,15 @@ shorter a b y z is becomes less = rw (is, becomes) less
 
 -- After one more record it stands between two records again, with less left.
 pub read-more : (text : List ℕ) (rows : List (List (List ℕ))) (a b : Reader (Bor (List ℕ))) (f : List (List ℕ)) → IsBetween text rows a
-    → ReadRecord (λ s. Some s.now) a b true f → b.first ≡ true → IsBetween text (rows ++ (f ∷ [])) b × (left_len b < left_len a)
-read-more text rows a b f h r first =
+    → ReadRecord (λ s. Some s.now) a b true f → b.first ≡ true → b.flexible ≡ a.flexible → IsBetween text (rows ++ (f ∷ [])) b × (left_len b < left_len a)
+read-more text rows a b f h r first bends =
     let y = h.left.0 in
     let n = found-next a.state b.state y (pending_of (Some b.rdr.now) b) f (rw (h.config, h.left.1) at r.0) in
     let less = next-shrinks default_config a.state y (f, b.state, n.0) h.rests n.2 in
     let becomes : source_of (λ (s : Bor (List ℕ)). Some s.now) b ≡ Some n.0 = rw r.1 n.1 in (
       record {
         plain = r.3 ∙ h.plain;
+        flexible = bends ∙ h.flexible;
         ready = inl first;
         config = r.2 ∙ h.config;
         rests = less.1;
@@ -58,7 +55,8 @@ read-more text rows a b f h r first =
       shorter _ _ y n.0 h.left.1 becomes less.0,
     )
 
--- A reader that finds no further record has read all the records of the text, of which there are no more than bytes.
+-- A reader that finds no further record has read all the records of the text, of which there are no
+-- more than bytes.
 pub read-all : (text : List ℕ) (rows : List (List (List ℕ))) (a b : Reader (Bor (List ℕ))) (f : List (List ℕ)) → IsBetween text rows a
     → ReadRecord (λ s. Some s.now) a b false f → (rows ≡ records default_config text) × (length rows ≤ length text)
 read-all text rows a b f h r =

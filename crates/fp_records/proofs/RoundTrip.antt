@@ -10,7 +10,7 @@ use Rattle.csv.specs.declared.parser.State.TheVariants as st
 use Rattle.csv.proofs.RoundTrip.{plain-run, record-same, rest-run, start-same}
 use Rattle.fp_records.specs.Fields.{is_empty, kept_records, records_of}
 use Rattle.fp_records.specs.Text.{comma, is_plain, is_plain_field, is_plain_record, joined, line_feed, line_of, lines_of}
-use Rattle.fp_records.proofs.Plain.{kept_records-plain, plain-byte}
+use Rattle.fp_records.proofs.PlainFields.{kept_records-plain, plain-byte}
 use Rattle.fp_records.proofs.RowFacts.{all-records}
 
 -- A field of plain bytes needs no quotes.
@@ -60,7 +60,8 @@ lines-reached (row ∷ rows) plain =
     let parts = and_parts _ _ plain in
     ((row, st.StartRecord, lines_of rows), line-read row (lines_of rows) parts.0, refl, lines-reached rows parts.1)
 
--- The records of the lines of plain records are those records, where the text does not begin with a byte order mark.
+-- The records of the lines of plain records are those records, where the text does not begin with a
+-- byte order mark.
 pub records_of-lines_of : (rows : List (List (List ℕ))) → list_all is_plain_record rows ≡ true → strip_bom (lines_of rows) ≡ lines_of rows → records_of (lines_of rows) ≡ rows
 unfolding next_record
 records_of-lines_of rows plain unmarked =

@@ -60,11 +60,12 @@ any-rests cfg st.InComment c = pick-rests (c == 10) _ _ (goes-on st.StartRecord 
 any-rests cfg st.AfterCr c = pick-rests (c == 10) _ _ (goes-on st.StartRecord act.Skip refl) (start-record-rests cfg c)
 
 -- after a byte that ends a record, the end of the text ends no further one
-pub step-rests : (cfg : Config) (s : State) (c : ℕ) → is_end (step cfg s c).1 ≡ true → ends_at_end (step cfg s c).0 ≡ false
+step-rests : (cfg : Config) (s : State) (c : ℕ) → is_end (step cfg s c).1 ≡ true → ends_at_end (step cfg s c).0 ≡ false
 step-rests cfg s c e = (any-rests cfg s c).at_end e
 
--- what is left after a record: no more bytes than before it, and a state at which the end of the text ends none
-pub next-shorter : (cfg : Config) (s : State) (fields : List (List ℕ)) (field xs : List ℕ) (p : Read)
+-- what is left after a record: no more bytes than before it, and a state at which the end of the
+-- text ends none
+next-shorter : (cfg : Config) (s : State) (fields : List (List ℕ)) (field xs : List ℕ) (p : Read)
     → next_record cfg s fields field xs ≡ Some p → (length p.2 ≤ length xs) × (ends_at_end p.1 ≡ false)
 unfolding next_record
 next-shorter cfg s fields field [] p e =

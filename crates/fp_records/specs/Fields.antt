@@ -35,6 +35,7 @@ kept_count fields = length fields - suffix_len is_empty (map stripped fields)
 abbrev pub kept_records : List (List (List ℕ)) → List (List (List ℕ))
 kept_records rows = filter (λ r. not (is_empty r)) (map kept_fields rows)
 
--- The records of a text: commas, double quotes, no header row, any number of fields, and one byte order mark passed over.
+-- The records of a text: commas, double quotes, no header row, any number of fields, and one byte
+-- order mark passed over.
 abbrev pub records_of : List ℕ → List (List (List ℕ))
 records_of bytes = kept_records (records default_config (strip_bom bytes))

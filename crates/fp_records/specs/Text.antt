@@ -38,7 +38,8 @@ line_of fields = joined fields ++ line_feed
 abbrev pub lines_of : List (List (List ℕ)) → List ℕ
 lines_of rows = flat_map line_of rows
 
--- Whether a byte needs no quotes and is not stripped: it is no comma, quote, carriage return, line feed, space or tab.
+-- Whether a byte needs no quotes and is not stripped: it is no comma, quote, carriage return, line
+-- feed, space or tab.
 abbrev pub is_plain : ℕ → Bool
 is_plain b = not ((b == 44) || (b == 34) || (b == 13) || (b == 10) || is_blank b)
 

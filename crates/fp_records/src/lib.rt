@@ -12,8 +12,5 @@ mod stripping;
 pub use lines::Line;
 pub use reading::{Record, records};
 
-/// There was not enough memory.
+/// The error of a call that finds no memory.
 pub type NoMemory = std::alloc::AllocError;
-
-#[cfg(test)]
-mod tests;

@@ -28,7 +28,7 @@ impl Line {
     /// A builder with no text yet.
     ///
     /// # Errors
-    /// `NoMemory` where there is not enough memory.
+    /// `NoMemory` only where no memory is found.
     pub fn new(alloc: Global) -> Result<Line, NoMemory>
         ensures { IfOk result (λ s. s ≡ record { text = []; begun = false }) }
     {
@@ -41,7 +41,7 @@ impl Line {
     /// Adds these bytes as a field of the line at hand, as they are.
     ///
     /// # Errors
-    /// `NoMemory` where there is not enough memory. The text is as before then.
+    /// `NoMemory` only where no memory is found. The text is as before then.
     pub fn word(&mut self, bytes: &[u8]) -> Result<(), NoMemory>
         ensures ok { OnOk result (self.new ≡ with_field self.old bytes.now) }
         ensures err { OnErr result (self.new ≡ self.old) }
@@ -61,7 +61,7 @@ impl Line {
     /// Adds a number as a field of the line at hand, in decimal digits without leading zeros.
     ///
     /// # Errors
-    /// `NoMemory` where there is not enough memory. The text is as before then.
+    /// `NoMemory` only where no memory is found. The text is as before then.
     pub fn number(&mut self, value: u128) -> Result<(), NoMemory>
         ensures ok { OnOk result (self.new ≡ with_field self.old (decimal value)) }
         ensures err { OnErr result (self.new ≡ self.old) }
@@ -73,7 +73,7 @@ impl Line {
     /// Ends the line at hand by a line feed.
     ///
     /// # Errors
-    /// `NoMemory` where there is not enough memory. The text is as before then.
+    /// `NoMemory` only where no memory is found. The text is as before then.
     pub fn end(&mut self) -> Result<(), NoMemory>
         ensures ok { OnOk result (self.new ≡ with_end self.old) }
         ensures err { OnErr result (self.new ≡ self.old) }

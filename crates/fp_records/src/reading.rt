@@ -1,12 +1,13 @@
 //! The records of a text.
 
-ghost use Rattle.std.specs.Prelude.{◌≡◌, ◌<◌, ◌≤◌, ◌++◌, ◌∷◌, ℕ, List, [], length, slice_get, Some, OnOk, IfOk, vec_len};
+ghost use Rattle.std.specs.Prelude.{◌≡◌, ◌<◌, ◌≤◌, ◌++◌, ◌∷◌, ℕ, List, [], length, slice_get, true, Some, OnOk, IfOk, vec_len};
+ghost use Rattle.csv.specs.Reading.{stops_reader};
 ghost use Rattle.csv.specs.Records.{fields_of};
 ghost use Rattle.fp_records.specs.Fields.{kept_records, records_of};
 
 use crate::NoMemory;
 use crate::stripping::{field_of, kept_len, strip_front};
-use csv::{ByteRecord, ReaderBuilder};
+use csv::{ByteRecord, ErrorKind, ReaderBuilder};
 use std::alloc::{AllocError, Global};
 use std::marker::Model;
 
@@ -57,13 +58,28 @@ fn add_kept(alloc: Global, rows: &mut Vec<Record>, row: &ByteRecord) -> Result<(
     Ok(())
 }
 
+// The error of a read that stopped its reader. A slice of bytes gives no error when it is read, and
+// no clause of the CSV library says so: such an error goes the same way as want of memory. Lengths
+// that differ, text that isn't UTF-8 and values that aren't records stop no reader.
+fn no_memory(kind: ErrorKind) -> NoMemory
+    requires { stops_reader kind ≡ true }
+{
+    match kind {
+        ErrorKind::OutOfMemory | ErrorKind::Io(_) => AllocError,
+        ErrorKind::UnequalLengths { .. }
+        | ErrorKind::Utf8 { .. }
+        | ErrorKind::Serialize(_)
+        | ErrorKind::Deserialize { .. } => unreachable!(),
+    }
+}
+
 /// The records of a text, of which there are no more than bytes. A byte order mark at its start is
 /// passed over. Each field is stripped of spaces and tabs at both ends. The empty fields at the end
-/// of a record are dropped, and so is a record without a field left. A record's ordinal is its place
-/// among those that are kept, from 1.
+/// of a record are dropped, and so is a record without a field left. A record's ordinal is its
+/// place among those that are kept, from 1.
 ///
 /// # Errors
-/// `NoMemory` where there was not enough memory for the records.
+/// `NoMemory` only where no memory is found.
 pub fn records(alloc: Global, bytes: &[u8]) -> Result<Vec<Record>, NoMemory>
     ensures all { IfOk result (λ rows. rows.items ≡ records_of bytes.now) }
     ensures few { IfOk result (λ rows. vec_len rows ≤ length bytes.now) }
@@ -74,8 +90,11 @@ pub fn records(alloc: Global, bytes: &[u8]) -> Result<Vec<Record>, NoMemory>
         .from_reader(alloc, bytes);
     let mut row = ByteRecord::new(alloc);
     let mut rows = Vec::new(alloc);
-    while reader.read_byte_record(&mut row).map_err(|_| AllocError)? {
-        add_kept(alloc, &mut rows, &row)?;
+    loop {
+        match reader.read_byte_record(&mut row) {
+            Ok(true) => add_kept(alloc, &mut rows, &row)?,
+            Ok(false) => return Ok(rows),
+            Err(error) => return Err(no_memory(error.into_kind())),
+        }
     }
-    Ok(rows)
 }

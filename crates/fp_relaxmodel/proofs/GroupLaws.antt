@@ -5,19 +5,22 @@ use Rattle.std.specs.List.{AllByRecursion, list_any}
 use Rattle.std.proofs.lemmas.Bool.{cases_Bool, or_cases, or_left, or_right}
 use Rattle.std.proofs.lemmas.List.Elements.{All-append, All-filter, All-from_recursion, All-head, All-map, All-tail, Contains-append_right, recursion_from_All}
 use Rattle.std.proofs.lemmas.List.Kept.{AllPairs-cons, AllPairs-filter}
+use Rattle.fp_lists.proofs.Membership.{Contains-first}
+use Rattle.fp_lists.proofs.Pairs.{AllPairs-head, AllPairs-tail, AllPairs-nil}
 use Rattle.fp_model.specs.declared.parts.Leg.{Leg}
 use Rattle.fp_model.specs.declared.parts.Member.{Member}
 use Rattle.fp_model.specs.Costs.{same_leg}
 use Rattle.fp_model.proofs.Distinct.{same_leg-refl, same_leg-true}
-use Rattle.fp_model.proofs.Sums.{each-weaker}
+use Rattle.fp_lists.proofs.Elements.{AllByRecursion-weaker}
 use Rattle.fp_relaxmodel.specs.Grouping.{Met, after}
-use Rattle.fp_relaxmodel.specs.Groups.{ComesBefore, StartsBefore}
-use Rattle.fp_relaxmodel.specs.Members.{Placed, members_among}
+use Rattle.fp_relaxmodel.specs.Groups.{StartsBefore}
+use Rattle.fp_model.specs.Members.{MemberComesBefore, members_among, NamedLeg}
 use Rattle.fp_relaxmodel.proofs.MetClasses.{same_leg-comm}
-use Rattle.fp_relaxmodel.proofs.Peeling.{Occurs, members-other, members-others, members-same, occurs-from_others, occurs-others, others, others-other, others-same, peel}
+use Rattle.fp_relaxmodel.proofs.FirstGroups.{Occurs, members-others, occurs-from_others, occurs-others, others, others-other, others-same, after-cons}
+use Rattle.fp_model.proofs.Members.{members_among-other, members_among-same}
 
 -- a group has a class that occurs, and all its members among the legs
-pub record IsMet (legs : List Placed) (g : Met) : Type 0 where
+pub record IsMet (legs : List NamedLeg) (g : Met) : Type 0 where
   pub occurs : Occurs g.class legs
   pub exact : g.members ≡ members_among legs g.class
 
@@ -26,122 +29,103 @@ abbrev pub members_of : List Met → List (List Member)
 members_of groups = map (λ (g : Met). g.members) groups
 
 -- the group of the first leg
-abbrev pub first_group : Placed → List Placed → Met
-first_group x legs = record { class = x.class; members = x.member ∷ members_among legs x.class }
+abbrev pub first_group : NamedLeg → List NamedLeg → Met
+first_group x legs = record { class = x.leg; members = x.member ∷ members_among legs x.leg }
 
-others-short : (c : Leg) (legs : List Placed) → length (others c legs) ≤ length legs
+others-short : (c : Leg) (legs : List NamedLeg) → length (others c legs) ≤ length legs
 others-short c [] = omega arith
 others-short c (x ∷ legs) =
     ⊎_elim
-    (λ (e : same_leg c x.class ≡ true). omega (arith, ap length (others-same c x legs e), others-short c legs))
-    (λ (e : same_leg c x.class ≡ false). omega (arith, ap length (others-other c x legs e), others-short c legs))
-    (cases_Bool (same_leg c x.class))
+    (λ (e : same_leg c x.leg ≡ true). omega (arith, ap length (others-same c x legs e), others-short c legs))
+    (λ (e : same_leg c x.leg ≡ false). omega (arith, ap length (others-other c x legs e), others-short c legs))
+    (cases_Bool (same_leg c x.leg))
 
 -- a group of the other legs is one of all
-met-wider : (x : Placed) (legs : List Placed) (g : Met) → IsMet (others x.class legs) g → IsMet (x ∷ legs) g
+met-wider : (x : NamedLeg) (legs : List NamedLeg) (g : Met) → IsMet (others x.leg legs) g → IsMet (x ∷ legs) g
 met-wider x legs g is =
-    let parts : (same_leg x.class g.class ≡ false) × Occurs g.class legs = occurs-from_others g.class x.class legs is.occurs in
-    let differ : same_leg g.class x.class ≡ false = same_leg-comm g.class x.class ∙ parts.0 in
+    let parts : (same_leg x.leg g.class ≡ false) × Occurs g.class legs = occurs-from_others g.class x.leg legs is.occurs in
+    let differ : same_leg g.class x.leg ≡ false = same_leg-comm g.class x.leg ∙ parts.0 in
     record {
-      occurs = or_right (same_leg g.class x.class) (list_any (λ (y : Placed). same_leg g.class y.class) legs) parts.1;
-      exact = is.exact ∙ members-others g.class x.class legs parts.0 ∙ sym (members-other g.class x legs differ);
+      occurs = or_right (same_leg g.class x.leg) (list_any (λ (y : NamedLeg). same_leg g.class y.leg) legs) parts.1;
+      exact = is.exact ∙ members-others g.class x.leg legs parts.0 ∙ sym (members_among-other g.class x legs differ);
     }
 
 -- each group is that of a class that occurs
-pub each-met : (n : ℕ) (legs : List Placed) → length legs ≤ n → AllByRecursion (IsMet legs) (after legs [])
+pub each-met : (n : ℕ) (legs : List NamedLeg) → length legs ≤ n → AllByRecursion (IsMet legs) (after legs [])
 each-met n [] le = tt
 each-met zero (x ∷ legs) le = absurd (omega (arith, le))
 each-met (suc n) (x ∷ legs) le =
-    let rest : List Placed = others x.class legs in
-    let own : same_leg x.class x.class ≡ true = same_leg-refl x.class in
+    let rest : List NamedLeg = others x.leg legs in
+    let own : same_leg x.leg x.leg ≡ true = same_leg-refl x.leg in
     let first : IsMet (x ∷ legs) (first_group x legs) = record {
-      occurs = or_left (same_leg x.class x.class) (list_any (λ (y : Placed). same_leg x.class y.class) legs) own;
-      exact = sym (members-same x.class x legs own);
+      occurs = or_left (same_leg x.leg x.leg) (list_any (λ (y : NamedLeg). same_leg x.leg y.leg) legs) own;
+      exact = sym (members_among-same x.leg x legs own);
     } in
     let later : AllByRecursion (IsMet (x ∷ legs)) (after rest []) =
-    each-weaker (IsMet rest) (IsMet (x ∷ legs)) (met-wider x legs) (after rest []) (each-met n rest (omega (arith, le, others-short x.class legs))) in
-    subst (AllByRecursion (IsMet (x ∷ legs))) (sym (peel x legs)) (first, later)
+    AllByRecursion-weaker (IsMet rest) (IsMet (x ∷ legs)) (met-wider x legs) (after rest []) (each-met n rest (omega (arith, le, others-short x.leg legs))) in
+    subst (AllByRecursion (IsMet (x ∷ legs))) (sym (after-cons x legs)) (first, later)
 
 -- one leg comes before another
-abbrev pub Before : Placed → Placed → Type 0
-Before x y = ComesBefore x.member y.member
+abbrev pub Before : NamedLeg → NamedLeg → Type 0
+Before x y = MemberComesBefore x.member y.member
 
 -- a member before all legs begins a group before each group of theirs
-begins-before : (m : Member) (group : List Member) (legs : List Placed) (k : Leg) → AllByRecursion (λ (y : Placed). ComesBefore m y.member) legs → Occurs k legs → StartsBefore (m ∷ group) (members_among legs k)
+begins-before : (m : Member) (group : List Member) (legs : List NamedLeg) (k : Leg) → AllByRecursion (λ (y : NamedLeg). MemberComesBefore m y.member) legs → Occurs k legs → StartsBefore (m ∷ group) (members_among legs k)
 begins-before m group [] k all there = absurd (true≢false (sym there))
 begins-before m group (y ∷ legs) k all there =
     ⊎_elim
-    (λ (e : same_leg k y.class ≡ true). subst (StartsBefore (m ∷ group)) (sym (members-same k y legs e)) all.0)
-    (λ (e : same_leg k y.class ≡ false).
+    (λ (e : same_leg k y.leg ≡ true). subst (StartsBefore (m ∷ group)) (sym (members_among-same k y legs e)) all.0)
+    (λ (e : same_leg k y.leg ≡ false).
     let later : Occurs k legs =
     ⊎_elim
-    (λ (h : same_leg k y.class ≡ true). absurd (true≢false (sym h ∙ e)))
+    (λ (h : same_leg k y.leg ≡ true). absurd (true≢false (sym h ∙ e)))
     (λ (h : Occurs k legs). h)
-    (or_cases (same_leg k y.class) (list_any (λ (z : Placed). same_leg k z.class) legs) there) in
-    subst (StartsBefore (m ∷ group)) (sym (members-other k y legs e)) (begins-before m group legs k all.1 later))
-    (cases_Bool (same_leg k y.class))
-
-pub pairs-head : {X : Type 0} (R : X → X → Type 0) (x : X) (xs : List X) → AllPairs R (x ∷ xs) → All (R x) xs
-pairs-head R x xs pairs k d lt = pairs 0 (suc k) d (omega arith) (omega (arith, lt))
-
-pub pairs-tail : {X : Type 0} (R : X → X → Type 0) (x : X) (xs : List X) → AllPairs R (x ∷ xs) → AllPairs R xs
-pairs-tail R x xs pairs i j d before lt = pairs (suc i) (suc j) d (omega (arith, before)) (omega (arith, lt))
-
-pub pairs-nil : {X : Type 0} (R : X → X → Type 0) → AllPairs R []
-pairs-nil R i j d before lt = absurd (omega (arith, lt))
-
--- two lists one after the other, where each element of the first comes before those of the second
-pub pairs-append : {X : Type 0} (R : X → X → Type 0) (xs ys : List X) → AllPairs R xs → AllPairs R ys → All (λ x. All (R x) ys) xs → AllPairs R (xs ++ ys)
-pairs-append R [] ys first last cross = last
-pairs-append {X} R (x ∷ xs) ys first last cross =
-    AllPairs-cons R x (xs ++ ys) (All-append (R x) xs ys (pairs-head R x xs first) (All-head (λ (z : X). All (R z) ys) x xs cross))
-    (pairs-append R xs ys (pairs-tail R x xs first) last (All-tail (λ (z : X). All (R z) ys) x xs cross))
+    (or_cases (same_leg k y.leg) (list_any (λ (z : NamedLeg). same_leg k z.leg) legs) there) in
+    subst (StartsBefore (m ∷ group)) (sym (members_among-other k y legs e)) (begins-before m group legs k all.1 later))
+    (cases_Bool (same_leg k y.leg))
 
 -- the first members ascend
-pub groups-ascend : (n : ℕ) (legs : List Placed) → length legs ≤ n → AllPairs Before legs → AllPairs StartsBefore (members_of (after legs []))
-groups-ascend n [] le pairs = pairs-nil StartsBefore
+pub groups-ascend : (n : ℕ) (legs : List NamedLeg) → length legs ≤ n → AllPairs Before legs → AllPairs StartsBefore (members_of (after legs []))
+groups-ascend n [] le pairs = AllPairs-nil StartsBefore
 groups-ascend zero (x ∷ legs) le pairs = absurd (omega (arith, le))
 groups-ascend (suc n) (x ∷ legs) le pairs =
-    let rest : List Placed = others x.class legs in
-    let other : Placed → Bool = λ y. not (same_leg x.class y.class) in
-    let short : length rest ≤ n = omega (arith, le, others-short x.class legs) in
+    let rest : List NamedLeg = others x.leg legs in
+    let other : NamedLeg → Bool = λ y. not (same_leg x.leg y.leg) in
+    let short : length rest ≤ n = omega (arith, le, others-short x.leg legs) in
     let first : List Member = (first_group x legs).members in
-    let after_x : AllByRecursion (λ (y : Placed). ComesBefore x.member y.member) rest = recursion_from_All (Before x) rest (All-filter other (Before x) legs (pairs-head Before x legs pairs)) in
+    let after_x : AllByRecursion (λ (y : NamedLeg). MemberComesBefore x.member y.member) rest = recursion_from_All (Before x) rest (All-filter other (Before x) legs (AllPairs-head Before x legs pairs)) in
     let later : AllByRecursion (λ (g : Met). StartsBefore first g.members) (after rest []) =
-    each-weaker (IsMet rest) (λ (g : Met). StartsBefore first g.members)
-    (λ g is. subst (StartsBefore first) (sym is.exact) (begins-before x.member (members_among legs x.class) rest g.class after_x is.occurs)) (after rest []) (each-met n rest short) in
+    AllByRecursion-weaker (IsMet rest) (λ (g : Met). StartsBefore first g.members)
+    (λ g is. subst (StartsBefore first) (sym is.exact) (begins-before x.member (members_among legs x.leg) rest g.class after_x is.occurs)) (after rest []) (each-met n rest short) in
     let begins : All (StartsBefore first) (members_of (after rest [])) =
     All-map (StartsBefore first) (λ (g : Met). g.members) (after rest []) (All-from_recursion (λ (g : Met). StartsBefore first g.members) (after rest []) later) in
-    subst (λ (groups : List Met). AllPairs StartsBefore (members_of groups)) (sym (peel x legs))
-    (AllPairs-cons StartsBefore first (members_of (after rest [])) begins (groups-ascend n rest short (AllPairs-filter Before other legs (pairs-tail Before x legs pairs))))
-
-contains-first : {X : Type 0} (y : X) (ys : List X) → Contains (y ∷ ys) y
-contains-first y ys = (0, omega arith, refl)
+    subst (λ (groups : List Met). AllPairs StartsBefore (members_of groups)) (sym (after-cons x legs))
+    (AllPairs-cons StartsBefore first (members_of (after rest [])) begins (groups-ascend n rest short (AllPairs-filter Before other legs (AllPairs-tail Before x legs pairs))))
 
 -- each class that occurs has its group
-pub groups-cover : (n : ℕ) (legs : List Placed) (k : Leg) → length legs ≤ n → Occurs k legs → Contains (members_of (after legs [])) (members_among legs k)
+pub groups-cover : (n : ℕ) (legs : List NamedLeg) (k : Leg) → length legs ≤ n → Occurs k legs → Contains (members_of (after legs [])) (members_among legs k)
 groups-cover n [] k le there = absurd (true≢false (sym there))
 groups-cover zero (x ∷ legs) k le there = absurd (omega (arith, le))
 groups-cover (suc n) (x ∷ legs) k le there =
-    let rest : List Placed = others x.class legs in
+    let rest : List NamedLeg = others x.leg legs in
     let first : List Member = (first_group x legs).members in
     let HasMembers : List (List Member) → Type 0 = λ groups. Contains groups (members_among (x ∷ legs) k) in
     let found : HasMembers (first ∷ members_of (after rest [])) =
     ⊎_elim
-    (λ (e : same_leg k x.class ≡ true).
-    let is : k ≡ x.class = same_leg-true k x.class e in
-    let own : members_among (x ∷ legs) k ≡ first = ap (members_among (x ∷ legs)) is ∙ members-same x.class x legs (same_leg-refl x.class) in
-    subst (Contains (first ∷ members_of (after rest []))) (sym own) (contains-first first (members_of (after rest []))))
-    (λ (e : same_leg k x.class ≡ false).
-    let differ : same_leg x.class k ≡ false = same_leg-comm x.class k ∙ e in
+    (λ (e : same_leg k x.leg ≡ true).
+    let is : k ≡ x.leg = same_leg-true k x.leg e in
+    let own : members_among (x ∷ legs) k ≡ first = ap (members_among (x ∷ legs)) is ∙ members_among-same x.leg x legs (same_leg-refl x.leg) in
+    subst (Contains (first ∷ members_of (after rest []))) (sym own) (Contains-first first (members_of (after rest []))))
+    (λ (e : same_leg k x.leg ≡ false).
+    let differ : same_leg x.leg k ≡ false = same_leg-comm x.leg k ∙ e in
     let later : Occurs k legs =
     ⊎_elim
-    (λ (h : same_leg k x.class ≡ true). absurd (true≢false (sym h ∙ e)))
+    (λ (h : same_leg k x.leg ≡ true). absurd (true≢false (sym h ∙ e)))
     (λ (h : Occurs k legs). h)
-    (or_cases (same_leg k x.class) (list_any (λ (z : Placed). same_leg k z.class) legs) there) in
+    (or_cases (same_leg k x.leg) (list_any (λ (z : NamedLeg). same_leg k z.leg) legs) there) in
     let among : Contains (members_of (after rest [])) (members_among rest k) =
-    groups-cover n rest k (omega (arith, le, others-short x.class legs)) (occurs-others k x.class legs differ later) in
-    let same : members_among rest k ≡ members_among (x ∷ legs) k = members-others k x.class legs differ ∙ sym (members-other k x legs e) in
+    groups-cover n rest k (omega (arith, le, others-short x.leg legs)) (occurs-others k x.leg legs differ later) in
+    let same : members_among rest k ≡ members_among (x ∷ legs) k = members-others k x.leg legs differ ∙ sym (members_among-other k x legs e) in
     Contains-append_right (first ∷ []) (members_of (after rest [])) (members_among (x ∷ legs) k) (subst (Contains (members_of (after rest []))) same among))
-    (cases_Bool (same_leg k x.class)) in
-    subst (λ (groups : List Met). HasMembers (members_of groups)) (sym (peel x legs)) found
+    (cases_Bool (same_leg k x.leg)) in
+    subst (λ (groups : List Met). HasMembers (members_of groups)) (sym (after-cons x legs)) found

@@ -3,10 +3,11 @@ pub mod RouteCosts
 pub mod PlansCoarsen
 pub mod MetTerminals
 pub mod MetClasses
-pub mod Peeling
+pub mod FirstGroups
 pub mod GroupLaws
-pub mod PlacedLegs
+pub mod NamedLegs
 pub mod UniqueGroups
-pub mod MadeGroups
+pub mod GroupsByWalk
 pub mod RouteLengths
-pub mod MembersByPlace
+pub mod GroupsOfRoutes
+pub mod RelaxedWalks

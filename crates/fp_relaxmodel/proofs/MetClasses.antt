@@ -49,7 +49,7 @@ later-grows : (k s : Stop) (m : Member) (items : List Member) (groups : List Met
 later-grows k s m items groups e = cond-false (same_leg (leg_of s) (leg_of k)) _ _ (same_leg-comm (leg_of s) (leg_of k) ∙ e)
 
 -- one more member of a class that was met
-pub met-grows : (k : Stop) (m : Member) (keys : List Stop) (groups : List (Vec Member Global)) (i : ℕ) (v d : Vec Member Global) → length keys ≡ length groups → list_any (same_stop k) keys ≡ true →
+met-grows : (k : Stop) (m : Member) (keys : List Stop) (groups : List (Vec Member Global)) (i : ℕ) (v d : Vec Member Global) → length keys ≡ length groups → list_any (same_stop k) keys ≡ true →
     i ≡ position_or_len (same_stop k) keys → v.items ≡ (get_or groups i d).items ++ (m ∷ []) →
     groups_so_far keys (set groups i v) ≡ with_member (leg_of k) m (groups_so_far keys groups)
 met-grows k m [] groups i v d long there at grown = absurd (true≢false (sym there))
@@ -75,7 +75,7 @@ met-grows k m (s ∷ keys) (g ∷ groups) (suc i) v d long there at grown =
     (cases_Bool (same_stop k s))
 
 -- the first member of a new class
-pub new-begins : (k : Stop) (m : Member) (keys : List Stop) (groups : List (Vec Member Global)) (i : ℕ) (none v d : Vec Member Global) → length keys ≡ length groups → list_any (same_stop k) keys ≡ false →
+new-begins : (k : Stop) (m : Member) (keys : List Stop) (groups : List (Vec Member Global)) (i : ℕ) (none v d : Vec Member Global) → length keys ≡ length groups → list_any (same_stop k) keys ≡ false →
     i ≡ position_or_len (same_stop k) keys → none.items ≡ [] → v.items ≡ (get_or (groups ++ (none ∷ [])) i d).items ++ (m ∷ []) →
     groups_so_far (keys ++ (k ∷ [])) (set (groups ++ (none ∷ [])) i v) ≡ with_member (leg_of k) m (groups_so_far keys groups)
 new-begins k m [] [] zero none v d long there at empty grown =

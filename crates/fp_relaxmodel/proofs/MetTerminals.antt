@@ -2,10 +2,13 @@
 use Rattle.std.proofs.Common.{◌≡◌, ◌≢◌, ℕ, zero, suc, ◌+◌, ◌<◌, Bool, true, false, List, [], ◌∷◌, length, drop, get_or, set, replicate, refl, sym, ap, ◌∙◌, subst, arith, get_or-set_other, get_or-set_same, true≢false, add-one, drop-cons}
 use Rattle.std.specs.Prelude.{◌↔◌, Some, None, slice_get}
 use Rattle.std.specs.List.{AllByRecursion}
+use Rattle.fp_lists.proofs.Distinct.{AreDistinct-cons, AreDistinct-head, AreDistinct-tail}
+use Rattle.fp_model.specs.declared.limits.TheConstants.{MOST_TERMINALS}
 use Rattle.fp_model.specs.declared.parts.Leg.{Leg}
 use Rattle.fp_model.specs.declared.parts.Shipment.{Shipment}
 use Rattle.fp_model.specs.Problem.{Problem, IsValid, arc_at, no_arc}
-use Rattle.fp_model.specs.Routes.{AreApart, IsRoute, Leads, arcs_of, ends_of}
+use Rattle.fp_model.specs.Routes.{IsRoute, Leads, arcs_of, ends_of}
+use Rattle.fp_lists.specs.Distinct.{AreDistinct}
 use Rattle.fp_relaxmodel.specs.declared.stops.Stop.{Stop}
 use Rattle.fp_relaxmodel.specs.Stops.{legs_of}
 use Rattle.fp_relaxmodel.specs.Terminals.{terminals_on}
@@ -20,7 +23,7 @@ AreUnmet met xs = AllByRecursion (λ t. get_or met t false ≡ false) xs
 
 -- none of the terminals was met, and none stands twice among them
 abbrev pub AreNew : List Bool → List ℕ → Type 0
-AreNew met xs = AreUnmet met xs × AreApart xs
+AreNew met xs = AreUnmet met xs × AreDistinct xs
 
 -- once a terminal is met, those that are unmet are others that were
 unmet-others : (met : List Bool) (t : ℕ) (xs : List ℕ) → t < length met → AreUnmet (set met t true) xs → AllByRecursion (λ y. y ≢ t) xs × AreUnmet met xs
@@ -45,34 +48,30 @@ none-met n [] = tt
 none-met n (x ∷ xs) = (not-met n x, none-met n xs)
 
 -- where only the first terminal was met
-pub new-first : (n tail : ℕ) (xs : List ℕ) → tail < n → length (replicate n false) ≡ n → (AreApart (tail ∷ xs) ↔ AreNew (set (replicate n false) tail true) xs)
+pub new-first : (n tail : ℕ) (xs : List ℕ) → tail < n → length (replicate n false) ≡ n → (AreDistinct (tail ∷ xs) ↔ AreNew (set (replicate n false) tail true) xs)
 new-first n tail xs lt long =
     let none : List Bool = replicate n false in
     let within : tail < length none = omega (arith, lt, long) in (
-      (λ apart. (others-unmet none tail xs apart.0 (none-met n xs), apart.1)),
-      (λ new. ((unmet-others none tail xs within new.0).0, new.1)),
+      (λ apart. (others-unmet none tail xs (AreDistinct-head tail xs apart) (none-met n xs), AreDistinct-tail tail xs apart)),
+      (λ new. AreDistinct-cons tail xs (unmet-others none tail xs within new.0).0 new.1),
     )
 
 -- one more terminal that was unmet
-pub new-next : (met : List Bool) (x : ℕ) (xs : List ℕ) → x < length met → get_or met x false ≡ false → (AreNew met (x ∷ xs) ↔ AreNew (set met x true) xs)
+new-next : (met : List Bool) (x : ℕ) (xs : List ℕ) → x < length met → get_or met x false ≡ false → (AreNew met (x ∷ xs) ↔ AreNew (set met x true) xs)
 new-next met x xs lt unmet = (
-  (λ new. (others-unmet met x xs new.1.0 new.0.1, new.1.1)),
-  (λ new. let parts : AllByRecursion (λ y. y ≢ x) xs × AreUnmet met xs = unmet-others met x xs lt new.0 in ((unmet, parts.1), (parts.0, new.1))),
+  (λ new. (others-unmet met x xs (AreDistinct-head x xs new.1) new.0.1, AreDistinct-tail x xs new.1)),
+  (λ new. let parts : AllByRecursion (λ y. y ≢ x) xs × AreUnmet met xs = unmet-others met x xs lt new.0 in ((unmet, parts.1), AreDistinct-cons x xs parts.0 new.1)),
 )
 
--- one that was met
-pub new-never : (met : List Bool) (x : ℕ) (xs : List ℕ) → get_or met x false ≡ true → AreNew met (x ∷ xs) → ⊥
-new-never met x xs was new = true≢false (sym was ∙ new.0.0)
-
 -- the terminals that are entered from a class on
-pub entered-next : (p : Problem) (stops : List Stop) (i : ℕ) (d : Stop) → i < length stops → entered_by p (drop i stops) ≡ (arc_at p (get_or stops i d).arc).to ∷ entered_by p (drop (i + 1) stops)
+entered-next : (p : Problem) (stops : List Stop) (i : ℕ) (d : Stop) → i < length stops → entered_by p (drop i stops) ≡ (arc_at p (get_or stops i d).arc).to ∷ entered_by p (drop (i + 1) stops)
 entered-next p stops i d lt =
     let next : drop i stops ≡ get_or stops i d ∷ drop (i + 1) stops = rw add-one (drop-cons stops i d lt) in
     ap (entered_by p) next
 
--- the ends of an arc are among the terminals, of which there are at most a hundred
-pub arc-within : (p : Problem) (a : ℕ) → IsValid p → a < length p.arcs → ((arc_at p a).from < length p.terminals) × ((arc_at p a).to < 100)
-arc-within p a valid lt = ((valid.arcs a no_arc lt).from, omega (arith, (valid.arcs a no_arc lt).to, valid.few_terminals))
+-- the ends of an arc are among the terminals, of which there are so many at most
+pub arc-within : (p : Problem) (a : ℕ) → IsValid p → a < length p.arcs → ((arc_at p a).from < length p.terminals) × ((arc_at p a).to < MOST_TERMINALS)
+arc-within p a valid lt = ((valid.parts.arcs a no_arc lt).from, omega (arith, (valid.parts.arcs a no_arc lt).to, valid.parts.few_terminals))
 
 -- terminals are apart exactly where those that are entered from the next class on are new
 pub decides-next : (A : Type 0) (p : Problem) (met : List Bool) (stops : List Stop) (i : ℕ) (d : Stop) (to : ℕ) → i < length stops → to ≡ (arc_at p (get_or stops i d).arc).to → to < length met → get_or met to false ≡ false →
@@ -85,14 +84,6 @@ decides-next A p met stops i d to lt is within unmet decides =
       (λ new. decides.1 (subst (AreNew met) (sym here) (next.1 new))),
     )
 
--- they are not where the next class enters one that was met
-pub decides-never : (A : Type 0) (p : Problem) (met : List Bool) (stops : List Stop) (i : ℕ) (d : Stop) (to : ℕ) → i < length stops → to ≡ (arc_at p (get_or stops i d).arc).to → get_or met to false ≡ true →
-    (A ↔ AreNew met (entered_by p (drop i stops))) → A → ⊥
-decides-never A p met stops i d to lt is was decides apart =
-    let left : List ℕ = entered_by p (drop (i + 1) stops) in
-    let here : entered_by p (drop i stops) ≡ to ∷ left = entered-next p stops i d lt ∙ ap (λ (x : ℕ). x ∷ left) (sym is) in
-    new-never met to left was (subst (AreNew met) here (decides.0 apart))
-
 -- the terminals on a walk with a first class
 pub on-first : (p : Problem) (stops : List Stop) (first : Stop) → slice_get stops 0 ≡ Some first → terminals_on p (legs_of stops) ≡ (arc_at p first.arc).from ∷ entered_by p stops
 on-first p [] first is = cc
@@ -100,16 +91,11 @@ on-first p (stop ∷ stops) first is =
     let same : stop ≡ first = cc in
     ap (λ (s : Stop). (arc_at p s.arc).from ∷ entered_by p (stop ∷ stops)) same
 
--- and on one without
-pub on-none : (p : Problem) (stops : List Stop) → slice_get stops 0 ≡ None → terminals_on p (legs_of stops) ≡ []
-on-none p [] is = refl
-on-none p (stop ∷ stops) is = cc
-
 -- whether the walk from a shipment's origin to its destination is a route of it
-pub route-decides : (A : Type 0) (p : Problem) (walk : List Leg) → (A ↔ AreApart (terminals_on p walk)) → (s : Shipment) → s.from ≢ s.to → Leads p s.from (arcs_of walk) s.to → (A ↔ IsRoute p s (arcs_of walk))
+pub route-decides : (A : Type 0) (p : Problem) (walk : List Leg) → (A ↔ AreDistinct (terminals_on p walk)) → (s : Shipment) → s.from ≢ s.to → Leads p s.from (arcs_of walk) s.to → (A ↔ IsRoute p s (arcs_of walk))
 route-decides A p [] decides s ends leads = ((λ a. absurd (ends leads)), (λ route. absurd (ends leads)))
 route-decides A p (c ∷ walk) decides s ends leads =
-    let Apart : ℕ → Type 0 = λ here. AreApart (here ∷ ends_of p (arcs_of (c ∷ walk))) in (
+    let Apart : ℕ → Type 0 = λ here. AreDistinct (here ∷ ends_of p (arcs_of (c ∷ walk))) in (
       (λ a. record { some = λ e. cc; leads = leads; once = subst Apart leads.1 (decides.0 a) }),
       (λ route. decides.1 (subst Apart (sym leads.1) route.once)),
     )

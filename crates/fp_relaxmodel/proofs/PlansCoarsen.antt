@@ -6,20 +6,21 @@ use Rattle.std.specs.declared.vec.Vec.{Vec}
 use Rattle.std.specs.List.{AllByRecursion, AllZip}
 use Rattle.fp_model.specs.declared.parts.Leg.{Leg}
 use Rattle.fp_model.specs.declared.parts.Shipment.{Shipment}
-use Rattle.fp_model.specs.Costs.{cost, lists_of}
-use Rattle.fp_model.specs.Numbered.{AllFrom, AllZipFrom}
+use Rattle.fp_model.specs.Costs.{cost}
+use Rattle.fp_lists.specs.Vectors.{lists_of}
+use Rattle.fp_lists.specs.Numbered.{AllZipFrom, AllFrom}
 use Rattle.fp_model.specs.Plans.{IsPlan}
 use Rattle.fp_model.specs.Problem.{Problem}
 use Rattle.fp_model.specs.Routes.{ArcsExist, Carries, IsRoute, arcs_of}
 use Rattle.fp_model.proofs.Bounds.{length-lists_of}
-use Rattle.fp_model.proofs.Places.{at-map}
+use Rattle.fp_lists.proofs.Maps.{get_or-map_default}
 use Rattle.fp_flatnet.specs.declared.window_tables.Window.{Window}
 use Rattle.fp_flatnet.specs.Windows.{PlanLiesWithin}
 use Rattle.fp_longestarcs.proofs.ClassCosts.{cost-classes}
 use Rattle.fp_tree.specs.Sides.{MeetsAll}
 use Rattle.fp_allowed.specs.Allowed.{PlanObeys, exit_of, is_allowed}
 use Rattle.fp_allowed.specs.Walks.{IsTimedWalk}
-use Rattle.fp_allowed.proofs.PlanClasses.{arcs_of-classes, plan-timed}
+use Rattle.fp_allowed.proofs.PlanClasses.{arcs_of-classes, plan_timed}
 use Rattle.fp_relaxmodel.specs.Relaxed.{CoarsensPlans, HasRoutes, IsRelaxedPlan, IsRelaxedWalk, coarsened}
 
 -- every leg meets no sides
@@ -32,7 +33,7 @@ obey-from p d k [] = tt
 obey-from p d k (r ∷ routes) = (legs-obey p d k r, obey-from p d (k + 1) routes)
 
 -- so routes over any denominator obey no sides
-pub obeys-none : (p : Problem) (d : ℕ) (routes : List (List Leg)) → PlanObeys p d [] routes
+obeys-none : (p : Problem) (d : ℕ) (routes : List (List Leg)) → PlanObeys p d [] routes
 obeys-none p d routes = obey-from p d 0 routes
 
 -- timed walks over routes are relaxed walks
@@ -53,7 +54,7 @@ routes-from p points d (s ∷ ss) (r ∷ routes) plan =
     (subst (IsRoute p s) (sym (arcs_of-classes p points d r)) plan.0.route, routes-from p points d ss routes plan.1)
 
 -- the arcs of a plan's classes are routes
-pub HasRoutes-coarsened : (p : Problem) (points : ℕ → List ℕ) (d : ℕ) (routes : List (List Leg)) → IsPlan p d routes → HasRoutes p (coarsened p points d routes)
+HasRoutes-coarsened : (p : Problem) (points : ℕ → List ℕ) (d : ℕ) (routes : List (List Leg)) → IsPlan p d routes → HasRoutes p (coarsened p points d routes)
 HasRoutes-coarsened p points d routes plan = routes-from p points d p.shipments routes plan
 
 plan-routes : (p : Problem) (d : ℕ) (ss : List Shipment) (routes : List (List Leg)) → AllZip (Carries p d) ss routes → AllZip (λ s r. IsRoute p s (arcs_of r)) ss routes
@@ -82,13 +83,14 @@ pub relaxed-coarsened : (p : Problem) (windows : ℕ → ℕ → Option Window) 
     IsRelaxedPlan p windows points (coarsened p points d routes)
 relaxed-coarsened p windows points d routes h plan within =
     relaxed-from p windows points 0 p.shipments (coarsened p points d routes) (HasRoutes-coarsened p points d routes plan)
-    (plan-timed p windows points [] d routes h plan within (obeys-none p d routes))
+    (plan_timed p windows points [] d routes h plan within (obeys-none p d routes))
 
 -- routes coarsen into walks that cost no more
 pub cost-coarsened : (p : Problem) (points : ℕ → List ℕ) (d : ℕ) (routes : List (List Leg)) → cost p (coarsened p points d routes) ≤ cost p routes
 cost-coarsened p points d routes = cost-classes p points d routes
 
--- every plan over any denominator within the windows has a relaxed plan that costs no more, whatever the points are
+-- every plan over any denominator within the windows has a relaxed plan that costs no more,
+-- whatever the points are
 pub coarsens-plans : (p : Problem) (windows : ℕ → ℕ → Option Window) (points : ℕ → List ℕ) → CoarsensPlans p windows points
 coarsens-plans p windows points d routes h plan within =
     (relaxed-coarsened p windows points d routes h plan within, cost-coarsened p points d routes)
@@ -99,5 +101,5 @@ route-arcs p routes plan i v view exist lt is =
     let all : All (ArcsExist p) (lists_of routes) = subst (All (ArcsExist p)) (sym view) exist in
     let there : i < length (lists_of routes) = omega (arith, length-lists_of routes, lt) in
     let items : Vec Leg Global → List Leg = λ r. r.items in
-    let same : get_or (lists_of routes) i v.items ≡ v.items = at-map items routes i v ∙ ap items (sym is) in
+    let same : get_or (lists_of routes) i v.items ≡ v.items = get_or-map_default items routes i v ∙ ap items (sym is) in
     subst (ArcsExist p) same (all i v.items there)

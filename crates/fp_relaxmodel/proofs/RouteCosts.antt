@@ -9,9 +9,11 @@ use Rattle.fp_model.specs.declared.parts.Leg.{Leg}
 use Rattle.fp_model.specs.declared.parts.Shipment.{Shipment}
 use Rattle.fp_model.specs.Costs.{cost, flow_cost, flow_total}
 use Rattle.fp_model.specs.Problem.{Problem, IsValid, alone_cost, alone_total, arc_at, no_arc}
-use Rattle.fp_model.specs.Routes.{ArcsExist, IsRoute, arcs_of}
-use Rattle.fp_model.proofs.Bounds.{AreApart-map, Leads-exist, alone_routes, alone_trucks, departures-le-alone, legs-exist, sum_by-places-le}
-use Rattle.fp_model.proofs.Sums.{sum_by-both, sum_by-map}
+use Rattle.fp_model.specs.Routes.{ArcsExist, IsRoute, arcs_of, ends_of}
+use Rattle.fp_model.proofs.Bounds.{Leads-exist, alone_routes, alone_trucks, departures-le-alone, legs-exist}
+use Rattle.fp_lists.proofs.Distinct.{AreDistinct-from_map, AreDistinct-tail}
+use Rattle.fp_lists.proofs.DistinctSums.{sum_by-places-le}
+use Rattle.fp_lists.proofs.Sums.{sum_by-both, sum_by-map}
 use Rattle.fp_relaxmodel.specs.Relaxed.{HasRoutes}
 
 -- a walk whose arcs are a route is of a shipment
@@ -30,7 +32,7 @@ walk-le-alone p s walk route =
     let within : sum_by at (arcs_of walk) ≤ sum_by (alone_cost s.size) p.arcs =
     sum_by-places-le (alone_cost s.size) no_arc (omega arith) (arcs_of walk) p.arcs
     (Leads-exist p s.from (arcs_of walk) s.to route.leads)
-    (AreApart-map (λ a. (arc_at p a).to) (arcs_of walk) route.once.1) in
+    (AreDistinct-from_map (λ a. (arc_at p a).to) (arcs_of walk) (AreDistinct-tail s.from (ends_of p (arcs_of walk)) route.once)) in
     omega (arith, both, numbers, within)
 
 walks-le-alone : (p : Problem) (ss : List Shipment) (walks : List (List Leg)) → AllZip (Routes p) ss walks →
@@ -46,7 +48,7 @@ pub HasRoutes-long : (p : Problem) (walks : List (List Leg)) → HasRoutes p wal
 HasRoutes-long p walks routes = AllZip-long (Routes p) p.shipments walks routes
 
 -- walks that are routes of the shipments cost at most every shipment alone over every arc
-pub cost-routes-le : (p : Problem) (walks : List (List Leg)) → HasRoutes p walks → cost p walks ≤ alone_total p.arcs p.shipments
+cost-routes-le : (p : Problem) (walks : List (List Leg)) → HasRoutes p walks → cost p walks ≤ alone_total p.arcs p.shipments
 cost-routes-le p walks routes =
     omega (arith, departures-le-alone p p.shipments walks (HasRoutes-long p walks routes), walks-le-alone p p.shipments walks routes)
 

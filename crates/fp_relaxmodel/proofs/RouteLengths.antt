@@ -6,46 +6,33 @@ use Rattle.std.proofs.Math.Dec.{eqb}
 use Rattle.std.proofs.lemmas.Bool.{ne_eqb, or_cases, false≢true}
 use Rattle.std.proofs.lemmas.List.Elements.{All-cons, All-nil}
 use Rattle.std.proofs.lemmas.Map.Steps.{length-le_from_distinct_below}
+use Rattle.fp_lists.proofs.DistinctSums.{length-distinct-le}
+use Rattle.fp_model.specs.declared.limits.TheConstants.{MOST_ARCS}
 use Rattle.fp_model.specs.declared.parts.Leg.{Leg}
 use Rattle.fp_model.specs.declared.parts.Shipment.{Shipment}
 use Rattle.fp_model.specs.Problem.{Problem, IsValid, arc_at}
-use Rattle.fp_model.specs.Routes.{AreApart, IsRoute, arcs_of}
-use Rattle.fp_model.proofs.Bounds.{AreApart-map, Leads-exist}
-use Rattle.fp_model.proofs.Sums.{each-weaker}
+use Rattle.fp_model.specs.Routes.{IsRoute, arcs_of, ends_of}
+use Rattle.fp_lists.specs.Distinct.{AreDistinct}
+use Rattle.fp_model.proofs.Bounds.{Leads-exist}
+use Rattle.fp_lists.proofs.Distinct.{AreDistinct-from_map, AreDistinct-tail}
+use Rattle.fp_lists.proofs.Elements.{AllByRecursion-weaker}
 use Rattle.fp_relaxmodel.specs.Relaxed.{HasRoutes}
 use Rattle.fp_relaxmodel.proofs.RouteCosts.{HasRoutes-long}
-
-distinct-apart : (xs : List ℕ) → AreApart xs → IsDistinct eqb xs
-unfolding IsDistinct
-distinct-apart [] apart = tt
-distinct-apart (x ∷ xs) apart =
-    (each-weaker (λ y. y ≢ x) (λ y. eqb x y ≡ false) (λ y ne. ne_eqb x y (λ e. ne (sym e))) xs apart.0, distinct-apart xs apart.1)
-
-below-any : (n : ℕ) (xs : List ℕ) → AllByRecursion (λ x. x < n) xs → (q : ℕ) → list_any (eqb q) xs ≡ true → q < n
-below-any n [] all q any = absurd (false≢true any)
-below-any n (x ∷ xs) all q any =
-    ⊎_elim
-    (λ (here : eqb q x ≡ true). subst (λ (m : ℕ). m < n) (sym (eqb-true q x here)) all.0)
-    (λ (later : list_any (eqb q) xs ≡ true). below-any n xs all.1 q later)
-    (or_cases (eqb q x) (list_any (eqb q) xs) any)
-
-length-arcs_of : (walk : List Leg) → length (arcs_of walk) ≡ length walk
-length-arcs_of [] = refl
-length-arcs_of (l ∷ walk) = omega (arith, length-arcs_of walk)
+use Rattle.fp_model.proofs.Faultless.{length-arcs_of}
 
 -- a walk whose arcs are a route has at most as many legs as there are arcs
-pub IsRoute-short : (p : Problem) (s : Shipment) (walk : List Leg) → IsRoute p s (arcs_of walk) → length walk ≤ length p.arcs
+IsRoute-short : (p : Problem) (s : Shipment) (walk : List Leg) → IsRoute p s (arcs_of walk) → length walk ≤ length p.arcs
 IsRoute-short p s walk route =
-    let apart : AreApart (arcs_of walk) = AreApart-map (λ a. (arc_at p a).to) (arcs_of walk) route.once.1 in
+    let apart : AreDistinct (arcs_of walk) = AreDistinct-from_map (λ a. (arc_at p a).to) (arcs_of walk) (AreDistinct-tail s.from (ends_of p (arcs_of walk)) route.once) in
     let few : length (arcs_of walk) ≤ length p.arcs =
-    length-le_from_distinct_below (arcs_of walk) (length p.arcs) (distinct-apart (arcs_of walk) apart) (below-any (length p.arcs) (arcs_of walk) (Leads-exist p s.from (arcs_of walk) s.to route.leads)) in
+    length-distinct-le (length p.arcs) (arcs_of walk) (Leads-exist p s.from (arcs_of walk) s.to route.leads) apart in
     omega (arith, few, length-arcs_of walk)
 
 -- a walk is short enough for its legs to be numbered
 abbrev IsShort : List Leg → Type 0
 IsShort walk = length walk < 2 ^ 32 - 1
 
-walks-short : (p : Problem) (ss : List Shipment) (walks : List (List Leg)) → length p.arcs ≤ 1000 → AllZip (λ s walk. IsRoute p s (arcs_of walk)) ss walks → All IsShort walks
+walks-short : (p : Problem) (ss : List Shipment) (walks : List (List Leg)) → length p.arcs ≤ MOST_ARCS → AllZip (λ s walk. IsRoute p s (arcs_of walk)) ss walks → All IsShort walks
 walks-short p [] [] few routes = All-nil IsShort
 walks-short p [] (w ∷ walks) few routes = absurd routes
 walks-short p (s ∷ ss) [] few routes = absurd routes
@@ -53,8 +40,8 @@ walks-short p (s ∷ ss) (w ∷ walks) few routes = All-cons IsShort w walks (om
 
 -- walks that are routes of the shipments are short enough
 pub HasRoutes-few_legs : (p : Problem) (walks : List (List Leg)) → IsValid p → HasRoutes p walks → All (λ walk. length walk < 2 ^ 32 - 1) walks
-HasRoutes-few_legs p walks valid routes = walks-short p p.shipments walks valid.few_arcs routes
+HasRoutes-few_legs p walks valid routes = walks-short p p.shipments walks valid.parts.few_arcs routes
 
 -- and few enough
 pub HasRoutes-few_walks : (p : Problem) (walks : List (List Leg)) → IsValid p → HasRoutes p walks → length walks < 2 ^ 32 - 1
-HasRoutes-few_walks p walks valid routes = omega (arith, HasRoutes-long p walks routes, valid.few_shipments)
+HasRoutes-few_walks p walks valid routes = omega (arith, HasRoutes-long p walks routes, valid.parts.few_shipments)

@@ -5,7 +5,7 @@ use Rattle.std.proofs.lemmas.List.{length-map}
 use Rattle.std.proofs.lemmas.Option.{get_or_from_slice_get, slice_get_within}
 use Rattle.fp_model.specs.Problem.{Problem}
 use Rattle.fp_model.specs.Routes.{ArcsExist}
-use Rattle.fp_model.proofs.Places.{at-map}
+use Rattle.fp_lists.proofs.Maps.{get_or-map_default}
 use Rattle.fp_relaxmodel.specs.declared.stops.Stop.{Stop}
 use Rattle.fp_relaxmodel.specs.Stops.{leg_of, legs_of}
 
@@ -13,7 +13,7 @@ use Rattle.fp_relaxmodel.specs.Stops.{leg_of, legs_of}
 pub arc-exists : (p : Problem) (stops : List Stop) (i : ℕ) (d : Stop) → ArcsExist p (legs_of stops) → i < length stops → (get_or stops i d).arc < length p.arcs
 arc-exists p stops i d exist lt =
     let there : i < length (legs_of stops) = rw length-map lt in
-    rw (at-map leg_of stops i d) at (exist i (leg_of d) there)
+    rw (get_or-map_default leg_of stops i d) at (exist i (leg_of d) there)
 
 -- so does that of the first class
 pub first-exists : (p : Problem) (stops : List Stop) (first : Stop) → ArcsExist p (legs_of stops) → slice_get stops 0 ≡ Some first → first.arc < length p.arcs

@@ -6,7 +6,7 @@ use Rattle.fp_model.specs.declared.parts.Leg.{Leg}
 use Rattle.fp_model.specs.declared.parts.Member.{Member}
 use Rattle.fp_model.specs.Costs.{same_leg}
 use Rattle.fp_relaxmodel.specs.declared.stops.Stop.{Stop}
-use Rattle.fp_relaxmodel.specs.Members.{Placed}
+use Rattle.fp_model.specs.Members.{NamedLeg}
 use Rattle.fp_relaxmodel.specs.Stops.{leg_of}
 
 -- a class and those of its members that were met
@@ -27,6 +27,6 @@ with_member c m (g ∷ groups) =
     if same_leg g.class c then record g { members = g.members ++ (m ∷ []) } ∷ groups else g ∷ with_member c m groups
 
 -- the groups after each of the legs in turn
-abbrev pub after : List Placed → List Met → List Met
+abbrev pub after : List NamedLeg → List Met → List Met
 after [] groups = groups
-after (x ∷ legs) groups = after legs (with_member x.class x.member groups)
+after (x ∷ legs) groups = after legs (with_member x.leg x.member groups)

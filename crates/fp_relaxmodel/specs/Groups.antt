@@ -1,23 +1,13 @@
 -- Groups of legs of one class.
-use Rattle.std.specs.Prelude.{◌<◌, ◌≡◌, ◌⊎◌, List, ◌∷◌, map, true, All, AllPairs, Contains}
-use Rattle.std.specs.declared.alloc.Global.{Global}
-use Rattle.std.specs.declared.vec.Vec.{Vec}
+use Rattle.std.specs.Prelude.{◌≡◌, List, ◌∷◌, true, All, AllPairs, Contains}
 use Rattle.fp_model.specs.declared.parts.Leg.{Leg}
 use Rattle.fp_model.specs.declared.parts.Member.{Member}
 use Rattle.fp_model.specs.Costs.{all_legs, has_leg}
-use Rattle.fp_relaxmodel.specs.Members.{members_in}
-
--- groups, each as the list of its members
-abbrev pub lists_of : List (Vec Member Global) → List (List Member)
-lists_of groups = map (λ (g : Vec Member Global). g.items) groups
-
--- a member comes before another: by its shipment, and then by its leg
-abbrev pub ComesBefore : Member → Member → Type 0
-ComesBefore m n = (m.shipment < n.shipment) ⊎ ((m.shipment ≡ n.shipment) × (m.leg < n.leg))
+use Rattle.fp_model.specs.Members.{MemberComesBefore, members_in}
 
 -- the first member of a group comes before that of another
 abbrev pub StartsBefore : List Member → List Member → Type 0
-StartsBefore (m ∷ group) (n ∷ other) = ComesBefore m n
+StartsBefore (m ∷ group) (n ∷ other) = MemberComesBefore m n
 StartsBefore group other = ⊥
 
 -- a class that occurs on the walks, and all members that have it
@@ -26,7 +16,8 @@ pub record IsGroup (walks : List (List Leg)) (group : List Member) : Type 0 wher
   pub occurs : has_leg class (all_legs walks) ≡ true
   pub exact : group ≡ members_in walks class
 
--- the groups of the classes on walks: each is a group of one class, their first members ascend, and each class that occurs has one
+-- the groups of the classes on walks: each is a group of one class, their first members ascend, and
+-- each class that occurs has one
 pub record AreGroups (walks : List (List Leg)) (groups : List (List Member)) : Type 0 where
   pub each : All (IsGroup walks) groups
   pub ascending : AllPairs StartsBefore groups

@@ -1,3 +1,4 @@
+//! The relaxed plan of a plan.
 ghost use Rattle.std.specs.Prelude.{◌≡◌, ◌<◌, ◌≤◌, All, IfOk, length, map};
 ghost use Rattle.fp_model.specs.Costs.{cost};
 ghost use Rattle.fp_model.specs.Plans.{IsPlan};
@@ -7,7 +8,7 @@ ghost use Rattle.fp_flatnet.specs.Tables.{windows_in};
 ghost use Rattle.fp_flatnet.specs.Windows.{PlanLiesWithin};
 ghost use Rattle.fp_longestarcs.specs.Classes.{class_of};
 ghost use Rattle.fp_longestarcs.specs.Networks.{points_in};
-ghost use Rattle.fp_longestarcs.specs.Whole.{HasArcsOf, IsWhole};
+ghost use Rattle.fp_longestarcs.specs.Whole.{HasArcsOf, IsWholeNetwork};
 ghost use Rattle.fp_relaxmodel.specs.Relaxed.{CoarsensPlans, IsRelaxedPlan, coarsened};
 ghost use Rattle.fp_relaxmodel.specs.Stops.{leg_of};
 
@@ -73,8 +74,8 @@ fn relaxed(
 ///
 /// It costs no more than the plan. The same is true of every plan over any denominator that lies
 /// within the windows, whatever the points of the network are. The windows belong to the instance,
-/// and the network is whole for it; the windows serve the contract alone. `NoMemory` where memory is
-/// wanting.
+/// and the network is whole for it; the windows serve the contract alone. `NoMemory` only where no
+/// memory is found.
 pub fn coarsen(
     alloc: Global,
     instance: &Instance,
@@ -83,7 +84,7 @@ pub fn coarsen(
     plan: &Plan,
 ) -> Result<RelaxedPlan, NoMemory>
     requires belongs { BelongsTo instance.now windows.now }
-    requires whole { IsWhole instance.now network.now }
+    requires whole { IsWholeNetwork instance.now network.now }
     requires plan { IsPlan instance.now 1 plan.now }
     requires within { PlanLiesWithin (windows_in windows.now) 1 plan.now }
     ensures exact { IfOk result (λ r.

@@ -1,9 +1,11 @@
+//! The legs of a relaxed plan in groups of one class.
 ghost use Rattle.std.specs.Prelude.{ℕ, List, ◌≡◌, ◌-◌, ◌<◌, ◌^◌, All, IfOk, OnOk, length};
 ghost use Rattle.fp_model.specs.declared.parts.Leg.{Leg};
 ghost use Rattle.fp_model.specs.declared.parts.Member.{Member};
-ghost use Rattle.fp_relaxmodel.specs.Groups.{AreGroups, lists_of};
+ghost use Rattle.fp_relaxmodel.specs.Groups.{AreGroups};
+ghost use Rattle.fp_model.specs.Members.{named_on};
+ghost use Rattle.fp_lists.specs.Vectors.{lists_of};
 ghost use Rattle.fp_relaxmodel.specs.Grouping.{after, groups_so_far, with_member};
-ghost use Rattle.fp_relaxmodel.specs.Members.{placed_on};
 ghost use Rattle.fp_relaxmodel.specs.Stops.{leg_of, legs_of};
 
 use crate::NoMemory;
@@ -45,7 +47,7 @@ impl Grouping {
         ensures matched { OnOk result
             (length self.new.classes.keys ≡ length self.new.groups.items) }
         ensures groups { OnOk result (groups_so_far self.new.classes.keys self.new.groups.items
-            ≡ after (placed_on shipment 0 (legs_of stops.now))
+            ≡ after (named_on shipment 0 (legs_of stops.now))
             (groups_so_far self.old.classes.keys self.old.groups.items)) }
     {
         for (leg, stop) in stops.iter().enumerate() {
@@ -61,7 +63,8 @@ impl Grouping {
 ///
 /// Each leg is in exactly one group. The members of a group go by shipment and then leg, and the
 /// groups by their first members. There are fewer than `2^32 - 1` walks, and fewer than `2^32 - 1`
-/// classes on each. `NoMemory` where memory is wanting. Takes time that grows with the legs.
+/// classes on each. Takes time that grows with the legs. `NoMemory` only where no memory
+/// is found.
 pub fn groups(alloc: Global, relaxed: &RelaxedPlan) -> Result<Vec<Vec<Member>>, NoMemory>
     requires few_walks { length relaxed.now < 2 ^ 32 - 1 }
     requires few_legs { All (λ walk. length walk < 2 ^ 32 - 1) relaxed.now }

@@ -21,8 +21,5 @@ pub use relaxed_plans::{RelaxedPlan, TimedWalk};
 pub use stops::Stop;
 pub use terminals::is_route;
 
-/// What a call that allocates can fail with.
+/// The error of a call that finds no memory.
 pub type NoMemory = std::alloc::AllocError;
-
-#[cfg(test)]
-mod tests;

@@ -1,3 +1,4 @@
+//! What a relaxed plan costs.
 ghost use Rattle.std.specs.Prelude.{ℕ, List, ◌≡◌, ◌+◌, ◌<◌, ◌≤◌, ◌^◌, length, All};
 ghost use Rattle.fp_model.specs.Costs.{all_legs, cost, cost_with, departure_cost};
 ghost use Rattle.fp_model.specs.Costs.{departures_cost, has_leg, load};
@@ -7,6 +8,7 @@ ghost use Rattle.fp_relaxmodel.specs.Stops.{leg_of, legs_of};
 
 use crate::relaxed_plans::{RelaxedPlan, TimedWalk};
 use crate::stops::Stop;
+use fp_model::limits::MOST_SHIPMENTS;
 use fp_model::{Instance, Shipment};
 
 // Whether a class is among others.
@@ -36,7 +38,7 @@ fn any_goes_by(walks: &[TimedWalk], stop: Stop) -> bool
 // The sizes of the shipments whose walks go by the class.
 fn load_on(shipments: &[Shipment], walks: &[TimedWalk], stop: Stop) -> u128
     requires walks { length walks.now ≡ length shipments.now }
-    requires few { length shipments.now ≤ 500 }
+    requires few { length shipments.now ≤ MOST_SHIPMENTS }
     ensures { result ≡ load shipments.now walks.now (leg_of stop) }
 {
     let mut total: u128 = 0;
@@ -117,6 +119,7 @@ pub fn relaxed_cost(instance: &Instance, relaxed: &RelaxedPlan) -> u128
     requires { HasRoutes instance.now relaxed.now }
     ensures { result ≡ cost instance.now relaxed.now }
 {
+    // An instance that was read is known to be valid, so its sums fit.
     let _known = instance.arcs();
     walks_cost(instance, relaxed.walks.as_slice())
 }

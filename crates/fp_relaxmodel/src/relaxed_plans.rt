@@ -1,4 +1,12 @@
+//! Timed walks and relaxed plans, and the arcs that they go by.
+ghost use Rattle.std.specs.Prelude.{◌≡◌, IfOk};
+ghost use Rattle.fp_lists.specs.Vectors.{lists_of};
+ghost use Rattle.fp_model.specs.Members.{arc_lists};
+ghost use Rattle.fp_model.specs.Routes.{arcs_of};
+
+use crate::NoMemory;
 use crate::stops::Stop;
+use std::alloc::Global;
 use std::marker::Model;
 
 /// The classes that a shipment goes by, in order. Contracts see each as a leg that leaves at its
@@ -18,6 +26,19 @@ impl Model for TimedWalk {
     ghost view = { λ w. legs_of w.stops.items };
 }
 
+impl TimedWalk {
+    /// The arcs of the walk, by their numbers. `NoMemory` only where no memory is found.
+    pub fn arcs(&self, alloc: Global) -> Result<Vec<u32>, NoMemory>
+        ensures { IfOk result (λ arcs. arcs.items ≡ arcs_of self.now) }
+    {
+        let mut arcs = Vec::with_capacity(alloc, self.stops.len())?;
+        for stop in &self.stops {
+            arcs.push(stop.arc)?;
+        }
+        Ok(arcs)
+    }
+}
+
 /// For each shipment, in the order of the instance, a walk. Contracts see the list of the walks.
 ///
 /// Any walks may stand here.
@@ -33,4 +54,18 @@ impl Model for RelaxedPlan {
     ghost Value = { List (List Leg) };
 
     ghost view = { λ r. r.walks.items };
+}
+
+impl RelaxedPlan {
+    /// For each walk its arcs, by their numbers: the routes whose times are looked for. `NoMemory`
+    /// only where no memory is found.
+    pub fn arcs(&self, alloc: Global) -> Result<Vec<Vec<u32>>, NoMemory>
+        ensures { IfOk result (λ routes. lists_of routes.items ≡ arc_lists self.now) }
+    {
+        let mut routes = Vec::with_capacity(alloc, self.walks.len())?;
+        for walk in &self.walks {
+            routes.push(walk.arcs(alloc)?)?;
+        }
+        Ok(routes)
+    }
 }

@@ -1,24 +1,25 @@
+//! Whether a walk returns to a terminal.
 ghost use Rattle.std.specs.Prelude.{◌≡◌, ◌≢◌, ◌↔◌, ◌<◌, ◌∷◌, IsTrue, length};
 ghost use Rattle.fp_model.specs.declared.parts.Shipment.{Shipment};
-ghost use Rattle.fp_model.specs.Routes.{ArcsExist, AreApart, IsRoute, Leads, arcs_of, ends_of};
+ghost use Rattle.fp_model.specs.Routes.{ArcsExist, IsRoute, Leads, arcs_of, ends_of};
+ghost use Rattle.fp_lists.specs.Distinct.{AreDistinct};
 ghost use Rattle.fp_relaxmodel.specs.Stops.{legs_of};
 ghost use Rattle.fp_relaxmodel.specs.Terminals.{terminals_on};
 
 use crate::relaxed_plans::TimedWalk;
 use crate::stops::Stop;
 use fp_model::Instance;
-
-// How many terminals an instance can have.
-const TERMINALS: usize = 100;
+use fp_model::limits::MOST_TERMINALS;
 
 // Whether no terminal stands twice among the tail and those that the classes enter.
 fn are_apart(instance: &Instance, tail: u32, stops: &[Stop]) -> bool
     requires tail { tail < length instance.now.terminals }
     requires arcs { ArcsExist instance.now (legs_of stops.now) }
-    ensures { IsTrue result ↔ AreApart (tail ∷ ends_of instance.now (arcs_of (legs_of stops.now))) }
+    ensures { IsTrue result ↔ AreDistinct (tail ∷ ends_of instance.now (arcs_of (legs_of stops.now))) }
 {
+    // An instance that was read is known to be valid, so it has no more terminals.
     let _known = instance.terminals();
-    let mut met = [false; TERMINALS];
+    let mut met = [false; MOST_TERMINALS];
     met[tail as usize] = true;
     for stop in stops {
         let entered = instance.arc(stop.arc).to as usize;
@@ -33,7 +34,7 @@ fn are_apart(instance: &Instance, tail: u32, stops: &[Stop]) -> bool
 // Whether no terminal stands twice on the walk of these classes.
 fn goes_once(instance: &Instance, stops: &[Stop]) -> bool
     requires { ArcsExist instance.now (legs_of stops.now) }
-    ensures { IsTrue result ↔ AreApart (terminals_on instance.now (legs_of stops.now)) }
+    ensures { IsTrue result ↔ AreDistinct (terminals_on instance.now (legs_of stops.now)) }
 {
     match stops.first() {
         Some(first) => are_apart(instance, instance.arc(first.arc).from, stops),
@@ -48,7 +49,7 @@ fn goes_once(instance: &Instance, stops: &[Stop]) -> bool
 /// Takes no memory, and time that grows with the classes.
 pub fn is_route(instance: &Instance, walk: &TimedWalk) -> bool
     requires { ArcsExist instance.now walk.now }
-    ensures apart { IsTrue result ↔ AreApart (terminals_on instance.now walk.now) }
+    ensures apart { IsTrue result ↔ AreDistinct (terminals_on instance.now walk.now) }
     ensures route { (s : Shipment) → s.from ≢ s.to →
         Leads instance.now s.from (arcs_of walk.now) s.to →
         (IsTrue result ↔ IsRoute instance.now s (arcs_of walk.now)) }

@@ -24,7 +24,7 @@ bits-are words count bs long same =
     (λ i h. let within : i < count = omega (arith, length-bits words count) in get_or-bits words count i false within ∙ same i within)
 
 -- past the words no bit is set
-pub bit_in-past : (words : List ℕ) (i : ℕ) → 64 * length words ≤ i → bit_in words i ≡ false
+bit_in-past : (words : List ℕ) (i : ℕ) → 64 * length words ≤ i → bit_in words i ≡ false
 bit_in-past words i h =
     let none : get_or words (i / 64) 0 ≡ 0 = get_or_past words (i / 64) 0 (omega arith) in
     ap (λ (n : ℕ). nat_eq n 1) (ap (λ (w : ℕ). bit_at w (i % 64)) none ∙ bit_at-zero (i % 64))

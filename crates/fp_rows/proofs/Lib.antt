@@ -1,14 +1,14 @@
-pub mod Combined
+pub mod WordPairs
 pub mod Blocks
-pub mod AnySet
-pub mod AddedBits
+pub mod AnyWord
+pub mod WordLanes
 pub mod OneBit
 pub mod BitsIn
-pub mod Masked
-pub mod FirstIn
-pub mod Rewritten
-pub mod Counted
+pub mod RangeMasks
+pub mod FirstInRange
+pub mod BitChanges
+pub mod BitCounts
 pub mod RowCalls
 pub mod FirstTrue
-pub mod AddedWords
-mod Worked
+pub mod LaneCounts
+mod Examples

@@ -5,7 +5,7 @@ use Rattle.std.proofs.lemmas.List.{take_at}
 use Rattle.fp_rows.specs.Words.{bit_in, bits, is_within, IsTidy}
 use Rattle.fp_rows.specs.Bits.{with_range}
 use Rattle.fp_rows.proofs.BitsIn.{length-bits, bits-pair}
-use Rattle.fp_rows.proofs.Rewritten.{range-bits, range-tidy, pair-tidy}
+use Rattle.fp_rows.proofs.BitChanges.{range-bits, range-tidy, pair-tidy}
 
 -- the slice is that of the items, and as long when it comes back
 pub record Writes (words now items : List ℕ) (len : ℕ) : Type 0 where

@@ -1,3 +1,5 @@
+//! The five kernels on words, eight at a time as the lanes of a vector.
+
 ghost use Rattle.std.specs.Prelude.{◌≡◌, ◌+◌, ◌-◌, ◌^◌, ◌<◌, ◌≤◌, All, bit_and, count_ones, length, sum_by};
 ghost use Rattle.std.specs.List.{list_any};
 ghost use Rattle.std.specs.Simd.Lanes.{zip2};
@@ -8,7 +10,8 @@ use std::simd::prelude::*;
 // Words in a vector.
 const LANES: usize = 8;
 
-/// Each word becomes the bitwise and of itself and the word of `other` at its place. There are as many words in both.
+/// Each word becomes the bitwise and of itself and the word of `other` at its place. There are as
+/// many words in both.
 pub fn and_words(into: &mut [u64], other: &[u64])
     requires { length into.old ≡ length other.now }
     ensures { into.new ≡ zip2 bit_and into.old other.now }
@@ -79,8 +82,8 @@ pub fn count_words(words: &[u64]) -> u64
     words.iter().map(|word| u64::from(word.count_ones())).sum()
 }
 
-/// Count `i` grows by bit `i` of the word, the lowest being bit 0. There are at most 64 counts, each with room for one
-/// more.
+/// Count `i` grows by bit `i` of the word, the lowest being bit 0. There are at most 64 counts,
+/// each with room for one more.
 pub fn add_bits(word: u64, counts: &mut [u32])
     requires few { length counts.old ≤ 64 }
     requires room { All (λ count. count < 2 ^ 32 - 1) counts.old }

@@ -1,3 +1,5 @@
+//! A range of bits, word by word, each by a mask.
+
 ghost use Rattle.std.specs.Prelude.{ℕ, ◌≡◌, ◌+◌, ◌-◌, ◌*◌, ◌^◌, ◌<◌, ◌≤◌, ◌==◌, ◌&&◌, ◌||◌, not, if◌then◌else◌, length};
 ghost use Rattle.std.specs.Int.{bit_at};
 ghost use Rattle.fp_rows.specs.Words.{bit_in, is_within, IsFirstWithin};

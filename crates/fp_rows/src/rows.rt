@@ -1,3 +1,5 @@
+//! Rows of bits.
+
 ghost use Rattle.std.specs.Prelude.{◌≡◌, ◌-◌, ◌^◌, ◌<◌, ◌≤◌, true, false, All, IfOk, length, replicate, slice_get, slice_set};
 ghost use Rattle.fp_rows.specs.Bits.{and_bits, and_not_bits, with_range, are_all_false, first_true_from, count_true, added_bits};
 
@@ -9,8 +11,8 @@ use std::marker::Model;
 
 /// Bits over words of 64. A contract sees them as a list of truth values.
 ///
-/// No call but [`Row::new`] takes memory. A place is below the number of bits; a range is from `from` up to and
-/// without `to`.
+/// No call but [`Row::new`] takes memory. A place is below the number of bits; a range is from
+/// `from` up to and without `to`.
 #[derive(Drop)]
 pub struct Row {
     words: Vec<u64>,
@@ -29,7 +31,7 @@ impl Model for Row {
 }
 
 impl Row {
-    /// So many bits, all false. `NoMemory` where memory is wanting.
+    /// So many bits, all false. `NoMemory` only where no memory is found.
     pub fn new(alloc: Global, length: u32) -> Result<Row, NoMemory>
         ensures { IfOk result (λ r. r ≡ replicate length false) }
     {
@@ -102,8 +104,8 @@ impl Row {
         !any_bit(&self.words, self.length)
     }
 
-    /// The least place from `at` on, which may be the number of bits, of a bit that is true; `None` exactly where
-    /// there is none.
+    /// The least place from `at` on, which may be the number of bits, of a bit that is true; `None`
+    /// exactly where there is none.
     pub fn first_from(&self, at: u32) -> Option<u32>
         requires { at ≤ length self.now }
         ensures { result ≡ first_true_from self.now at }
@@ -118,7 +120,8 @@ impl Row {
         count_bits(&self.words, self.length)
     }
 
-    /// Adds one to each count whose bit is true. There are as many counts as bits, each with room for one more.
+    /// Adds one to each count whose bit is true. There are as many counts as bits, each with room
+    /// for one more.
     pub fn add_to(&self, counts: &mut [u32])
         requires lengths { length counts.old ≡ length self.now }
         requires room { All (λ count. count < 2 ^ 32 - 1) counts.old }

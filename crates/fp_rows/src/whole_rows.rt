@@ -1,3 +1,5 @@
+//! What the kernels do to the bits of whole rows.
+
 ghost use Rattle.std.specs.Prelude.{ℕ, ◌≡◌, ◌-◌, ◌^◌, ◌<◌, ◌&&◌, not, All, length};
 ghost use Rattle.std.specs.Int.{div_ceil};
 ghost use Rattle.std.specs.List.{list_any};

@@ -1,20 +1,12 @@
--- The greatest point that is not after a moment: what it is, and that only which points there are decides it.
+-- The greatest point that is not after a moment: what it is, and that only which points there are
+-- decides it.
 use Rattle.std.proofs.Common.{◌≡◌, ℕ, ◌*◌, ◌/◌, ◌<◌, ◌≤◌, true, max, List, [], ◌∷◌, ◌⊎◌, ⊎_elim, inl, inr, refl, sym, ap, ◌∙◌, subst, arith}
-use Rattle.std.specs.Prelude.{nat_le, nat_eq}
+use Rattle.std.specs.Prelude.{nat_le}
 use Rattle.std.proofs.Math.Nat.{mul-le-mul_left, le-div_iff_mul-le}
-use Rattle.std.proofs.lemmas.Bool.{cases_lt, cond-true, cond-false, le-leb, lt-leb, or_cases, or_left, or_right, eqb-true, eq-eqb}
-use Rattle.fp_timenodes.specs.Floor.{has_point, floor_point, IsFloorPoint, HaveSamePoints}
-
--- a point of a list is its first or one of the rest
-pub has-cases : (q : ℕ) (qs : List ℕ) (m : ℕ) → has_point (q ∷ qs) m ≡ true → (q ≡ m) ⊎ (has_point qs m ≡ true)
-has-cases q qs m h =
-    ⊎_elim (λ (e : nat_eq q m ≡ true). inl (eqb-true q m e)) (λ (r : has_point qs m ≡ true). inr r) (or_cases (nat_eq q m) (has_point qs m) h)
-
-pub has-first : (q : ℕ) (qs : List ℕ) → has_point (q ∷ qs) q ≡ true
-has-first q qs = or_left (nat_eq q q) (has_point qs q) (eq-eqb q q refl)
-
-pub has-rest : (q : ℕ) (qs : List ℕ) (m : ℕ) → has_point qs m ≡ true → has_point (q ∷ qs) m ≡ true
-has-rest q qs m h = or_right (nat_eq q m) (has_point qs m) h
+use Rattle.std.proofs.lemmas.Bool.{cases_lt, cond-true, cond-false, le-leb, lt-leb}
+use Rattle.fp_timenodes.specs.Floor.{floor_point, IsFloorPoint, HaveSamePoints}
+use Rattle.fp_lists.specs.Membership.{list_has}
+use Rattle.fp_lists.proofs.Membership.{list_has-rest, list_has-first, list_has-cons_cases}
 
 -- the first point counts where it is not after the moment
 floor-early : (q : ℕ) (qs : List ℕ) (d n : ℕ) → d * q ≤ n → floor_point (q ∷ qs) d n ≡ max q (floor_point qs d n)
@@ -35,88 +27,88 @@ max-has P a b p q =
     (cases_lt a b)
 
 -- the greatest point not after a moment is not after it
-pub floor-le : (qs : List ℕ) (d n : ℕ) → d * floor_point qs d n ≤ n
-floor-le [] d n = omega arith
-floor-le (q ∷ qs) d n =
-    let rest : d * floor_point qs d n ≤ n = floor-le qs d n in
+pub floor_le : (qs : List ℕ) (d n : ℕ) → d * floor_point qs d n ≤ n
+floor_le [] d n = omega arith
+floor_le (q ∷ qs) d n =
+    let rest : d * floor_point qs d n ≤ n = floor_le qs d n in
     ⊎_elim
     (λ (h : n < d * q). rw (floor-late q qs d n h) rest)
     (λ (h : d * q ≤ n). rw (floor-early q qs d n h) (max-has (λ (m : ℕ). d * m ≤ n) q (floor_point qs d n) h rest))
     (cases_lt n (d * q))
 
 -- it is one of the points, or 0
-pub floor-reached : (qs : List ℕ) (d n : ℕ) → (floor_point qs d n ≡ 0) ⊎ (has_point qs (floor_point qs d n) ≡ true)
-floor-reached [] d n = inl refl
-floor-reached (q ∷ qs) d n =
-    let Reached : ℕ → Type 0 = λ m. (m ≡ 0) ⊎ (has_point (q ∷ qs) m ≡ true) in
+floor_reached : (qs : List ℕ) (d n : ℕ) → (floor_point qs d n ≡ 0) ⊎ (list_has qs (floor_point qs d n) ≡ true)
+floor_reached [] d n = inl refl
+floor_reached (q ∷ qs) d n =
+    let Reached : ℕ → Type 0 = λ m. (m ≡ 0) ⊎ (list_has (q ∷ qs) m ≡ true) in
     let rest : Reached (floor_point qs d n) =
-    ⊎_elim (λ (e : floor_point qs d n ≡ 0). inl e) (λ (h : has_point qs (floor_point qs d n) ≡ true). inr (has-rest q qs (floor_point qs d n) h)) (floor-reached qs d n) in
+    ⊎_elim (λ (e : floor_point qs d n ≡ 0). inl e) (λ (h : list_has qs (floor_point qs d n) ≡ true). inr (list_has-rest q qs (floor_point qs d n) h)) (floor_reached qs d n) in
     ⊎_elim
     (λ (h : n < d * q). subst Reached (sym (floor-late q qs d n h)) rest)
-    (λ (h : d * q ≤ n). subst Reached (sym (floor-early q qs d n h)) (max-has Reached q (floor_point qs d n) (inr (has-first q qs)) rest))
+    (λ (h : d * q ≤ n). subst Reached (sym (floor-early q qs d n h)) (max-has Reached q (floor_point qs d n) (inr (list_has-first q qs)) rest))
     (cases_lt n (d * q))
 
 -- no point that is not after the moment is greater
-pub floor-greatest : (qs : List ℕ) (d n q : ℕ) → has_point qs q ≡ true → d * q ≤ n → q ≤ floor_point qs d n
-floor-greatest [] d n q there h = cc
-floor-greatest (p ∷ qs) d n q there h =
+pub floor_greatest : (qs : List ℕ) (d n q : ℕ) → list_has qs q ≡ true → d * q ≤ n → q ≤ floor_point qs d n
+floor_greatest [] d n q there h = cc
+floor_greatest (p ∷ qs) d n q there h =
     ⊎_elim
     (λ (e : p ≡ q). let early : d * p ≤ n = rw e h in omega (arith, floor-early p qs d n early))
-    (λ (r : has_point qs q ≡ true). omega (arith, floor-greatest qs d n q r h))
-    (has-cases p qs q there)
+    (λ (r : list_has qs q ≡ true). omega (arith, floor_greatest qs d n q r h))
+    (list_has-cons_cases p qs q there)
 
 -- what is at least each point that is not after the moment is at least the greatest
-pub floor-below : (qs : List ℕ) (d n m : ℕ) → ((q : ℕ) → has_point qs q ≡ true → d * q ≤ n → q ≤ m) → floor_point qs d n ≤ m
-floor-below [] d n m above = omega arith
-floor-below (q ∷ qs) d n m above =
-    let rest : floor_point qs d n ≤ m = floor-below qs d n m (λ p there. above p (has-rest q qs p there)) in
+pub floor_below : (qs : List ℕ) (d n m : ℕ) → ((q : ℕ) → list_has qs q ≡ true → d * q ≤ n → q ≤ m) → floor_point qs d n ≤ m
+floor_below [] d n m above = omega arith
+floor_below (q ∷ qs) d n m above =
+    let rest : floor_point qs d n ≤ m = floor_below qs d n m (λ p there. above p (list_has-rest q qs p there)) in
     ⊎_elim
     (λ (h : n < d * q). omega (arith, floor-late q qs d n h))
-    (λ (h : d * q ≤ n). omega (arith, floor-early q qs d n h, above q (has-first q qs) h))
+    (λ (h : d * q ≤ n). omega (arith, floor-early q qs d n h, above q (list_has-first q qs) h))
     (cases_lt n (d * q))
 
 -- so a point that is not after the moment, and that no such point exceeds, is the greatest
-pub floor-is : (qs : List ℕ) (d n m : ℕ) → has_point qs m ≡ true → d * m ≤ n → ((q : ℕ) → has_point qs q ≡ true → d * q ≤ n → q ≤ m) → floor_point qs d n ≡ m
-floor-is qs d n m there h above = omega (arith, floor-greatest qs d n m there h, floor-below qs d n m above)
+pub floor_is : (qs : List ℕ) (d n m : ℕ) → list_has qs m ≡ true → d * m ≤ n → ((q : ℕ) → list_has qs q ≡ true → d * q ≤ n → q ≤ m) → floor_point qs d n ≡ m
+floor_is qs d n m there h above = omega (arith, floor_greatest qs d n m there h, floor_below qs d n m above)
 
 -- where 0 is one of the points, the greatest is one too
-pub floor_point-is : (qs : List ℕ) (at : ℕ) → has_point qs 0 ≡ true → IsFloorPoint qs at (floor_point qs 1 at)
-floor_point-is qs at zero = (
+pub IsFloorPoint-floor_point : (qs : List ℕ) (at : ℕ) → list_has qs 0 ≡ true → IsFloorPoint qs at (floor_point qs 1 at)
+IsFloorPoint-floor_point qs at zero = (
   ⊎_elim
-      (λ (e : floor_point qs 1 at ≡ 0). subst (λ (m : ℕ). has_point qs m ≡ true) (sym e) zero)
-      (λ (h : has_point qs (floor_point qs 1 at) ≡ true). h)
-      (floor-reached qs 1 at),
-  omega (arith, floor-le qs 1 at),
-  λ q there le. floor-greatest qs 1 at q there (omega (arith, le)),
+      (λ (e : floor_point qs 1 at ≡ 0). subst (λ (m : ℕ). list_has qs m ≡ true) (sym e) zero)
+      (λ (h : list_has qs (floor_point qs 1 at) ≡ true). h)
+      (floor_reached qs 1 at),
+  omega (arith, floor_le qs 1 at),
+  λ q there le. floor_greatest qs 1 at q there (omega (arith, le)),
 )
 
 -- a point is its own greatest
-pub floor-itself : (qs : List ℕ) (q : ℕ) → has_point qs q ≡ true → floor_point qs 1 q ≡ q
-floor-itself qs q there = floor-is qs 1 q q there (omega arith) (λ p h le. omega (arith, le))
+pub floor_itself : (qs : List ℕ) (q : ℕ) → list_has qs q ≡ true → floor_point qs 1 q ≡ q
+floor_itself qs q there = floor_is qs 1 q q there (omega arith) (λ p h le. omega (arith, le))
 
 -- with more points the greatest is no earlier
-pub floor-more : (ps qs : List ℕ) (d n : ℕ) → ((q : ℕ) → has_point ps q ≡ true → has_point qs q ≡ true) → floor_point ps d n ≤ floor_point qs d n
-floor-more ps qs d n more = floor-below ps d n (floor_point qs d n) (λ q there h. floor-greatest qs d n q (more q there) h)
+floor_more : (ps qs : List ℕ) (d n : ℕ) → ((q : ℕ) → list_has ps q ≡ true → list_has qs q ≡ true) → floor_point ps d n ≤ floor_point qs d n
+floor_more ps qs d n more = floor_below ps d n (floor_point qs d n) (λ q there h. floor_greatest qs d n q (more q there) h)
 
 -- lists with the same points have the same greatest
-pub floor-same : (ps qs : List ℕ) (d n : ℕ) → HaveSamePoints ps qs → floor_point ps d n ≡ floor_point qs d n
-floor-same ps qs d n same =
-    omega (arith, floor-more ps qs d n (λ q h. sym (same q) ∙ h), floor-more qs ps d n (λ q h. same q ∙ h))
+pub floor_same : (ps qs : List ℕ) (d n : ℕ) → HaveSamePoints ps qs → floor_point ps d n ≡ floor_point qs d n
+floor_same ps qs d n same =
+    omega (arith, floor_more ps qs d n (λ q h. sym (same q) ∙ h), floor_more qs ps d n (λ q h. same q ∙ h))
 
 -- a later moment, over whatever denominator, has no earlier point
-pub floor-mono : (qs : List ℕ) (d a n : ℕ) → d * a ≤ n → floor_point qs 1 a ≤ floor_point qs d n
-floor-mono qs d a n h =
-    floor-below qs 1 a (floor_point qs d n)
+pub floor_mono : (qs : List ℕ) (d a n : ℕ) → d * a ≤ n → floor_point qs 1 a ≤ floor_point qs d n
+floor_mono qs d a n h =
+    floor_below qs 1 a (floor_point qs d n)
     (λ q there le. let whole : q ≤ a = omega (arith, le) in
-    let scaled : d * q ≤ d * a = mul-le-mul_left d whole in floor-greatest qs d n q there (omega (arith, scaled)))
+    let scaled : d * q ≤ d * a = mul-le-mul_left d whole in floor_greatest qs d n q there (omega (arith, scaled)))
 
 -- the greatest whole moment not after a moment has the same point
-pub floor-whole : (qs : List ℕ) (d n : ℕ) → 0 < d → floor_point qs 1 (n / d) ≡ floor_point qs d n
-floor-whole qs d n h =
+pub floor_whole : (qs : List ℕ) (d n : ℕ) → 0 < d → floor_point qs 1 (n / d) ≡ floor_point qs d n
+floor_whole qs d n h =
     omega (
       arith,
-      floor-below qs 1 (n / d) (floor_point qs d n) (λ q there le. floor-greatest qs d n q there (scaled q (omega (arith, le)))),
-      floor-below qs d n (floor_point qs 1 (n / d)) (λ q there le. floor-greatest qs 1 (n / d) q there (omega (arith, whole q le))),
+      floor_below qs 1 (n / d) (floor_point qs d n) (λ q there le. floor_greatest qs d n q there (scaled q (omega (arith, le)))),
+      floor_below qs d n (floor_point qs 1 (n / d)) (λ q there le. floor_greatest qs 1 (n / d) q there (omega (arith, whole q le))),
     )
   where
     scaled : (q : ℕ) → q ≤ n / d → d * q ≤ n

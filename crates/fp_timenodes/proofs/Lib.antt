@@ -1,9 +1,11 @@
 pub mod Floors
 pub mod Nexts
-pub mod Stamped
-pub mod Searched
-pub mod Included
-pub mod Shown
-pub mod Started
-pub mod Grown
-mod Worked
+pub mod StampPlaces
+pub mod StampSearch
+pub mod OneMoreStamp
+pub mod Rounds
+pub mod PointLimit
+pub mod TimelinePoints
+pub mod StartPoints
+pub mod NewPoint
+mod Examples

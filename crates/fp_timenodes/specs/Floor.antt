@@ -1,10 +1,7 @@
--- Looking up points in a list of them, whatever its order. A moment over the denominator d is n / d.
-use Rattle.std.specs.Prelude.{ℕ, ◌*◌, ◌≡◌, ◌<◌, ◌≤◌, Bool, true, List, [], ◌∷◌, Option, Some, None, MatchOption, cond, nat_le, nat_lt, ◌==◌, max, min}
-use Rattle.std.specs.List.{list_any}
-
--- whether the time is one of the points
-abbrev pub has_point : List ℕ → ℕ → Bool
-has_point qs at = list_any (λ q. q == at) qs
+-- Looking up points in a list of them, whatever its order. A moment over the denominator d is n /
+-- d.
+use Rattle.std.specs.Prelude.{ℕ, ◌*◌, ◌≡◌, ◌<◌, ◌≤◌, true, List, [], ◌∷◌, Option, Some, None, MatchOption, cond, nat_le, nat_lt, max, min}
+use Rattle.fp_lists.specs.Membership.{list_has}
 
 -- the greatest of the points that is not after the moment n / d, and 0 where there is none
 abbrev pub floor_point : List ℕ → ℕ → ℕ → ℕ
@@ -13,7 +10,7 @@ floor_point (q ∷ qs) d n = max (cond (nat_le (d * q) n) q 0) (floor_point qs d
 
 -- a point that is not after the time, with no other point in between
 abbrev pub IsFloorPoint : List ℕ → ℕ → ℕ → Type 0
-IsFloorPoint qs at m = (has_point qs m ≡ true) × (m ≤ at) × ((q : ℕ) → has_point qs q ≡ true → q ≤ at → q ≤ m)
+IsFloorPoint qs at m = (list_has qs m ≡ true) × (m ≤ at) × ((q : ℕ) → list_has qs q ≡ true → q ≤ at → q ≤ m)
 
 -- the lesser of two times, of which either may be missing
 abbrev pub earlier : Option ℕ → Option ℕ → Option ℕ
@@ -26,12 +23,13 @@ abbrev pub next_point : List ℕ → ℕ → Option ℕ
 next_point [] at = None
 next_point (q ∷ qs) at = earlier (cond (nat_lt at q) (Some q) None) (next_point qs at)
 
--- a point after the time with no other point in between, or, where there is none, no point is after the time
+-- a point after the time with no other point in between, or, where there is none, no point is after
+-- the time
 abbrev pub IsNextPoint : List ℕ → ℕ → Option ℕ → Type 0
 IsNextPoint qs at o =
-    MatchOption o ((q : ℕ) → has_point qs q ≡ true → q ≤ at)
-    (λ m. (has_point qs m ≡ true) × (at < m) × ((q : ℕ) → has_point qs q ≡ true → at < q → m ≤ q))
+    MatchOption o ((q : ℕ) → list_has qs q ≡ true → q ≤ at)
+    (λ m. (list_has qs m ≡ true) × (at < m) × ((q : ℕ) → list_has qs q ≡ true → at < q → m ≤ q))
 
 -- two lists have the same points
 abbrev pub HaveSamePoints : List ℕ → List ℕ → Type 0
-HaveSamePoints ps qs = (at : ℕ) → has_point ps at ≡ has_point qs at
+HaveSamePoints ps qs = (at : ℕ) → list_has ps at ≡ list_has qs at

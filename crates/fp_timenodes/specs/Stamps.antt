@@ -2,7 +2,7 @@
 use Rattle.std.specs.Prelude.{ℕ, ◌≡◌, ◌<◌, ◌≤◌, ◌||◌, ◌&&◌, ◌==◌, List, map, filter, length, nat_le, All}
 use Rattle.std.specs.List.{AllPairs, AllWithin}
 use Rattle.fp_timenodes.specs.declared.timelines.Stamp.{Stamp}
-use Rattle.fp_timenodes.specs.Floor.{has_point}
+use Rattle.fp_lists.specs.Membership.{list_has}
 
 -- each stamp is before those that follow it
 abbrev pub IsAscending : List Stamp → Type 0
@@ -17,7 +17,7 @@ abbrev pub AreUpTo : ℕ → List Stamp → Type 0
 AreUpTo round stamps = All (λ (s : Stamp). s.round ≤ round) stamps
 
 -- so many of the stamps are not after the time, and the others follow them
-pub record IsCut (stamps : List Stamp) (at cut : ℕ) : Type 0 where
+pub record IsStampCut (stamps : List Stamp) (at cut : ℕ) : Type 0 where
   pub ascending : IsAscending stamps
   pub within : cut ≤ length stamps
   pub until : AllWithin (λ s. s.at ≤ at) stamps 0 cut
@@ -26,4 +26,4 @@ pub record IsCut (stamps : List Stamp) (at cut : ℕ) : Type 0 where
 -- the new stamps have the old points, and from the round on this one too
 abbrev pub IncludesPoint : List Stamp → List Stamp → ℕ → ℕ → Type 0
 IncludesPoint old new at round =
-    (r q : ℕ) → has_point (points_of new r) q ≡ (has_point (points_of old r) q || (nat_le round r && at == q))
+    (r q : ℕ) → list_has (points_of new r) q ≡ (list_has (points_of old r) q || (nat_le round r && at == q))

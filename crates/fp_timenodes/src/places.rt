@@ -1,5 +1,10 @@
+//! What a point is: a place in time at a terminal, with the round that added it.
 /// The latest time at which a point may stand, in the input's unit.
 pub const LATEST: u32 = 100_000;
+
+/// The most points, at all terminals together, over which the crates above work out bounds. More
+/// can stand in [`Points`](crate::Points).
+pub const MOST_POINTS: u32 = 65_000;
 
 /// A terminal and a time at it.
 #[derive(Clone, Copy, PartialEq, Eq, Debug)]

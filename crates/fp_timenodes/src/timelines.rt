@@ -1,6 +1,8 @@
+//! The points of one terminal in ascending order, and the search among them.
 ghost use Rattle.std.specs.Prelude.{◌≡◌, [], ◌∷◌, false, IfOk, OnOk, OnErr, find, option_map, reverse, nat_le};
-ghost use Rattle.fp_timenodes.specs.Floor.{has_point, floor_point, next_point};
-ghost use Rattle.fp_timenodes.specs.Stamps.{IsAscending, IsCut, points_of, AreUpTo, IncludesPoint};
+ghost use Rattle.fp_timenodes.specs.Floor.{floor_point, next_point};
+ghost use Rattle.fp_lists.specs.Membership.{list_has};
+ghost use Rattle.fp_timenodes.specs.Stamps.{IsAscending, points_of, AreUpTo, IncludesPoint, IsStampCut};
 
 use crate::NoMemory;
 use std::alloc::Global;
@@ -32,7 +34,7 @@ impl Model for Timeline {
 }
 
 impl Timeline {
-    /// The timeline with the point 0 of the start alone.
+    /// The timeline with the point 0 of the start alone. `NoMemory` only where no memory is found.
     pub fn new(alloc: Global) -> Result<Timeline, NoMemory>
         ensures { IfOk result (λ t. t ≡ (record { at = 0; round = 0 } ∷ [])) }
     {
@@ -43,7 +45,7 @@ impl Timeline {
 
     /// Whether there is a point at this time as of the round.
     pub fn has(&self, at: u32, round: u32) -> bool
-        ensures { result ≡ has_point (points_of self.now round) at }
+        ensures { result ≡ list_has (points_of self.now round) at }
     {
         let stamps = self.stamps.as_slice();
         let end = count_until(stamps, at);
@@ -72,10 +74,11 @@ impl Timeline {
         first_by(&stamps[end..], round)
     }
 
-    /// Adds the point as of the round. Without memory nothing changes.
+    /// Adds the point as of the round. `NoMemory` only where no memory is found: then nothing
+    /// changes.
     pub fn insert(&mut self, at: u32, round: u32) -> Result<(), NoMemory>
         requires rounds { AreUpTo round self.old }
-        requires absent { has_point (points_of self.old round) at ≡ false }
+        requires absent { list_has (points_of self.old round) at ≡ false }
         ensures points { OnOk result (IncludesPoint self.old self.new at round) }
         ensures rounds { OnOk result (AreUpTo round self.new) }
         ensures err { OnErr result (self.new ≡ self.old) }
@@ -85,7 +88,8 @@ impl Timeline {
         Ok(())
     }
 
-    /// Has the point from the start, whether it was there or not. Without memory nothing changes.
+    /// Has the point from the start, whether it was there or not. `NoMemory` only where no memory
+    /// is found: then nothing changes.
     pub fn include(&mut self, at: u32) -> Result<(), NoMemory>
         requires { AreUpTo 0 self.old }
         ensures points { OnOk result (IncludesPoint self.old self.new at 0) }
@@ -98,7 +102,7 @@ impl Timeline {
         self.insert(at, 0)
     }
 
-    /// An equal timeline.
+    /// An equal timeline. `NoMemory` only where no memory is found.
     pub fn copy(&self, alloc: Global) -> Result<Timeline, NoMemory>
         ensures { IfOk result (λ t. t ≡ self.now) }
     {
@@ -132,7 +136,7 @@ fn last_by(stamps: &[Stamp], round: u32) -> Option<u32>
 // How many stamps are not after the time.
 fn count_until(stamps: &[Stamp], at: u32) -> usize
     requires { IsAscending stamps.now }
-    ensures { IsCut stamps.now at result }
+    ensures { IsStampCut stamps.now at result }
 {
     stamps.partition_point(|stamp| stamp.at <= at)
 }

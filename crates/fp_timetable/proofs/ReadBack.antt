@@ -4,20 +4,22 @@ use Rattle.std.specs.Prelude.{AllPairs, if◌then◌else◌, nat_eq}
 use Rattle.std.specs.List.{AllByRecursion}
 use Rattle.std.proofs.lemmas.Bool.{cases_Bool, cond-true, cond-false, or_cases, or_left, or_right, both_ways, false≢true, true≢false}
 use Rattle.std.proofs.lemmas.List.Elements.{All-get_or}
+use Rattle.fp_lists.proofs.Truth.{Bool-from_both}
 use Rattle.fp_model.specs.declared.parts.Leg.{Leg}
 use Rattle.fp_model.specs.declared.parts.Shipment.{Shipment}
 use Rattle.fp_model.specs.Costs.{has_leg, same_leg}
 use Rattle.fp_model.specs.Numbered.{leg_at, no_leg, route_at}
 use Rattle.fp_model.specs.Problem.{Problem}
 use Rattle.fp_model.proofs.Distinct.{same_leg-refl, same_leg-true}
-use Rattle.fp_model.proofs.Sums.{each-weaker}
+use Rattle.fp_lists.proofs.Elements.{AllByRecursion-weaker, AllByRecursion-from_get_or, AllByRecursion-get_or}
 use Rattle.fp_timetable.specs.declared.lines.LegLine.{LegLine}
-use Rattle.fp_timetable.specs.Lines.{AreLegLines, IsLegLine, Precedes, leg_line, line_leg, route_of, routes_from}
-use Rattle.fp_timetable.proofs.Carried.{AllRise, not-later}
-use Rattle.fp_timetable.proofs.Gathered.{StandFrom, StandFrom-all, StandFrom-next, has_leg-get_or}
-use Rattle.fp_timetable.proofs.Merging.{no_leg_line}
-use Rattle.fp_timetable.proofs.Pairs.{EachPair, EachPair-AllPairs, at-each, each-at}
-use Rattle.fp_timetable.proofs.Rising.{Rise}
+use Rattle.fp_timetable.specs.Lines.{AreLegLines, IsLegLine, leg_line, line_leg, route_of, routes_from}
+use Rattle.fp_lists.specs.Order.{Precedes}
+use Rattle.fp_timetable.proofs.DepartureLoads.{AllRise, not-later}
+use Rattle.fp_timetable.proofs.AllLines.{StandFrom, StandFrom-all, StandFrom-next, has_leg-get_or}
+use Rattle.fp_timetable.proofs.MergedLegs.{no_leg_line}
+use Rattle.fp_timetable.proofs.Pairs.{EachPair, EachPair-AllPairs}
+use Rattle.fp_timetable.proofs.LegTimes.{Rise}
 
 -- a leg of a list stands at a place
 place-of : (k : Leg) (legs : List Leg) → has_leg k legs ≡ true → (i : ℕ) × (i < length legs) × (leg_at legs i ≡ k)
@@ -27,13 +29,6 @@ place-of k (l ∷ legs) has =
     (λ (here : same_leg k l ≡ true). (0, omega arith, sym (same_leg-true k l here)))
     (λ (later : has_leg k legs ≡ true). let at = place-of k legs later in (suc at.0, omega (arith, at.1), at.2))
     (or_cases (same_leg k l) (has_leg k legs) has)
-
--- tests that pass alike are equal
-alike : (a b : Bool) → (a ≡ true → b ≡ true) → (b ≡ true → a ≡ true) → a ≡ b
-alike true true to from = refl
-alike true false to from = sym (to refl)
-alike false true to from = from refl
-alike false false to from = refl
 
 -- legs that rise and are the same legs are in the same order
 same-legs : (xs ys : List Leg) → Rise xs → Rise ys → ((k : Leg) → has_leg k xs ≡ has_leg k ys) → xs ≡ ys
@@ -67,13 +62,13 @@ same-legs (x ∷ xs) (y ∷ ys) rise other same =
     later : (k l : Leg) (legs : List Leg) → AllByRecursion (λ (m : Leg). l.depart < m.depart) legs → has_leg k legs ≡ true → l.depart < k.depart
     later k l legs all has =
         let at = place-of k legs has in
-        subst (λ (m : Leg). l.depart < m.depart) at.2 (at-each (λ (m : Leg). l.depart < m.depart) legs at.0 no_leg all at.1)
+        subst (λ (m : Leg). l.depart < m.depart) at.2 (AllByRecursion-get_or (λ (m : Leg). l.depart < m.depart) legs at.0 no_leg all at.1)
 
 -- a line of another shipment gives no leg, and one of the shipment gives its leg
-route_of-other : (l : LegLine) (lines : List LegLine) (k : ℕ) → nat_eq l.shipment k ≡ false → route_of (l ∷ lines) k ≡ route_of lines k
+pub route_of-other : (l : LegLine) (lines : List LegLine) (k : ℕ) → nat_eq l.shipment k ≡ false → route_of (l ∷ lines) k ≡ route_of lines k
 route_of-other l lines k h = cond-false (nat_eq l.shipment k) (line_leg l ∷ route_of lines k) (route_of lines k) h
 
-route_of-own : (l : LegLine) (lines : List LegLine) (k : ℕ) → nat_eq l.shipment k ≡ true → route_of (l ∷ lines) k ≡ line_leg l ∷ route_of lines k
+pub route_of-own : (l : LegLine) (lines : List LegLine) (k : ℕ) → nat_eq l.shipment k ≡ true → route_of (l ∷ lines) k ≡ line_leg l ∷ route_of lines k
 route_of-own l lines k h = cond-true (nat_eq l.shipment k) (line_leg l ∷ route_of lines k) (route_of lines k) h
 
 -- what holds of the legs of a shipment's lines
@@ -97,7 +92,7 @@ route_of-rise (l ∷ lines) k pairs =
     (λ (h : nat_eq l.shipment k ≡ true).
     let own : l.shipment ≡ k = eqb-true l.shipment k h in
     let after : AllByRecursion (λ (m : LegLine). m.shipment ≡ k → l.depart < m.depart) lines =
-    each-weaker (LinePrecedes l) (λ (m : LegLine). m.shipment ≡ k → l.depart < m.depart)
+    AllByRecursion-weaker (LinePrecedes l) (λ (m : LegLine). m.shipment ≡ k → l.depart < m.depart)
     (λ m precedes other. ⊎_elim (λ before. before) (λ same. absurd (omega (arith, same.1, own, other))) precedes) lines pairs.0 in
     subst Rise (sym (route_of-own l lines k h)) (route_of-each (λ (m : Leg). l.depart < m.depart) lines k after, route_of-rise lines k pairs.1))
     (λ (h : nat_eq l.shipment k ≡ false). subst Rise (sym (route_of-other l lines k h)) (route_of-rise lines k pairs.1))
@@ -119,18 +114,18 @@ route_of-has (l ∷ lines) k (suc i) d lt own =
     (cases_Bool (nat_eq l.shipment k))
 
 -- the legs of a shipment's lines are its route
-pub route_of-lines : (p : Problem) (routes : List (List Leg)) (lines : List LegLine) (k : ℕ) → AreLegLines p routes lines → k < length routes → Rise (route_at routes k) →
+route_of-lines : (p : Problem) (routes : List (List Leg)) (lines : List LegLine) (k : ℕ) → AreLegLines p routes lines → k < length routes → Rise (route_at routes k) →
     route_of lines k ≡ route_at routes k
 route_of-lines p routes lines k are lt rise =
     let route : List Leg = route_at routes k in
     let own : AllByRecursion (λ (l : LegLine). l.shipment ≡ k → has_leg (line_leg l) route ≡ true) lines =
-    each-at (λ (l : LegLine). l.shipment ≡ k → has_leg (line_leg l) route ≡ true) lines no_leg_line
+    AllByRecursion-from_get_or (λ (l : LegLine). l.shipment ≡ k → has_leg (line_leg l) route ≡ true) lines no_leg_line
     (λ i below same.
     subst (λ (n : ℕ). has_leg (line_leg (get_or lines i no_leg_line)) (route_at routes n) ≡ true) same (All-get_or (IsLegLine p routes) lines i no_leg_line below are.legs).leg) in
     let to : (leg : Leg) → has_leg leg (route_of lines k) ≡ true → has_leg leg route ≡ true =
     λ leg has.
     let at = place-of leg (route_of lines k) has in
-    subst (λ (m : Leg). has_leg m route ≡ true) at.2 (at-each (λ (m : Leg). has_leg m route ≡ true) (route_of lines k) at.0 no_leg (route_of-each (λ (m : Leg). has_leg m route ≡ true) lines k own) at.1) in
+    subst (λ (m : Leg). has_leg m route ≡ true) at.2 (AllByRecursion-get_or (λ (m : Leg). has_leg m route ≡ true) (route_of lines k) at.0 no_leg (route_of-each (λ (m : Leg). has_leg m route ≡ true) lines k own) at.1) in
     let from : (leg : Leg) → has_leg leg route ≡ true → has_leg leg (route_of lines k) ≡ true =
     λ leg has.
     let at = place-of leg route has in
@@ -140,7 +135,7 @@ route_of-lines p routes lines k are lt rise =
     let found : has_leg (line_leg (get_or lines there.0 line)) (route_of lines k) ≡ true = route_of-has lines k there.0 line there.1 (ap (λ (l : LegLine). l.shipment) is) in
     subst (λ (m : Leg). has_leg m (route_of lines k) ≡ true) at.2 (subst (λ (l : LegLine). has_leg (line_leg l) (route_of lines k) ≡ true) is found) in
     same-legs (route_of lines k) route (route_of-rise lines k (EachPair-AllPairs LinePrecedes lines no_leg_line are.ascending)) rise
-    (λ leg. alike (has_leg leg (route_of lines k)) (has_leg leg route) (to leg) (from leg))
+    (λ leg. Bool-from_both (has_leg leg (route_of lines k)) (has_leg leg route) (to leg) (from leg))
 
 routes-part : (p : Problem) (routes : List (List Leg)) (lines : List LegLine) (i : ℕ) (shipments : List Shipment) (part : List (List Leg)) → AreLegLines p routes lines →
     length part ≡ length shipments → StandFrom routes i part → AllRise part → routes_from lines i shipments ≡ part

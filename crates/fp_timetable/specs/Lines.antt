@@ -1,5 +1,6 @@
 -- What the lines of a timetable are.
-use Rattle.std.specs.Prelude.{ℕ, ◌+◌, ◌<◌, ◌≡◌, ◌⊎◌, List, [], ◌∷◌, nat_eq, if◌then◌else◌, length, map, IsTrue, All, AllPairs, Contains}
+use Rattle.std.specs.Prelude.{ℕ, ◌+◌, ◌*◌, ◌<◌, ◌≡◌, List, [], ◌∷◌, nat_eq, if◌then◌else◌, length, map, IsTrue, All, AllPairs, Contains}
+use Rattle.fp_lists.specs.Order.{Precedes}
 use Rattle.fp_model.specs.declared.parts.Leg.{Leg}
 use Rattle.fp_model.specs.declared.parts.Shipment.{Shipment}
 use Rattle.fp_model.specs.Costs.{all_legs, has_leg, load, trucks}
@@ -7,10 +8,6 @@ use Rattle.fp_model.specs.Numbered.{leg_at, route_at}
 use Rattle.fp_model.specs.Problem.{Problem, arc_at}
 use Rattle.fp_timetable.specs.declared.lines.LegLine.{LegLine}
 use Rattle.fp_timetable.specs.declared.lines.TruckLine.{TruckLine}
-
--- one pair of numbers stands before another: by the first numbers, and where these are equal by the second
-abbrev pub Precedes : (a b c d : ℕ) → Type 0
-Precedes a b c d = (a < c) ⊎ ((a ≡ c) × (b < d))
 
 -- the line of a leg of the shipment with a number, which arrives a travel time after it left
 abbrev pub leg_line : Problem → ℕ → Leg → LegLine
@@ -46,12 +43,17 @@ routes_from lines i (s ∷ shipments) = route_of lines i ∷ routes_from lines (
 abbrev pub departure : TruckLine → Leg
 departure t = record { arc = t.arc; depart = t.depart }
 
--- lines are the distinct departures of routes with their trucks and loads, each departure once, by departure and then by arc
+-- lines are the distinct departures of routes with their trucks and loads, each departure once, by
+-- departure and then by arc
 pub record AreTruckLines (p : Problem) (routes : List (List Leg)) (lines : List TruckLine) : Type 0 where
   pub ascending : AllPairs (λ (t u : TruckLine). Precedes t.depart t.arc u.depart u.arc) lines
   pub departures : (k : Leg) → has_leg k (map departure lines) ≡ has_leg k (all_legs routes)
   pub trucks : All (λ (t : TruckLine). t.trucks ≡ trucks p routes (departure t)) lines
   pub loads : All (λ (t : TruckLine). t.load ≡ load p.shipments routes (departure t)) lines
+
+-- what the trucks of a truck line cost
+abbrev pub line_cost : Problem → TruckLine → ℕ
+line_cost p t = (arc_at p t.arc).truck * t.trucks
 
 -- the shipment and the arc of a leg line exist
 abbrev pub LegExists : Problem → LegLine → Type 0

@@ -66,7 +66,8 @@ load_on k lines = sum_by (λ (t : TruckLine). if same_leg k (departure t) then t
 abbrev pub size_on : Problem → Leg → List LegLine → ℕ
 size_on p k legs = sum_by (λ (l : LegLine). if same_leg k (line_leg l) then (shipment_at p l.shipment).size else 0) legs
 
--- what adding a leg of a size to the departures does: its departure is the last one or a new one, and carries as much more
+-- what adding a leg of a size to the departures does: its departure is the last one or a new one,
+-- and carries as much more
 pub record Adds (l : LegLine) (size : ℕ) (old new : List TruckLine) : Type 0 where
   pub loads : (k : Leg) → load_on k new ≡ load_on k old + (if same_leg k (line_leg l) then size else 0)
   pub departures : (k : Leg) → has_leg k (map departure new) ≡ has_leg k (map departure old) || same_leg k (line_leg l)

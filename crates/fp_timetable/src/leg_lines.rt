@@ -1,7 +1,8 @@
+//! The lines of a plan's legs.
 ghost use Rattle.std.specs.Prelude.{ℕ, ◌≡◌, ◌+◌, ◌<◌, ◌≤◌, ◌^◌, ◌++◌, length, map, All, IfOk, OnOk};
 ghost use Rattle.std.specs.declared.alloc.Global.{Global};
 ghost use Rattle.std.specs.declared.vec.Vec.{Vec};
-ghost use Rattle.fp_model.specs.Costs.{lists_of};
+ghost use Rattle.fp_lists.specs.Vectors.{lists_of};
 ghost use Rattle.fp_model.specs.Plans.{IsPlan};
 ghost use Rattle.fp_model.specs.Problem.{IsValid};
 ghost use Rattle.fp_timetable.specs.Lines.{AreLegLines, LegExists, leg_line, routes_from};
@@ -9,6 +10,7 @@ ghost use Rattle.fp_timetable.specs.Order.{ArriveWithin, lines_from};
 
 use crate::NoMemory;
 use crate::lines::{LegLine, rank};
+use fp_model::limits::MOST_SHIPMENTS;
 use fp_model::{Instance, Leg, Plan};
 use std::alloc::Global;
 
@@ -41,7 +43,7 @@ fn all_lines(
     instance: &Instance,
     routes: &[Vec<Leg>],
 ) -> Result<Vec<LegLine>, NoMemory>
-    requires few { length routes.now ≤ 500 }
+    requires few { length routes.now ≤ MOST_SHIPMENTS }
     requires arrive { All (λ (r : Vec Leg Global). ArriveWithin instance.now r.items) routes.now }
     ensures { IfOk result (λ lines. lines.items ≡ lines_from instance.now 0 (lists_of routes.now)) }
 {
@@ -62,12 +64,13 @@ pub(crate) fn plan_lines(
     ensures lines { IfOk result (λ lines. lines.items ≡ lines_from instance.now 0 plan.now) }
     ensures valid { IsValid instance.now }
 {
+    // An instance that was read is known to be valid, so the arrivals fit.
     let _known = instance.arcs();
     all_lines(alloc, instance, plan.routes.as_slice())
 }
 
-/// Every leg of a plan once, by departure and then by the number of its shipment. Fails only where
-/// no memory is found.
+/// Every leg of a plan once, by departure and then by the number of its shipment. `NoMemory` only
+/// where no memory is found.
 pub fn legs(alloc: Global, instance: &Instance, plan: &Plan) -> Result<Vec<LegLine>, NoMemory>
     requires { IsPlan instance.now 1 plan.now }
     ensures lines { IfOk result (λ lines. AreLegLines instance.now plan.now lines.items) }

@@ -1,3 +1,4 @@
+//! The lines of a timetable, and the number that puts them in order.
 ghost use Rattle.std.specs.Prelude.{◌≡◌};
 ghost use Rattle.fp_timetable.specs.Order.{rank_of};
 

@@ -1,3 +1,4 @@
+//! The lines of a plan's departures, with their trucks and loads.
 ghost use Rattle.std.specs.Prelude.{ℕ, ◌≡◌, ◌+◌, ◌*◌, ◌<◌, ◌≤◌, ◌^◌, ◌↔◌, length, map, All, IfOk, IsTrue, OnErr, OnOk};
 ghost use Rattle.std.specs.List.Sorted.{IsNonDecreasingBy, IsPermutation};
 ghost use Rattle.fp_model.specs.Plans.{IsPlan};
@@ -34,7 +35,7 @@ fn ends_at(lines: &[TruckLine], leg: &LegLine) -> bool
 }
 
 // Adds a size to the departure of a leg, which is the last line's or a new one.
-#[tactic(auto, using(crate::proofs::Adding::adds_more, crate::proofs::Adding::adds_new))]
+#[tactic(auto, using(crate::proofs::AddedLegs::adds_more, crate::proofs::AddedLegs::adds_new))]
 fn add(lines: &mut Vec<TruckLine>, leg: &LegLine, size: u64) -> Result<(), NoMemory>
     requires { All (λ (t : TruckLine). t.load + size < 2 ^ 128) lines.old.items }
     ensures ok { OnOk result (Adds leg.now size lines.old.items lines.new.items) }
@@ -79,7 +80,7 @@ fn set_trucks(instance: &Instance, lines: &mut [TruckLine])
 }
 
 /// Every distinct departure of a plan once, by departure and then by the number of its arc, with
-/// its trucks and its load. Fails only where no memory is found.
+/// its trucks and its load. `NoMemory` only where no memory is found.
 pub fn trucks(alloc: Global, instance: &Instance, plan: &Plan) -> Result<Vec<TruckLine>, NoMemory>
     requires { IsPlan instance.now 1 plan.now }
     ensures lines { IfOk result (λ lines. AreTruckLines instance.now plan.now lines.items) }

@@ -11,8 +11,9 @@ pub way_sides-append : (way rest : List Step) → way_sides (way ++ rest) ≡ wa
 way_sides-append [] rest = refl
 way_sides-append (s ∷ way) rest = ap (λ (sides : List Side). side_of s ∷ sides) (way_sides-append way rest)
 
--- the trees to come after a way of two parts: those after the second part, and then those after the first
-pub pending_after-append : (before : List Side) (way rest : List Step) →
+-- the trees to come after a way of two parts: those after the second part, and then those after the
+-- first
+pending_after-append : (before : List Side) (way rest : List Step) →
     pending_after before (way ++ rest) ≡ pending_after (before ++ way_sides way) rest ++ pending_after before way
 pending_after-append before [] rest = rw (append-nil before, append-nil (pending_after before rest)) refl
 pending_after-append before (s ∷ way) rest =

@@ -4,6 +4,7 @@ use Rattle.fp_tree.specs.declared.sides.Split.{Split}
 use Rattle.fp_tree.specs.declared.layout.Kind.{Kind}
 use Rattle.fp_tree.specs.declared.layout.Kind.TheVariants.{Divided as DividedKind, Leaf as LeafKind}
 use Rattle.fp_tree.specs.declared.layout.LeafState.{LeafState}
+use Rattle.fp_tree.specs.declared.layout.TheConstants.{MOST_SPLITS}
 use Rattle.fp_tree.specs.Sides.{Fork}
 use Rattle.fp_tree.specs.Trees.{IsTree}
 use Rattle.fp_tree.specs.Nodes.{Node, Divided, Undivided}
@@ -31,7 +32,7 @@ pub record IsPlaceOfLeaf (kinds : List Kind) (k place : ℕ) : Type 0 where
 
 module _ {T : Type 0} where
   -- The leaf isn't closed, and has less value than the best so far.
-  pub record IsBetter (states : List (LeafState T)) (leaf : ℕ) (best : Option ℕ) : Type 0 where
+  pub record IsBetterLeaf (states : List (LeafState T)) (leaf : ℕ) (best : Option ℕ) : Type 0 where
     pub is_open : HoldsAt (λ s. s.closed ≡ false) states leaf
     pub less : IfSome best (λ b. (d : LeafState T) → (slice_index_or states leaf d).value < (slice_index_or states b d).value)
 
@@ -43,7 +44,8 @@ module _ {T : Type 0} where
   abbrev pub split_node : Fork → T → Node T
   split_node f payload = record { payload = payload; role = Divided f }
 
-  -- The nodes in preorder, where the leaves among them have these states and the splits these payloads.
+  -- The nodes in preorder, where the leaves among them have these states and the splits these
+  -- payloads.
   abbrev pub joined_nodes : List Kind → List (LeafState T) → List T → List (Node T)
   joined_nodes [] states payloads = []
   joined_nodes (LeafKind ∷ kinds) [] payloads = []
@@ -62,8 +64,8 @@ module _ {T : Type 0} where
   AreMatched (DividedKind split tail ∷ kinds) states [] = ⊥
   AreMatched (DividedKind split tail ∷ kinds) states (p ∷ payloads) = AreMatched kinds states payloads
 
-  -- The kinds are a tree of at most 100,000 splits, with all that its nodes have.
-  pub record IsSound (kinds : List Kind) (states : List (LeafState T)) (payloads : List T) : Type 0 where
+  -- The kinds are a tree of at most MOST_SPLITS splits, with all that its nodes have.
+  pub record IsSoundLayout (kinds : List Kind) (states : List (LeafState T)) (payloads : List T) : Type 0 where
     pub tree : IsTree fork_of_kind kinds
     pub matched : AreMatched kinds states payloads
-    pub few : length payloads ≤ 100000
+    pub few : length payloads ≤ MOST_SPLITS

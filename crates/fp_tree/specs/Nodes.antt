@@ -63,7 +63,8 @@ module _ {T : Type 0} where
   abbrev pub divide_leaf : Fork → Node T → Node T → Node T → List (Node T)
   divide_leaf f one two n = (record { payload = n.payload; role = Divided f }) ∷ one ∷ two ∷ []
 
--- Among the first n elements, number k isn't closed, no other that isn't has less value, and those before it have more.
+-- Among the first n elements, number k isn't closed, no other that isn't has less value, and those
+-- before it have more.
 pub record IsFirstLeast {X : Type 0} (closed : X → Bool) (value : X → ℕ) (xs : List X) (n k : ℕ) : Type 0 where
   pub there : k < n
   pub is_open : HoldsAt (λ x. closed x ≡ false) xs k

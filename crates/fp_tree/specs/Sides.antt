@@ -1,4 +1,5 @@
--- What the sides of a split ask of the legs of shipments. A leg leaves at n / d, over any denominator d.
+-- What the sides of a split ask of the legs of shipments. A leg leaves at n / d, over any
+-- denominator d.
 use Rattle.std.specs.Prelude.{ℕ, ◌*◌, ◌<◌, ◌≤◌, ◌≡◌, ◌≢◌, List, [], slice_index_or}
 use Rattle.std.specs.List.{AllByRecursion}
 use Rattle.fp_tree.specs.declared.sides.Split.{Split}

@@ -18,7 +18,8 @@ side_of step = if step.later then second (fork_at step) else first (fork_at step
 abbrev pub way_sides : List Step → List Side
 way_sides way = map side_of way
 
--- The sides of the trees to come after a way, nearest first, where `before` has the sides on the way to its first step.
+-- The sides of the trees to come after a way, nearest first, where `before` has the sides on the
+-- way to its first step.
 abbrev pub pending_after : List Side → List Step → List (List Side)
 pending_after before [] = []
 pending_after before (step ∷ way) =

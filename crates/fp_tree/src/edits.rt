@@ -20,7 +20,8 @@ pub fn insert_reserved<X: Drop>(items: &mut Vec<X>, place: usize, item: X)
     }
 }
 
-/// Puts a split and a leaf before the leaf at a place, which becomes the second one below the split.
+/// Puts a split and a leaf before the leaf at a place, which becomes the second one below the
+/// split.
 pub fn divide_kind(kinds: &mut Vec<Kind>, place: usize, split: Split, tail: u32)
     requires place { place ≤ vec_len kinds.old }
     requires room { vec_len kinds.old + 2 ≤ vec_capacity kinds.old }

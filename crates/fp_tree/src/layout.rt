@@ -4,6 +4,9 @@ ghost use Rattle.fp_tree.specs.Layout.{split_of_kind};
 
 use crate::sides::Split;
 
+/// The most splits of a tree.
+pub const MOST_SPLITS: u32 = 100_000;
+
 /// What a node is, without the payloads.
 #[derive(Clone, Copy)]
 pub enum Kind {

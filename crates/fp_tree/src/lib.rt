@@ -5,14 +5,13 @@ mod edits;
 mod layout;
 mod reads;
 mod sides;
-#[cfg(test)]
-mod tests;
 mod trees;
 mod ways;
 
+pub use layout::MOST_SPLITS;
 pub use sides::{Side, Split};
 pub use trees::{Tree, leaves_cover_all};
 pub use ways::{Step, Way};
 
-/// What a call that takes memory fails with where there is none left.
+/// The error of a call that finds no memory.
 pub type NoMemory = std::alloc::AllocError;

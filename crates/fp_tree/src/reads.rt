@@ -1,18 +1,18 @@
 //! What a tree is asked for, over its lists.
-ghost use Rattle.std.specs.Prelude.{◌≡◌, ◌<◌, ◌≤◌, ◌↔◌, true, length, count_by, All, IfOk, IfSome, IsNone, IsTrue, IsSomeAnd, slice_get};
+ghost use Rattle.std.specs.Prelude.{◌≡◌, ◌+◌, ◌<◌, ◌≤◌, ◌↔◌, true, length, count_by, All, IfOk, IfSome, IsNone, IsTrue, IsSomeAnd, slice_get};
 ghost use Rattle.fp_tree.specs.Trees.{tree_leaves};
 ghost use Rattle.fp_tree.specs.Nodes.{IsFirstLeast};
-ghost use Rattle.fp_tree.specs.Layout.{IsBetter, IsPlaceOfLeaf, fork_of_kind, is_leaf_kind};
+ghost use Rattle.fp_tree.specs.Layout.{IsPlaceOfLeaf, fork_of_kind, is_leaf_kind, IsBetterLeaf};
 
 use crate::NoMemory;
-use crate::layout::{Kind, LeafState};
+use crate::layout::{Kind, LeafState, MOST_SPLITS};
 use crate::sides::Side;
 use crate::ways::Way;
 use std::alloc::Global;
 
 /// The first leaf of least value among those that aren't closed.
 pub fn best_open_of<T>(states: &[LeafState<T>]) -> Option<u32>
-    requires { length states.now ≤ 100001 }
+    requires { length states.now ≤ MOST_SPLITS + 1 }
     ensures best { IfSome result
         (IsFirstLeast (λ s. s.closed) (λ s. s.value) states.now (length states.now)) }
     ensures none { IsNone result ↔ All (λ s. s.closed ≡ true) states.now }
@@ -30,7 +30,7 @@ pub fn best_open_of<T>(states: &[LeafState<T>]) -> Option<u32>
 fn is_better<T>(states: &[LeafState<T>], leaf: usize, best: Option<u32>) -> bool
     requires leaf { leaf < length states.now }
     requires best { IfSome best (λ b. b < length states.now) }
-    ensures { IsTrue result ↔ IsBetter states.now leaf best }
+    ensures { IsTrue result ↔ IsBetterLeaf states.now leaf best }
 {
     let state = &states[leaf];
     match best {

@@ -5,7 +5,7 @@ ghost use Rattle.fp_tree.specs.Nodes.{IsBestOpen, close_leaf, closed_of, divide_
 
 use crate::NoMemory;
 use crate::edits::{divide_kind, divide_state, insert_reserved};
-use crate::layout::{Kind, LeafState};
+use crate::layout::{Kind, LeafState, MOST_SPLITS};
 use crate::reads::{best_open_of, place_of_leaf, sides_to};
 use crate::sides::{Side, Split};
 use std::alloc::Global;
@@ -16,8 +16,8 @@ use std::marker::Model;
 ///
 /// A leaf has a payload, a value and a mark whether it is closed. A split keeps the payload that it
 /// had as a leaf. Leaves and splits are numbered from 0 in preorder, each on its own. A tree has at
-/// most 100,000 splits. Each call but `leaf_sides`, `best_open` and `split_leaf`, which take time in
-/// the number of nodes, takes the same time whatever the tree.
+/// most [`MOST_SPLITS`] splits. Each call but `leaf_sides`, `best_open` and `split_leaf`, which
+/// take time in the number of nodes, takes the same time whatever the tree.
 #[derive(Drop)]
 pub struct Tree<T> {
     // What each node is, in preorder.
@@ -34,17 +34,17 @@ impl<T> Model for Tree<T> {
 
     ghost Value = { List (Node T) };
 
-    ghost use Rattle.fp_tree.specs.Layout.{joined_nodes, IsSound};
+    ghost use Rattle.fp_tree.specs.Layout.{joined_nodes, IsSoundLayout};
 
     ghost view = { λ t. joined_nodes t.kinds.items t.states.items t.payloads.items };
 
-    ghost invariant = { λ t. IsSound t.kinds.items t.states.items t.payloads.items };
+    ghost invariant = { λ t. IsSoundLayout t.kinds.items t.states.items t.payloads.items };
 }
 
 impl<T: Drop> Tree<T> {
     /// A tree of one leaf, which isn't closed. `value` is a bound in the search's own unit.
     ///
-    /// The only error is `NoMemory`.
+    /// `NoMemory` only where no memory is found.
     pub fn new(alloc: Global, payload: T, value: u128) -> Result<Tree<T>, NoMemory>
         ensures { IfOk result (λ tree. tree ≡ open_leaf payload value ∷ []) }
     {
@@ -57,10 +57,10 @@ impl<T: Drop> Tree<T> {
         })
     }
 
-    /// The number of splits, at most 100,000.
+    /// The number of splits, at most [`MOST_SPLITS`].
     pub fn splits(&self) -> u32
         ensures count { result ≡ split_count self.now }
-        ensures few { result ≤ 100000 }
+        ensures few { result ≤ MOST_SPLITS }
     {
         self.payloads.len() as u32
     }
@@ -125,7 +125,8 @@ impl<T: Drop> Tree<T> {
         best_open_of(self.states.as_slice())
     }
 
-    /// The sides on the way from the root to a leaf, in order. The only error is `NoMemory`.
+    /// The sides on the way from the root to a leaf, in order. `NoMemory` only where no memory is
+    /// found.
     pub fn leaf_sides(&self, alloc: Global, leaf: u32) -> Result<Vec<Side>, NoMemory>
         requires { leaf < leaf_count self.now }
         ensures { IfOk result
@@ -135,11 +136,11 @@ impl<T: Drop> Tree<T> {
     }
 
     /// Makes a leaf a split, with two leaves below it that aren't closed. The tree has fewer than
-    /// 100,000 splits before.
+    /// [`MOST_SPLITS`] splits before.
     ///
     /// `first` and `second` are the payloads and values of the new leaves. `tail` is the terminal
-    /// that the split's arc leaves; it counts only for a split by an arc. The only error is
-    /// `NoMemory`, and it leaves the tree as it was.
+    /// that the split's arc leaves; it counts only for a split by an arc. `NoMemory` only where no
+    /// memory is found, and it leaves the tree as it was.
     pub fn split_leaf(
         &mut self,
         _alloc: Global,
@@ -150,7 +151,7 @@ impl<T: Drop> Tree<T> {
         second: (T, u128),
     ) -> Result<(), NoMemory>
         requires leaf { leaf < leaf_count self.old }
-        requires few { split_count self.old < 100000 }
+        requires few { split_count self.old < MOST_SPLITS }
         ensures ok { OnOk result (self.new ≡ with_leaf fork_of
             (divide_leaf (record { split = split; tail = tail })
             (open_leaf first.0 first.1) (open_leaf second.0 second.1)) leaf self.old) }

@@ -34,8 +34,8 @@ impl Step {
 
 /// The way from the root of a tree to a node. Contracts see the list of its steps, root first.
 ///
-/// For each node in preorder, a walker calls `descend` at a split and `advance` after a leaf. So the
-/// way always leads to the next node, with one step for each split above it.
+/// For each node in preorder, a walker calls `descend` at a split and `advance` after a leaf. So
+/// the way always leads to the next node, with one step for each split above it.
 #[derive(Drop)]
 pub struct Way {
     steps: Vec<Step>,
@@ -62,8 +62,8 @@ impl Way {
 
     /// Goes on from a split to the first node below its first side.
     ///
-    /// The way uses the allocator that it was made with. The only error is `NoMemory`, and it
-    /// leaves the way as it was.
+    /// The way uses the allocator that it was made with. `NoMemory` only where no memory is found,
+    /// and it leaves the way as it was.
     pub fn descend(&mut self, split: Split, tail: u32) -> Result<(), NoMemory>
         ensures ok { OnOk result
             (self.new ≡ self.old ++ (record { split = split; tail = tail; later = false }) ∷ []) }
@@ -101,7 +101,7 @@ impl Way {
         }
     }
 
-    /// The sides on the way, root first. The only error is `NoMemory`.
+    /// The sides on the way, root first. `NoMemory` only where no memory is found.
     pub fn sides(&self, alloc: Global) -> Result<Vec<Side>, NoMemory>
         ensures { IfOk result (λ sides. sides.items ≡ way_sides self.now) }
     {

@@ -1,22 +1,20 @@
 //! The program: its words, its standard streams, and the top call.
 #![tactic(auto)]
 
-use fp_app::run;
+use fp_app::{Status, run};
 use fp_ends::{StdSink, StdSource};
 use std::process::ExitCode;
 use std::{env, io};
 
-// Memory for the words wasn't found.
-const NO_MEMORY: u8 = 40;
-
-// The system didn't hand over the words as text.
+// The number with which the program ends where the system doesn't hand over its words as text. No
+// run begins then, so it is no `Status` of one.
 const NO_WORDS: u8 = 41;
 
 fn main(rt: HostRuntime) -> ExitCode {
     let words = match words(&rt) {
         Ok(words) => words,
         Err(error) if error.kind() == io::ErrorKind::OutOfMemory => {
-            return ExitCode::from(NO_MEMORY);
+            return ExitCode::from(Status::NoMemory.code());
         }
         Err(_) => return ExitCode::from(NO_WORDS),
     };

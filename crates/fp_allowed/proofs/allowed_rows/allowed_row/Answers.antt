@@ -24,7 +24,7 @@ loop-arc-preserved c =
     let from : ℕ = c.arc.result.from in
     let arc : c.loop-arc.arc < length p.arcs = omega (arith, c.loop-arc-test.true, ap (λ (l : List Arc). length l) c.arcs.ensures.same) in
     let leaves : from ≡ tails_of p c.loop-arc.arc = ap (λ (a : Arc). a.from) c.arc.ensures.same in
-    let exists : from < length c.in_ok-by_terminal.by_terminal.items = omega (arith, leaves, lists.one_each, (c.requires.belongs.valid.arcs c.loop-arc.arc no_arc arc).from) in
+    let exists : from < length c.in_ok-by_terminal.by_terminal.items = omega (arith, leaves, lists.one_each, (c.requires.belongs.valid.parts.arcs c.loop-arc.arc no_arc arc).from) in
     let own : c.deref.result.now ≡ concerned p c.args.shipment (tails_of p c.loop-arc.arc) sides =
     c.deref.ensures.value ∙ ap (λ (v : Vec Side Global). v.items) c.index-own.ensures ∙ lists.exact from c.index-own.result.now exists ∙
     ap (λ (t : ℕ). concerned p c.args.shipment t sides) leaves in

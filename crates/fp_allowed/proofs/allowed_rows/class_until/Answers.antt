@@ -1,6 +1,6 @@
 use Rattle.std.proofs.Common.{arith}
 use Rattle.fp_longestarcs.proofs.ClassNumbers.{few-classes}
-use Rattle.fp_allowed.proofs.Filling.{is_class-until}
+use Rattle.fp_allowed.proofs.ClassRanges.{is_class-until}
 use Rattle.fp_allowed.proofs.allowed_rows.class_until.Goals as goal
 
 pub floor-requires : goal.floor-requires

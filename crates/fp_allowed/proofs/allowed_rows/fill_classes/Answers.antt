@@ -1,4 +1,4 @@
-use Rattle.fp_allowed.proofs.Filling.{fills_between, range_within}
+use Rattle.fp_allowed.proofs.ClassRanges.{fills_between, range_within}
 use Rattle.fp_allowed.proofs.allowed_rows.fill_classes.Goals as goal
 
 pub fill_range-requires-clause-order : goal.fill_range-requires-clause-order

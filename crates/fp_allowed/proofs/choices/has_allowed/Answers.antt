@@ -1,4 +1,4 @@
-use Rattle.fp_allowed.proofs.Picking.{has_allowed_is}
+use Rattle.fp_allowed.proofs.ArcPicks.{has_allowed_is}
 use Rattle.fp_allowed.proofs.choices.has_allowed.Goals as goal
 
 pub returns : goal.returns

@@ -5,7 +5,7 @@ use Rattle.fp_flatnet.specs.Tables.{windows_in}
 use Rattle.fp_allowed.specs.Allowed.{tails_of}
 use Rattle.fp_allowed.specs.Departures.{departures_below, departures_in}
 use Rattle.fp_allowed.specs.Moments.{concerned}
-use Rattle.fp_allowed.proofs.Departing.{departures_at, departures_away, departures_below-le, departures_in-le, windows_in_time}
+use Rattle.fp_allowed.proofs.DepartureCounts.{departures_at, departures_away, departures_below_le, departures_in_le, windows_in_time}
 use Rattle.fp_allowed.proofs.departures_left.departures.Goals as goal
 use Rattle.fp_allowed.proofs.departures_left.departures.Goals.{else-arc-terminal, then-arc-terminal}
 
@@ -36,10 +36,10 @@ overflow_add-total c =
     let own : c.deref.result.now ≡ concerned p k (tails_of p arc) sides =
     c.deref.ensures.value ∙ c.in_ok-own.ensures ∙ ap (λ (t : ℕ). concerned p k t sides) (sym here) in
     let by : c.departures_by-total.result ≡ departures_in p sides k arc (windows k arc) = c.departures_by-total.ensures.exact p sides own in
-    let so_far : c.loop-arc.total ≤ arc * 100001 = rw c.loop-arc.invariant.0 (departures_below-le p c.args.windows.now sides k c.args.terminal arc c.requires.belongs c.requires.shipment (omega arith)) in
+    let so_far : c.loop-arc.total ≤ arc * 100001 = rw c.loop-arc.invariant.0 (departures_below_le p c.args.windows.now sides k c.args.terminal arc c.requires.belongs c.requires.shipment (omega arith)) in
     let few : departures_in p sides k arc (windows k arc) ≤ 100001 =
-    departures_in-le p k arc sides (windows k arc) (windows_in_time p c.args.windows.now k arc c.requires.belongs c.requires.shipment exists) in
-    let arcs : length p.arcs ≤ 1000 = c.requires.belongs.valid.few_arcs in
+    departures_in_le p k arc sides (windows k arc) (windows_in_time p c.args.windows.now k arc c.requires.belongs c.requires.shipment exists) in
+    let arcs : length p.arcs ≤ 1000 = c.requires.belongs.valid.parts.few_arcs in
     let small = within c.loop-arc.total c.departures_by-total.result arc (length p.arcs) so_far (rw by few) exists arcs in
     omega (arith, small)
   where
@@ -74,3 +74,6 @@ returns c =
     let p = c.args.instance.now in
     let all : c.loop-arc.arc ≡ length p.arcs = omega (arith, c.loop-arc-test.false, c.loop-arc.auto.arc-end, ap (λ (l : List Arc). length l) c.arcs.ensures.same) in
     c.loop-arc.invariant.0 ∙ ap (λ (n : ℕ). departures_below p (windows_in c.args.windows.now) c.args.sides.now c.args.shipment c.args.terminal n) all
+
+pub overflow_cast-arc-end : goal.overflow_cast-arc-end
+overflow_cast-arc-end c = omega (arith, c.requires.belongs.valid.parts.few_arcs, ap (λ (l : List Arc). length l) c.arcs.ensures.same)

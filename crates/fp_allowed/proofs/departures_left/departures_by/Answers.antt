@@ -1,6 +1,6 @@
 use Rattle.std.proofs.Common.{sym}
 use Rattle.fp_flatnet.specs.Tables.{windows_in}
-use Rattle.fp_allowed.proofs.Departing.{departures_some}
+use Rattle.fp_allowed.proofs.DepartureCounts.{departures_some}
 use Rattle.fp_allowed.proofs.departures_left.departures_by.Goals as goal
 
 pub returns-in-Some-clause-exact : goal.returns-in-Some-clause-exact

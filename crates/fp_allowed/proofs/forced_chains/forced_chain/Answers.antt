@@ -6,14 +6,14 @@ use Rattle.fp_model.specs.Numbered.{shipment_at}
 use Rattle.fp_model.specs.Problem.{arc_at, no_arc}
 use Rattle.fp_longestarcs.specs.Networks.{IsClass}
 use Rattle.fp_longestarcs.proofs.ClassNumbers.{number-within}
-use Rattle.fp_longestarcs.proofs.Lengthened.{arc-count}
+use Rattle.fp_longestarcs.proofs.HeadLists.{arc-count}
 use Rattle.fp_allowed.specs.Allowed.{IsOnly}
 use Rattle.fp_allowed.specs.Bits.{row_allows}
 use Rattle.fp_allowed.specs.Chains.{NoneLeaves, SeveralLeave}
 use Rattle.fp_allowed.specs.Listing.{class_at}
 use Rattle.fp_allowed.proofs.ForcedSteps.{chain_alone, chain_met, chain_more, chain_reached, chain_several}
 use Rattle.fp_allowed.proofs.ListedClasses.{class_at-number}
-use Rattle.fp_allowed.proofs.RowClasses.{is_class-parts}
+use Rattle.fp_allowed.proofs.RowClasses.{is_class_parts}
 use Rattle.fp_allowed.proofs.forced_chains.forced_chain.Goals as goal
 
 pub returns-then-index : goal.returns-then-index
@@ -63,7 +63,7 @@ loop-here-preserved c =
     let unmet : get_or c.loop-here.met.items c.loop-here.here false ≡ false = sym (get_or_read c.loop-here.met.items c.loop-here.here c.index.result.now inside c.index.ensures false) ∙ c.if-index.false in
     let tells = c.in-One.ensures in
     let k : Leg = tells.0 in
-    let is : IsClass net k = (is_class-parts net c.args.row.now k tells.1.allowed_it).0 in
+    let is : IsClass net k = (is_class_parts net c.args.row.now k tells.1.allowed_it).0 in
     let only : IsOnly p allowed c.loop-here.here k = record {
       is_allowed = tells.1.allowed_it;
       leaves = tells.1.leaves;
@@ -71,7 +71,7 @@ loop-here-preserved c =
     } in
     let exists : k.arc < length p.arcs = omega (arith, is.0, arc-count p net c.requires.whole.arcs) in
     let to_is : c.arc-here.result.to ≡ (arc_at p k.arc).to = ap (λ (a : Arc). a.to) c.arc-here.ensures.same ∙ ap (λ (a : ℕ). (arc_at p a).to) (sym tells.3) in
-    let to_place : c.arc-here.result.to < length p.terminals = omega (arith, to_is, (c.arc-here.ensures.valid.arcs k.arc no_arc exists).to) in (
+    let to_place : c.arc-here.result.to < length p.terminals = omega (arith, to_is, (c.arc-here.ensures.valid.parts.arcs k.arc no_arc exists).to) in (
       rw c.in_ok-push-in-One.ensures.items
           (chain_more p net allowed (shipment_at p c.args.shipment) c.loop-here.classes.items c.loop-here.met.items c.loop-here.here c.in-One.class c.arc-here.result.to k so_far away unmet only
           (ap (class_at net) (sym tells.2) ∙ class_at-number net k c.requires.whole.valid is) (omega (arith, tells.2, number-within net k c.requires.whole.valid is)) to_is to_place),

@@ -1,14 +1,14 @@
 use Rattle.std.proofs.Common.{sym, ◌∙◌}
 use Rattle.fp_app.specs.Words.{order_of, texts}
-use Rattle.fp_app.proofs.Ends.{done-cause, fault-cause}
+use Rattle.fp_app.proofs.StatusCauses.{BadInput-ShowsFault, Done-ShowsDone}
 use Rattle.fp_app.proofs.top.run.Goals as goal
 
 -- src/top.rt:63:1
 pub returns-in-Ok-write_all-clause-bad_input : goal.returns-in-Ok-write_all-clause-bad_input
 returns-in-Ok-write_all-clause-bad_input g c = λ input told same.
-    fault-cause (order_of (texts c.args.words.now)) input _ _ c.in-Ok.shown told c.in-Ok.ensures.shown (sym c.status.ensures ∙ same)
+    BadInput-ShowsFault (order_of (texts c.args.words.now)) input _ _ c.in-Ok.shown told c.in-Ok.ensures.shown (sym c.status.ensures ∙ same)
 
 -- src/top.rt:63:1
 pub returns-in-Ok-write_all-clause-done : goal.returns-in-Ok-write_all-clause-done
 returns-in-Ok-write_all-clause-done g c = λ input told same.
-    done-cause (order_of (texts c.args.words.now)) input _ _ c.in-Ok.shown told c.in-Ok.ensures.shown (sym c.status.ensures ∙ same)
+    Done-ShowsDone (order_of (texts c.args.words.now)) input _ _ c.in-Ok.shown told c.in-Ok.ensures.shown (sym c.status.ensures ∙ same)

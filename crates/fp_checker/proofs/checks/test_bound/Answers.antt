@@ -5,12 +5,12 @@ use Rattle.fp_tree.specs.Trees.{IsTree, tree_splits}
 use Rattle.fp_prices.specs.Tables.{AreTables}
 use Rattle.fp_lines.specs.declared.certificates.Node.{Node}
 use Rattle.fp_lines.specs.Statements.{Statement}
-use Rattle.fp_checker.specs.Leaves.{HasTree, fork_of}
-use Rattle.fp_checker.specs.Points.{AreAddedPoints}
-use Rattle.fp_checker.proofs.Failing.{failed, other-err, part-same}
-use Rattle.fp_checker.proofs.FirstParts.{all-met, leaves-unmet, points-unmet, prices-unmet, tree-unmet}
+use Rattle.fp_acceptance.specs.Leaves.{HasTree, fork_of}
+use Rattle.fp_acceptance.specs.Points.{AreAddedPoints}
+use Rattle.fp_checker.proofs.Results.{Part_injective, false_refutes, Err_any}
+use Rattle.fp_checker.proofs.FirstParts.{points_unmet, prices_unmet, tree_unmet, leaves_unmet, HoldBelow_all}
 use Rattle.fp_checker.proofs.checks.test_bound.Goals as goal
-use Rattle.fp_checker.proofs.checks.test_bound.Goals.{then-not-is_tree-via-then-not-is_tree, then-not-is_tree-via-else-not-is_tree+then-split_count-gt-MOST_SPLITS}
+use Rattle.fp_checker.proofs.checks.test_bound.Goals.{then-not-is_tree-via-then-not-is_tree, then-not-is_tree-via-else-not-is_tree+then-split_count}
 
 -- nodes that are a tree of few splits, where they are the certificate's
 has-tree : (p : Problem) (c : Statement) (nodes : List Node) → nodes ≡ c.tree → IsTree (fork_of p) nodes → length (tree_splits (fork_of p) nodes) ≤ 100000 → HasTree p c
@@ -23,8 +23,8 @@ pub returns-in_err-points-clause-part : goal.returns-in_err-points-clause-part
 returns-in_err-points-clause-part c =
     let e = err_from_is_err_and c.from_residual.result c.from_residual.ensures.1 in
     rw (e.1, e.2) (λ number same.
-    let fails = c.in_err-points.ensures.part number (other-err _ _ same) in
-    points-unmet c.args.instance.now c.args.windows.now c.args.certificate.now c.requires.timetable
+    let fails = c.in_err-points.ensures.part number (Err_any _ _ same) in
+    points_unmet c.args.instance.now c.args.windows.now c.args.certificate.now c.requires.timetable
     (λ has.
     fails.1 (subst (AreAddedPoints c.args.instance.now c.args.windows.now.anchors) (sym (c.as_slice.ensures.value ∙ ap (λ (s : Statement). s.points) c.certificate.view_is)) has))
     number fails.0)
@@ -35,11 +35,11 @@ returns-then-not-are_tables-clause-part c number same =
     let told : Statement = c.args.certificate.now in
     let points : AreAddedPoints p c.args.windows.now.anchors told.points =
     subst (AreAddedPoints p c.args.windows.now.anchors) (c.as_slice.ensures.value ∙ ap (λ (s : Statement). s.points) c.certificate.view_is) c.in_ok-points.ensures.holds in
-    prices-unmet p c.args.windows.now told c.requires.timetable points
+    prices_unmet p c.args.windows.now told c.requires.timetable points
     (λ are.
-    failed c.are_tables.result c.if-not-are_tables.true c.are_tables.ensures.1
+    false_refutes c.are_tables.result c.if-not-are_tables.true c.are_tables.ensures.1
     (subst (AreTables p) (sym (c.as_slice-2.ensures.value ∙ ap (λ (s : Statement). s.tables) c.certificate.view_is)) are))
-    number (part-same 5 number same)
+    number (Part_injective 5 number same)
 
 pub returns-then-not-is_tree-clause-part : goal.returns-then-not-is_tree-clause-part
 returns-then-not-is_tree-clause-part c number same =
@@ -50,15 +50,15 @@ returns-then-not-is_tree-clause-part c number same =
     let tables : AreTables p told.tables =
     subst (AreTables p) (c.as_slice-2.ensures.value ∙ ap (λ (s : Statement). s.tables) c.certificate.view_is) (c.are_tables.ensures.0 c.if-not-are_tables.false) in
     let nodes : c.as_slice-nodes.result.now ≡ told.tree = c.as_slice-nodes.ensures.value ∙ ap (λ (s : Statement). s.tree) c.certificate.view_is in
-    tree-unmet p c.args.windows.now told c.requires.timetable points tables
+    tree_unmet p c.args.windows.now told c.requires.timetable points tables
     (λ has.
     elim c.then-not-is_tree.branch [
       | then-not-is_tree-via-then-not-is_tree w ↦
-          failed c.is_tree.result w.if-not-is_tree.true (c.is_tree.ensures p).1 (subst (IsTree (fork_of p)) (sym nodes) has.tree)
-      | then-not-is_tree-via-else-not-is_tree+then-split_count-gt-MOST_SPLITS w ↦
-          omega (arith, w.split_count.ensures p, w.if-split_count-gt-MOST_SPLITS.true, has.few, ap (λ (xs : List Node). length (tree_splits (fork_of p) xs)) nodes)
+          false_refutes c.is_tree.result w.if-not-is_tree.true (c.is_tree.ensures p).1 (subst (IsTree (fork_of p)) (sym nodes) has.tree)
+      | then-not-is_tree-via-else-not-is_tree+then-split_count w ↦
+          omega (arith, w.split_count.ensures p, w.if-split_count.true, has.few, ap (λ (xs : List Node). length (tree_splits (fork_of p) xs)) nodes)
     ])
-    number (part-same 6 number same)
+    number (Part_injective 6 number same)
 
 pub returns-then-not-branch-clause-part : goal.returns-then-not-branch-clause-part
 returns-then-not-branch-clause-part c number same =
@@ -70,10 +70,10 @@ returns-then-not-branch-clause-part c number same =
     subst (AreTables p) (c.as_slice-2.ensures.value ∙ ap (λ (s : Statement). s.tables) c.certificate.view_is) (c.are_tables.ensures.0 c.if-not-are_tables.false) in
     let nodes : c.as_slice-nodes.result.now ≡ told.tree = c.as_slice-nodes.ensures.value ∙ ap (λ (s : Statement). s.tree) c.certificate.view_is in
     let tree : HasTree p told =
-    has-tree p told c.as_slice-nodes.result.now nodes ((c.is_tree.ensures p).0 c.if-not-is_tree.false) (omega (arith, c.split_count.ensures p, c.if-split_count-gt-MOST_SPLITS.false)) in
-    leaves-unmet p c.args.windows.now told c.requires.timetable points tables tree
-    (failed c.in_ok-are_leaves_worth.field-0 c.if-not-branch.true c.in_ok-are_leaves_worth.ensures.1)
-    number (part-same 7 number same)
+    has-tree p told c.as_slice-nodes.result.now nodes ((c.is_tree.ensures p).0 c.if-not-is_tree.false) (omega (arith, c.split_count.ensures p, c.if-split_count.false)) in
+    leaves_unmet p c.args.windows.now told c.requires.timetable points tables tree
+    (false_refutes c.in_ok-are_leaves_worth.field-0 c.if-not-branch.true c.in_ok-are_leaves_worth.ensures.1)
+    number (Part_injective 7 number same)
 
 pub returns-clause-holds : goal.returns-clause-holds
 returns-clause-holds c =
@@ -85,5 +85,5 @@ returns-clause-holds c =
     subst (AreTables p) (c.as_slice-2.ensures.value ∙ ap (λ (s : Statement). s.tables) c.certificate.view_is) (c.are_tables.ensures.0 c.if-not-are_tables.false) in
     let nodes : c.as_slice-nodes.result.now ≡ told.tree = c.as_slice-nodes.ensures.value ∙ ap (λ (s : Statement). s.tree) c.certificate.view_is in
     let tree : HasTree p told =
-    has-tree p told c.as_slice-nodes.result.now nodes ((c.is_tree.ensures p).0 c.if-not-is_tree.false) (omega (arith, c.split_count.ensures p, c.if-split_count-gt-MOST_SPLITS.false)) in
-    all-met p c.args.windows.now told c.requires.timetable points tables tree (c.in_ok-are_leaves_worth.ensures.0 c.if-not-branch.false)
+    has-tree p told c.as_slice-nodes.result.now nodes ((c.is_tree.ensures p).0 c.if-not-is_tree.false) (omega (arith, c.split_count.ensures p, c.if-split_count.false)) in
+    HoldBelow_all p c.args.windows.now told c.requires.timetable points tables tree (c.in_ok-are_leaves_worth.ensures.0 c.if-not-branch.false)

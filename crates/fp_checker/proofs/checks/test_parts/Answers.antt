@@ -1,23 +1,23 @@
 use Rattle.std.proofs.Common.{sym, ap, ◌∙◌}
 use Rattle.std.proofs.lemmas.Result.{err_from_is_err_and}
 use Rattle.fp_lines.specs.Statements.{Statement}
-use Rattle.fp_checker.proofs.Failing.{other-err}
-use Rattle.fp_checker.proofs.FirstParts.{claim-failed, direct-failed, refusal-failed}
+use Rattle.fp_checker.proofs.Results.{Err_any}
+use Rattle.fp_checker.proofs.FirstParts.{IsFirstFailed_direct, IsFirstFailed_claim, IsFirstFailed_infeasible}
 use Rattle.fp_checker.proofs.checks.test_parts.Goals as goal
 
 pub returns-in_err-tested_plan-in-Direct-clause-part : goal.returns-in_err-tested_plan-in-Direct-clause-part
 returns-in_err-tested_plan-in-Direct-clause-part c =
     let e = err_from_is_err_and c.from_residual.result c.from_residual.ensures.1 in
     rw (e.1, e.2) (λ number same.
-    direct-failed c.args.instance.now c.args.windows.now c.args.certificate.now c.in-Direct.cost number (sym (ap (λ (s : Statement). s.answer) c.certificate.view_is) ∙ c.in-Direct.is)
-    (c.in_err-tested_plan-in-Direct.ensures.part number (other-err _ _ same)))
+    IsFirstFailed_direct c.args.instance.now c.args.windows.now c.args.certificate.now c.in-Direct.cost number (sym (ap (λ (s : Statement). s.answer) c.certificate.view_is) ∙ c.in-Direct.is)
+    (c.in_err-tested_plan-in-Direct.ensures.part number (Err_any _ _ same)))
 
 pub returns-in-Optimal-clause-part : goal.returns-in-Optimal-clause-part
 returns-in-Optimal-clause-part c number same =
-    claim-failed c.args.instance.now c.args.windows.now c.args.certificate.now c.certificate.inside.answer number (sym (ap (λ (s : Statement). s.answer) c.certificate.view_is)) c.in-Optimal.is
+    IsFirstFailed_claim c.args.instance.now c.args.windows.now c.args.certificate.now c.certificate.inside.answer number (sym (ap (λ (s : Statement). s.answer) c.certificate.view_is)) c.in-Optimal.is
     (c.test_claim.ensures.part number same)
 
 pub returns-in-Infeasible-clause-part : goal.returns-in-Infeasible-clause-part
 returns-in-Infeasible-clause-part c number same =
-    refusal-failed c.args.instance.now c.args.windows.now c.args.certificate.now c.in-Infeasible.shipment c.in-Infeasible.time number
+    IsFirstFailed_infeasible c.args.instance.now c.args.windows.now c.args.certificate.now c.in-Infeasible.shipment c.in-Infeasible.time number
     (sym (ap (λ (s : Statement). s.answer) c.certificate.view_is) ∙ c.in-Infeasible.is) (c.test_refusal.ensures.part number same)

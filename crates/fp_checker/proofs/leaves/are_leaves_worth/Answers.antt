@@ -6,8 +6,8 @@ use Rattle.fp_tree.specs.Ways.{pending_on, way_sides}
 use Rattle.fp_lines.specs.declared.certificates.Node.{Node}
 use Rattle.fp_lines.specs.declared.certificates.Node.TheVariants.{Branch, Leaf}
 use Rattle.fp_lines.specs.Statements.{Statement}
-use Rattle.fp_checker.specs.Accepted.{claim_of}
-use Rattle.fp_checker.specs.Leaves.{AreLeavesWorth, IsLeafWorth}
+use Rattle.fp_acceptance.specs.Accepted.{claim_of}
+use Rattle.fp_acceptance.specs.Leaves.{AreLeavesWorth, IsLeafWorth}
 use Rattle.fp_checker.proofs.LeavesPassed.{worth-branch, worth-last, worth-more}
 use Rattle.fp_checker.proofs.leaves.are_leaves_worth.Goals as goal
 use Rattle.fp_checker.proofs.leaves.are_leaves_worth.Goals.{in-Branch+in_ok-descend-in-Branch, in-Leaf+in_ok-sides-in-Leaf+in_ok-is_leaf_worth-in-Leaf+else-not-branch+else-not-advance}

@@ -1,7 +1,7 @@
 use Rattle.std.proofs.Common.{drop}
 use Rattle.std.specs.Prelude.{◌↔◌}
-use Rattle.fp_checker.specs.Accepted.{claim_of}
-use Rattle.fp_checker.specs.Leaves.{AreLeavesWorth}
+use Rattle.fp_acceptance.specs.Accepted.{claim_of}
+use Rattle.fp_acceptance.specs.Leaves.{AreLeavesWorth}
 use Rattle.fp_checker.proofs.LeavesPassed.{AreWorthFrom}
 use Rattle.fp_checker.proofs.leaves.are_leaves_worth.Given as goal
 

@@ -4,8 +4,8 @@ use Rattle.fp_flatnet.specs.Tables.{windows_in}
 use Rattle.fp_prices.specs.Leaves.{IsBoundOf}
 use Rattle.fp_prices.specs.Shares.{ClassShare}
 use Rattle.fp_lines.specs.Statements.{Statement}
-use Rattle.fp_checker.specs.Accepted.{claim_of}
-use Rattle.fp_checker.specs.Leaves.{IsBoundWorth}
+use Rattle.fp_acceptance.specs.Accepted.{claim_of}
+use Rattle.fp_checker.specs.Bounds.{IsBoundWorth}
 use Rattle.fp_checker.proofs.LeavesPassed.{bound-worth}
 use Rattle.fp_checker.proofs.leaves.is_leaf_worth.Goals as goal
 

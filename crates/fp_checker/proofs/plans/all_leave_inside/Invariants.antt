@@ -1,7 +1,7 @@
 use Rattle.std.proofs.Common.{take}
 use Rattle.std.specs.Prelude.{All}
 use Rattle.fp_flatnet.specs.Tables.{windows_in}
-use Rattle.fp_checker.specs.Plans.{LeavesInside}
+use Rattle.fp_checker.specs.Lines.{LeavesInside}
 use Rattle.fp_checker.proofs.plans.all_leave_inside.Given as goal
 
 -- the legs that were passed leave within their windows

@@ -1,6 +1,6 @@
 use Rattle.std.proofs.Common.{◌≡◌, []}
 use Rattle.std.specs.Prelude.{replicate}
-use Rattle.fp_model.specs.Costs.{lists_of}
+use Rattle.fp_lists.specs.Vectors.{lists_of}
 use Rattle.fp_checker.proofs.plans.bare_routes.Given as goal
 
 -- so many routes as were counted

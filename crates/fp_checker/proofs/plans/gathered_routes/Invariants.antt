@@ -1,5 +1,5 @@
 use Rattle.std.proofs.Common.{◌≡◌, ℕ, ◌<◌, length, take}
-use Rattle.fp_model.specs.Costs.{lists_of}
+use Rattle.fp_lists.specs.Vectors.{lists_of}
 use Rattle.fp_model.specs.Numbered.{route_at}
 use Rattle.fp_timetable.specs.Lines.{route_of}
 use Rattle.fp_checker.proofs.plans.gathered_routes.Given as goal

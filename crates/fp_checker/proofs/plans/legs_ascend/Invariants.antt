@@ -1,6 +1,6 @@
 use Rattle.std.specs.List.{AllAdjacentBelow}
 use Rattle.fp_timetable.specs.declared.lines.LegLine.{LegLine}
-use Rattle.fp_timetable.specs.Lines.{Precedes}
+use Rattle.fp_lists.specs.Order.{Precedes}
 use Rattle.fp_checker.proofs.plans.legs_ascend.Given as goal
 
 -- the lines before this place are in order

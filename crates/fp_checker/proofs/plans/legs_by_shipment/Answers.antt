@@ -1,6 +1,6 @@
 use Rattle.std.proofs.Common.{◌≡◌, ◌+◌, List, length, ap, ◌∙◌, arith}
 use Rattle.fp_model.specs.declared.parts.Shipment.{Shipment}
-use Rattle.fp_model.specs.Costs.{lists_of}
+use Rattle.fp_lists.specs.Vectors.{lists_of}
 use Rattle.fp_model.proofs.Bounds.{length-lists_of}
 use Rattle.fp_timetable.specs.Lines.{route_of}
 use Rattle.fp_checker.proofs.RoutesOfLines.{routes-same}

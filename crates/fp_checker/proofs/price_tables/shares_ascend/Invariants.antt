@@ -1,6 +1,6 @@
 use Rattle.std.specs.List.{AllAdjacentBelow}
 use Rattle.fp_prices.specs.Shares.{ClassShare}
-use Rattle.fp_prices.specs.Tables.{Precedes}
+use Rattle.fp_lists.specs.Order.{Precedes}
 use Rattle.fp_checker.proofs.price_tables.shares_ascend.Given as goal
 
 -- the shares before this place are in order

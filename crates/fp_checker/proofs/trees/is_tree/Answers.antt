@@ -4,7 +4,7 @@ use Rattle.fp_tree.specs.declared.sides.Split.TheVariants.{ByArc}
 use Rattle.fp_tree.specs.Trees.{IsTree}
 use Rattle.fp_lines.specs.declared.certificates.Node.{Node}
 use Rattle.fp_lines.specs.declared.certificates.Node.TheVariants.{Branch}
-use Rattle.fp_checker.specs.Leaves.{fork_of}
+use Rattle.fp_acceptance.specs.Leaves.{fork_of}
 use Rattle.fp_checker.proofs.TreeNodes.{after-branch, after-leaf, at-end, none-to_come}
 use Rattle.fp_checker.proofs.trees.is_tree.Goals as goal
 use Rattle.fp_checker.proofs.trees.is_tree.Goals.{in-Branch, in-Leaf}

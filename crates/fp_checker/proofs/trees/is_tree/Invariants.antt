@@ -2,7 +2,7 @@ use Rattle.std.proofs.Common.{◌≤◌, ◌+◌, drop}
 use Rattle.std.specs.Prelude.{◌↔◌}
 use Rattle.fp_model.specs.Problem.{Problem}
 use Rattle.fp_tree.specs.Trees.{AreTrees, IsTree}
-use Rattle.fp_checker.specs.Leaves.{fork_of}
+use Rattle.fp_acceptance.specs.Leaves.{fork_of}
 use Rattle.fp_checker.proofs.trees.is_tree.Given as goal
 
 -- the nodes are one tree exactly where those that are left are the trees that are to come

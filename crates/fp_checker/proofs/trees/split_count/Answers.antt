@@ -6,7 +6,7 @@ use Rattle.fp_tree.specs.declared.sides.Split.TheVariants.{ByArc}
 use Rattle.fp_tree.specs.Trees.{tree_splits}
 use Rattle.fp_lines.specs.declared.certificates.Node.{Node}
 use Rattle.fp_lines.specs.declared.certificates.Node.TheVariants.{Branch}
-use Rattle.fp_checker.specs.Leaves.{fork_of}
+use Rattle.fp_acceptance.specs.Leaves.{fork_of}
 use Rattle.fp_checker.proofs.TreeNodes.{branch-counts, leaf-counts}
 use Rattle.fp_checker.proofs.trees.split_count.Goals as goal
 use Rattle.fp_checker.proofs.trees.split_count.Goals.{in-Branch, in-Leaf}

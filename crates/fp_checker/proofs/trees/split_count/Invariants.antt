@@ -1,7 +1,7 @@
 use Rattle.std.proofs.Common.{◌≡◌, ◌≤◌, length, take}
 use Rattle.fp_model.specs.Problem.{Problem}
 use Rattle.fp_tree.specs.Trees.{tree_splits}
-use Rattle.fp_checker.specs.Leaves.{fork_of}
+use Rattle.fp_acceptance.specs.Leaves.{fork_of}
 use Rattle.fp_checker.proofs.trees.split_count.Given as goal
 
 -- how many of the nodes that were passed are splits

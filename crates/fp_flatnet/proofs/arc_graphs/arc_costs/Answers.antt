@@ -6,4 +6,4 @@ pub loop-number-preserved : goal.loop-number-preserved
 loop-number-preserved c =
     let p = c.args.instance.now in
     let lt : c.loop-number.number < length p.arcs = rw (← c.arcs-number-end.ensures.same) c.loop-number-test.true in
-    costs-more p c.loop-number.number c.from.result c.loop-number.costs.items c.push.new.self.items lt c.loop-number.invariant (c.from.ensures ∙ c.step.ensures) c.in_ok-push.ensures.items
+    costs-more p c.loop-number.number c.from.result c.loop-number.costs.items c.push.new.self.items lt c.loop-number.invariant (c.from.ensures ∙ c.step.ensures.same) c.in_ok-push.ensures.items

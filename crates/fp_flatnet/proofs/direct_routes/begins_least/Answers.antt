@@ -5,8 +5,8 @@ use Rattle.fp_model.specs.Problem.{arc_at}
 use Rattle.fp_model.specs.Times.{IsDistance}
 use Rattle.fp_flatnet.specs.Directs.{BeginsLeast}
 use Rattle.fp_flatnet.specs.Windows.{time_onward as time_onward_of}
-use Rattle.fp_flatnet.proofs.Onward.{begins-tells}
-use Rattle.fp_flatnet.proofs.Walks.{distance-small}
+use Rattle.fp_flatnet.proofs.OnwardTimes.{begins-tells}
+use Rattle.fp_flatnet.proofs.LeastWalks.{distance-small}
 use Rattle.fp_flatnet.proofs.direct_routes.begins_least.Goals as goal
 
 pub time_onward-requires-clause-small : goal.time_onward-requires-clause-small

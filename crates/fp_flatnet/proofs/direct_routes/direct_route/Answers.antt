@@ -6,7 +6,7 @@ use Rattle.fp_model.specs.Problem.{arc_at}
 use Rattle.fp_model.specs.Routes.{step as step_of}
 use Rattle.fp_flatnet.specs.Directs.{BeginsFirst, IsFirstBelow}
 use Rattle.fp_flatnet.specs.Distances.{time_at}
-use Rattle.fp_flatnet.proofs.Underway.{IsUnderway, underway-more, underway-end, ready-small, none-begins, time-falls}
+use Rattle.fp_flatnet.proofs.PartialRoutes.{IsUnderway, underway-more, underway-end, ready-small, none-begins, time-falls}
 use Rattle.fp_flatnet.proofs.direct_routes.direct_route.Goals as goal
 
 pub overflow_add-ready : goal.overflow_add-ready
@@ -17,7 +17,7 @@ overflow_add-ready c =
     subst (λ (o : Option ℕ). IsFirstBelow p s.to (length p.arcs) c.loop-here.here o) c.in-Some.is (c.requires.onward.exact c.loop-here.here c.loop-here.invariant.inside) in
     omega (
       arith,
-      c.step-ready.ensures,
+      c.step-ready.ensures.same,
       ready-small p s c.loop-here.here c.loop-here.ready c.in-Some.arc c.loop-here.legs.items c.arcs-known.ensures.valid c.requires.shipment c.loop-here.invariant first,
     )
 
@@ -36,7 +36,7 @@ loop-here-preserved c =
     underway-more p s here ready a legs leg c.arcs-known.ensures.valid c.loop-here.invariant first refl in
     let head : (arc_at p a).to ≡ c.arc-here.result.to = ap (λ (x : Arc). x.to) (sym c.arc-here.ensures.same) in
     subst (λ (ls : List Leg). IsUnderway p s c.arc-here.result.to (ready + c.step-ready.result) ls) (sym c.in_ok-push.ensures.items)
-    (subst (λ (n : ℕ). IsUnderway p s c.arc-here.result.to (ready + n) (legs ++ (leg ∷ []))) (sym c.step-ready.ensures)
+    (subst (λ (n : ℕ). IsUnderway p s c.arc-here.result.to (ready + n) (legs ++ (leg ∷ []))) (sym c.step-ready.ensures.same)
     (subst (λ (h : ℕ). IsUnderway p s h (ready + step_of p a) (legs ++ (leg ∷ []))) head more))
 
 pub returns : goal.returns

@@ -1,6 +1,6 @@
 use Rattle.std.specs.Prelude.{unwrap_or}
 use Rattle.fp_flatnet.specs.Distances.{time_at}
-use Rattle.fp_flatnet.proofs.Underway.{IsUnderway}
+use Rattle.fp_flatnet.proofs.PartialRoutes.{IsUnderway}
 use Rattle.fp_flatnet.proofs.direct_routes.direct_route.Given as goal
 
 abbrev pub invariant-loop-here : goal.invariant-loop-here

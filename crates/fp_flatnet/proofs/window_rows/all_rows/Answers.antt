@@ -6,8 +6,8 @@ use Rattle.fp_model.specs.declared.parts.Shipment.{Shipment}
 use Rattle.fp_model.specs.Numbered.{shipment_at}
 use Rattle.fp_flatnet.specs.declared.window_tables.Window.{Window}
 use Rattle.fp_flatnet.specs.Windows.{IsWindowRow}
-use Rattle.fp_flatnet.proofs.Pushes.{each_push_map}
-use Rattle.fp_flatnet.proofs.Tellings.{shipment-read}
+use Rattle.fp_flatnet.proofs.OneMoreElement.{each_push_map}
+use Rattle.fp_flatnet.proofs.FastestTimes.{shipment_read}
 use Rattle.fp_flatnet.proofs.window_rows.all_rows.Goals as goal
 
 pub loop-shipment-preserved : goal.loop-shipment-preserved
@@ -15,7 +15,7 @@ loop-shipment-preserved c =
     let p = c.args.instance.now in
     let n = c.loop-shipment.shipment-index in
     let same : c.shipment-item.result ≡ shipment_at p n =
-    shipment-read p c.shipments-shipment-items.result.now n c.shipment-item.result c.shipments-shipment-items.ensures.same c.shipment-item.is c.loop-shipment-test.true in
+    shipment_read p c.shipments-shipment-items.result.now n c.shipment-item.result c.shipments-shipment-items.ensures.same c.shipment-item.is c.loop-shipment-test.true in
     let row = c.in_ok-row.row in
     let last : IsWindowRow p (shipment_at p n) row.items = subst (λ (s : Shipment). IsWindowRow p s row.items) same c.in_ok-row.ensures in
     each_push_map (λ (r : Vec (Option Window) Global). r.items) (λ k. IsWindowRow p (shipment_at p k)) c.loop-shipment.rows.items c.push.new.self.items row [] n

@@ -1,5 +1,5 @@
 use Rattle.fp_model.specs.Problem.{arc_at}
-use Rattle.fp_flatnet.proofs.Walks.{distance-small}
+use Rattle.fp_flatnet.proofs.LeastWalks.{distance-small}
 use Rattle.fp_flatnet.proofs.window_rows.window_of.Goals as goal
 
 pub time_before-requires-clause-small : goal.time_before-requires-clause-small

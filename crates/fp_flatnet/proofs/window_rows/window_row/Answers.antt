@@ -2,7 +2,7 @@ use Rattle.std.proofs.Common.{◌≡◌, ℕ, None, length, arith}
 use Rattle.std.specs.Prelude.{Option}
 use Rattle.fp_flatnet.specs.declared.window_tables.Window.{Window}
 use Rattle.fp_flatnet.specs.Windows.{IsWindowOrNone}
-use Rattle.fp_flatnet.proofs.Pushes.{each_push}
+use Rattle.fp_flatnet.proofs.OneMoreElement.{each_push}
 use Rattle.fp_flatnet.proofs.window_rows.window_row.Goals as goal
 
 pub loop-number-preserved : goal.loop-number-preserved

@@ -1,6 +1,6 @@
-use Rattle.fp_flatnet.proofs.Entries.{rows_of-set}
+use Rattle.fp_flatnet.proofs.WindowEntries.{row_lists-set}
 use Rattle.fp_flatnet.proofs.window_tables.set_entry.Goals as goal
 
 pub returns-clause-set : goal.returns-clause-set
 returns-clause-set c =
-    rows_of-set c.args.rows.now c.args.shipment c.args.arc c.args.to c.index-rows-shipment.result c.requires.shipment
+    row_lists-set c.args.rows.now c.args.shipment c.args.arc c.args.to c.index-rows-shipment.result c.requires.shipment

@@ -7,9 +7,9 @@ use Rattle.fp_labels.specs.declared.walks.Label.{Label}
 use Rattle.fp_labels.specs.declared.settling.Search.{Search}
 use Rattle.fp_labels.specs.Graphs.{Shape}
 use Rattle.fp_labels.specs.Searches.{IsFresh, IsSearch, AreSettled, SettlesNext, settled_count}
-use Rattle.fp_labels.proofs.Starting.{fresh_search, fresh_counted}
-use Rattle.fp_labels.proofs.Next.{GoesOn, goes_on, all_settled}
-use Rattle.fp_labels.proofs.Exact.{found}
+use Rattle.fp_labels.proofs.FreshSearch.{fresh_search, fresh_counted}
+use Rattle.fp_labels.proofs.NextNode.{GoesOn, goes_on, all_settled}
+use Rattle.fp_labels.proofs.LeastLabels.{found}
 use Rattle.fp_labels.proofs.settling.find_labels.Goals as goal
 
 pub loop-init : goal.loop-init

@@ -1,6 +1,6 @@
 use Rattle.std.proofs.Common.{◌≡◌, ◌∙◌, ℕ, ◌+◌, ◌-◌, [], arith, ap, sym, length}
 use Rattle.fp_labels.specs.Labels.{traced}
-use Rattle.fp_labels.proofs.Tracing.{read_more, read_all, step_inside, traced_end}
+use Rattle.fp_labels.proofs.WalksBack.{read_more, read_all, step_inside, traced_end}
 use Rattle.fp_labels.proofs.walks.trace.Goals as goal
 use Rattle.fp_labels.proofs.walks.trace.Goals.{else-loop-test, then-loop-test+in-None}
 

@@ -1,5 +1,5 @@
 -- The refined network is one, with its offsets counted anew.
-use Rattle.fp_longestarcs.proofs.Grown.{refined-written}
+use Rattle.fp_longestarcs.proofs.NewPoints.{refined-written}
 use Rattle.fp_longestarcs.proofs.copies.add_point.Goals as goal
 
 pub count_classes-requires-clause-are : goal.count_classes-requires-clause-are

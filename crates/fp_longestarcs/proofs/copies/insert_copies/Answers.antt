@@ -10,30 +10,30 @@ use Rattle.fp_model.specs.declared.parts.Arc.{Arc}
 use Rattle.fp_model.specs.Problem.{Problem, arc_at}
 use Rattle.fp_model.specs.Routes.{step}
 use Rattle.fp_timenodes.specs.Floor.{floor_point}
-use Rattle.fp_longestarcs.specs.Ascending.{place_of}
+use Rattle.fp_lists.specs.Ascending.{place_in}
 use Rattle.fp_longestarcs.specs.Classes.{head_of}
 use Rattle.fp_longestarcs.specs.Networks.{TimedNetwork, points_in, tail_in, heads_in}
 use Rattle.fp_longestarcs.specs.Vectors.{network_of}
 use Rattle.fp_longestarcs.specs.Changes.{heads_with}
-use Rattle.fp_longestarcs.proofs.Written.{AreWritten, written-more, written-kept, written-all, list-kept}
+use Rattle.fp_longestarcs.proofs.VectorLists.{AreWritten, written-more, written-kept, written-all, list-kept}
 use Rattle.fp_longestarcs.proofs.copies.insert_copies.Goals as goal
 use Rattle.fp_longestarcs.proofs.copies.insert_copies.Goals.{then-tail-new, else-tail-new}
 
 -- the heads of an arc that leaves the terminal, with the new copy
 with-copy : (p : Problem) (net : TimedNetwork) (terminal at arc step_length head place : ℕ) (taken : Arc) (ends list : List ℕ) → tail_in net arc ≡ terminal → taken ≡ arc_at p arc → step_length ≡ step p arc →
-    ends ≡ points_in net taken.to → head ≡ floor_point ends 1 (at + step_length) → list ≡ heads_in net arc → place ≡ place_of (points_in net terminal) at → insert list place head ≡ heads_with p net terminal at arc
+    ends ≡ points_in net taken.to → head ≡ floor_point ends 1 (at + step_length) → list ≡ heads_in net arc → place ≡ place_in (points_in net terminal) at → insert list place head ≡ heads_with p net terminal at arc
 with-copy p net terminal at arc step_length head place taken ends list leaves is long last made old stands =
     let greatest : head ≡ head_of p (points_in net) (record { arc = arc; depart = at }) =
     made ∙ ap (λ (l : List ℕ). floor_point l 1 (at + step_length)) (last ∙ ap (λ (a : Arc). points_in net a.to) is) ∙ ap (λ (n : ℕ). floor_point (points_in net (arc_at p arc).to) 1 (at + n)) long in
     ap (λ (l : List ℕ). insert l place head) old ∙
     ap (λ (k : ℕ). insert (heads_in net arc) k head) stands ∙
-    ap (λ (n : ℕ). insert (heads_in net arc) (place_of (points_in net terminal) at) n) greatest ∙
-    sym (cond-true (nat_eq (tail_in net arc) terminal) (insert (heads_in net arc) (place_of (points_in net terminal) at) (head_of p (points_in net) (record { arc = arc; depart = at }))) (heads_in net arc) (eq-eqb (tail_in net arc) terminal leaves))
+    ap (λ (n : ℕ). insert (heads_in net arc) (place_in (points_in net terminal) at) n) greatest ∙
+    sym (cond-true (nat_eq (tail_in net arc) terminal) (insert (heads_in net arc) (place_in (points_in net terminal) at) (head_of p (points_in net) (record { arc = arc; depart = at }))) (heads_in net arc) (eq-eqb (tail_in net arc) terminal leaves))
 
 -- and those of another arc
 without-copy : (p : Problem) (net : TimedNetwork) (terminal at arc : ℕ) → tail_in net arc ≢ terminal → heads_in net arc ≡ heads_with p net terminal at arc
 without-copy p net terminal at arc stays =
-    sym (cond-false (nat_eq (tail_in net arc) terminal) (insert (heads_in net arc) (place_of (points_in net terminal) at) (head_of p (points_in net) (record { arc = arc; depart = at }))) (heads_in net arc) (ne_eqb (tail_in net arc) terminal stays))
+    sym (cond-false (nat_eq (tail_in net arc) terminal) (insert (heads_in net arc) (place_in (points_in net terminal) at) (head_of p (points_in net) (record { arc = arc; depart = at }))) (heads_in net arc) (ne_eqb (tail_in net arc) terminal stays))
 
 pub returns : goal.returns
 returns c =
@@ -54,12 +54,12 @@ loop-arc-preserved c =
     elim c.if-tail-new.branch [
       | then-tail-new w ↦
           let old = list-kept f c.args.heads.now c.loop-arc.heads arc w.index-heads-arc.result c.loop-arc.invariant within in
-          let place = c.place_among-place.ensures.place ∙ ap (λ (l : List ℕ). place_of l c.args.new.at) c.list_at.ensures in
+          let place = c.place_among-place.ensures.place ∙ ap (λ (l : List ℕ). place_in l c.args.new.at) c.list_at.ensures in
           rw w.heads-is
           (written-more f c.args.heads.now c.loop-arc.heads arc w.put.new.list c.loop-arc.invariant (omega (arith, within, c.loop-arc.auto.heads))
           (w.put.ensures ∙
-          with-copy p net c.args.new.terminal c.args.new.at arc w.step_of.result w.floor_among-head.result c.place_among-place.result w.arc.result w.list_at-ends.result.now (get_or c.loop-arc.heads arc w.index-heads-arc.result).items
-          w.if-tail-new.true w.arc.ensures.same w.step_of.ensures.same w.list_at-ends.ensures w.floor_among-head.ensures old place))
+          with-copy p net c.args.new.terminal c.args.new.at arc w.step.result w.floor_among-head.result c.place_among-place.result w.arc.result w.list_at-ends.result.now (get_or c.loop-arc.heads arc w.index-heads-arc.result).items
+          w.if-tail-new.true w.arc.ensures.same w.step.ensures.same w.list_at-ends.ensures w.floor_among-head.ensures old place))
       | else-tail-new w ↦
           rw w.heads-is (written-kept f c.args.heads.now c.loop-arc.heads arc c.loop-arc.invariant within (without-copy p net c.args.new.terminal c.args.new.at arc w.if-tail-new.false))
     ]

@@ -1,6 +1,6 @@
 use Rattle.fp_longestarcs.specs.Vectors.{network_of}
 use Rattle.fp_longestarcs.specs.Changes.{heads_with}
-use Rattle.fp_longestarcs.proofs.Written.{AreWritten}
+use Rattle.fp_longestarcs.proofs.VectorLists.{AreWritten}
 use Rattle.fp_longestarcs.proofs.copies.insert_copies.Given as goal
 
 abbrev pub invariant-loop-arc : goal.invariant-loop-arc

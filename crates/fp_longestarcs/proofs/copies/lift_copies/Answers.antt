@@ -12,7 +12,7 @@ use Rattle.fp_model.specs.Routes.{step}
 use Rattle.fp_longestarcs.specs.Networks.{TimedNetwork, points_in, tail_in, heads_in}
 use Rattle.fp_longestarcs.specs.Vectors.{network_of}
 use Rattle.fp_longestarcs.specs.Changes.{heads_to, lifted}
-use Rattle.fp_longestarcs.proofs.Written.{AreWritten, written-more, written-kept, written-all, list-kept}
+use Rattle.fp_longestarcs.proofs.VectorLists.{AreWritten, written-more, written-kept, written-all, list-kept}
 use Rattle.fp_longestarcs.proofs.copies.lift_copies.Goals as goal
 use Rattle.fp_longestarcs.proofs.copies.lift_copies.Goals.{then-arc-point, else-arc-point}
 
@@ -56,8 +56,8 @@ loop-arc-preserved c =
           rw w.heads-is
           (written-more f c.args.heads.now c.loop-arc.heads arc (with_items v w.lift_heads.new.heads) c.loop-arc.invariant (omega (arith, within, c.loop-arc.auto.heads))
           (with_items_is v w.lift_heads.new.heads same_long ∙ w.lift_heads.ensures ∙
-          lifted-in p net c.args.point.terminal c.args.point.at arc w.step_of-step.result c.arc.result w.list_at-starts.result.now w.deref_mut.result.now
-          w.if-arc-point.true c.arc.ensures.same w.step_of-step.ensures.same w.list_at-starts.ensures old))
+          lifted-in p net c.args.point.terminal c.args.point.at arc w.step-step.result c.arc.result w.list_at-starts.result.now w.deref_mut.result.now
+          w.if-arc-point.true c.arc.ensures.same w.step-step.ensures.same w.list_at-starts.ensures old))
       | else-arc-point w ↦
           rw w.heads-is (written-kept f c.args.heads.now c.loop-arc.heads arc c.loop-arc.invariant within (not-lifted p net c.args.point.terminal c.args.point.at arc c.arc.result w.if-arc-point.false c.arc.ensures.same))
     ]

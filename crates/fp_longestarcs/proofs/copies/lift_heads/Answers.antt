@@ -2,7 +2,7 @@
 use Rattle.std.proofs.Common.{◌≡◌, ℕ, ◌<◌, List, length, ◌∙◌, sym, arith}
 use Rattle.std.proofs.lemmas.Grind.{same_number_lists}
 use Rattle.fp_longestarcs.specs.Changes.{lifted}
-use Rattle.fp_longestarcs.proofs.Grown.{length-lifted, get_or-lifted}
+use Rattle.fp_longestarcs.proofs.NewPoints.{length-lifted, get_or-lifted}
 use Rattle.fp_longestarcs.proofs.copies.lift_heads.Goals as goal
 
 pub returns : goal.returns

@@ -4,7 +4,7 @@ use Rattle.std.specs.declared.alloc.Global.{Global}
 use Rattle.std.specs.declared.vec.Vec.{Vec}
 use Rattle.std.proofs.lemmas.Bool.{cases_eq}
 use Rattle.std.proofs.lemmas.List.{get_or-set_same, get_or-set_other}
-use Rattle.fp_longestarcs.proofs.Written.{same-written}
+use Rattle.fp_longestarcs.proofs.VectorLists.{same-written}
 use Rattle.fp_longestarcs.proofs.copies.make_room.Goals as goal
 use Rattle.fp_longestarcs.proofs.copies.make_room.Goals.{then-tail-terminal+in_ok-reserve-2, else-tail-terminal}
 

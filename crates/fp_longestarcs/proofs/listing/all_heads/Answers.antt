@@ -9,7 +9,7 @@ use Rattle.fp_model.specs.declared.parts.Arc.{Arc}
 use Rattle.fp_model.specs.Problem.{Problem, arc_at}
 use Rattle.fp_model.specs.Routes.{step}
 use Rattle.fp_timenodes.specs.Floor.{floor_point}
-use Rattle.fp_longestarcs.specs.Vectors.{lists_of}
+use Rattle.fp_lists.specs.Vectors.{lists_of}
 use Rattle.fp_longestarcs.specs.Whole.{heads_from}
 use Rattle.fp_longestarcs.proofs.listing.all_heads.Goals as goal
 
@@ -27,7 +27,7 @@ loop-arc-preserved c =
     let lists : List (List ℕ) = lists_of c.args.points.now in
     let arc : ℕ = c.loop-arc.arc in
     let one : List ℕ = c.in_ok-greatest_heads.field-0.items in
-    let made = heads-read c.args.instance.now lists arc c.step_of.result c.arc-taken.result c.list_at-starts.result.now c.list_at-ends.result.now one c.arc-taken.ensures.same c.step_of.ensures.same c.list_at-starts.ensures c.list_at-ends.ensures c.in_ok-greatest_heads.ensures in
+    let made = heads-read c.args.instance.now lists arc c.step.result c.arc-taken.result c.list_at-starts.result.now c.list_at-ends.result.now one c.arc-taken.ensures.same c.step.ensures.same c.list_at-starts.ensures c.list_at-ends.ensures c.in_ok-greatest_heads.ensures in
     let f : ℕ → List ℕ = heads_from c.args.instance.now (λ t. get_or lists t []) in
     ap (λ (l : List (Vec ℕ Global)). lists_of l) c.in_ok-push.ensures.items ∙
     map-append (λ (v : Vec ℕ Global). v.items) c.loop-arc.heads.items (c.in_ok-greatest_heads.field-0 ∷ []) ∙

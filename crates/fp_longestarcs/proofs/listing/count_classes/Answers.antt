@@ -3,9 +3,10 @@ use Rattle.std.proofs.Common.{◌≡◌, ℕ, ◌+◌, ◌<◌, ◌≤◌, ⊎_e
 use Rattle.std.proofs.lemmas.Bool.{cases_eq}
 use Rattle.std.proofs.lemmas.List.{get_or-set_same, get_or-set_other, length-set}
 use Rattle.std.proofs.lemmas.List.Sums.{sum_by_more, sum_by-take-le}
+use Rattle.fp_longestarcs.specs.declared.networks.TheConstants.{MOST_CLASSES}
 use Rattle.fp_longestarcs.specs.Ascending.{ArePoints}
 use Rattle.fp_longestarcs.specs.Networks.{copy_count}
-use Rattle.fp_longestarcs.specs.Vectors.{lists_of}
+use Rattle.fp_lists.specs.Vectors.{lists_of}
 use Rattle.fp_longestarcs.proofs.ClassNumbers.{few-copies}
 use Rattle.fp_longestarcs.proofs.listing.count_classes.Goals as goal
 
@@ -17,7 +18,7 @@ copies-more points tails i qs h is =
 
 -- and it is small
 copies-few : (points : List (List ℕ)) (tails : List ℕ) (i : ℕ) (qs : List ℕ) → i < length tails → qs ≡ get_or points (get_or tails i 0) [] → ((k : ℕ) (d : List ℕ) → k < length points → ArePoints (get_or points k d)) → length tails ≤ 1000 →
-    copy_count points (take i tails) + length qs ≤ 100001000
+    copy_count points (take i tails) + length qs ≤ MOST_CLASSES
 copies-few points tails i qs h is are few =
     omega (
       arith,

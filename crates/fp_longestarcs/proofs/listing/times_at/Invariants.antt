@@ -1,6 +1,6 @@
 use Rattle.std.proofs.Common.{◌-◌, ◌^◌}
 use Rattle.fp_timenodes.specs.Points.{points_at}
-use Rattle.fp_longestarcs.proofs.Listed.{AreUntil}
+use Rattle.fp_longestarcs.proofs.PointLists.{AreUntil}
 use Rattle.fp_longestarcs.proofs.listing.times_at.Given as goal
 
 abbrev pub invariant-loop-next : goal.invariant-loop-next

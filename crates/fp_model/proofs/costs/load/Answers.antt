@@ -8,5 +8,5 @@ load_on-requires c =
     AreReady-plan _ _ _ _ c.plan.view_is c.shipments.ensures.valid c.requires in
     record {
       routes = ap length c.as_slice.ensures.value ∙ ready.long ∙ sym (ap length c.shipments.ensures.same);
-      few = omega (arith, ap length c.shipments.ensures.same, c.shipments.ensures.valid.few_shipments);
+      few = omega (arith, ap length c.shipments.ensures.same, c.shipments.ensures.valid.parts.few_shipments);
     }

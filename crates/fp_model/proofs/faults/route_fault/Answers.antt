@@ -11,4 +11,4 @@ pub overflow_cast-result : goal.overflow_cast-result
 overflow_cast-result c =
     let few : c.loop-place.place ≤ length c.args.instance.now.arcs =
     few_faultless c.args.instance.now c.args.shipment.now c.args.route.now c.loop-place.place (omega arith) c.loop-place.invariant in
-    omega (arith, few, c.leg_fault.ensures.valid.few_arcs)
+    omega (arith, few, c.leg_fault.ensures.valid.parts.few_arcs)

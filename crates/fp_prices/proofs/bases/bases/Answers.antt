@@ -1,6 +1,7 @@
 use Rattle.std.proofs.Common.{ℕ, ◌≡◌, ◌+◌, ◌*◌, sym, ap, ◌∙◌, arith}
 use Rattle.fp_longestarcs.proofs.ClassNumbers.{few-classes}
-use Rattle.fp_prices.specs.Forced.{sum_below, truck_cost_at}
+use Rattle.fp_prices.specs.Forced.{truck_cost_at}
+use Rattle.fp_lists.specs.Below.{sum_below}
 use Rattle.fp_prices.proofs.ForcedSums.{part-fits, set_cost, sum_below-next, sum_below-rest}
 use Rattle.fp_prices.proofs.SetBits.{next-set, none-set}
 use Rattle.fp_prices.proofs.bases.bases.Goals as goal

@@ -1,5 +1,5 @@
 use Rattle.std.proofs.Common.{◌≡◌, ◌≤◌, ◌*◌, ◌-◌, length}
-use Rattle.fp_prices.specs.Forced.{sum_below}
+use Rattle.fp_lists.specs.Below.{sum_below}
 use Rattle.fp_prices.proofs.ForcedSums.{set_cost}
 use Rattle.fp_prices.proofs.bases.bases.Given as goal
 

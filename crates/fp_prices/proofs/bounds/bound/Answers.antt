@@ -1,94 +1,40 @@
-use Rattle.std.proofs.Common.{◌≡◌, ℕ, List, length, sym, subst}
-use Rattle.std.specs.Prelude.{All, Bool, IfOk}
-use Rattle.fp_longestarcs.specs.Networks.{class_count}
+use Rattle.std.proofs.Common.{List, sym, subst}
+use Rattle.std.specs.Prelude.{IfOk}
+use Rattle.fp_model.specs.Problem.{Problem}
+use Rattle.fp_flatnet.specs.Belonging.{BelongsTo}
+use Rattle.fp_flatnet.specs.Tables.{windows_in}
+use Rattle.fp_longestarcs.specs.Networks.{points_in}
+use Rattle.fp_tree.specs.declared.sides.Side.{Side}
 use Rattle.fp_allowed.specs.Settings.{Setting}
-use Rattle.fp_model.specs.declared.parts.Leg.{Leg}
-use Rattle.fp_prices.specs.Forced.{AreRowsUnder}
-use Rattle.fp_prices.specs.Found.{IsFoundAtLeaf, IsPricedLeaf}
-use Rattle.fp_prices.specs.Pricings.{TellsForced}
-use Rattle.fp_prices.specs.Rows.{AreRowsOf}
-use Rattle.fp_prices.proofs.LeafFound.{base-fits, base-small, bound-exact, bound-plans, bound-small, leaf-priced, prepared, rows-long}
+use Rattle.fp_prices.specs.Leaves.{BoundsPlans, IsBoundOf, IsSmallBound}
+use Rattle.fp_prices.specs.Rounds.{LeafModel}
+use Rattle.fp_prices.specs.Tables.{AreTables}
+use Rattle.fp_prices.proofs.LeafBounds.{leaf-is}
+use Rattle.fp_prices.proofs.SamePoints.{bound-as_of}
 use Rattle.fp_prices.proofs.bounds.bound.Goals as goal
 
-pub forced_classes-requires-clause-under : goal.forced_classes-requires-clause-under
-forced_classes-requires-clause-under c =
-    (c.args.sides.now, subst (λ (l : List (List Bool)). AreRowsUnder c.new-allowed.result c.args.sides.now l) (sym c.deref.ensures.value) c.in_ok-rows.ensures.under)
+pub of-requires-2 : goal.of-requires-2
+of-requires-2 c = subst (λ (p : Problem). BelongsTo p c.args.windows.now) (sym c.in_ok-network.ensures.instance) c.requires.belongs
 
-pub leaf_pricing-requires-clause-long : goal.leaf_pricing-requires-clause-long
-leaf_pricing-requires-clause-long c =
-    let long : All (λ (row : List Bool). length row ≡ class_count c.new-allowed.result.network) c.in_ok-rows.rows.items = rows-long c.new-allowed.result c.args.sides.now c.in_ok-rows.rows.items c.in_ok-rows.ensures.under in
-    subst (λ (l : List (List Bool)). All (λ (row : List Bool). length row ≡ class_count c.in_ok-network.network) l) (sym c.deref-2.ensures.value)
-    (subst (λ (s : Setting). All (λ (row : List Bool). length row ≡ class_count s.network) c.in_ok-rows.rows.items) c.new-allowed.ensures long)
-
-pub bases-base-requires-clause-fits : goal.bases-base-requires-clause-fits
-bases-base-requires-clause-fits c =
-    let p = c.args.instance.now in
-    let net = c.in_ok-network.network in
-    let rows : List (List Bool) = c.in_ok-rows.rows.items in
-    let prep = prepared p c.args.windows.now net c.args.sides.now rows c.deref.result.now c.args.price.forced c.in_ok-forced.forced c.new-allowed.result c.new-allowed.ensures c.requires.belongs
-    c.in_ok-network.ensures.whole.whole c.in_ok-rows.ensures.under c.deref.ensures.value c.in_ok-forced.ensures in
-    base-fits p c.args.windows.now net c.args.sides.now rows c.args.price.forced c.in_ok-forced.forced prep
-
-pub value_over-requires-clause-priced : goal.value_over-requires-clause-priced
-value_over-requires-clause-priced c =
-    let p = c.args.instance.now in
-    let net = c.in_ok-network.network in
-    let rows : List (List Bool) = c.in_ok-rows.rows.items in
-    let prep = prepared p c.args.windows.now net c.args.sides.now rows c.deref.result.now c.args.price.forced c.in_ok-forced.forced c.new-allowed.result c.new-allowed.ensures c.requires.belongs
-    c.in_ok-network.ensures.whole.whole c.in_ok-rows.ensures.under c.deref.ensures.value c.in_ok-forced.ensures in
-    let prices = λ (allowed : ℕ → Leg → Bool) (chains : List (List Leg)) (are : AreRowsOf net allowed rows) (tells : TellsForced net chains c.in_ok-forced.forced.row).
-    c.in_ok-pricing.ensures.pricing allowed chains (subst (λ (l : List (List Bool)). AreRowsOf net allowed l) (sym c.deref-2.ensures.value) are) tells in
-    subst (IsPricedLeaf c.in_ok-pricing.pricing) (sym c.deref-3.ensures.value) (leaf-priced p c.args.windows.now net c.args.sides.now rows c.args.price.forced c.in_ok-forced.forced prep c.args.tables.now c.args.price.kind c.in_ok-pricing.pricing
-    c.in_ok-pricing.ensures.same.0 c.in_ok-pricing.ensures.same.1 prices)
-
-pub value_over-requires-clause-bases : goal.value_over-requires-clause-bases
-value_over-requires-clause-bases c =
-    let p = c.args.instance.now in
-    let net = c.in_ok-network.network in
-    let rows : List (List Bool) = c.in_ok-rows.rows.items in
-    let prep = prepared p c.args.windows.now net c.args.sides.now rows c.deref.result.now c.args.price.forced c.in_ok-forced.forced c.new-allowed.result c.new-allowed.ensures c.requires.belongs
-    c.in_ok-network.ensures.whole.whole c.in_ok-rows.ensures.under c.deref.ensures.value c.in_ok-forced.ensures in
-    let prices = λ (allowed : ℕ → Leg → Bool) (chains : List (List Leg)) (are : AreRowsOf net allowed rows) (tells : TellsForced net chains c.in_ok-forced.forced.row).
-    c.in_ok-pricing.ensures.pricing allowed chains (subst (λ (l : List (List Bool)). AreRowsOf net allowed l) (sym c.deref-2.ensures.value) are) tells in
-    base-small p c.args.windows.now net c.args.sides.now rows c.args.price.forced c.in_ok-forced.forced prep c.args.tables.now c.args.price.kind c.in_ok-pricing.pricing
-    c.in_ok-pricing.ensures.same.0 c.in_ok-pricing.ensures.same.1 prices c.bases-base.result c.bases-base.ensures
+pub bound-requires-clause-tables : goal.bound-requires-clause-tables
+bound-requires-clause-tables c =
+    let is = leaf-is c.args.instance.now c.args.windows.now c.args.sides.now c.in_ok-network.network c.in_ok-leaf.leaf c.in_ok-network.ensures.instance c.in_ok-leaf.ensures.setting c.in_ok-leaf.ensures.sides in
+    subst (λ (l : LeafModel). AreTables l.setting.problem c.args.tables.now) (sym is) c.requires.tables
 
 pub returns-clause-exact : goal.returns-clause-exact
 returns-clause-exact c =
     let p = c.args.instance.now in
-    let net = c.in_ok-network.network in
-    let rows : List (List Bool) = c.in_ok-rows.rows.items in
-    let prep = prepared p c.args.windows.now net c.args.sides.now rows c.deref.result.now c.args.price.forced c.in_ok-forced.forced c.new-allowed.result c.new-allowed.ensures c.requires.belongs
-    c.in_ok-network.ensures.whole.whole c.in_ok-rows.ensures.under c.deref.ensures.value c.in_ok-forced.ensures in
-    let prices = λ (allowed : ℕ → Leg → Bool) (chains : List (List Leg)) (are : AreRowsOf net allowed rows) (tells : TellsForced net chains c.in_ok-forced.forced.row).
-    c.in_ok-pricing.ensures.pricing allowed chains (subst (λ (l : List (List Bool)). AreRowsOf net allowed l) (sym c.deref-2.ensures.value) are) tells in
-    let promised = subst (λ (l : List (List Bool)). IfOk c.value_over.result (IsFoundAtLeaf c.in_ok-pricing.pricing l c.bases-base.result)) c.deref-3.ensures.value c.value_over.ensures in
-    bound-exact p c.args.windows.now net c.args.sides.now rows c.args.price.forced c.in_ok-forced.forced prep c.args.tables.now c.args.price.kind c.in_ok-pricing.pricing
-    c.in_ok-pricing.ensures.same.0 c.in_ok-pricing.ensures.same.1 prices c.bases-base.result c.value_over.result c.args.points.now c.args.price.round
-    c.bases-base.ensures c.in_ok-network.ensures.whole promised
+    let is = leaf-is p c.args.windows.now c.args.sides.now c.in_ok-network.network c.in_ok-leaf.leaf c.in_ok-network.ensures.instance c.in_ok-leaf.ensures.setting c.in_ok-leaf.ensures.sides in
+    bound-as_of p c.requires.belongs.valid (windows_in c.args.windows.now) c.args.points.now c.args.price.round c.in_ok-network.network.network c.in_ok-network.ensures.network c.args.sides.now c.args.tables.now c.args.price.kind c.args.price.forced
+    c.bound.result
+    (subst (λ (l : LeafModel). IfOk c.bound.result (IsBoundOf l.setting.problem (windows_in l.setting.windows) (points_in l.setting.network) l.sides c.args.tables.now c.args.price.kind c.args.price.forced)) is c.bound.ensures.exact)
 
 pub returns-clause-plans : goal.returns-clause-plans
 returns-clause-plans c =
-    let p = c.args.instance.now in
-    let net = c.in_ok-network.network in
-    let rows : List (List Bool) = c.in_ok-rows.rows.items in
-    let prep = prepared p c.args.windows.now net c.args.sides.now rows c.deref.result.now c.args.price.forced c.in_ok-forced.forced c.new-allowed.result c.new-allowed.ensures c.requires.belongs
-    c.in_ok-network.ensures.whole.whole c.in_ok-rows.ensures.under c.deref.ensures.value c.in_ok-forced.ensures in
-    let prices = λ (allowed : ℕ → Leg → Bool) (chains : List (List Leg)) (are : AreRowsOf net allowed rows) (tells : TellsForced net chains c.in_ok-forced.forced.row).
-    c.in_ok-pricing.ensures.pricing allowed chains (subst (λ (l : List (List Bool)). AreRowsOf net allowed l) (sym c.deref-2.ensures.value) are) tells in
-    let promised = subst (λ (l : List (List Bool)). IfOk c.value_over.result (IsFoundAtLeaf c.in_ok-pricing.pricing l c.bases-base.result)) c.deref-3.ensures.value c.value_over.ensures in
-    bound-plans p c.args.windows.now net c.args.sides.now rows c.args.price.forced c.in_ok-forced.forced prep c.args.tables.now c.args.price.kind c.in_ok-pricing.pricing
-    c.in_ok-pricing.ensures.same.0 c.in_ok-pricing.ensures.same.1 prices c.bases-base.result c.value_over.result c.bases-base.ensures c.requires.tables.rule promised
+    let is = leaf-is c.args.instance.now c.args.windows.now c.args.sides.now c.in_ok-network.network c.in_ok-leaf.leaf c.in_ok-network.ensures.instance c.in_ok-leaf.ensures.setting c.in_ok-leaf.ensures.sides in
+    subst (λ (l : LeafModel). IfOk c.bound.result (BoundsPlans l.setting.problem (windows_in l.setting.windows) l.sides)) is c.bound.ensures.plans
 
 pub returns-clause-small : goal.returns-clause-small
 returns-clause-small c =
-    let p = c.args.instance.now in
-    let net = c.in_ok-network.network in
-    let rows : List (List Bool) = c.in_ok-rows.rows.items in
-    let prep = prepared p c.args.windows.now net c.args.sides.now rows c.deref.result.now c.args.price.forced c.in_ok-forced.forced c.new-allowed.result c.new-allowed.ensures c.requires.belongs
-    c.in_ok-network.ensures.whole.whole c.in_ok-rows.ensures.under c.deref.ensures.value c.in_ok-forced.ensures in
-    let prices = λ (allowed : ℕ → Leg → Bool) (chains : List (List Leg)) (are : AreRowsOf net allowed rows) (tells : TellsForced net chains c.in_ok-forced.forced.row).
-    c.in_ok-pricing.ensures.pricing allowed chains (subst (λ (l : List (List Bool)). AreRowsOf net allowed l) (sym c.deref-2.ensures.value) are) tells in
-    let promised = subst (λ (l : List (List Bool)). IfOk c.value_over.result (IsFoundAtLeaf c.in_ok-pricing.pricing l c.bases-base.result)) c.deref-3.ensures.value c.value_over.ensures in
-    bound-small p c.args.windows.now net c.args.sides.now rows c.args.price.forced c.in_ok-forced.forced prep c.args.tables.now c.args.price.kind c.in_ok-pricing.pricing
-    c.in_ok-pricing.ensures.same.0 c.in_ok-pricing.ensures.same.1 prices c.bases-base.result c.value_over.result c.bases-base.ensures promised
+    let is = leaf-is c.args.instance.now c.args.windows.now c.args.sides.now c.in_ok-network.network c.in_ok-leaf.leaf c.in_ok-network.ensures.instance c.in_ok-leaf.ensures.setting c.in_ok-leaf.ensures.sides in
+    subst (λ (l : LeafModel). IfOk c.bound.result (IsSmallBound l.setting.problem)) is c.bound.ensures.small

@@ -1,6 +1,6 @@
 use Rattle.std.proofs.Common.{◌∙◌, arith}
 use Rattle.fp_prices.proofs.CostBounds.{classes-fit}
-use Rattle.fp_prices.proofs.ShipmentCosts.{classes-priced, costs-fit, costs-most, exact_ok, small_ok}
+use Rattle.fp_prices.proofs.ShipmentCosts.{classes-priced, costs-fit, costs-le_alone, exact_ok, small_ok}
 use Rattle.fp_longestarcs.specs.Networks.{point_count}
 use Rattle.fp_prices.proofs.bounds.shipment_cost.Goals as goal
 
@@ -18,7 +18,7 @@ least_cost-requires-clause-small c =
     let pricing = c.args.pricing.now in
     let priced = c.requires.priced in
     costs-fit pricing.instance.now c.args.shipment (point_count pricing.network.now) c.fill_costs.new.costs priced.is.valid c.requires.shipment c.requires.graph.few
-    (costs-most pricing c.args.shipment c.args.row.now c.args.graph.now c.fill_costs.new.costs c.requires.graph priced c.requires.shipment (c.fill_costs.auto.costs ∙ c.requires.edges)
+    (costs-le_alone pricing c.args.shipment c.args.row.now c.args.graph.now c.fill_costs.new.costs c.requires.graph priced c.requires.shipment (c.fill_costs.auto.costs ∙ c.requires.edges)
     (c.fill_costs.ensures.costs priced.tables priced.allowed priced.kind priced.chains priced.is priced.allows)
     (λ e from h. c.fill_costs.ensures.others e from ∙ c.requires.free e from (omega (arith, h, c.fill_costs.auto.costs))))
 
@@ -30,7 +30,7 @@ returns-clause-small c =
     let pricing = c.args.pricing.now in
     let priced = c.requires.priced in
     small_ok pricing.instance.now c.args.shipment (point_count pricing.network.now) c.fill_costs.new.costs c.least_cost.result c.requires.graph.few
-    (costs-most pricing c.args.shipment c.args.row.now c.args.graph.now c.fill_costs.new.costs c.requires.graph priced c.requires.shipment (c.fill_costs.auto.costs ∙ c.requires.edges)
+    (costs-le_alone pricing c.args.shipment c.args.row.now c.args.graph.now c.fill_costs.new.costs c.requires.graph priced c.requires.shipment (c.fill_costs.auto.costs ∙ c.requires.edges)
     (c.fill_costs.ensures.costs priced.tables priced.allowed priced.kind priced.chains priced.is priced.allows)
     (λ e from h. c.fill_costs.ensures.others e from ∙ c.requires.free e from (omega (arith, h, c.fill_costs.auto.costs))))
     c.least_cost.ensures.small

@@ -13,7 +13,7 @@ use Rattle.fp_prices.proofs.class_users.class_users.Goals as goal
 pub add_to-requires-clause-room : goal.add_to-requires-clause-room
 add_to-requires-clause-room c = rw c.deref_mut.ensures.value (λ k d h.
     let few : get_or c.loop-shipment.counts.items k d ≤ c.loop-shipment.shipment = c.loop-shipment.invariant.few k d h in
-    omega (arith, few, c.shipments.ensures.valid.few_shipments, ap (λ (l : List Shipment). length l) c.shipments.ensures.same))
+    omega (arith, few, c.shipments.ensures.valid.parts.few_shipments, ap (λ (l : List Shipment). length l) c.shipments.ensures.same))
 
 pub add_size-requires-clause-room : goal.add_size-requires-clause-room
 add_size-requires-clause-room c = rw c.deref_mut-in-loop-shipment.ensures.value (λ k d h.
@@ -21,8 +21,8 @@ add_size-requires-clause-room c = rw c.deref_mut-in-loop-shipment.ensures.value 
     let i : ℕ = c.loop-shipment.shipment in
     let small : get_or c.loop-shipment.sizes.items k d ≤ i * 10 ^ 18 = c.loop-shipment.invariant.small k d h in
     let exists : i < length p.shipments = omega (arith, ap (λ (l : List Shipment). length l) c.shipments.ensures.same) in
-    let size : (shipment_at p i).size ≤ 10 ^ 18 = (c.shipments.ensures.valid.shipments i no_shipment exists).within.size.1 in
-    omega (arith, small, size, exists, c.shipments.ensures.valid.few_shipments, ap (λ (s : Shipment). s.size) c.shipment.ensures.same))
+    let size : (shipment_at p i).size ≤ 10 ^ 18 = (c.shipments.ensures.valid.parts.shipments i no_shipment exists).within.size.1 in
+    omega (arith, small, size, exists, c.shipments.ensures.valid.parts.few_shipments, ap (λ (s : Shipment). s.size) c.shipment.ensures.same))
 
 pub loop-shipment-preserved : goal.loop-shipment-preserved
 loop-shipment-preserved c =
@@ -37,7 +37,7 @@ loop-shipment-preserved c =
     let as_long : length c.add_size.new.sizes ≡ length c.loop-shipment.sizes.items = c.add_size.auto.sizes ∙ ap (λ (l : List ℕ). length l) c.deref_mut-in-loop-shipment.ensures.value in
     let counts : c.add_to.new.counts ≡ added_bits c.loop-shipment.counts.items row = c.add_to.ensures ∙ ap (λ (l : List ℕ). added_bits l row) c.deref_mut.ensures.value in
     let more = users_more p c.args.rows.now c.args.classes i row c.loop-shipment.counts.items c.loop-shipment.sizes.items c.add_size.new.sizes exists inside is long
-    (c.shipments.ensures.valid.shipments i no_shipment exists).within.size.1 so_far as_long
+    (c.shipments.ensures.valid.parts.shipments i no_shipment exists).within.size.1 so_far as_long
     (λ n. c.add_size.ensures n ∙ ap (λ (l : List ℕ). get_or l n 0 + (if bit_of row n then c.shipment.result.now.size else 0)) c.deref_mut-in-loop-shipment.ensures.value ∙
     ap (λ (s : Shipment). get_or c.loop-shipment.sizes.items n 0 + (if bit_of row n then s.size else 0)) c.shipment.ensures.same) in
     let first = whole_write c.loop-shipment.counts.len c.add_to.new.counts (drop (length c.add_to.new.counts) c.loop-shipment.counts.items) (omega (arith, c.loop-shipment.counts.ok, so_far.counts_long, more.counts_long, ap (λ (l : List ℕ). length l) counts)) ∙ counts in

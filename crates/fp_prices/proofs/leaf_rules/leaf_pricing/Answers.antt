@@ -2,10 +2,10 @@ use Rattle.fp_prices.proofs.leaf_rules.leaf_pricing.Goals as goal
 
 pub returns-clause-pricing : goal.returns-clause-pricing
 returns-clause-pricing c = λ allowed chains are tells. record {
-  valid = c.linear_rates.ensures.valid;
+  valid = c.requires.valid;
   whole = c.requires.whole;
   keep = c.requires.tables.rule;
-  rates = c.in_ok-linear_rates.ensures.rates;
+  rates = c.requires.rates;
   rule = c.in_ok-rule_of.ensures allowed are;
   forced = tells;
 }

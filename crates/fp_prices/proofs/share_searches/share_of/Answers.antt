@@ -6,7 +6,7 @@ use Rattle.fp_model.specs.declared.parts.Leg.{Leg}
 use Rattle.fp_prices.specs.Searches.{is_share, precedes}
 use Rattle.fp_prices.specs.Shares.{ClassShare}
 use Rattle.fp_prices.specs.Tables.{no_share}
-use Rattle.fp_prices.proofs.Searched.{AreParted, share-found, share-missing, shares-parted}
+use Rattle.fp_prices.proofs.ShareSearches.{AreParted, share-found, share-missing, shares-parted}
 use Rattle.fp_prices.proofs.share_searches.share_of.Goals as goal
 use Rattle.fp_prices.proofs.share_searches.share_of.Goals.{else-place-shares-via-then-place-shares+else-is_of, else-place-shares-via-else-place-shares}
 

@@ -2,7 +2,7 @@ use Rattle.std.proofs.Common.{◌≡◌, ◌<◌, ◌≤◌, ◌⊎◌, ℕ, ltb
 use Rattle.std.proofs.lemmas.Bool.{cases_lt, cases_order, ltb-true, ltb-false}
 use Rattle.std.proofs.lemmas.List.Sorted.{IsPartitionPoint-from_clause, IsPartitionedBy-ltb}
 use Rattle.fp_prices.specs.declared.tables.Weight.{Weight}
-use Rattle.fp_prices.proofs.Searched.{weight_in-at, weight_in-none, weights-rise}
+use Rattle.fp_prices.proofs.ShareSearches.{weight_in-at, weight_in-none, weights-rise}
 use Rattle.fp_prices.proofs.share_searches.weight_of.Goals as goal
 use Rattle.fp_prices.proofs.share_searches.weight_of.Goals.{else-place-weights-via-then-place-weights+else-weights-place, else-place-weights-via-else-place-weights}
 

@@ -2,7 +2,7 @@ use Rattle.std.proofs.Common.{◌≡◌, ◌∙◌, ◌≤◌, ℕ, List, [], �
 use Rattle.csv.specs.Reading.{Reached, strip_bom}
 use Rattle.csv.specs.Records.{fields_of}
 use Rattle.fp_records.specs.Fields.{kept_records}
-use Rattle.fp_records.proofs.ReaderFacts.{ok-before_map_err, read-all, read-more}
+use Rattle.fp_records.proofs.ReaderFacts.{read-all, read-more}
 use Rattle.fp_records.proofs.RowFacts.{kept_records-append, length-kept_records, length-strip_bom}
 use Rattle.fp_records.proofs.reading.records.Goals as goal
 
@@ -15,6 +15,7 @@ loop-rows-init c =
       [],
       record {
         plain = rw (g, e) at made.trim ∙ c.new.ensures.trim;
+        flexible = rw g at made.flexible;
         ready = inr (inr (rw (g, e) at made.has_headers, made.headers));
         config = rw (g, e) at made.config ∙ c.new.ensures.config;
         rests = rw made.state refl;
@@ -27,26 +28,22 @@ pub loop-rows-preserved : goal.loop-rows-preserved
 loop-rows-preserved c =
     let inv = c.loop-rows.invariant in
     let f = fields_of c.read_byte_record.new.row in
-    let ok = ok-before_map_err _ c.read_byte_record.result c.map_err.result c.in_ok-map_err.field-0 c.map_err.ensures.cases c.map_err.ensures.variant c.in_ok-map_err.was in
-    let r = rw c.if-branch.true at ((rw ok at c.read_byte_record.ensures.reads) inv.1.plain inv.1.ready) in
-    let first = (rw ok at c.read_byte_record.ensures.ready) inv.1.plain in
-    let more = read-more (strip_bom c.args.bytes.now) inv.0 c.loop-rows.reader c.read_byte_record.new.self f inv.1 r first in
-    let added = rw c.in_ok-add_kept.was at c.add_kept.ensures in
-    (inv.0 ++ (f ∷ []), more.0, added ∙ ap (λ (xs : List (List (List ℕ))). xs ++ kept_records (f ∷ [])) inv.2 ∙ sym (kept_records-append inv.0 (f ∷ [])))
+    let told = c.in-Ok-true.ensures in
+    let r = rw c.in-Ok-true.field-0-test at (told.reads inv.1.plain inv.1.ready) in
+    let more = read-more (strip_bom c.args.bytes.now) inv.0 c.loop-rows.reader c.read_byte_record.new.self f inv.1 r (told.ready inv.1.plain) told.flexible in
+    (inv.0 ++ (f ∷ []), more.0, c.in_ok-add_kept-in-Ok-true.ensures ∙ ap (λ (xs : List (List (List ℕ))). xs ++ kept_records (f ∷ [])) inv.2 ∙ sym (kept_records-append inv.0 (f ∷ [])))
 
 pub loop-rows-smaller : goal.loop-rows-smaller
 loop-rows-smaller c =
     let inv = c.loop-rows.invariant in
-    let ok = ok-before_map_err _ c.read_byte_record.result c.map_err.result c.in_ok-map_err.field-0 c.map_err.ensures.cases c.map_err.ensures.variant c.in_ok-map_err.was in
-    let r = rw c.if-branch.true at ((rw ok at c.read_byte_record.ensures.reads) inv.1.plain inv.1.ready) in
-    let first = (rw ok at c.read_byte_record.ensures.ready) inv.1.plain in
-    (read-more (strip_bom c.args.bytes.now) inv.0 c.loop-rows.reader c.read_byte_record.new.self (fields_of c.read_byte_record.new.row) inv.1 r first).1
+    let told = c.in-Ok-true.ensures in
+    let r = rw c.in-Ok-true.field-0-test at (told.reads inv.1.plain inv.1.ready) in
+    (read-more (strip_bom c.args.bytes.now) inv.0 c.loop-rows.reader c.read_byte_record.new.self (fields_of c.read_byte_record.new.row) inv.1 r (told.ready inv.1.plain) told.flexible).1
 
-pub returns : goal.returns
-returns c =
+pub returns-in-Ok-false : goal.returns-in-Ok-false
+returns-in-Ok-false c =
     let inv = c.loop-rows.invariant in
-    let ok = ok-before_map_err _ c.read_byte_record.result c.map_err.result c.in_ok-map_err.field-0 c.map_err.ensures.cases c.map_err.ensures.variant c.in_ok-map_err.was in
-    let r = rw c.if-branch.false at ((rw ok at c.read_byte_record.ensures.reads) inv.1.plain inv.1.ready) in
+    let r = rw c.in-Ok-false.field-0-test at (c.in-Ok-false.ensures.reads inv.1.plain inv.1.ready) in
     let all = read-all (strip_bom c.args.bytes.now) inv.0 c.loop-rows.reader c.read_byte_record.new.self (fields_of c.read_byte_record.new.row) inv.1 r in
     record {
       all = inv.2 ∙ ap kept_records all.0;

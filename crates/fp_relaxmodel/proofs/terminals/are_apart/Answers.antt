@@ -1,4 +1,5 @@
 use Rattle.std.proofs.Common.{◌≡◌, ◌∙◌, ◌<◌, ap, arith, false, get_or, length, length-set, refl, replicate, true}
+use Rattle.fp_model.specs.declared.limits.TheConstants.{MOST_TERMINALS}
 use Rattle.fp_model.specs.declared.parts.Arc.{Arc}
 use Rattle.fp_model.specs.Problem.{arc_at}
 use Rattle.fp_relaxmodel.specs.declared.stops.Stop.{Stop}
@@ -8,8 +9,8 @@ use Rattle.fp_relaxmodel.proofs.terminals.are_apart.Goals as goal
 
 pub loop-stop-init : goal.loop-stop-init
 loop-stop-init c = record {
-  long = length-set (replicate 100 false) c.args.tail true;
-  decides = new-first 100 c.args.tail (entered_by c.args.instance.now c.args.stops.now) (omega (arith, c.requires.tail, c.terminals-known.ensures.valid.few_terminals)) refl;
+  long = length-set (replicate MOST_TERMINALS false) c.args.tail true;
+  decides = new-first MOST_TERMINALS c.args.tail (entered_by c.args.instance.now c.args.stops.now) (omega (arith, c.requires.tail, c.terminals-known.ensures.valid.parts.few_terminals)) refl;
 }
 
 pub arc-entered-requires : goal.arc-entered-requires

@@ -6,9 +6,9 @@ use Rattle.std.proofs.Math.Nat.{mod-eq_of_lt}
 use Rattle.std.proofs.lemmas.List.FromFn.{length-map-range_with_len}
 use Rattle.std.proofs.lemmas.Nat.Bits.{shr_and_one, bit_at-lt}
 use Rattle.fp_rows.specs.Words.{word_bits}
-use Rattle.fp_rows.proofs.AddedBits.{lanes_at, get_or-lanes_at, get_or-word_bits}
+use Rattle.fp_rows.proofs.WordLanes.{lanes_at, get_or-lanes_at, get_or-word_bits}
 use Rattle.fp_rows.proofs.Blocks.{combines-lanes}
-use Rattle.fp_rows.proofs.Combined.{combines-one, combines-all}
+use Rattle.fp_rows.proofs.WordPairs.{combines-one, combines-all}
 use Rattle.fp_rows.proofs.kernels.add_bits.Goals as goal
 
 pub loop-block-preserved : goal.loop-block-preserved

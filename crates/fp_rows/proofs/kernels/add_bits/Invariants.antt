@@ -1,7 +1,7 @@
 -- The counts before the block or the place are done.
 use Rattle.std.proofs.Common.{◌*◌, ◌+◌}
 use Rattle.fp_rows.specs.Words.{word_bits}
-use Rattle.fp_rows.proofs.Combined.{Combines}
+use Rattle.fp_rows.proofs.WordPairs.{Combines}
 use Rattle.fp_rows.proofs.kernels.add_bits.Given as goal
 
 abbrev pub invariant-loop-block : goal.invariant-loop-block

@@ -7,7 +7,7 @@ use Rattle.fp_rows.specs.Words.{without}
 use Rattle.std.specs.Simd.{first_chunks}
 use Rattle.std.specs.Simd.Lanes.{chunk}
 use Rattle.std.proofs.lemmas.Simd.{length-chunk, get_or-chunk}
-use Rattle.fp_rows.proofs.Combined.{combines-all}
+use Rattle.fp_rows.proofs.WordPairs.{combines-all}
 use Rattle.fp_rows.proofs.Blocks.{get_or-first_chunks, combines-lanes}
 use Rattle.fp_rows.proofs.kernels.and_not_words.Goals as goal
 

@@ -1,7 +1,7 @@
 -- The words before the block or the place are done.
 use Rattle.std.proofs.Common.{◌*◌}
 use Rattle.std.specs.Prelude.{bit_and}
-use Rattle.fp_rows.proofs.Combined.{Combines}
+use Rattle.fp_rows.proofs.WordPairs.{Combines}
 use Rattle.fp_rows.proofs.kernels.and_words.Given as goal
 
 abbrev pub invariant-loop-block : goal.invariant-loop-block

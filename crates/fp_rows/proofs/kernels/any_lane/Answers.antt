@@ -1,5 +1,5 @@
 -- The or of the lanes is not 0 exactly where one of them is not.
-use Rattle.fp_rows.proofs.AnySet.{set-fold}
+use Rattle.fp_rows.proofs.AnyWord.{set-fold}
 use Rattle.fp_rows.proofs.kernels.any_lane.Goals as goal
 
 pub returns : goal.returns

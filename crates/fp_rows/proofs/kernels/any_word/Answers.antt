@@ -4,7 +4,7 @@ use Rattle.std.specs.Prelude.{ℕ}
 use Rattle.std.specs.List.{list_any}
 use Rattle.std.specs.Simd.{first_chunks}
 use Rattle.fp_rows.specs.Words.{is_set}
-use Rattle.fp_rows.proofs.AnySet.{any-blocks}
+use Rattle.fp_rows.proofs.AnyWord.{any-blocks}
 use Rattle.fp_rows.proofs.kernels.any_word.Goals as goal
 
 pub returns-then-any_block : goal.returns-then-any_block

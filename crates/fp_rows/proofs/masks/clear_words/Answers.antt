@@ -4,7 +4,7 @@ use Rattle.std.specs.Prelude.{ℕ, Bool, ◌&&◌, not, bit_and}
 use Rattle.std.specs.Int.{bit_not, w64}
 use Rattle.fp_rows.specs.Words.{is_within}
 use Rattle.fp_rows.proofs.OneBit.{has_bit, has_bit-and, has_bit-not}
-use Rattle.fp_rows.proofs.Masked.{changes-more, has_bit-cond}
+use Rattle.fp_rows.proofs.RangeMasks.{changes-more, has_bit-cond}
 use Rattle.fp_rows.proofs.masks.clear_words.Goals as goal
 
 pub loop-word-preserved : goal.loop-word-preserved

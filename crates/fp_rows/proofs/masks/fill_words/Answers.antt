@@ -3,7 +3,7 @@ use Rattle.std.proofs.Common.{◌*◌, ◌+◌, get_or, ap, ◌∙◌, arith}
 use Rattle.std.specs.Prelude.{ℕ, Bool, ◌||◌, bit_or}
 use Rattle.fp_rows.specs.Words.{is_within}
 use Rattle.fp_rows.proofs.OneBit.{has_bit, has_bit-or}
-use Rattle.fp_rows.proofs.Masked.{changes-more, has_bit-cond}
+use Rattle.fp_rows.proofs.RangeMasks.{changes-more, has_bit-cond}
 use Rattle.fp_rows.proofs.masks.fill_words.Goals as goal
 
 pub loop-word-preserved : goal.loop-word-preserved

@@ -2,7 +2,7 @@
 use Rattle.std.proofs.Common.{◌<◌, ◌^◌, get_or, arith}
 use Rattle.std.specs.Prelude.{ℕ, bit_and}
 use Rattle.std.proofs.lemmas.Nat.{and_le_r}
-use Rattle.fp_rows.proofs.FirstIn.{first-left, none-left}
+use Rattle.fp_rows.proofs.FirstInRange.{first-left, none-left}
 use Rattle.fp_rows.proofs.masks.first_in.Goals as goal
 
 pub returns-then-left-ne0 : goal.returns-then-left-ne0

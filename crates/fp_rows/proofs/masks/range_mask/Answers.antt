@@ -1,7 +1,7 @@
 -- The ones below the end of the range, without those below its start.
 use Rattle.std.proofs.Common.{◌≡◌, ◌-◌, ◌*◌, min, ap, ◌∙◌}
 use Rattle.std.specs.Prelude.{ℕ}
-use Rattle.fp_rows.proofs.Masked.{mask-within}
+use Rattle.fp_rows.proofs.RangeMasks.{mask-within}
 use Rattle.fp_rows.proofs.masks.range_mask.Goals as goal
 
 pub returns : goal.returns

@@ -1,6 +1,6 @@
 -- The bits of one more word are added.
 use Rattle.std.proofs.Common.{◌-◌, ◌*◌, min, length, arith}
-use Rattle.fp_rows.proofs.AddedWords.{words-more, words-all}
+use Rattle.fp_rows.proofs.LaneCounts.{words-more, words-all}
 use Rattle.fp_rows.proofs.whole_rows.add_words.Goals as goal
 
 pub loop-place-preserved : goal.loop-place-preserved

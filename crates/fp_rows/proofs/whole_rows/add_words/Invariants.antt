@@ -2,7 +2,7 @@
 use Rattle.std.proofs.Common.{◌+◌, ◌*◌, min, length, map}
 use Rattle.fp_rows.specs.Words.{bits}
 use Rattle.fp_rows.specs.Bits.{as_one}
-use Rattle.fp_rows.proofs.Combined.{Combines}
+use Rattle.fp_rows.proofs.WordPairs.{Combines}
 use Rattle.fp_rows.proofs.whole_rows.add_words.Given as goal
 
 abbrev pub invariant-loop-place : goal.invariant-loop-place

@@ -1,6 +1,6 @@
 -- A bit is set exactly where a word is not 0.
 use Rattle.std.proofs.Common.{◌∙◌}
-use Rattle.fp_rows.proofs.Counted.{row-any}
+use Rattle.fp_rows.proofs.BitCounts.{row-any}
 use Rattle.fp_rows.proofs.whole_rows.any_bit.Goals as goal
 
 pub returns : goal.returns

@@ -4,7 +4,7 @@ use Rattle.std.specs.Prelude.{ℕ, List, Bool}
 use Rattle.std.proofs.lemmas.List.Sums.{count_by-le-length}
 use Rattle.fp_rows.specs.Words.{bits}
 use Rattle.fp_rows.proofs.BitsIn.{length-bits}
-use Rattle.fp_rows.proofs.Counted.{row-ones}
+use Rattle.fp_rows.proofs.BitCounts.{row-ones}
 use Rattle.fp_rows.proofs.whole_rows.count_bits.Goals as goal
 
 pub count_words-requires : goal.count_words-requires

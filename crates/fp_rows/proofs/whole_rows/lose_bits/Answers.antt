@@ -2,7 +2,7 @@
 use Rattle.std.proofs.Common.{ap, ◌∙◌}
 use Rattle.std.specs.Prelude.{ℕ, List}
 use Rattle.fp_rows.specs.Words.{bit_in}
-use Rattle.fp_rows.proofs.Rewritten.{and-not-made}
+use Rattle.fp_rows.proofs.BitChanges.{and-not-made}
 use Rattle.fp_rows.proofs.whole_rows.lose_bits.Goals as goal
 
 pub returns : goal.returns

@@ -4,7 +4,7 @@ use Rattle.std.proofs.lemmas.List.{get_or_default}
 use Rattle.fp_timenodes.specs.declared.places.Place.{Place}
 use Rattle.fp_timenodes.specs.declared.timelines.Stamp.{Stamp}
 use Rattle.fp_timenodes.specs.Stamps.{IncludesPoint}
-use Rattle.fp_timenodes.proofs.Started.{start-more}
+use Rattle.fp_timenodes.proofs.StartPoints.{StartAt-one_more}
 use Rattle.fp_timenodes.proofs.point_table.timelines_of.Goals as goal
 
 pub loop-place-preserved : goal.loop-place-preserved
@@ -18,4 +18,4 @@ loop-place-preserved c =
     let room : place.terminal < length timelines = omega (arith, c.loop-place.invariant.count) in
     let read : get_or timelines place.terminal [] ≡ c.index_mut-timeline.result.now = get_or_default timelines place.terminal [] c.index_mut-timeline.result.now room ∙ sym c.index_mut-timeline.ensures.value in
     let includes = subst (λ (l : List Stamp). IncludesPoint l c.include.new.self place.at 0) (sym read) c.in_ok-include.ensures.points in
-    start-more c.args.terminals places c.loop-place.place-index none timelines c.include.new.self here within c.loop-place.invariant includes c.in_ok-include.ensures.rounds
+    StartAt-one_more c.args.terminals places c.loop-place.place-index none timelines c.include.new.self here within c.loop-place.invariant includes c.in_ok-include.ensures.rounds

@@ -2,10 +2,10 @@ use Rattle.std.proofs.Common.{List, subst, rules}
 use Rattle.std.specs.List.Sorted.{IsPermutation}
 use Rattle.std.proofs.lemmas.List.Sorted.{IsNonDecreasingBy-from_sort, answers_always}
 use Rattle.fp_timetable.specs.declared.lines.LegLine.{LegLine}
-use Rattle.fp_timetable.proofs.Apart.{leg_rank}
-use Rattle.fp_timetable.proofs.Existing.{legs_exist}
-use Rattle.fp_timetable.proofs.OfPlans.{IsReady, IsReady-plan}
-use Rattle.fp_timetable.proofs.Ordered.{AreLegLines-sorted}
+use Rattle.fp_timetable.proofs.LineRanks.{leg_rank}
+use Rattle.fp_timetable.proofs.ExistingLines.{LegExists-plan}
+use Rattle.fp_timetable.proofs.PlanLegs.{IsReady, IsReady-plan}
+use Rattle.fp_timetable.proofs.OrderedLines.{AreLegLines-sorted}
 use Rattle.fp_timetable.proofs.ReadBack.{routes_from-lines}
 use Rattle.fp_timetable.proofs.leg_lines.legs.Goals as goal
 
@@ -24,4 +24,4 @@ returns-clause-routes c =
 
 pub returns-clause-exist : goal.returns-clause-exist
 returns-clause-exist c =
-    legs_exist c.args.instance.now c.args.plan.now c.sort_unstable_by_key.new.self.items c.in_ok-lines.ensures.valid c.requires (returns-clause-lines c)
+    LegExists-plan c.args.instance.now c.args.plan.now c.sort_unstable_by_key.new.self.items c.in_ok-lines.ensures.valid c.requires (returns-clause-lines c)

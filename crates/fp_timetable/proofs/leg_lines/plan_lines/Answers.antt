@@ -1,4 +1,4 @@
-use Rattle.fp_timetable.proofs.OfPlans.{AreReady, AreReady-plan}
+use Rattle.fp_timetable.proofs.PlanLegs.{AreReady, AreReady-plan}
 use Rattle.fp_timetable.proofs.leg_lines.plan_lines.Goals as goal
 
 pub all_lines-requires-clause-few : goal.all_lines-requires-clause-few

@@ -3,7 +3,7 @@ use Rattle.std.specs.List.Sorted.{IsPermutation}
 use Rattle.std.proofs.lemmas.List.Sorted.{IsNonDecreasingBy-from_sort, answers_always}
 use Rattle.fp_timetable.specs.declared.lines.LegLine.{LegLine}
 use Rattle.fp_timetable.specs.Order.{departure_rank}
-use Rattle.fp_timetable.proofs.Ordered.{legs-exist}
+use Rattle.fp_timetable.proofs.OrderedLines.{LineExists-plan}
 use Rattle.fp_timetable.proofs.truck_lines.by_departure.Goals as goal
 
 pub returns-clause-sorted : goal.returns-clause-sorted
@@ -14,5 +14,5 @@ returns-clause-sorted c =
 pub returns-clause-exist : goal.returns-clause-exist
 returns-clause-exist c =
     let legs : List LegLine = c.sort_unstable_by_key.new.self.items in
-    legs-exist c.args.instance.now c.args.plan.now legs c.in_ok-legs.ensures.valid c.requires
+    LineExists-plan c.args.instance.now c.args.plan.now legs c.in_ok-legs.ensures.valid c.requires
     (subst (λ (all : List LegLine). IsPermutation all legs) c.in_ok-legs.ensures.lines c.sort_unstable_by_key.ensures.permutation)

@@ -5,7 +5,7 @@ use Rattle.fp_model.specs.Problem.{Problem}
 use Rattle.fp_timetable.specs.declared.lines.LegLine.{LegLine}
 use Rattle.fp_timetable.specs.declared.lines.TruckLine.{TruckLine}
 use Rattle.fp_timetable.specs.Order.{Adds}
-use Rattle.fp_timetable.proofs.Merging.{merged_more, no_leg_line}
+use Rattle.fp_timetable.proofs.MergedLegs.{merged_more, no_leg_line}
 use Rattle.fp_timetable.proofs.truck_lines.merged.Goals as goal
 
 pub loop-leg-preserved : goal.loop-leg-preserved
@@ -16,7 +16,7 @@ loop-leg-preserved c =
     let l : LegLine = get_or legs i no_leg_line in
     let old : List TruckLine = c.loop-leg.lines.items in
     let new : List TruckLine = c.add.new.lines.items in
-    let narrow : l.arc < 2 ^ 32 = omega (arith, (c.requires.exist i no_leg_line (omega arith)).0, c.shipment.ensures.valid.few_arcs) in
+    let narrow : l.arc < 2 ^ 32 = omega (arith, (c.requires.exist i no_leg_line (omega arith)).0, c.shipment.ensures.valid.parts.few_arcs) in
     let adds : Adds l (shipment_at p l.shipment).size old new =
     subst (λ (s : Shipment). Adds l s.size old new) c.shipment.ensures.same c.in_ok-add.ensures.ok in
     record {

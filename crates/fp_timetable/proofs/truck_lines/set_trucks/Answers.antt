@@ -3,7 +3,7 @@ use Rattle.std.specs.Int.{div_ceil}
 use Rattle.fp_model.specs.declared.parts.Arc.{Arc}
 use Rattle.fp_timetable.specs.declared.lines.TruckLine.{TruckLine}
 use Rattle.fp_timetable.specs.Order.{no_line, with_trucks}
-use Rattle.fp_timetable.proofs.Adding.{set-more}
+use Rattle.fp_timetable.proofs.AddedLegs.{set-more}
 use Rattle.fp_timetable.proofs.truck_lines.set_trucks.Goals as goal
 
 pub loop-line-preserved : goal.loop-line-preserved

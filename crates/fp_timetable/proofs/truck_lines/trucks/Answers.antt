@@ -4,8 +4,8 @@ use Rattle.fp_timetable.specs.declared.lines.LegLine.{LegLine}
 use Rattle.fp_timetable.specs.declared.lines.TruckLine.{TruckLine}
 use Rattle.fp_timetable.specs.Lines.{AreTruckLines}
 use Rattle.fp_timetable.specs.Order.{AreMerged, with_trucks}
-use Rattle.fp_timetable.proofs.Existing.{trucks_exist}
-use Rattle.fp_timetable.proofs.Ordered.{AreGathered, AreTruckLines-gathered, gathered-plan, whole}
+use Rattle.fp_timetable.proofs.ExistingLines.{TruckExists-plan}
+use Rattle.fp_timetable.proofs.OrderedLines.{AreGathered, AreTruckLines-gathered, gathered-plan, whole}
 use Rattle.fp_timetable.proofs.truck_lines.trucks.Goals as goal
 
 pub set_trucks-requires : goal.set_trucks-requires
@@ -27,7 +27,7 @@ returns-clause-lines c =
     c.set_trucks.ensures ∙ ap (map (with_trucks c.args.instance.now)) c.as_mut_slice.ensures.value in
     let all : AreTruckLines c.args.instance.now c.args.plan.now c.set_trucks.new.lines =
     subst (λ (xs : List TruckLine). AreTruckLines c.args.instance.now c.args.plan.now xs) (sym set)
-    (AreTruckLines-gathered c.args.instance.now c.args.plan.now lines c.in_ok-legs.ensures.valid.few_arcs gathered) in
+    (AreTruckLines-gathered c.args.instance.now c.args.plan.now lines c.in_ok-legs.ensures.valid.parts.few_arcs gathered) in
     let long : length (map (with_trucks c.args.instance.now) lines) ≡ length lines = rw length-map refl in
     subst (λ (xs : List TruckLine). AreTruckLines c.args.instance.now c.args.plan.now xs)
     (sym (whole c.in_ok-lines.lines.len c.set_trucks.new.lines lines (ap length set ∙ long) (omega (arith, c.in_ok-lines.lines.ok))))
@@ -35,4 +35,4 @@ returns-clause-lines c =
 
 pub returns-clause-exist : goal.returns-clause-exist
 returns-clause-exist c =
-    trucks_exist c.args.instance.now c.args.plan.now _ c.in_ok-legs.ensures.valid c.requires (returns-clause-lines c)
+    TruckExists-plan c.args.instance.now c.args.plan.now _ c.in_ok-legs.ensures.valid c.requires (returns-clause-lines c)

@@ -1,6 +1,6 @@
 use Rattle.std.proofs.Common.{◌≡◌, ℕ, length, subst, arith}
 use Rattle.fp_tree.specs.declared.layout.LeafState.{LeafState}
-use Rattle.fp_tree.proofs.Best.{IsBestOf, IsBestOf-none}
+use Rattle.fp_tree.proofs.BestLeaf.{IsBestOf, IsBestOf-none}
 use Rattle.fp_tree.proofs.reads.best_open_of.Goals as goal
 
 pub returns-clause-none : goal.returns-clause-none

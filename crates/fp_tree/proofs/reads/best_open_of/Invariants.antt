@@ -1,5 +1,5 @@
 use Rattle.fp_tree.specs.declared.layout.LeafState.{LeafState}
-use Rattle.fp_tree.proofs.Best.{IsBestOf}
+use Rattle.fp_tree.proofs.BestLeaf.{IsBestOf}
 use Rattle.fp_tree.proofs.reads.best_open_of.Given as goal
 
 -- the best of the leaves that were passed

@@ -1,4 +1,4 @@
-use Rattle.fp_allowed.proofs.Chosen.{forced_under}
+use Rattle.fp_allowed.proofs.RowsUnderSides.{forced_under}
 use Rattle.fp_allowed.proofs.classes.Allowed.forced.Goals as goal
 
 pub returns : goal.returns

@@ -6,9 +6,9 @@ use Rattle.std.specs.declared.alloc.Global.{Global}
 use Rattle.std.specs.declared.vec.Vec.{Vec}
 use Rattle.fp_flatnet.specs.declared.window_tables.Window.{Window}
 use Rattle.fp_flatnet.specs.Belonging.{BelongsTo}
-use Rattle.fp_flatnet.specs.Tables.{WindowTable, CanNarrow, rows_of, with_entry}
-use Rattle.fp_flatnet.proofs.Belonging.{BelongsTo-narrowed}
-use Rattle.fp_flatnet.proofs.Entries.{can_narrow-exists, table_of}
+use Rattle.fp_flatnet.specs.Tables.{WindowTable, CanNarrow, with_entry, row_lists}
+use Rattle.fp_flatnet.proofs.WindowChanges.{BelongsTo-narrowed}
+use Rattle.fp_flatnet.proofs.WindowEntries.{can_narrow-exists, table_of}
 use Rattle.fp_flatnet.proofs.window_tables.Windows.narrow.Goals as goal
 
 pub index-terminal-requires : goal.index-terminal-requires
@@ -28,7 +28,7 @@ returns-clause-ok c =
     let there = can_narrow-exists inside.tails.items inside.rows.items inside.anchors.items c.args.shipment c.args.arc c.args.lo c.args.hi c.self.invariant can in
     let tail : terminal ≡ slice_index inside.tails.items c.args.arc = c.index-terminal.ensures ∙ get_or_default inside.tails.items c.args.arc terminal 0 there.2 in
     let pushed = c.in_ok-push.ensures.items in
-    let set : rows_of c.set_entry.new.rows ≡ with_entry (rows_of inside.rows.items) c.args.shipment c.args.arc (Some (record { lo = c.args.lo; hi = c.args.hi })) =
+    let set : row_lists c.set_entry.new.rows ≡ with_entry (row_lists inside.rows.items) c.args.shipment c.args.arc (Some (record { lo = c.args.lo; hi = c.args.hi })) =
     rw c.deref_mut.ensures.value at c.set_entry.ensures.set in
     grind (arith, common_steps, with_items_is {X = Vec (Option Window) Global} {Z = Global})
 

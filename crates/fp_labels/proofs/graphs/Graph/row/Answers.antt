@@ -1,6 +1,6 @@
 use Rattle.std.proofs.Common.{◌+◌, ◌<◌, rules, arith}
 use Rattle.std.proofs.lemmas.List.{get_or_read}
-use Rattle.fp_labels.proofs.Placing.{row_is_ordered, row_is_inside, row_is_row}
+use Rattle.fp_labels.proofs.TailRows.{row_is_ordered, row_is_inside, row_is_row}
 use Rattle.fp_labels.proofs.graphs.Graph.row.Goals as goal
 
 pub part-requires : goal.part-requires

@@ -4,7 +4,7 @@ use Rattle.std.specs.BinaryHeap.{heap_items}
 use Rattle.fp_labels.specs.declared.settling.Search.{Search}
 use Rattle.fp_labels.specs.Walks.{cost_of}
 use Rattle.fp_labels.specs.Searches.{IsSearch, IsLast}
-use Rattle.fp_labels.proofs.Improving.{barred_done, improved_done, improves_len, small_at, all_done}
+use Rattle.fp_labels.proofs.EdgeRelaxation.{barred_done, improved_done, improves_len, small_at, all_done}
 use Rattle.fp_labels.proofs.settling.Search.relax.Goals as goal
 use Rattle.fp_labels.proofs.settling.Search.relax.Goals.{in-Some+in_ok-improve, in_default}
 

@@ -7,7 +7,7 @@ use Rattle.std.proofs.lemmas.List.{get_or_read}
 use Rattle.fp_labels.specs.declared.walks.Label.{Label}
 use Rattle.fp_labels.specs.declared.settling.Search.{Search}
 use Rattle.fp_labels.specs.Searches.{Entry, IsQueue, entry_cmp}
-use Rattle.fp_labels.proofs.Queues.{Pops, pops}
+use Rattle.fp_labels.proofs.Queues.{Pops, IsQueue-pop}
 use Rattle.fp_labels.proofs.settling.Search.settle_next.Goals as goal
 
 -- what follows of a search whose labels and settled nodes are as they were
@@ -15,7 +15,7 @@ pops_now : (now old : Search) (rest : List Entry) (x : Entry) → now.labels ≡
     IsQueue now.labels.items now.settled.items (heap_items now.queue) → IsPermutation (heap_items now.queue) (x ∷ rest) → PopsGreatest entry_cmp (heap_items now.queue) x rest →
     (IsHeap entry_cmp (heap_items now.queue) → IsUpperBound entry_cmp x rest) → Pops now.labels.items now.settled.items rest x
 pops_now now old rest x labels settled len =
-    pops now.labels.items now.settled.items (heap_items now.queue) rest x
+    IsQueue-pop now.labels.items now.settled.items (heap_items now.queue) rest x
     (ap (λ (v : Vec Bool Global). length v.items) settled ∙ len ∙ sym (ap (λ (v : Vec (Option Label) Global). length v.items) labels))
 
 pub index-requires : goal.index-requires

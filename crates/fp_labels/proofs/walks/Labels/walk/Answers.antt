@@ -3,7 +3,7 @@ use Rattle.std.specs.Prelude.{Option, IfOk}
 use Rattle.std.proofs.lemmas.List.{length-map}
 use Rattle.fp_labels.specs.declared.walks.Label.{Label}
 use Rattle.fp_labels.specs.Labels.{Distances, traced, walk_to}
-use Rattle.fp_labels.proofs.Tracing.{walk_told}
+use Rattle.fp_labels.proofs.WalksBack.{walk_told}
 use Rattle.fp_labels.proofs.walks.Labels.walk.Goals as goal
 
 pub returns : goal.returns

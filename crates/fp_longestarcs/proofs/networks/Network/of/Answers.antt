@@ -5,18 +5,19 @@ use Rattle.std.specs.declared.vec.Vec.{Vec}
 use Rattle.std.proofs.lemmas.List.{take_at, length-map}
 use Rattle.fp_model.specs.Problem.{Problem}
 use Rattle.fp_longestarcs.specs.Networks.{TimedNetwork}
-use Rattle.fp_longestarcs.specs.Vectors.{AreOffsets, lists_of, network_of}
-use Rattle.fp_longestarcs.specs.Whole.{tails_of, heads_of}
-use Rattle.fp_longestarcs.proofs.FourProperties.{has-properties}
-use Rattle.fp_longestarcs.proofs.Made.{tails-within, made-whole}
+use Rattle.fp_longestarcs.specs.Vectors.{AreOffsets, network_of}
+use Rattle.fp_lists.specs.Vectors.{lists_of}
+use Rattle.fp_longestarcs.specs.Whole.{heads_of, arc_tails}
+use Rattle.fp_longestarcs.proofs.FourProperties.{HasProperties-network}
+use Rattle.fp_longestarcs.proofs.WholeNetworks.{tails-within, IsWholeNetwork-parts}
 use Rattle.fp_longestarcs.proofs.PointCounts.{count-made}
 use Rattle.fp_longestarcs.proofs.networks.Network.of.Goals as goal
 
 pub count_classes-requires-clause-tails : goal.count_classes-requires-clause-tails
 count_classes-requires-clause-tails c k d h =
     let p : Problem = c.args.instance.now in
-    let tails : c.deref-2.result.now ≡ tails_of p.arcs = c.deref-2.ensures.value ∙ c.in_ok-tails.ensures in
-    let one : get_or c.deref-2.result.now k d ≡ get_or (tails_of p.arcs) k d = ap (λ (l : List ℕ). get_or l k d) tails in
+    let tails : c.deref-2.result.now ≡ arc_tails p.arcs = c.deref-2.ensures.value ∙ c.in_ok-tails.ensures in
+    let one : get_or c.deref-2.result.now k d ≡ get_or (arc_tails p.arcs) k d = ap (λ (l : List ℕ). get_or l k d) tails in
     let many : length c.deref-3.result.now ≡ length (lists_of c.in_ok-times.times.items) =
     ap (λ (l : List (Vec ℕ Global)). length l) c.deref-3.ensures.value ∙ sym (length-map c.in_ok-times.times.items (λ (v : Vec ℕ Global). v.items)) in
     omega (arith, tails-within p c.terminals.ensures.valid k d (omega (arith, ap (λ (l : List ℕ). length l) tails)), one, many, c.in_ok-times.ensures.count, ap (λ (l : List (List ℕ)). length l) c.terminals.ensures.same)
@@ -29,13 +30,13 @@ returns-clause-whole c =
     let heads : net.heads ≡ heads_of p (λ t. get_or (lists_of c.in_ok-times.times.items) t []) =
     c.in_ok-heads.ensures ∙ ap (λ (l : List (Vec ℕ Global)). heads_of p (λ t. get_or (lists_of l) t [])) c.deref.ensures.value in
     record {
-      whole = made-whole p net c.terminals.ensures.valid (record { tails = c.in_ok-tails.ensures; terminals = c.in_ok-times.ensures.count ∙ terminals }) c.in_ok-times.ensures.are heads;
+      whole = IsWholeNetwork-parts p net c.terminals.ensures.valid (record { tails = c.in_ok-tails.ensures; terminals = c.in_ok-times.ensures.count ∙ terminals }) c.in_ok-times.ensures.are heads;
       points = λ terminal h. c.in_ok-times.ensures.same terminal (omega (arith, h, terminals));
     }
 
 pub returns-clause-properties : goal.returns-clause-properties
 returns-clause-properties c =
-    has-properties c.args.instance.now c.args.points.now c.args.round (network_of c.in_ok-tails.tails.items c.in_ok-times.times.items c.in_ok-heads.heads.items) c.terminals.ensures.valid (returns-clause-whole c)
+    HasProperties-network c.args.instance.now c.args.points.now c.args.round (network_of c.in_ok-tails.tails.items c.in_ok-times.times.items c.in_ok-heads.heads.items) c.terminals.ensures.valid (returns-clause-whole c)
 
 pub returns-clause-few : goal.returns-clause-few
 returns-clause-few c =

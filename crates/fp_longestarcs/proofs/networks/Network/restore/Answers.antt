@@ -4,7 +4,7 @@ use Rattle.std.proofs.lemmas.List.{take_at}
 use Rattle.fp_longestarcs.specs.Networks.{TimedNetwork, IsNetwork}
 use Rattle.fp_longestarcs.specs.Vectors.{network_of}
 use Rattle.fp_longestarcs.specs.Changes.{restored}
-use Rattle.fp_longestarcs.proofs.Grown.{restored-valid}
+use Rattle.fp_longestarcs.proofs.NewPoints.{restored-valid}
 use Rattle.fp_longestarcs.proofs.networks.Network.restore.Goals as goal
 
 pub invariant_of-self : goal.invariant_of-self

@@ -26,14 +26,14 @@ overflow_mul-linear c =
     let priced = c.requires.priced in
     let at : class_at net c.args.class ≡ here = ap (class_at net) c.requires.number ∙ class_at-number net here priced.is.whole.valid c.requires.class in
     let exists : c.args.arc < length p.arcs = class-exists p net here priced.is.whole c.requires.class in
-    let linear : c.from.result * c.index.result.now ≡ linear_price p.scale (arc_at p c.args.arc) (shipment_at p c.args.shipment).size =
-    ap (λ (n : ℕ). n * c.index.result.now) (c.from.ensures ∙ c.requires.size)
-    ∙ ap (λ (n : ℕ). (shipment_at p c.args.shipment).size * n) (rate-at p pricing.rates.items c.args.arc c.index.result.now priced.is.rates exists c.index.ensures) in
+    let linear : c.from.result * get_or pricing.rates.now c.args.arc 0 ≡ linear_price p.scale (arc_at p c.args.arc) (shipment_at p c.args.shipment).size =
+    ap (λ (n : ℕ). n * get_or pricing.rates.now c.args.arc 0) (c.from.ensures ∙ c.requires.size)
+    ∙ ap (λ (n : ℕ). (shipment_at p c.args.shipment).size * n) (rate-at p pricing.rates.now c.args.arc priced.is.rates exists) in
     let fits = priced-fits pricing c.args.shipment c.args.class here Linear c.requires.shipment priced at exists in
     omega (arith, linear, fits)
 
-pub index-requires-in-InParts : goal.index-requires-in-InParts
-index-requires-in-InParts c =
+pub index-requires : goal.index-requires
+index-requires c =
     let pricing = c.args.self.now in
     let p = pricing.instance.now in
     let net = pricing.network.now in
@@ -41,8 +41,8 @@ index-requires-in-InParts c =
     let are = rule-users p net priced.tables priced.allowed priced.kind c.in-InParts.users (subst (λ (r : Rule). IsRuleOf p net priced.tables priced.allowed priced.kind r) c.in-InParts.is priced.is.rule) in
     omega (arith, c.requires.number, number-within net (record { arc = c.args.arc; depart = c.args.point }) priced.is.whole.valid c.requires.class, are.counts_long, c.in-InParts.users.counts.ok)
 
-pub index-requires-in-InParts-2 : goal.index-requires-in-InParts-2
-index-requires-in-InParts-2 c =
+pub index-requires-in-InParts : goal.index-requires-in-InParts
+index-requires-in-InParts c =
     let pricing = c.args.self.now in
     let p = pricing.instance.now in
     let net = pricing.network.now in
@@ -61,7 +61,7 @@ even_price-requires-clause-some c =
     let at : class_at net c.args.class ≡ here = ap (class_at net) c.requires.number ∙ class_at-number net here priced.is.whole.valid c.requires.class in
     let allows : priced.allowed c.args.shipment here ≡ true = subst (λ (e : Leg). priced.allowed c.args.shipment e ≡ true) at priced.allows in
     let inside : c.args.class < length c.in-InParts.users.counts.items = omega (arith, c.requires.number, number-within net here priced.is.whole.valid c.requires.class, are.counts_long) in
-    let read = get_or_read c.in-InParts.users.counts.items c.args.class c.index-in-InParts.result.now inside c.index-in-InParts.ensures 0 in
+    let read = get_or_read c.in-InParts.users.counts.items c.args.class c.index.result.now inside c.index.ensures 0 in
     omega (
       arith,
       read,
@@ -105,10 +105,10 @@ returns-in-InParts c = λ tables allowed kind chains is.
     let rule = subst (λ (r : Rule). IsRuleOf p net tables allowed kind r) c.in-InParts.is is.rule in
     let are = rule-users p net tables allowed kind users rule in
     let exists : c.args.arc < length p.arcs = class-exists p net here is.whole c.requires.class in
-    let linear : c.from.result * c.index.result.now ≡ linear_price p.scale (arc_at p c.args.arc) c.args.size =
-    ap (λ (n : ℕ). n * c.index.result.now) c.from.ensures ∙ ap (λ (n : ℕ). c.args.size * n) (rate-at p pricing.rates.items c.args.arc c.index.result.now is.rates exists c.index.ensures) in
+    let linear : c.from.result * get_or pricing.rates.now c.args.arc 0 ≡ linear_price p.scale (arc_at p c.args.arc) c.args.size =
+    ap (λ (n : ℕ). n * get_or pricing.rates.now c.args.arc 0) c.from.ensures ∙ ap (λ (n : ℕ). c.args.size * n) (rate-at p pricing.rates.now c.args.arc is.rates exists) in
     let within : c.args.class < class_count net = omega (arith, c.requires.number, number-within net here is.whole.valid c.requires.class) in
-    let count = get_or_read users.counts.items c.args.class c.index-in-InParts.result.now (omega (arith, within, are.counts_long)) c.index-in-InParts.ensures 0 in
-    let all = get_or_read users.sizes.items c.args.class c.index-in-InParts-2.result.now (omega (arith, within, are.sizes_long)) c.index-in-InParts-2.ensures 0 in
-    price-in_parts p net tables allowed kind users here c.args.shipment c.args.size c.index-in-InParts.result.now c.index-in-InParts-2.result.now c.even_price.result rule c.requires.class
+    let count = get_or_read users.counts.items c.args.class c.index.result.now (omega (arith, within, are.counts_long)) c.index.ensures 0 in
+    let all = get_or_read users.sizes.items c.args.class c.index-in-InParts.result.now (omega (arith, within, are.sizes_long)) c.index-in-InParts.ensures 0 in
+    price-in_parts p net tables allowed kind users here c.args.shipment c.args.size c.index.result.now c.index-in-InParts.result.now c.even_price.result rule c.requires.class
     (count ∙ ap (λ (n : ℕ). get_or users.counts.items n 0) c.requires.number) (all ∙ ap (λ (n : ℕ). get_or users.sizes.items n 0) c.requires.number) (c.even_price.ensures c.args.size linear)

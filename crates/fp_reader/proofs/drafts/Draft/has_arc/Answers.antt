@@ -1,11 +1,12 @@
 use Rattle.std.proofs.Common.{◌∙◌, ap}
-use Rattle.std.specs.List.{list_any}
 use Rattle.fp_model.specs.Problem.{Problem}
-use Rattle.fp_reader.specs.Drafts.{ends_in}
-use Rattle.fp_reader.proofs.Indexes.{any-ends, same_ends}
+use Rattle.fp_fields.specs.Indexes.{Entries, arc_ends, has_ends}
+use Rattle.fp_fields.proofs.ArcEnds.{has_ends-arc_ends}
 use Rattle.fp_reader.proofs.drafts.Draft.has_arc.Goals as goal
 
 pub returns : goal.returns
 returns c =
-    c.contains.ensures ∙ ap (list_any (same_ends (c.args.from, c.args.to))) c.self.invariant.arc_ends
-    ∙ ap (λ (p : Problem). list_any (same_ends (c.args.from, c.args.to)) (ends_in p.arcs)) c.self.view_is ∙ any-ends c.args.self.now c.args.from c.args.to
+    let from = c.args.from in
+    let to = c.args.to in
+    c.has_arc.ensures ∙ ap (λ (e : Entries). has_ends e.ends from to) c.self.invariant.index
+    ∙ ap (λ (p : Problem). has_ends (arc_ends p.arcs) from to) c.self.view_is ∙ has_ends-arc_ends c.args.self.now.arcs from to

@@ -5,10 +5,9 @@ use Rattle.fp_reader.proofs.drafts.Draft.with_shipment.Goals as goal
 
 pub invariant_of-result : goal.invariant_of-result
 invariant_of-result c =
-    let d = c.self.inside in
     let s = c.args.shipment in
     let shipments = ap (λ (p : Problem). p.shipments) c.self.view_is in
-    rw (c.in_ok-push.ensures.items, c.in_ok-add.ensures.names, ← c.requires.name)
-    (index-shipment _ d.terminal_names d.arc_ends.keys d.shipment_names s c.self.invariant
+    rw (c.in_ok-push.ensures.items, c.in_ok-add_shipment.ensures.ok, ← c.requires.name)
+    (index-shipment _ c.self.inside.index s c.self.invariant
     (subst (λ (p : Problem). IsShipment (length p.terminals) s) (sym c.self.view_is) c.requires.shipment)
     (rw (shipments, c.requires.name) c.requires.fresh) (rw shipments c.requires.room))

@@ -5,8 +5,7 @@ use Rattle.fp_reader.proofs.drafts.Draft.with_terminal.Goals as goal
 
 pub invariant_of-result : goal.invariant_of-result
 invariant_of-result c =
-    let d = c.self.inside in
     let terminals = ap (λ (p : Problem). p.terminals) c.self.view_is in
-    rw (c.in_ok-push.ensures.items, c.in_ok-new.ensures, c.in_ok-push-2.ensures.items, c.in_ok-add.ensures.names)
-    (index-terminal _ d.terminal_names d.arc_ends.keys d.shipment_names c.args.name.now c.args.hold c.self.invariant
+    rw (c.in_ok-push.ensures.items, c.in_ok-new.ensures, c.in_ok-push-2.ensures.items, c.in_ok-add_terminal.ensures.ok)
+    (index-terminal _ c.self.inside.index c.args.name.now c.args.hold c.self.invariant
     c.requires.name (rw terminals c.requires.fresh) (rw terminals c.requires.room) c.requires.hold)

@@ -2,7 +2,7 @@
 use Rattle.std.proofs.Common.{ap, ◌∙◌}
 use Rattle.std.specs.Prelude.{ℕ, List}
 use Rattle.fp_rows.specs.Words.{bits}
-use Rattle.fp_rows.proofs.Rewritten.{zero-bits}
+use Rattle.fp_rows.proofs.BitChanges.{zero-bits}
 use Rattle.fp_rows.proofs.rows.Row.new.Goals as goal
 
 pub returns : goal.returns

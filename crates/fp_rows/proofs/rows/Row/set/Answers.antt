@@ -3,7 +3,7 @@ use Rattle.std.proofs.Common.{◌≡◌, ◌/◌, ◌<◌, length, get_or, set, 
 use Rattle.std.specs.Prelude.{ℕ, Bool, List}
 use Rattle.std.proofs.lemmas.List.{get_or_default, length-set}
 use Rattle.fp_rows.proofs.BitsIn.{length-bits}
-use Rattle.fp_rows.proofs.Rewritten.{set-bits, set-is, set-tidy}
+use Rattle.fp_rows.proofs.BitChanges.{set-bits, set-is, set-tidy}
 use Rattle.fp_rows.proofs.rows.Row.set.Goals as goal
 
 pub index-requires : goal.index-requires

@@ -5,7 +5,7 @@ use Rattle.fp_timenodes.specs.declared.places.AddedPoint.{AddedPoint}
 use Rattle.fp_timenodes.specs.declared.timelines.Stamp.{Stamp}
 use Rattle.fp_timenodes.specs.Points.{TimePoints, IsAddedPoint, greatest_round}
 use Rattle.fp_timenodes.specs.Stamps.{IncludesPoint}
-use Rattle.fp_timenodes.proofs.Grown.{add-shows}
+use Rattle.fp_timenodes.proofs.NewPoint.{Show-one_added}
 use Rattle.fp_timenodes.proofs.point_table.Points.add.Goals as goal
 
 pub invariant_of-self-2 : goal.invariant_of-self-2
@@ -19,4 +19,4 @@ invariant_of-self-2 c =
     let order : greatest_round i.added.items ≤ c.args.round = rw added c.requires.order in
     let read : get_or timelines c.args.terminal [] ≡ c.index_mut-timeline.result.now = get_or_default timelines c.args.terminal [] c.index_mut-timeline.result.now valid.0 ∙ sym c.index_mut-timeline.ensures.value in
     let includes = subst (λ (l : List Stamp). IncludesPoint l c.insert.new.self c.args.at c.args.round) (sym read) c.in_ok-insert.ensures.points in
-    rw (c.in_ok-push.ensures.items, c.in_ok-reserve.ensures.items) (add-shows i.first.items i.added.items timelines p c.insert.new.self c.self.invariant valid order includes c.in_ok-insert.ensures.rounds)
+    rw (c.in_ok-push.ensures.items, c.in_ok-reserve.ensures.items) (Show-one_added i.first.items i.added.items timelines p c.insert.new.self c.self.invariant valid order includes c.in_ok-insert.ensures.rounds)

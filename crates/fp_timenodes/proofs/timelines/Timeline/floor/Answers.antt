@@ -1,7 +1,7 @@
 -- The slice that was searched is the timeline.
 use Rattle.std.proofs.Common.{◌≡◌, ap, ◌∙◌}
 use Rattle.std.specs.Prelude.{ℕ, Option, unwrap_or}
-use Rattle.fp_timenodes.proofs.Searched.{found-until}
+use Rattle.fp_timenodes.proofs.StampSearch.{found-until}
 use Rattle.fp_timenodes.proofs.timelines.Timeline.floor.Goals as goal
 
 pub returns : goal.returns

@@ -2,15 +2,15 @@
 use Rattle.std.proofs.Common.{◌≡◌, ◌<◌, ◌-◌, get_or, sym, subst, arith}
 use Rattle.std.specs.Prelude.{ℕ}
 use Rattle.std.proofs.lemmas.Bool.{ne_eqb, eq-eqb}
-use Rattle.fp_timenodes.specs.Stamps.{IsCut}
-use Rattle.fp_timenodes.proofs.Searched.{no_stamp, has-at-cut, none-at-cut}
+use Rattle.fp_timenodes.specs.Stamps.{IsStampCut}
+use Rattle.fp_timenodes.proofs.StampSearch.{no_stamp, has-at-cut, none-at-cut}
 use Rattle.fp_timenodes.proofs.timelines.Timeline.has.Goals as goal
 
 pub returns-then-end-eq0 : goal.returns-then-end-eq0
 returns-then-end-eq0 c =
     let searched : c.as_slice-stamps.result.now ≡ c.args.self.now = cc in
     rw (← searched)
-    (sym (none-at-cut c.as_slice-stamps.result.now c.args.at c.args.round (subst (λ (k : ℕ). IsCut c.as_slice-stamps.result.now c.args.at k) c.if-end-eq0.true c.count_until-end.ensures)))
+    (sym (none-at-cut c.as_slice-stamps.result.now c.args.at c.args.round (subst (λ (k : ℕ). IsStampCut c.as_slice-stamps.result.now c.args.at k) c.if-end-eq0.true c.count_until-end.ensures)))
 
 -- what the last stamp before the cut says, for either result of the first test
 pub returns-then-last-at : goal.returns-then-last-at

@@ -1,7 +1,7 @@
 -- The slice that was searched is the timeline.
 use Rattle.std.proofs.Common.{◌≡◌, ◌∙◌}
 use Rattle.std.proofs.lemmas.List.{take_rest}
-use Rattle.fp_timenodes.proofs.Searched.{found-after}
+use Rattle.fp_timenodes.proofs.StampSearch.{found-after}
 use Rattle.fp_timenodes.proofs.timelines.Timeline.next.Goals as goal
 
 pub returns : goal.returns

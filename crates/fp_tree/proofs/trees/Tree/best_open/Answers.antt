@@ -3,7 +3,7 @@ use Rattle.std.specs.Prelude.{◌↔◌, All, IsNone}
 use Rattle.std.proofs.lemmas.Option.{IfSome_then}
 use Rattle.fp_tree.specs.declared.layout.LeafState.{LeafState}
 use Rattle.fp_tree.specs.Nodes.{IsFirstLeast}
-use Rattle.fp_tree.proofs.Sound.{one_more-seen, IsBestOpen-seen, All_closed-seen}
+use Rattle.fp_tree.proofs.TreeNodes.{one_more-seen, IsBestOpen-seen, All_closed-seen}
 use Rattle.fp_tree.proofs.trees.Tree.best_open.Goals as goal
 
 pub best_open_of-requires : goal.best_open_of-requires

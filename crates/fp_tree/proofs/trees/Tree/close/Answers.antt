@@ -1,7 +1,7 @@
 use Rattle.std.proofs.Common.{true, refl, arith}
 use Rattle.fp_tree.specs.Nodes.{close_leaf}
-use Rattle.fp_tree.proofs.Sound.{leaf_count-seen, leaf_count-set, split_count-set}
-use Rattle.fp_tree.proofs.Changes.{IsSound-set, seen-set}
+use Rattle.fp_tree.proofs.TreeNodes.{leaf_count-seen, leaf_count-set, split_count-set}
+use Rattle.fp_tree.proofs.StateChanges.{IsSound-set, seen-set}
 use Rattle.fp_tree.proofs.trees.Tree.close.Goals as goal
 
 pub index_mut-requires : goal.index_mut-requires

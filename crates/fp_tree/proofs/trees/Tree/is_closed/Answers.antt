@@ -1,6 +1,6 @@
 use Rattle.std.proofs.Common.{◌≡◌, refl, arith}
 use Rattle.fp_tree.specs.Nodes.{Node, closed_of}
-use Rattle.fp_tree.proofs.Sound.{leaf_count-seen, leaf_at-seen}
+use Rattle.fp_tree.proofs.TreeNodes.{leaf_count-seen, leaf_at-seen}
 use Rattle.fp_tree.proofs.trees.Tree.is_closed.Goals as goal
 
 pub index-requires : goal.index-requires

@@ -7,7 +7,7 @@ use Rattle.fp_tree.specs.declared.sides.Side.{Side}
 use Rattle.fp_tree.specs.Trees.{tree_leaves}
 use Rattle.fp_tree.specs.Nodes.{leaf_at}
 use Rattle.fp_tree.specs.Layout.{fork_of_kind}
-use Rattle.fp_tree.proofs.Sound.{leaf_count-seen, leaves-kinds, sides-seen}
+use Rattle.fp_tree.proofs.TreeNodes.{leaf_count-seen, leaves-kinds, sides-seen}
 use Rattle.fp_tree.proofs.trees.Tree.leaf_sides.Goals as goal
 
 pub sides_to-requires : goal.sides_to-requires

@@ -1,5 +1,5 @@
 use Rattle.std.proofs.Common.{arith}
-use Rattle.fp_tree.proofs.Sound.{leaf_count-seen, split_count-seen, one_more-seen, length-seen}
+use Rattle.fp_tree.proofs.TreeNodes.{leaf_count-seen, split_count-seen, one_more-seen, length-seen}
 use Rattle.fp_tree.proofs.trees.Tree.leaves.Goals as goal
 
 pub overflow_cast-result : goal.overflow_cast-result

@@ -1,7 +1,7 @@
 use Rattle.std.proofs.Common.{refl, arith}
 use Rattle.fp_tree.specs.Nodes.{put_leaf}
-use Rattle.fp_tree.proofs.Sound.{leaf_count-seen, leaf_count-set, split_count-set}
-use Rattle.fp_tree.proofs.Changes.{IsSound-set, seen-set}
+use Rattle.fp_tree.proofs.TreeNodes.{leaf_count-seen, leaf_count-set, split_count-set}
+use Rattle.fp_tree.proofs.StateChanges.{IsSound-set, seen-set}
 use Rattle.fp_tree.proofs.trees.Tree.put.Goals as goal
 
 pub index_mut-state-requires : goal.index_mut-state-requires

@@ -2,7 +2,7 @@ use Rattle.std.proofs.Common.{◌≡◌, sym, subst, arith}
 use Rattle.std.specs.Prelude.{Option, IsSomeAnd, slice_get}
 use Rattle.fp_tree.specs.declared.sides.Split.{Split}
 use Rattle.fp_tree.specs.Nodes.{split_of}
-use Rattle.fp_tree.proofs.Sound.{length-kinds-seen, split_of-seen}
+use Rattle.fp_tree.proofs.TreeNodes.{length-kinds-seen, split_of-seen}
 use Rattle.fp_tree.proofs.trees.Tree.split_at.Goals as goal
 
 pub index-requires : goal.index-requires

@@ -1,12 +1,13 @@
 use Rattle.std.proofs.Common.{◌≡◌, ◌+◌, ◌<◌, false, List, length, count_by, refl, ap, ◌∙◌, subst, arith}
 use Rattle.fp_tree.specs.declared.layout.Kind.{Kind}
 use Rattle.fp_tree.specs.declared.layout.LeafState.{LeafState}
+use Rattle.fp_tree.specs.declared.layout.TheConstants.{MOST_SPLITS}
 use Rattle.fp_tree.specs.Sides.{Fork}
 use Rattle.fp_tree.specs.Trees.{with_leaf}
 use Rattle.fp_tree.specs.Nodes.{divide_leaf, fork_of, open_leaf}
 use Rattle.fp_tree.specs.Layout.{is_leaf_kind, IsPlaceOfLeaf, leaf_node}
-use Rattle.fp_tree.proofs.Sound.{leaf_count-kinds, leaf_count-seen, one_more-seen, split_count-seen}
-use Rattle.fp_tree.proofs.Divided.{IsSeen, IsSeen-same, IsSeen-divided, splits_before-le}
+use Rattle.fp_tree.proofs.TreeNodes.{leaf_count-kinds, leaf_count-seen, one_more-seen, split_count-seen}
+use Rattle.fp_tree.proofs.LeafDivision.{IsSeen, IsSeen-same, IsSeen-divided, splits_before-le}
 use Rattle.fp_tree.proofs.trees.Tree.split_leaf.Given.{Over}
 use Rattle.fp_tree.proofs.trees.Tree.split_leaf.Goals as goal
 
@@ -39,7 +40,7 @@ after g c =
     (record { sound = c.self.invariant; seen = c.self.view_is }) in
     let place_is : IsPlaceOfLeaf c.reserve.new.self.items c.args.leaf c.place_of_leaf-place.result =
     subst (λ (ks : List Kind). IsPlaceOfLeaf ks c.args.leaf c.place_of_leaf-place.result) c.as_slice.ensures.value c.place_of_leaf-place.ensures in
-    let few : length c.reserve-3.new.self.items < 100000 = omega (arith, ap length c.reserve-3.ensures.items, split_count-seen _ _ _ _ c.self.view_is c.self.invariant) in
+    let few : length c.reserve-3.new.self.items < MOST_SPLITS = omega (arith, ap length c.reserve-3.ensures.items, split_count-seen _ _ _ _ c.self.view_is c.self.invariant) in
     let divided : P c.open-first.result c.open-second.result =
     IsSeen-same _ _ _ _ _ _ _ c.divide_kind.ensures c.divide_state-payload.ensures.states c.insert_reserved.ensures.items
     (IsSeen-divided c.reserve.new.self.items c.reserve-2.new.self.items c.reserve-3.new.self.items c.args.self.now c.args.leaf c.place_of_leaf-place.result c.open-first.result c.open-second.result

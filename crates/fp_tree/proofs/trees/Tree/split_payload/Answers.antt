@@ -1,5 +1,5 @@
 use Rattle.std.proofs.Common.{arith}
-use Rattle.fp_tree.proofs.Sound.{split_count-seen, split_at-seen}
+use Rattle.fp_tree.proofs.TreeNodes.{split_count-seen, split_at-seen}
 use Rattle.fp_tree.proofs.trees.Tree.split_payload.Goals as goal
 
 pub index-requires : goal.index-requires

@@ -1,5 +1,5 @@
 use Rattle.std.proofs.Common.{arith}
-use Rattle.fp_tree.proofs.Sound.{split_count-seen}
+use Rattle.fp_tree.proofs.TreeNodes.{split_count-seen}
 use Rattle.fp_tree.proofs.trees.Tree.splits.Goals as goal
 
 pub returns-clause-count : goal.returns-clause-count

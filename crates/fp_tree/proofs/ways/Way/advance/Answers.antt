@@ -4,7 +4,8 @@ use Rattle.fp_tree.specs.Ways.{pending_on, IsLastByFirst, IsTurned}
 use Rattle.fp_tree.proofs.Steps.{none_pending, IsTurned-at, IsTurned-pending}
 use Rattle.fp_tree.proofs.ways.Way.advance.Goals as goal
 
--- the new way is the old one turned, where `steps` are its steps as the search for the last by a first side saw them
+-- the new way is the old one turned, where `steps` are its steps as the search for the last by a
+-- first side saw them
 turned : (old steps new : List Step) (place : ℕ) (step : Step) → steps ≡ old → IsLastByFirst steps place → step ≡ get_or old place step →
     new ≡ take (place + 1) (set old place (record step { later = true })) → IsTurned old new
 turned old steps new place step same last is new_is =

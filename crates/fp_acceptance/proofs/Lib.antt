@@ -1,0 +1,3 @@
+pub mod RoundCounts
+pub mod AddedPoints
+pub mod Claims

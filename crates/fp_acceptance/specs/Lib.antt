@@ -1,0 +1,5 @@
+pub mod Plans
+pub mod Points
+pub mod Leaves
+pub mod Accepted
+pub mod Claims

@@ -1,0 +1,55 @@
+-- When a leg meets sides: at the whole moment below its own, and as a test.
+use Rattle.std.proofs.Common.{◌≡◌, ℕ, ◌*◌, ◌/◌, ◌<◌, ◌≤◌, Bool, true, false, ◌&&◌, ◌||◌, List, [], ◌∷◌, ⊎_elim, refl, arith}
+use Rattle.std.specs.Prelude.{◌≢◌, nat_eq, nat_lt, nat_le, not}
+use Rattle.std.proofs.Math.Nat.{le-div_iff_mul-le, div-lt_iff_lt-mul}
+use Rattle.std.proofs.lemmas.Bool.{le-leb, lt-ltb, eq-eqb, or_right, ne_eqb}
+use Rattle.std.proofs.lemmas.Bool.Decides.{eqb_tells}
+use Rattle.fp_tree.specs.declared.sides.Side.{Side}
+use Rattle.fp_tree.specs.declared.sides.Side.TheVariants.{Without, Only, Before, From}
+use Rattle.fp_tree.specs.Sides.{Exit, Meets, MeetsAll}
+use Rattle.fp_allowed.specs.Allowed.{meets, meets_all}
+
+-- the leg with the whole moment below its moment over the denominator d
+abbrev pub whole_exit : ℕ → Exit → Exit
+whole_exit d e = record { arc = e.arc; tail = e.tail; moment = e.moment / d }
+
+-- the whole moment below one that meets a side meets it
+meets_whole : (d k : ℕ) (e : Exit) (side : Side) → 0 < d → Meets d k e side → Meets 1 k (whole_exit d e) side
+meets_whole d k e (Without shipment arc) h is = is
+meets_whole d k e (Only shipment arc tail) h is = is
+meets_whole d k e (Before shipment terminal at) h is = λ same leaves.
+    let below : e.moment < at * d = omega (arith, is same leaves) in
+    let whole : e.moment / d < at = (div-lt_iff_lt-mul h).1 below in
+    omega arith
+meets_whole d k e (From shipment terminal at) h is = λ same leaves.
+    let below : at * d ≤ e.moment = omega (arith, is same leaves) in
+    let whole : at ≤ e.moment / d = (le-div_iff_mul-le h).1 below in
+    omega arith
+
+-- a test that asks for something where two pairs of numbers are equal
+if_both : (a b c d : ℕ) (t : Bool) → (a ≡ b → c ≡ d → t ≡ true) → (not (nat_eq a b && nat_eq c d) || t) ≡ true
+if_both a b c d t h =
+    ⊎_elim
+    (λ (first : (nat_eq a b ≡ true) × (a ≡ b)).
+    ⊎_elim
+    (λ (second : (nat_eq c d ≡ true) × (c ≡ d)). or_right (not (nat_eq a b && nat_eq c d)) t (h first.1 second.1))
+    (λ (second : (nat_eq c d ≡ false) × (c ≢ d)). rw (first.0, second.0) refl)
+    (eqb_tells c d))
+    (λ (first : (nat_eq a b ≡ false) × (a ≢ b)). rw first.0 refl)
+    (eqb_tells a b)
+
+-- what meets a side at a whole moment passes the test
+meets_true : (k : ℕ) (e : Exit) (side : Side) → Meets 1 k e side → meets k e side ≡ true
+meets_true k e (Without shipment arc) m =
+    ⊎_elim
+    (λ (first : (nat_eq k shipment ≡ true) × (k ≡ shipment)). rw (first.0, ne_eqb e.arc arc (m first.1)) refl)
+    (λ (first : (nat_eq k shipment ≡ false) × (k ≢ shipment)). rw first.0 refl)
+    (eqb_tells k shipment)
+meets_true k e (Only shipment arc tail) m = if_both k shipment e.tail tail (nat_eq e.arc arc) (λ same leaves. eq-eqb e.arc arc (m same leaves))
+meets_true k e (Before shipment terminal at) m = if_both k shipment e.tail terminal (nat_lt e.moment at) (λ same leaves. lt-ltb e.moment at (omega (arith, m same leaves)))
+meets_true k e (From shipment terminal at) m = if_both k shipment e.tail terminal (nat_le at e.moment) (λ same leaves. le-leb at e.moment (omega (arith, m same leaves)))
+
+-- what meets sides over a denominator passes all their tests at the whole moment below
+pub meets_all_true : (d k : ℕ) (e : Exit) (sides : List Side) → 0 < d → MeetsAll d k sides e → meets_all k sides (whole_exit d e) ≡ true
+meets_all_true d k e [] h all = refl
+meets_all_true d k e (side ∷ sides) h all = rw (meets_true k (whole_exit d e) side (meets_whole d k e side h all.0), meets_all_true d k e sides h all.1) refl

@@ -1,0 +1,31 @@
+-- The slack of sides: how often departures that are left can still be divided.
+use Rattle.std.specs.Prelude.{ℕ, ◌-◌, ◌<◌, ◌≡◌, List, length, IfSome, Option}
+use Rattle.std.specs.List.{AllByRecursion}
+use Rattle.fp_lists.specs.Below.{sum_below}
+use Rattle.fp_model.specs.Problem.{Problem}
+use Rattle.fp_flatnet.specs.declared.window_tables.Window.{Window}
+use Rattle.fp_tree.specs.declared.sides.Side.{Side}
+use Rattle.fp_tree.specs.Sides.{Fork, second, second_of_split}
+use Rattle.fp_tree.specs.Trees.{Branch}
+use Rattle.fp_allowed.specs.Departures.{DividesDepartures, departures_left}
+
+-- the departures left at a terminal less one, and 0 where none is left
+abbrev pub slack_at : Problem → (ℕ → ℕ → Option Window) → List Side → ℕ → ℕ → ℕ
+slack_at p windows sides k terminal = departures_left p windows sides k terminal - 1
+
+-- the slack of sides: that of all shipments at all terminals together; without sides it is the
+-- instance's
+abbrev pub slack : Problem → (ℕ → ℕ → Option Window) → List Side → ℕ
+slack p windows sides = sum_below (length p.shipments) (λ k. sum_below (length p.terminals) (slack_at p windows sides k))
+
+-- a fork divides the departures that a shipment has left at a terminal under sides
+pub record DividesSome (p : Problem) (windows : ℕ → ℕ → Option Window) (sides : List Side) (f : Fork) : Type 0 where
+  pub shipment : ℕ
+  pub terminal : ℕ
+  pub exists : shipment < length p.shipments
+  pub tail : second f ≡ second_of_split f.split terminal
+  pub divides : DividesDepartures p windows sides shipment terminal f.split
+
+-- so does each of the splits, under the sides on its way
+abbrev pub AllDivide : Problem → (ℕ → ℕ → Option Window) → {X : Type 0} → (X → Option Fork) → List (Branch X) → Type 0
+AllDivide p windows {X} fork_of branches = AllByRecursion (λ (b : Branch X). IfSome (fork_of b.node) (DividesSome p windows b.sides)) branches

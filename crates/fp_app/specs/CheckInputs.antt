@@ -1,0 +1,31 @@
+-- An instance and a certificate of an input, or why there are none.
+use Rattle.std.specs.Prelude.{ℕ, ◌+◌, ◌≡◌, List, drop, Some, Ok, Err, ⊤}
+use Rattle.fp_model.specs.Problem.{Problem}
+use Rattle.fp_prices.specs.Tables.{AreCountable}
+use Rattle.fp_lines.specs.Ranges.{IsInRange}
+use Rattle.fp_lines.specs.Statements.{Statement}
+use Rattle.fp_certificate.specs.Reading.{certificate_of}
+use Rattle.fp_app.specs.declared.checks.CheckInput.{CheckInput}
+use Rattle.fp_app.specs.declared.checks.CheckInput.TheVariants.{Fault, Both}
+use Rattle.fp_app.specs.declared.words.Order.TheVariants.{Check}
+use Rattle.fp_app.specs.Inputs.{certificate_in, fault_in, leading_instance_in}
+
+-- it is the instance and the certificate of the input, or the first fault
+abbrev pub IsCheckInput : List ℕ → CheckInput → Type 0
+IsCheckInput input (Both p c) = (leading_instance_in input ≡ Ok p) × (certificate_in p input ≡ Ok c)
+IsCheckInput input (Fault ordinal code) = fault_in (Some Check) input ≡ Some (record { ordinal = ordinal; code = code })
+
+-- it is the instance and the certificate of the records from a place on, or the
+-- first fault of these records
+abbrev pub IsCheckInputOf : Problem → ℕ → List (List (List ℕ)) → CheckInput → Type 0
+IsCheckInputOf p used records (Both q c) = (q ≡ p) × (certificate_of p (used + 1) (drop used records) ≡ Ok c)
+IsCheckInputOf p used records (Fault ordinal code) = certificate_of p (used + 1) (drop used records) ≡ Err (record { ordinal = ordinal; code = code })
+
+-- the certificate can be checked for the instance: it is in range, and its tables can be counted
+abbrev pub CanBeChecked : Problem → Statement → Type 0
+CanBeChecked p c = IsInRange p c × AreCountable p c.tables
+
+-- the certificate can be checked for the instance, where there is one
+abbrev pub AreCheckable : CheckInput → Type 0
+AreCheckable (Both p c) = CanBeChecked p c
+AreCheckable (Fault ordinal code) = ⊤

@@ -1,0 +1,106 @@
+-- What reading says of a worked certificate and of altered ones.
+use Rattle.std.proofs.Common.{◌≡◌, ℕ, List, [], ◌∷◌, ◌++◌, refl}
+use Rattle.std.specs.Prelude.{Result, Ok, Err, codes}
+use Rattle.fp_fields.specs.Faults.{Fault}
+use Rattle.fp_certificate.specs.Reading.{certificate_of}
+use Rattle.fp_lines.specs.Statements.{Statement}
+use Rattle.fp_lines.proofs.Examples.{answer, best, last, leaf, leg, records, small, truck, whole}
+
+-- what they give after four records of an instance
+abbrev read : List (List (List ℕ)) → Result Statement Fault
+read lines = certificate_of small 5 lines
+
+-- the fault with a code of the record with an ordinal
+abbrev bad : (ordinal code : ℕ) → Result Statement Fault
+bad ordinal code = Err (record { ordinal = ordinal; code = code })
+
+reads : read whole ≡ Ok best
+reads = refl
+
+-- a line of no kind
+no-kind : read (records answer (codes "lag" ∷ codes "S1" ∷ codes "A" ∷ codes "B" ∷ codes "0" ∷ codes "5" ∷ []) truck (leaf (codes "linear") (codes "forced"))) ≡ bad 6 21
+no-kind = refl
+
+-- an answer of no kind
+no-answer : read (records (codes "answer" ∷ codes "bound" ∷ codes "104" ∷ []) (leg (codes "0")) truck (leaf (codes "linear") (codes "forced"))) ≡ bad 5 21
+no-answer = refl
+
+few-fields : read (records answer (leg (codes "0")) truck (codes "leaf" ∷ codes "linear" ∷ codes "0" ∷ [])) ≡ bad 8 22
+few-fields = refl
+
+-- neither a number
+no-number : read (records answer (codes "leg" ∷ codes "S1" ∷ codes "A" ∷ codes "B" ∷ codes "0" ∷ codes "5x" ∷ []) truck (leaf (codes "linear") (codes "forced"))) ≡ bad 6 23
+no-number = refl
+
+-- nor a word
+no-word : read (records answer (leg (codes "0")) truck (leaf (codes "linear") (codes "loose"))) ≡ bad 8 23
+no-word = refl
+
+-- a leg after a truck
+changed-places : read (records answer truck (leg (codes "0")) (leaf (codes "linear") (codes "forced"))) ≡ bad 7 24
+changed-places = refl
+
+-- a shipment that isn't there
+no-shipment : read (records answer (codes "leg" ∷ codes "S9" ∷ codes "A" ∷ codes "B" ∷ codes "0" ∷ codes "5" ∷ []) truck (leaf (codes "linear") (codes "forced"))) ≡ bad 6 25
+no-shipment = refl
+
+-- ends that no arc joins
+no-arc : read (records answer (codes "leg" ∷ codes "S1" ∷ codes "B" ∷ codes "A" ∷ codes "0" ∷ codes "5" ∷ []) truck (leaf (codes "linear") (codes "forced"))) ≡ bad 6 25
+no-arc = refl
+
+late : read (records answer (leg (codes "100001")) truck (leaf (codes "linear") (codes "forced"))) ≡ bad 6 28
+late = refl
+
+no-table : read (records answer (leg (codes "0")) truck (leaf (codes "7") (codes "plain"))) ≡ bad 8 28
+no-table = refl
+
+no-end : read (answer ∷ leg (codes "0") ∷ truck ∷ leaf (codes "linear") (codes "forced") ∷ []) ≡ bad 9 26
+no-end = refl
+
+after-end : read (whole ++ (last ∷ [])) ≡ bad 10 27
+after-end = refl
+
+-- a line after the end has no other code, though it is of no kind
+after-end-alone : read (whole ++ ((codes "lag" ∷ []) ∷ [])) ≡ bad 10 27
+after-end-alone = refl
+
+-- no certificate at all
+nothing : read [] ≡ bad 5 26
+nothing = refl
+
+abbrev scale : List ℕ → List (List ℕ)
+scale n = codes "scale" ∷ n ∷ []
+
+scale-zero : read (answer ∷ scale (codes "0") ∷ []) ≡ bad 6 28
+scale-zero = refl
+
+scale-twice : read (answer ∷ scale (codes "1") ∷ scale (codes "1") ∷ []) ≡ bad 7 24
+scale-twice = refl
+
+-- a scale above its limit, and one of many digits
+scale-above : read (answer ∷ scale (codes "1000000001") ∷ []) ≡ bad 6 28
+scale-above = refl
+
+-- nothing stands under an infeasible answer, and no scale under a direct one
+after-infeasible : read ((codes "answer" ∷ codes "infeasible" ∷ codes "S1" ∷ codes "none" ∷ []) ∷ leg (codes "0") ∷ []) ≡ bad 6 24
+after-infeasible = refl
+
+after-direct : read ((codes "answer" ∷ codes "direct" ∷ codes "104" ∷ []) ∷ scale (codes "1") ∷ []) ≡ bad 6 24
+after-direct = refl
+
+-- a table's number is the next, whatever its digits
+table-next : read (answer ∷ (codes "table" ∷ codes "001" ∷ []) ∷ (codes "table" ∷ codes "3" ∷ []) ∷ []) ≡ bad 7 24
+table-next = refl
+
+-- a weight without a share in its table
+no-share : read (answer ∷ (codes "table" ∷ codes "1" ∷ []) ∷ (codes "share" ∷ codes "A" ∷ codes "B" ∷ codes "0" ∷ codes "0" ∷ [])
+    ∷ (codes "table" ∷ codes "2" ∷ []) ∷ (codes "weight" ∷ codes "S1" ∷ codes "1" ∷ []) ∷ []) ≡ bad 9 24
+no-share = refl
+
+-- the name goes before the range
+name-first : read (answer ∷ (codes "point" ∷ codes "C" ∷ codes "0" ∷ codes "4001" ∷ []) ∷ []) ≡ bad 6 25
+name-first = refl
+
+-- a round above its limit
+round-above : read (answer ∷ (codes "point" ∷ codes "A" ∷ codes "0" ∷ codes "4001" ∷ []) ∷ []) ≡ bad 6 28
+round-above = refl

@@ -1,0 +1,30 @@
+-- What the results of tests tell.
+use Rattle.std.proofs.Common.{◌≡◌, ℕ, Bool, true, false, ap, sym, ◌∙◌}
+use Rattle.std.specs.Prelude.{Result, Ok, Err}
+use Rattle.std.proofs.lemmas.Bool.{false≢true}
+use Rattle.fp_timenodes.specs.declared.places.Added.{Added}
+use Rattle.fp_timenodes.specs.declared.places.Added.TheVariants as added
+use Rattle.fp_checker.specs.declared.rejections.Rejected.{Rejected}
+use Rattle.fp_checker.specs.declared.rejections.Rejected.TheVariants.{Part}
+
+-- the number of a rejected part
+pub Part_injective : {X : Type 0} (n m : ℕ) → ◌≡◌ {A = Result X Rejected} (Err (Part n)) (Err (Part m)) → m ≡ n
+Part_injective n m e = cc
+
+-- a test that failed refutes what would make it pass
+pub false_refutes : {P : Type 0} (b : Bool) → b ≡ false → (P → b ≡ true) → P → ⊥
+false_refutes b h pass p = false≢true (sym h ∙ pass p)
+
+-- an error is the same error under any other kind of result
+pub Err_any : {X Y : Type 0} (e f : Rejected) → ◌≡◌ {A = Result X Rejected} (Err e) (Err f) → ◌≡◌ {A = Result Y Rejected} (Err e) (Err f)
+Err_any {X} e f same = ap (λ (x : Rejected). Err x) (same-error same)
+  where
+    same-error : ◌≡◌ {A = Result X Rejected} (Err e) (Err f) → e ≡ f
+    same-error h = cc
+
+-- what was added as new was not there
+pub New-not_There : {E : Type 0} (r : Result Added E) (a : Added) → r ≡ Ok a → a ≡ added.New → r ≡ Ok added.There → ⊥
+New-not_There r a is new there = new-or-there (cc)
+  where
+    new-or-there : added.New ≡ added.There → ⊥
+    new-or-there e = cc

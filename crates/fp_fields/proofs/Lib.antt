@@ -1,0 +1,7 @@
+pub mod Numerals
+pub mod NameForm
+pub mod NameNumbers
+pub mod MappedLists
+pub mod FaultTables
+pub mod ArcEnds
+mod DistinctParts

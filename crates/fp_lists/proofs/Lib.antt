@@ -1,0 +1,14 @@
+pub mod Truth
+pub mod Elements
+pub mod Membership
+pub mod Pairs
+pub mod Order
+pub mod Distinct
+pub mod Sums
+pub mod DistinctSums
+pub mod Ceilings
+pub mod SumsBelow
+pub mod CountsBelow
+pub mod Maps
+pub mod Numbered
+pub mod Places

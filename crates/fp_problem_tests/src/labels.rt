@@ -1,0 +1,55 @@
+//! Least distances over four nodes.
+ghost use Rattle.std.specs.Prelude.{◌≡◌, length, All};
+ghost use Rattle.fp_labels.specs.Labels.{IsSmallFor};
+
+use fp_labels::{Edge, Graph, NoMemory, distances};
+use std::alloc::Global;
+
+// What leads from A over the edges A to B, B to C, A to C and B to A: the costs to A, B, C and to
+// D, which has no edge, and the walk to C.
+fn from_a(alloc: Global, costs: &[Option<u128>]) -> Result<([Option<u128>; 4], Vec<u32>), NoMemory>
+    requires len { length costs.now ≡ 4 }
+    requires small { All (IsSmallFor 4) costs.now }
+{
+    let edges = [
+        Edge { from: 0, to: 1 },
+        Edge { from: 1, to: 2 },
+        Edge { from: 0, to: 2 },
+        Edge { from: 1, to: 0 },
+    ];
+    let graph = Graph::new(alloc, 4, &edges)?;
+    let labels = distances(alloc, &graph, costs, 0)?;
+    let walk = match labels.to(2) {
+        None => Vec::new(alloc),
+        Some(_) => labels.walk(alloc, 2)?,
+    };
+    let costs = [labels.to(0), labels.to(1), labels.to(2), labels.to(3)];
+    Ok((costs, walk))
+}
+
+#[test]
+fn three_nodes_and_one_alone(rt: HostRuntime) {
+    let alloc = rt.alloc();
+
+    let (costs, walk) = from_a(alloc, &[Some(4), Some(5), None, None]).expect(&rt, "memory");
+    assert!(rt; costs == [Some(0), Some(4), Some(9), None]);
+    assert!(rt; walk.as_slice() == [0, 1].as_slice());
+
+    let (costs, walk) = from_a(alloc, &[Some(4), Some(5), Some(9), None]).expect(&rt, "memory");
+    assert!(rt; costs == [Some(0), Some(4), Some(9), None]);
+    assert!(rt; walk.as_slice() == [0, 1].as_slice() || walk.as_slice() == [2].as_slice());
+
+    let (costs, walk) = from_a(alloc, &[None, Some(5), Some(9), None]).expect(&rt, "memory");
+    assert!(rt; costs == [Some(0), None, Some(9), None]);
+    assert!(rt; walk.as_slice() == [2].as_slice());
+
+    // A cycle of cost 0.
+    let (costs, walk) = from_a(alloc, &[Some(0), Some(5), Some(9), Some(0)]).expect(&rt, "memory");
+    assert!(rt; costs == [Some(0), Some(0), Some(5), None]);
+    assert!(rt; walk.as_slice() == [0, 1].as_slice());
+
+    // The greatest cost that is allowed.
+    let most = 42535295865117307932921825928971026431;
+    let (costs, _) = from_a(alloc, &[Some(most), Some(most), None, None]).expect(&rt, "memory");
+    assert!(rt; costs == [Some(0), Some(most), Some(most * 2), None]);
+}

@@ -1,0 +1,26 @@
+//! Tests of the crates up to the time-expanded network: values from outside, and that memory is
+//! found.
+#![tactic(auto)]
+
+#[cfg(test)]
+mod ends;
+#[cfg(test)]
+mod flatnet;
+#[cfg(test)]
+mod labels;
+#[cfg(test)]
+mod longestarcs;
+#[cfg(test)]
+mod model;
+#[cfg(test)]
+mod reader;
+#[cfg(test)]
+mod records;
+#[cfg(test)]
+mod rows;
+#[cfg(test)]
+mod timenodes;
+#[cfg(test)]
+mod timetable;
+#[cfg(test)]
+mod tree;

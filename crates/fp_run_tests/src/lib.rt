@@ -1,0 +1,17 @@
+//! Tests of the whole program in memory: what `run` answers and writes by its words and its input.
+#![tactic(auto)]
+
+#[cfg(test)]
+mod certificate_faults;
+#[cfg(test)]
+mod certificates;
+#[cfg(test)]
+mod directs;
+#[cfg(test)]
+mod failing_ends;
+#[cfg(test)]
+mod input_faults;
+#[cfg(test)]
+mod runs;
+#[cfg(test)]
+mod sizes;

@@ -1,0 +1,60 @@
+//! Runs over memory, and texts that are put together.
+
+use fp_app::run;
+use fp_ends::{MemSink, MemSource};
+use std::alloc::{AllocError, Global};
+
+/// The words of a line.
+pub fn words_of(alloc: Global, line: &str) -> Result<Vec<String>, AllocError> {
+    let mut words = Vec::new(alloc);
+    for word in line.split_whitespace() {
+        words.push(String::from_str(alloc, word)?)?;
+    }
+    Ok(words)
+}
+
+/// The number of the status with which a run ends, and the bytes that it writes.
+pub fn run_over(
+    alloc: Global,
+    line: &str,
+    mut source: MemSource,
+    mut sink: MemSink,
+) -> Result<(u8, Vec<u8>), AllocError> {
+    let ran = run(alloc, &words_of(alloc, line)?, &mut source, &mut sink);
+    Ok((ran.status.code(), sink.bytes().to_vec(alloc)?))
+}
+
+/// The same over a source and a sink without faults.
+pub fn run_on(alloc: Global, line: &str, input: &str) -> Result<(u8, Vec<u8>), AllocError> {
+    let source = source_of(alloc, input.as_bytes(), 4096, &[])?;
+    let sink = sink_of(alloc, 20_000, 7, &[])?;
+    run_over(alloc, line, source, sink)
+}
+
+/// A source of these bytes. The calls with these numbers fail.
+pub fn source_of(
+    alloc: Global,
+    input: &[u8],
+    step: usize,
+    fails: &[u64],
+) -> Result<MemSource, AllocError> {
+    Ok(MemSource::new(input.to_vec(alloc)?, step.max(1), fails.to_vec(alloc)?))
+}
+
+/// A sink with room for so many bytes. The calls with these numbers fail.
+pub fn sink_of(
+    alloc: Global,
+    room: usize,
+    step: usize,
+    fails: &[u64],
+) -> Result<MemSink, AllocError> {
+    MemSink::new(alloc, room, step.max(1), fails.to_vec(alloc)?)
+}
+
+/// A text in which what stands first is replaced, or the text itself where it stands nowhere.
+pub fn with(alloc: Global, text: &str, old: &str, new: &str) -> Result<String, AllocError> {
+    match text.split_once(old) {
+        Some((front, back)) => format!(in alloc; "{front}{new}{back}"),
+        None => String::from_str(alloc, text),
+    }
+}

@@ -1,0 +1,170 @@
+-- Which points there are as of one round and another, and what one added point does at every round.
+use Rattle.std.proofs.Common.{◌≡◌, ℕ, zero, suc, ◌-◌, ◌<◌, ◌≤◌, ◌≢◌, Bool, true, false, ◌||◌, ◌&&◌, List, [], ◌∷◌, ◌++◌, length, get_or, map, filter, ⊎_elim, refl, sym, ap, ◌∙◌, arith, append-nil, max}
+use Rattle.std.specs.Prelude.{nat_le, nat_eq}
+use Rattle.std.specs.List.Sorted.{IsNonDecreasingBy}
+use Rattle.std.proofs.Math.Bool.{or-false, or_assoc, or_comm}
+use Rattle.std.proofs.lemmas.Bool.{and_left, and_parts, and_right, cases_Bool, eq-eqb, le-leb, leb-true, lt-leb, ne_eqb, or_cases, or_left, or_right}
+use Rattle.std.proofs.lemmas.List.{map-append}
+use Rattle.std.proofs.lemmas.List.Elements.{All-head, All-tail, filter-append}
+use Rattle.fp_timenodes.specs.declared.places.AddedPoint.{AddedPoint}
+use Rattle.fp_timenodes.specs.Floor.{HaveSamePoints}
+use Rattle.fp_lists.specs.Membership.{list_has}
+use Rattle.fp_timenodes.specs.Points.{AreAfter, TimePoints, added_at, greatest_round, points_at, times_at, with_added}
+use Rattle.fp_lists.proofs.Truth.{or_right_comm}
+use Rattle.fp_lists.proofs.Membership.{list_has-filter_push, list_has-append, list_has-rest, list_has-first, list_has-cons_cases}
+
+-- no round is later than the greatest
+pub greatest_round_bound : (added : List AddedPoint) (d : AddedPoint) (k : ℕ) → k < length added → (get_or added k d).round ≤ greatest_round added
+greatest_round_bound [] d k h = absurd (omega arith)
+greatest_round_bound (p ∷ added) d zero h = omega arith
+greatest_round_bound (p ∷ added) d (suc k) h = omega (arith, greatest_round_bound added d k (omega arith))
+
+-- what is at least each round is at least the greatest
+pub greatest_round_least : (added : List AddedPoint) (d : AddedPoint) (n : ℕ) → ((k : ℕ) → k < length added → (get_or added k d).round ≤ n) → greatest_round added ≤ n
+greatest_round_least [] d n above = omega arith
+greatest_round_least (p ∷ added) d n above = omega (arith, above 0 (omega arith), greatest_round_least added d n (λ k h. above (suc k) (omega arith)))
+
+-- where rounds do not fall, the last added point has the greatest
+pub greatest_round_last : (added : List AddedPoint) (p : AddedPoint) → IsNonDecreasingBy (λ (q : AddedPoint). q.round) added → 0 < length added → p ≡ get_or added (length added - 1) p → p.round ≡ greatest_round added
+greatest_round_last added p rises some read =
+    let bound = greatest_round_bound added p (length added - 1) (omega arith) in
+    let least = greatest_round_least added p p.round (λ k h. omega (arith, rises k (length added - 1) p (omega arith) (omega arith), last)) in
+    omega (arith, bound, least, last)
+  where
+    last : p.round ≡ (get_or added (length added - 1) p).round
+    last = ap (λ (q : AddedPoint). q.round) read
+
+-- the greatest round with one more
+pub greatest_round_push : (added : List AddedPoint) (p : AddedPoint) → greatest_round (added ++ p ∷ []) ≡ max (greatest_round added) p.round
+greatest_round_push [] p = omega arith
+greatest_round_push (q ∷ added) p = omega (arith, greatest_round_push added p)
+
+-- whether an added point is one of the terminal's as of a round
+abbrev is_seen : ℕ → ℕ → AddedPoint → Bool
+is_seen terminal round p = nat_eq p.terminal terminal && nat_le p.round round
+
+-- the added points of two lists together
+pub added_at-append : (added more : List AddedPoint) (terminal round : ℕ) → added_at (added ++ more) terminal round ≡ added_at added terminal round ++ added_at more terminal round
+added_at-append added more terminal round =
+    ap (map (λ (p : AddedPoint). p.at)) (filter-append (is_seen terminal round) added more) ∙
+    map-append (λ (p : AddedPoint). p.at) (filter (is_seen terminal round) added) (filter (is_seen terminal round) more)
+
+-- points of later rounds are none as of this one
+pub added_at_after : (added : List AddedPoint) (terminal round : ℕ) → AreAfter round added → added_at added terminal round ≡ []
+added_at_after [] terminal round after = refl
+added_at_after (p ∷ added) terminal round after =
+    let late : nat_le p.round round ≡ false = lt-leb p.round round (All-head (λ (q : AddedPoint). round < q.round) p added after) in
+    rw (and_right (nat_eq p.terminal terminal) (nat_le p.round round) late) (added_at_after added terminal round (All-tail (λ (q : AddedPoint). round < q.round) p added after))
+
+-- points added after all of them, of later rounds, leave the points as of a round as they are
+pub points_at-with_added : (v : TimePoints) (more : List AddedPoint) (terminal round : ℕ) → AreAfter round more → points_at (with_added v more) terminal round ≡ points_at v terminal round
+points_at-with_added v more terminal round after =
+    ap (λ (qs : List ℕ). times_at v.first terminal ++ (qs ++ 0 ∷ []))
+    (added_at-append v.added more terminal round ∙ ap (λ (qs : List ℕ). added_at v.added terminal round ++ qs) (added_at_after more terminal round after) ∙ append-nil (added_at v.added terminal round))
+
+-- from the greatest round on the added points stay
+pub added_at_from_greatest : (added : List AddedPoint) (terminal round later : ℕ) → greatest_round added ≤ round → round ≤ later → added_at added terminal later ≡ added_at added terminal round
+added_at_from_greatest [] terminal round later least le = refl
+added_at_from_greatest (p ∷ added) terminal round later least le =
+    let rest : added_at added terminal later ≡ added_at added terminal round = added_at_from_greatest added terminal round later (omega (arith, least)) le in
+    let early : nat_le p.round round ≡ true = le-leb p.round round (omega (arith, least)) in
+    let also : nat_le p.round later ≡ true = le-leb p.round later (omega (arith, least, le)) in
+    ⊎_elim
+    (λ (own : nat_eq p.terminal terminal ≡ true). rw (own, early, also) (ap (λ (qs : List ℕ). p.at ∷ qs) rest))
+    (λ (other : nat_eq p.terminal terminal ≡ false). rw other rest)
+    (cases_Bool (nat_eq p.terminal terminal))
+
+-- so from the greatest round on the points stay
+pub points_at_from_greatest : (v : TimePoints) (terminal round later : ℕ) → greatest_round v.added ≤ round → round ≤ later → points_at v terminal later ≡ points_at v terminal round
+points_at_from_greatest v terminal round later least le =
+    ap (λ (qs : List ℕ). times_at v.first terminal ++ (qs ++ 0 ∷ [])) (added_at_from_greatest v.added terminal round later least le)
+
+-- what was added as of a round was added as of each later one
+pub added_at_mono : (added : List AddedPoint) (terminal round later at : ℕ) → round ≤ later → list_has (added_at added terminal round) at ≡ true → list_has (added_at added terminal later) at ≡ true
+added_at_mono [] terminal round later at le there = there
+added_at_mono (p ∷ added) terminal round later at le there =
+    ⊎_elim
+    (λ (seen : is_seen terminal round p ≡ true).
+    let parts = and_parts (nat_eq p.terminal terminal) (nat_le p.round round) seen in
+    let also : nat_le p.round later ≡ true = le-leb p.round later (omega (arith, leb-true p.round round parts.1, le)) in
+    rw (parts.0, also)
+    (⊎_elim
+    (λ (here : p.at ≡ at). rw here (list_has-first at (added_at added terminal later)))
+    (λ (rest : list_has (added_at added terminal round) at ≡ true). list_has-rest p.at (added_at added terminal later) at (added_at_mono added terminal round later at le rest))
+    (list_has-cons_cases p.at (added_at added terminal round) at (rw seen at there))))
+    (λ (unseen : is_seen terminal round p ≡ false).
+    let rest : list_has (added_at added terminal later) at ≡ true = added_at_mono added terminal round later at le (rw unseen at there) in
+    ⊎_elim
+    (λ (now : is_seen terminal later p ≡ true). rw now (list_has-rest p.at (added_at added terminal later) at rest))
+    (λ (never : is_seen terminal later p ≡ false). rw never rest)
+    (cases_Bool (is_seen terminal later p)))
+    (cases_Bool (is_seen terminal round p))
+
+-- a point that was added by the round is there
+pub list_has-added_at : (added : List AddedPoint) (terminal round k : ℕ) (d : AddedPoint) → k < length added → (get_or added k d).terminal ≡ terminal → (get_or added k d).round ≤ round →
+    list_has (added_at added terminal round) (get_or added k d).at ≡ true
+list_has-added_at [] terminal round k d lt own early = absurd (omega arith)
+list_has-added_at (p ∷ added) terminal round zero d lt own early = rw (eq-eqb p.terminal terminal own, le-leb p.round round early) (list_has-first p.at (added_at added terminal round))
+list_has-added_at (p ∷ added) terminal round (suc k) d lt own early =
+    let rest : list_has (added_at added terminal round) (get_or added k d).at ≡ true = list_has-added_at added terminal round k d (omega arith) own early in
+    ⊎_elim
+    (λ (seen : is_seen terminal round p ≡ true). rw seen (list_has-rest p.at (added_at added terminal round) (get_or added k d).at rest))
+    (λ (unseen : is_seen terminal round p ≡ false). rw unseen rest)
+    (cases_Bool (is_seen terminal round p))
+
+-- the points of a terminal as of a round, by their kinds
+pub list_has-points_at : (v : TimePoints) (terminal round at : ℕ) →
+    list_has (points_at v terminal round) at ≡ (list_has (times_at v.first terminal) at || (list_has (added_at v.added terminal round) at || list_has (0 ∷ []) at))
+list_has-points_at v terminal round at =
+    list_has-append (times_at v.first terminal) (added_at v.added terminal round ++ 0 ∷ []) at ∙
+    ap (λ (b : Bool). list_has (times_at v.first terminal) at || b) (list_has-append (added_at v.added terminal round) (0 ∷ []) at)
+
+-- a point as of a round is one as of each later round
+pub points_at_mono : (v : TimePoints) (terminal round later at : ℕ) → round ≤ later → list_has (points_at v terminal round) at ≡ true → list_has (points_at v terminal later) at ≡ true
+points_at_mono v terminal round later at le there =
+    let firsts : Bool = list_has (times_at v.first terminal) at in
+    let others : Bool = list_has (added_at v.added terminal later) at in
+    list_has-points_at v terminal later at ∙
+    ⊎_elim
+    (λ (h : firsts ≡ true). or_left firsts (others || list_has (0 ∷ []) at) h)
+    (λ (h : (list_has (added_at v.added terminal round) at || list_has (0 ∷ []) at) ≡ true).
+    or_right firsts (others || list_has (0 ∷ []) at)
+    (⊎_elim
+    (λ (k : list_has (added_at v.added terminal round) at ≡ true). or_left others (list_has (0 ∷ []) at) (added_at_mono v.added terminal round later at le k))
+    (λ (k : list_has (0 ∷ []) at ≡ true). or_right others (list_has (0 ∷ []) at) k)
+    (or_cases (list_has (added_at v.added terminal round) at) (list_has (0 ∷ []) at) h)))
+    (or_cases firsts (list_has (added_at v.added terminal round) at || list_has (0 ∷ []) at) (sym (list_has-points_at v terminal round at) ∙ there))
+
+-- one added point is one more point of its terminal, as of its round and of each later one
+pub list_has-with_added : (v : TimePoints) (p : AddedPoint) (terminal round at : ℕ) →
+    list_has (points_at (with_added v (p ∷ [])) terminal round) at ≡ (list_has (points_at v terminal round) at || ((nat_eq p.terminal terminal && nat_le p.round round) && nat_eq p.at at))
+list_has-with_added v p terminal round at =
+    let firsts : Bool = list_has (times_at v.first terminal) at in
+    let others : Bool = list_has (added_at v.added terminal round) at in
+    let zeros : Bool = list_has (0 ∷ []) at in
+    let one : Bool = is_seen terminal round p && nat_eq p.at at in
+    list_has-points_at (with_added v (p ∷ [])) terminal round at ∙
+    ap (λ (b : Bool). firsts || (b || zeros)) (list_has-filter_push (is_seen terminal round) (λ (q : AddedPoint). q.at) v.added p at) ∙
+    ap (λ (b : Bool). firsts || b) (or_right_comm others one zeros) ∙
+    sym (or_assoc firsts (others || zeros) one) ∙
+    ap (λ (b : Bool). b || one) (sym (list_has-points_at v terminal round at))
+
+-- at other terminals, and as of earlier rounds, the points stay the same
+pub HaveSamePoints_unseen : (v : TimePoints) (p : AddedPoint) (terminal round : ℕ) → (nat_eq p.terminal terminal && nat_le p.round round) ≡ false →
+    HaveSamePoints (points_at (with_added v (p ∷ [])) terminal round) (points_at v terminal round)
+HaveSamePoints_unseen v p terminal round unseen at =
+    list_has-with_added v p terminal round at ∙ rw unseen (or-false (list_has (points_at v terminal round) at))
+
+pub HaveSamePoints_other_terminal : (v : TimePoints) (p : AddedPoint) (terminal round : ℕ) → p.terminal ≢ terminal → HaveSamePoints (points_at (with_added v (p ∷ [])) terminal round) (points_at v terminal round)
+HaveSamePoints_other_terminal v p terminal round other =
+    HaveSamePoints_unseen v p terminal round (and_left (nat_eq p.terminal terminal) (nat_le p.round round) (ne_eqb p.terminal terminal other))
+
+pub HaveSamePoints_earlier_round : (v : TimePoints) (p : AddedPoint) (terminal round : ℕ) → round < p.round → HaveSamePoints (points_at (with_added v (p ∷ [])) terminal round) (points_at v terminal round)
+HaveSamePoints_earlier_round v p terminal round early =
+    HaveSamePoints_unseen v p terminal round (and_right (nat_eq p.terminal terminal) (nat_le p.round round) (lt-leb p.round round early))
+
+-- at its own terminal, from its round on, the new point stands before the others
+pub HaveSamePoints_own_terminal : (v : TimePoints) (p : AddedPoint) (round : ℕ) → p.round ≤ round → HaveSamePoints (points_at (with_added v (p ∷ [])) p.terminal round) (p.at ∷ points_at v p.terminal round)
+HaveSamePoints_own_terminal v p round from at =
+    list_has-with_added v p p.terminal round at ∙
+    rw (eq-eqb p.terminal p.terminal refl, le-leb p.round round from) (or_comm (list_has (points_at v p.terminal round) at) (nat_eq p.at at))

@@ -1,0 +1,133 @@
+-- Each way of sending shipments obeys all sides of some leaf of a tree.
+use Rattle.std.proofs.Common.{◌≡◌, ◌≢◌, ℕ, suc, ◌*◌, ◌<◌, ◌≤◌, true, false, List, [], ◌∷◌, ◌++◌, length, ◌⊎◌, ⊎_elim, inl, inr, sym, ap, ◌∙◌, subst, arith}
+use Rattle.std.specs.Prelude.{Option, Some, None, IfSome, slice_index_or, nat_eq, nat_le}
+use Rattle.std.specs.List.{AllByRecursion}
+use Rattle.std.proofs.lemmas.Bool.{cases_Bool, leb-true, leb-false}
+use Rattle.std.proofs.lemmas.Bool.Decides.{eqb_tells}
+use Rattle.fp_lists.proofs.Elements.{AllByRecursion-weaker, AllByRecursion-both}
+use Rattle.fp_tree.specs.declared.sides.Split.{Split}
+use Rattle.fp_tree.specs.declared.sides.Split.TheVariants.{ByArc, ByTime}
+use Rattle.fp_tree.specs.declared.sides.Side.{Side}
+use Rattle.fp_tree.specs.declared.sides.Side.TheVariants.{Without, Only, Before, From}
+use Rattle.fp_tree.specs.Sides.{Exit, Fork, HasTail, IsTailOfSplit, Meets, MeetsAll, Obeys, first, second, first_of_split, second_of_split}
+use Rattle.fp_tree.specs.Trees.{Leaf, leaves_of, AreTrees, IsTree, tree_leaves, LeaveApart, HaveTails, CoversAll}
+use Rattle.fp_lists.specs.Elements.{AnyByRecursion}
+
+-- two numbers are equal or not
+same_or_not : (a b : ℕ) → (a ≡ b) ⊎ (a ≢ b)
+same_or_not a b =
+    ⊎_elim (λ (h : (nat_eq a b ≡ true) × (a ≡ b)). inl h.1) (λ (h : (nat_eq a b ≡ false) × (a ≢ b)). inr h.1) (eqb_tells a b)
+
+-- the legs that leave a terminal are all so, or all so, since there is one at most
+one_or_other : (tails : ℕ → ℕ) (terminal : ℕ) (P Q : Exit → Type 0) → ((e : Exit) → P e ⊎ Q e) → (exits : List Exit) → LeaveApart tails exits →
+    AllByRecursion (λ e. e.tail ≡ terminal → P e) exits ⊎ AllByRecursion (λ e. e.tail ≡ terminal → Q e) exits
+one_or_other tails terminal P Q either [] apart = inl tt
+one_or_other tails terminal P Q either (e ∷ exits) apart =
+    ⊎_elim
+    (λ (here : e.tail ≡ terminal).
+    ⊎_elim
+    (λ (p : P e). inl ((λ at. p), AllByRecursion-weaker (λ (f : Exit). f.tail ≢ e.tail) (λ f. f.tail ≡ terminal → P f) (λ f other at. absurd (other (at ∙ sym here))) exits apart.1))
+    (λ (q : Q e). inr ((λ at. q), AllByRecursion-weaker (λ (f : Exit). f.tail ≢ e.tail) (λ f. f.tail ≡ terminal → Q f) (λ f other at. absurd (other (at ∙ sym here))) exits apart.1))
+    (either e))
+    (λ (away : e.tail ≢ terminal).
+    ⊎_elim
+    (λ (all : AllByRecursion (λ f. f.tail ≡ terminal → P f) exits). inl ((λ at. absurd (away at)), all))
+    (λ (all : AllByRecursion (λ f. f.tail ≡ terminal → Q f) exits). inr ((λ at. absurd (away at)), all))
+    (one_or_other tails terminal P Q either exits apart.2))
+    (same_or_not e.tail terminal)
+
+tails_told : (tails : ℕ → ℕ) (exits : List Exit) → LeaveApart tails exits → AllByRecursion (λ (e : Exit). e.tail ≡ tails e.arc) exits
+tails_told tails [] apart = tt
+tails_told tails (e ∷ exits) apart = (apart.0, tails_told tails exits apart.2)
+
+-- what obeys sides and one more
+meets_more : (d k : ℕ) (sides : List Side) (side : Side) (e : Exit) → MeetsAll d k sides e → Meets d k e side → MeetsAll d k (sides ++ (side ∷ [])) e
+meets_more d k [] side e all one = (one, tt)
+meets_more d k (s ∷ sides) side e all one = (all.0, meets_more d k sides side e all.1 one)
+
+obeys_more : (d : ℕ) (routes : List (List Exit)) (sides : List Side) (side : Side) → Obeys d routes sides → ((k : ℕ) → AllByRecursion (λ e. Meets d k e side) (slice_index_or routes k [])) →
+    Obeys d routes (sides ++ (side ∷ []))
+obeys_more d routes sides side all one = λ k.
+    AllByRecursion-weaker (λ e. MeetsAll d k sides e × Meets d k e side) (MeetsAll d k (sides ++ (side ∷ []))) (λ e both. meets_more d k sides side e both.0 both.1)
+    (slice_index_or routes k []) (AllByRecursion-both (MeetsAll d k sides) (λ e. Meets d k e side) (slice_index_or routes k []) (all k) (one k))
+
+-- a side of one shipment is obeyed where that shipment's legs obey it
+alone : (d shipment : ℕ) (routes : List (List Exit)) (side : Side) → ((k : ℕ) (e : Exit) → k ≢ shipment → Meets d k e side) →
+    AllByRecursion (λ e. Meets d shipment e side) (slice_index_or routes shipment []) → (k : ℕ) → AllByRecursion (λ e. Meets d k e side) (slice_index_or routes k [])
+alone d shipment routes side others own k =
+    ⊎_elim
+    (λ (same : k ≡ shipment). subst (λ (j : ℕ). AllByRecursion (λ e. Meets d j e side) (slice_index_or routes j [])) (sym same) own)
+    (λ (other : k ≢ shipment). every (slice_index_or routes k []) (λ e. others k e other))
+    (same_or_not k shipment)
+  where
+    every : (xs : List Exit) → ((e : Exit) → Meets d k e side) → AllByRecursion (λ e. Meets d k e side) xs
+    every [] all = tt
+    every (x ∷ xs) all = (all x, every xs all)
+
+-- one of a split's two sides is obeyed by all
+pub one_side : (tails : ℕ → ℕ) (d : ℕ) (routes : List (List Exit)) → ((k : ℕ) → LeaveApart tails (slice_index_or routes k [])) → (split : Split) (tail : ℕ) → IsTailOfSplit tails split tail →
+    ((k : ℕ) → AllByRecursion (λ e. Meets d k e (first_of_split split)) (slice_index_or routes k []))
+    ⊎ ((k : ℕ) → AllByRecursion (λ e. Meets d k e (second_of_split split tail)) (slice_index_or routes k []))
+one_side tails d routes apart (ByArc shipment arc) tail is_tail =
+    let exits : List Exit = slice_index_or routes shipment [] in
+    let told : AllByRecursion (λ (e : Exit). e.tail ≡ tails e.arc) exits = tails_told tails exits (apart shipment) in
+    ⊎_elim
+    (λ (without : AllByRecursion (λ e. e.tail ≡ tail → e.arc ≢ arc) exits).
+    inl (alone d shipment routes (Without shipment arc) (λ k e other same. absurd (other same))
+    (AllByRecursion-weaker (λ e. (e.tail ≡ tail → e.arc ≢ arc) × (e.tail ≡ tails e.arc)) (λ e. shipment ≡ shipment → e.arc ≢ arc)
+    (λ e both own is. both.0 (both.1 ∙ ap tails is ∙ sym is_tail) is) exits (AllByRecursion-both (λ e. e.tail ≡ tail → e.arc ≢ arc) (λ e. e.tail ≡ tails e.arc) exits without told))))
+    (λ (only : AllByRecursion (λ e. e.tail ≡ tail → e.arc ≡ arc) exits).
+    inr (alone d shipment routes (Only shipment arc tail) (λ k e other same. absurd (other same))
+    (AllByRecursion-weaker (λ e. e.tail ≡ tail → e.arc ≡ arc) (λ e. shipment ≡ shipment → e.tail ≡ tail → e.arc ≡ arc) (λ e only_it own. only_it) exits only)))
+    (one_or_other tails tail (λ e. e.arc ≢ arc) (λ e. e.arc ≡ arc)
+    (λ e. ⊎_elim (λ (same : e.arc ≡ arc). inr same) (λ (other : e.arc ≢ arc). inl other) (same_or_not e.arc arc)) exits (apart shipment))
+one_side tails d routes apart (ByTime shipment terminal at) tail is_tail =
+    let exits : List Exit = slice_index_or routes shipment [] in
+    ⊎_elim
+    (λ (before : AllByRecursion (λ e. e.tail ≡ terminal → e.moment < d * at) exits).
+    inl (alone d shipment routes (Before shipment terminal at) (λ k e other same. absurd (other same))
+    (AllByRecursion-weaker (λ e. e.tail ≡ terminal → e.moment < d * at) (λ e. shipment ≡ shipment → e.tail ≡ terminal → e.moment < d * at) (λ e h own. h) exits before)))
+    (λ (after : AllByRecursion (λ e. e.tail ≡ terminal → d * at ≤ e.moment) exits).
+    inr (alone d shipment routes (From shipment terminal at) (λ k e other same. absurd (other same))
+    (AllByRecursion-weaker (λ e. e.tail ≡ terminal → d * at ≤ e.moment) (λ e. shipment ≡ shipment → e.tail ≡ terminal → d * at ≤ e.moment) (λ e h own. h) exits after)))
+    (one_or_other tails terminal (λ e. e.moment < d * at) (λ e. d * at ≤ e.moment)
+    (λ e. ⊎_elim (λ (h : nat_le (d * at) e.moment ≡ true). inr (leb-true (d * at) e.moment h)) (λ (h : nat_le (d * at) e.moment ≡ false). inl (leb-false (d * at) e.moment h)) (cases_Bool (nat_le (d * at) e.moment))) exits (apart shipment))
+
+-- what obeys the sides of one of the trees to come obeys those of one of their leaves
+covers_pending : {X : Type 0} (tails : ℕ → ℕ) (fork_of : X → Option Fork) (d : ℕ) (routes : List (List Exit)) → ((k : ℕ) → LeaveApart tails (slice_index_or routes k [])) →
+    (nodes : List X) (pending : List (List Side)) → HaveTails tails fork_of nodes → AreTrees fork_of (length pending) nodes → AnyByRecursion (Obeys d routes) pending →
+    AnyByRecursion (λ (l : Leaf X). Obeys d routes l.sides) (leaves_of fork_of pending nodes)
+covers_pending tails fork_of d routes apart [] [] told trees any = any
+covers_pending tails fork_of d routes apart [] (sides ∷ pending) told trees any = absurd (omega (arith, trees))
+covers_pending tails fork_of d routes apart (x ∷ nodes) [] told trees any = absurd any
+covers_pending {X} tails fork_of d routes apart (x ∷ nodes) (sides ∷ pending) told trees any =
+    by_split (fork_of x) told.0 (λ more. covers_pending tails fork_of d routes apart nodes more told.1) trees
+  where
+    by_split : (o : Option Fork) → IfSome o (HasTail tails) →
+        ((more : List (List Side)) → AreTrees fork_of (length more) nodes → AnyByRecursion (Obeys d routes) more → AnyByRecursion (λ (l : Leaf X). Obeys d routes l.sides) (leaves_of fork_of more nodes)) →
+        elim o as (λ p. Type 0) [ None ↦ AreTrees fork_of (length pending) nodes | Some b ↦ AreTrees fork_of (suc (suc (length pending))) nodes ] →
+        AnyByRecursion (λ (l : Leaf X). Obeys d routes l.sides) (elim o as (λ p. List (Leaf X)) [
+          | None ↦ (record { node = x; sides = sides }) ∷ leaves_of fork_of pending nodes
+          | Some b ↦ leaves_of fork_of ((sides ++ (first b ∷ [])) ∷ (sides ++ (second b ∷ [])) ∷ pending) nodes
+        ])
+    by_split None tail_is again rest =
+        ⊎_elim
+        (λ (here : Obeys d routes sides). inl here)
+        (λ (later : AnyByRecursion (Obeys d routes) pending). inr (again pending rest later))
+        any
+    by_split (Some b) tail_is again rest =
+        again ((sides ++ (first b ∷ [])) ∷ (sides ++ (second b ∷ [])) ∷ pending) rest
+        (⊎_elim
+        (λ (here : Obeys d routes sides).
+        ⊎_elim (λ one. inl (obeys_more d routes sides (first b) here one)) (λ one. inr (inl (obeys_more d routes sides (second b) here one))) (one_side tails d routes apart b.split b.tail tail_is))
+        (λ (later : AnyByRecursion (Obeys d routes) pending). inr (inr later))
+        any)
+
+-- the leaves of a tree cover all
+pub CoversAll-tree_leaves : {X : Type 0} (tails : ℕ → ℕ) (fork_of : X → Option Fork) (nodes : List X) → HaveTails tails fork_of nodes → IsTree fork_of nodes → CoversAll tails (tree_leaves fork_of nodes)
+CoversAll-tree_leaves tails fork_of nodes told tree d routes apart =
+    covers_pending tails fork_of d routes apart nodes ([] ∷ []) told tree (inl (λ k. every (slice_index_or routes k [])))
+  where
+    every : (xs : List Exit) → AllByRecursion (λ (e : Exit). Unit {0}) xs
+    every [] = tt
+    every (x ∷ xs) = (tt, every xs)
