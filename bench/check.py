@@ -15,8 +15,7 @@ import time
 
 sys.path.insert(0, os.path.dirname(os.path.abspath(__file__)))
 from instances import generated
-
-TOP = os.path.dirname(os.path.dirname(os.path.abspath(__file__)))
+from kit import built_program
 
 
 def splits(count):
@@ -88,7 +87,7 @@ def measured(program, lines, wanted):
 
 
 def main():
-    program = sys.argv[1] if len(sys.argv) > 1 else os.path.join(TOP, "crates/freight/out/freight")
+    program = built_program()
     print("what lines seconds growth megabytes growth")
     for what, make, sizes, wanted in (
         ("splits", splits, (10_000, 100_000), "accepted,unfinished\n"),

@@ -12,8 +12,7 @@ import time
 
 sys.path.insert(0, os.path.dirname(os.path.abspath(__file__)))
 from instances import instance
-
-TOP = os.path.dirname(os.path.dirname(os.path.abspath(__file__)))
+from kit import built_program
 
 
 def seconds(program, text):
@@ -30,7 +29,7 @@ def seconds(program, text):
 
 
 def main():
-    program = sys.argv[1] if len(sys.argv) > 1 else os.path.join(TOP, "crates/freight/out/freight")
+    program = built_program()
     before = None
     print("terminals arcs shipments legs seconds growth")
     # The last has a ring alone, so that routes are long.

@@ -8,8 +8,21 @@ import tempfile
 TOP = os.path.dirname(os.path.dirname(os.path.abspath(__file__)))
 
 
+def built_program():
+    """The program that is named on the command line, or else the proved one, built here or in dist/."""
+    if len(sys.argv) > 1:
+        return sys.argv[1]
+    for place in ("crates/freight/out/freight", "dist/freight-x86_64-linux"):
+        path = os.path.join(TOP, place)
+        if os.path.exists(path):
+            return path
+    sys.exit("no program is built here: run .ci/run (or ./freight direct < examples/one-arc.csv), or name one")
+
+
 def run(source, crates, uses):
     """What the program prints. `crates` are the lines of crates.txt below it, `uses` the crates that it names."""
+    if shutil.which("rt") is None:
+        sys.exit("this benchmark compiles a small program and needs the Rattle kit (the command rt)")
     with tempfile.TemporaryDirectory() as folder:
         for line in crates:
             name = line.split(":")[0]

@@ -13,8 +13,7 @@ import time
 
 sys.path.insert(0, os.path.dirname(os.path.abspath(__file__)))
 from instances import generated
-
-TOP = os.path.dirname(os.path.dirname(os.path.abspath(__file__)))
+from kit import built_program
 
 
 def tree(depth, split, leaf):
@@ -41,7 +40,7 @@ def run(program, command, text):
 
 
 def main():
-    program = sys.argv[1] if len(sys.argv) > 1 else os.path.join(TOP, "crates/freight/out/freight")
+    program = built_program()
     print("terminals shipments prices seconds")
     for terminals, shipments in ((10, 40), (20, 60)):
         text = generated(1, terminals, shipments)
