@@ -30,7 +30,7 @@ returns-then-not-advance c =
     c.advance.ensures.pending ∙ ap (λ (b : Bool). cond b (way_sides c.advance.new.self ∷ pending_on c.advance.new.self) []) c.if-not-advance.true in (
       λ _.
           worth-last p c.args.windows.now told (AreLeavesWorth p c.args.windows.now told (claim_of told.answer)) c.loop-node.way told.tree i none c.in-Leaf.price lt
-          (ap (λ (xs : List Node). get_or xs i none) (sym tree) ∙ c.in-Leaf.is) c.loop-node.invariant worth ended,
+          (ap (λ (xs : List Node). get_or xs i none) (sym tree) ∙ c.in-Leaf.is) c.loop-node.invariant.left worth ended,
       λ _. refl,
     )
 
@@ -45,7 +45,7 @@ loop-node-preserved c =
     elim c.match-node.branch [
       | in-Branch+in_ok-descend-in-Branch w ↦
           worth-branch p c.args.windows.now told (AreLeavesWorth p c.args.windows.now told (claim_of told.answer)) c.loop-node.way c.match-node.way' told.tree i none w.in-Branch.split w.split_tail.result lt
-          (ap (λ (xs : List Node). get_or xs i none) (sym tree) ∙ w.in-Branch.is) w.split_tail.ensures (w.way'-is ∙ w.in_ok-descend-in-Branch.ensures.ok) c.loop-node.invariant
+          (ap (λ (xs : List Node). get_or xs i none) (sym tree) ∙ w.in-Branch.is) w.split_tail.ensures (w.way'-is ∙ w.in_ok-descend-in-Branch.ensures.ok) c.loop-node.invariant.left
       | in-Leaf+in_ok-sides-in-Leaf+in_ok-is_leaf_worth-in-Leaf+else-not-branch+else-not-advance w ↦
           let sides : w.as_slice.result.now ≡ way_sides c.loop-node.way = w.as_slice.ensures.value ∙ w.in_ok-sides-in-Leaf.ensures in
           let worth : IsLeafWorth p c.args.windows.now told (claim_of told.answer) (Leaf w.in-Leaf.price) (way_sides c.loop-node.way) =
@@ -54,5 +54,5 @@ loop-node-preserved c =
           w.advance.ensures.pending ∙ ap (λ (b : Bool). cond b (way_sides w.advance.new.self ∷ pending_on w.advance.new.self) []) w.if-not-advance.false
           ∙ ap (λ (way : List Step). way_sides way ∷ pending_on way) (sym w.way'-is) in
           worth-more p c.args.windows.now told (AreLeavesWorth p c.args.windows.now told (claim_of told.answer)) c.loop-node.way c.match-node.way' told.tree i none w.in-Leaf.price lt
-          (ap (λ (xs : List Node). get_or xs i none) (sym tree) ∙ w.in-Leaf.is) c.loop-node.invariant worth goes
+          (ap (λ (xs : List Node). get_or xs i none) (sym tree) ∙ w.in-Leaf.is) c.loop-node.invariant.left worth goes
     ]
