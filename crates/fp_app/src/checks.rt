@@ -1,5 +1,6 @@
 //! What `check` shows.
 ghost use Rattle.std.specs.Prelude.{ℕ, ◌≡◌, ◌-◌, ◌<◌, ◌≤◌, ◌^◌, drop, length, IfOk};
+ghost use Rattle.fp_fields.specs.Indexes.{entries_of};
 ghost use Rattle.fp_app.specs.Checks.{ShowsCheck, scale_of, scaled};
 ghost use Rattle.fp_app.specs.CheckInputs.{AreCheckable, CanBeChecked, IsCheckInput, IsCheckInputOf};
 ghost use Rattle.fp_app.specs.Inputs.{OfCertificate};
@@ -7,11 +8,12 @@ ghost use Rattle.fp_app.specs.declared.limits.TheConstants.{CHECK_LIMIT};
 ghost use Rattle.fp_app.specs.Shown.{IsPrintable};
 
 use crate::{NoMemory, Shown};
-use fp_certificate::{CertFault, Certificate, read};
+use fp_certificate::{CertFault, Certificate, read_with_index};
 use fp_checker::{Rejected, check};
+use fp_fields::Index;
 use fp_flatnet::Windows;
 use fp_model::{Instance, SCALE};
-use fp_reader::{InputFault, Read, Tail, instance};
+use fp_reader::{IndexedRead, InputFault, Tail, instance_with_index};
 use fp_records::{Record, records};
 use std::alloc::{AllocError, Global};
 
@@ -45,7 +47,8 @@ pub fn check_shown(alloc: Global, bytes: Vec<u8>) -> Result<Shown, NoMemory>
     }
 }
 
-// The instance and the certificate of an input. Neither its bytes nor its records are kept.
+// The instance and the certificate of an input. Neither its bytes nor its records are kept; the
+// index of names that reading the instance made serves the certificate too.
 fn read_both(alloc: Global, bytes: Vec<u8>) -> Result<CheckInput, NoMemory>
     requires { length bytes.items ≤ CHECK_LIMIT }
     ensures given { IfOk result (IsCheckInput bytes.items) }
@@ -53,26 +56,34 @@ fn read_both(alloc: Global, bytes: Vec<u8>) -> Result<CheckInput, NoMemory>
 {
     let lines = records(alloc, &bytes)?;
     drop(bytes);
-    match instance(alloc, &lines, Tail::Certificate) {
-        Ok(Read { instance, used }) => read_certificate(alloc, instance, &lines, used),
+    match instance_with_index(alloc, &lines, Tail::Certificate) {
+        Ok(
+            IndexedRead {
+                instance,
+                index,
+                used,
+            },
+        ) => read_certificate(alloc, instance, &index, &lines, used),
         Err(InputFault::Bad { ordinal, code }) => Ok(CheckInput::Fault { ordinal, code }),
         Err(InputFault::NoMemory) => Err(AllocError),
     }
 }
 
-// The certificate of the records from a place on, with its instance.
+// The certificate of the records from a place on, with its instance, of which this is the index.
 fn read_certificate(
     alloc: Global,
     instance: Instance,
+    index: &Index<'_>,
     lines: &[Record],
     used: usize,
 ) -> Result<CheckInput, NoMemory>
+    requires index { index.now ≡ entries_of instance }
     requires used { used ≤ length lines.now }
     requires few { length lines.now < 2 ^ 32 - 1 }
     ensures read { IfOk result (IsCheckInputOf instance used lines.now) }
     ensures checkable { IfOk result AreCheckable }
 {
-    match read(alloc, &instance, lines, used) {
+    match read_with_index(alloc, &instance, index, lines, used) {
         Ok(certificate) => Ok(CheckInput::Both {
             instance,
             certificate,

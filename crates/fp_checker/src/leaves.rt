@@ -1,6 +1,7 @@
 //! What the leaves of a certificate's tree are worth.
 ghost use Rattle.std.specs.Prelude.{◌≡◌, ◌≤◌, ◌↔◌, IfOk, IsTrue};
 ghost use Rattle.fp_flatnet.specs.Belonging.{BelongsTo};
+ghost use Rattle.fp_prices.specs.RoundBounds.{AreRoundBounds};
 ghost use Rattle.fp_prices.specs.Tables.{AreTables, HasKind};
 ghost use Rattle.fp_lines.specs.declared.certificates.Node.TheVariants as node;
 ghost use Rattle.fp_lines.specs.Ranges.{IsInRange, IsSplitInRange};
@@ -13,7 +14,7 @@ use crate::NoMemory;
 use fp_certificate::{Answer, Certificate, Node};
 use fp_flatnet::Windows;
 use fp_model::Instance;
-use fp_prices::{LeafBound, LeafPrice, bound};
+use fp_prices::{Kind, LeafBound, LeafPrice, RoundBounds};
 use fp_timenodes::Points;
 use fp_tree::{Side, Split, Way};
 use std::alloc::Global;
@@ -51,27 +52,32 @@ fn is_bound_worth(bound: LeafBound, scale: u32, claim: u128) -> bool
     }
 }
 
-// Whether a leaf under sides is worth what the certificate claims.
-fn is_leaf_worth(
+// Whether a leaf under sides is worth what the certificate claims, with what is kept for the leaves
+// after it.
+fn is_leaf_worth<'a>(
     alloc: Global,
-    instance: &Instance,
+    instance: &'a Instance,
     windows: &Windows,
     certificate: &Certificate,
     points: &Points,
     sides: &[Side],
     price: LeafPrice,
-) -> Result<bool, NoMemory>
+    kept: RoundBounds<'a>,
+) -> Result<(bool, RoundBounds<'a>), NoMemory>
     requires belongs { BelongsTo instance.now windows.now }
     requires points { ArePointsOf instance.now windows.now.anchors certificate.now.points
         points.now }
     requires tables { AreTables instance.now certificate.now.tables }
     requires kind { HasKind certificate.now.tables price.kind }
-    ensures { IfOk result (λ worth. IsTrue worth
+    requires kept { AreRoundBounds instance.now points.now certificate.now.tables kept }
+    ensures worth { IfOk result (λ found. IsTrue found.0
         ↔ IsLeafWorth instance.now windows.now certificate.now (claim_of_answer certificate.now.answer) (node.Leaf price) sides.now) }
+    ensures kept { IfOk result (λ found. AreRoundBounds instance.now points.now certificate.now.tables found.1) }
 {
     let tables = certificate.tables.as_slice();
-    let bound = bound(alloc, instance, windows, points, tables, sides, price)?;
-    Ok(is_bound_worth(bound, instance.scale(), claim_of(certificate.answer)))
+    let found = kept.bound(alloc, instance, windows, points, tables, sides, price)?;
+    let is_worth = is_bound_worth(found.0, instance.scale(), claim_of(certificate.answer));
+    Ok((is_worth, found.1))
 }
 
 // Whether each leaf is worth what the certificate claims. The leaves are reached in preorder,
@@ -92,12 +98,13 @@ pub(crate) fn are_leaves_worth(
         ↔ AreLeavesWorth instance.now windows.now certificate.now (claim_of_answer certificate.now.answer)) }
 {
     let mut way = Way::new(alloc);
+    let mut bounds = RoundBounds::of(alloc, instance, points, 0, Kind::Linear)?;
     for node in certificate.tree.as_slice() {
         match *node {
             Node::Branch { split } => way.descend(split, split_tail(instance, split))?,
             Node::Leaf { price } => {
                 let sides = way.sides(alloc)?;
-                if !is_leaf_worth(
+                let found = is_leaf_worth(
                     alloc,
                     instance,
                     windows,
@@ -105,7 +112,10 @@ pub(crate) fn are_leaves_worth(
                     points,
                     sides.as_slice(),
                     price,
-                )? {
+                    bounds,
+                )?;
+                bounds = found.1;
+                if !found.0 {
                     return Ok(false);
                 }
                 if !way.advance() {

@@ -1,5 +1,5 @@
 -- What is found over the network is the bound of the leaf.
-use Rattle.std.proofs.Common.{◌≡◌, ℕ, ◌+◌, ◌*◌, ◌^◌, ◌<◌, ◌≤◌, Bool, List, [], length, sym, ap, ◌∙◌, subst, arith}
+use Rattle.std.proofs.Common.{◌≡◌, ℕ, ◌+◌, ◌*◌, ◌^◌, ◌<◌, ◌≤◌, Bool, false, List, [], length, sym, ap, ◌∙◌, subst, arith}
 use Rattle.std.specs.Prelude.{All, IfOk, Result, Ok, Err, sum_by}
 use Rattle.std.specs.declared.alloc.AllocError.{AllocError}
 use Rattle.std.proofs.Math.Nat.{mul-le-mul_left}
@@ -20,11 +20,13 @@ use Rattle.fp_prices.specs.declared.bases.ForcedClasses.{ForcedClasses}
 use Rattle.fp_prices.specs.declared.bounds.LeafBound.{LeafBound}
 use Rattle.fp_prices.specs.declared.bounds.LeafBound.TheVariants.{Empty, Value}
 use Rattle.fp_prices.specs.declared.class_prices.LeafPricing.{LeafPricing}
+use Rattle.fp_prices.specs.declared.known_costs.KnownCost.{KnownCost}
 use Rattle.fp_prices.specs.declared.leaf_prices.Kind.{Kind}
 use Rattle.fp_prices.specs.ClassCosts.{AllowsClasses}
 use Rattle.fp_prices.specs.Forced.{AreForcedOf, AreRowsUnder, row_cost}
 use Rattle.fp_prices.specs.Found.{IsFoundAtLeaf, IsFoundOver, IsPricedLeaf}
 use Rattle.fp_prices.specs.FoundWalks.{AreLeastOver, AreWalksAtLeaf, IsEmptyAtLeaf, IsEmptyOver}
+use Rattle.fp_prices.specs.KnownCosts.{AreKnownCosts, AreKnownUnder, IsPlainPricing, IsSharedKind}
 use Rattle.fp_prices.specs.LeastWalks.{AreLeastWalks}
 use Rattle.fp_prices.specs.Leaves.{BoundsPlans, IsBoundOf, IsChain, IsLeafEmpty, IsSmallBound, leaf_price}
 use Rattle.fp_prices.specs.Prices.{AllKeepRule}
@@ -33,6 +35,7 @@ use Rattle.fp_prices.specs.Rounds.{IsLeafOver, LeafModel, RoundModel}
 use Rattle.fp_prices.specs.Rows.{AreRowsOf}
 use Rattle.fp_prices.specs.Shares.{ClassShare}
 use Rattle.fp_prices.proofs.BasesCost.{row_cost-chains}
+use Rattle.fp_prices.proofs.KnownCosts.{all_legs-plain, known-same, plain-pricing}
 use Rattle.fp_prices.proofs.PlanBounds.{bounds-plans}
 use Rattle.fp_prices.proofs.PricedClasses.{alone-fits}
 use Rattle.fp_prices.proofs.SmallBounds.{bases-small, value-small}
@@ -122,6 +125,26 @@ module _ (p : Problem) (windows : WindowTable) (net : TimedNetwork) (sides : Lis
       (prices : (allowed : ℕ → Leg → Bool) (chains : List (List Leg)) → AreRowsOf net allowed rows → TellsForced net chains forced.row → IsPricing tables allowed kind chains pricing) where
     pricing-is : IsPricing tables allowed_of kind chains_of pricing
     pricing-is = prices allowed_of chains_of rows-are tells-forced
+
+    -- where no class is forced, the pricing is that of plain leaves
+    leaf-plain : is_forced ≡ false → IsSharedKind kind → IsPlainPricing p net tables kind pricing
+    leaf-plain plain shared =
+        plain-pricing p net tables kind pricing allowed_of chains_of same same_net shared pricing-is
+        (all_legs-plain p allowed_of 0 p.shipments chains_of (subst (λ (b : Bool). AllZipFrom (λ k. IsChain p (allowed_of k) b) 0 p.shipments chains_of) plain chains-are))
+
+    -- so what is known from earlier leaves holds under it
+    pub known-before : (known : List KnownCost) → AreKnownCosts p net tables kind is_forced known → AreKnownUnder pricing known
+    known-before known are = λ k entry got.
+        let one = are k entry got in
+        one.holds pricing (leaf-plain one.plain one.shared)
+
+    -- and what is found under it is known at later leaves
+    pub known-after : (known : List KnownCost) → IsSharedKind kind → is_forced ≡ false → AreKnownUnder pricing known → AreKnownCosts p net tables kind is_forced known
+    known-after known shared plain are = λ k entry got. record {
+      plain = plain;
+      shared = shared;
+      holds = λ other is. known-same p net tables kind pricing other (leaf-plain plain shared) is k entry (are k entry got);
+    }
 
     -- the rows are priced
     pub leaf-priced : IsPricedLeaf pricing rows

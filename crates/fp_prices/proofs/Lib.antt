@@ -1,3 +1,4 @@
+pub mod KnownCosts
 pub mod LeafBounds
 pub mod LeastSoFar
 pub mod ShipmentCosts

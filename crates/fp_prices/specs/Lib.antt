@@ -16,3 +16,5 @@ pub mod LeastWalks
 pub mod FoundWalks
 pub mod FlatBounds
 pub mod EarnedLeaves
+pub mod KnownCosts
+pub mod RoundBounds

@@ -1,5 +1,5 @@
 //! The bound of a leaf: the bases, and the least cost of each shipment.
-ghost use Rattle.std.specs.Prelude.{◌≡◌, ◌+◌, ◌*◌, ◌<◌, ◌≤◌, IfOk, length};
+ghost use Rattle.std.specs.Prelude.{◌≡◌, ◌+◌, ◌*◌, ◌<◌, ◌≤◌, IfOk, IfSome, length};
 ghost use Rattle.fp_model.specs.Problem.{alone_total};
 ghost use Rattle.fp_timenodes.specs.Points.{points_at};
 ghost use Rattle.fp_flatnet.specs.Belonging.{BelongsTo};
@@ -8,12 +8,14 @@ ghost use Rattle.fp_longestarcs.specs.Networks.{class_count};
 ghost use Rattle.fp_prices.specs.ClassCosts.{IsFree};
 ghost use Rattle.fp_prices.specs.Forced.{AreRowsUnder};
 ghost use Rattle.fp_prices.specs.Found.{IsFoundAtLeaf, IsLeastAtLeaf, IsPricedLeaf, IsPricedRow, IsSmallCost};
+ghost use Rattle.fp_prices.specs.KnownCosts.{AreKnownUnder};
 ghost use Rattle.fp_prices.specs.Leaves.{BoundsPlans, IsBoundOf, IsSmallBound};
 ghost use Rattle.fp_prices.specs.PointGraphs.{IsPointGraph};
 ghost use Rattle.fp_prices.specs.Tables.{AreTables, HasKind};
 
 use crate::NoMemory;
 use crate::class_prices::LeafPricing;
+use crate::known_costs::{KnownCost, keep_cost, known_cost};
 use crate::leaf_prices::LeafPrice;
 use crate::least_costs::least_cost;
 use crate::leaves::Leaf;
@@ -68,25 +70,66 @@ fn shipment_cost(
     )
 }
 
+// The least cost of a shipment whose row this is, `None` exactly where it has no allowed timed
+// walk: the known one, where it was found with the same row, and otherwise what a search finds,
+// which is known from now on.
+fn known_or_found(
+    alloc: Global,
+    pricing: &LeafPricing,
+    graph: &PointGraph,
+    shipment: u32,
+    row: &Row,
+    costs: &mut [Option<u128>],
+    known: &mut Vec<KnownCost>,
+) -> Result<Option<u128>, NoMemory>
+    requires shipment { shipment < length pricing.now.instance.now.shipments }
+    requires graph { IsPointGraph pricing.now.instance.now pricing.now.network.now graph.now }
+    requires priced { IsPricedRow pricing.now shipment row.now }
+    requires long { length row.now ≡ class_count pricing.now.network.now }
+    requires edges { length costs.old ≡ graph.now.edges }
+    requires free { IsFree (class_count pricing.now.network.now) costs.old }
+    requires known { AreKnownUnder pricing.now known.old.items }
+    requires before { shipment ≤ length known.old.items }
+    ensures free { IsFree (class_count pricing.now.network.now) costs.new }
+    ensures small { IfOk result (IsSmallCost pricing.now.instance.now shipment) }
+    ensures exact { IfOk result (IsLeastAtLeaf pricing.now shipment row.now) }
+    ensures known { IfOk result (λ _. AreKnownUnder pricing.now known.new.items) }
+    ensures more { IfOk result (λ cost. IfSome cost (λ _. shipment + 1 ≤ length known.new.items)) }
+{
+    let classes = pricing.network.classes();
+    if let Some(cost) = known_cost(known, shipment, row, classes) {
+        return Ok(Some(cost));
+    }
+    let found = shipment_cost(alloc, pricing, graph, shipment, row, costs)?;
+    if let Some(cost) = found {
+        keep_cost(alloc, known, shipment, row, classes, cost)?;
+    }
+    Ok(found)
+}
+
 /// The bases and the least cost of each shipment, whose rows these are, or the first that has none.
+/// A shipment's cost is taken from the known ones, where its row is the same there.
 pub(crate) fn value_over(
     alloc: Global,
     pricing: &LeafPricing,
     graph: &PointGraph,
     rows: &[Row],
     bases: u128,
+    known: &mut Vec<KnownCost>,
 ) -> Result<LeafBound, NoMemory>
     requires graph { IsPointGraph pricing.now.instance.now pricing.now.network.now graph.now }
     requires rows { length rows.now ≡ length pricing.now.instance.now.shipments }
     requires priced { IsPricedLeaf pricing.now rows.now }
     requires bases { bases ≤ pricing.now.instance.now.scale * alone_total pricing.now.instance.now.arcs pricing.now.instance.now.shipments }
-    ensures { IfOk result (IsFoundAtLeaf pricing.now rows.now bases) }
+    requires known { AreKnownUnder pricing.now known.old.items }
+    ensures found { IfOk result (IsFoundAtLeaf pricing.now rows.now bases) }
+    ensures known { IfOk result (λ _. AreKnownUnder pricing.now known.new.items) }
 {
     let mut costs = graph.free_costs(alloc)?;
     let mut value = bases;
     for shipment in 0..pricing.instance.shipments().len() as u32 {
         let row = &rows[shipment as usize];
-        match shipment_cost(alloc, pricing, graph, shipment, row, &mut costs)? {
+        match known_or_found(alloc, pricing, graph, shipment, row, &mut costs, known)? {
             Some(cost) => value += cost,
             None => return Ok(LeafBound::Empty { shipment }),
         }

@@ -1,6 +1,6 @@
 //! A leaf over the network of its round: which classes its sides allow for each shipment, and what
 //! it is worth under prices.
-ghost use Rattle.std.specs.Prelude.{◌≡◌, ◌<◌, IfNone, IfOk, IfSome, length};
+ghost use Rattle.std.specs.Prelude.{◌≡◌, ◌<◌, IfNone, IfOk, IfSome, false, length};
 ghost use Rattle.fp_model.specs.Numbered.{shipment_at};
 ghost use Rattle.fp_flatnet.specs.Belonging.{BelongsTo};
 ghost use Rattle.fp_flatnet.specs.Tables.{windows_in};
@@ -8,6 +8,7 @@ ghost use Rattle.fp_longestarcs.specs.Networks.{points_in};
 ghost use Rattle.fp_allowed.specs.Bits.{IsRowUnder, allowed_in};
 ghost use Rattle.fp_allowed.specs.Chains.{IsForced};
 ghost use Rattle.fp_prices.specs.Forced.{AreRowsUnder};
+ghost use Rattle.fp_prices.specs.KnownCosts.{AreKnownCosts, IsSharedKind};
 ghost use Rattle.fp_prices.specs.LeastWalks.{AreLeastWalks};
 ghost use Rattle.fp_prices.specs.Leaves.{BoundsPlans, IsBoundOf, IsLeafEmpty, IsSmallBound};
 ghost use Rattle.fp_prices.specs.Tables.{AreTables, HasKind};
@@ -16,6 +17,7 @@ use crate::NoMemory;
 use crate::bases::{bases, forced_classes};
 use crate::bounds::{LeafBound, value_over};
 use crate::class_walks::ClassWalk;
+use crate::known_costs::KnownCost;
 use crate::leaf_prices::Kind;
 use crate::leaf_rules::leaf_pricing;
 use crate::leaf_walks::walks_over;
@@ -157,6 +159,34 @@ impl<'a> Leaf<'a> {
             self.now.sides) }
         ensures small { IfOk result (IsSmallBound self.now.setting.problem) }
     {
+        self.bound_with(alloc, tables, kind, forced, &mut Vec::new(alloc))
+    }
+
+    /// The same with costs that are known from earlier leaves over the same network under the same
+    /// prices: a shipment whose row is the same as there isn't searched for again.
+    pub(crate) fn bound_with(
+        &self,
+        alloc: Global,
+        tables: &[Table],
+        kind: Kind,
+        forced: bool,
+        known: &mut Vec<KnownCost>,
+    ) -> Result<LeafBound, NoMemory>
+        requires tables { AreTables self.now.setting.problem tables.now }
+        requires kind { HasKind tables.now kind }
+        requires known { AreKnownCosts self.now.setting.problem self.now.setting.network tables.now
+            kind forced known.old.items }
+        ensures exact { IfOk result
+            (IsBoundOf self.now.setting.problem (windows_in self.now.setting.windows)
+            (points_in self.now.setting.network) self.now.sides tables.now kind forced) }
+        ensures plans { IfOk result
+            (BoundsPlans self.now.setting.problem (windows_in self.now.setting.windows)
+            self.now.sides) }
+        ensures small { IfOk result (IsSmallBound self.now.setting.problem) }
+        ensures known { IfOk result (λ _. IsSharedKind kind → forced ≡ false →
+            AreKnownCosts self.now.setting.problem self.now.setting.network tables.now kind forced
+            known.new.items) }
+    {
         let instance = self.round.instance();
         let network = self.round.network();
         let classes = network.classes();
@@ -179,7 +209,14 @@ impl<'a> Leaf<'a> {
             &paid.row,
         )?;
         let base = bases(instance, network, &paid);
-        value_over(alloc, &pricing, self.round.point_graph(), &self.rows, base)
+        value_over(
+            alloc,
+            &pricing,
+            self.round.point_graph(),
+            &self.rows,
+            base,
+            known,
+        )
     }
 
     /// For each shipment a walk of least cost under prices of a kind, as [`bound`](Leaf::bound)

@@ -1,5 +1,5 @@
-use Rattle.std.proofs.Common.{◌≡◌, ℕ, ◌<◌, List, [], length, take, drop, ◌++◌, sym, ap, ◌∙◌, subst, arith}
-use Rattle.std.specs.Prelude.{Bool, Option}
+use Rattle.std.proofs.Common.{◌≡◌, ℕ, ◌+◌, ◌<◌, ◌≤◌, List, [], length, take, drop, ◌++◌, sym, ap, ◌∙◌, subst, arith}
+use Rattle.std.specs.Prelude.{Bool, IfSome, Option}
 use Rattle.std.proofs.lemmas.List.{get_or_read}
 use Rattle.fp_model.specs.declared.parts.Shipment.{Shipment}
 use Rattle.fp_longestarcs.specs.Networks.{class_count}
@@ -13,16 +13,18 @@ loop-shipment-init c = record {
   so_far = least_none c.args.pricing.now c.args.rows.now c.args.bases;
   edges = c.in_ok-costs.ensures.count;
   free = λ e from h. c.in_ok-costs.ensures.free e (omega arith) h;
+  known = c.requires.known;
+  before = omega arith;
 }
 
-pub shipment_cost-requires-clause-priced : goal.shipment_cost-requires-clause-priced
-shipment_cost-requires-clause-priced c =
+pub known_or_found-requires-clause-priced : goal.known_or_found-requires-clause-priced
+known_or_found-requires-clause-priced c =
     let i : ℕ = c.loop-shipment.shipment in
     let inside : i < length c.args.rows.now = omega (arith, c.requires.rows, ap (λ (l : List Shipment). length l) c.shipments.ensures.same) in
     row-priced c.args.pricing.now c.args.rows.now i c.index-rows-shipment.result inside (get_or_read c.args.rows.now i c.index-rows-shipment.result inside c.index-rows-shipment.is []) c.requires.priced
 
-pub shipment_cost-requires-clause-long : goal.shipment_cost-requires-clause-long
-shipment_cost-requires-clause-long c =
+pub known_or_found-requires-clause-long : goal.known_or_found-requires-clause-long
+known_or_found-requires-clause-long c =
     let i : ℕ = c.loop-shipment.shipment in
     let inside : i < length c.args.rows.now = omega (arith, c.requires.rows, ap (λ (l : List Shipment). length l) c.shipments.ensures.same) in
     ap (λ (r : List Bool). length r) (get_or_read c.args.rows.now i c.index-rows-shipment.result inside c.index-rows-shipment.is []) ∙ c.requires.priced.rows_of.long i inside
@@ -37,8 +39,8 @@ overflow_add-value c =
           c.in_ok-cost.ensures.small c.requires.bases,
     )
 
-pub returns-in-None : goal.returns-in-None
-returns-in-None c = λ tables allowed kind chains is are classes.
+pub returns-in-None-clause-found : goal.returns-in-None-clause-found
+returns-in-None-clause-found c = λ tables allowed kind chains is are classes.
     let i : ℕ = c.loop-shipment.shipment in
     let exists : i < length c.args.pricing.now.instance.now.shipments = omega (arith, ap (λ (l : List Shipment). length l) c.shipments.ensures.same) in
     let inside : i < length c.args.rows.now = omega (arith, c.requires.rows, exists) in
@@ -51,17 +53,19 @@ loop-shipment-preserved c =
     let i : ℕ = c.loop-shipment.shipment in
     let exists : i < length c.args.pricing.now.instance.now.shipments = omega (arith, ap (λ (l : List Shipment). length l) c.shipments.ensures.same) in
     let inside : i < length c.args.rows.now = omega (arith, c.requires.rows, exists) in
-    let long : length c.shipment_cost.new.costs ≡ length c.loop-shipment.costs.items = c.shipment_cost.auto.costs ∙ ap (λ (l : List (Option ℕ)). length l) c.deref_mut.ensures.value in
-    let written : take c.loop-shipment.costs.len (c.shipment_cost.new.costs ++ drop (length c.shipment_cost.new.costs) c.loop-shipment.costs.items) ≡ c.shipment_cost.new.costs =
-    whole_write c.loop-shipment.costs.len c.shipment_cost.new.costs (drop (length c.shipment_cost.new.costs) c.loop-shipment.costs.items) (omega (arith, c.loop-shipment.costs.ok, long)) in
+    let long : length c.known_or_found.new.costs ≡ length c.loop-shipment.costs.items = c.known_or_found.auto.costs ∙ ap (λ (l : List (Option ℕ)). length l) c.deref_mut.ensures.value in
+    let written : take c.loop-shipment.costs.len (c.known_or_found.new.costs ++ drop (length c.known_or_found.new.costs) c.loop-shipment.costs.items) ≡ c.known_or_found.new.costs =
+    whole_write c.loop-shipment.costs.len c.known_or_found.new.costs (drop (length c.known_or_found.new.costs) c.loop-shipment.costs.items) (omega (arith, c.loop-shipment.costs.ok, long)) in
     record {
       so_far = least_more c.args.pricing.now c.args.rows.now c.args.bases i c.loop-shipment.value c.in-Some.cost c.index-rows-shipment.result c.in_ok-cost.field-0 c.in-Some.is exists inside
           (get_or_read c.args.rows.now i c.index-rows-shipment.result inside c.index-rows-shipment.is []) c.loop-shipment.invariant.so_far c.in_ok-cost.ensures.small c.in_ok-cost.ensures.exact;
       edges = ap (λ (l : List (Option ℕ)). length l) written ∙ long ∙ c.loop-shipment.invariant.edges;
       free = subst (IsFree (class_count c.args.pricing.now.network.now)) (sym written) c.in_ok-cost.ensures.free;
+      known = c.in_ok-cost.ensures.known;
+      before = subst (λ (o : Option ℕ). IfSome o (λ _. i + 1 ≤ length c.known_or_found.new.known.items)) c.in-Some.is c.in_ok-cost.ensures.more;
     }
 
-pub returns : goal.returns
-returns c = λ tables allowed kind chains is are classes.
+pub returns-clause-found : goal.returns-clause-found
+returns-clause-found c = λ tables allowed kind chains is are classes.
     least_all c.args.pricing.now c.args.rows.now c.args.bases c.loop-shipment.shipment c.loop-shipment.value (omega (arith, ap (λ (l : List Shipment). length l) c.shipments.ensures.same))
     c.loop-shipment.invariant.so_far tables allowed kind chains (record { is = is; rows_of = are; classes = classes })
