@@ -45,20 +45,20 @@ loop-node-preserved c =
     let lt : i < length told.tree = subst (λ (xs : List Node). i < length xs) tree c.loop-node-test.true in
     record {
       left =
-        elim c.match-node.branch [
-          | in-Branch+in_ok-descend-in-Branch w ↦
-              worth-branch p c.args.windows.now told (AreLeavesWorth p c.args.windows.now told (claim_of told.answer)) c.loop-node.way c.match-node.way' told.tree i none w.in-Branch.split w.split_tail.result lt
-              (ap (λ (xs : List Node). get_or xs i none) (sym tree) ∙ w.in-Branch.is) w.split_tail.ensures (w.way'-is ∙ w.in_ok-descend-in-Branch.ensures.ok) c.loop-node.invariant.left
-          | in-Leaf+in_ok-sides-in-Leaf+in_ok-found-in-Leaf+else-not-found+else-not-advance w ↦
-              let sides : w.as_slice.result.now ≡ way_sides c.loop-node.way = w.as_slice.ensures.value ∙ w.in_ok-sides-in-Leaf.ensures in
-              let worth : IsLeafWorth p c.args.windows.now told (claim_of told.answer) (Leaf w.in-Leaf.price) (way_sides c.loop-node.way) =
-              subst (λ (ss : List Side). IsLeafWorth p c.args.windows.now told (claim_of told.answer) (Leaf w.in-Leaf.price) ss) sides (w.in_ok-found-in-Leaf.ensures.worth.0 w.if-not-found.false) in
-              let goes : pending_on c.loop-node.way ≡ way_sides c.match-node.way' ∷ pending_on c.match-node.way' =
-              w.advance.ensures.pending ∙ ap (λ (b : Bool). cond b (way_sides w.advance.new.self ∷ pending_on w.advance.new.self) []) w.if-not-advance.false
-              ∙ ap (λ (way : List Step). way_sides way ∷ pending_on way) (sym w.way'-is) in
-              worth-more p c.args.windows.now told (AreLeavesWorth p c.args.windows.now told (claim_of told.answer)) c.loop-node.way c.match-node.way' told.tree i none w.in-Leaf.price lt
-              (ap (λ (xs : List Node). get_or xs i none) (sym tree) ∙ w.in-Leaf.is) c.loop-node.invariant.left worth goes
-        ];
+          elim c.match-node.branch [
+            | in-Branch+in_ok-descend-in-Branch w ↦
+                worth-branch p c.args.windows.now told (AreLeavesWorth p c.args.windows.now told (claim_of told.answer)) c.loop-node.way c.match-node.way' told.tree i none w.in-Branch.split w.split_tail.result lt
+                (ap (λ (xs : List Node). get_or xs i none) (sym tree) ∙ w.in-Branch.is) w.split_tail.ensures (w.way'-is ∙ w.in_ok-descend-in-Branch.ensures.ok) c.loop-node.invariant.left
+            | in-Leaf+in_ok-sides-in-Leaf+in_ok-found-in-Leaf+else-not-found+else-not-advance w ↦
+                let sides : w.as_slice.result.now ≡ way_sides c.loop-node.way = w.as_slice.ensures.value ∙ w.in_ok-sides-in-Leaf.ensures in
+                let worth : IsLeafWorth p c.args.windows.now told (claim_of told.answer) (Leaf w.in-Leaf.price) (way_sides c.loop-node.way) =
+                subst (λ (ss : List Side). IsLeafWorth p c.args.windows.now told (claim_of told.answer) (Leaf w.in-Leaf.price) ss) sides (w.in_ok-found-in-Leaf.ensures.worth.0 w.if-not-found.false) in
+                let goes : pending_on c.loop-node.way ≡ way_sides c.match-node.way' ∷ pending_on c.match-node.way' =
+                w.advance.ensures.pending ∙ ap (λ (b : Bool). cond b (way_sides w.advance.new.self ∷ pending_on w.advance.new.self) []) w.if-not-advance.false
+                ∙ ap (λ (way : List Step). way_sides way ∷ pending_on way) (sym w.way'-is) in
+                worth-more p c.args.windows.now told (AreLeavesWorth p c.args.windows.now told (claim_of told.answer)) c.loop-node.way c.match-node.way' told.tree i none w.in-Leaf.price lt
+                (ap (λ (xs : List Node). get_or xs i none) (sym tree) ∙ w.in-Leaf.is) c.loop-node.invariant.left worth goes
+          ];
       kept =
           elim c.match-node.branch [
             | in-Branch+in_ok-descend-in-Branch w ↦ subst (AreRoundBounds p c.args.points.now told.tables) (sym w.bounds'-is) c.loop-node.invariant.kept
