@@ -61,8 +61,8 @@ loop-node-preserved c =
           ];
       kept =
           elim c.match-node.branch [
-            | in-Branch+in_ok-descend-in-Branch w ↦ subst (AreRoundBounds p c.args.points.now told.tables) (sym w.bounds'-is) c.loop-node.invariant.kept
+            | in-Branch+in_ok-descend-in-Branch w ↦ subst (AreRoundBounds p c.args.points.now told.tables) (sym w.bounds-is) c.loop-node.invariant.kept
             | in-Leaf+in_ok-sides-in-Leaf+in_ok-found-in-Leaf+else-not-found+else-not-advance w ↦
-                subst (AreRoundBounds p c.args.points.now told.tables) (sym w.bounds'-is) w.in_ok-found-in-Leaf.ensures.kept
+                subst (AreRoundBounds p c.args.points.now told.tables) (sym w.bounds-is) w.in_ok-found-in-Leaf.ensures.kept
           ];
     }
