@@ -53,7 +53,7 @@ worth-branch p table c whole way new nodes i d split tail lt is tail_is goes sam
     subst (λ (leaves : List (Leaf Node)). AllByRecursion (IsWorth p table c) leaves ↔ whole) on same
 
 -- a leaf and the leaves after it
-worth-leaf : (p : Problem) (table : WindowTable) (c : Statement) (whole : Type 0) (way : List Step) (nodes : List Node) (i : ℕ) (d : Node) (price : LeafPrice) → i < length nodes →
+pub worth-leaf : (p : Problem) (table : WindowTable) (c : Statement) (whole : Type 0) (way : List Step) (nodes : List Node) (i : ℕ) (d : Node) (price : LeafPrice) → i < length nodes →
     get_or nodes i d ≡ node.Leaf price → (AreWorthFrom p table c way (drop i nodes) ↔ whole) →
     (IsLeafWorth p table c (claim_of c.answer) (node.Leaf price) (way_sides way) × AreWorthIn p table c (pending_on way) (drop (i + 1) nodes) ↔ whole)
 worth-leaf p table c whole way nodes i d price lt is same =

@@ -11,7 +11,7 @@ use Rattle.fp_checker.specs.declared.rejections.Rejected.TheVariants.{Part}
 pub Part_injective : {X : Type 0} (n m : ℕ) → ◌≡◌ {A = Result X Rejected} (Err (Part n)) (Err (Part m)) → m ≡ n
 Part_injective n m e = cc
 
--- a test that failed refutes what would make it pass
+-- a test that false_refutes refutes what would make it pass
 pub false_refutes : {P : Type 0} (b : Bool) → b ≡ false → (P → b ≡ true) → P → ⊥
 false_refutes b h pass p = false≢true (sym h ∙ pass p)
 

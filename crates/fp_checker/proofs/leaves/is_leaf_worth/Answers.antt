@@ -24,9 +24,9 @@ returns-clause-worth c =
       λ h.
           worth.0
           (subst (λ (n : ℕ). IsBoundWorth p.scale n c.in_ok-found.found.0) claim
-          (subst (λ (n : ℕ). IsBoundWorth n c.claim_of.result c.in_ok-found.found.0) c.scale.ensures.same (c.is_bound_worth.ensures.0 h))),
+          (subst (λ (n : ℕ). IsBoundWorth n c.claim_of.result c.in_ok-found.found.0) c.scale.ensures.same (c.is_bound_worth-is_worth.ensures.0 h))),
       λ leaf.
-          c.is_bound_worth.ensures.1
+          c.is_bound_worth-is_worth.ensures.1
           (subst (λ (n : ℕ). IsBoundWorth n c.claim_of.result c.in_ok-found.found.0) (sym c.scale.ensures.same)
           (subst (λ (n : ℕ). IsBoundWorth p.scale n c.in_ok-found.found.0) (sym claim) (worth.1 leaf))),
     )
