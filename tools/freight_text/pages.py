@@ -11,7 +11,7 @@ p.note{color:#566;margin:2px 0 10px} .scroll{overflow:auto;border:1px solid #d8d
 table{border-collapse:collapse} th,td{padding:3px 10px;border-bottom:1px solid #e6eaf0;text-align:left;white-space:nowrap}
 td.n,th.n{text-align:right;font-variant-numeric:tabular-nums} tr[data-s]{cursor:pointer} tr[data-s]:hover{background:#f2f6fc}
 tr.on{background:#ffe9c7!important} svg text{font-size:11px;fill:#334;paint-order:stroke;stroke:#fff;stroke-width:3px} svg .grid{stroke:#e8ecf2} svg .row{stroke:#cfd7e3}
-svg .dep{stroke:#5b84b8;stroke-linecap:round;opacity:.75} svg .dep:hover{stroke:#1f4e8c;opacity:1}
+svg .dep{stroke:#5b84b8;stroke-linecap:round} svg .dep:hover{stroke:#1f4e8c}
 svg .leg{stroke:#d9480f;stroke-width:3;fill:none;visibility:hidden} svg .leg.on{visibility:visible}
 """
 
@@ -50,7 +50,7 @@ class Picture:
         self.rows = {name: TOP + ROW // 2 + ROW * place for place, name in enumerate(timetable.instance.holds)}
         shipments = timetable.instance.shipments.values()
         times = [it.depart for it in timetable.legs] + [it.arrive for it in timetable.legs]
-        times += [it.release for it in shipments] + [it.due for it in shipments]
+        times += [it.release for it in shipments]
         self.first, self.last = (min(times), max(times)) if times else (0, 1)
         self.height = TOP + ROW * len(self.rows) + 10
 
@@ -71,11 +71,12 @@ class Picture:
 
     def departures(self):
         lines, many = [], len(self.timetable.departures) > 120
+        pale = ' opacity=".4"' if many else ""
         for it in self.timetable.departures:
             x1, y1, x2, y2 = self.x(it.depart), self.rows[it.tail], self.x(it.arrive), self.rows[it.head]
             label = f"{it.load} of {it.trucks * it.capacity}"
             title = f"{it.tail} to {it.head}, {it.depart} to {it.arrive}: {it.trucks} truck(s), {label}; {', '.join(self.timetable.aboard(it))}"
-            lines.append(f'<line class="dep" x1="{x1}" y1="{y1}" x2="{x2}" y2="{y2}" stroke-width="{min(9, 1.5 + 1.5 * it.trucks)}"><title>{escape(title)}</title></line>')
+            lines.append(f'<line class="dep" x1="{x1}" y1="{y1}" x2="{x2}" y2="{y2}" stroke-width="{min(9, 1.5 + 1.5 * it.trucks)}"{pale}><title>{escape(title)}</title></line>')
             if not many:
                 lines.append(f'<text x="{(x1 + x2) / 2 + 4}" y="{(y1 + y2) / 2 - 4}">{label}</text>')
         return "".join(lines)
