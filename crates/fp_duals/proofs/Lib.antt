@@ -1,0 +1,5 @@
+pub mod PriceLines
+pub mod PriceTables
+pub mod ReachedValues
+pub mod SameImprovements
+pub mod Improvements
