@@ -1,9 +1,9 @@
 -- Lines of tables of prices: of one table more, and of fewer.
-use Rattle.std.proofs.Common.{◌≡◌, ℕ, suc, ◌+◌, ◌-◌, ◌<◌, ◌≤◌, ◌^◌, List, [], ◌∷◌, ◌++◌, length, refl, sym, ap, ◌∙◌, subst, arith}
+use Rattle.std.proofs.Common.{◌≡◌, ℕ, suc, ◌+◌, ◌-◌, ◌<◌, ◌≤◌, ◌^◌, List, [], ◌∷◌, ◌++◌, length, take, get_or, refl, sym, ap, ◌∙◌, subst, arith}
 use Rattle.std.specs.Prelude.{All, sum_by}
 use Rattle.std.proofs.lemmas.List.{get_or_append_left, length-append}
 use Rattle.std.proofs.lemmas.List.Elements.{All-append, All-head, All-cons, All-nil, All-tail}
-use Rattle.std.proofs.lemmas.List.Sums.{sum_by-append, sum_by-cons}
+use Rattle.std.proofs.lemmas.List.Sums.{sum_by-append, sum_by-cons, sum_by_more_le}
 use Rattle.fp_prices.specs.Shares.{ClassShare}
 use Rattle.fp_duals.specs.declared.limits.TheConstants.{MOST_PRICE_LINES}
 use Rattle.fp_duals.specs.PriceLines.{AreCounted, AreWithinLimits, IsShortTable, line_count, line_total}
@@ -48,3 +48,7 @@ pub tables-le-lines : (tables : List (List ClassShare)) → All IsShortTable tab
 tables-le-lines [] all = omega arith
 tables-le-lines (table ∷ tables) all =
     omega (arith, sum_by-cons line_count table tables, shares-le-lines table, (All-head IsShortTable table tables all).some, tables-le-lines tables (All-tail IsShortTable table tables all))
+
+-- the lines of one of the tables are at most those of all
+pub table-le-total : (tables : List (List ClassShare)) (k : ℕ) (d : List ClassShare) → k < length tables → line_count (get_or tables k d) ≤ line_total tables
+table-le-total tables k d lt = omega (arith, sum_by_more_le line_count tables k d lt)

@@ -1,5 +1,5 @@
 -- An improvement over other lists of the same points is the same.
-use Rattle.std.proofs.Common.{◌≡◌, ℕ, ◌+◌, ◌*◌, ◌<◌, ◌≤◌, ◌⊎◌, Bool, List, [], ◌∷◌, ◌++◌, ⊎_elim, inl, inr, refl, sym, ap, ◌∙◌, subst}
+use Rattle.std.proofs.Common.{◌≡◌, ℕ, ◌+◌, ◌*◌, ◌<◌, ◌≤◌, ◌⊎◌, Bool, false, List, [], ◌∷◌, ◌++◌, ⊎_elim, inl, inr, refl, sym, ap, ◌∙◌, subst}
 use Rattle.std.specs.Prelude.{Option, IfOk, Result, Ok, Err, if◌then◌else◌}
 use Rattle.std.specs.declared.alloc.AllocError.{AllocError}
 use Rattle.fp_lists.specs.Distinct.{AreDistinct}
@@ -21,6 +21,7 @@ use Rattle.fp_allowed.specs.SamePoints.{AgreeOnPoints}
 use Rattle.fp_allowed.proofs.SamePoints.{AgreeOnPoints_sym, IsTimedWalk_same, head_of_same, is_allowed_same}
 use Rattle.fp_prices.specs.declared.bounds.LeafBound.TheVariants.{Empty, Value}
 use Rattle.fp_prices.specs.declared.leaf_prices.Kind.{Kind}
+use Rattle.fp_prices.specs.declared.leaf_prices.Kind.TheVariants.{Even, Linear}
 use Rattle.fp_prices.specs.declared.leaf_prices.LeafPrice.{LeafPrice}
 use Rattle.fp_prices.specs.Leaves.{IsChain, IsLeafValue, leaf_price}
 use Rattle.fp_prices.specs.LeastWalks.{AreLeastWalks, IsLeastWalk, node_entered, node_left, nodes_met, same_node}
@@ -39,8 +40,8 @@ module _ (p : Problem) (valid : IsValid p) (windows : ℕ → ℕ → Option Win
 
   EachStart-same : (tables : List (List ClassShare)) (inherited : Kind) (P : ℕ → Type 0) → EachStart p windows points sides tables inherited P → EachStart p windows others sides tables inherited P
   EachStart-same tables inherited P each = record {
-    linear = EachMode-same tables _ P each.linear;
-    even = EachMode-same tables _ P each.even;
+    linear = EachMode-same tables Linear P each.linear;
+    even = EachMode-same tables Even P each.even;
     inherited = EachMode-same tables inherited P each.inherited;
   }
 
@@ -85,12 +86,12 @@ module _ (p : Problem) (valid : IsValid p) (windows : ℕ → ℕ → Option Win
   IsPriced-same : (before after : List (List ClassShare)) (inherited : Kind) (round : ℕ) (price : LeafPrice) (value : ℕ) (walks : List (List Leg)) → IsPriced p windows points sides before after inherited round price value walks →
       IsPriced p windows others sides before after inherited round price value walks
   IsPriced-same before after inherited round price value walks is = record {
-    round = is.round;
+    of_round = is.of_round;
     kind = is.kind;
-    value = bound-same p valid windows points others same sides after price.kind price.forced (Value value) is.value;
+    is_value = bound-same p valid windows points others same sides after price.kind price.forced (Value value) is.is_value;
     small = is.small;
     best = EachStart-same before inherited (λ other. other ≤ value) is.best;
-    walks = AreLeastWalks-same after price.kind price.forced walks is.walks;
+    least = AreLeastWalks-same after price.kind price.forced walks is.least;
     reached = λ chains ends. is.reached chains
         (subst (λ (allowed : ℕ → Leg → Bool). AllZipFrom (λ k. IsReachedChain p (allowed k)) 0 p.shipments chains) (sym (is_allowed_same p valid points others same windows sides)) ends);
     added = ⊎_elim (λ (e : after ≡ before). inl e) (λ (a : AddsTable p windows points sides before after inherited price.kind value). inr (AddsTable-same before after inherited price.kind value a)) is.added;
@@ -98,7 +99,7 @@ module _ (p : Problem) (valid : IsValid p) (windows : ℕ → ℕ → Option Win
 
   pub IsImproved-same : (before after : List (List ClassShare)) (inherited : Kind) (round : ℕ) (improved : Improved) → IsImproved p windows points sides before after inherited round improved →
       IsImproved p windows others sides before after inherited round improved
-  IsImproved-same before after inherited round (of.Empty shipment) is = (bound-same p valid windows points others same sides [] _ _ (Empty shipment) is.0, is.1)
+  IsImproved-same before after inherited round (of.Empty shipment) is = (bound-same p valid windows points others same sides [] Linear false (Empty shipment) is.0, is.1)
   IsImproved-same before after inherited round (of.Priced price value walks) is = IsPriced-same before after inherited round price value walks.items is
 
 -- an improvement over a network's points is one over the points as of its round

@@ -23,9 +23,9 @@ use Rattle.fp_duals.specs.declared.improvements.Improved.TheVariants.{Empty, Pri
 use Rattle.fp_duals.specs.Starts.{EachStart}
 
 -- the forced chain of a shipment, which reaches its destination
-pub record IsReachedChain (p : Problem) (allowed : Leg → Bool) (s : Shipment) (chain : List Leg) : Type 0 where
-  pub chain : IsForcedChain p allowed s chain
-  pub reached : EndsAs p allowed s chain Reached
+pub record IsReachedChain (p : Problem) (allowed : Leg → Bool) (s : Shipment) (legs : List Leg) : Type 0 where
+  pub chain : IsForcedChain p allowed s legs
+  pub reached : EndsAs p allowed s legs Reached
 
 -- one table more, by which a leaf has a value above those by all six starting prices
 pub record AddsTable (p : Problem) (windows : ℕ → ℕ → Option Window) (points : ℕ → List ℕ) (sides : List Side) (before after : List (List ClassShare)) (inherited kind : Kind) (value : ℕ) : Type 0 where
@@ -38,13 +38,13 @@ pub record AddsTable (p : Problem) (windows : ℕ → ℕ → Option Window) (po
 -- the price that a leaf has after an improvement, with the tables before it and after it
 pub record IsPriced (p : Problem) (windows : ℕ → ℕ → Option Window) (points : ℕ → List ℕ) (sides : List Side) (before after : List (List ClassShare)) (inherited : Kind) (round : ℕ)
     (price : LeafPrice) (value : ℕ) (walks : List (List Leg)) : Type 0 where
-  pub round : price.round ≡ round
+  pub of_round : price.round ≡ round
   pub kind : HasKind after price.kind
-  pub value : IsLeafValue p windows points sides after price.kind price.forced value
+  pub is_value : IsLeafValue p windows points sides after price.kind price.forced value
   pub small : IsSmallBound p (Value value)
   -- the value is at least those by all six starting prices
   pub best : EachStart p windows points sides before inherited (λ other. other ≤ value)
-  pub walks : AreLeastWalks p windows points sides after price.kind price.forced walks
+  pub least : AreLeastWalks p windows points sides after price.kind price.forced walks
   -- where the forced chain of each shipment reaches its destination, the value is what they cost
   pub reached : (chains : List (List Leg)) → AllZipFrom (λ k. IsReachedChain p (is_allowed p windows points sides k)) 0 p.shipments chains → value ≡ p.scale * cost p chains
   pub added : (after ≡ before) ⊎ AddsTable p windows points sides before after inherited price.kind value

@@ -19,11 +19,11 @@ use Rattle.fp_duals.specs.declared.starts.Start.{Start}
 abbrev pub EachMode : Problem → (ℕ → ℕ → Option Window) → (ℕ → List ℕ) → List Side → List (List ClassShare) → Kind → (ℕ → Type 0) → Type 0
 EachMode p windows points sides tables kind P = (forced : Bool) (value : ℕ) → IsLeafValue p windows points sides tables kind forced value → P value
 
--- each value of a leaf by the six starting prices is such a number
-pub record EachStart (p : Problem) (windows : ℕ → ℕ → Option Window) (points : ℕ → List ℕ) (sides : List Side) (tables : List (List ClassShare)) (inherited : Kind) (P : ℕ → Type 0) : Type 0 where
+-- each value of a leaf by the six starting prices, of which this is the inherited kind, is such a number
+pub record EachStart (p : Problem) (windows : ℕ → ℕ → Option Window) (points : ℕ → List ℕ) (sides : List Side) (tables : List (List ClassShare)) (kind : Kind) (P : ℕ → Type 0) : Type 0 where
   pub linear : EachMode p windows points sides tables Linear P
   pub even : EachMode p windows points sides tables Even P
-  pub inherited : EachMode p windows points sides tables inherited P
+  pub inherited : EachMode p windows points sides tables kind P
 
 -- the value of a leaf by the prices of a start, whose kind the tables have
 pub record IsStart (leaf : LeafModel) (tables : List (List ClassShare)) (start : Start) : Type 0 where

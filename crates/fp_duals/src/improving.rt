@@ -83,6 +83,7 @@ fn priced(
     effort: &Effort,
     tables: &mut Tables,
 ) -> Result<Improved, NoMemory>
+    requires belongs { BelongsTo leaf.now.setting.problem leaf.now.setting.windows }
     requires tables { ArePriceTables leaf.now.setting.problem tables.old }
     requires kind { HasKind tables.old inherited }
     requires start { IsStart leaf.now tables.old first }
@@ -136,6 +137,7 @@ pub fn improve_leaf(
     effort: &Effort,
     tables: &mut Tables,
 ) -> Result<Improved, NoMemory>
+    requires belongs { BelongsTo leaf.now.setting.problem leaf.now.setting.windows }
     requires tables { ArePriceTables leaf.now.setting.problem tables.old }
     requires kind { HasKind tables.old inherited.kind }
     ensures improved { IfOk result

@@ -21,13 +21,11 @@ fn has_at_most(shares: &[Share], lines: u32) -> bool
 {
     let mut left = u64::from(lines);
     for share in shares {
-        match left
-            .checked_sub(1)
-            .and_then(|rest| rest.checked_sub(share.weights.len() as u64))
-        {
-            Some(rest) => left = rest,
-            None => return false,
+        let weights = share.weights.len() as u64;
+        if weights >= left {
+            return false;
         }
+        left -= weights + 1;
     }
     true
 }
@@ -106,6 +104,14 @@ fn are_fit_shares(instance: &Instance, shares: &[Share]) -> bool
     true
 }
 
+// Whether there are shares, and at most so many price lines.
+fn are_few(shares: &[Share], lines: u32) -> bool
+    ensures some { OnTrue result (1 ≤ length shares.now) }
+    ensures few { OnTrue result (line_count shares.now ≤ lines) }
+{
+    !shares.is_empty() && has_at_most(shares, lines)
+}
+
 /// Whether leaves of the instance may be priced by a table, and it has at most so many price lines:
 /// it has a share, its shares and weights are in order, of arcs and shipments that exist and within
 /// the price rule, and its points are no later than the latest time.
@@ -114,9 +120,11 @@ pub(crate) fn is_fit(instance: &Instance, table: &Table, lines: u32) -> bool
     ensures { OnTrue result (IsFitTable instance.now lines table.now) }
 {
     let shares = table.shares.as_slice();
-    !shares.is_empty()
-        && has_at_most(shares, lines)
-        && are_fit_shares(instance, shares)
-        && shares_ascend(shares)
-        && check_tables(instance, slice::from_ref(table)).is_ok()
+    if !are_few(shares, lines) {
+        return false;
+    }
+    if !are_fit_shares(instance, shares) {
+        return false;
+    }
+    shares_ascend(shares) && check_tables(instance, slice::from_ref(table)).is_ok()
 }

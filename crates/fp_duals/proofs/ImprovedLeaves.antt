@@ -20,7 +20,7 @@ module _ (p : Problem) (windows : ℕ → ℕ → Option Window) (points : ℕ �
   pub IsPriced-earned : IsEarnedLeaf p windows points sides after price.kind price.forced
   IsPriced-earned = record {
     value = value;
-    is = is.value;
+    is = is.is_value;
     linear = λ f other leaf. is.best.linear f other (IsLeafValue-append p windows points sides [] Linear f other tt before leaf);
     even = λ f other leaf. is.best.even f other (IsLeafValue-append p windows points sides [] Even f other tt before leaf);
   }
