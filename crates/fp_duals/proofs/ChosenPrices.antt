@@ -1,9 +1,7 @@
 -- The prices that are chosen for a leaf: the best start, or a table that is better.
-use Rattle.std.proofs.Common.{◌≡◌, ℕ, ◌+◌, ◌<◌, ◌≤◌, Bool, List, [], ◌∷◌, ◌++◌, length, inr, refl, sym, ap, ◌∙◌, subst, arith}
+use Rattle.std.proofs.Common.{◌≡◌, ◌+◌, List, [], ◌∷◌, ◌++◌, length, inr, sym, ap, ◌∙◌, subst, arith}
 use Rattle.std.specs.Prelude.{Option, Some, IfSome}
 use Rattle.std.proofs.lemmas.List.{length-append}
-use Rattle.fp_flatnet.specs.Tables.{windows_in}
-use Rattle.fp_longestarcs.specs.Networks.{points_in}
 use Rattle.fp_prices.specs.declared.leaf_prices.Kind.{Kind}
 use Rattle.fp_prices.specs.declared.leaf_prices.Kind.TheVariants.{Table}
 use Rattle.fp_prices.specs.Rounds.{LeafModel}
@@ -12,7 +10,7 @@ use Rattle.fp_duals.specs.declared.candidates.Candidate.{Candidate}
 use Rattle.fp_duals.specs.declared.starts.Start.{Start}
 use Rattle.fp_duals.specs.Candidates.{IsBetter}
 use Rattle.fp_duals.specs.Choices.{IsChoice}
-use Rattle.fp_duals.specs.Starts.{EachStart, IsBestStart, IsStart}
+use Rattle.fp_duals.specs.Starts.{IsBestStart, IsStart}
 
 -- a table that was found is better
 pub better-told : (leaf : LeafModel) (tables : List (List ClassShare)) (start : Start) (o : Option Candidate) (c : Candidate) → o ≡ Some c → IfSome o (IsBetter leaf tables start) → IsBetter leaf tables start c

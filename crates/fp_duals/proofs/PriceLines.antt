@@ -1,12 +1,12 @@
 -- Lines of tables of prices: of one table more, and of fewer.
-use Rattle.std.proofs.Common.{◌≡◌, ℕ, suc, ◌+◌, ◌-◌, ◌<◌, ◌≤◌, ◌^◌, List, [], ◌∷◌, ◌++◌, length, take, get_or, refl, sym, ap, ◌∙◌, subst, arith}
-use Rattle.std.specs.Prelude.{All, sum_by}
+use Rattle.std.proofs.Common.{◌≡◌, ℕ, ◌+◌, ◌-◌, ◌<◌, ◌≤◌, List, [], ◌∷◌, ◌++◌, length, get_or, refl, subst, arith}
+use Rattle.std.specs.Prelude.{All}
 use Rattle.std.proofs.lemmas.List.{get_or_append_left, length-append}
 use Rattle.std.proofs.lemmas.List.Elements.{All-append, All-head, All-cons, All-nil, All-tail}
 use Rattle.std.proofs.lemmas.List.Sums.{sum_by-append, sum_by-cons, sum_by_more_le}
 use Rattle.fp_prices.specs.Shares.{ClassShare}
 use Rattle.fp_duals.specs.declared.limits.TheConstants.{MOST_PRICE_LINES}
-use Rattle.fp_duals.specs.PriceLines.{AreCounted, AreWithinLimits, IsShortTable, line_count, line_total}
+use Rattle.fp_duals.specs.PriceLines.{AreCounted, IsShortTable, line_count, line_total}
 
 -- what holds of each element of a list holds of each of its front
 pub All-front : {X : Type 0} (P : X → Type 0) (xs ys : List X) → All P (xs ++ ys) → All P xs

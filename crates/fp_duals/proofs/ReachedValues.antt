@@ -1,9 +1,8 @@
 -- Where each forced chain reaches its shipment's destination, a value of the leaf that is at least the one that pays forced
 -- classes whole is the scale times what the chains cost.
-use Rattle.std.proofs.Common.{◌≡◌, ◌≢◌, ℕ, suc, ◌+◌, ◌*◌, ◌<◌, ◌≤◌, Bool, true, false, List, [], ◌∷◌, ◌++◌, length, refl, sym, ap, ap₂, ◌∙◌, subst, arith}
+use Rattle.std.proofs.Common.{◌≡◌, ◌≢◌, ℕ, suc, ◌+◌, ◌*◌, ◌≤◌, Bool, true, false, List, [], ◌∷◌, ◌++◌, length, refl, sym, ap, ap₂, ◌∙◌, subst, arith}
 use Rattle.std.specs.Prelude.{sum_by, slice_index_or, All, Option, ◌==◌}
 use Rattle.std.specs.List.{AllByRecursion}
-use Rattle.std.proofs.Math.Nat.{mul-le-mul_left}
 use Rattle.std.proofs.lemmas.Bool.{and_left, or_from, ne_eqb}
 use Rattle.std.proofs.lemmas.List.{append-nil}
 use Rattle.std.proofs.lemmas.List.Elements.{All-get_or, All-head, All-tail}
@@ -20,9 +19,9 @@ use Rattle.fp_flatnet.specs.Belonging.{BelongsTo}
 use Rattle.fp_flatnet.specs.Tables.{WindowTable, windows_in}
 use Rattle.fp_tree.specs.declared.sides.Side.{Side}
 use Rattle.fp_allowed.specs.Allowed.{AreForced, IsForcedChain, is_allowed, tails_of}
-use Rattle.fp_allowed.specs.Chains.{NoneLeaves, chain_stop}
+use Rattle.fp_allowed.specs.Chains.{NoneLeaves}
 use Rattle.fp_allowed.specs.Walks.{IsTimedWalk}
-use Rattle.fp_allowed.proofs.ForcedWalks.{AreForced-walk, BeginsWith, NoneLeaves-destination, Reached-only_walk}
+use Rattle.fp_allowed.proofs.ForcedWalks.{AreForced-walk, NoneLeaves-destination, Reached-only_walk}
 use Rattle.fp_prices.specs.declared.leaf_prices.Kind.{Kind}
 use Rattle.fp_prices.specs.declared.leaf_prices.Kind.TheVariants.{Linear}
 use Rattle.fp_prices.specs.Shares.{ClassShare}

@@ -1,5 +1,5 @@
 -- An improvement over other lists of the same points is the same.
-use Rattle.std.proofs.Common.{◌≡◌, ℕ, ◌+◌, ◌*◌, ◌<◌, ◌≤◌, ◌⊎◌, Bool, false, List, [], ◌∷◌, ◌++◌, ⊎_elim, inl, inr, refl, sym, ap, ◌∙◌, subst}
+use Rattle.std.proofs.Common.{◌≡◌, ℕ, ◌<◌, ◌≤◌, Bool, false, List, [], ◌∷◌, ⊎_elim, inl, inr, refl, sym, ap, ◌∙◌, subst}
 use Rattle.std.specs.Prelude.{Option, IfOk, Result, Ok, Err, if◌then◌else◌}
 use Rattle.std.specs.declared.alloc.AllocError.{AllocError}
 use Rattle.fp_lists.specs.Distinct.{AreDistinct}
@@ -7,12 +7,10 @@ use Rattle.fp_lists.specs.Numbered.{AllZipFrom}
 use Rattle.fp_lists.proofs.Numbered.{AllZipFrom-weaker}
 use Rattle.fp_model.specs.declared.parts.Leg.{Leg}
 use Rattle.fp_model.specs.declared.parts.Shipment.{Shipment}
-use Rattle.fp_model.specs.Costs.{cost}
 use Rattle.fp_model.specs.Problem.{IsValid, Problem, arc_at}
 use Rattle.fp_model.specs.Routes.{Leads, arcs_of}
 use Rattle.fp_flatnet.specs.declared.window_tables.Window.{Window}
 use Rattle.fp_timenodes.specs.Points.{TimePoints, points_at}
-use Rattle.fp_longestarcs.specs.Classes.{head_of}
 use Rattle.fp_longestarcs.specs.Networks.{TimedNetwork, points_in}
 use Rattle.fp_longestarcs.specs.Whole.{IsNetworkOf}
 use Rattle.fp_tree.specs.declared.sides.Side.{Side}
@@ -23,7 +21,7 @@ use Rattle.fp_prices.specs.declared.bounds.LeafBound.TheVariants.{Empty, Value}
 use Rattle.fp_prices.specs.declared.leaf_prices.Kind.{Kind}
 use Rattle.fp_prices.specs.declared.leaf_prices.Kind.TheVariants.{Even, Linear}
 use Rattle.fp_prices.specs.declared.leaf_prices.LeafPrice.{LeafPrice}
-use Rattle.fp_prices.specs.Leaves.{IsChain, IsLeafValue, leaf_price}
+use Rattle.fp_prices.specs.Leaves.{IsChain, leaf_price}
 use Rattle.fp_prices.specs.LeastWalks.{AreLeastWalks, IsLeastWalk, node_entered, node_left, nodes_met, same_node}
 use Rattle.fp_prices.specs.Shares.{ClassShare}
 use Rattle.fp_prices.proofs.SamePoints.{bound-same}

@@ -1,5 +1,5 @@
 -- Tables that may be added to those of a run, with what a leaf is worth by them.
-use Rattle.std.specs.Prelude.{ℕ, ◌+◌, ◌<◌, ◌≤◌, ◌≡◌, List, [], ◌∷◌, ◌++◌, length}
+use Rattle.std.specs.Prelude.{◌+◌, ◌<◌, ◌≤◌, ◌≡◌, List, [], ◌∷◌, ◌++◌, length}
 use Rattle.fp_prices.specs.declared.leaf_prices.Kind.TheVariants.{Table}
 use Rattle.fp_prices.specs.Rounds.{LeafModel}
 use Rattle.fp_prices.specs.Shares.{ClassShare}

@@ -1,5 +1,5 @@
 -- The prices that are chosen for a leaf, and the tables with them.
-use Rattle.std.specs.Prelude.{ℕ, ◌≤◌, ◌≡◌, ◌⊎◌, List}
+use Rattle.std.specs.Prelude.{◌≤◌, ◌≡◌, ◌⊎◌, List}
 use Rattle.fp_flatnet.specs.Tables.{windows_in}
 use Rattle.fp_longestarcs.specs.Networks.{points_in}
 use Rattle.fp_prices.specs.declared.leaf_prices.Kind.{Kind}

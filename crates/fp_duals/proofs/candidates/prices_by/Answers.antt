@@ -1,7 +1,6 @@
-use Rattle.std.proofs.Common.{◌≡◌, ◌+◌, ◌<◌, ◌≤◌, List, [], ◌∷◌, ◌++◌, length, Fits, w32, sym, ap, ◌∙◌, subst, arith}
+use Rattle.std.proofs.Common.{◌≡◌, [], ◌∷◌, ◌++◌, length, sym, ap, ◌∙◌, subst, arith}
 use Rattle.fp_prices.specs.Tables.{AreTables}
 use Rattle.fp_prices.proofs.TableAppends.{AreTables-append}
-use Rattle.fp_duals.specs.declared.limits.TheConstants.{MOST_PRICE_LINES}
 use Rattle.fp_duals.proofs.PriceLines.{tables-le-lines}
 use Rattle.fp_duals.proofs.candidates.prices_by.Goals as goal
 

@@ -1,4 +1,4 @@
-use Rattle.std.proofs.Common.{List, sym, subst}
+use Rattle.std.proofs.Common.{subst}
 use Rattle.std.specs.Prelude.{IfOk}
 use Rattle.fp_flatnet.specs.Tables.{windows_in}
 use Rattle.fp_longestarcs.specs.Networks.{points_in}

@@ -1,5 +1,5 @@
-use Rattle.std.proofs.Common.{List, subst}
-use Rattle.std.specs.Prelude.{Option, None, IfNone}
+use Rattle.std.proofs.Common.{subst}
+use Rattle.std.specs.Prelude.{IfNone}
 use Rattle.fp_flatnet.specs.Tables.{windows_in}
 use Rattle.fp_longestarcs.specs.Networks.{points_in}
 use Rattle.fp_prices.specs.Leaves.{IsLeafEmpty}

@@ -1,13 +1,8 @@
-use Rattle.std.proofs.Common.{◌≡◌, ◌+◌, ◌<◌, ◌≤◌, Bool, true, List, length, Fits, w32, refl, ap, subst, arith}
-use Rattle.fp_model.specs.declared.parts.Leg.{Leg}
+use Rattle.std.proofs.Common.{List, length, refl, ap, subst, arith}
 use Rattle.fp_flatnet.specs.Tables.{windows_in}
 use Rattle.fp_longestarcs.specs.Networks.{points_in}
-use Rattle.fp_prices.specs.declared.leaf_prices.Kind.{Kind}
-use Rattle.fp_prices.specs.declared.leaf_prices.Kind.TheVariants.{Linear}
-use Rattle.fp_prices.specs.Leaves.{IsLeafValue}
 use Rattle.fp_prices.specs.LeastWalks.{AreLeastWalks}
 use Rattle.fp_prices.specs.Shares.{ClassShare}
-use Rattle.fp_duals.specs.declared.limits.TheConstants.{MOST_PRICE_LINES}
 use Rattle.fp_duals.proofs.PriceLines.{tables-le-lines}
 use Rattle.fp_duals.proofs.ReachedValues.{reached-value}
 use Rattle.fp_duals.proofs.StartingPrices.{first-value}

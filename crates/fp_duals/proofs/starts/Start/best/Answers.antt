@@ -1,6 +1,5 @@
-use Rattle.std.proofs.Common.{◌≡◌, ◌≤◌, ◌⊎◌, ℕ, ⊎_elim, refl, arith}
-use Rattle.fp_prices.specs.declared.leaf_prices.Kind.TheVariants.{Linear, Even, Table}
-use Rattle.fp_duals.specs.Starts.{IsBestStart}
+use Rattle.std.proofs.Common.{◌≡◌, ⊎_elim, arith}
+use Rattle.fp_prices.specs.declared.leaf_prices.Kind.TheVariants.{Linear, Even}
 use Rattle.fp_duals.proofs.StartingPrices.{best-start, best-start_told, first-le}
 use Rattle.fp_duals.proofs.starts.Start.best.Goals as goal
 
