@@ -1,4 +1,5 @@
-use Rattle.std.proofs.Common.{◌≡◌, ℕ, ◌<◌, false≢true, arith, ap, refl, sym, subst, ◌∙◌, List, [], length}
+use Rattle.std.proofs.Common.{◌≡◌, ℕ, ◌<◌, arith, ap, refl, sym, subst, ◌∙◌, List, [], length}
+use Rattle.std.proofs.lemmas.Bool.{false≢true}
 use Rattle.std.proofs.lemmas.Slice.Zip.{AllZip-long}
 use Rattle.fp_lists.specs.Vectors.{lists_of}
 use Rattle.fp_lists.proofs.Numbered.{AllFrom-get_or_zero}
