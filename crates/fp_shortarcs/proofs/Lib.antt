@@ -1,0 +1,6 @@
+pub mod RelaxedClasses
+mod ListedSoFar
+mod WrittenWalks
+pub mod NewPlaces
+pub mod TimesOfClasses
+pub mod SamePoints
