@@ -1,5 +1,5 @@
 -- The place that a too short leg does not reach can be made a point.
-use Rattle.std.proofs.Common.{◌≡◌, ◌≢◌, ◌∙◌, ℕ, zero, suc, ◌+◌, ◌<◌, ◌≤◌, true, false, List, [], ◌∷◌, length, refl, sym, ap, subst, arith}
+use Rattle.std.proofs.Common.{◌≡◌, ◌≢◌, ◌∙◌, ℕ, zero, suc, ◌+◌, ◌<◌, ◌≤◌, true, List, [], ◌∷◌, length, sym, subst, arith}
 use Rattle.std.specs.Prelude.{All}
 use Rattle.std.proofs.lemmas.Bool.{false_from_ne_true}
 use Rattle.std.proofs.lemmas.List.Elements.{All-weaker}
@@ -10,7 +10,7 @@ use Rattle.fp_model.specs.declared.parts.Member.{Member}
 use Rattle.fp_model.specs.Members.{IsMemberOf, member_leg}
 use Rattle.fp_model.specs.Numbered.{leg_at, route_at, shipment_at}
 use Rattle.fp_model.specs.Problem.{IsArc, Problem, arc_at, horizon}
-use Rattle.fp_model.specs.Routes.{Leads, arcs_of, step}
+use Rattle.fp_model.specs.Routes.{Leads, arcs_of}
 use Rattle.fp_model.proofs.Validity.{IsArc-valid}
 use Rattle.fp_timenodes.specs.declared.places.TheConstants.{LATEST}
 use Rattle.fp_timenodes.proofs.Floors.{floor_greatest}
@@ -18,7 +18,6 @@ use Rattle.fp_flatnet.specs.Belonging.{BelongsTo}
 use Rattle.fp_flatnet.specs.Tables.{WindowTable, windows_in}
 use Rattle.fp_flatnet.proofs.WindowTimes.{BelongsTo_horizon, BelongsTo_leaves}
 use Rattle.fp_longestarcs.specs.Ascending.{ArePoints}
-use Rattle.fp_longestarcs.specs.Classes.{head_of}
 use Rattle.fp_longestarcs.specs.Networks.{IsClass, TimedNetwork, points_in, tail_in}
 use Rattle.fp_longestarcs.specs.Whole.{IsWholeNetwork}
 use Rattle.fp_longestarcs.proofs.ClassNumbers.{tail-points}

@@ -1,13 +1,11 @@
-use Rattle.std.proofs.Common.{◌≤◌, ◌<◌, ◌-◌, ◌^◌, ℕ, List, [], length, refl, subst, sym, arith, rules}
-use Rattle.fp_model.specs.declared.parts.Leg.{Leg}
-use Rattle.fp_model.specs.declared.parts.Member.{Member}
+use Rattle.std.proofs.Common.{◌≤◌, ◌<◌, ◌-◌, ◌^◌, List, length, subst, rules}
 use Rattle.fp_flatnet.specs.Tables.{windows_in}
 use Rattle.fp_longestarcs.specs.Networks.{points_in}
 use Rattle.fp_relaxmodel.specs.Relaxed.{HasRoutes}
 use Rattle.fp_relaxmodel.proofs.PlansCoarsen.{HasRoutes-relaxed}
 use Rattle.fp_relaxmodel.proofs.RouteLengths.{HasRoutes-few_legs, HasRoutes-few_walks}
 use Rattle.fp_shortarcs.specs.declared.shorts.Short.{Short}
-use Rattle.fp_shortarcs.specs.TooShort.{AreTooShort, IsTooShort}
+use Rattle.fp_shortarcs.specs.TooShort.{AreTooShort}
 use Rattle.fp_shortarcs.proofs.ListedSoFar.{AreTooShort-before}
 use Rattle.fp_shortarcs.proofs.NewPlaces.{CanBePoint-IsShort}
 use Rattle.fp_shortarcs.proofs.RelaxedClasses.{classes-relaxed}
