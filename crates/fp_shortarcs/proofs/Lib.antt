@@ -4,3 +4,4 @@ mod WrittenWalks
 pub mod NewPlaces
 pub mod TimesOfClasses
 pub mod SamePoints
+mod Examples
