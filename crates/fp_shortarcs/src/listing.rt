@@ -1,5 +1,6 @@
 //! The too short legs of a relaxed plan.
-ghost use Rattle.std.specs.Prelude.{ℕ, List, [], ◌≡◌, ◌≢◌, ◌+◌, ◌-◌, ◌<◌, ◌^◌, All, IfOk, OnOk, length};
+ghost use Rattle.std.specs.Prelude.{ℕ, List, [], ◌≡◌, ◌≢◌, ◌+◌, ◌-◌, ◌<◌, ◌^◌, length};
+ghost use Rattle.std.specs.Prelude.{All, IfOk, OnOk};
 ghost use Rattle.fp_model.specs.declared.parts.Member.{Member};
 ghost use Rattle.fp_model.specs.Members.{arc_lists};
 ghost use Rattle.fp_flatnet.specs.Belonging.{BelongsTo};
