@@ -1,0 +1,5 @@
+pub mod RelaxedClasses
+mod ListedSoFar
+mod WrittenWalks
+pub mod NewPlaces
+pub mod TimesOfClasses
