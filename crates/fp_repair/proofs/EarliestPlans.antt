@@ -1,13 +1,13 @@
 -- What plans with the least times cost, and that walks which are routes have routes.
-use Rattle.std.proofs.Common.{◌≡◌, ◌∙◌, ℕ, ◌<◌, ◌≤◌, Option, Some, None, List, [], ◌∷◌, length, get_or, refl, sym, ap, subst, arith}
-use Rattle.std.specs.Prelude.{All, Contains, IfSome, MatchOption}
+use Rattle.std.proofs.Common.{◌≡◌, ◌∙◌, ℕ, ◌≤◌, Option, Some, None, List, [], ◌∷◌, get_or, sym, ap, subst, arith}
+use Rattle.std.specs.Prelude.{IfSome, MatchOption}
 use Rattle.std.specs.List.{AllZip}
 use Rattle.std.proofs.lemmas.List.Elements.{All-weaker, Contains-get_or}
 use Rattle.fp_model.specs.declared.parts.Leg.{Leg}
 use Rattle.fp_model.specs.declared.parts.Member.{Member}
 use Rattle.fp_model.specs.declared.parts.Shipment.{Shipment}
 use Rattle.fp_model.specs.Costs.{cost}
-use Rattle.fp_model.specs.Members.{IsMemberOf, LeaveAsOne, LeaveTogether, arc_lists, member_leg}
+use Rattle.fp_model.specs.Members.{IsMemberOf, LeaveAsOne, arc_lists}
 use Rattle.fp_model.specs.Problem.{Problem}
 use Rattle.fp_model.specs.Routes.{IsRoute, arcs_of}
 use Rattle.fp_model.proofs.Members.{IsMemberOf-arc_lists}

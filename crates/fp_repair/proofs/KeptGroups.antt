@@ -1,6 +1,6 @@
 -- The groups that are kept: there is one list of them, they are groups of the routes, the routes
 -- have times with them where they have times at all, and no more can be added.
-use Rattle.std.proofs.Common.{◌≡◌, ◌∙◌, ℕ, ◌⊎◌, Option, List, [], ◌∷◌, ◌++◌, ⊎_elim, inl, inr, refl, sym, ap, subst, append_assoc, append-nil}
+use Rattle.std.proofs.Common.{◌≡◌, ◌∙◌, ℕ, Option, List, [], ◌∷◌, ◌++◌, ⊎_elim, inl, sym, subst, append_assoc, append-nil}
 use Rattle.std.proofs.lemmas.List.Elements.{All-contains_itself}
 use Rattle.std.specs.Prelude.{All, Contains}
 use Rattle.fp_model.specs.declared.parts.Leg.{Leg}
@@ -12,7 +12,7 @@ use Rattle.fp_dispatch.specs.Answers.{IsEarliest}
 use Rattle.fp_dispatch.specs.Times.{HaveTimes}
 use Rattle.fp_repair.specs.KeptGroups.{AreKeptAfter, AreKeptGroups, IsKeptPlan}
 use Rattle.fp_repair.proofs.Appends.{All-append_left, All-without}
-use Rattle.fp_repair.proofs.StricterGroups.{AreGroupsOf-append_left, AreGroupsOf-without, AreStricter, AreStricter-more, HaveTimes-IsEarliest, HaveTimes-stricter}
+use Rattle.fp_repair.proofs.StricterGroups.{AreGroupsOf-append_left, AreGroupsOf-without, AreStricter-more, HaveTimes-IsEarliest, HaveTimes-stricter}
 
 -- one more group, and then others
 push-append : (before : List (List Member)) (group : List Member) (groups : List (List Member)) → (before ++ (group ∷ [])) ++ groups ≡ before ++ (group ∷ groups)

@@ -61,7 +61,7 @@ module _ (p : Problem) (windows : ℕ → ℕ → Option Window) (routes : List 
       before = so_far.before ++ (group ∷ []);
       onward = λ all are. so_far.onward all (inl (
         HaveTimes-stricter p windows routes kept (so_far.before ++ (group ∷ [])) (AreStricter-lone kept so_far.before group lone so_far.back) have,
-        are
+        are,
       ));
       stricter = λ times together. so_far.stricter times (AreStricter-more so_far.before (group ∷ []) times together);
       back = AreStricter-lone kept so_far.before group lone so_far.back;
@@ -74,7 +74,7 @@ module _ (p : Problem) (windows : ℕ → ℕ → Option Window) (routes : List 
       before = so_far.before ++ (group ∷ []);
       onward = λ all are. so_far.onward all (inl (
         HaveTimes-stricter p windows routes (kept ++ (group ∷ [])) (so_far.before ++ (group ∷ [])) (AreStricter-push kept so_far.before group so_far.back) have,
-        are
+        are,
       ));
       stricter = AreStricter-push so_far.before kept group so_far.stricter;
       back = AreStricter-push kept so_far.before group so_far.back;
@@ -87,7 +87,7 @@ module _ (p : Problem) (windows : ℕ → ℕ → Option Window) (routes : List 
       before = so_far.before;
       onward = λ all are. so_far.onward all (inr (
         (λ have. clash (HaveTimes-stricter p windows routes (so_far.before ++ (group ∷ [])) (kept ++ (group ∷ [])) (AreStricter-push so_far.before kept group so_far.stricter) have)),
-        are
+        are,
       ));
       stricter = so_far.stricter;
       back = so_far.back;

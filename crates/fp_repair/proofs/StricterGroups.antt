@@ -1,5 +1,5 @@
 -- Groups that ask for more than others: what has times with them has times with the others.
-use Rattle.std.proofs.Common.{ℕ, zero, suc, ◌<◌, ◌≤◌, ◌≡◌, Option, List, [], ◌∷◌, ◌++◌, length, refl, sym, ◌∙◌, ap, arith}
+use Rattle.std.proofs.Common.{ℕ, zero, suc, ◌<◌, ◌≡◌, Option, List, [], ◌∷◌, ◌++◌, length, sym, ◌∙◌, ap, arith}
 use Rattle.std.specs.Prelude.{All, Contains}
 use Rattle.std.proofs.lemmas.List.Elements.{All-nil, All-push}
 use Rattle.fp_model.specs.declared.parts.Leg.{Leg}
@@ -8,7 +8,7 @@ use Rattle.fp_model.specs.Members.{AreGroupsOf, GoByOneArc, AreDisjoint, IsMembe
 use Rattle.fp_model.specs.Problem.{Problem}
 use Rattle.fp_flatnet.specs.declared.window_tables.Window.{Window}
 use Rattle.fp_dispatch.specs.Answers.{IsEarliest}
-use Rattle.fp_dispatch.specs.Times.{AreLeastTimes, AreTimes, HaveOneTime, HaveTimes, departure}
+use Rattle.fp_dispatch.specs.Times.{AreTimes, HaveOneTime, HaveTimes, departure}
 use Rattle.fp_repair.proofs.Appends.{All-append_left, All-without, AllPairs-append_left, AllPairs-without}
 
 -- a choice that gives each of the first groups one time does so for the others

@@ -1,18 +1,15 @@
-use Rattle.std.proofs.Common.{◌≡◌, ◌↔◌, ◌∙◌, ◌≤◌, ℕ, List, [], Option, Some, None, refl, sym, ap, subst, arith}
-use Rattle.std.specs.Prelude.{IfSome, IsTrue, MatchOption}
+use Rattle.std.proofs.Common.{◌≡◌, ◌↔◌, ◌∙◌, ℕ, List, [], sym, ap, subst, arith}
+use Rattle.std.specs.Prelude.{IsTrue, MatchOption}
 use Rattle.std.specs.List.{AllZip}
 use Rattle.std.specs.declared.alloc.Global.{Global}
 use Rattle.std.specs.declared.vec.Vec.{Vec}
 use Rattle.fp_lists.specs.Vectors.{lists_of}
-use Rattle.fp_model.specs.declared.parts.Leg.{Leg}
 use Rattle.fp_model.specs.declared.parts.Member.{Member}
-use Rattle.fp_model.specs.Costs.{cost}
 use Rattle.fp_model.specs.Members.{AreGroupsOf, arc_lists}
 use Rattle.fp_model.specs.Routes.{IsRoute}
 use Rattle.fp_flatnet.specs.Tables.{windows_in}
 use Rattle.fp_dispatch.specs.Answers.{IsEarliest}
 use Rattle.fp_dispatch.specs.Times.{HaveTimes}
-use Rattle.fp_relaxmodel.specs.Groups.{AreGroups}
 use Rattle.fp_relaxmodel.proofs.GroupsOfRoutes.{AreGroupsOf-walks}
 use Rattle.fp_relaxmodel.proofs.RouteLengths.{HasRoutes-few_legs, HasRoutes-few_walks}
 use Rattle.fp_repair.specs.KeptGroups.{AreKeptGroups, IsKeptPlan}
