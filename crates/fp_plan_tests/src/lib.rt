@@ -4,4 +4,6 @@
 #[cfg(test)]
 mod dispatch;
 #[cfg(test)]
+mod repair;
+#[cfg(test)]
 mod shortarcs;
