@@ -4,6 +4,8 @@
 #[cfg(test)]
 mod dispatch;
 #[cfg(test)]
+mod local;
+#[cfg(test)]
 mod repair;
 #[cfg(test)]
 mod shortarcs;
