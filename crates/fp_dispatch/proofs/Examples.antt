@@ -1,13 +1,13 @@
 -- The rules on two shipments that go by one arc each, or of which the first goes by two; and the
 -- least times, or a clash, where two of their legs leave together.
-use Rattle.std.proofs.Common.{◌≡◌, ℕ, zero, suc, ◌+◌, ◌*◌, ◌<◌, ◌≤◌, ◌⊎◌, Option, Some, None, List, [], ◌∷◌, length, get_or, ⊎_elim, inl, inr, refl, sym, subst, arith, lit<, lit≤}
-use Rattle.std.specs.Prelude.{All, Contains, IfSome, IsSomeAnd}
+use Rattle.std.proofs.Common.{◌≡◌, ℕ, zero, suc, ◌+◌, ◌*◌, ◌<◌, ◌≤◌, ◌⊎◌, Option, Some, List, [], ◌∷◌, length, get_or, ⊎_elim, inl, inr, refl, sym, subst, arith, lit<, lit≤}
+use Rattle.std.specs.Prelude.{IfSome, IsSomeAnd}
 use Rattle.fp_model.specs.declared.parts.Member.{Member}
-use Rattle.fp_model.specs.Members.{IsMemberOf, member_arc}
+use Rattle.fp_model.specs.Members.{member_arc}
 use Rattle.fp_model.specs.Problem.{Problem}
 use Rattle.fp_flatnet.specs.declared.window_tables.Window.{Window}
-use Rattle.fp_dispatch.specs.Times.{AreLeastTimes, AreTimes, IsClash, MeetsLowerRules, next, window_of}
-use Rattle.fp_dispatch.specs.Rising.{companions, place_of, set_each}
+use Rattle.fp_dispatch.specs.Times.{AreLeastTimes, IsClash, MeetsLowerRules, window_of}
+use Rattle.fp_dispatch.specs.Rising.{companions, set_each}
 
 -- the leg of a shipment
 abbrev leg_named : ℕ → ℕ → Member

@@ -1,6 +1,6 @@
 -- The definitions on two arcs in a line: the step of the first is 4, with a hold of 1, that of the
 -- second 5. A shipment goes by both, and one by the second.
-use Rattle.std.proofs.Common.{◌≡◌, ℕ, zero, suc, ◌<◌, List, [], ◌∷◌, refl, arith, lit<}
+use Rattle.std.proofs.Common.{◌≡◌, ℕ, zero, suc, List, [], ◌∷◌, refl, arith, lit<}
 use Rattle.fp_model.specs.declared.parts.Arc.{Arc}
 use Rattle.fp_model.specs.declared.parts.Leg.{Leg}
 use Rattle.fp_model.specs.declared.parts.Member.{Member}
