@@ -3,3 +3,4 @@ mod ListedSoFar
 mod WrittenWalks
 pub mod NewPlaces
 pub mod TimesOfClasses
+pub mod SamePoints
