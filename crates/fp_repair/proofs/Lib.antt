@@ -3,3 +3,4 @@ pub mod StricterGroups
 pub mod KeptGroups
 pub mod EarliestPlans
 mod KeptSoFar
+mod Examples

@@ -9,6 +9,8 @@
 #![tactic(auto)]
 
 mod candidates;
+mod class_costs;
+mod improvement;
 mod kept_groups;
 mod repairs;
 mod timings;

@@ -16,6 +16,8 @@ ghost use Rattle.fp_repair.specs.KeptGroups.{AreKeptGroups};
 
 use crate::NoMemory;
 use crate::candidates::starting_plans;
+use crate::class_costs::classes_cost;
+use crate::improvement::improvement;
 use crate::timings::least_times;
 use fp_flatnet::Windows;
 use fp_model::{Instance, Plan};
@@ -36,6 +38,9 @@ pub struct Repaired {
 /// then the plan costs no more than the relaxed plan. In any case it costs no more than the routes
 /// do at their least times without any group, and at those with the groups that are kept when the
 /// groups are gone through in order.
+///
+/// Where the cheapest of these plans is near the cost of the relaxed plan, local searches look for
+/// a cheaper one; their draws are a function of the arguments, so a call repeats.
 ///
 /// The windows belong to the instance, `incumbent` is a plan within them, and each shipment has a
 /// walk whose arcs are a route of it. `NoMemory` only where no memory is found.
@@ -68,11 +73,13 @@ pub fn repair(
 {
     let routes = relaxed.arcs(alloc)?;
     let groups = groups(alloc, relaxed)?;
+    let relaxed_cost = classes_cost(instance, &routes, &groups);
     let timings = least_times(alloc, instance, windows, &routes, groups)?;
     let timed = timings.timed;
     let starts = starting_plans(alloc, instance, windows, incumbent, timings)?;
+    let best = improvement(alloc, instance, windows, starts, relaxed_cost)?;
     Ok(Repaired {
-        plan: starts.cheapest.plan,
+        plan: best.plan,
         timed,
     })
 }

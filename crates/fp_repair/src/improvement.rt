@@ -1,0 +1,82 @@
+//! Cheaper plans than those of the routes, by local search.
+ghost use Rattle.std.specs.Prelude.{◌≤◌, IfOk, IfSome};
+ghost use Rattle.fp_flatnet.specs.Belonging.{BelongsTo};
+ghost use Rattle.fp_flatnet.specs.Tables.{windows_in};
+ghost use Rattle.fp_repair.specs.Candidates.{IsCandidate, IsPlanWithin};
+
+use crate::NoMemory;
+use crate::candidates::{Candidate, Starts, cheaper};
+use fp_flatnet::Windows;
+use fp_localsearch::{Search, local_search};
+use fp_model::{Instance, Plan};
+use std::alloc::Global;
+
+// The search begins once the plan in hand is at most this part of the relaxed cost above it. Before
+// that more points of time raise the relaxed cost at little expense, and a cheap plan that comes
+// too early ends that, since points are added only while the relaxed plan costs less.
+const NEARNESS: u128 = 16;
+
+// So many turns a search makes: on instances of some ten shipments the cheapest plan was mostly
+// among those that four searches of this length met, and they took a tenth of a second.
+const TURNS: u32 = 2_000;
+
+// How much dearer than the best the state of each search may get, in parts of 1024. A plan that is
+// near needs a small allowance, and one behind a dearer one a larger.
+const LOOSENESS: [u32; 2] = [10, 20];
+
+// The cheapest of a candidate and what searches from a plan find.
+fn cheapest_found(
+    alloc: Global,
+    instance: &Instance,
+    windows: &Windows,
+    in_hand: Candidate,
+    start: &Plan,
+    seed: u64,
+) -> Result<Candidate, NoMemory>
+    requires belongs { BelongsTo instance.now windows.now }
+    requires in_hand { IsCandidate instance.now (windows_in windows.now) in_hand }
+    requires start { IsPlanWithin instance.now (windows_in windows.now) start.now }
+    ensures candidate { IfOk result (IsCandidate instance.now (windows_in windows.now)) }
+    ensures cheaper { IfOk result (λ c. c.cost ≤ in_hand.cost) }
+{
+    let mut best = in_hand;
+    for (number, loose) in LOOSENESS.iter().enumerate() {
+        let search = Search {
+            seed: seed.wrapping_add(number as u64),
+            turns: TURNS,
+            loose: *loose,
+        };
+        let found = local_search(alloc, instance, windows, start, search)?;
+        best = cheaper(alloc, instance, windows, best, found)?;
+    }
+    Ok(best)
+}
+
+// A candidate that costs no more than the cheapest plan so far: what local searches from the plans
+// find, once that is near the cost of the relaxed plan. The seeds come from that cost, so a call
+// repeats.
+pub(crate) fn improvement(
+    alloc: Global,
+    instance: &Instance,
+    windows: &Windows,
+    starts: Starts,
+    relaxed_cost: u128,
+) -> Result<Candidate, NoMemory>
+    requires belongs { BelongsTo instance.now windows.now }
+    requires cheapest { IsCandidate instance.now (windows_in windows.now) starts.cheapest }
+    requires grouped { IfSome starts.grouped (IsPlanWithin instance.now (windows_in windows.now)) }
+    ensures candidate { IfOk result (IsCandidate instance.now (windows_in windows.now)) }
+    ensures cheaper { IfOk result (λ c. c.cost ≤ starts.cheapest.cost) }
+{
+    let Starts { cheapest, grouped } = starts;
+    if cheapest.cost.saturating_sub(relaxed_cost) > relaxed_cost / NEARNESS {
+        return Ok(cheapest);
+    }
+    let seed = (relaxed_cost % (1 << 64)) as u64;
+    let start = cheapest.plan.copy(alloc)?;
+    let best = cheapest_found(alloc, instance, windows, cheapest, &start, seed)?;
+    match grouped {
+        Some(plan) => cheapest_found(alloc, instance, windows, best, &plan, seed),
+        None => Ok(best),
+    }
+}
