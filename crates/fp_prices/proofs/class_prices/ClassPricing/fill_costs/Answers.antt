@@ -7,7 +7,7 @@ use Rattle.fp_prices.specs.Leaves.{leaf_price}
 use Rattle.fp_prices.proofs.FilledCosts.{filled_all, filled_more}
 use Rattle.fp_prices.proofs.NumberedClasses.{number-class}
 use Rattle.fp_prices.proofs.SetBits.{next-set, none-set}
-use Rattle.fp_prices.proofs.class_prices.LeafPricing.fill_costs.Goals as goal
+use Rattle.fp_prices.proofs.class_prices.ClassPricing.fill_costs.Goals as goal
 
 pub cost-requires-clause-priced : goal.cost-requires-clause-priced
 cost-requires-clause-priced c =

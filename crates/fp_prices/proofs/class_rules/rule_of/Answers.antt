@@ -5,7 +5,7 @@ use Rattle.fp_prices.specs.Prices.{table_at}
 use Rattle.fp_prices.specs.Pricings.{IsRuleOf}
 use Rattle.fp_prices.specs.Tables.{HasKind, IsAscendingTable}
 use Rattle.fp_prices.specs.declared.class_prices.Rule.TheVariants.{ByShares}
-use Rattle.fp_prices.proofs.leaf_rules.rule_of.Goals as goal
+use Rattle.fp_prices.proofs.class_rules.rule_of.Goals as goal
 
 pub returns-in-Table : goal.returns-in-Table
 returns-in-Table c = λ allowed are.

@@ -1,4 +1,4 @@
-use Rattle.fp_prices.proofs.leaf_rules.leaf_pricing.Goals as goal
+use Rattle.fp_prices.proofs.class_rules.class_pricing.Goals as goal
 
 pub returns-clause-pricing : goal.returns-clause-pricing
 returns-clause-pricing c = λ allowed chains are tells. record {

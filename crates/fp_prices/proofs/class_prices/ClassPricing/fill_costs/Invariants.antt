@@ -1,6 +1,6 @@
 use Rattle.std.proofs.Common.{◌-◌, length}
 use Rattle.fp_prices.proofs.FilledCosts.{AreFilled}
-use Rattle.fp_prices.proofs.class_prices.LeafPricing.fill_costs.Given as goal
+use Rattle.fp_prices.proofs.class_prices.ClassPricing.fill_costs.Given as goal
 
 -- the costs of the classes before the next place were put in
 abbrev pub invariant-loop-class : goal.invariant-loop-class

@@ -10,7 +10,8 @@ ghost use Rattle.fp_prices.specs.Rows.{AreRowsOf};
 ghost use Rattle.fp_prices.specs.Tables.{AreTables, HasKind};
 
 use crate::NoMemory;
-use crate::class_prices::{LeafPricing, Rule};
+use crate::bases::ForcedClasses;
+use crate::class_prices::{ClassPricing, Rule};
 use crate::class_users::class_users;
 use crate::leaf_prices::Kind;
 use crate::tables::Table;
@@ -49,9 +50,9 @@ fn rule_of<'a>(
 }
 
 /// The pricing of a leaf by a kind, where the rates are the linear ones of the arcs, the rows are
-/// those of the shipments and `forced` has the bits of the classes that someone is forced to use.
+/// those of the shipments and `forced` has the classes that someone is forced to use.
 /// `NoMemory` only where no memory is found.
-pub(crate) fn leaf_pricing<'a>(
+pub(crate) fn class_pricing<'a>(
     alloc: Global,
     instance: &'a Instance,
     network: &'a Network,
@@ -59,8 +60,8 @@ pub(crate) fn leaf_pricing<'a>(
     tables: &'a [Table],
     kind: Kind,
     rows: &[Row],
-    forced: &'a Row,
-) -> Result<LeafPricing<'a>, NoMemory>
+    forced: ForcedClasses,
+) -> Result<ClassPricing<'a>, NoMemory>
     requires valid { IsValid instance.now }
     requires whole { IsWholeNetwork instance.now network.now }
     requires rates { rates.now ≡ map (rate_of instance.now.scale) instance.now.arcs }
@@ -68,11 +69,11 @@ pub(crate) fn leaf_pricing<'a>(
     requires kind { HasKind tables.now kind }
     requires rows { length rows.now ≡ length instance.now.shipments }
     requires long { All (λ (row : List Bool). length row ≡ class_count network.now) rows.now }
-    ensures same { IfOk result (λ pricing. (pricing.instance.now ≡ instance.now) × (pricing.network.now ≡ network.now)) }
-    ensures pricing { (allowed : ℕ → Leg → Bool) (chains : List (List Leg)) → AreRowsOf network.now allowed rows.now → TellsForced network.now chains forced.now →
+    ensures same { IfOk result (λ pricing. (pricing.instance.now ≡ instance.now) × (pricing.network.now ≡ network.now) × (pricing.forced ≡ forced)) }
+    ensures pricing { (allowed : ℕ → Leg → Bool) (chains : List (List Leg)) → AreRowsOf network.now allowed rows.now → TellsForced network.now chains forced.row →
         IfOk result (IsPricing tables.now allowed kind chains) }
 {
-    Ok(LeafPricing {
+    Ok(ClassPricing {
         instance,
         network,
         rates,

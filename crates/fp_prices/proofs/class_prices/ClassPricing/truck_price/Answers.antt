@@ -15,7 +15,7 @@ use Rattle.fp_prices.specs.Prices.{linear_price, share_price, truck_price}
 use Rattle.fp_prices.specs.Pricings.{IsRuleOf}
 use Rattle.fp_prices.specs.Shares.{ClassShare}
 use Rattle.fp_prices.proofs.PricedClasses.{class-exists, found-among, price-in_parts, priced-fits, rate-at, rule-ascending, rule-shares, rule-users, users-some}
-use Rattle.fp_prices.proofs.class_prices.LeafPricing.truck_price.Goals as goal
+use Rattle.fp_prices.proofs.class_prices.ClassPricing.truck_price.Goals as goal
 
 pub overflow_mul-linear : goal.overflow_mul-linear
 overflow_mul-linear c =
