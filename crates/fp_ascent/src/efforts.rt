@@ -32,9 +32,9 @@ impl Effort {
     /// For the root of a search, as long as it's a leaf.
     pub const ROOT: Effort = Effort {
         turns: 3000,
-        patience: 150,
-        level: 1 << 15,
-        least_level: 1 << 8,
+        patience: 100,
+        level: 1 << 19,
+        least_level: 1 << 7,
         fresh: 3,
         settle_passes: 5,
         share_passes: 2,
@@ -47,7 +47,7 @@ impl Effort {
     pub const CHOSEN: Effort = Effort {
         turns: 150,
         patience: 25,
-        level: 1 << 12,
+        level: 1 << 19,
         least_level: 1 << 8,
         fresh: 3,
         settle_passes: 3,

@@ -128,7 +128,7 @@ impl Pools {
         Ok(numbers)
     }
 
-    // Opens the pool of a class with so many payers. Its end is its bulk's place for now.
+    // Opens the pool of a class with so many payers. Its end rises as they are placed.
     fn open_pool(&mut self, class: u32, arc: ArcMoney, payers: usize) -> Result<(), NoMemory> {
         let first = self.payers.len();
         let end = first.wrapping_add(payers).wrapping_add(1);
