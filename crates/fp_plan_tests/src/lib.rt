@@ -4,4 +4,6 @@
 #[cfg(test)]
 mod dispatch;
 #[cfg(test)]
+mod duals;
+#[cfg(test)]
 mod shortarcs;
