@@ -1,6 +1,5 @@
 //! The search for a table that is better than all six starting prices.
 ghost use Rattle.std.specs.Prelude.{◌≡◌, ◌+◌, ◌<◌, ◌≤◌, ◌⊎◌, IfOk, IfSome};
-ghost use Rattle.std.specs.Bool.{OnTrue};
 ghost use Rattle.fp_prices.specs.Tables.{AreTables};
 ghost use Rattle.fp_duals.specs.declared.limits.TheConstants.{MOST_PRICE_LINES};
 ghost use Rattle.fp_duals.specs.Candidates.{IsBetter, IsCandidate};
@@ -8,8 +7,8 @@ ghost use Rattle.fp_duals.specs.PriceLines.{line_total};
 ghost use Rattle.fp_duals.specs.PriceTables.{IsFitTable};
 
 use crate::NoMemory;
-use crate::effort::Effort;
 use crate::run_tables::Tables;
+use crate::searches::Search;
 use crate::starts::Start;
 use crate::table_tests::is_fit;
 use fp_prices::{Kind, Leaf, LeafBound, Table};
@@ -55,41 +54,28 @@ fn prices_by(
     }
 }
 
-// Whether a value is worth a table: it is above another by so many parts in 1024.
-fn is_worth(value: u128, start: u128, effort: &Effort) -> bool
-    ensures { OnTrue result (start < value) }
-{
-    let least = start.saturating_mul(u128::from(effort.least_gain)) / 1024;
-    value > start && value - start >= least
-}
-
-// A table for a leaf from the prices of a start, in a mode, of at most so many price lines.
-fn proposal() -> Option<Table> {
-    None
-}
-
 // A table in a mode by which the leaf is worth more than by a start. The tables are as before.
 fn better_in_mode(
     alloc: Global,
     leaf: &Leaf,
+    search: &mut Search,
     tables: &mut Tables,
     start: Start,
     forced: bool,
-    effort: &Effort,
 ) -> Result<Option<Candidate>, NoMemory>
     requires tables { AreTables leaf.now.setting.problem tables.old }
     ensures same { tables.new ≡ tables.old }
     ensures better { IfOk result (λ found. IfSome found (IsBetter leaf.now tables.old start)) }
 {
-    let lines = tables.left() / effort.line_part.max(1);
-    let Some(table) = proposal() else {
+    let lines = search.lines(tables.left());
+    let Some(table) = search.table(alloc, tables.list(), start, forced, lines)? else {
         return Ok(None);
     };
     if !is_fit(leaf.round().instance(), &table, lines) {
         return Ok(None);
     }
     match prices_by(alloc, leaf, tables, table, lines, forced)? {
-        Some(found) if is_worth(found.start.value, start.value, effort) => Ok(Some(found)),
+        Some(found) if search.is_worth(found.start.value, start.value) => Ok(Some(found)),
         _ => Ok(None),
     }
 }
@@ -116,15 +102,18 @@ fn better_of(first: Option<Candidate>, second: Option<Candidate>) -> Option<Cand
 pub(crate) fn better_table(
     alloc: Global,
     leaf: &Leaf,
+    search: &mut Search,
     tables: &mut Tables,
     start: Start,
-    effort: &Effort,
 ) -> Result<Option<Candidate>, NoMemory>
     requires tables { AreTables leaf.now.setting.problem tables.old }
     ensures same { tables.new ≡ tables.old }
     ensures better { IfOk result (λ found. IfSome found (IsBetter leaf.now tables.old start)) }
 {
-    let same = better_in_mode(alloc, leaf, tables, start, start.forced, effort)?;
-    let other = better_in_mode(alloc, leaf, tables, start, !start.forced, effort)?;
+    let same = better_in_mode(alloc, leaf, search, tables, start, start.forced)?;
+    if !search.modes_differ() {
+        return Ok(same);
+    }
+    let other = better_in_mode(alloc, leaf, search, tables, start, !start.forced)?;
     Ok(better_of(same, other))
 }

@@ -17,6 +17,7 @@ use crate::candidates::better_table;
 use crate::effort::Effort;
 use crate::improvements::Improved;
 use crate::run_tables::Tables;
+use crate::searches::Search;
 use crate::starts::Start;
 use crate::timed_walks::timed_walks;
 use fp_flatnet::Windows;
@@ -31,6 +32,7 @@ use std::alloc::Global;
 fn least_walks(
     alloc: Global,
     leaf: &Leaf,
+    search: &mut Search,
     tables: &[Table],
     start: Start,
 ) -> Result<Vec<TimedWalk>, NoMemory>
@@ -41,6 +43,7 @@ fn least_walks(
         (points_in leaf.now.setting.network) leaf.now.sides tables.now start.kind start.forced
         walks.items) }
 {
+    let _preferred = search.walks(alloc, tables, start)?;
     match leaf.walks(alloc, tables, start.kind, start.forced)? {
         Some(walks) => timed_walks(alloc, &walks),
         None => unreachable!(),
@@ -51,10 +54,10 @@ fn least_walks(
 fn choice(
     alloc: Global,
     leaf: &Leaf,
+    search: &mut Search,
     tables: &mut Tables,
     start: Start,
     inherited: Kind,
-    effort: &Effort,
 ) -> Result<Start, NoMemory>
     requires tables { ArePriceTables leaf.now.setting.problem tables.old }
     requires best { IsBestStart leaf.now tables.old inherited start }
@@ -63,7 +66,7 @@ fn choice(
     ensures no_less { IfOk result (λ chosen. start.value ≤ chosen.value) }
     ensures err { OnErr result (tables.new ≡ tables.old) }
 {
-    match better_table(alloc, leaf, tables, start, effort)? {
+    match better_table(alloc, leaf, search, tables, start)? {
         Some(found) => {
             tables.push(found.table)?;
             Ok(found.start)
@@ -97,8 +100,9 @@ fn priced(
 {
     let count = tables.list().len() as u32;
     let start = first.best(alloc, leaf, tables.list(), inherited)?;
-    let chosen = choice(alloc, leaf, tables, start, inherited, effort)?;
-    match least_walks(alloc, leaf, tables.list(), chosen) {
+    let mut search = Search::of(alloc, leaf, effort)?;
+    let chosen = choice(alloc, leaf, &mut search, tables, start, inherited)?;
+    match least_walks(alloc, leaf, &mut search, tables.list(), chosen) {
         Ok(walks) => Ok(Improved::Priced {
             price: LeafPrice {
                 kind: chosen.kind,

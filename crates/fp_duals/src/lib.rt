@@ -6,12 +6,14 @@
 //! that keeps the price rule gives a bound, and a search tries to raise it.
 #![tactic(auto)]
 
+mod ascents;
 mod candidates;
 mod effort;
 mod improvements;
 mod improving;
 mod limits;
 mod run_tables;
+mod searches;
 mod starts;
 mod table_tests;
 mod timed_walks;

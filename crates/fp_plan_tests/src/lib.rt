@@ -7,5 +7,6 @@ mod dispatch;
 mod local;
 #[cfg(test)]
 mod repair;
+mod duals;
 #[cfg(test)]
 mod shortarcs;
