@@ -4,9 +4,10 @@
 #[cfg(test)]
 mod dispatch;
 #[cfg(test)]
+mod duals;
+#[cfg(test)]
 mod local;
 #[cfg(test)]
 mod repair;
-mod duals;
 #[cfg(test)]
 mod shortarcs;
