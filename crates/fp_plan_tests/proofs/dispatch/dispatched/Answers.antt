@@ -1,4 +1,4 @@
-use Rattle.std.proofs.Common.{◌≡◌, ◌∙◌, ℕ, List, [], ◌∷◌, ap, sym, subst}
+use Rattle.std.proofs.Common.{◌∙◌, ℕ, List, [], ◌∷◌, ap, sym, subst}
 use Rattle.std.specs.List.{AllZip}
 use Rattle.fp_lists.specs.Vectors.{lists_of}
 use Rattle.fp_model.specs.declared.parts.Leg.{Leg}
