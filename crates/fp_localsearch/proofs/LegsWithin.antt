@@ -1,5 +1,5 @@
 -- Plans within windows, route by route.
-use Rattle.std.proofs.Common.{◌≡◌, ℕ, ◌+◌, ◌<◌, List, [], length, get_or, arith, subst}
+use Rattle.std.proofs.Common.{◌≡◌, ℕ, ◌+◌, ◌<◌, List, [], length, arith, subst}
 use Rattle.fp_model.specs.declared.parts.Leg.{Leg}
 use Rattle.fp_model.specs.Numbered.{route_at}
 use Rattle.std.specs.Prelude.{Option, IsSomeAnd}

@@ -1,4 +1,4 @@
-use Rattle.std.proofs.Common.{◌≡◌, ℕ, ◌<◌, arith, ap, refl, sym, subst, ◌∙◌, List, [], length}
+use Rattle.std.proofs.Common.{◌≡◌, ◌<◌, arith, ap, refl, sym, subst, ◌∙◌, List, [], length}
 use Rattle.std.proofs.lemmas.Bool.{false≢true}
 use Rattle.std.proofs.lemmas.Slice.Zip.{AllZip-long}
 use Rattle.fp_lists.specs.Vectors.{lists_of}

@@ -1,5 +1,4 @@
 use Rattle.std.proofs.Common.{ℕ, ◌<◌}
-use Rattle.fp_lists.specs.Vectors.{lists_of}
 use Rattle.fp_model.specs.Numbered.{route_at}
 use Rattle.fp_flatnet.specs.Tables.{windows_in}
 use Rattle.fp_flatnet.specs.Windows.{LiesWithin}
