@@ -4,6 +4,7 @@
 
 #[cfg(test)]
 mod allowed;
+mod branching;
 #[cfg(test)]
 mod certificate;
 #[cfg(test)]

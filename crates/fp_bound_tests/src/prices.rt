@@ -5,7 +5,7 @@ ghost use Rattle.fp_prices.specs.Tables.{AreCountable, HasKind, IsAscendingTable
 
 use fp_examples::{DETOUR, LINE, PAIR, instance_of};
 use fp_flatnet::{Windows, initial};
-use fp_model::Instance;
+use fp_model::{Instance, Leg};
 use fp_prices::{
     ClassWalk, Kind, Leaf, LeafBound, LeafPrice, NoMemory, RoundNetwork, Share, Table, TableFault,
     Weight, bound, check_tables,
@@ -192,6 +192,87 @@ fn cheapest_walks(rt: HostRuntime) -> Result<(), Fail> {
     assert!(rt; instance.terminals().len() <= 100);
     let empty = priced_leaf(alloc, &instance, &barred, Kind::Linear, false)?;
     assert!(rt; empty.classes.is_none());
+    Ok(())
+}
+
+// The first class of the first shipment's walk by linear prices with the initial points, where it
+// prefers to go by one class, as an arc and a point.
+fn first_class(alloc: Global, instance: &Instance, preferred: Leg) -> Result<Option<Leg>, NoMemory>
+    requires few { length instance.now.terminals ≤ 100 }
+{
+    let windows = Windows::of(alloc, instance)?;
+    let points = initial(alloc, instance, &windows)?;
+    let round = RoundNetwork::of(alloc, instance, &points, 0)?;
+    let leaf = Leaf::of(alloc, &round, &windows, &[])?;
+    let preferred = [ClassWalk {
+        classes: vec![in alloc; preferred]?,
+    }];
+    let found = leaf.walks_preferring(alloc, &[], Kind::Linear, false, &preferred)?;
+    let Some(walks) = found else {
+        return Ok(None);
+    };
+    let Some(walk) = walks.first() else {
+        return Ok(None);
+    };
+    Ok(walk.classes.first().copied())
+}
+
+#[test]
+fn preferred_walks(rt: HostRuntime) -> Result<(), Fail> {
+    let alloc = rt.alloc();
+    let instance = instance_of(alloc, PAIR)?;
+    assert!(rt; instance.terminals().len() <= 100);
+    // The first shipment may leave at both points, at the same cost.
+    for depart in [0, 3] {
+        let preferred = Leg { arc: 0, depart };
+        assert!(rt; first_class(alloc, &instance, preferred)? == Some(preferred));
+    }
+    // No point of the terminal, and no arc.
+    for preferred in [Leg { arc: 0, depart: 2 }, Leg { arc: 9, depart: 0 }] {
+        let found = first_class(alloc, &instance, preferred)?;
+        assert!(rt; found.is_some() && found != Some(preferred));
+    }
+    Ok(())
+}
+
+// What a class costs a shipment with the initial points by linear prices, where forced classes are
+// paid whole, and for what load its trucks are paid.
+fn class_price(
+    alloc: Global,
+    instance: &Instance,
+    shipment: u32,
+    class: u32,
+) -> Result<(Option<u128>, Option<u128>), NoMemory>
+    requires shipment { shipment < length instance.now.shipments }
+    requires few { length instance.now.terminals ≤ 100 }
+{
+    let windows = Windows::of(alloc, instance)?;
+    let points = initial(alloc, instance, &windows)?;
+    let round = RoundNetwork::of(alloc, instance, &points, 0)?;
+    let leaf = Leaf::of(alloc, &round, &windows, &[])?;
+    let pricing = leaf.pricing(alloc, &[], Kind::Linear, true)?;
+    if class >= round.network().classes() {
+        return Ok((None, None));
+    }
+    Ok((pricing.price(shipment, class), pricing.forced_load(class)))
+}
+
+#[test]
+fn prices_of_classes(rt: HostRuntime) -> Result<(), Fail> {
+    let alloc = rt.alloc();
+    let instance = instance_of(alloc, PAIR)?;
+    assert!(rt; instance.terminals().len() <= 100);
+    assert!(rt; instance.shipments().len() == 2);
+    // The second shipment has to leave at 3, and pays nothing for it; neither does the first.
+    for (shipment, class, price, load) in [
+        (0, 0, Some(40_000_000), None),
+        (0, 1, Some(0), Some(5)),
+        (1, 0, None, None),
+        (1, 1, Some(0), Some(5)),
+    ] {
+        let is = class_price(alloc, &instance, shipment, class)?;
+        assert!(rt; is == (price, load), "{shipment} {class}");
+    }
     Ok(())
 }
 

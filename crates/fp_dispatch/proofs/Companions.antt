@@ -1,22 +1,20 @@
 -- The legs that leave together with a leg.
-use Rattle.std.proofs.Common.{◌≡◌, ◌∙◌, ℕ, zero, suc, ◌+◌, ◌*◌, ◌<◌, ◌≤◌, ◌⊎◌, Option, Some, None, List, [], ◌∷◌, length, get_or, ⊎_elim, inl, inr, refl, sym, ap, subst, arith}
-use Rattle.std.specs.Prelude.{All, AllPairs, Contains, IfSome, IsSomeAnd, MatchOption}
-use Rattle.std.proofs.Math.Nat.{mul-le-mul_left}
+use Rattle.std.proofs.Common.{◌≡◌, ◌∙◌, ℕ, zero, suc, ◌+◌, ◌*◌, ◌<◌, ◌≤◌, ◌⊎◌, Option, Some, None, List, [], ◌∷◌, length, get_or, ⊎_elim, inl, inr, sym, ap, subst, arith}
+use Rattle.std.specs.Prelude.{All, AllPairs, Contains, IsSomeAnd, MatchOption}
 use Rattle.std.proofs.lemmas.Bool.{cases_eq, cases_lt}
-use Rattle.std.proofs.lemmas.List.Elements.{All-cons, All-contains, All-nil}
+use Rattle.std.proofs.lemmas.List.Elements.{All-cons, All-nil}
 use Rattle.fp_lists.proofs.Membership.{Contains-cons_cases, Contains-first}
-use Rattle.fp_model.specs.declared.limits.TheConstants.{LATEST}
 use Rattle.fp_model.specs.declared.parts.Member.{Member}
 use Rattle.fp_model.specs.Members.{AreDisjoint, IsMemberOf, member_arc}
 use Rattle.fp_model.specs.Problem.{Problem}
 use Rattle.fp_model.specs.Routes.{step}
 use Rattle.fp_flatnet.specs.declared.window_tables.Window.{Window}
-use Rattle.fp_flatnet.specs.Tables.{WindowTable, windows_in}
+use Rattle.fp_flatnet.specs.Tables.{WindowTable}
 use Rattle.fp_dispatch.specs.declared.group_numbers.Numbers.{Numbers}
-use Rattle.fp_dispatch.specs.Rising.{AreEqualUntil, AreLower, AreRising, IsLower, IsTask, State, companions, companions_of, measure, most_members, place_of, raised, set_each, value_at}
-use Rattle.fp_dispatch.specs.Times.{HaveOneTime, MeetsLowerRules, next, window_of}
+use Rattle.fp_dispatch.specs.Rising.{AreRising, IsLower, IsTask, State, companions, companions_of, most_members, place_of, value_at}
+use Rattle.fp_dispatch.specs.Times.{HaveOneTime, next, window_of}
 use Rattle.fp_dispatch.proofs.RoomLeft.{length-le-most_members, most_members-some}
-use Rattle.fp_dispatch.proofs.RisingMoments.{AreRising-raised, CanRise, HaveOneTime-raised, IsMemberOf-before, measure-raised}
+use Rattle.fp_dispatch.proofs.RisingMoments.{CanRise, IsMemberOf-before}
 
 -- the only element of a list
 only-one : {X : Type 0} (x y : X) → Contains (x ∷ []) y → x ≡ y

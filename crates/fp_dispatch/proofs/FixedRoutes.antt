@@ -1,6 +1,6 @@
 -- What is known of routes and windows before any leg has a moment.
-use Rattle.std.proofs.Common.{◌≡◌, ◌≢◌, ◌∙◌, ℕ, zero, suc, ◌+◌, ◌*◌, ◌<◌, ◌≤◌, Option, Some, None, List, [], ◌∷◌, ◌++◌, length, get_or, map, take, replicate, ⊎_elim, inl, inr, refl, sym, ap, subst, arith, true}
-use Rattle.std.specs.Prelude.{All, Contains, IfSome, IsSomeAnd, MatchOption}
+use Rattle.std.proofs.Common.{◌≡◌, ◌∙◌, ℕ, suc, ◌*◌, ◌<◌, ◌≤◌, Option, Some, None, List, [], ◌∷◌, length, refl, sym, ap, subst, arith}
+use Rattle.std.specs.Prelude.{All, Contains, IfSome, IsSomeAnd}
 use Rattle.std.specs.List.{AllByRecursion, AllZip}
 use Rattle.std.proofs.Math.ListN.{length-map}
 use Rattle.std.proofs.Math.Nat.{mul-le-mul_left}
@@ -8,21 +8,20 @@ use Rattle.std.proofs.lemmas.List.Elements.{All-cons, All-from_recursion, All-ni
 use Rattle.fp_lists.specs.Distinct.{AreDistinct}
 use Rattle.fp_lists.proofs.DistinctSums.{length-distinct-le}
 use Rattle.fp_lists.proofs.Elements.{AllByRecursion-map, AllByRecursion-weaker}
-use Rattle.fp_model.specs.declared.limits.TheConstants.{LATEST, MOST_SHIPMENTS, MOST_TERMINALS}
-use Rattle.fp_model.specs.declared.parts.Arc.{Arc}
+use Rattle.fp_model.specs.declared.limits.TheConstants.{LATEST, MOST_TERMINALS}
 use Rattle.fp_model.specs.declared.parts.Member.{Member}
 use Rattle.fp_model.specs.declared.parts.Shipment.{Shipment}
 use Rattle.fp_model.specs.Members.{IsMemberOf, member_arc}
 use Rattle.fp_model.specs.Numbered.{no_shipment, shipment_at}
-use Rattle.fp_model.specs.Problem.{IsArc, IsShipment, IsValid, Problem, arc_at, no_arc}
+use Rattle.fp_model.specs.Problem.{IsValid, Problem, arc_at, no_arc}
 use Rattle.fp_model.specs.Routes.{IsRoute, ends_of}
 use Rattle.fp_model.proofs.Bounds.{Leads-exist}
 use Rattle.fp_flatnet.specs.declared.window_tables.Window.{Window}
 use Rattle.fp_flatnet.specs.Belonging.{BelongsTo}
 use Rattle.fp_flatnet.specs.Tables.{WindowTable, tail_of, windows_in}
 use Rattle.fp_flatnet.proofs.WindowTimes.{IsBelonging, IsBelonging-BelongsTo}
-use Rattle.fp_dispatch.specs.Rising.{AreLower, HaveWindows, IsBetween, IsLower, IsWide, State, value_at, waits_at}
-use Rattle.fp_dispatch.specs.Times.{MeetsLowerRules, window_of}
+use Rattle.fp_dispatch.specs.Rising.{AreLower, HaveWindows, IsBetween, State, value_at}
+use Rattle.fp_dispatch.specs.Times.{window_of}
 
 -- a route enters each terminal at most once
 IsRoute-short : (p : Problem) (s : Shipment) (arcs : List ℕ) → IsValid p → IsRoute p s arcs → length arcs ≤ MOST_TERMINALS

@@ -1,6 +1,6 @@
 -- Least times: there is one choice of them, there are whole ones where there are any, and what a
 -- clash excludes.
-use Rattle.std.proofs.Common.{◌≡◌, ◌∙◌, ℕ, zero, suc, ◌∷◌, ◌+◌, ◌*◌, ◌/◌, ◌<◌, ◌≤◌, Bool, true, false, Option, Some, None, List, [], length, get_or, ⊎_elim, refl, sym, ap, subst, arith}
+use Rattle.std.proofs.Common.{◌≡◌, ◌∙◌, ℕ, zero, suc, ◌∷◌, ◌+◌, ◌*◌, ◌/◌, ◌<◌, ◌≤◌, true, false, Option, Some, None, List, [], length, get_or, ⊎_elim, refl, sym, ap, subst, arith}
 use Rattle.std.specs.Prelude.{All, Contains, IfSome, IsSomeAnd, option_map}
 use Rattle.std.proofs.Math.Nat.{mul-le-mul_left, le-div_iff_mul-le}
 use Rattle.std.proofs.lemmas.Bool.{cases_Bool, cases_lt}
@@ -11,7 +11,7 @@ use Rattle.fp_model.specs.Problem.{Problem}
 use Rattle.fp_model.specs.Routes.{step}
 use Rattle.fp_flatnet.specs.declared.window_tables.Window.{Window}
 use Rattle.fp_dispatch.specs.Rising.{AreRising, IsBetween, IsLate, State, value_at, waits_at}
-use Rattle.fp_dispatch.specs.Times.{AreLeastTimes, AreTimes, HaveOneTime, HaveTimes, IsClash, MeetsLowerRules, next, window_of}
+use Rattle.fp_dispatch.specs.Times.{AreLeastTimes, AreTimes, HaveOneTime, HaveTimes, IsClash, next, window_of}
 use Rattle.fp_dispatch.specs.declared.rising.Late.{Late}
 use Rattle.fp_dispatch.proofs.RisingMoments.{IsMemberOf-before}
 

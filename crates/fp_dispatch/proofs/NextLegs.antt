@@ -1,7 +1,7 @@
 -- What becomes of the moments when the next leg of one is raised with its companions, and when the
 -- legs of a group are raised to one moment.
-use Rattle.std.proofs.Common.{◌≡◌, ◌∙◌, ℕ, zero, suc, ◌+◌, ◌*◌, ◌<◌, ◌≤◌, ◌⊎◌, Bool, true, false, Option, Some, None, List, [], ◌∷◌, length, get_or, ⊎_elim, inl, inr, refl, sym, ap, subst, arith}
-use Rattle.std.specs.Prelude.{All, AllPairs, Contains, IfSome, IsSomeAnd}
+use Rattle.std.proofs.Common.{◌≡◌, ◌∙◌, ℕ, zero, suc, ◌+◌, ◌*◌, ◌<◌, ◌≤◌, ◌⊎◌, true, false, Option, Some, None, List, [], ◌∷◌, length, get_or, ⊎_elim, inl, inr, refl, sym, ap, subst, arith}
+use Rattle.std.specs.Prelude.{All, Contains, IfSome, IsSomeAnd}
 use Rattle.std.proofs.lemmas.Bool.{cases_eq, false≢true}
 use Rattle.std.proofs.lemmas.List.Elements.{All-contains}
 use Rattle.fp_model.specs.declared.limits.TheConstants.{LATEST}
@@ -12,12 +12,11 @@ use Rattle.fp_model.specs.Routes.{step}
 use Rattle.fp_flatnet.specs.declared.window_tables.Window.{Window}
 use Rattle.fp_flatnet.specs.Tables.{WindowTable, windows_in}
 use Rattle.fp_dispatch.specs.declared.group_numbers.Numbers.{Numbers}
-use Rattle.fp_dispatch.specs.declared.rising.Late.{Late}
 use Rattle.fp_dispatch.specs.Rising.{AllWait, AreEqualUntil, AreLower, AreRising, IsBetween, IsLate, IsLower, IsTask, State, companions_of, measure, raised, set_each, value_at, waits_at}
-use Rattle.fp_dispatch.specs.Times.{HaveOneTime, MeetsLowerRules, next, window_of}
-use Rattle.fp_dispatch.proofs.Companions.{AreCompanions, AreCompanions-group, AreCompanions-of, CanRise-demanded, IsLower-demanded, groups-apart}
-use Rattle.fp_dispatch.proofs.RisingMoments.{AreLower-raised, AreRising-raised, AreRising-settled, CanRise, HaveOneTime-raised, IsMemberOf-before, measure-raised}
-use Rattle.fp_dispatch.proofs.TableEntries.{length-set_each, place_of-lt, set_each-cases}
+use Rattle.fp_dispatch.specs.Times.{next, window_of}
+use Rattle.fp_dispatch.proofs.Companions.{AreCompanions, AreCompanions-of, CanRise-demanded, IsLower-demanded, groups-apart}
+use Rattle.fp_dispatch.proofs.RisingMoments.{AreLower-raised, AreRising-raised, CanRise, HaveOneTime-raised, IsMemberOf-before, measure-raised}
+use Rattle.fp_dispatch.proofs.TableEntries.{place_of-lt, set_each-cases}
 
 -- the same element, whatever stands for a missing one
 read-same : {X : Type 0} (xs : List X) (k : ℕ) (d e : X) → k < length xs → get_or xs k d ≡ get_or xs k e

@@ -1,6 +1,6 @@
 -- What a raising of the legs of a group answers, as the groups are gathered and as legs are looked
 -- at.
-use Rattle.std.proofs.Common.{◌≡◌, ◌∙◌, ℕ, ◌+◌, ◌*◌, ◌<◌, ◌≤◌, ◌⊎◌, Option, Some, None, List, [], ◌∷◌, length, get_or, refl, sym, ap, subst, arith}
+use Rattle.std.proofs.Common.{◌≡◌, ℕ, ◌+◌, ◌<◌, ◌≤◌, ◌⊎◌, Option, Some, None, List, [], length, get_or, sym, subst}
 use Rattle.std.specs.Prelude.{All, Contains}
 use Rattle.fp_model.specs.declared.parts.Member.{Member}
 use Rattle.fp_model.specs.Members.{IsMemberOf, member_arc}
@@ -8,7 +8,7 @@ use Rattle.fp_model.specs.Problem.{Problem}
 use Rattle.fp_model.specs.Routes.{step}
 use Rattle.fp_flatnet.specs.Tables.{WindowTable, windows_in}
 use Rattle.fp_dispatch.specs.declared.group_numbers.Numbers.{Numbers}
-use Rattle.fp_dispatch.specs.Rising.{AllWait, AreEqualUntil, AreLower, AreRising, IsLate, IsRaising, IsTask, State, companions_of, measure, raised, value_at}
+use Rattle.fp_dispatch.specs.Rising.{AllWait, AreEqualUntil, AreLower, AreRising, IsLate, IsRaising, IsTask, State, companions_of, measure, value_at}
 use Rattle.fp_dispatch.specs.Times.{next}
 use Rattle.fp_dispatch.proofs.NextLegs.{group-late, group-raised, next-late, next-raised}
 

@@ -1,22 +1,18 @@
 -- Moments stay what no choice comes before, and within their windows, while legs are raised and
 -- looked at.
-use Rattle.std.proofs.Common.{◌≡◌, ◌∙◌, ℕ, zero, suc, ◌+◌, ◌*◌, ◌<◌, ◌≤◌, ◌⊎◌, Bool, true, false, Option, Some, None, List, [], ◌∷◌, ◌++◌, length, get_or, set, ⊎_elim, inl, inr, refl, sym, ap, subst, arith, length-set, length-append, get_or-set_same, get_or-set_other}
-use Rattle.std.specs.Prelude.{All, AllPairs, Contains, IsSomeAnd}
-use Rattle.std.proofs.Math.Nat.{mul-le-mul_left}
-use Rattle.std.proofs.lemmas.Bool.{cases_eq, cases_lt, false≢true}
+use Rattle.std.proofs.Common.{◌≡◌, ◌∙◌, ℕ, zero, suc, ◌+◌, ◌*◌, ◌<◌, ◌≤◌, ◌⊎◌, Bool, true, false, Option, Some, None, List, [], ◌∷◌, ◌++◌, length, get_or, set, ⊎_elim, inl, inr, refl, sym, ap, subst, arith, length-set, get_or-set_same, get_or-set_other}
+use Rattle.std.specs.Prelude.{All, Contains, IsSomeAnd}
+use Rattle.std.proofs.lemmas.Bool.{cases_eq, false≢true}
 use Rattle.std.proofs.lemmas.List.Elements.{All-contains, Contains-append_left, Contains-push, Contains-push_cases}
-use Rattle.fp_lists.proofs.Membership.{Contains-cons_cases, Contains-first}
 use Rattle.fp_model.specs.declared.limits.TheConstants.{LATEST}
 use Rattle.fp_model.specs.declared.parts.Member.{Member}
-use Rattle.fp_model.specs.Members.{AreDisjoint, IsMemberOf, member_arc}
+use Rattle.fp_model.specs.Members.{IsMemberOf, member_arc}
 use Rattle.fp_model.specs.Problem.{Problem}
 use Rattle.fp_model.specs.Routes.{step}
 use Rattle.fp_flatnet.specs.declared.window_tables.Window.{Window}
-use Rattle.fp_flatnet.specs.Tables.{WindowTable, windows_in}
-use Rattle.fp_dispatch.specs.declared.group_numbers.Numbers.{Numbers}
-use Rattle.fp_dispatch.specs.Rising.{AllWait, AreEqualUntil, AreGroupNumbers, AreLower, AreRising, HaveWindows, IsBetween, IsLower, IsSettled, IsTask, IsWide, State, companions, companions_of, measure, most_members, place_of, queue_each, raised, room, set_each, value_at, waits_at}
-use Rattle.fp_dispatch.specs.Times.{HaveOneTime, MeetsLowerRules, next, window_of}
-use Rattle.fp_dispatch.proofs.RoomLeft.{length-le-most_members, measure-lt, most_members-some, room-lt}
+use Rattle.fp_dispatch.specs.Rising.{AreEqualUntil, AreLower, AreRising, IsBetween, IsLower, IsSettled, IsWide, State, measure, most_members, place_of, raised, room, set_each, value_at, waits_at}
+use Rattle.fp_dispatch.specs.Times.{HaveOneTime, next, window_of}
+use Rattle.fp_dispatch.proofs.RoomLeft.{measure-lt, room-lt}
 use Rattle.fp_dispatch.proofs.TableEntries.{Member-cases, length-set_each, place_of-lt, place_of-same, set_each-at, set_each-cases}
 use Rattle.fp_dispatch.proofs.WaitingLegs.{length-queue_each, queue_each-AreQueued, queue_each-each}
 

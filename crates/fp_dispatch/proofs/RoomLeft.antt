@@ -1,5 +1,5 @@
 -- The room that is left for moments, and what falls as legs are looked at.
-use Rattle.std.proofs.Common.{◌≡◌, ℕ, zero, suc, ◌+◌, ◌-◌, ◌*◌, ◌<◌, ◌≤◌, List, [], ◌∷◌, length, get_or, arith}
+use Rattle.std.proofs.Common.{◌≡◌, ℕ, zero, suc, ◌+◌, ◌*◌, ◌<◌, ◌≤◌, List, [], ◌∷◌, length, get_or, arith}
 use Rattle.std.proofs.Math.Nat.{mul-le-mul_left}
 use Rattle.fp_model.specs.declared.limits.TheConstants.{LATEST}
 use Rattle.fp_model.specs.declared.parts.Member.{Member}

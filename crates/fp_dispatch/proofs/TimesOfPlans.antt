@@ -1,11 +1,10 @@
 -- Times that are kept by routes are those of a plan, and back.
-use Rattle.std.proofs.Common.{◌≡◌, ◌≢◌, ◌∙◌, ℕ, zero, suc, ◌+◌, ◌-◌, ◌*◌, ◌<◌, ◌≤◌, ◌⊎◌, Option, Some, None, List, [], ◌∷◌, length, get_or, map, ⊎_elim, inl, inr, refl, sym, ap, subst, arith}
-use Rattle.std.specs.Prelude.{All, AllPairs, Contains, IfSome, IsSomeAnd}
-use Rattle.std.specs.List.{AllByRecursion, AllZip}
+use Rattle.std.proofs.Common.{◌≡◌, ◌≢◌, ◌∙◌, ℕ, zero, suc, ◌+◌, ◌-◌, ◌*◌, ◌<◌, ◌≤◌, Option, Some, None, List, [], ◌∷◌, length, get_or, ⊎_elim, refl, sym, ap, subst, arith}
+use Rattle.std.specs.Prelude.{All, IfSome, IsSomeAnd}
+use Rattle.std.specs.List.{AllZip}
 use Rattle.std.proofs.Math.ListN.{length-map}
 use Rattle.std.proofs.Math.Nat.{mul-le-mul_left}
-use Rattle.std.proofs.lemmas.Bool.{cases_eq, cases_lt}
-use Rattle.fp_lists.specs.Numbered.{AllFrom}
+use Rattle.std.proofs.lemmas.Bool.{cases_lt}
 use Rattle.fp_lists.proofs.Elements.{AllByRecursion-from_get_or, AllByRecursion-get_or}
 use Rattle.fp_lists.proofs.Maps.{get_or-map_default}
 use Rattle.fp_lists.proofs.Numbered.{AllFrom-from_get_or, AllFrom-get_or_zero, AllZip-from_get_or, AllZip-get_or}
@@ -16,14 +15,14 @@ use Rattle.fp_model.specs.Members.{IsMemberOf, LeaveAsOne, arc_lists, member_arc
 use Rattle.fp_model.specs.Numbered.{leg_at, no_leg, no_shipment, route_at, shipment_at}
 use Rattle.fp_model.specs.Plans.{IsPlan}
 use Rattle.fp_model.specs.Problem.{Problem, arc_at}
-use Rattle.fp_model.specs.Routes.{ArrivesBy, Carries, IsRoute, Leads, LeavesReady, arcs_of, step}
+use Rattle.fp_model.specs.Routes.{Carries, IsRoute, Leads, LeavesReady, arcs_of, step}
 use Rattle.fp_model.proofs.LastArrivals.{arrives_at_last}
 use Rattle.fp_flatnet.specs.declared.window_tables.Window.{Window}
 use Rattle.fp_flatnet.specs.Belonging.{BelongsTo}
 use Rattle.fp_flatnet.specs.Tables.{WindowTable, windows_in}
 use Rattle.fp_flatnet.specs.Windows.{IsInside, LiesWithin, PlanLiesWithin}
 use Rattle.fp_flatnet.proofs.WindowTimes.{BelongsTo_into_destination, BelongsTo_release}
-use Rattle.fp_dispatch.specs.Times.{AreTimes, HaveOneTime, MeetsLowerRules, MeetsUpperRule, departure, next, window_of}
+use Rattle.fp_dispatch.specs.Times.{AreTimes, HaveOneTime, departure, next, window_of}
 
 -- the arc lists of routes, at a place
 arcs-at : (plan : List (List Leg)) (k : ℕ) → get_or (arc_lists plan) k [] ≡ arcs_of (route_at plan k)

@@ -3,7 +3,7 @@
 -- The source of the problem, in which shipments that share a truck leave at one moment: Boland,
 -- Hewitt, Marshall and Savelsbergh, "The Continuous-Time Service Network Design Problem",
 -- Operations Research 65, 2017.
-use Rattle.std.specs.Prelude.{ℕ, ◌+◌, ◌*◌, ◌≤◌, ◌<◌, ◌≡◌, List, length, All, Contains, Option, IfSome, IsSomeAnd, option_map}
+use Rattle.std.specs.Prelude.{ℕ, ◌+◌, ◌*◌, ◌≤◌, ◌<◌, ◌≡◌, List, All, Contains, Option, IfSome, IsSomeAnd, option_map}
 use Rattle.fp_model.specs.declared.parts.Leg.{Leg}
 use Rattle.fp_model.specs.declared.parts.Member.{Member}
 use Rattle.fp_model.specs.Members.{IsMemberOf, member_arc, member_leg}

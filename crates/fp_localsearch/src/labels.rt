@@ -55,13 +55,28 @@ impl Label {
     }
 }
 
-// The labels, a queue of them by cost and then by time, and for each terminal the earliest time of
-// a label that was looked at.
+// What is known of a terminal: the earliest time of a label that was looked at, and the cost and
+// the time of the cheapest label.
+#[derive(Clone, Copy)]
+struct Known {
+    earliest: u32,
+    cost: u128,
+    time: u32,
+}
+
+// Nothing known.
+const NOTHING: Known = Known {
+    earliest: u32::MAX,
+    cost: u128::MAX,
+    time: u32::MAX,
+};
+
+// The labels, a queue of them by cost and then by time, and what is known of each terminal.
 #[derive(Drop)]
 pub(crate) struct Labels {
     all: Vec<Label>,
     queue: BinaryHeap<Reverse<(u128, u32, usize)>>,
-    earliest: Vec<u32>,
+    known: Vec<Known>,
 }
 
 impl Labels {
@@ -70,7 +85,7 @@ impl Labels {
         Ok(Labels {
             all: Vec::new(alloc),
             queue: BinaryHeap::new(alloc),
-            earliest: vec![in alloc; u32::MAX; terminals]?,
+            known: vec![in alloc; NOTHING; terminals]?,
         })
     }
 
@@ -78,21 +93,25 @@ impl Labels {
     pub(crate) fn begin(&mut self, label: Label) -> Result<(), NoMemory> {
         self.all.clear();
         self.queue.clear();
-        for time in self.earliest.iter_mut() {
-            *time = u32::MAX;
+        for known in self.known.iter_mut() {
+            *known = NOTHING;
         }
         self.push(0, label)
     }
 
-    // Whether a time at a terminal is earlier than each that was looked at.
-    pub(crate) fn is_earlier(&self, terminal: u32, time: u32) -> bool {
-        self.earliest
-            .get(terminal as usize)
-            .is_some_and(|known| time < *known)
-    }
-
-    // Adds a label at a cost.
+    // Adds a label at a cost, if it is earlier than each that was looked at at its terminal, and
+    // earlier or cheaper than the cheapest.
     pub(crate) fn push(&mut self, cost: u128, label: Label) -> Result<(), NoMemory> {
+        let Some(known) = self.known.get_mut(label.terminal as usize) else {
+            return Ok(());
+        };
+        if label.time >= known.earliest || (cost >= known.cost && label.time >= known.time) {
+            return Ok(());
+        }
+        if cost <= known.cost {
+            known.cost = cost;
+            known.time = label.time;
+        }
         let number = self.all.len();
         self.queue.push(Reverse((cost, label.time, number)))?;
         self.all.push(label)?;
@@ -108,10 +127,10 @@ impl Labels {
             let Some(label) = self.all.get(number).copied() else {
                 return None;
             };
-            if let Some(known) = self.earliest.get_mut(label.terminal as usize)
-                && time < *known
+            if let Some(known) = self.known.get_mut(label.terminal as usize)
+                && time < known.earliest
             {
-                *known = time;
+                known.earliest = time;
                 return Some((cost, number, label));
             }
         }

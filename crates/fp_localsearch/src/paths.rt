@@ -129,9 +129,6 @@ impl Paths {
     fn open(&mut self, onward: &Onward) -> Result<(), NoMemory> {
         let arc = &onward.arc;
         let time = onward.from.saturating_add(arc.step);
-        if !self.labels.is_earlier(arc.to, time) {
-            return Ok(());
-        }
         let trucks = arc
             .alone
             .saturating_mul(u128::from(self.believed(arc.number)));
@@ -179,7 +176,7 @@ impl Paths {
         let time = leave.saturating_add(onward.arc.step);
         let late = leave > onward.arc.hi || leave > group.late;
         let shifts = leave > group.early && !shift;
-        if late || shifts || !self.labels.is_earlier(onward.arc.to, time) {
+        if late || shifts {
             return Ok(());
         }
         let Some(arc) = instance.arcs().get(onward.arc.number as usize) else {

@@ -8,13 +8,23 @@ use crate::usable_arcs::UsableArcs;
 use fp_model::Instance;
 use std::alloc::Global;
 
-// For each shipment its legs, the groups, the numbers of those of no legs, and the cost.
+// A leg by the number of its shipment and its place in the shipment's route.
+#[derive(Clone, Copy)]
+pub(crate) struct Place {
+    pub shipment: usize,
+    pub leg: usize,
+}
+
+// For each shipment its legs, the groups, for each group the places of its legs, the numbers of the
+// groups of no legs, and the cost.
 #[derive(Drop)]
 pub(crate) struct Solution {
     pub routes: Vec<Vec<GroupedLeg>>,
     pub groups: Vec<Group>,
+    pub members: Vec<Vec<Place>>,
     free: Vec<usize>,
     pub cost: u128,
+    alloc: Global,
 }
 
 impl Solution {
@@ -23,8 +33,10 @@ impl Solution {
         Ok(Solution {
             routes: empty_routes(alloc, shipments)?,
             groups: Vec::new(alloc),
+            members: Vec::new(alloc),
             free: Vec::new(alloc),
             cost: 0,
+            alloc,
         })
     }
 
@@ -34,6 +46,7 @@ impl Solution {
             Some(number) => number,
             None => {
                 self.groups.push(Group::free(arc))?;
+                self.members.push(Vec::new(self.alloc))?;
                 self.groups.len() - 1
             }
         };
@@ -56,16 +69,24 @@ impl Solution {
         leg: GroupedLeg,
     ) -> Result<(), NoMemory> {
         let size = size_of(instance, shipment);
-        let Some(arc) = instance.arcs().get(leg.arc as usize) else {
-            return Ok(());
-        };
-        if let Some(group) = self.groups.get_mut(leg.group) {
+        if let Some(arc) = instance.arcs().get(leg.arc as usize)
+            && let Some(group) = self.groups.get_mut(leg.group)
+        {
             let more = group.join(size, arc.capacity);
             group.narrow(leg.lo, leg.hi);
             let added = leg_cost(arc.truck, more, arc.freight, size);
             self.cost = self.cost.saturating_add(added);
         }
-        if let Some(route) = self.routes.get_mut(shipment) {
+        self.place(shipment, leg)
+    }
+
+    // Puts a leg at the end of a shipment's route, and notes its place at its group.
+    fn place(&mut self, shipment: usize, leg: GroupedLeg) -> Result<(), NoMemory> {
+        if let Some(route) = self.routes.get_mut(shipment)
+            && let Some(places) = self.members.get_mut(leg.group)
+        {
+            let at = route.len();
+            places.push(Place { shipment, leg: at })?;
             route.push(leg)?;
         }
         Ok(())
@@ -79,10 +100,9 @@ impl Solution {
         leg: GroupedLeg,
     ) -> Result<(), NoMemory> {
         let size = size_of(instance, shipment);
-        let Some(arc) = instance.arcs().get(leg.arc as usize) else {
-            return Ok(());
-        };
-        if let Some(group) = self.groups.get_mut(leg.group) {
+        if let Some(arc) = instance.arcs().get(leg.arc as usize)
+            && let Some(group) = self.groups.get_mut(leg.group)
+        {
             let fewer = group.leave(size, arc.capacity);
             if group.count == 0 {
                 self.free.push(leg.group)?;
@@ -90,7 +110,37 @@ impl Solution {
             let saved = leg_cost(arc.truck, fewer, arc.freight, size);
             self.cost = self.cost.saturating_sub(saved);
         }
+        if let Some(places) = self.members.get_mut(leg.group) {
+            remove_shipment(places, shipment);
+        }
         Ok(())
+    }
+
+    // The places of a group's legs.
+    pub(crate) fn places(&self, group: usize) -> &[Place] {
+        match self.members.get(group) {
+            Some(places) => places,
+            None => &[],
+        }
+    }
+
+    // The leg at a place.
+    pub(crate) fn leg(&self, place: Place) -> Option<GroupedLeg> {
+        self.routes.get(place.shipment)?.get(place.leg).copied()
+    }
+
+    // Gives a group its least time.
+    pub(crate) fn set_early(&mut self, group: usize, early: u32) {
+        if let Some(found) = self.groups.get_mut(group) {
+            found.early = early;
+        }
+    }
+
+    // Gives a group its greatest time.
+    pub(crate) fn set_late(&mut self, group: usize, late: u32) {
+        if let Some(found) = self.groups.get_mut(group) {
+            found.late = late;
+        }
     }
 
     // Takes a shipment out.
@@ -166,19 +216,21 @@ impl Solution {
         Ok(())
     }
 
-    // Finds the least and the greatest times of all groups. Answers whether there are any.
-    pub(crate) fn set_times(&mut self) -> bool {
+    // Finds the least and the greatest times of all groups, as far as there are any.
+    pub(crate) fn set_times(&mut self) {
         reset(&self.routes, &mut self.groups);
-        self.settle_times()
-    }
-
-    // Goes on from times that only have to be narrowed. Answers whether there are any.
-    pub(crate) fn settle_times(&mut self) -> bool {
-        let timed = raise(&self.routes, &mut self.groups);
-        if timed {
+        if raise(&self.routes, &mut self.groups) {
             lower(&self.routes, &mut self.groups);
         }
-        timed
+    }
+}
+
+// Removes the place of a shipment's leg.
+fn remove_shipment(places: &mut Vec<Place>, shipment: usize) {
+    if let Some(at) = places.iter().position(|place| place.shipment == shipment)
+        && at < places.len()
+    {
+        places.swap_remove(at);
     }
 }
 

@@ -5,7 +5,9 @@ use crate::draws::Draws;
 use crate::groups::GroupedLeg;
 use crate::paths::Paths;
 use crate::removal::Removal;
+use crate::saved_times::SavedTimes;
 use crate::solutions::{Solution, empty_routes};
+use crate::time_changes::TimeChanges;
 use crate::usable_arcs::{PARTS, UsableArcs};
 use fp_model::Instance;
 use std::alloc::Global;
@@ -31,7 +33,10 @@ pub(crate) struct Turns {
     removal: Removal,
     draws: Draws,
     undone: Vec<Undone>,
-    times: Vec<(u32, u32)>,
+    changes: TimeChanges,
+    // The times before the turn, and before a shipment is put back.
+    before: SavedTimes,
+    beside: SavedTimes,
 }
 
 impl Turns {
@@ -40,9 +45,10 @@ impl Turns {
         alloc: Global,
         instance: &Instance,
         usable: Vec<UsableArcs>,
-        solution: Solution,
+        mut solution: Solution,
         seed: u64,
     ) -> Result<Turns, NoMemory> {
+        solution.set_times();
         let mut best = empty_routes(alloc, solution.routes.len())?;
         copy_routes(&solution.routes, &mut best)?;
         Ok(Turns {
@@ -54,7 +60,9 @@ impl Turns {
             removal: Removal::new(alloc),
             draws: Draws::new(seed),
             undone: Vec::new(alloc),
-            times: Vec::new(alloc),
+            changes: TimeChanges::new(alloc),
+            before: SavedTimes::new(alloc),
+            beside: SavedTimes::new(alloc),
         })
     }
 
@@ -78,6 +86,7 @@ impl Turns {
 
     // Takes the drawn shipments out, and notes their legs.
     fn take_out(&mut self, instance: &Instance) -> Result<(), NoMemory> {
+        self.before.save(&self.solution.groups)?;
         self.undone.clear();
         for taken in &self.removal.taken {
             if let Some(route) = self.solution.routes.get(taken.shipment) {
@@ -85,7 +94,11 @@ impl Turns {
             }
             self.solution.take_out(instance, taken.shipment)?;
         }
-        Ok(())
+        for undone in &self.undone {
+            self.changes
+                .note_left(&self.solution.groups, undone.leg.group)?;
+        }
+        self.changes.widen(&mut self.solution)
     }
 
     // Draws in two of three turns how many parts of a truck's cost count by trucks on each arc;
@@ -103,9 +116,6 @@ impl Turns {
 
     // Puts the drawn shipments back. Answers whether all are, at a cost up to a limit.
     fn put_back(&mut self, instance: &Instance, limit: u128) -> Result<bool, NoMemory> {
-        if !self.solution.set_times() {
-            return Ok(false);
-        }
         for at in 0..self.removal.taken.len() {
             let Some(shipment) = self.removal.taken.get(at).map(|taken| taken.shipment) else {
                 return Ok(false);
@@ -121,19 +131,19 @@ impl Turns {
     // cheapest one that makes no group leave later.
     fn put_one_back(&mut self, instance: &Instance, shipment: usize) -> Result<bool, NoMemory> {
         self.paths.list_groups(&self.solution.groups)?;
-        self.save_times()?;
+        self.beside.save(&self.solution.groups)?;
         if !self.put_on_path(instance, shipment, true)? {
             return Ok(false);
         }
-        if self.solution.settle_times() {
+        if self.changes.narrow(&mut self.solution, shipment)? {
             return Ok(true);
         }
         self.solution.take_out(instance, shipment)?;
-        self.load_times();
+        self.beside.load(&mut self.solution.groups);
         if !self.put_on_path(instance, shipment, false)? {
             return Ok(false);
         }
-        Ok(self.solution.settle_times())
+        self.changes.narrow(&mut self.solution, shipment)
     }
 
     // Puts a shipment in on the cheapest path. Answers whether there is one.
@@ -158,23 +168,6 @@ impl Turns {
         Ok(true)
     }
 
-    // Notes the times of all groups.
-    fn save_times(&mut self) -> Result<(), NoMemory> {
-        self.times.clear();
-        for group in &self.solution.groups {
-            self.times.push((group.early, group.late))?;
-        }
-        Ok(())
-    }
-
-    // Gives the groups the times that were noted.
-    fn load_times(&mut self) {
-        for (group, (early, late)) in self.solution.groups.iter_mut().zip(&self.times) {
-            group.early = *early;
-            group.late = *late;
-        }
-    }
-
     // Keeps the state, as the best one if it is.
     fn keep_best(&mut self) -> Result<(), NoMemory> {
         if self.solution.cost < self.best_cost {
@@ -193,6 +186,7 @@ impl Turns {
             self.solution
                 .restore(instance, undone.shipment, undone.leg)?;
         }
+        self.before.load(&mut self.solution.groups);
         self.solution.list_free()
     }
 }

@@ -4,6 +4,10 @@
 #[cfg(test)]
 mod dispatch;
 #[cfg(test)]
+mod duals;
+#[cfg(test)]
+mod local;
+#[cfg(test)]
 mod repair;
 #[cfg(test)]
 mod shortarcs;

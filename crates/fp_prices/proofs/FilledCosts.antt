@@ -9,7 +9,7 @@ use Rattle.fp_longestarcs.proofs.ClassNumbers.{number-within}
 use Rattle.fp_allowed.specs.Bits.{bit_of}
 use Rattle.fp_allowed.specs.Listing.{class_at}
 use Rattle.fp_allowed.proofs.ListedClasses.{class_at-number}
-use Rattle.fp_prices.specs.declared.class_prices.LeafPricing.{LeafPricing}
+use Rattle.fp_prices.specs.declared.class_prices.ClassPricing.{ClassPricing}
 use Rattle.fp_prices.specs.declared.leaf_prices.Kind.{Kind}
 use Rattle.fp_prices.specs.ClassCosts.{HoldsClassCosts}
 use Rattle.fp_prices.specs.Leaves.{leaf_price}
@@ -18,20 +18,20 @@ use Rattle.fp_prices.specs.Shares.{ClassShare}
 use Rattle.fp_prices.proofs.SetBits.{AreRewritten, IsNextSet, rewritten_all, rewritten_more, rewritten_none}
 
 -- what the class with a number costs the shipment with the number k and a size
-abbrev pub cost_at : LeafPricing → List (List ClassShare) → (ℕ → Leg → Bool) → Kind → List (List Leg) → (k size n : ℕ) → ℕ
+abbrev pub cost_at : ClassPricing → List (List ClassShare) → (ℕ → Leg → Bool) → Kind → List (List Leg) → (k size n : ℕ) → ℕ
 cost_at pricing tables allowed kind chains k size n =
     leaf_price pricing.instance.now tables allowed kind chains k size (class_at pricing.network.now n)
     + pricing.instance.now.scale * (arc_at pricing.instance.now (class_at pricing.network.now n).arc).freight * size
 
 -- the entries below a place are costs where the row's bit is set, and the others are as they were
-pub record AreFilled (pricing : LeafPricing) (k size : ℕ) (row : List Bool) (old now : List (Option ℕ)) (next : ℕ) : Type 0 where
+pub record AreFilled (pricing : ClassPricing) (k size : ℕ) (row : List Bool) (old now : List (Option ℕ)) (next : ℕ) : Type 0 where
   pub within : next ≤ length row
   pub long : length now ≡ length old
   pub costs : (tables : List (List ClassShare)) (allowed : ℕ → Leg → Bool) (kind : Kind) (chains : List (List Leg)) → IsPricing tables allowed kind chains pricing → RowAllows pricing.network.now (allowed k) row →
       AreRewritten (λ n _. Some (cost_at pricing tables allowed kind chains k size n)) None row old now next
   pub others : (n : ℕ) → length row ≤ n → get_or now n None ≡ get_or old n None
 
-pub filled_none : (pricing : LeafPricing) (k size : ℕ) (row : List Bool) (old : List (Option ℕ)) → AreFilled pricing k size row old old 0
+pub filled_none : (pricing : ClassPricing) (k size : ℕ) (row : List Bool) (old : List (Option ℕ)) → AreFilled pricing k size row old old 0
 filled_none pricing k size row old = record {
   within = omega arith;
   long = refl;
@@ -40,7 +40,7 @@ filled_none pricing k size row old = record {
 }
 
 -- one more cost
-pub filled_more : (pricing : LeafPricing) (k size : ℕ) (row : List Bool) (old now : List (Option ℕ)) (next place cost : ℕ) → AreFilled pricing k size row old now next → IsNextSet row next place → length row ≤ length old →
+pub filled_more : (pricing : ClassPricing) (k size : ℕ) (row : List Bool) (old now : List (Option ℕ)) (next place cost : ℕ) → AreFilled pricing k size row old now next → IsNextSet row next place → length row ≤ length old →
     ((tables : List (List ClassShare)) (allowed : ℕ → Leg → Bool) (kind : Kind) (chains : List (List Leg)) → IsPricing tables allowed kind chains pricing → allowed k (class_at pricing.network.now place) ≡ true →
     cost ≡ cost_at pricing tables allowed kind chains k size place) →
     ((allowed : ℕ → Leg → Bool) → RowAllows pricing.network.now (allowed k) row → allowed k (class_at pricing.network.now place) ≡ true) →
@@ -55,7 +55,7 @@ filled_more pricing k size row old now next place cost so_far at room is told = 
 }
 
 -- all costs
-pub filled_all : (pricing : LeafPricing) (k size : ℕ) (row : List Bool) (old now : List (Option ℕ)) (next : ℕ) → AreFilled pricing k size row old now next → ((n : ℕ) → next ≤ n → bit_of row n ≡ false) →
+pub filled_all : (pricing : ClassPricing) (k size : ℕ) (row : List Bool) (old now : List (Option ℕ)) (next : ℕ) → AreFilled pricing k size row old now next → ((n : ℕ) → next ≤ n → bit_of row n ≡ false) →
     ((n : ℕ) → n < class_count pricing.network.now → get_or old n None ≡ None) →
     (tables : List (List ClassShare)) (allowed : ℕ → Leg → Bool) (kind : Kind) (chains : List (List Leg)) → IsPricing tables allowed kind chains pricing → RowAllows pricing.network.now (allowed k) row →
     HoldsClassCosts pricing.instance.now pricing.network.now (allowed k) (leaf_price pricing.instance.now tables allowed kind chains k size) size now

@@ -1,5 +1,5 @@
 -- The flat bound is at most the value of each leaf by linear prices, whatever its sides and points.
-use Rattle.std.proofs.Common.{◌≡◌, ℕ, ◌+◌, ◌*◌, ◌≤◌, Bool, true, false, List, [], ◌∷◌, ◌++◌, refl, sym, ap, ◌∙◌, subst, arith}
+use Rattle.std.proofs.Common.{◌≡◌, ℕ, ◌+◌, ◌*◌, ◌≤◌, Bool, false, List, [], ◌∷◌, refl, sym, ap, ◌∙◌, subst, arith}
 use Rattle.std.specs.Prelude.{Option, sum_by, if◌then◌else◌}
 use Rattle.std.proofs.lemmas.List.Sums.{sum_by-cons}
 use Rattle.fp_lists.specs.Numbered.{AllZipFrom}
@@ -13,18 +13,12 @@ use Rattle.fp_tree.specs.declared.sides.Side.{Side}
 use Rattle.fp_allowed.specs.Allowed.{is_allowed}
 use Rattle.fp_prices.specs.declared.leaf_prices.Kind.TheVariants.{Linear}
 use Rattle.fp_prices.specs.FlatBounds.{IsFlatBound, IsLeastArcsPrice, arc_price, arcs_price}
-use Rattle.fp_prices.specs.Leaves.{IsChain, IsLeafValue, IsLeastCost, leaf_price, walk_cost}
+use Rattle.fp_prices.specs.Leaves.{IsLeafValue, IsLeastCost, walk_cost}
 use Rattle.fp_prices.specs.Prices.{linear_price}
 use Rattle.fp_prices.specs.Shares.{ClassShare}
+use Rattle.fp_prices.proofs.PlainChains.{all_legs-plain}
 
--- chains that aren't forced have no classes
-all_legs-plain : (p : Problem) (allowed : ℕ → Leg → Bool) (i : ℕ) (shipments : List Shipment) (chains : List (List Leg)) → AllZipFrom (λ k. IsChain p (allowed k) false) i shipments chains → all_legs chains ≡ []
-all_legs-plain p allowed i [] [] are = refl
-all_legs-plain p allowed i [] (chain ∷ chains) are = absurd are
-all_legs-plain p allowed i (s ∷ shipments) [] are = absurd are
-all_legs-plain p allowed i (s ∷ shipments) (chain ∷ chains) are = ap (λ (l : List Leg). l ++ all_legs chains) are.0 ∙ all_legs-plain p allowed (i + 1) shipments chains are.1
-
--- so by linear prices a walk costs what its arcs cost
+-- by linear prices a walk costs what its arcs cost
 walk_cost-linear : (p : Problem) (size : ℕ) (walk : List Leg) → walk_cost p (λ c. linear_price p.scale (arc_at p c.arc) size) size walk ≡ arcs_price p size (arcs_of walk)
 walk_cost-linear p size [] = refl
 walk_cost-linear p size (c ∷ walk) =

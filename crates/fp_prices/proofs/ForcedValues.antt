@@ -1,6 +1,6 @@
 -- Where each forced chain reaches its shipment's destination, the value of a leaf that pays forced classes whole is the scale
 -- times what the chains cost.
-use Rattle.std.proofs.Common.{◌≡◌, ℕ, ◌+◌, ◌*◌, Bool, true, false, List, [], ◌∷◌, ◌++◌, refl, sym, ap, ◌∙◌, subst, arith}
+use Rattle.std.proofs.Common.{◌≡◌, ℕ, ◌+◌, ◌*◌, Bool, true, List, [], ◌∷◌, refl, sym, ap, ◌∙◌, arith}
 use Rattle.std.specs.Prelude.{Option, sum_by, ◌||◌}
 use Rattle.std.specs.List.{AllByRecursion}
 use Rattle.std.proofs.lemmas.Bool.{cond-true, or_left, or_right}
@@ -10,7 +10,7 @@ use Rattle.fp_lists.specs.Numbered.{AllZipFrom}
 use Rattle.fp_lists.proofs.Elements.{AllByRecursion-weaker}
 use Rattle.fp_model.specs.declared.parts.Leg.{Leg}
 use Rattle.fp_model.specs.declared.parts.Shipment.{Shipment}
-use Rattle.fp_model.specs.Costs.{all_legs, cost, departures_cost, flow_cost, flow_total, has_leg, same_leg}
+use Rattle.fp_model.specs.Costs.{all_legs, cost, flow_total, has_leg, same_leg}
 use Rattle.fp_model.specs.Problem.{Problem}
 use Rattle.fp_model.proofs.Distinct.{same_leg-refl}
 use Rattle.fp_flatnet.specs.declared.window_tables.Window.{Window}

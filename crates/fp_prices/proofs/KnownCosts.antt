@@ -1,16 +1,13 @@
 -- Costs that are known from an earlier leaf hold at all plain leaves over a network by the same kind.
-use Rattle.std.proofs.Common.{◌≡◌, ℕ, ◌+◌, ◌<◌, Bool, true, false, cond, List, [], ◌∷◌, ◌++◌, length, get_or, replicate, refl, sym, ap, ◌∙◌, subst, arith, ⊎_elim, inl, inr}
-use Rattle.std.specs.Prelude.{Err, IfOk, Ok, Option, Result, Some, ◌&&◌, ◌⊎◌, map, slice_get, slice_set}
-use Rattle.std.specs.Simd.Lanes.{zip2}
+use Rattle.std.proofs.Common.{◌≡◌, ℕ, ◌<◌, Bool, true, false, cond, List, [], ◌∷◌, ◌++◌, length, get_or, replicate, refl, sym, ap, ◌∙◌, subst, arith, ⊎_elim, inl, inr}
+use Rattle.std.specs.Prelude.{Err, IfOk, Ok, Result, Some, ◌&&◌, ◌⊎◌, map, slice_get}
 use Rattle.std.proofs.Math.ListN.{set}
 use Rattle.std.proofs.lemmas.Bool.{cases_eq, le-leb, lt-ltb}
 use Rattle.std.proofs.lemmas.List.{ext_get_or, length-append, length-replicate, length-set, get_or_append_left, get_or_push, get_or-set_same, get_or-set_other}
 use Rattle.std.proofs.lemmas.Option.{get_or_from_slice_get, slice_get-get_or, slice_get_within}
 use Rattle.std.proofs.lemmas.Simd.{get_or-zip2, length-zip2}
 use Rattle.fp_rows.specs.Bits.{and_bits, with_range}
-use Rattle.fp_lists.specs.Numbered.{AllZipFrom}
 use Rattle.fp_model.specs.declared.parts.Leg.{Leg}
-use Rattle.fp_model.specs.declared.parts.Shipment.{Shipment}
 use Rattle.fp_model.specs.Costs.{all_legs, has_leg}
 use Rattle.fp_model.specs.Numbered.{shipment_at}
 use Rattle.fp_model.specs.Problem.{IsValid, Problem}
@@ -19,7 +16,7 @@ use Rattle.fp_longestarcs.specs.Whole.{IsWholeNetwork}
 use Rattle.fp_allowed.specs.Bits.{bit_of}
 use Rattle.fp_allowed.specs.Moments.{in_range}
 use Rattle.fp_allowed.proofs.RowBits.{bit_of-with_range, length-with_range}
-use Rattle.fp_prices.specs.declared.class_prices.LeafPricing.{LeafPricing}
+use Rattle.fp_prices.specs.declared.class_prices.ClassPricing.{ClassPricing}
 use Rattle.fp_prices.specs.declared.class_prices.Rule.{Rule}
 use Rattle.fp_prices.specs.declared.class_prices.Rule.TheVariants.{BySize, InParts, ByShares}
 use Rattle.fp_prices.specs.declared.known_costs.KnownCost.{KnownCost}
@@ -28,7 +25,6 @@ use Rattle.fp_prices.specs.declared.leaf_prices.Kind.TheVariants.{Linear, Even, 
 use Rattle.fp_prices.specs.ClassCosts.{AllowsClasses, IsLeastOver}
 use Rattle.fp_prices.specs.Found.{IsSmallCost, leaf_prices}
 use Rattle.fp_prices.specs.KnownCosts.{IsKnownUnder, IsPlainPricing, IsSharedKind, IsSharedRule}
-use Rattle.fp_prices.specs.Leaves.{IsChain}
 use Rattle.fp_prices.specs.Prices.{AllKeepRule, table_at}
 use Rattle.fp_prices.specs.Pricings.{IsPricing, IsRuleOf, RowAllows, TellsForced}
 use Rattle.fp_prices.specs.Rates.{rate_of}
@@ -84,14 +80,6 @@ pub ok-holds : {X E A : Type 0} → A → (r : Result X E) → IfOk r (λ x. A)
 ok-holds h (Ok x) = h
 ok-holds h (Err e) = tt
 
--- the chains of a plain leaf have no legs
-pub all_legs-plain : (p : Problem) (allowed : ℕ → Leg → Bool) (i : ℕ) (shipments : List Shipment) (chains : List (List Leg)) → AllZipFrom (λ k. IsChain p (allowed k) false) i shipments chains → all_legs chains ≡ []
-all_legs-plain p allowed i [] [] is = refl
-all_legs-plain p allowed i [] (chain ∷ chains) is = absurd is
-all_legs-plain p allowed i (s ∷ shipments) [] is = absurd is
-all_legs-plain p allowed i (s ∷ shipments) (chain ∷ chains) is =
-    ap (λ (legs : List Leg). legs ++ all_legs chains) is.0 ∙ all_legs-plain p allowed (i + 1) shipments chains is.1
-
 shared-rule : (p : Problem) (net : TimedNetwork) (tables : List (List ClassShare)) (allowed : ℕ → Leg → Bool) (kind : Kind) (rule : Rule) → IsSharedKind kind → IsRuleOf p net tables allowed kind rule → IsSharedRule tables kind rule
 shared-rule p net tables allowed Linear BySize shared is = tt
 shared-rule p net tables allowed Linear (InParts users) shared is = absurd is
@@ -102,14 +90,14 @@ shared-rule p net tables allowed (Table id) (InParts users) shared is = absurd i
 shared-rule p net tables allowed (Table id) (ByShares shares) shared is = is.0
 
 -- the pricing of a plain leaf by such a kind
-pub plain-pricing : (p : Problem) (net : TimedNetwork) (tables : List (List ClassShare)) (kind : Kind) (pricing : LeafPricing) (allowed : ℕ → Leg → Bool) (chains : List (List Leg)) → pricing.instance.now ≡ p → pricing.network.now ≡ net →
+pub plain-pricing : (p : Problem) (net : TimedNetwork) (tables : List (List ClassShare)) (kind : Kind) (pricing : ClassPricing) (allowed : ℕ → Leg → Bool) (chains : List (List Leg)) → pricing.instance.now ≡ p → pricing.network.now ≡ net →
     IsSharedKind kind → IsPricing tables allowed kind chains pricing → all_legs chains ≡ [] → IsPlainPricing p net tables kind pricing
 plain-pricing p net tables kind pricing allowed chains same same_net shared is none = record {
   instance = same;
   network = same_net;
   rates = is.rates ∙ ap (λ (q : Problem). map (rate_of q.scale) q.arcs) same;
   rule = shared-rule pricing.instance.now pricing.network.now tables allowed kind pricing.rule shared is.rule;
-  forced = subst (λ (n : TimedNetwork). TellsForced n [] pricing.forced.now) same_net
+  forced = subst (λ (n : TimedNetwork). TellsForced n [] pricing.forced.row) same_net
       (record { long = is.forced.long; exact = λ c class. is.forced.exact c class ∙ ap (λ (legs : List Leg). has_leg c legs) none });
 }
 
@@ -134,7 +122,7 @@ rule-same p net others allowed (Table n) tables (Table id) (ByShares shares) (By
 forced-same : (net : TimedNetwork) (chains : List (List Leg)) (row other : List Bool) → TellsForced net [] row → TellsForced net [] other → TellsForced net chains other → TellsForced net chains row
 forced-same net chains row other one two is = record { long = one.long; exact = λ c class. one.exact c class ∙ sym (two.exact c class) ∙ is.exact c class }
 
-module _ (p : Problem) (net : TimedNetwork) (tables : List (List ClassShare)) (kind : Kind) (pricing other : LeafPricing) (one : IsPlainPricing p net tables kind pricing) (two : IsPlainPricing p net tables kind other) where
+module _ (p : Problem) (net : TimedNetwork) (tables : List (List ClassShare)) (kind : Kind) (pricing other : ClassPricing) (one : IsPlainPricing p net tables kind pricing) (two : IsPlainPricing p net tables kind other) where
   same : other.instance.now ≡ pricing.instance.now
   same = two.instance ∙ sym one.instance
 
@@ -152,8 +140,8 @@ module _ (p : Problem) (net : TimedNetwork) (tables : List (List ClassShare)) (k
         (subst (λ (q : Problem). IsRuleOf q pricing.network.now others allowed any other.rule) same
         (subst (λ (n : TimedNetwork). IsRuleOf other.instance.now n others allowed any other.rule) same_net is.rule));
     forced =
-        subst (λ (n : TimedNetwork). TellsForced n chains pricing.forced.now) (sym one.network)
-        (forced-same net chains pricing.forced.now other.forced.now one.forced two.forced (subst (λ (n : TimedNetwork). TellsForced n chains other.forced.now) two.network is.forced));
+        subst (λ (n : TimedNetwork). TellsForced n chains pricing.forced.row) (sym one.network)
+        (forced-same net chains pricing.forced.row other.forced.row one.forced two.forced (subst (λ (n : TimedNetwork). TellsForced n chains other.forced.row) two.network is.forced));
   }
 
   -- what is known under one pricing is known under the other

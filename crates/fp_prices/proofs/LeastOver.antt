@@ -1,12 +1,12 @@
 -- The distance in the graph of the points, from the origin's first point to the destination's last, is the least cost over the
 -- allowed timed walks of a shipment; and it is small.
-use Rattle.std.proofs.Common.{◌≡◌, ℕ, ◌+◌, ◌*◌, ◌<◌, ◌≤◌, Bool, List, [], ◌∷◌, length, get_or, replicate, ⊎_elim, sym, subst, refl, arith}
+use Rattle.std.proofs.Common.{◌≡◌, ℕ, ◌+◌, ◌*◌, ◌<◌, ◌≤◌, Bool, List, [], ◌∷◌, length, get_or, ⊎_elim, sym, subst, arith}
 use Rattle.std.specs.Prelude.{All, Option, Some, None, IfSome, unwrap_or}
-use Rattle.std.specs.List.{AllByRecursion, sum_by}
+use Rattle.std.specs.List.{AllByRecursion}
 use Rattle.std.proofs.Math.Nat.{mul-le-mul_right}
 use Rattle.std.proofs.lemmas.Bool.{cases_lt}
-use Rattle.std.proofs.lemmas.List.{get_or_past, get_or-replicate, length-map, length-replicate}
-use Rattle.std.proofs.lemmas.List.Sums.{sum_by-cons, sum_by-le}
+use Rattle.std.proofs.lemmas.List.{get_or_past, length-map}
+use Rattle.std.proofs.lemmas.List.Sums.{sum_by-le}
 use Rattle.fp_lists.specs.Distinct.{AreDistinct}
 use Rattle.fp_labels.specs.declared.graphs.Edge.{Edge}
 use Rattle.fp_labels.specs.Graphs.{HasEnds, edge_at, no_edge}
@@ -15,8 +15,7 @@ use Rattle.fp_labels.specs.Walks.{IsDistance, IsWalk, cost_of, nodes_on, Leads a
 use Rattle.fp_model.specs.declared.parts.Leg.{Leg}
 use Rattle.fp_model.specs.declared.parts.Shipment.{Shipment}
 use Rattle.fp_model.specs.Problem.{Problem}
-use Rattle.fp_lists.proofs.DistinctSums.{sum_by-places-le, length-distinct-le}
-use Rattle.fp_lists.proofs.Elements.{AllByRecursion-weaker}
+use Rattle.fp_lists.proofs.DistinctSums.{length-distinct-le}
 use Rattle.fp_longestarcs.specs.Networks.{TimedNetwork, points_in}
 use Rattle.fp_longestarcs.proofs.NewPoints.{points-of}
 use Rattle.fp_allowed.specs.Walks.{FollowsHeads, IsTimedWalk}

@@ -13,7 +13,7 @@ use Rattle.fp_lists.proofs.Numbered.{AllZipFrom-get_or, AllZipFrom-push}
 use Rattle.fp_longestarcs.specs.Networks.{points_in}
 use Rattle.fp_allowed.specs.Walks.{IsTimedWalk}
 use Rattle.fp_prices.specs.declared.bounds.LeafBound.TheVariants.{Empty, Value}
-use Rattle.fp_prices.specs.declared.class_prices.LeafPricing.{LeafPricing}
+use Rattle.fp_prices.specs.declared.class_prices.ClassPricing.{ClassPricing}
 use Rattle.fp_prices.specs.declared.leaf_prices.Kind.{Kind}
 use Rattle.fp_prices.specs.ClassCosts.{AllowsClasses, IsLeastOver}
 use Rattle.fp_prices.specs.Found.{IsFoundOver, IsPricedLeaf, IsPricedRow, IsSmallCost, leaf_prices}
@@ -24,13 +24,13 @@ use Rattle.fp_prices.specs.Shares.{ClassShare}
 use Rattle.fp_prices.proofs.SmallBounds.{AreSmallCosts, costs-small}
 
 -- what a leaf's prices are taken for: a kind, tables, chains, and which classes are allowed for whom
-pub record IsLeafOf (pricing : LeafPricing) (rows : List (List Bool)) (tables : List (List ClassShare)) (allowed : ℕ → Leg → Bool) (kind : Kind) (chains : List (List Leg)) : Type 0 where
+pub record IsLeafOf (pricing : ClassPricing) (rows : List (List Bool)) (tables : List (List ClassShare)) (allowed : ℕ → Leg → Bool) (kind : Kind) (chains : List (List Leg)) : Type 0 where
   pub is : IsPricing tables allowed kind chains pricing
   pub rows_of : AreRowsOf pricing.network.now allowed rows
   pub classes : (k : ℕ) → AllowsClasses pricing.network.now (allowed k)
 
 -- the value is the bases and the least costs of the shipments so far
-pub record AreLeastSoFar (pricing : LeafPricing) (rows : List (List Bool)) (bases i value : ℕ) : Type 0 where
+pub record AreLeastSoFar (pricing : ClassPricing) (rows : List (List Bool)) (bases i value : ℕ) : Type 0 where
   pub costs : List ℕ
   pub least : (tables : List (List ClassShare)) (allowed : ℕ → Leg → Bool) (kind : Kind) (chains : List (List Leg)) → IsLeafOf pricing rows tables allowed kind chains →
       AllZipFrom (λ k (s : Shipment) n. IsLeastCost pricing.instance.now (points_in pricing.network.now) (allowed k) s (leaf_price pricing.instance.now tables allowed kind chains k s.size) n) 0
@@ -38,15 +38,15 @@ pub record AreLeastSoFar (pricing : LeafPricing) (rows : List (List Bool)) (base
   pub small : AreSmallCosts pricing.instance.now 0 (take i pricing.instance.now.shipments) costs
   pub is : value ≡ bases + sum_by (λ (n : ℕ). n) costs
 
-pub least_none : (pricing : LeafPricing) (rows : List (List Bool)) (bases : ℕ) → AreLeastSoFar pricing rows bases 0 bases
+pub least_none : (pricing : ClassPricing) (rows : List (List Bool)) (bases : ℕ) → AreLeastSoFar pricing rows bases 0 bases
 least_none pricing rows bases = record { costs = []; least = λ tables allowed kind chains leaf. tt; small = tt; is = omega arith }
 
 -- a shipment's row tells what is allowed for it
-pub row-allows : (pricing : LeafPricing) (rows : List (List Bool)) (allowed : ℕ → Leg → Bool) (k : ℕ) (row : List Bool) → k < length rows → row ≡ get_or rows k [] → AreRowsOf pricing.network.now allowed rows →
+pub row-allows : (pricing : ClassPricing) (rows : List (List Bool)) (allowed : ℕ → Leg → Bool) (k : ℕ) (row : List Bool) → k < length rows → row ≡ get_or rows k [] → AreRowsOf pricing.network.now allowed rows →
     RowAllows pricing.network.now (allowed k) row
 row-allows pricing rows allowed k row inside is are = λ c class. subst (λ (r : List Bool). RowAllows pricing.network.now (allowed k) r) (sym is) (λ e there. are.exact k e inside there) c class
 
-pub row-priced : (pricing : LeafPricing) (rows : List (List Bool)) (k : ℕ) (row : List Bool) → k < length rows → row ≡ get_or rows k [] → IsPricedLeaf pricing rows → IsPricedRow pricing k row
+pub row-priced : (pricing : ClassPricing) (rows : List (List Bool)) (k : ℕ) (row : List Bool) → k < length rows → row ≡ get_or rows k [] → IsPricedLeaf pricing rows → IsPricedRow pricing k row
 row-priced pricing rows k row inside is priced = record {
   tables = priced.tables;
   allowed = priced.allowed;
@@ -58,7 +58,7 @@ row-priced pricing rows k row inside is priced = record {
 }
 
 -- one more shipment that has a cost
-pub least_more : (pricing : LeafPricing) (rows : List (List Bool)) (bases i value cost : ℕ) (row : List Bool) (o : Option ℕ) → o ≡ Some cost → i < length pricing.instance.now.shipments → i < length rows → row ≡ get_or rows i [] →
+pub least_more : (pricing : ClassPricing) (rows : List (List Bool)) (bases i value cost : ℕ) (row : List Bool) (o : Option ℕ) → o ≡ Some cost → i < length pricing.instance.now.shipments → i < length rows → row ≡ get_or rows i [] →
     AreLeastSoFar pricing rows bases i value → IsSmallCost pricing.instance.now i o →
     ((tables : List (List ClassShare)) (allowed : ℕ → Leg → Bool) (kind : Kind) (chains : List (List Leg)) → IsPricing tables allowed kind chains pricing → RowAllows pricing.network.now (allowed i) row →
     AllowsClasses pricing.network.now (allowed i) → IsLeastOver pricing.instance.now (points_in pricing.network.now) (allowed i) (shipment_at pricing.instance.now i) (leaf_prices pricing.instance.now tables allowed kind chains i) o) →
@@ -84,7 +84,7 @@ least_more pricing rows bases i value cost row o found exists inside is so_far s
     }
 
 -- one more cost fits
-pub more-fits : (pricing : LeafPricing) (rows : List (List Bool)) (bases i value cost : ℕ) (o : Option ℕ) → o ≡ Some cost → IsValid pricing.instance.now → i < length pricing.instance.now.shipments → AreLeastSoFar pricing rows bases i value →
+pub more-fits : (pricing : ClassPricing) (rows : List (List Bool)) (bases i value cost : ℕ) (o : Option ℕ) → o ≡ Some cost → IsValid pricing.instance.now → i < length pricing.instance.now.shipments → AreLeastSoFar pricing rows bases i value →
     IsSmallCost pricing.instance.now i o → bases ≤ pricing.instance.now.scale * alone_total pricing.instance.now.arcs pricing.instance.now.shipments → value + cost < 2 ^ 128
 more-fits pricing rows bases i value cost o found valid exists so_far small few =
     let p : Problem = pricing.instance.now in
@@ -97,7 +97,7 @@ more-fits pricing rows bases i value cost o found valid exists so_far small few 
     omega (arith, so_far.is, costs, scaled, whole, own_cost, few, valid.fits)
 
 -- the first shipment that has no cost
-pub first_without : (pricing : LeafPricing) (rows : List (List Bool)) (bases i value : ℕ) (row : List Bool) (o : Option ℕ) → o ≡ None → i < length pricing.instance.now.shipments → i < length rows → row ≡ get_or rows i [] →
+pub first_without : (pricing : ClassPricing) (rows : List (List Bool)) (bases i value : ℕ) (row : List Bool) (o : Option ℕ) → o ≡ None → i < length pricing.instance.now.shipments → i < length rows → row ≡ get_or rows i [] →
     AreLeastSoFar pricing rows bases i value →
     ((tables : List (List ClassShare)) (allowed : ℕ → Leg → Bool) (kind : Kind) (chains : List (List Leg)) → IsPricing tables allowed kind chains pricing → RowAllows pricing.network.now (allowed i) row →
     AllowsClasses pricing.network.now (allowed i) → IsLeastOver pricing.instance.now (points_in pricing.network.now) (allowed i) (shipment_at pricing.instance.now i) (leaf_prices pricing.instance.now tables allowed kind chains i) o) →
@@ -120,7 +120,7 @@ first_without pricing rows bases i value row o found exists inside is so_far non
     }
 
 -- all shipments have a cost
-pub least_all : (pricing : LeafPricing) (rows : List (List Bool)) (bases i value : ℕ) → length pricing.instance.now.shipments ≤ i → AreLeastSoFar pricing rows bases i value →
+pub least_all : (pricing : ClassPricing) (rows : List (List Bool)) (bases i value : ℕ) → length pricing.instance.now.shipments ≤ i → AreLeastSoFar pricing rows bases i value →
     (tables : List (List ClassShare)) (allowed : ℕ → Leg → Bool) (kind : Kind) (chains : List (List Leg)) → IsLeafOf pricing rows tables allowed kind chains →
     IsFoundOver pricing.instance.now (points_in pricing.network.now) allowed (leaf_price pricing.instance.now tables allowed kind chains) bases (Value value)
 least_all pricing rows bases i value all so_far tables allowed kind chains leaf =

@@ -1,3 +1,8 @@
+pub mod WalkTests
+pub mod PreferredWalks
+pub mod LeafPricings
+pub mod TimedWalks
+pub mod PlainChains
 pub mod KnownCosts
 pub mod LeafBounds
 pub mod LeastSoFar

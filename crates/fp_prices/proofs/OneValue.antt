@@ -39,11 +39,11 @@ forced-unique p allowed there met here (f ∷ a) (g ∷ b) fa wa fb wb =
     ap₂ (λ (l : Leg) (legs : List Leg). l ∷ legs) (sym same) rest
 
 -- a shipment has one chain at a leaf
-chain-unique : (p : Problem) (allowed : Leg → Bool) (forced : Bool) (s : Shipment) (a b : List Leg) → IsChain p allowed forced s a → IsChain p allowed forced s b → a ≡ b
+pub chain-unique : (p : Problem) (allowed : Leg → Bool) (forced : Bool) (s : Shipment) (a b : List Leg) → IsChain p allowed forced s a → IsChain p allowed forced s b → a ≡ b
 chain-unique p allowed true s a b is_a is_b = forced-unique p allowed s.to [] s.from a b is_a.forced is_a.whole is_b.forced is_b.whole
 chain-unique p allowed false s a b is_a is_b = is_a ∙ sym is_b
 
-chains-unique : (p : Problem) (allowed : ℕ → Leg → Bool) (forced : Bool) (i : ℕ) (shipments : List Shipment) (A B : List (List Leg)) →
+pub chains-unique : (p : Problem) (allowed : ℕ → Leg → Bool) (forced : Bool) (i : ℕ) (shipments : List Shipment) (A B : List (List Leg)) →
     AllZipFrom (λ k. IsChain p (allowed k) forced) i shipments A → AllZipFrom (λ k. IsChain p (allowed k) forced) i shipments B → A ≡ B
 chains-unique p allowed forced i [] [] [] are_a are_b = refl
 chains-unique p allowed forced i [] [] (b ∷ B) are_a are_b = absurd are_b

@@ -3,7 +3,7 @@
 use Rattle.std.proofs.Common.{◌≡◌, ℕ, ◌-◌, ◌*◌, ◌<◌, ◌≤◌, Bool, List, length, get_or, sym, ap, ◌∙◌, subst, arith}
 use Rattle.std.specs.Prelude.{All, Option, Some, None, IfSome}
 use Rattle.std.proofs.lemmas.List.{get_or_read}
-use Rattle.fp_labels.specs.Labels.{AreLabels, Distances, IsSimpleWalk, cost_to, walk_to}
+use Rattle.fp_labels.specs.Labels.{Distances, IsSimpleWalk, cost_to, walk_to}
 use Rattle.fp_labels.specs.Walks.{IsDistance}
 use Rattle.fp_model.specs.declared.parts.Leg.{Leg}
 use Rattle.fp_model.specs.declared.parts.Shipment.{Shipment}

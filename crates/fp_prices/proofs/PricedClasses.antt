@@ -1,10 +1,10 @@
 -- What a pricing tells of a class, and that it fits.
-use Rattle.std.proofs.Common.{◌≡◌, ℕ, zero, suc, ◌+◌, ◌*◌, ◌^◌, ◌<◌, ◌≤◌, Bool, true, false, List, [], ◌∷◌, length, map, ⊎_elim, get_or, sym, ap, ◌∙◌, subst, arith, le_trans}
+use Rattle.std.proofs.Common.{◌≡◌, ℕ, zero, suc, ◌+◌, ◌*◌, ◌^◌, ◌<◌, ◌≤◌, Bool, true, false, List, [], ◌∷◌, length, map, ⊎_elim, get_or, refl, sym, ap, ◌∙◌, subst, arith, le_trans}
 use Rattle.std.specs.Prelude.{All, Option, Some, slice_get, slice_index}
 use Rattle.std.specs.Borrow.{Bor}
 use Rattle.std.proofs.Math.Nat.{mul-le-mul_left}
 use Rattle.std.proofs.lemmas.Bool.{cases_Bool, cond-true, cond-false}
-use Rattle.std.proofs.lemmas.List.{get_or-map, get_or_read, length-map}
+use Rattle.std.proofs.lemmas.List.{get_or-map}
 use Rattle.std.proofs.lemmas.List.Elements.{All-head, All-tail}
 use Rattle.fp_model.specs.declared.parts.Leg.{Leg}
 use Rattle.fp_model.specs.Costs.{all_legs, has_leg}
@@ -15,7 +15,7 @@ use Rattle.fp_longestarcs.specs.Whole.{IsWholeNetwork}
 use Rattle.fp_longestarcs.proofs.HeadLists.{arc-count}
 use Rattle.fp_allowed.specs.Bits.{bit_of}
 use Rattle.fp_allowed.specs.Listing.{class_at}
-use Rattle.fp_prices.specs.declared.class_prices.LeafPricing.{LeafPricing}
+use Rattle.fp_prices.specs.declared.class_prices.ClassPricing.{ClassPricing}
 use Rattle.fp_prices.specs.declared.class_prices.Rule.TheVariants.{InParts, ByShares}
 use Rattle.fp_prices.specs.declared.class_users.Users.{Users}
 use Rattle.fp_prices.specs.declared.leaf_prices.Kind.{Kind}
@@ -29,6 +29,7 @@ use Rattle.fp_prices.specs.Rows.{AreUsers}
 use Rattle.fp_prices.specs.Searches.{is_share}
 use Rattle.fp_prices.specs.Shares.{ClassShare}
 use Rattle.fp_prices.specs.Tables.{IsAscendingTable}
+use Rattle.fp_prices.proofs.NumberedClasses.{number-class}
 use Rattle.fp_prices.proofs.SmallPrices.{allowed_count-some, arc-alone, price-small, priced-alone, shipment-alone}
 
 -- what all shipments cost over every arc alone fits, scaled
@@ -49,7 +50,7 @@ class-small p tables allowed kind c k valid keep exists arc_exists is =
     (mul-le-mul_left p.scale (le_trans (arc-alone p size c.arc arc_exists) (shipment-alone p k exists)))
 
 -- so it fits, by whatever kind
-pub priced-fits : (pricing : LeafPricing) (k class : ℕ) (c : Leg) (kind : Kind) → k < length pricing.instance.now.shipments → (priced : IsPricedClass pricing k class) →
+pub priced-fits : (pricing : ClassPricing) (k class : ℕ) (c : Leg) (kind : Kind) → k < length pricing.instance.now.shipments → (priced : IsPricedClass pricing k class) →
     class_at pricing.network.now class ≡ c → c.arc < length pricing.instance.now.arcs →
     truck_price pricing.instance.now priced.tables priced.allowed kind c k (shipment_at pricing.instance.now k).size
     + pricing.instance.now.scale * (arc_at pricing.instance.now c.arc).freight * (shipment_at pricing.instance.now k).size < 2 ^ 127
@@ -58,6 +59,21 @@ priced-fits pricing k class c kind exists priced is arc_exists =
     let allows : priced.allowed k c ≡ true = subst (λ (e : Leg). priced.allowed k e ≡ true) is priced.allows in
     let small = class-small p priced.tables priced.allowed kind c k priced.is.valid priced.is.keep exists arc_exists allows in
     omega (arith, small, alone-fits p priced.is.valid)
+
+-- and so does what it costs where some classes are forced
+pub leaf-fits : (pricing : ClassPricing) (k class : ℕ) → k < length pricing.instance.now.shipments → class < class_count pricing.network.now → (priced : IsPricedClass pricing k class) →
+    leaf_price pricing.instance.now priced.tables priced.allowed priced.kind priced.chains k (shipment_at pricing.instance.now k).size (class_at pricing.network.now class)
+    + pricing.instance.now.scale * (arc_at pricing.instance.now (class_at pricing.network.now class).arc).freight * (shipment_at pricing.instance.now k).size < 2 ^ 127
+leaf-fits pricing k class exists within priced =
+    let p : Problem = pricing.instance.now in
+    let c : Leg = class_at pricing.network.now class in
+    let number = number-class pricing.network.now class priced.is.whole.valid within in
+    let fits = priced-fits pricing k class c priced.kind exists priced refl (class-exists p pricing.network.now c priced.is.whole number.0) in
+    let price : ℕ = truck_price p priced.tables priced.allowed priced.kind c k (shipment_at p k).size in
+    ⊎_elim
+    (λ (yes : has_leg c (all_legs priced.chains) ≡ true). omega (arith, fits, cond-true (has_leg c (all_legs priced.chains)) 0 price yes))
+    (λ (no : has_leg c (all_legs priced.chains) ≡ false). omega (arith, fits, cond-false (has_leg c (all_legs priced.chains)) 0 price no))
+    (cases_Bool (has_leg c (all_legs priced.chains)))
 
 -- the users by which a rule prices in parts
 pub rule-users : (p : Problem) (net : TimedNetwork) (tables : List (List ClassShare)) (allowed : ℕ → Leg → Bool) (kind : Kind) (users : Users) → IsRuleOf p net tables allowed kind (InParts users) →
@@ -113,23 +129,6 @@ found-among P (s ∷ table) c share all found =
     let e : s ≡ share = cc in subst P e (All-head P s table all))
     (λ (other : is_share c s ≡ false). found-among P table c share (All-tail P s table all) (sym (cond-false (is_share c s) (Some s) (share_for table c) other) ∙ found))
     (cases_Bool (is_share c s))
-
--- what a forced class costs is its flow
-pub cost-forced : (p : Problem) (tables : List (List ClassShare)) (allowed : ℕ → Leg → Bool) (kind : Kind) (chains : List (List Leg)) (k size : ℕ) (x here : Leg) (flow : ℕ) → x ≡ here →
-    has_leg here (all_legs chains) ≡ true → flow ≡ p.scale * (arc_at p here.arc).freight * size →
-    flow ≡ leaf_price p tables allowed kind chains k size x + p.scale * (arc_at p x.arc).freight * size
-cost-forced p tables allowed kind chains k size x here flow at forced is =
-    let free : leaf_price p tables allowed kind chains k size here ≡ 0 = cond-true (has_leg here (all_legs chains)) 0 (truck_price p tables allowed kind here k size) forced in
-    subst (λ (e : Leg). flow ≡ leaf_price p tables allowed kind chains k size e + p.scale * (arc_at p e.arc).freight * size) (sym at) (omega (arith, free, is))
-
--- what another costs is its truck price and its flow
-pub cost-priced : (p : Problem) (tables : List (List ClassShare)) (allowed : ℕ → Leg → Bool) (kind : Kind) (chains : List (List Leg)) (k size : ℕ) (x here : Leg) (price flow : ℕ) → x ≡ here →
-    has_leg here (all_legs chains) ≡ false → price ≡ truck_price p tables allowed kind here k size → flow ≡ p.scale * (arc_at p here.arc).freight * size →
-    price + flow ≡ leaf_price p tables allowed kind chains k size x + p.scale * (arc_at p x.arc).freight * size
-cost-priced p tables allowed kind chains k size x here price flow at not_forced price_is is =
-    let paid : leaf_price p tables allowed kind chains k size here ≡ truck_price p tables allowed kind here k size =
-    cond-false (has_leg here (all_legs chains)) 0 (truck_price p tables allowed kind here k size) not_forced in
-    subst (λ (e : Leg). price + flow ≡ leaf_price p tables allowed kind chains k size e + p.scale * (arc_at p e.arc).freight * size) (sym at) (omega (arith, paid, price_is, is))
 
 -- a forced bit is read
 pub bit-read : (row : List Bool) (n : ℕ) (b : Bool) → slice_get row n ≡ Some b → bit_of row n ≡ b

@@ -9,12 +9,13 @@ use Rattle.fp_labels.specs.Labels.{IsSmallFor}
 use Rattle.fp_model.specs.declared.parts.Leg.{Leg}
 use Rattle.fp_model.specs.Numbered.{shipment_at}
 use Rattle.fp_model.specs.Problem.{IsValid, Problem, alone_cost, alone_total, arc_at}
+use Rattle.fp_timenodes.specs.declared.places.TheConstants.{MOST_POINTS}
 use Rattle.fp_longestarcs.specs.Networks.{TimedNetwork, class_count, points_in}
 use Rattle.fp_tree.specs.declared.sides.Side.{Side}
 use Rattle.fp_allowed.specs.Bits.{IsRowUnder, bit_of}
 use Rattle.fp_allowed.specs.Listing.{class_at}
 use Rattle.fp_allowed.specs.Settings.{Setting}
-use Rattle.fp_prices.specs.declared.class_prices.LeafPricing.{LeafPricing}
+use Rattle.fp_prices.specs.declared.class_prices.ClassPricing.{ClassPricing}
 use Rattle.fp_prices.specs.declared.leaf_prices.Kind.{Kind}
 use Rattle.fp_prices.specs.ClassCosts.{AllowsClasses, HoldsClassCosts, IsFree, IsLeastOver}
 use Rattle.fp_prices.specs.Forced.{AreRowsUnder}
@@ -49,7 +50,7 @@ rows_under-push s sides rows i row long under is k h =
     end (x ∷ xs) = end xs
 
 -- the classes whose bits are set are priced
-pub classes-priced : (pricing : LeafPricing) (k : ℕ) (row : List Bool) → IsPricedRow pricing k row → length row ≡ class_count pricing.network.now → (class : ℕ) → bit_of row class ≡ true → IsPricedClass pricing k class
+pub classes-priced : (pricing : ClassPricing) (k : ℕ) (row : List Bool) → IsPricedRow pricing k row → length row ≡ class_count pricing.network.now → (class : ℕ) → bit_of row class ≡ true → IsPricedClass pricing k class
 classes-priced pricing k row priced long class set =
     let net : TimedNetwork = pricing.network.now in
     let at = number-class net class priced.is.whole.valid (omega (arith, set-within row class set, long)) in
@@ -72,7 +73,7 @@ if_some-weaker None P Q on h = tt
 if_some-weaker (Some n) P Q on h = on n h
 
 -- all costs are at most that
-pub costs-le_alone : (pricing : LeafPricing) (k : ℕ) (row : List Bool) (graph : PointGraph) (costs : List (Option ℕ)) → IsPointGraph pricing.instance.now pricing.network.now graph → (priced : IsPricedRow pricing k row) →
+pub costs-le_alone : (pricing : ClassPricing) (k : ℕ) (row : List Bool) (graph : PointGraph) (costs : List (Option ℕ)) → IsPointGraph pricing.instance.now pricing.network.now graph → (priced : IsPricedRow pricing k row) →
     k < length pricing.instance.now.shipments → length costs ≡ graph.edges →
     HoldsClassCosts pricing.instance.now pricing.network.now (priced.allowed k) (leaf_prices pricing.instance.now priced.tables priced.allowed priced.kind priced.chains k) (shipment_at pricing.instance.now k).size costs →
     IsFree (class_count pricing.network.now) costs → All (λ (o : Option ℕ). IfSome o (λ n. n ≤ most_of pricing.instance.now k)) costs
@@ -96,13 +97,13 @@ most-fits p k valid exists =
     omega (arith, own, valid.fits)
 
 -- and all costs leave room for a walk over all nodes
-pub costs-fit : (p : Problem) (k nodes : ℕ) (costs : List (Option ℕ)) → IsValid p → k < length p.shipments → nodes ≤ 65000 → All (λ (o : Option ℕ). IfSome o (λ n. n ≤ most_of p k)) costs → All (IsSmallFor nodes) costs
+pub costs-fit : (p : Problem) (k nodes : ℕ) (costs : List (Option ℕ)) → IsValid p → k < length p.shipments → nodes ≤ MOST_POINTS → All (λ (o : Option ℕ). IfSome o (λ n. n ≤ most_of p k)) costs → All (IsSmallFor nodes) costs
 costs-fit p k nodes costs valid exists few small =
-    let most : most_of p k * nodes ≤ most_of p k * 65000 = mul-le-mul_left (most_of p k) few in
+    let most : most_of p k * nodes ≤ most_of p k * MOST_POINTS = mul-le-mul_left (most_of p k) few in
     all-small costs nodes (most_of p k) small (omega (arith, most, most-fits p k valid exists))
 
 -- a least cost is small
-pub small_ok : (p : Problem) (k nodes : ℕ) (costs : List (Option ℕ)) (r : Result (Option ℕ) AllocError) → nodes ≤ 65000 → All (λ (o : Option ℕ). IfSome o (λ n. n ≤ most_of p k)) costs →
+pub small_ok : (p : Problem) (k nodes : ℕ) (costs : List (Option ℕ)) (r : Result (Option ℕ) AllocError) → nodes ≤ MOST_POINTS → All (λ (o : Option ℕ). IfSome o (λ n. n ≤ most_of p k)) costs →
     IfOk r (λ cost. (most : ℕ) → All (λ (o : Option ℕ). IfSome o (λ n. n ≤ most)) costs → IfSome cost (λ n. n ≤ nodes * most)) → IfOk r (IsSmallCost p k)
 small_ok p k nodes costs (Err e) few small told = tt
 small_ok p k nodes costs (Ok cost) few small told =
@@ -111,7 +112,7 @@ small_ok p k nodes costs (Ok cost) few small told =
     omega (arith, le, second)) (told (most_of p k) small)
 
 -- and the least over the allowed walks
-pub exact_ok : (pricing : LeafPricing) (k : ℕ) (row : List Bool) (costs : List (Option ℕ)) (r : Result (Option ℕ) AllocError) →
+pub exact_ok : (pricing : ClassPricing) (k : ℕ) (row : List Bool) (costs : List (Option ℕ)) (r : Result (Option ℕ) AllocError) →
     ((tables : List (List ClassShare)) (allowed : ℕ → Leg → Bool) (kind : Kind) (chains : List (List Leg)) → IsPricing tables allowed kind chains pricing → RowAllows pricing.network.now (allowed k) row →
     HoldsClassCosts pricing.instance.now pricing.network.now (allowed k) (leaf_prices pricing.instance.now tables allowed kind chains k) (shipment_at pricing.instance.now k).size costs) →
     IfOk r (λ cost. (allowed : Leg → Bool) (price : Leg → ℕ) → AllowsClasses pricing.network.now allowed → HoldsClassCosts pricing.instance.now pricing.network.now allowed price (shipment_at pricing.instance.now k).size costs →

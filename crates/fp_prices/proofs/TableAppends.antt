@@ -1,7 +1,7 @@
 -- The value of a leaf stays when tables are appended, and when tables are cut that its kind doesn't name; and tables in order
 -- stay so.
-use Rattle.std.proofs.Common.{◌≡◌, ℕ, ◌+◌, ◌-◌, ◌<◌, ◌≤◌, Bool, List, [], ◌++◌, length, take, drop, refl, sym, ap, ◌∙◌, subst, arith}
-use Rattle.std.specs.Prelude.{All, Option, if◌then◌else◌}
+use Rattle.std.proofs.Common.{◌≡◌, ℕ, ◌-◌, Bool, List, [], ◌++◌, refl, sym, ap, subst, arith}
+use Rattle.std.specs.Prelude.{Option, if◌then◌else◌}
 use Rattle.std.specs.List.{AllByRecursion}
 use Rattle.std.proofs.lemmas.List.{get_or_append_left, length-append}
 use Rattle.std.proofs.lemmas.List.Elements.{All-append}
@@ -17,7 +17,7 @@ use Rattle.fp_allowed.specs.Allowed.{is_allowed}
 use Rattle.fp_prices.specs.declared.leaf_prices.Kind.{Kind}
 use Rattle.fp_prices.specs.declared.leaf_prices.Kind.TheVariants.{Linear, Even, Table}
 use Rattle.fp_prices.specs.Leaves.{IsLeafValue, IsLeastCost, leaf_price}
-use Rattle.fp_prices.specs.Prices.{AllKeepRule, KeepsRule, share_for, table_at, table_price}
+use Rattle.fp_prices.specs.Prices.{KeepsRule, share_for, table_at, table_price}
 use Rattle.fp_prices.specs.Shares.{ClassShare}
 use Rattle.fp_prices.specs.Tables.{AreTables, HasKind, IsAscendingTable}
 

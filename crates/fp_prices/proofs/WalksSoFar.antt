@@ -8,7 +8,7 @@ use Rattle.fp_model.specs.declared.parts.Shipment.{Shipment}
 use Rattle.fp_model.specs.Numbered.{no_shipment, shipment_at}
 use Rattle.fp_model.specs.Problem.{Problem}
 use Rattle.fp_longestarcs.specs.Networks.{points_in}
-use Rattle.fp_prices.specs.declared.class_prices.LeafPricing.{LeafPricing}
+use Rattle.fp_prices.specs.declared.class_prices.ClassPricing.{ClassPricing}
 use Rattle.fp_prices.specs.declared.leaf_prices.Kind.{Kind}
 use Rattle.fp_prices.specs.ClassCosts.{AllowsClasses, HoldsClassCosts}
 use Rattle.fp_prices.specs.Found.{leaf_prices}
@@ -21,7 +21,7 @@ use Rattle.fp_lists.proofs.Numbered.{AllZipFrom-push}
 use Rattle.fp_prices.proofs.LeastSoFar.{IsLeafOf, row-allows}
 
 -- a walk that is least under all costs that are held is one at each leaf
-pub walk_ok : (pricing : LeafPricing) (k : ℕ) (row : List Bool) (costs : List (Option ℕ)) (r : Result (Option (List Leg)) AllocError) → HoldsLeafCosts pricing k row costs →
+pub walk_ok : (pricing : ClassPricing) (k : ℕ) (row : List Bool) (costs : List (Option ℕ)) (r : Result (Option (List Leg)) AllocError) → HoldsLeafCosts pricing k row costs →
     IfOk r (λ walk. (allowed : Leg → Bool) (price : Leg → ℕ) → AllowsClasses pricing.network.now allowed → HoldsClassCosts pricing.instance.now pricing.network.now allowed price (shipment_at pricing.instance.now k).size costs →
     IsLeastWalkOver pricing.instance.now (points_in pricing.network.now) allowed (shipment_at pricing.instance.now k) price walk) →
     IfOk r (IsWalkAtLeaf pricing k row)
@@ -30,16 +30,16 @@ walk_ok pricing k row costs (Ok walk) holds told = λ tables allowed kind chains
     told (allowed k) (leaf_prices pricing.instance.now tables allowed kind chains k) classes (holds tables allowed kind chains is allows)
 
 -- the walks are those of the shipments so far
-abbrev pub AreWalksSoFar : LeafPricing → List (List Bool) → ℕ → List (List Leg) → Type 0
+abbrev pub AreWalksSoFar : ClassPricing → List (List Bool) → ℕ → List (List Leg) → Type 0
 AreWalksSoFar pricing rows i walks =
     (tables : List (List ClassShare)) (allowed : ℕ → Leg → Bool) (kind : Kind) (chains : List (List Leg)) → IsLeafOf pricing rows tables allowed kind chains →
     AreLeastOver pricing.instance.now (points_in pricing.network.now) allowed (leaf_price pricing.instance.now tables allowed kind chains) 0 (take i pricing.instance.now.shipments) walks
 
-pub walks_none : (pricing : LeafPricing) (rows : List (List Bool)) → AreWalksSoFar pricing rows 0 []
+pub walks_none : (pricing : ClassPricing) (rows : List (List Bool)) → AreWalksSoFar pricing rows 0 []
 walks_none pricing rows = λ tables allowed kind chains leaf. tt
 
 -- one more shipment that has a walk
-pub walks_more : (pricing : LeafPricing) (rows : List (List Bool)) (i : ℕ) (walks : List (List Leg)) (walk : List Leg) (row : List Bool) (o : Option (List Leg)) → o ≡ Some walk → i < length pricing.instance.now.shipments → i < length rows →
+pub walks_more : (pricing : ClassPricing) (rows : List (List Bool)) (i : ℕ) (walks : List (List Leg)) (walk : List Leg) (row : List Bool) (o : Option (List Leg)) → o ≡ Some walk → i < length pricing.instance.now.shipments → i < length rows →
     row ≡ get_or rows i [] → AreWalksSoFar pricing rows i walks → IsWalkAtLeaf pricing i row o → AreWalksSoFar pricing rows (i + 1) (walks ++ (walk ∷ []))
 walks_more pricing rows i walks walk row o found exists inside is so_far least = λ tables allowed kind chains leaf.
     let p : Problem = pricing.instance.now in
@@ -53,7 +53,7 @@ walks_more pricing rows i walks walk row o found exists inside is so_far least =
     (least tables allowed kind chains leaf.is (row-allows pricing rows allowed i row inside is leaf.rows_of) (leaf.classes i)))))
 
 -- a shipment that has none
-pub walks_end : (pricing : LeafPricing) (rows : List (List Bool)) (i : ℕ) (row : List Bool) (o : Option (List Leg)) → o ≡ None → i < length pricing.instance.now.shipments → i < length rows → row ≡ get_or rows i [] →
+pub walks_end : (pricing : ClassPricing) (rows : List (List Bool)) (i : ℕ) (row : List Bool) (o : Option (List Leg)) → o ≡ None → i < length pricing.instance.now.shipments → i < length rows → row ≡ get_or rows i [] →
     IsWalkAtLeaf pricing i row o → IsEmptyAtLeaf pricing rows
 walks_end pricing rows i row o found exists inside is none = λ tables allowed kind chains priced are classes.
     let p : Problem = pricing.instance.now in
@@ -65,7 +65,7 @@ walks_end pricing rows i row o found exists inside is none = λ tables allowed k
     }
 
 -- all shipments have one
-pub walks_all : (pricing : LeafPricing) (rows : List (List Bool)) (i : ℕ) (walks : List (List Leg)) → length pricing.instance.now.shipments ≤ i → AreWalksSoFar pricing rows i walks → AreWalksAtLeaf pricing rows walks
+pub walks_all : (pricing : ClassPricing) (rows : List (List Bool)) (i : ℕ) (walks : List (List Leg)) → length pricing.instance.now.shipments ≤ i → AreWalksSoFar pricing rows i walks → AreWalksAtLeaf pricing rows walks
 walks_all pricing rows i walks all so_far = λ tables allowed kind chains priced are classes.
     let p : Problem = pricing.instance.now in
     subst (λ (l : List Shipment). AreLeastOver p (points_in pricing.network.now) allowed (leaf_price p tables allowed kind chains) 0 l walks) (take_all i p.shipments all)

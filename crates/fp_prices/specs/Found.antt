@@ -9,7 +9,7 @@ use Rattle.fp_longestarcs.specs.Networks.{points_in}
 use Rattle.fp_allowed.specs.Walks.{IsTimedWalk}
 use Rattle.fp_prices.specs.declared.bounds.LeafBound.{LeafBound}
 use Rattle.fp_prices.specs.declared.bounds.LeafBound.TheVariants.{Empty, Value}
-use Rattle.fp_prices.specs.declared.class_prices.LeafPricing.{LeafPricing}
+use Rattle.fp_prices.specs.declared.class_prices.ClassPricing.{ClassPricing}
 use Rattle.fp_prices.specs.declared.leaf_prices.Kind.{Kind}
 use Rattle.fp_prices.specs.ClassCosts.{AllowsClasses, IsLeastOver}
 use Rattle.fp_prices.specs.Leaves.{IsLeastCost, leaf_price}
@@ -22,7 +22,7 @@ abbrev pub leaf_prices : Problem → List (List ClassShare) → (ℕ → Leg →
 leaf_prices p tables allowed kind chains k = leaf_price p tables allowed kind chains k (shipment_at p k).size
 
 -- the row is that of the shipment with the number k under a pricing
-pub record IsPricedRow (pricing : LeafPricing) (k : ℕ) (row : List Bool) : Type 0 where
+pub record IsPricedRow (pricing : ClassPricing) (k : ℕ) (row : List Bool) : Type 0 where
   pub tables : List (List ClassShare)
   pub allowed : ℕ → Leg → Bool
   pub kind : Kind
@@ -32,7 +32,7 @@ pub record IsPricedRow (pricing : LeafPricing) (k : ℕ) (row : List Bool) : Typ
   pub classes : AllowsClasses pricing.network.now (allowed k)
 
 -- the rows are those of all shipments under a pricing
-pub record IsPricedLeaf (pricing : LeafPricing) (rows : List (List Bool)) : Type 0 where
+pub record IsPricedLeaf (pricing : ClassPricing) (rows : List (List Bool)) : Type 0 where
   pub tables : List (List ClassShare)
   pub allowed : ℕ → Leg → Bool
   pub kind : Kind
@@ -64,14 +64,14 @@ IsFoundOver p points allowed price bases (Empty shipment) = IsFirstWithoutOver p
 IsFoundOver p points allowed price bases (Value value) = IsValueOver p points allowed price bases value
 
 -- at each leaf whose pricing this is, and whose row this is, it is the least cost of the shipment with the number k, or it has none
-abbrev pub IsLeastAtLeaf : LeafPricing → ℕ → List Bool → Option ℕ → Type 0
+abbrev pub IsLeastAtLeaf : ClassPricing → ℕ → List Bool → Option ℕ → Type 0
 IsLeastAtLeaf pricing k row cost =
     (tables : List (List ClassShare)) (allowed : ℕ → Leg → Bool) (kind : Kind) (chains : List (List Leg)) → IsPricing tables allowed kind chains pricing →
     RowAllows pricing.network.now (allowed k) row → AllowsClasses pricing.network.now (allowed k) →
     IsLeastOver pricing.instance.now (points_in pricing.network.now) (allowed k) (shipment_at pricing.instance.now k) (leaf_prices pricing.instance.now tables allowed kind chains k) cost
 
 -- at each leaf whose pricing this is, and whose rows these are, it is found with such bases
-abbrev pub IsFoundAtLeaf : LeafPricing → List (List Bool) → ℕ → LeafBound → Type 0
+abbrev pub IsFoundAtLeaf : ClassPricing → List (List Bool) → ℕ → LeafBound → Type 0
 IsFoundAtLeaf pricing rows bases bound =
     (tables : List (List ClassShare)) (allowed : ℕ → Leg → Bool) (kind : Kind) (chains : List (List Leg)) → IsPricing tables allowed kind chains pricing →
     AreRowsOf pricing.network.now allowed rows → ((k : ℕ) → AllowsClasses pricing.network.now (allowed k)) →

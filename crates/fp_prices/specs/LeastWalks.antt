@@ -1,11 +1,12 @@
 -- Walks of least cost, and the timed nodes that they meet. A timed node is a terminal and a point of it.
 -- Timed nodes and arcs: Boland, Hewitt, Marshall and Savelsbergh, "The Continuous-Time Service Network Design Problem",
 -- Operations Research 65, 2017.
-use Rattle.std.specs.Prelude.{ℕ, ◌≡◌, ◌<◌, ◌≤◌, List, [], ◌∷◌, length, Bool, ◌&&◌, nat_eq, nat_lt, Option, None, Some, MatchOption, if◌then◌else◌}
+use Rattle.std.specs.Prelude.{ℕ, ◌≡◌, ◌<◌, ◌≤◌, List, [], ◌∷◌, length, slice_get, Bool, ◌&&◌, nat_eq, nat_lt, Option, Some, MatchOption, if◌then◌else◌}
 use Rattle.fp_lists.specs.Distinct.{AreDistinct}
 use Rattle.fp_lists.specs.Numbered.{AllZipFrom}
 use Rattle.fp_model.specs.declared.parts.Leg.{Leg}
 use Rattle.fp_model.specs.declared.parts.Shipment.{Shipment}
+use Rattle.fp_model.specs.Numbered.{shipment_at}
 use Rattle.fp_model.specs.Problem.{Problem, arc_at}
 use Rattle.fp_flatnet.specs.declared.window_tables.Window.{Window}
 use Rattle.fp_longestarcs.specs.Classes.{head_of}
@@ -52,7 +53,13 @@ pub record IsLeastWalk (p : Problem) (points : ℕ → List ℕ) (allowed : Leg 
   pub least : (other : List Leg) → IsTimedWalk p points allowed s other → walk_cost p price s.size walk ≤ walk_cost p price s.size other
   pub apart : RepeatsNoNode p points s walk
 
--- such a walk, or that the shipment has no allowed timed walk
+-- an allowed timed walk at a cost that repeats no timed node
+pub record IsWalkOfCost (p : Problem) (points : ℕ → List ℕ) (allowed : Leg → Bool) (s : Shipment) (price : Leg → ℕ) (walk : List Leg) (cost : ℕ) : Type 0 where
+  pub timed : IsTimedWalk p points allowed s walk
+  pub costs_so : walk_cost p price s.size walk ≡ cost
+  pub apart : RepeatsNoNode p points s walk
+
+-- a walk of least cost, or that the shipment has no allowed timed walk
 abbrev pub IsLeastWalkOver : Problem → (ℕ → List ℕ) → (Leg → Bool) → Shipment → (Leg → ℕ) → Option (List Leg) → Type 0
 IsLeastWalkOver p points allowed s price o =
     MatchOption o ((walk : List Leg) → IsTimedWalk p points allowed s walk → ⊥) (IsLeastWalk p points allowed s price)
@@ -64,3 +71,12 @@ pub record AreLeastWalks (p : Problem) (windows : ℕ → ℕ → Option Window)
   pub are_least : AllZipFrom
       (λ k (s : Shipment) walk. IsLeastWalk p points (is_allowed p windows points sides k) s (leaf_price p tables (is_allowed p windows points sides) kind chains k s.size) walk)
       0 p.shipments walks
+
+-- each shipment has the walk that is preferred for it, where that is such a walk under the prices of the leaf, whose chains are unique
+abbrev pub HasPreferred : Problem → (ℕ → ℕ → Option Window) → (ℕ → List ℕ) → List Side → List (List ClassShare) → Kind → (forced : Bool) → (preferred walks : List (List Leg)) → Type 0
+HasPreferred p windows points sides tables kind forced preferred walks =
+    (chains : List (List Leg)) → AllZipFrom (λ k. IsChain p (is_allowed p windows points sides k) forced) 0 p.shipments chains →
+    (k : ℕ) (walk : List Leg) → k < length p.shipments → slice_get preferred k ≡ Some walk →
+    IsLeastWalk p points (is_allowed p windows points sides k) (shipment_at p k)
+    (leaf_price p tables (is_allowed p windows points sides) kind chains k (shipment_at p k).size) walk →
+    slice_get walks k ≡ Some walk

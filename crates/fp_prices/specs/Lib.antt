@@ -18,3 +18,5 @@ pub mod FlatBounds
 pub mod EarnedLeaves
 pub mod KnownCosts
 pub mod RoundBounds
+pub mod LeafPricings
+pub mod TimedWalks

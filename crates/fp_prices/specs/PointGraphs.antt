@@ -3,6 +3,7 @@ use Rattle.std.specs.Prelude.{ℕ, ◌≡◌, ◌≤◌, List, length, Option}
 use Rattle.fp_labels.specs.Labels.{AreLabels, Distances}
 use Rattle.fp_model.specs.Numbered.{shipment_at}
 use Rattle.fp_model.specs.Problem.{Problem}
+use Rattle.fp_timenodes.specs.declared.places.TheConstants.{MOST_POINTS}
 use Rattle.fp_longestarcs.specs.Networks.{TimedNetwork, point_count}
 use Rattle.fp_longestarcs.specs.Whole.{IsWholeNetwork}
 use Rattle.fp_prices.specs.declared.point_graphs.PointGraph.{PointGraph}
@@ -11,7 +12,7 @@ use Rattle.fp_prices.specs.Points.{AreFirstNodes, edges_of, first_node, shape_of
 -- the graph of the points of a whole network that has few points
 pub record IsPointGraph (p : Problem) (net : TimedNetwork) (g : PointGraph) : Type 0 where
   pub whole : IsWholeNetwork p net
-  pub few : point_count net ≤ 65000
+  pub few : point_count net ≤ MOST_POINTS
   pub shape : g.graph ≡ shape_of p net
   pub firsts : AreFirstNodes net g.firsts.items
   pub count : g.edges ≡ length (edges_of p net)

@@ -10,7 +10,7 @@ use Rattle.fp_allowed.specs.Bits.{bit_of}
 use Rattle.fp_allowed.specs.Listing.{class_at}
 use Rattle.fp_prices.specs.declared.leaf_prices.Kind.{Kind}
 use Rattle.fp_prices.specs.declared.leaf_prices.Kind.TheVariants.{Linear, Even, Table}
-use Rattle.fp_prices.specs.declared.class_prices.LeafPricing.{LeafPricing}
+use Rattle.fp_prices.specs.declared.class_prices.ClassPricing.{ClassPricing}
 use Rattle.fp_prices.specs.declared.class_prices.Rule.{Rule}
 use Rattle.fp_prices.specs.declared.class_prices.Rule.TheVariants.{BySize, InParts, ByShares}
 use Rattle.fp_prices.specs.ClassCosts.{HoldsClassCosts}
@@ -34,16 +34,16 @@ pub record TellsForced (net : TimedNetwork) (chains : List (List Leg)) (row : Li
   pub exact : (c : Leg) → IsClass net c → bit_of row (class_number net c) ≡ has_leg c (all_legs chains)
 
 -- a pricing is that of a leaf by a kind, where `allowed` tells which classes are allowed for whom, and the chains are those that are forced
-pub record IsPricing (tables : List (List ClassShare)) (allowed : ℕ → Leg → Bool) (kind : Kind) (chains : List (List Leg)) (pricing : LeafPricing) : Type 0 where
+pub record IsPricing (tables : List (List ClassShare)) (allowed : ℕ → Leg → Bool) (kind : Kind) (chains : List (List Leg)) (pricing : ClassPricing) : Type 0 where
   pub valid : IsValid pricing.instance.now
   pub whole : IsWholeNetwork pricing.instance.now pricing.network.now
   pub keep : AllKeepRule pricing.instance.now tables
   pub rates : pricing.rates.now ≡ map (rate_of pricing.instance.now.scale) pricing.instance.now.arcs
   pub rule : IsRuleOf pricing.instance.now pricing.network.now tables allowed kind pricing.rule
-  pub forced : TellsForced pricing.network.now chains pricing.forced.now
+  pub forced : TellsForced pricing.network.now chains pricing.forced.row
 
 -- the class with a number is priced for the shipment with the number k, for which it is allowed
-pub record IsPricedClass (pricing : LeafPricing) (k class : ℕ) : Type 0 where
+pub record IsPricedClass (pricing : ClassPricing) (k class : ℕ) : Type 0 where
   pub tables : List (List ClassShare)
   pub allowed : ℕ → Leg → Bool
   pub kind : Kind
@@ -56,19 +56,25 @@ abbrev pub RowAllows : TimedNetwork → (Leg → Bool) → List Bool → Type 0
 RowAllows net allowed row = (c : Leg) → IsClass net c → bit_of row (class_number net c) ≡ allowed c
 
 -- at each leaf whose pricing this is, a number is the truck price of a class for the shipment with the number k and a size
-abbrev pub IsTruckPrice : LeafPricing → (k size : ℕ) → Leg → ℕ → Type 0
+abbrev pub IsTruckPrice : ClassPricing → (k size : ℕ) → Leg → ℕ → Type 0
 IsTruckPrice pricing k size c price =
     (tables : List (List ClassShare)) (allowed : ℕ → Leg → Bool) (kind : Kind) (chains : List (List Leg)) → IsPricing tables allowed kind chains pricing →
     price ≡ truck_price pricing.instance.now tables allowed kind c k size
 
+-- at each leaf whose pricing this is, a number is the price of a class for the shipment with the number k and a size
+abbrev pub IsClassPrice : ClassPricing → (k size : ℕ) → Leg → ℕ → Type 0
+IsClassPrice pricing k size c price =
+    (tables : List (List ClassShare)) (allowed : ℕ → Leg → Bool) (kind : Kind) (chains : List (List Leg)) → IsPricing tables allowed kind chains pricing →
+    price ≡ leaf_price pricing.instance.now tables allowed kind chains k size c
+
 -- at each leaf whose pricing this is, and where the class is allowed, a number is what it costs the shipment: its price and the flow
-abbrev pub IsClassCost : LeafPricing → (k size : ℕ) → Leg → ℕ → Type 0
+abbrev pub IsClassCost : ClassPricing → (k size : ℕ) → Leg → ℕ → Type 0
 IsClassCost pricing k size c cost =
     (tables : List (List ClassShare)) (allowed : ℕ → Leg → Bool) (kind : Kind) (chains : List (List Leg)) → IsPricing tables allowed kind chains pricing → allowed k c ≡ true →
     cost ≡ leaf_price pricing.instance.now tables allowed kind chains k size c + pricing.instance.now.scale * (arc_at pricing.instance.now c.arc).freight * size
 
 -- at each leaf whose pricing this is, and where the row tells which classes are allowed for the shipment, the costs are those of the classes
-abbrev pub HoldsLeafCosts : LeafPricing → ℕ → List Bool → List (Option ℕ) → Type 0
+abbrev pub HoldsLeafCosts : ClassPricing → ℕ → List Bool → List (Option ℕ) → Type 0
 HoldsLeafCosts pricing k row costs =
     (tables : List (List ClassShare)) (allowed : ℕ → Leg → Bool) (kind : Kind) (chains : List (List Leg)) → IsPricing tables allowed kind chains pricing →
     RowAllows pricing.network.now (allowed k) row →

@@ -14,7 +14,7 @@ ghost use Rattle.fp_prices.specs.PointGraphs.{IsPointGraph};
 ghost use Rattle.fp_prices.specs.Tables.{AreTables, HasKind};
 
 use crate::NoMemory;
-use crate::class_prices::LeafPricing;
+use crate::class_prices::ClassPricing;
 use crate::known_costs::{KnownCost, keep_cost, known_cost};
 use crate::leaf_prices::LeafPrice;
 use crate::least_costs::least_cost;
@@ -25,7 +25,7 @@ use crate::tables::Table;
 use fp_flatnet::Windows;
 use fp_model::Instance;
 use fp_rows::Row;
-use fp_timenodes::Points;
+use fp_timenodes::{MOST_POINTS, Points};
 use fp_tree::Side;
 use std::alloc::Global;
 
@@ -43,7 +43,7 @@ pub enum LeafBound {
 // walk. The costs of the classes are put in anew.
 fn shipment_cost(
     alloc: Global,
-    pricing: &LeafPricing,
+    pricing: &ClassPricing,
     graph: &PointGraph,
     shipment: u32,
     row: &Row,
@@ -75,7 +75,7 @@ fn shipment_cost(
 // which is known from now on.
 fn known_or_found(
     alloc: Global,
-    pricing: &LeafPricing,
+    pricing: &ClassPricing,
     graph: &PointGraph,
     shipment: u32,
     row: &Row,
@@ -111,7 +111,7 @@ fn known_or_found(
 /// A shipment's cost is taken from the known ones, where its row is the same there.
 pub(crate) fn value_over(
     alloc: Global,
-    pricing: &LeafPricing,
+    pricing: &ClassPricing,
     graph: &PointGraph,
     rows: &[Row],
     bases: u128,
@@ -149,7 +149,7 @@ pub(crate) fn value_over(
 /// below 2^128.
 ///
 /// The windows and the points belong to the instance; the terminals, the first points and the added
-/// points are together at most 65,000; the tables are in order and keep the price rule
+/// points are together at most [`MOST_POINTS`]; the tables are in order and keep the price rule
 /// ([`check_tables`](crate::check_tables)), and a kind by a table names one of them. `NoMemory`
 /// only where no memory is found. One search over the points for each shipment; their graph and the
 /// prices are made once.
@@ -164,7 +164,7 @@ pub fn bound(
 ) -> Result<LeafBound, NoMemory>
     requires belongs { BelongsTo instance.now windows.now }
     requires terminals { points.now.terminals ≡ length instance.now.terminals }
-    requires few { points.now.terminals + length points.now.first + length points.now.added ≤ 65000 }
+    requires few { points.now.terminals + length points.now.first + length points.now.added ≤ MOST_POINTS }
     requires tables { AreTables instance.now tables.now }
     requires kind { HasKind tables.now price.kind }
     ensures exact { IfOk result (IsBoundOf instance.now (windows_in windows.now) (λ terminal. points_at points.now terminal price.round) sides.now tables.now price.kind price.forced) }

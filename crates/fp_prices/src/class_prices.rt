@@ -4,8 +4,9 @@ ghost use Rattle.fp_model.specs.Numbered.{shipment_at};
 ghost use Rattle.fp_longestarcs.specs.Networks.{IsClass, class_count, class_number};
 ghost use Rattle.fp_allowed.specs.Bits.{bit_of};
 ghost use Rattle.fp_allowed.specs.Listing.{class_at};
-ghost use Rattle.fp_prices.specs.Pricings.{HoldsLeafCosts, IsClassCost, IsPricedClass, IsTruckPrice};
+ghost use Rattle.fp_prices.specs.Pricings.{HoldsLeafCosts, IsClassCost, IsClassPrice, IsPricedClass, IsTruckPrice};
 
+use crate::bases::ForcedClasses;
 use crate::class_users::Users;
 use crate::share_prices::{even_price, share_price};
 use crate::share_searches::share_of;
@@ -27,15 +28,15 @@ pub(crate) enum Rule<'a> {
 
 /// What the classes of a network cost a shipment at a leaf.
 #[derive(Drop)]
-pub(crate) struct LeafPricing<'a> {
+pub(crate) struct ClassPricing<'a> {
     pub(crate) instance: &'a Instance,
     pub(crate) network: &'a Network,
     pub(crate) rates: &'a [u128],
     pub(crate) rule: Rule<'a>,
-    pub(crate) forced: &'a Row,
+    pub(crate) forced: ForcedClasses,
 }
 
-impl<'a> LeafPricing<'a> {
+impl<'a> ClassPricing<'a> {
     /// Puts in, for each class by its number, what it costs the shipment with a number, its price
     /// and its flow, in parts of a unit of money, and `None` where the row's bit isn't set. Entries
     /// past the classes stay. Takes no memory.
@@ -65,14 +66,25 @@ impl<'a> LeafPricing<'a> {
         requires size { size ≡ (shipment_at self.now.instance.now shipment).size }
         ensures { IsClassCost self.now shipment size (class_at self.now.network.now class) result }
     {
-        let (number, point) = self.network.of_class(class);
-        let arc = self.instance.arc(number);
+        let arc = self.instance.arc(self.network.of_class(class).0);
         let flow = u128::from(self.instance.scale()) * u128::from(arc.freight) * u128::from(size);
-        if self.forced.get(class) {
-            flow
-        } else {
-            self.truck_price(class, number, point, shipment, size) + flow
+        self.price(class, shipment, size) + flow
+    }
+
+    /// The price of a class, by its number, that is allowed for the shipment with a number and a
+    /// size: nothing where the class is forced, and otherwise its truck price. Takes no memory.
+    pub(crate) fn price(&self, class: u32, shipment: u32, size: u64) -> u128
+        requires shipment { shipment < length self.now.instance.now.shipments }
+        requires class { class < class_count self.now.network.now }
+        requires priced { IsPricedClass self.now shipment class }
+        requires size { size ≡ (shipment_at self.now.instance.now shipment).size }
+        ensures { IsClassPrice self.now shipment size (class_at self.now.network.now class) result }
+    {
+        if self.forced.row.get(class) {
+            return 0;
         }
+        let (arc, point) = self.network.of_class(class);
+        self.truck_price(class, arc, point, shipment, size)
     }
 
     // The truck price of the class of an arc and a point for the shipment with a number and a size.

@@ -1,25 +1,32 @@
 //! A leaf over the network of its round: which classes its sides allow for each shipment, and what
 //! it is worth under prices.
-ghost use Rattle.std.specs.Prelude.{◌≡◌, ◌<◌, IfNone, IfOk, IfSome, false, length};
+ghost use Rattle.std.specs.Prelude.{◌≡◌, ◌<◌, IfNone, IfOk, IfSome, IsNone, IsSome, List, false, length};
+ghost use Rattle.fp_model.specs.declared.parts.Leg.{Leg};
 ghost use Rattle.fp_model.specs.Numbered.{shipment_at};
 ghost use Rattle.fp_flatnet.specs.Belonging.{BelongsTo};
 ghost use Rattle.fp_flatnet.specs.Tables.{windows_in};
 ghost use Rattle.fp_longestarcs.specs.Networks.{points_in};
+ghost use Rattle.fp_allowed.specs.Allowed.{tails_of};
 ghost use Rattle.fp_allowed.specs.Bits.{IsRowUnder, allowed_in};
-ghost use Rattle.fp_allowed.specs.Chains.{IsForced};
+ghost use Rattle.fp_allowed.specs.Chains.{IsForced, SeveralLeave};
+ghost use Rattle.fp_allowed.specs.Choices.{IsTaken, OneAtMost};
+ghost use Rattle.fp_allowed.specs.Departures.{DividesDepartures, IsSplitAt};
 ghost use Rattle.fp_prices.specs.Forced.{AreRowsUnder};
 ghost use Rattle.fp_prices.specs.KnownCosts.{AreKnownCosts, IsSharedKind};
-ghost use Rattle.fp_prices.specs.LeastWalks.{AreLeastWalks};
+ghost use Rattle.fp_prices.specs.LeafPricings.{AreChainsOf, IsLeafPricing};
+ghost use Rattle.fp_prices.specs.LeastWalks.{AreLeastWalks, HasPreferred};
 ghost use Rattle.fp_prices.specs.Leaves.{BoundsPlans, IsBoundOf, IsLeafEmpty, IsSmallBound};
 ghost use Rattle.fp_prices.specs.Tables.{AreTables, HasKind};
 
 use crate::NoMemory;
 use crate::bases::{bases, forced_classes};
 use crate::bounds::{LeafBound, value_over};
+use crate::class_prices::ClassPricing;
+use crate::class_rules::class_pricing;
 use crate::class_walks::ClassWalk;
 use crate::known_costs::KnownCost;
 use crate::leaf_prices::Kind;
-use crate::leaf_rules::leaf_pricing;
+use crate::leaf_pricings::LeafPricing;
 use crate::leaf_walks::walks_over;
 use crate::rounds::RoundNetwork;
 use crate::tables::Table;
@@ -27,7 +34,7 @@ use fp_allowed::{Allowed, Chain};
 use fp_flatnet::Windows;
 use fp_model::Instance;
 use fp_rows::Row;
-use fp_tree::Side;
+use fp_tree::{Side, Split};
 use std::alloc::Global;
 use std::marker::Model;
 
@@ -115,6 +122,21 @@ impl<'a> Leaf<'a> {
         self.round
     }
 
+    /// The windows.
+    pub fn windows(&self) -> &'a Windows
+        ensures same { result.now ≡ self.now.setting.windows }
+        ensures belongs { BelongsTo self.now.setting.problem self.now.setting.windows }
+    {
+        self.windows
+    }
+
+    /// The sides.
+    pub fn sides(&self) -> &'a [Side]
+        ensures { result.now ≡ self.now.sides }
+    {
+        self.sides
+    }
+
     /// The row of a shipment: one bit per class of the network, by its number, set exactly where
     /// the class is allowed for the shipment.
     pub fn row(&self, shipment: u32) -> &Row
@@ -133,6 +155,26 @@ impl<'a> Leaf<'a> {
             (shipment_at self.now.setting.problem shipment)) }
     {
         self.allowed().forced(alloc, shipment, self.row(shipment))
+    }
+
+    /// A split of a shipment at a terminal that leaves it something on both sides, as
+    /// [`Allowed::choice`] chooses it under the leaf's sides. `None` exactly where fewer than two
+    /// allowed classes leave the terminal. Takes no memory.
+    pub fn choice(&self, shipment: u32, terminal: u32) -> Option<Split>
+        requires { shipment < length self.now.setting.problem.shipments }
+        ensures none { IsNone result → OneAtMost (allowed_in self.now.setting self.now.sides shipment)
+            (λ c. tails_of self.now.setting.problem c.arc ≡ terminal) }
+        ensures several { IsSome result → SeveralLeave self.now.setting.problem
+            (allowed_in self.now.setting self.now.sides shipment) terminal }
+        ensures at { IfSome result (IsSplitAt self.now.setting.problem shipment terminal) }
+        ensures divides { IfSome result (DividesDepartures self.now.setting.problem
+            (windows_in self.now.setting.windows) self.now.sides shipment terminal) }
+        ensures taken { IfSome result (IsTaken self.now.setting.problem
+            (windows_in self.now.setting.windows) self.now.setting.network
+            (allowed_in self.now.setting self.now.sides shipment) shipment terminal) }
+    {
+        self.allowed()
+            .choice(shipment, self.row(shipment), terminal)
     }
 
     /// The bound of the leaf by prices of a kind: what the trucks of its forced chains cost, where
@@ -187,28 +229,8 @@ impl<'a> Leaf<'a> {
             AreKnownCosts self.now.setting.problem self.now.setting.network tables.now kind forced
             known.new.items) }
     {
-        let instance = self.round.instance();
-        let network = self.round.network();
-        let classes = network.classes();
-        let paid = forced_classes(
-            alloc,
-            instance,
-            &self.allowed(),
-            classes,
-            &self.rows,
-            forced,
-        )?;
-        let pricing = leaf_pricing(
-            alloc,
-            instance,
-            network,
-            self.round.rates(),
-            tables,
-            kind,
-            &self.rows,
-            &paid.row,
-        )?;
-        let base = bases(instance, network, &paid);
+        let pricing = self.class_pricing(alloc, tables, kind, forced)?;
+        let base = bases(pricing.instance, pricing.network, &pricing.forced);
         value_over(
             alloc,
             &pricing,
@@ -239,6 +261,82 @@ impl<'a> Leaf<'a> {
             AreLeastWalks self.now.setting.problem (windows_in self.now.setting.windows)
             (points_in self.now.setting.network) self.now.sides tables.now kind forced walks.items)) }
     {
+        self.walks_preferring(alloc, tables, kind, forced, &[])
+    }
+
+    /// The same with walks that are preferred, shipment by shipment: such a walk is taken where it
+    /// is an allowed timed walk of least cost that repeats no timed node. Any list may be handed
+    /// in, shorter or longer than that of the shipments, of any legs; a walk that isn't so is left
+    /// aside. The test of a walk takes time that grows with its length, and with the square of the
+    /// length up to the first timed node that it repeats.
+    pub fn walks_preferring(
+        &self,
+        alloc: Global,
+        tables: &[Table],
+        kind: Kind,
+        forced: bool,
+        preferred: &[ClassWalk],
+    ) -> Result<Option<Vec<ClassWalk>>, NoMemory>
+        requires tables { AreTables self.now.setting.problem tables.now }
+        requires kind { HasKind tables.now kind }
+        ensures none { IfOk result (λ found. IfNone found
+            (IsLeafEmpty self.now.setting.problem (windows_in self.now.setting.windows)
+            (points_in self.now.setting.network) self.now.sides)) }
+        ensures walks { IfOk result (λ found. IfSome found (λ walks.
+            AreLeastWalks self.now.setting.problem (windows_in self.now.setting.windows)
+            (points_in self.now.setting.network) self.now.sides tables.now kind forced walks.items)) }
+        ensures preferred { IfOk result (λ found. IfSome found (λ walks.
+            HasPreferred self.now.setting.problem (windows_in self.now.setting.windows)
+            (points_in self.now.setting.network) self.now.sides tables.now kind forced preferred.now
+            walks.items)) }
+    {
+        let pricing = self.class_pricing(alloc, tables, kind, forced)?;
+        walks_over(
+            alloc,
+            &pricing,
+            self.round.point_graph(),
+            &self.rows,
+            preferred,
+        )
+    }
+
+    /// What the classes cost each shipment at the leaf under prices of a kind, as
+    /// [`bound`](Leaf::bound) takes them. `NoMemory` only where no memory is found.
+    pub fn pricing<'b>(
+        &'b self,
+        alloc: Global,
+        tables: &'b [Table],
+        kind: Kind,
+        forced: bool,
+    ) -> Result<LeafPricing<'b>, NoMemory>
+        requires tables { AreTables self.now.setting.problem tables.now }
+        requires kind { HasKind tables.now kind }
+        ensures is { IfOk result (λ pricing. pricing
+            ≡ record { leaf = self.now; tables = tables.now; kind = kind; forced = forced }) }
+        ensures chains { IfOk result (λ _. (chains : List (List Leg)) × AreChainsOf self.now forced chains) }
+    {
+        let pricing = self.class_pricing(alloc, tables, kind, forced)?;
+        Ok(LeafPricing {
+            leaf: self,
+            tables,
+            kind,
+            is_forced: forced,
+            pricing,
+        })
+    }
+
+    // The prices of the classes by a kind, with the classes that are forced.
+    fn class_pricing<'b>(
+        &'b self,
+        alloc: Global,
+        tables: &'b [Table],
+        kind: Kind,
+        forced: bool,
+    ) -> Result<ClassPricing<'b>, NoMemory>
+        requires tables { AreTables self.now.setting.problem tables.now }
+        requires kind { HasKind tables.now kind }
+        ensures { IfOk result (IsLeafPricing (record { leaf = self.now; tables = tables.now; kind = kind; forced = forced })) }
+    {
         let instance = self.round.instance();
         let network = self.round.network();
         let classes = network.classes();
@@ -250,7 +348,7 @@ impl<'a> Leaf<'a> {
             &self.rows,
             forced,
         )?;
-        let pricing = leaf_pricing(
+        class_pricing(
             alloc,
             instance,
             network,
@@ -258,8 +356,7 @@ impl<'a> Leaf<'a> {
             tables,
             kind,
             &self.rows,
-            &paid.row,
-        )?;
-        walks_over(alloc, &pricing, self.round.point_graph(), &self.rows)
+            paid,
+        )
     }
 }

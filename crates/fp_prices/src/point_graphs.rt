@@ -16,6 +16,7 @@ use fp_labels::{Edge, Graph};
 use fp_lists::place_among;
 use fp_longestarcs::Network;
 use fp_model::Instance;
+use fp_timenodes::MOST_POINTS;
 use std::alloc::Global;
 
 // The points of a network as nodes, by terminal and then by time. Its edges are first those of the
@@ -39,7 +40,7 @@ impl PointGraph {
         network: &Network,
     ) -> Result<PointGraph, NoMemory>
         requires whole { IsWholeNetwork instance.now network.now }
-        requires few { point_count network.now ≤ 65000 }
+        requires few { point_count network.now ≤ MOST_POINTS }
         ensures { IfOk result (IsPointGraph instance.now network.now) }
     {
         let (firsts, nodes) = first_nodes_of(alloc, instance, network)?;
@@ -69,7 +70,7 @@ fn first_nodes_of(
     network: &Network,
 ) -> Result<(Vec<u32>, u32), NoMemory>
     requires terminals { length network.now.points ≡ length instance.now.terminals }
-    requires few { point_count network.now ≤ 65000 }
+    requires few { point_count network.now ≤ MOST_POINTS }
     ensures firsts { IfOk result (λ nodes. AreFirstNodes network.now nodes.0.items) }
     ensures count { IfOk result (λ nodes. nodes.1 ≡ point_count network.now) }
 {
@@ -90,7 +91,7 @@ fn all_edges(
     firsts: &[u32],
 ) -> Result<Vec<Edge>, NoMemory>
     requires whole { IsWholeNetwork instance.now network.now }
-    requires few { point_count network.now ≤ 65000 }
+    requires few { point_count network.now ≤ MOST_POINTS }
     requires firsts { AreFirstNodes network.now firsts.now }
     ensures edges { IfOk result (λ edges. edges.items ≡ edges_of instance.now network.now) }
     ensures ends { IfOk result (λ edges. HasEnds (point_count network.now) edges.items) }
@@ -126,7 +127,7 @@ fn edges_of_classes(
     firsts: &[u32],
 ) -> Result<Vec<Edge>, NoMemory>
     requires whole { IsWholeNetwork instance.now network.now }
-    requires few { point_count network.now ≤ 65000 }
+    requires few { point_count network.now ≤ MOST_POINTS }
     requires firsts { AreFirstNodes network.now firsts.now }
     ensures { IfOk result (λ edges. edges.items ≡ class_edges instance.now network.now) }
 {
@@ -140,7 +141,7 @@ fn edges_of_classes(
 // The edge of the class with a number.
 fn edge_of_class(instance: &Instance, network: &Network, firsts: &[u32], class: u32) -> Edge
     requires whole { IsWholeNetwork instance.now network.now }
-    requires few { point_count network.now ≤ 65000 }
+    requires few { point_count network.now ≤ MOST_POINTS }
     requires firsts { AreFirstNodes network.now firsts.now }
     requires class { class < class_count network.now }
     ensures { result ≡ class_edge instance.now network.now (class_at network.now class) }
@@ -156,7 +157,7 @@ fn edge_of_class(instance: &Instance, network: &Network, firsts: &[u32], class: 
 // The node of a point of a terminal.
 fn node_of(network: &Network, firsts: &[u32], terminal: u32, at: u32) -> u32
     requires terminal { terminal < length network.now.points }
-    requires few { point_count network.now ≤ 65000 }
+    requires few { point_count network.now ≤ MOST_POINTS }
     requires firsts { AreFirstNodes network.now firsts.now }
     ensures { result ≡ point_node network.now terminal at }
 {
@@ -166,7 +167,7 @@ fn node_of(network: &Network, firsts: &[u32], terminal: u32, at: u32) -> u32
 // The node of a terminal's last point.
 pub(crate) fn last_node_of(network: &Network, firsts: &[u32], terminal: u32) -> u32
     requires terminal { terminal < length network.now.points }
-    requires few { point_count network.now ≤ 65000 }
+    requires few { point_count network.now ≤ MOST_POINTS }
     requires firsts { AreFirstNodes network.now firsts.now }
     ensures { result ≡ last_node network.now terminal }
 {

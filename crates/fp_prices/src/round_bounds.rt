@@ -20,7 +20,7 @@ use crate::rounds::RoundNetwork;
 use crate::tables::Table;
 use fp_flatnet::Windows;
 use fp_model::Instance;
-use fp_timenodes::Points;
+use fp_timenodes::{MOST_POINTS, Points};
 use fp_tree::Side;
 use std::alloc::Global;
 
@@ -75,7 +75,7 @@ pub struct RoundBounds<'a> {
 impl<'a> RoundBounds<'a> {
     /// The network as of a round, which may be any number, and no costs yet. The points have the
     /// instance's number of terminals; the terminals, the first points and the added points are
-    /// together at most 65,000. `NoMemory` only where no memory is found.
+    /// together at most [`MOST_POINTS`]. `NoMemory` only where no memory is found.
     pub fn of(
         alloc: Global,
         instance: &'a Instance,
@@ -84,7 +84,7 @@ impl<'a> RoundBounds<'a> {
         kind: Kind,
     ) -> Result<RoundBounds<'a>, NoMemory>
         requires terminals { points.now.terminals ≡ length instance.now.terminals }
-        requires few { points.now.terminals + length points.now.first + length points.now.added ≤ 65000 }
+        requires few { points.now.terminals + length points.now.first + length points.now.added ≤ MOST_POINTS }
         ensures holds { (tables : List (List ClassShare)) → IfOk result (AreRoundBounds instance.now points.now tables) }
         ensures round { IfOk result (λ bounds. bounds.round ≡ round) }
         ensures kind { IfOk result (λ bounds. bounds.kind ≡ kind) }
@@ -107,7 +107,7 @@ impl<'a> RoundBounds<'a> {
         price: LeafPrice,
     ) -> Result<RoundBounds<'a>, NoMemory>
         requires terminals { points.now.terminals ≡ length instance.now.terminals }
-        requires few { points.now.terminals + length points.now.first + length points.now.added ≤ 65000 }
+        requires few { points.now.terminals + length points.now.first + length points.now.added ≤ MOST_POINTS }
         ensures holds { (tables : List (List ClassShare)) → AreRoundBounds instance.now points.now tables self.entry →
             IfOk result (AreRoundBounds instance.now points.now tables) }
         ensures round { IfOk result (λ bounds. bounds.round ≡ price.round) }
@@ -140,7 +140,7 @@ impl<'a> RoundBounds<'a> {
     ) -> Result<(LeafBound, RoundBounds<'a>), NoMemory>
         requires belongs { BelongsTo instance.now windows.now }
         requires terminals { points.now.terminals ≡ length instance.now.terminals }
-        requires few { points.now.terminals + length points.now.first + length points.now.added ≤ 65000 }
+        requires few { points.now.terminals + length points.now.first + length points.now.added ≤ MOST_POINTS }
         requires tables { AreTables instance.now tables.now }
         requires kind { HasKind tables.now price.kind }
         requires holds { AreRoundBounds instance.now points.now tables.now self }

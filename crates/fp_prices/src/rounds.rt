@@ -5,7 +5,8 @@ ghost use Rattle.fp_model.specs.Numbered.{shipment_at};
 ghost use Rattle.fp_model.specs.Problem.{IsValid};
 ghost use Rattle.fp_longestarcs.specs.Networks.{point_count};
 ghost use Rattle.fp_longestarcs.specs.Whole.{IsNetworkOf, IsWholeNetwork};
-ghost use Rattle.fp_prices.specs.Points.{first_node, last_node, shape_of};
+ghost use Rattle.fp_prices.specs.ClassCosts.{IsFree};
+ghost use Rattle.fp_prices.specs.Points.{edges_of, first_node, last_node, shape_of};
 ghost use Rattle.fp_prices.specs.PointGraphs.{IsPointGraph};
 ghost use Rattle.fp_prices.specs.Rates.{rate_of};
 
@@ -15,14 +16,14 @@ use crate::point_graphs::{PointGraph, last_node_of};
 use fp_labels::Graph;
 use fp_longestarcs::Network;
 use fp_model::Instance;
-use fp_timenodes::Points;
+use fp_timenodes::{MOST_POINTS, Points};
 use std::alloc::Global;
 use std::marker::Model;
 
 /// An instance and its network with the points as of a round, with the graph of these points over
 /// which each shipment goes: what all leaves of the round share, made once for them.
 ///
-/// Contracts see the instance and the network. It is whole for the instance and has at most 65,000
+/// Contracts see the instance and the network. It is whole for the instance and has at most [`MOST_POINTS`]
 /// points.
 #[derive(Drop)]
 pub struct RoundNetwork<'a> {
@@ -46,7 +47,7 @@ impl<'a> Model for RoundNetwork<'a> {
 impl<'a> RoundNetwork<'a> {
     /// The network of an instance with the points as of a round, which may be any number. The
     /// points have the instance's number of terminals; the terminals, the first points and the
-    /// added points are together at most 65,000. `NoMemory` only where no memory is found.
+    /// added points are together at most [`MOST_POINTS`]. `NoMemory` only where no memory is found.
     pub fn of(
         alloc: Global,
         instance: &'a Instance,
@@ -54,7 +55,7 @@ impl<'a> RoundNetwork<'a> {
         round: u32,
     ) -> Result<RoundNetwork<'a>, NoMemory>
         requires terminals { points.now.terminals ≡ length instance.now.terminals }
-        requires few { points.now.terminals + length points.now.first + length points.now.added ≤ 65000 }
+        requires few { points.now.terminals + length points.now.first + length points.now.added ≤ MOST_POINTS }
         ensures instance { IfOk result (λ made. made.problem ≡ instance.now) }
         ensures network { IfOk result (λ made. IsNetworkOf instance.now points.now round made.network) }
     {
@@ -62,7 +63,7 @@ impl<'a> RoundNetwork<'a> {
         RoundNetwork::over(alloc, instance, network)
     }
 
-    /// The same over a network that is whole for the instance and has at most 65,000 points.
+    /// The same over a network that is whole for the instance and has at most [`MOST_POINTS`] points.
     /// `NoMemory` only where no memory is found.
     pub fn over(
         alloc: Global,
@@ -70,7 +71,7 @@ impl<'a> RoundNetwork<'a> {
         network: Network,
     ) -> Result<RoundNetwork<'a>, NoMemory>
         requires whole { IsWholeNetwork instance.now network }
-        requires few { point_count network ≤ 65000 }
+        requires few { point_count network ≤ MOST_POINTS }
         ensures { IfOk result (λ made. made ≡ record { problem = instance.now; network = network }) }
     {
         let graph = PointGraph::of(alloc, instance, &network)?;
@@ -95,7 +96,7 @@ impl<'a> RoundNetwork<'a> {
     pub fn network(&self) -> &Network
         ensures same { result.now ≡ self.now.network }
         ensures whole { IsWholeNetwork self.now.problem self.now.network }
-        ensures few { point_count self.now.network ≤ 65000 }
+        ensures few { point_count self.now.network ≤ MOST_POINTS }
     {
         &self.network
     }
@@ -107,6 +108,15 @@ impl<'a> RoundNetwork<'a> {
         ensures { result.now ≡ shape_of self.now.problem self.now.network }
     {
         &self.graph.graph
+    }
+
+    /// Costs of all edges of the graph, at which every one is free, to be filled in for the classes
+    /// by their numbers. `NoMemory` only where no memory is found.
+    pub fn free_costs(&self, alloc: Global) -> Result<Vec<Option<u128>>, NoMemory>
+        ensures count { IfOk result (λ costs. length costs.items ≡ length (edges_of self.now.problem self.now.network)) }
+        ensures free { IfOk result (λ costs. IsFree 0 costs.items) }
+    {
+        self.point_graph().free_costs(alloc)
     }
 
     /// The node at which a shipment begins: the first point of its origin.

@@ -4,3 +4,5 @@ mod WrittenWalks
 pub mod NewPlaces
 pub mod TimesOfClasses
 pub mod SamePoints
+pub mod UniqueShorts
+mod Examples

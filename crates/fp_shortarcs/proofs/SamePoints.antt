@@ -1,21 +1,17 @@
 -- Too short legs over other lists of the same points, as those of a network and those as of a round.
-use Rattle.std.proofs.Common.{◌≡◌, ◌∙◌, ℕ, ◌+◌, ◌<◌, List, [], length, get_or, sym, arith}
+use Rattle.std.proofs.Common.{◌∙◌, ℕ, ◌<◌, List, [], length, get_or, sym, arith}
 use Rattle.std.proofs.lemmas.List.Elements.{All-weaker}
-use Rattle.fp_lists.specs.Membership.{list_has}
 use Rattle.fp_model.specs.declared.parts.Leg.{Leg}
 use Rattle.fp_model.specs.declared.parts.Member.{Member}
-use Rattle.fp_model.specs.Members.{IsMemberOf, member_leg}
+use Rattle.fp_model.specs.Members.{member_leg}
 use Rattle.fp_model.specs.Numbered.{no_leg}
 use Rattle.fp_model.specs.Problem.{IsValid, Problem, arc_at}
-use Rattle.fp_model.specs.Routes.{step}
 use Rattle.fp_model.proofs.Validity.{IsArc-valid}
 use Rattle.fp_timenodes.proofs.Floors.{floor_same}
-use Rattle.fp_longestarcs.specs.Classes.{head_of}
 use Rattle.fp_allowed.specs.SamePoints.{AgreeOnPoints}
 use Rattle.fp_allowed.proofs.SamePoints.{AgreeOnPoints_sym}
 use Rattle.fp_relaxmodel.specs.Relaxed.{HasRoutes}
 use Rattle.fp_relaxmodel.proofs.RouteCosts.{HasRoutes-exist}
-use Rattle.fp_dispatch.specs.Times.{next}
 use Rattle.fp_shortarcs.specs.declared.shorts.Short.{Short}
 use Rattle.fp_shortarcs.specs.TooShort.{AreTooShort, CanBePoint, IsShort, IsTooShort, reach_of}
 

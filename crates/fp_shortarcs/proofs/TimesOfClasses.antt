@@ -1,20 +1,18 @@
 -- Where no leg of a relaxed plan is too short, the points of its classes are times of its routes.
-use Rattle.std.proofs.Common.{◌≡◌, ◌≢◌, ◌∙◌, ℕ, zero, suc, ◌+◌, ◌*◌, ◌<◌, ◌≤◌, true, List, [], ◌∷◌, ◌++◌, length, get_or, ⊎_elim, refl, sym, ap, subst, arith}
-use Rattle.std.specs.Prelude.{All, Contains, IfSome, IsSomeAnd, Option, Some, None}
+use Rattle.std.proofs.Common.{◌≡◌, ◌≢◌, ◌∙◌, ℕ, zero, suc, ◌+◌, ◌*◌, ◌<◌, ◌≤◌, true, List, [], ◌∷◌, ◌++◌, length, ⊎_elim, refl, sym, ap, subst, arith}
+use Rattle.std.specs.Prelude.{All, IfSome, IsSomeAnd, Option, Some, None}
 use Rattle.std.proofs.Math.ListN.{length-map}
 use Rattle.std.proofs.lemmas.Bool.{cases_eq, cases_lt}
 use Rattle.std.proofs.lemmas.List.Elements.{All-contains, All-weaker}
-use Rattle.fp_lists.specs.Membership.{list_has}
 use Rattle.fp_lists.proofs.Maps.{get_or-map_default}
 use Rattle.fp_model.specs.declared.parts.Leg.{Leg}
 use Rattle.fp_model.specs.declared.parts.Member.{Member}
 use Rattle.fp_model.specs.declared.parts.Shipment.{Shipment}
-use Rattle.fp_model.specs.Members.{IsMemberOf, arc_lists, member_arc, member_leg, members_in}
+use Rattle.fp_model.specs.Members.{IsMemberOf, arc_lists, member_leg}
 use Rattle.fp_model.specs.Numbered.{leg_at, route_at, shipment_at}
 use Rattle.fp_model.specs.Problem.{Problem, arc_at, no_arc}
 use Rattle.fp_model.specs.Routes.{Leads, arcs_of, step}
 use Rattle.fp_model.proofs.Members.{IsMemberAt, members_in-each}
-use Rattle.fp_timenodes.specs.declared.places.Place.{Place}
 use Rattle.fp_flatnet.specs.declared.window_tables.Window.{Window}
 use Rattle.fp_flatnet.specs.Belonging.{BelongsTo, IsNarrowed}
 use Rattle.fp_flatnet.specs.Tables.{WindowTable, windows_in}
@@ -27,8 +25,8 @@ use Rattle.fp_allowed.specs.Walks.{FollowsHeads}
 use Rattle.fp_allowed.proofs.ClassTimes.{HasWindow, allowed_exists, allowed_hi, allowed_lo, allowed_release, allowed_window}
 use Rattle.fp_allowed.proofs.InitialPoints.{initial_anchor}
 use Rattle.fp_relaxmodel.specs.Groups.{AreGroups, IsGroup}
-use Rattle.fp_relaxmodel.specs.Relaxed.{IsRelaxedPlan, IsRelaxedWalk}
-use Rattle.fp_dispatch.specs.Times.{HaveOneTime, HaveTimes, departure, next, window_of}
+use Rattle.fp_relaxmodel.specs.Relaxed.{IsRelaxedPlan}
+use Rattle.fp_dispatch.specs.Times.{HaveOneTime, HaveTimes, departure, next}
 use Rattle.fp_dispatch.proofs.TimesOfPlans.{member_arc-plan}
 use Rattle.fp_shortarcs.specs.TooShort.{AreTooShort, IsTooShort, reach_of}
 use Rattle.fp_shortarcs.proofs.RelaxedClasses.{leg-allowed, walk-relaxed, walk-shipment}

@@ -1,5 +1,5 @@
 -- What a list of too short legs has so far.
-use Rattle.std.specs.Prelude.{ℕ, ◌+◌, ◌<◌, ◌≡◌, List, All, AllPairs, Contains, Option, MatchOption}
+use Rattle.std.specs.Prelude.{ℕ, ◌<◌, ◌≡◌, List, All, AllPairs, Contains, Option, MatchOption}
 use Rattle.fp_model.specs.declared.parts.Leg.{Leg}
 use Rattle.fp_model.specs.declared.parts.Member.{Member}
 use Rattle.fp_model.specs.Members.{MemberComesBefore}

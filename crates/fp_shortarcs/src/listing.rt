@@ -1,5 +1,6 @@
 //! The too short legs of a relaxed plan.
-ghost use Rattle.std.specs.Prelude.{ℕ, List, [], ◌≡◌, ◌≢◌, ◌+◌, ◌-◌, ◌<◌, ◌^◌, All, IfOk, OnOk, length};
+ghost use Rattle.std.specs.Prelude.{ℕ, List, [], ◌≡◌, ◌≢◌, ◌+◌, ◌-◌, ◌<◌, ◌^◌, length};
+ghost use Rattle.std.specs.Prelude.{All, IfOk, OnOk};
 ghost use Rattle.fp_model.specs.declared.parts.Member.{Member};
 ghost use Rattle.fp_model.specs.Members.{arc_lists};
 ghost use Rattle.fp_flatnet.specs.Belonging.{BelongsTo};
@@ -11,6 +12,7 @@ ghost use Rattle.fp_relaxmodel.specs.Groups.{AreGroups};
 ghost use Rattle.fp_relaxmodel.specs.Relaxed.{IsRelaxedPlan};
 ghost use Rattle.fp_relaxmodel.specs.Stops.{leg_of};
 ghost use Rattle.fp_dispatch.specs.Times.{HaveTimes};
+ghost use Rattle.fp_shortarcs.specs.declared.shorts.Short.{Short};
 ghost use Rattle.fp_shortarcs.specs.Listing.{AreTooShortBefore, IsMissed};
 ghost use Rattle.fp_shortarcs.specs.TooShort.{AreTooShort, CanBePoint};
 
@@ -95,6 +97,9 @@ pub fn too_short(
         relaxed.now }
     ensures exact { IfOk result (λ shorts.
         AreTooShort instance.now (points_in network.now) relaxed.now shorts.items) }
+    ensures only { (others : List Short) →
+        AreTooShort instance.now (points_in network.now) relaxed.now others →
+        IfOk result (λ shorts. shorts.items ≡ others) }
     ensures places { IfOk result (λ shorts.
         All (CanBePoint instance.now (points_in network.now)) shorts.items) }
     ensures clash { (groups : List (List Member)) → AreGroups relaxed.now groups →

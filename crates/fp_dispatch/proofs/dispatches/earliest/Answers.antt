@@ -1,9 +1,8 @@
-use Rattle.std.proofs.Common.{◌≡◌, ◌∙◌, ℕ, ◌*◌, ◌<◌, ◌≤◌, Option, None, List, [], ◌∷◌, length, get_or, ◌++◌, take, drop, sym, ap, ap₂, subst, arith}
+use Rattle.std.proofs.Common.{◌≡◌, ◌∙◌, ℕ, ◌*◌, Option, None, List, [], length, ◌++◌, take, drop, sym, ap, ap₂, subst, arith}
 use Rattle.std.specs.Prelude.{IsSomeAnd, MatchOption, option_map}
 use Rattle.std.specs.List.{AllZip}
 use Rattle.std.proofs.Math.ListN.{length-map}
 use Rattle.fp_lists.specs.Vectors.{lists_of}
-use Rattle.fp_model.specs.declared.parts.Leg.{Leg}
 use Rattle.fp_model.specs.declared.parts.Member.{Member}
 use Rattle.fp_model.specs.Members.{IsMemberOf, arc_lists}
 use Rattle.fp_flatnet.specs.declared.window_tables.Window.{Window}

@@ -1,10 +1,10 @@
-use Rattle.std.proofs.Common.{◌≡◌, ◌∙◌, ◌+◌, ◌*◌, ◌<◌, ◌≤◌, ℕ, Some, Option, List, [], length, get_or, replicate, sym, ap, ap₂, subst, arith}
+use Rattle.std.proofs.Common.{◌≡◌, ◌∙◌, ◌+◌, ◌*◌, ◌<◌, ℕ, Some, Option, List, [], length, get_or, sym, ap, ap₂, subst, arith}
 use Rattle.std.specs.Prelude.{All}
 use Rattle.fp_lists.specs.Vectors.{lists_of}
 use Rattle.fp_model.specs.declared.parts.Member.{Member}
 use Rattle.fp_model.specs.Members.{IsMemberOf}
-use Rattle.fp_dispatch.specs.Rising.{AreGroupNumbers, place_of, set_each}
-use Rattle.fp_dispatch.proofs.GroupTables.{AreGroupNumbers-next, AreGroupNumbers-none}
+use Rattle.fp_dispatch.specs.Rising.{AreGroupNumbers, set_each}
+use Rattle.fp_dispatch.proofs.GroupTables.{AreGroupNumbers-next}
 use Rattle.fp_dispatch.proofs.TableEntries.{length-set_each, place_of-lt}
 use Rattle.fp_dispatch.proofs.VectorItems.{length-lists_of, lists_of-item, written_back}
 use Rattle.fp_dispatch.proofs.group_numbers.group_numbers.Goals as goal

@@ -1,6 +1,5 @@
 use Rattle.std.proofs.Common.{◌≡◌, ◌∙◌, ◌+◌, ◌*◌, ◌<◌, ◌≤◌, ℕ, List, [], ◌∷◌, ◌++◌, length, get_or, take, sym, ap, subst, arith}
 use Rattle.std.proofs.lemmas.List.{map-append}
-use Rattle.std.proofs.lemmas.Nat.{mul-add-lt}
 use Rattle.std.proofs.Math.Nat.{mul-le-mul_left}
 use Rattle.std.specs.declared.alloc.Global.{Global}
 use Rattle.std.specs.declared.vec.Vec.{Vec}
@@ -8,7 +7,6 @@ use Rattle.fp_lists.specs.Vectors.{lists_of}
 use Rattle.fp_model.specs.declared.parts.Leg.{Leg}
 use Rattle.fp_model.specs.declared.parts.Member.{Member}
 use Rattle.fp_model.specs.Members.{IsMemberOf, arc_lists}
-use Rattle.fp_model.specs.Numbered.{leg_at}
 use Rattle.fp_dispatch.specs.Rising.{value_at}
 use Rattle.fp_dispatch.specs.Times.{departure}
 use Rattle.fp_dispatch.proofs.TimedLegs.{arc_lists-push, departures-push}

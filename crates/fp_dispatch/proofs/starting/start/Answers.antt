@@ -1,9 +1,8 @@
-use Rattle.std.proofs.Common.{◌≡◌, ◌∙◌, ℕ, ◌+◌, ◌*◌, ◌<◌, ◌≤◌, Option, Some, None, List, [], length, get_or, ⊎_elim, sym, ap, subst, arith}
+use Rattle.std.proofs.Common.{◌≡◌, ◌∙◌, ℕ, ◌+◌, ◌*◌, ◌<◌, Option, None, List, [], length, get_or, ⊎_elim, sym, ap, subst, arith}
 use Rattle.std.specs.Prelude.{All, IsSomeAnd, MatchOption}
 use Rattle.std.proofs.lemmas.Bool.{cases_eq}
 use Rattle.std.proofs.lemmas.Nat.{mul-add-lt}
 use Rattle.fp_lists.specs.Vectors.{lists_of}
-use Rattle.fp_model.specs.declared.parts.Member.{Member}
 use Rattle.fp_flatnet.specs.declared.window_tables.Window.{Window}
 use Rattle.fp_flatnet.specs.Tables.{windows_in}
 use Rattle.fp_dispatch.specs.Rising.{place_of, value_at}

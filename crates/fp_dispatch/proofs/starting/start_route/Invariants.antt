@@ -1,4 +1,4 @@
-use Rattle.std.proofs.Common.{◌≡◌, ℕ, ◌+◌, ◌*◌, ◌<◌, length, get_or}
+use Rattle.std.proofs.Common.{◌≡◌, ℕ, ◌+◌, ◌<◌, length, get_or}
 use Rattle.std.specs.Prelude.{IsSomeAnd}
 use Rattle.fp_flatnet.specs.Tables.{windows_in}
 use Rattle.fp_dispatch.proofs.starting.start_route.Given as goal

@@ -1,11 +1,9 @@
-use Rattle.std.proofs.Common.{List, sym, subst}
+use Rattle.std.proofs.Common.{sym, subst}
 use Rattle.std.specs.Prelude.{IfOk}
 use Rattle.fp_model.specs.Problem.{Problem}
 use Rattle.fp_flatnet.specs.Belonging.{BelongsTo}
 use Rattle.fp_flatnet.specs.Tables.{windows_in}
 use Rattle.fp_longestarcs.specs.Networks.{points_in}
-use Rattle.fp_tree.specs.declared.sides.Side.{Side}
-use Rattle.fp_allowed.specs.Settings.{Setting}
 use Rattle.fp_prices.specs.Leaves.{BoundsPlans, IsBoundOf, IsSmallBound}
 use Rattle.fp_prices.specs.Rounds.{LeafModel}
 use Rattle.fp_prices.specs.Tables.{AreTables}

@@ -1,5 +1,6 @@
 use Rattle.std.proofs.Common.{◌∙◌, arith}
 use Rattle.fp_prices.proofs.CostBounds.{classes-fit}
+use Rattle.fp_prices.proofs.PreferredWalks.{prefer_ok}
 use Rattle.fp_prices.proofs.ShipmentCosts.{classes-priced, costs-fit, costs-le_alone}
 use Rattle.fp_prices.proofs.WalksSoFar.{walk_ok}
 use Rattle.fp_longestarcs.specs.Networks.{point_count}
@@ -28,4 +29,8 @@ returns-clause-free c = λ e from h. c.fill_costs.ensures.others e from ∙ c.re
 
 pub returns-clause-exact : goal.returns-clause-exact
 returns-clause-exact c =
-    walk_ok c.args.pricing.now c.args.shipment c.args.row.now c.fill_costs.new.costs c.least_walk.result c.fill_costs.ensures.costs c.least_walk.ensures
+    walk_ok c.args.pricing.now c.args.shipment c.args.row.now c.fill_costs.new.costs c.least_walk.result c.fill_costs.ensures.costs c.least_walk.ensures.least
+
+pub returns-clause-preferred : goal.returns-clause-preferred
+returns-clause-preferred c =
+    prefer_ok c.args.pricing.now c.args.shipment c.args.row.now c.fill_costs.new.costs c.args.preferred.now c.least_walk.result c.fill_costs.ensures.costs c.least_walk.ensures.preferred

@@ -5,6 +5,7 @@ use Rattle.fp_model.specs.declared.parts.Shipment.{Shipment}
 use Rattle.fp_longestarcs.specs.Networks.{class_count}
 use Rattle.fp_prices.specs.ClassCosts.{IsFree}
 use Rattle.fp_prices.proofs.LeastSoFar.{row-priced}
+use Rattle.fp_prices.proofs.PreferredWalks.{ArePreferredSoFar, preferred_all, preferred_more, preferred_none}
 use Rattle.fp_prices.proofs.SetBits.{whole_write}
 use Rattle.fp_prices.proofs.WalksSoFar.{AreWalksSoFar, walks_all, walks_end, walks_more, walks_none}
 use Rattle.fp_prices.proofs.leaf_walks.walks_over.Goals as goal
@@ -12,6 +13,7 @@ use Rattle.fp_prices.proofs.leaf_walks.walks_over.Goals as goal
 pub loop-shipment-init : goal.loop-shipment-init
 loop-shipment-init c = record {
   so_far = subst (AreWalksSoFar c.args.pricing.now c.args.rows.now 0) (sym c.new-walks.ensures.items) (walks_none c.args.pricing.now c.args.rows.now);
+  preferred = subst (ArePreferredSoFar c.args.pricing.now c.args.rows.now c.args.preferred.now 0) (sym c.new-walks.ensures.items) (preferred_none c.args.pricing.now c.args.rows.now c.args.preferred.now);
   edges = c.in_ok-costs.ensures.count;
   free = λ e from h. c.in_ok-costs.ensures.free e (omega arith) h;
 }
@@ -37,6 +39,7 @@ returns-in-None c =
       none = walks_end c.args.pricing.now c.args.rows.now i c.index-rows-shipment.result c.in_ok-walk.field-0 c.in-None.is exists inside
           (get_or_read c.args.rows.now i c.index-rows-shipment.result inside c.index-rows-shipment.is []) c.in_ok-walk.ensures.exact;
       walks = tt;
+      preferred = tt;
     }
 
 pub loop-shipment-preserved : goal.loop-shipment-preserved
@@ -51,6 +54,9 @@ loop-shipment-preserved c =
       so_far = subst (AreWalksSoFar c.args.pricing.now c.args.rows.now (i + 1)) (sym c.in_ok-push-in-Some.ensures.items)
           (walks_more c.args.pricing.now c.args.rows.now i c.loop-shipment.walks.items c.in-Some.walk c.index-rows-shipment.result c.in_ok-walk.field-0 c.in-Some.is exists inside
           (get_or_read c.args.rows.now i c.index-rows-shipment.result inside c.index-rows-shipment.is []) c.loop-shipment.invariant.so_far c.in_ok-walk.ensures.exact);
+      preferred = subst (ArePreferredSoFar c.args.pricing.now c.args.rows.now c.args.preferred.now (i + 1)) (sym c.in_ok-push-in-Some.ensures.items)
+          (preferred_more c.args.pricing.now c.args.rows.now c.args.preferred.now i c.loop-shipment.walks.items c.preferred_for-wanted.result.now c.in-Some.walk c.index-rows-shipment.result c.in_ok-walk.field-0 c.in-Some.is inside
+          (get_or_read c.args.rows.now i c.index-rows-shipment.result inside c.index-rows-shipment.is []) c.preferred_for-wanted.ensures c.loop-shipment.invariant.preferred c.in_ok-walk.ensures.preferred);
       edges = ap (λ (l : List (Option ℕ)). length l) written ∙ long ∙ c.loop-shipment.invariant.edges;
       free = subst (IsFree (class_count c.args.pricing.now.network.now)) (sym written) c.in_ok-walk.ensures.free;
     }
@@ -58,3 +64,7 @@ loop-shipment-preserved c =
 pub returns-clause-walks : goal.returns-clause-walks
 returns-clause-walks c =
     walks_all c.args.pricing.now c.args.rows.now c.loop-shipment.shipment c.loop-shipment.walks.items (omega (arith, ap (λ (l : List Shipment). length l) c.shipments.ensures.same)) c.loop-shipment.invariant.so_far
+
+pub returns-clause-preferred : goal.returns-clause-preferred
+returns-clause-preferred c =
+    preferred_all c.args.pricing.now c.args.rows.now c.args.preferred.now c.loop-shipment.shipment c.loop-shipment.walks.items (omega (arith, ap (λ (l : List Shipment). length l) c.shipments.ensures.same)) c.loop-shipment.invariant.preferred

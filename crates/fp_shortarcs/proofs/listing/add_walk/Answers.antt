@@ -1,11 +1,9 @@
-use Rattle.std.proofs.Common.{◌≡◌, ◌∙◌, ◌≤◌, ◌<◌, ◌-◌, ◌+◌, Some, None, List, length, ap, sym, subst, arith, rules}
-use Rattle.fp_model.specs.declared.parts.Leg.{Leg}
+use Rattle.std.proofs.Common.{◌≡◌, ◌∙◌, ◌<◌, ◌-◌, ◌+◌, List, length, ap, sym, subst, rules}
 use Rattle.fp_model.specs.Numbered.{route_at}
 use Rattle.fp_longestarcs.specs.Networks.{points_in}
-use Rattle.fp_timenodes.specs.declared.places.Place.{Place}
-use Rattle.fp_relaxmodel.specs.Stops.{leg_of, legs_of}
+use Rattle.fp_relaxmodel.specs.Stops.{legs_of}
 use Rattle.fp_shortarcs.specs.declared.shorts.Short.{Short}
-use Rattle.fp_shortarcs.specs.Listing.{AreTooShortBefore, IsMissed}
+use Rattle.fp_shortarcs.specs.Listing.{AreTooShortBefore}
 use Rattle.fp_shortarcs.proofs.WrittenWalks.{class-read, missed-push, missed-skip, walk-end, walk-read}
 use Rattle.fp_shortarcs.proofs.listing.add_walk.Goals as goal
 use Rattle.fp_shortarcs.proofs.listing.add_walk.Goals.{in-Some+in_ok-push, in_default}

@@ -1,11 +1,11 @@
-use Rattle.std.proofs.Common.{◌≡◌, ◌∙◌, ℕ, ◌+◌, ◌*◌, ◌<◌, ◌≤◌, List, [], length, get_or, sym, ap, arith}
+use Rattle.std.proofs.Common.{◌≡◌, ◌∙◌, ℕ, ◌+◌, ◌<◌, List, [], length, get_or, sym, ap, arith}
 use Rattle.std.proofs.lemmas.List.{get_or_read}
 use Rattle.fp_lists.specs.Vectors.{lists_of}
 use Rattle.fp_model.specs.declared.parts.Member.{Member}
 use Rattle.fp_model.specs.Members.{IsMemberOf, member_arc}
 use Rattle.fp_model.specs.Routes.{step}
 use Rattle.fp_flatnet.specs.Tables.{windows_in}
-use Rattle.fp_dispatch.specs.Rising.{place_of, state_of, value_at}
+use Rattle.fp_dispatch.specs.Rising.{state_of, value_at}
 use Rattle.fp_dispatch.specs.Times.{next}
 use Rattle.fp_dispatch.proofs.RaisedGroups.{demanded-late, demanded-next}
 use Rattle.fp_dispatch.proofs.RisingMoments.{AreRising-settled}

@@ -1,4 +1,4 @@
-use Rattle.std.proofs.Common.{◌<◌, ◌≡◌, [], ◌∙◌, length, sym, subst, arith, ap}
+use Rattle.std.proofs.Common.{◌<◌, [], length, sym, subst, arith, ap}
 use Rattle.std.specs.Prelude.{Bool, List}
 use Rattle.std.proofs.lemmas.List.{get_or_read}
 use Rattle.fp_allowed.specs.Bits.{IsRowUnder}

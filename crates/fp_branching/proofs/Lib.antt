@@ -1,0 +1,3 @@
+pub mod DistinctInsertions
+pub mod ChainEnds
+pub mod BestCandidates

@@ -1,0 +1,130 @@
+//! The candidates of a leaf, the best ones first.
+ghost use Rattle.std.specs.Prelude.{ℕ, ◌≡◌, ◌<◌, ◌≤◌, All, IfNone, IfOk, IfSome, length, map};
+ghost use Rattle.fp_lists.specs.Distinct.{AreDistinct};
+ghost use Rattle.fp_branching.specs.Candidates.{EndsInSeveral, IsCandidate, IsCandidateFor, shipment_of};
+ghost use Rattle.fp_branching.specs.Best.{AreBest};
+ghost use Rattle.fp_prices.specs.Tables.{AreTables, HasKind};
+
+use crate::NoMemory;
+use crate::class_uses::{ClassUse, class_uses};
+use crate::gaps::greatest_gap;
+use crate::ranks::{Rank, Ranked, is_left_out, put_in};
+use crate::rises::rise;
+use fp_allowed::ChainEnd;
+use fp_prices::{ClassWalk, Kind, Leaf, LeafPricing, Table};
+use fp_tree::Split;
+use std::alloc::Global;
+
+/// A shipment that a leaf may be split by, the terminal where its forced chain ends, and the split.
+#[derive(Clone, Copy, PartialEq, Eq, Debug)]
+pub struct Candidate {
+    pub shipment: u32,
+    pub terminal: u32,
+    pub split: Split,
+}
+
+// The candidate of a shipment, where its forced chain ends at a terminal that several classes
+// leave.
+fn candidate_of(alloc: Global, leaf: &Leaf, shipment: u32) -> Result<Option<Candidate>, NoMemory>
+    requires { shipment < length leaf.now.setting.problem.shipments }
+    ensures is { IfOk result (λ found. IfSome found (IsCandidateFor leaf.now shipment)) }
+    ensures none { IfOk result (λ found. IfNone found ((terminal : ℕ) → EndsInSeveral leaf.now shipment terminal → ⊥)) }
+{
+    let chain = leaf.chain(alloc, shipment)?;
+    match chain.end {
+        ChainEnd::Several { terminal } => match leaf.choice(shipment, terminal) {
+            Some(split) => Ok(Some(Candidate {
+                shipment,
+                terminal,
+                split,
+            })),
+            None => Ok(None),
+        },
+        ChainEnd::Reached | ChainEnd::Stuck { .. } => Ok(None),
+    }
+}
+
+// The greatest gap on the walk of each shipment that has one.
+fn walk_gaps(
+    alloc: Global,
+    pricing: &LeafPricing,
+    walks: &[ClassWalk],
+) -> Result<Vec<u128>, NoMemory> {
+    let leaf = pricing.leaf();
+    let count = leaf.round().instance().shipments().len() as u32;
+    let mut chains = Vec::new(alloc);
+    for shipment in 0..count {
+        chains.push(leaf.chain(alloc, shipment)?.classes.len())?;
+    }
+    let uses: Vec<ClassUse> = class_uses(alloc, pricing, &chains, walks)?;
+    let mut gaps = Vec::new(alloc);
+    for (walk, chain) in walks.iter().zip(&chains) {
+        gaps.push(greatest_gap(pricing, &uses, *chain, walk))?;
+    }
+    Ok(gaps)
+}
+
+// The candidates of the leaf that rank best, at most so many, where these are the greatest gaps on
+// the walks of the shipments. How much a split raises is looked for only where the gap isn't too
+// small already.
+fn best_ranked(
+    alloc: Global,
+    pricing: &LeafPricing,
+    gaps: &[u128],
+    most: usize,
+) -> Result<Vec<Ranked>, NoMemory>
+    ensures { IfOk result (λ ranked. AreBest pricing.now.leaf (length pricing.now.leaf.setting.problem.shipments) most ranked.items) }
+{
+    let leaf = pricing.leaf();
+    let mut ranked = Vec::new(alloc);
+    for shipment in 0..leaf.round().instance().shipments().len() as u32 {
+        let Some(candidate) = candidate_of(alloc, leaf, shipment)? else {
+            continue;
+        };
+        let gap = gaps.get(shipment as usize).copied().unwrap_or(0);
+        if is_left_out(&ranked, gap, most) {
+            continue;
+        }
+        let rise = rise(alloc, pricing, candidate)?;
+        let rank = Rank { gap, rise };
+        put_in(&mut ranked, Ranked { rank, candidate }, most)?;
+    }
+    Ok(ranked)
+}
+
+/// The shipments by which it promises most to split a leaf, the best ones first and at most so
+/// many: of those whose forced chains end at a terminal that several allowed classes leave, each
+/// with the split there that [`Leaf::choice`] gives. Where there are some, the list isn't empty, if
+/// one may be in it.
+///
+/// The walks, numbered by their shipments, tell where the leaf loses bound under its prices: a
+/// shipment comes first on whose walk the trucks of a class cost most more than is paid for them,
+/// for each leg that isn't forced yet; at equal gaps the one that the dearer side of its split
+/// raises most, and then the one with the least number. Any walks may be handed in; they decide the
+/// order alone. Prices, tables and kind are taken as by [`Leaf::bound`]. `NoMemory` only where no
+/// memory is found. Three searches over the points for each shipment that may stand in the list.
+pub fn candidates(
+    alloc: Global,
+    leaf: &Leaf,
+    tables: &[Table],
+    kind: Kind,
+    forced: bool,
+    walks: &[ClassWalk],
+    most: usize,
+) -> Result<Vec<Candidate>, NoMemory>
+    requires tables { AreTables leaf.now.setting.problem tables.now }
+    requires kind { HasKind tables.now kind }
+    ensures each { IfOk result (λ list. All (IsCandidate leaf.now) list.items) }
+    ensures apart { IfOk result (λ list. AreDistinct (map shipment_of list.items)) }
+    ensures few { IfOk result (λ list. length list.items ≤ most) }
+    ensures some { IfOk result (λ list. 1 ≤ most → (k terminal : ℕ) → EndsInSeveral leaf.now k terminal → 1 ≤ length list.items) }
+{
+    let pricing = leaf.pricing(alloc, tables, kind, forced)?;
+    let gaps = walk_gaps(alloc, &pricing, walks)?;
+    let ranked = best_ranked(alloc, &pricing, &gaps, most)?;
+    let mut list = Vec::with_capacity(alloc, ranked.len())?;
+    for one in &ranked {
+        list.push(one.candidate)?;
+    }
+    Ok(list)
+}

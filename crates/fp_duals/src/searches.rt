@@ -1,0 +1,117 @@
+//! What proposes tables and walks for a leaf. Nothing is promised of a proposal: each is tested.
+ghost use Rattle.std.specs.Prelude.{◌<◌, ◌≤◌};
+ghost use Rattle.std.specs.Bool.{OnTrue};
+
+use crate::NoMemory;
+use crate::ascents::Ascent;
+use crate::effort::Effort;
+use crate::starts::Start;
+use fp_allowed::ChainEnd;
+use fp_prices::{ClassWalk, Leaf, Table};
+use std::alloc::Global;
+
+// What is known of the forced chains of a leaf.
+#[derive(Clone, Copy)]
+struct Chains {
+    // Some shipment has a forced class.
+    some_forced: bool,
+    // Each chain reaches its shipment's destination, so there is one walk for each shipment.
+    all_reached: bool,
+}
+
+// What is known of the forced chains of a leaf.
+fn chains_of(alloc: Global, leaf: &Leaf) -> Result<Chains, NoMemory> {
+    let mut chains = Chains {
+        some_forced: false,
+        all_reached: true,
+    };
+    for shipment in 0..leaf.round().instance().shipments().len() as u32 {
+        let chain = leaf.chain(alloc, shipment)?;
+        chains.some_forced |= !chain.classes.is_empty();
+        chains.all_reached &= chain.end == ChainEnd::Reached;
+    }
+    Ok(chains)
+}
+
+/// A search for tables and walks of a leaf, with so much effort.
+#[derive(Drop)]
+pub(crate) struct Search<'a> {
+    ascent: Ascent<'a>,
+    effort: &'a Effort,
+    chains: Chains,
+}
+
+impl<'a> Search<'a> {
+    /// The search at a leaf. `NoMemory` only where no memory is found.
+    pub(crate) fn of(
+        alloc: Global,
+        leaf: &'a Leaf<'a>,
+        effort: &'a Effort,
+    ) -> Result<Search<'a>, NoMemory> {
+        let chains = chains_of(alloc, leaf)?;
+        let ascent = Ascent::of(alloc, leaf)?;
+        Ok(Search {
+            ascent,
+            effort,
+            chains,
+        })
+    }
+
+    /// Whether the two modes differ: some class is forced.
+    pub(crate) fn modes_differ(&self) -> bool {
+        self.chains.some_forced
+    }
+
+    /// How many of the price lines that are left a table may have, at most all of them.
+    pub(crate) fn lines(&self, left: u32) -> u32
+        ensures { result ≤ left }
+    {
+        left / self.effort.line_part.max(1)
+    }
+
+    /// Whether a value is worth a table: it is above another by so many parts in 1024.
+    pub(crate) fn is_worth(&self, value: u128, start: u128) -> bool
+        ensures { OnTrue result (start < value) }
+    {
+        let least = start.saturating_mul(u128::from(self.effort.least_gain)) / 1024;
+        value > start && value - start >= least
+    }
+
+    /// A table for a mode from the prices of a start, where one is sought and found.
+    pub(crate) fn table(
+        &mut self,
+        alloc: Global,
+        tables: &[Table],
+        start: Start,
+        forced: bool,
+        lines: u32,
+    ) -> Result<Option<Table>, NoMemory> {
+        let effort = self.effort;
+        if self.chains.all_reached || (effort.turns == 0 && effort.settle_passes == 0) {
+            return Ok(None);
+        }
+        self.ascent.table(
+            alloc,
+            tables,
+            start.kind,
+            start.forced,
+            forced,
+            effort,
+            lines,
+        )
+    }
+
+    /// Walks of least cost under the prices of a start that share trucks, where they are sought.
+    pub(crate) fn walks(
+        &mut self,
+        alloc: Global,
+        tables: &[Table],
+        start: Start,
+    ) -> Result<Vec<ClassWalk>, NoMemory> {
+        if self.chains.all_reached || self.effort.share_passes == 0 {
+            return Ok(Vec::new(alloc));
+        }
+        self.ascent
+            .walks(alloc, tables, start.kind, start.forced, self.effort)
+    }
+}
