@@ -81,14 +81,19 @@ onward (suc (suc (suc (suc k)))) i is = absurd (omega (arith, is.shipment))
 
 -- there are times with groups each of which has one
 have : (groups : List (List Member)) → All (HaveOneTime times) groups → HaveTimes problem windows routes groups
-have groups together = (1, times, omega arith, record {
-  lower = record {
-    start = each (λ m. IfSome (window_of windows routes m) (λ w. 1 * w.lo ≤ times m)) (omega arith) (omega arith) (omega arith) (omega arith) (omega arith);
-    onward = λ m is. onward m.shipment m.leg is;
-    together = together;
-  };
-  upper = each (λ m. IsSomeAnd (window_of windows routes m) (λ w. times m ≤ 1 * w.hi)) (omega arith) (omega arith) (omega arith) (omega arith) (omega arith);
-})
+have groups together = (
+  1,
+  times,
+  omega arith,
+  record {
+    lower = record {
+      start = each (λ m. IfSome (window_of windows routes m) (λ w. 1 * w.lo ≤ times m)) (omega arith) (omega arith) (omega arith) (omega arith) (omega arith);
+      onward = λ m is. onward m.shipment m.leg is;
+      together = together;
+    };
+    upper = each (λ m. IsSomeAnd (window_of windows routes m) (λ w. times m ≤ 1 * w.hi)) (omega arith) (omega arith) (omega arith) (omega arith) (omega arith);
+  },
+)
 
 -- legs that all leave at a moment
 one-time : (group : List Member) (n : ℕ) → All (λ m. times m ≡ n) group → HaveOneTime times group

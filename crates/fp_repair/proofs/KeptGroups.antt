@@ -1,7 +1,7 @@
 -- The groups that are kept: there is one list of them, they are groups of the routes, the routes
 -- have times with them where they have times at all, and no more can be added.
-use Rattle.std.proofs.Common.{◌≡◌, ◌∙◌, ℕ, Option, List, [], ◌∷◌, ◌++◌, ⊎_elim, inl, sym, subst, append_assoc, append-nil}
-use Rattle.std.proofs.lemmas.List.Elements.{All-contains_itself}
+use Rattle.std.proofs.Common.{◌≡◌, ◌⊎◌, ◌∙◌, ℕ, Option, List, [], ◌∷◌, ◌++◌, ⊎_elim, inl, inr, sym, subst, append_assoc, append-nil}
+use Rattle.std.proofs.lemmas.List.Elements.{All-cons, All-contains_itself, All-nil, Contains-append_left, Contains-push}
 use Rattle.std.specs.Prelude.{All, Contains}
 use Rattle.fp_model.specs.declared.parts.Leg.{Leg}
 use Rattle.fp_model.specs.declared.parts.Member.{Member}
@@ -12,11 +12,15 @@ use Rattle.fp_dispatch.specs.Answers.{IsEarliest}
 use Rattle.fp_dispatch.specs.Times.{HaveTimes}
 use Rattle.fp_repair.specs.KeptGroups.{AreKeptAfter, AreKeptGroups, IsKeptPlan}
 use Rattle.fp_repair.proofs.Appends.{All-append_left, All-without}
-use Rattle.fp_repair.proofs.StricterGroups.{AreGroupsOf-append_left, AreGroupsOf-without, AreStricter-more, HaveTimes-IsEarliest, HaveTimes-stricter}
+use Rattle.fp_repair.proofs.StricterGroups.{AreGroupsOf-append_left, AreGroupsOf-without, AreStricter, AreStricter-more, AreStricter-push, HaveTimes-IsEarliest, HaveTimes-stricter}
 
 -- one more group, and then others
 push-append : (before : List (List Member)) (group : List Member) (groups : List (List Member)) → (before ++ (group ∷ [])) ++ groups ≡ before ++ (group ∷ groups)
 push-append before group groups = append_assoc before (group ∷ []) groups
+
+-- a group is kept, or there are no times with it together with the kept ones
+abbrev pub IsKeptOrClashes : Problem → (ℕ → ℕ → Option Window) → List (List ℕ) → (kept : List (List Member)) → List Member → Type 0
+IsKeptOrClashes p windows routes kept group = Contains kept group ⊎ (HaveTimes p windows routes (kept ++ (group ∷ [])) → ⊥)
 
 module _ (p : Problem) (windows : ℕ → ℕ → Option Window) (routes : List (List ℕ)) where
   -- there is one list of kept groups
@@ -70,6 +74,31 @@ module _ (p : Problem) (windows : ℕ → ℕ → Option Window) (routes : List 
       (λ before group groups have are. subst (All P) (sym (push-append before group groups)) are)
       (λ before group groups are. All-without P before group groups are)
 
+  -- what is kept before is kept
+  before-after : (group : List Member) (before groups kept : List (List Member)) → Contains before group → AreKeptAfter p windows routes before groups kept → Contains kept group
+  before-after group =
+      rule-after (λ now rest. Contains now group) (λ now other rest have there. Contains-append_left now (other ∷ []) group there) (λ now other rest there. there)
+
+  -- so the kept groups are stricter
+  stricter-after : (before groups kept : List (List Member)) → AreKeptAfter p windows routes before groups kept → AreStricter kept before
+  stricter-after before groups kept are =
+      rule-after (λ now rest. AreStricter now before) (λ now other rest have stricter times together. stricter times (AreStricter-more now (other ∷ []) times together))
+      (λ now other rest stricter. stricter) before groups kept (λ times together. together) are
+
+  -- each of the groups is kept, or clashes with the kept ones
+  each-after : (before groups kept : List (List Member)) → AreKeptAfter p windows routes before groups kept → All (IsKeptOrClashes p windows routes kept) groups
+  each-after before [] kept are = All-nil (IsKeptOrClashes p windows routes kept)
+  each-after before (group ∷ groups) kept are =
+      ⊎_elim
+      (λ (a : HaveTimes p windows routes (before ++ (group ∷ [])) × AreKeptAfter p windows routes (before ++ (group ∷ [])) groups kept).
+      All-cons (IsKeptOrClashes p windows routes kept) group groups
+      (inl (before-after group (before ++ (group ∷ [])) groups kept (Contains-push before group) a.1)) (each-after (before ++ (group ∷ [])) groups kept a.1))
+      (λ (a : (HaveTimes p windows routes (before ++ (group ∷ [])) → ⊥) × AreKeptAfter p windows routes before groups kept).
+      All-cons (IsKeptOrClashes p windows routes kept) group groups
+      (inr (λ have. a.0 (HaveTimes-stricter p windows routes (kept ++ (group ∷ [])) (before ++ (group ∷ [])) (AreStricter-push kept before group (stricter-after before groups kept a.1)) have)))
+      (each-after before groups kept a.1))
+      are
+
   -- where the routes have times with all groups, all are kept
   whole-after : (before groups kept : List (List Member)) → HaveTimes p windows routes (before ++ groups) → AreKeptAfter p windows routes before groups kept → kept ≡ before ++ groups
   whole-after before [] kept have are = are ∙ sym (append-nil before)
@@ -110,6 +139,10 @@ module _ (p : Problem) (windows : ℕ → ℕ → Option Window) (routes : List 
     -- each kept group is one of the groups
     pub Contains-AreKeptGroups : All (Contains groups) kept
     Contains-AreKeptGroups = All-append_left (Contains groups) kept [] (all-after (Contains groups) [] groups kept (All-contains_itself groups) are)
+
+    -- each group that is not kept has no times together with the kept ones
+    pub AreKeptGroups-most : All (IsKeptOrClashes p windows routes kept) groups
+    AreKeptGroups-most = each-after [] groups kept are
 
     -- where the routes have times with all groups, all are kept
     pub AreKeptGroups-whole : HaveTimes p windows routes groups → kept ≡ groups

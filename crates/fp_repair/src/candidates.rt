@@ -103,6 +103,12 @@ pub(crate) fn starting_plans(
             grouped: None,
         });
     }
+    if grouped.plan.routes == best.plan.routes {
+        return Ok(Starts {
+            cheapest: best,
+            grouped: None,
+        });
+    }
     Ok(Starts {
         cheapest: best,
         grouped: Some(grouped.plan),

@@ -25,7 +25,9 @@ pub(crate) fn classes_cost(
 fn class_cost(instance: &Instance, routes: &[Vec<u32>], group: &[Member]) -> Option<u128> {
     let first = group.first()?;
     let route = routes.get(first.shipment as usize)?;
-    let arc = instance.arcs().get(*route.get(first.leg as usize)? as usize)?;
+    let arc = instance
+        .arcs()
+        .get(*route.get(first.leg as usize)? as usize)?;
     let trucks = load(instance, group).div_ceil(u128::from(arc.capacity.max(1)));
     Some(trucks.saturating_mul(u128::from(arc.truck)))
 }
