@@ -2,7 +2,7 @@
 -- second of them and has to leave before the first can come there, and two others can share a truck
 -- from 3 to 5 over a third arc. All groups clash, and all but that of the first two shipments are
 -- kept.
-use Rattle.std.proofs.Common.{◌≡◌, ℕ, zero, suc, ◌+◌, ◌*◌, ◌<◌, ◌≤◌, Option, Some, List, [], ◌∷◌, inl, inr, refl, sym, ◌∙◌, arith}
+use Rattle.std.proofs.Common.{◌≡◌, ℕ, zero, suc, ◌+◌, ◌*◌, ◌≤◌, Option, Some, List, [], ◌∷◌, inl, inr, refl, sym, ◌∙◌, arith}
 use Rattle.std.specs.Prelude.{All, IfSome, IsSomeAnd}
 use Rattle.std.proofs.lemmas.List.Elements.{All-cons, All-contains, All-nil}
 use Rattle.fp_model.specs.declared.parts.Arc.{Arc}
@@ -11,7 +11,7 @@ use Rattle.fp_model.specs.Members.{IsMemberOf, member_arc}
 use Rattle.fp_model.specs.Problem.{Problem}
 use Rattle.fp_model.specs.Routes.{step}
 use Rattle.fp_flatnet.specs.declared.window_tables.Window.{Window}
-use Rattle.fp_dispatch.specs.Times.{AreTimes, HaveOneTime, HaveTimes, next, window_of}
+use Rattle.fp_dispatch.specs.Times.{HaveOneTime, HaveTimes, window_of}
 use Rattle.fp_repair.specs.KeptGroups.{AreKeptGroups}
 
 -- an arc from a terminal to another of a travel time, with trucks for 10 that cost 100
