@@ -1,6 +1,4 @@
 //! The points of a network as nodes, and its classes between them.
-ghost use Rattle.std.specs.Prelude.{◌≡◌, length};
-ghost use Rattle.fp_model.specs.Problem.{IsValid};
 ghost use Rattle.fp_longestarcs.specs.Whole.{IsWholeNetwork};
 
 use crate::NoMemory;

@@ -1,5 +1,4 @@
 //! How many shipments may use each class, and their sizes together.
-ghost use Rattle.std.specs.Prelude.{◌≡◌, ◌<◌, length};
 
 use crate::NoMemory;
 use crate::set_bits::list_set;
