@@ -14,12 +14,12 @@ ghost use Rattle.fp_duals.specs.Starts.{IsBestStart, IsStart};
 
 use crate::NoMemory;
 use crate::candidates::better_table;
-use crate::effort::Effort;
 use crate::improvements::Improved;
 use crate::run_tables::Tables;
 use crate::searches::Search;
 use crate::starts::Start;
 use crate::timed_walks::timed_walks;
+use fp_ascent::Effort;
 use fp_flatnet::Windows;
 use fp_model::Instance;
 use fp_prices::{Kind, Leaf, LeafBound, LeafPrice, RoundNetwork, Table};
@@ -43,8 +43,8 @@ fn least_walks(
         (points_in leaf.now.setting.network) leaf.now.sides tables.now start.kind start.forced
         walks.items) }
 {
-    let _preferred = search.walks(alloc, tables, start)?;
-    match leaf.walks(alloc, tables, start.kind, start.forced)? {
+    let preferred = search.walks(alloc, tables, start)?;
+    match leaf.walks_preferring(alloc, tables, start.kind, start.forced, &preferred)? {
         Some(walks) => timed_walks(alloc, &walks),
         None => unreachable!(),
     }
@@ -86,7 +86,6 @@ fn priced(
     effort: &Effort,
     tables: &mut Tables,
 ) -> Result<Improved, NoMemory>
-    requires belongs { BelongsTo leaf.now.setting.problem leaf.now.setting.windows }
     requires tables { ArePriceTables leaf.now.setting.problem tables.old }
     requires kind { HasKind tables.old inherited }
     requires start { IsStart leaf.now tables.old first }
@@ -98,6 +97,9 @@ fn priced(
     ensures tables { ArePriceTables leaf.now.setting.problem tables.new }
     ensures err { OnErr result (tables.new ≡ tables.old) }
 {
+    // They belong to the instance, so no allowed class leaves a destination, and a forced chain that
+    // reaches one is the only walk.
+    let _windows = leaf.windows();
     let count = tables.list().len() as u32;
     let start = first.best(alloc, leaf, tables.list(), inherited)?;
     let mut search = Search::of(alloc, leaf, effort)?;
@@ -141,7 +143,6 @@ pub fn improve_leaf(
     effort: &Effort,
     tables: &mut Tables,
 ) -> Result<Improved, NoMemory>
-    requires belongs { BelongsTo leaf.now.setting.problem leaf.now.setting.windows }
     requires tables { ArePriceTables leaf.now.setting.problem tables.old }
     requires kind { HasKind tables.old inherited.kind }
     ensures improved { IfOk result

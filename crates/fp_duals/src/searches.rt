@@ -3,10 +3,9 @@ ghost use Rattle.std.specs.Prelude.{◌<◌, ◌≤◌};
 ghost use Rattle.std.specs.Bool.{OnTrue};
 
 use crate::NoMemory;
-use crate::ascents::Ascent;
-use crate::effort::Effort;
 use crate::starts::Start;
 use fp_allowed::ChainEnd;
+use fp_ascent::{Ascent, Effort};
 use fp_prices::{ClassWalk, Leaf, Table};
 use std::alloc::Global;
 

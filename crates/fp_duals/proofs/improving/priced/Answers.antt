@@ -25,7 +25,7 @@ returns-in-Ok-clause-improved c =
       best = choice.best;
       least = subst (λ (tables : List (List ClassShare)). AreLeastWalks p (windows_in leaf.setting.windows) (points_in leaf.setting.network) leaf.sides tables chosen.kind chosen.forced c.in-Ok.walks.items) c.list-3.ensures.same c.in-Ok.ensures;
       reached = λ chains ends.
-          reached-value p leaf.setting.windows (points_in leaf.setting.network) leaf.sides c.args.tables.now c.choice.new.tables chosen.kind chosen.forced c.args.first.value chosen.value chains c.requires.belongs c.in_ok-chosen.ensures.tables.in_order.rule
+          reached-value p leaf.setting.windows (points_in leaf.setting.network) leaf.sides c.args.tables.now c.choice.new.tables chosen.kind chosen.forced c.args.first.value chosen.value chains c.windows.ensures.belongs c.in_ok-chosen.ensures.tables.in_order.rule
           (first-value leaf c.args.tables.now c.args.first c.requires.start c.requires.linear c.requires.forced) choice.start.value (omega (arith, c.in_ok-start.ensures.no_less, c.in_ok-chosen.ensures.no_less)) ends;
       added = choice.added;
     }
