@@ -63,7 +63,6 @@ fn choice(
     requires best { IsBestStart leaf.now tables.old inherited start }
     ensures tables { ArePriceTables leaf.now.setting.problem tables.new }
     ensures choice { IfOk result (IsChoice leaf.now tables.old tables.new inherited) }
-    ensures no_less { IfOk result (λ chosen. start.value ≤ chosen.value) }
     ensures err { OnErr result (tables.new ≡ tables.old) }
 {
     match better_table(alloc, leaf, search, tables, start)? {
@@ -75,9 +74,49 @@ fn choice(
     }
 }
 
+// The price of a leaf from the best of its starting prices, or from a table that is better.
+fn priced(
+    alloc: Global,
+    leaf: &Leaf,
+    search: &mut Search,
+    round: u32,
+    inherited: Kind,
+    start: Start,
+    tables: &mut Tables,
+) -> Result<Improved, NoMemory>
+    requires tables { ArePriceTables leaf.now.setting.problem tables.old }
+    requires best { IsBestStart leaf.now tables.old inherited start }
+    ensures improved { IfOk result
+        (IsImproved leaf.now.setting.problem (windows_in leaf.now.setting.windows)
+        (points_in leaf.now.setting.network) leaf.now.sides tables.old tables.new inherited round) }
+    ensures tables { ArePriceTables leaf.now.setting.problem tables.new }
+    ensures err { OnErr result (tables.new ≡ tables.old) }
+{
+    // They belong to the instance, so no allowed class leaves a destination, and a forced chain that
+    // reaches one is the only walk.
+    let _windows = leaf.windows();
+    let count = tables.list().len() as u32;
+    let chosen = choice(alloc, leaf, search, tables, start, inherited)?;
+    match least_walks(alloc, leaf, search, tables.list(), chosen) {
+        Ok(walks) => Ok(Improved::Priced {
+            price: LeafPrice {
+                kind: chosen.kind,
+                round,
+                forced: chosen.forced,
+            },
+            value: chosen.value,
+            walks,
+        }),
+        Err(error) => {
+            tables.cut(count);
+            Err(error)
+        }
+    }
+}
+
 // The price of a leaf that has a value by linear prices where forced classes are paid whole, which
 // is the first start.
-fn priced(
+fn improve_from(
     alloc: Global,
     leaf: &Leaf,
     round: u32,
@@ -97,28 +136,9 @@ fn priced(
     ensures tables { ArePriceTables leaf.now.setting.problem tables.new }
     ensures err { OnErr result (tables.new ≡ tables.old) }
 {
-    // They belong to the instance, so no allowed class leaves a destination, and a forced chain that
-    // reaches one is the only walk.
-    let _windows = leaf.windows();
-    let count = tables.list().len() as u32;
     let start = first.best(alloc, leaf, tables.list(), inherited)?;
     let mut search = Search::of(alloc, leaf, effort)?;
-    let chosen = choice(alloc, leaf, &mut search, tables, start, inherited)?;
-    match least_walks(alloc, leaf, &mut search, tables.list(), chosen) {
-        Ok(walks) => Ok(Improved::Priced {
-            price: LeafPrice {
-                kind: chosen.kind,
-                round,
-                forced: chosen.forced,
-            },
-            value: chosen.value,
-            walks,
-        }),
-        Err(error) => {
-            tables.cut(count);
-            Err(error)
-        }
-    }
+    priced(alloc, leaf, &mut search, round, inherited, start, tables)
 }
 
 /// Improves the price of a leaf over the network of a round, with so much effort.
@@ -160,7 +180,7 @@ pub fn improve_leaf(
                 forced: true,
                 value,
             };
-            priced(alloc, leaf, round, inherited.kind, first, effort, tables)
+            improve_from(alloc, leaf, round, inherited.kind, first, effort, tables)
         }
     }
 }
