@@ -24,7 +24,7 @@ use fp_flatnet::Windows;
 use fp_model::Instance;
 use fp_prices::{Kind, Leaf, LeafBound, LeafPrice, RoundNetwork, Table};
 use fp_relaxmodel::TimedWalk;
-use fp_timenodes::Points;
+use fp_timenodes::{MOST_POINTS, Points};
 use fp_tree::Side;
 use std::alloc::Global;
 
@@ -189,7 +189,7 @@ pub fn improve_leaf(
 /// effort of a root.
 ///
 /// The windows and the points belong to the instance; the terminals, the first points and the added
-/// points are together at most 65,000.
+/// points are together at most [`MOST_POINTS`].
 pub fn improve(
     alloc: Global,
     instance: &Instance,
@@ -202,7 +202,7 @@ pub fn improve(
 ) -> Result<Improved, NoMemory>
     requires belongs { BelongsTo instance.now windows.now }
     requires terminals { points.now.terminals ≡ length instance.now.terminals }
-    requires few { points.now.terminals + length points.now.first + length points.now.added ≤ 65000 }
+    requires few { points.now.terminals + length points.now.first + length points.now.added ≤ MOST_POINTS }
     requires tables { ArePriceTables instance.now tables.old }
     requires kind { HasKind tables.old inherited.kind }
     ensures improved { IfOk result
