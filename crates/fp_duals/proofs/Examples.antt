@@ -1,6 +1,5 @@
 -- Tables by hand: how many lines they have, and where their numbers stand.
-use Rattle.std.proofs.Common.{◌≡◌, ℕ, List, [], ◌∷◌, ◌++◌, length, refl}
-use Rattle.fp_prices.specs.declared.tables.Weight.{Weight}
+use Rattle.std.proofs.Common.{◌≡◌, [], ◌∷◌, refl}
 use Rattle.fp_prices.specs.Shares.{ClassShare}
 use Rattle.fp_duals.specs.PriceLines.{line_count, line_total}
 
