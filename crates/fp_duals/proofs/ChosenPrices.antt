@@ -26,6 +26,7 @@ better-choice leaf before after inherited start c best better last = record {
     even = λ f other is. omega (arith, best.best.even f other is, better.above);
     inherited = λ f other is. omega (arith, best.best.inherited f other is, better.above);
   };
+  above = record { whole = best.above.whole; value = best.above.value; below = omega (arith, best.above.below, better.above) };
   added = inr (record {
     table = c.table;
     last = last;

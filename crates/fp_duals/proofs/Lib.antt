@@ -5,3 +5,4 @@ pub mod ChosenPrices
 pub mod ReachedValues
 pub mod SameImprovements
 pub mod ImprovedLeaves
+mod Examples

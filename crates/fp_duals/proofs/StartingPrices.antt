@@ -61,37 +61,42 @@ module _ (p : Problem) (windows : ℕ → ℕ → Option Window) (points : ℕ �
       of Even by_id = EachMode-le Even even n c by_even
       of (Table id) by_id = by_id id refl
 
--- the value by the first start is that by linear prices with forced classes paid whole
-pub first-value : (leaf : LeafModel) (tables : List (List ClassShare)) (first : Start) → IsStart leaf tables first → first.kind ≡ Linear → first.forced ≡ true →
+-- the first start: linear prices with forced classes paid whole
+pub record IsFirstStart (leaf : LeafModel) (tables : List (List ClassShare)) (first : Start) : Type 0 where
+  pub is : IsStart leaf tables first
+  pub linear : first.kind ≡ Linear
+  pub forced : first.forced ≡ true
+
+-- its value is that by linear prices with forced classes paid whole
+first-value : (leaf : LeafModel) (tables : List (List ClassShare)) (first : Start) → IsFirstStart leaf tables first →
     IsLeafValue leaf.setting.problem (windows_in leaf.setting.windows) (points_in leaf.setting.network) leaf.sides tables Linear true first.value
-first-value leaf tables first is linear forced =
+first-value leaf tables first start =
     let P : Kind → Bool → Type 0 = λ k f. IsLeafValue leaf.setting.problem (windows_in leaf.setting.windows) (points_in leaf.setting.network) leaf.sides tables k f first.value in
-    subst (λ (f : Bool). P Linear f) forced (subst (λ (k : Kind). P k first.forced) linear is.value)
+    subst (λ (f : Bool). P Linear f) start.forced (subst (λ (k : Kind). P k first.forced) start.linear start.is.value)
 
 -- and there is no other
-pub first-le : (leaf : LeafModel) (tables : List (List ClassShare)) (first : Start) → IsStart leaf tables first → first.kind ≡ Linear → first.forced ≡ true →
+first-le : (leaf : LeafModel) (tables : List (List ClassShare)) (first : Start) → IsFirstStart leaf tables first →
     (other : ℕ) → IsLeafValue leaf.setting.problem (windows_in leaf.setting.windows) (points_in leaf.setting.network) leaf.sides tables Linear true other → other ≤ first.value
-first-le leaf tables first is linear forced = λ other value.
+first-le leaf tables first start = λ other value.
     let same : other ≡ first.value =
-    leaf-value-unique leaf.setting.problem (windows_in leaf.setting.windows) (points_in leaf.setting.network) leaf.sides tables Linear true other first.value value (first-value leaf tables first is linear forced) in
+    leaf-value-unique leaf.setting.problem (windows_in leaf.setting.windows) (points_in leaf.setting.network) leaf.sides tables Linear true other first.value value (first-value leaf tables first start) in
     omega (arith, same)
 
 -- the best of all, from the first start, the better by linear prices, the better by even prices, and the last
-pub best-start : (leaf : LeafModel) (tables : List (List ClassShare)) (kind : Kind) (first linear even last : Start) →
-    ((other : ℕ) → IsLeafValue leaf.setting.problem (windows_in leaf.setting.windows) (points_in leaf.setting.network) leaf.sides tables Linear true other → other ≤ first.value) → first.value ≤ linear.value →
+pub best-start : (leaf : LeafModel) (tables : List (List ClassShare)) (kind : Kind) (first linear even last : Start) → IsFirstStart leaf tables first → first.value ≤ linear.value →
     ((other : ℕ) → IsLeafValue leaf.setting.problem (windows_in leaf.setting.windows) (points_in leaf.setting.network) leaf.sides tables Linear false other → other ≤ linear.value) → linear.value ≤ even.value →
     EachMode leaf.setting.problem (windows_in leaf.setting.windows) (points_in leaf.setting.network) leaf.sides tables Even (λ other. other ≤ even.value) → IsStart leaf tables last → even.value ≤ last.value →
     ((id : ℕ) → kind ≡ Table id → EachMode leaf.setting.problem (windows_in leaf.setting.windows) (points_in leaf.setting.network) leaf.sides tables kind (λ other. other ≤ last.value)) → IsBestStart leaf tables kind last
-best-start leaf tables kind first linear even last whole a plain b by_even is less by_table = record {
+best-start leaf tables kind first linear even last start a plain b by_even is less by_table = record {
   is = is;
-  best = six-starts leaf.setting.problem (windows_in leaf.setting.windows) (points_in leaf.setting.network) leaf.sides tables kind first.value linear.value even.value last.value a b less whole plain by_even by_table;
+  best = six-starts leaf.setting.problem (windows_in leaf.setting.windows) (points_in leaf.setting.network) leaf.sides tables kind first.value linear.value even.value last.value a b less (first-le leaf tables first start) plain by_even by_table;
+  above = record { whole = first.value; value = first-value leaf tables first start; below = omega (arith, a, b, less) };
 }
 
 -- the same of what a call gives
-pub best-start_told : (leaf : LeafModel) (tables : List (List ClassShare)) (kind : Kind) (first linear even : Start) (r : Result Start AllocError) →
-    ((other : ℕ) → IsLeafValue leaf.setting.problem (windows_in leaf.setting.windows) (points_in leaf.setting.network) leaf.sides tables Linear true other → other ≤ first.value) → first.value ≤ linear.value →
+pub best-start_told : (leaf : LeafModel) (tables : List (List ClassShare)) (kind : Kind) (first linear even : Start) (r : Result Start AllocError) → IsFirstStart leaf tables first → first.value ≤ linear.value →
     ((other : ℕ) → IsLeafValue leaf.setting.problem (windows_in leaf.setting.windows) (points_in leaf.setting.network) leaf.sides tables Linear false other → other ≤ linear.value) → linear.value ≤ even.value →
     EachMode leaf.setting.problem (windows_in leaf.setting.windows) (points_in leaf.setting.network) leaf.sides tables Even (λ other. other ≤ even.value) → IfOk r (IsStart leaf tables) → IfOk r (λ (s : Start). even.value ≤ s.value) →
     IfOk r (λ (s : Start). EachMode leaf.setting.problem (windows_in leaf.setting.windows) (points_in leaf.setting.network) leaf.sides tables kind (λ other. other ≤ s.value)) → IfOk r (IsBestStart leaf tables kind)
-best-start_told leaf tables kind first linear even (Err e) whole a plain b by_even is less by_kind = tt
-best-start_told leaf tables kind first linear even (Ok last) whole a plain b by_even is less by_kind = best-start leaf tables kind first linear even last whole a plain b by_even is less (λ id is_table. by_kind)
+best-start_told leaf tables kind first linear even (Err e) start a plain b by_even is less by_kind = tt
+best-start_told leaf tables kind first linear even (Ok last) start a plain b by_even is less by_kind = best-start leaf tables kind first linear even last start a plain b by_even is less (λ id is_table. by_kind)

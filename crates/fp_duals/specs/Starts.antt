@@ -1,6 +1,6 @@
 -- The six prices from which a leaf's price is improved: the kinds linear, even and inherited, each plain and with forced classes
 -- paid whole.
-use Rattle.std.specs.Prelude.{ℕ, ◌≤◌, List, Bool, Option}
+use Rattle.std.specs.Prelude.{ℕ, ◌≤◌, List, Bool, true, Option}
 use Rattle.fp_model.specs.Problem.{Problem}
 use Rattle.fp_flatnet.specs.declared.window_tables.Window.{Window}
 use Rattle.fp_flatnet.specs.Tables.{windows_in}
@@ -31,7 +31,14 @@ pub record IsStart (leaf : LeafModel) (tables : List (List ClassShare)) (start :
   pub value : IsLeafValue leaf.setting.problem (windows_in leaf.setting.windows) (points_in leaf.setting.network) leaf.sides tables start.kind start.forced start.value
   pub small : IsSmallBound leaf.setting.problem (Value start.value)
 
--- the same, at least as good as each of the six starting prices
+-- the value by linear prices with forced classes paid whole is at most a number
+pub record IsAboveWhole (leaf : LeafModel) (tables : List (List ClassShare)) (n : ℕ) : Type 0 where
+  pub whole : ℕ
+  pub value : IsLeafValue leaf.setting.problem (windows_in leaf.setting.windows) (points_in leaf.setting.network) leaf.sides tables Linear true whole
+  pub below : whole ≤ n
+
+-- a start at least as good as each of the six, where the first of them has a value
 pub record IsBestStart (leaf : LeafModel) (tables : List (List ClassShare)) (inherited : Kind) (start : Start) : Type 0 where
   pub is : IsStart leaf tables start
   pub best : EachStart leaf.setting.problem (windows_in leaf.setting.windows) (points_in leaf.setting.network) leaf.sides tables inherited (λ other. other ≤ start.value)
+  pub above : IsAboveWhole leaf tables start.value

@@ -14,17 +14,17 @@ ghost use Rattle.fp_duals.specs.Starts.{IsBestStart, IsStart};
 
 use crate::NoMemory;
 use crate::candidates::better_table;
-use crate::effort::Effort;
 use crate::improvements::Improved;
 use crate::run_tables::Tables;
 use crate::searches::Search;
 use crate::starts::Start;
 use crate::timed_walks::timed_walks;
+use fp_ascent::Effort;
 use fp_flatnet::Windows;
 use fp_model::Instance;
 use fp_prices::{Kind, Leaf, LeafBound, LeafPrice, RoundNetwork, Table};
 use fp_relaxmodel::TimedWalk;
-use fp_timenodes::Points;
+use fp_timenodes::{MOST_POINTS, Points};
 use fp_tree::Side;
 use std::alloc::Global;
 
@@ -43,8 +43,8 @@ fn least_walks(
         (points_in leaf.now.setting.network) leaf.now.sides tables.now start.kind start.forced
         walks.items) }
 {
-    let _preferred = search.walks(alloc, tables, start)?;
-    match leaf.walks(alloc, tables, start.kind, start.forced)? {
+    let preferred = search.walks(alloc, tables, start)?;
+    match leaf.walks_preferring(alloc, tables, start.kind, start.forced, &preferred)? {
         Some(walks) => timed_walks(alloc, &walks),
         None => unreachable!(),
     }
@@ -63,7 +63,6 @@ fn choice(
     requires best { IsBestStart leaf.now tables.old inherited start }
     ensures tables { ArePriceTables leaf.now.setting.problem tables.new }
     ensures choice { IfOk result (IsChoice leaf.now tables.old tables.new inherited) }
-    ensures no_less { IfOk result (λ chosen. start.value ≤ chosen.value) }
     ensures err { OnErr result (tables.new ≡ tables.old) }
 {
     match better_table(alloc, leaf, search, tables, start)? {
@@ -75,34 +74,30 @@ fn choice(
     }
 }
 
-// The price of a leaf that has a value by linear prices where forced classes are paid whole, which
-// is the first start.
+// The price of a leaf from the best of its starting prices, or from a table that is better.
 fn priced(
     alloc: Global,
     leaf: &Leaf,
+    search: &mut Search,
     round: u32,
     inherited: Kind,
-    first: Start,
-    effort: &Effort,
+    start: Start,
     tables: &mut Tables,
 ) -> Result<Improved, NoMemory>
-    requires belongs { BelongsTo leaf.now.setting.problem leaf.now.setting.windows }
     requires tables { ArePriceTables leaf.now.setting.problem tables.old }
-    requires kind { HasKind tables.old inherited }
-    requires start { IsStart leaf.now tables.old first }
-    requires linear { first.kind ≡ Linear }
-    requires forced { first.forced ≡ true }
+    requires best { IsBestStart leaf.now tables.old inherited start }
     ensures improved { IfOk result
         (IsImproved leaf.now.setting.problem (windows_in leaf.now.setting.windows)
         (points_in leaf.now.setting.network) leaf.now.sides tables.old tables.new inherited round) }
     ensures tables { ArePriceTables leaf.now.setting.problem tables.new }
     ensures err { OnErr result (tables.new ≡ tables.old) }
 {
+    // They belong to the instance, so no allowed class leaves a destination, and a forced chain that
+    // reaches one is the only walk.
+    let _windows = leaf.windows();
     let count = tables.list().len() as u32;
-    let start = first.best(alloc, leaf, tables.list(), inherited)?;
-    let mut search = Search::of(alloc, leaf, effort)?;
-    let chosen = choice(alloc, leaf, &mut search, tables, start, inherited)?;
-    match least_walks(alloc, leaf, &mut search, tables.list(), chosen) {
+    let chosen = choice(alloc, leaf, search, tables, start, inherited)?;
+    match least_walks(alloc, leaf, search, tables.list(), chosen) {
         Ok(walks) => Ok(Improved::Priced {
             price: LeafPrice {
                 kind: chosen.kind,
@@ -117,6 +112,33 @@ fn priced(
             Err(error)
         }
     }
+}
+
+// The price of a leaf that has a value by linear prices where forced classes are paid whole, which
+// is the first start.
+fn improve_from(
+    alloc: Global,
+    leaf: &Leaf,
+    round: u32,
+    inherited: Kind,
+    first: Start,
+    effort: &Effort,
+    tables: &mut Tables,
+) -> Result<Improved, NoMemory>
+    requires tables { ArePriceTables leaf.now.setting.problem tables.old }
+    requires kind { HasKind tables.old inherited }
+    requires start { IsStart leaf.now tables.old first }
+    requires linear { first.kind ≡ Linear }
+    requires forced { first.forced ≡ true }
+    ensures improved { IfOk result
+        (IsImproved leaf.now.setting.problem (windows_in leaf.now.setting.windows)
+        (points_in leaf.now.setting.network) leaf.now.sides tables.old tables.new inherited round) }
+    ensures tables { ArePriceTables leaf.now.setting.problem tables.new }
+    ensures err { OnErr result (tables.new ≡ tables.old) }
+{
+    let start = first.best(alloc, leaf, tables.list(), inherited)?;
+    let mut search = Search::of(alloc, leaf, effort)?;
+    priced(alloc, leaf, &mut search, round, inherited, start, tables)
 }
 
 /// Improves the price of a leaf over the network of a round, with so much effort.
@@ -141,7 +163,6 @@ pub fn improve_leaf(
     effort: &Effort,
     tables: &mut Tables,
 ) -> Result<Improved, NoMemory>
-    requires belongs { BelongsTo leaf.now.setting.problem leaf.now.setting.windows }
     requires tables { ArePriceTables leaf.now.setting.problem tables.old }
     requires kind { HasKind tables.old inherited.kind }
     ensures improved { IfOk result
@@ -159,7 +180,7 @@ pub fn improve_leaf(
                 forced: true,
                 value,
             };
-            priced(alloc, leaf, round, inherited.kind, first, effort, tables)
+            improve_from(alloc, leaf, round, inherited.kind, first, effort, tables)
         }
     }
 }
@@ -168,7 +189,7 @@ pub fn improve_leaf(
 /// effort of a root.
 ///
 /// The windows and the points belong to the instance; the terminals, the first points and the added
-/// points are together at most 65,000.
+/// points are together at most [`MOST_POINTS`].
 pub fn improve(
     alloc: Global,
     instance: &Instance,
@@ -181,7 +202,7 @@ pub fn improve(
 ) -> Result<Improved, NoMemory>
     requires belongs { BelongsTo instance.now windows.now }
     requires terminals { points.now.terminals ≡ length instance.now.terminals }
-    requires few { points.now.terminals + length points.now.first + length points.now.added ≤ 65000 }
+    requires few { points.now.terminals + length points.now.first + length points.now.added ≤ MOST_POINTS }
     requires tables { ArePriceTables instance.now tables.old }
     requires kind { HasKind tables.old inherited.kind }
     ensures improved { IfOk result

@@ -6,9 +6,7 @@
 //! that keeps the price rule gives a bound, and a search tries to raise it.
 #![tactic(auto)]
 
-mod ascents;
 mod candidates;
-mod effort;
 mod improvements;
 mod improving;
 mod limits;
@@ -18,7 +16,7 @@ mod starts;
 mod table_tests;
 mod timed_walks;
 
-pub use effort::Effort;
+pub use fp_ascent::Effort;
 pub use improvements::Improved;
 pub use improving::{improve, improve_leaf};
 pub use limits::MOST_PRICE_LINES;

@@ -3,10 +3,9 @@ ghost use Rattle.std.specs.Prelude.{◌<◌, ◌≤◌};
 ghost use Rattle.std.specs.Bool.{OnTrue};
 
 use crate::NoMemory;
-use crate::ascents::Ascent;
-use crate::effort::Effort;
 use crate::starts::Start;
 use fp_allowed::ChainEnd;
+use fp_ascent::{Ascent, Effort};
 use fp_prices::{ClassWalk, Leaf, Table};
 use std::alloc::Global;
 
@@ -69,12 +68,12 @@ impl<'a> Search<'a> {
         left / self.effort.line_part.max(1)
     }
 
-    /// Whether a value is worth a table: it is above another by so many parts in 1024.
+    /// Whether a value is worth a table: it is above another by more than so many parts in 1024.
     pub(crate) fn is_worth(&self, value: u128, start: u128) -> bool
         ensures { OnTrue result (start < value) }
     {
         let least = start.saturating_mul(u128::from(self.effort.least_gain)) / 1024;
-        value > start && value - start >= least
+        value.saturating_sub(start) > least
     }
 
     /// A table for a mode from the prices of a start, where one is sought and found.

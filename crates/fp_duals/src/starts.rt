@@ -87,8 +87,7 @@ impl Start {
         requires start { IsStart leaf.now tables.now self }
         requires linear { self.kind ≡ Linear }
         requires forced { self.forced ≡ true }
-        ensures best { IfOk result (IsBestStart leaf.now tables.now inherited) }
-        ensures no_less { IfOk result (λ start. self.value ≤ start.value) }
+        ensures { IfOk result (IsBestStart leaf.now tables.now inherited) }
     {
         let linear = self.or_mode(alloc, leaf, tables, Kind::Linear, false)?;
         let even = linear.or_kind(alloc, leaf, tables, Kind::Even)?;

@@ -5,7 +5,6 @@ use Rattle.fp_prices.specs.LeastWalks.{AreLeastWalks}
 use Rattle.fp_prices.specs.Shares.{ClassShare}
 use Rattle.fp_duals.proofs.PriceLines.{tables-le-lines}
 use Rattle.fp_duals.proofs.ReachedValues.{reached-value}
-use Rattle.fp_duals.proofs.StartingPrices.{first-value}
 use Rattle.fp_duals.proofs.improving.priced.Goals as goal
 
 pub overflow_cast-count : goal.overflow_cast-count
@@ -23,9 +22,9 @@ returns-in-Ok-clause-improved c =
       is_value = choice.start.value;
       small = choice.start.small;
       best = choice.best;
-      least = subst (λ (tables : List (List ClassShare)). AreLeastWalks p (windows_in leaf.setting.windows) (points_in leaf.setting.network) leaf.sides tables chosen.kind chosen.forced c.in-Ok.walks.items) c.list-3.ensures.same c.in-Ok.ensures;
+      least = subst (λ (tables : List (List ClassShare)). AreLeastWalks p (windows_in leaf.setting.windows) (points_in leaf.setting.network) leaf.sides tables chosen.kind chosen.forced c.in-Ok.walks.items) c.list-2.ensures.same c.in-Ok.ensures;
       reached = λ chains ends.
-          reached-value p leaf.setting.windows (points_in leaf.setting.network) leaf.sides c.args.tables.now c.choice.new.tables chosen.kind chosen.forced c.args.first.value chosen.value chains c.requires.belongs c.in_ok-chosen.ensures.tables.in_order.rule
-          (first-value leaf c.args.tables.now c.args.first c.requires.start c.requires.linear c.requires.forced) choice.start.value (omega (arith, c.in_ok-start.ensures.no_less, c.in_ok-chosen.ensures.no_less)) ends;
+          reached-value p leaf.setting.windows (points_in leaf.setting.network) leaf.sides c.args.tables.now c.choice.new.tables chosen.kind chosen.forced choice.above.whole chosen.value chains c.windows-windows.ensures.belongs
+          c.in_ok-chosen.ensures.tables.in_order.rule choice.above.value choice.start.value choice.above.below ends;
       added = choice.added;
     }
