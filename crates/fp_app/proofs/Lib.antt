@@ -1,3 +1,4 @@
 pub mod OneTable
 pub mod Verdicts
 pub mod StatusCauses
+pub mod InputStatuses

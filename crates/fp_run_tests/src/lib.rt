@@ -15,3 +15,5 @@ mod input_faults;
 mod runs;
 #[cfg(test)]
 mod sizes;
+#[cfg(test)]
+mod words;
