@@ -1,0 +1,43 @@
+-- The prices that are chosen for a leaf: the best start, or a table that is better.
+use Rattle.std.proofs.Common.{◌≡◌, ◌+◌, List, [], ◌∷◌, ◌++◌, length, inr, sym, ap, ◌∙◌, subst, arith}
+use Rattle.std.specs.Prelude.{Option, Some, IfSome}
+use Rattle.std.proofs.lemmas.List.{length-append}
+use Rattle.fp_prices.specs.declared.leaf_prices.Kind.{Kind}
+use Rattle.fp_prices.specs.declared.leaf_prices.Kind.TheVariants.{Table}
+use Rattle.fp_prices.specs.Rounds.{LeafModel}
+use Rattle.fp_prices.specs.Shares.{ClassShare}
+use Rattle.fp_duals.specs.declared.candidates.Candidate.{Candidate}
+use Rattle.fp_duals.specs.declared.starts.Start.{Start}
+use Rattle.fp_duals.specs.Candidates.{IsBetter}
+use Rattle.fp_duals.specs.Choices.{IsChoice}
+use Rattle.fp_duals.specs.Starts.{IsBestStart, IsStart}
+
+-- a table that was found is better
+pub better-told : (leaf : LeafModel) (tables : List (List ClassShare)) (start : Start) (o : Option Candidate) (c : Candidate) → o ≡ Some c → IfSome o (IsBetter leaf tables start) → IsBetter leaf tables start c
+better-told leaf tables start o c is better = subst (λ (found : Option Candidate). IfSome found (IsBetter leaf tables start)) is better
+
+-- a table that is better than the best start, and is added
+pub better-choice : (leaf : LeafModel) (before after : List (List ClassShare)) (inherited : Kind) (start : Start) (c : Candidate) → IsBestStart leaf before inherited start → IsBetter leaf before start c → after ≡ before ++ (c.table ∷ []) →
+    IsChoice leaf before after inherited c.start
+better-choice leaf before after inherited start c best better last = record {
+  start = subst (λ (tables : List (List ClassShare)). IsStart leaf tables c.start) (sym last) better.candidate.start;
+  best = record {
+    linear = λ f other is. omega (arith, best.best.linear f other is, better.above);
+    even = λ f other is. omega (arith, best.best.even f other is, better.above);
+    inherited = λ f other is. omega (arith, best.best.inherited f other is, better.above);
+  };
+  added = inr (record {
+    table = c.table;
+    last = last;
+    some = better.candidate.short.some;
+    named = better.candidate.named ∙ ap Table long;
+    above = record {
+      linear = λ f other is. omega (arith, best.best.linear f other is, better.above);
+      even = λ f other is. omega (arith, best.best.even f other is, better.above);
+      inherited = λ f other is. omega (arith, best.best.inherited f other is, better.above);
+    };
+  });
+}
+  where
+    long : length before + 1 ≡ length after
+    long = omega (arith, length-append before (c.table ∷ []), ap length last)

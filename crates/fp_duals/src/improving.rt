@@ -1,0 +1,193 @@
+//! Improves the price of a leaf.
+ghost use Rattle.std.specs.Prelude.{◌≡◌, ◌+◌, ◌≤◌, IfOk, OnErr, length, true};
+ghost use Rattle.fp_flatnet.specs.Belonging.{BelongsTo};
+ghost use Rattle.fp_flatnet.specs.Tables.{windows_in};
+ghost use Rattle.fp_longestarcs.specs.Networks.{points_in};
+ghost use Rattle.fp_prices.specs.declared.leaf_prices.Kind.TheVariants.{Linear};
+ghost use Rattle.fp_prices.specs.LeastWalks.{AreLeastWalks};
+ghost use Rattle.fp_prices.specs.Tables.{AreTables, HasKind};
+ghost use Rattle.fp_timenodes.specs.Points.{points_at};
+ghost use Rattle.fp_duals.specs.Choices.{IsChoice};
+ghost use Rattle.fp_duals.specs.Improvements.{IsImproved};
+ghost use Rattle.fp_duals.specs.PriceTables.{ArePriceTables};
+ghost use Rattle.fp_duals.specs.Starts.{IsBestStart, IsStart};
+
+use crate::NoMemory;
+use crate::candidates::better_table;
+use crate::effort::Effort;
+use crate::improvements::Improved;
+use crate::run_tables::Tables;
+use crate::starts::Start;
+use crate::timed_walks::timed_walks;
+use fp_flatnet::Windows;
+use fp_model::Instance;
+use fp_prices::{Kind, Leaf, LeafBound, LeafPrice, RoundNetwork, Table};
+use fp_relaxmodel::TimedWalk;
+use fp_timenodes::Points;
+use fp_tree::Side;
+use std::alloc::Global;
+
+// A walk of least cost of each shipment under the prices of a start.
+fn least_walks(
+    alloc: Global,
+    leaf: &Leaf,
+    tables: &[Table],
+    start: Start,
+) -> Result<Vec<TimedWalk>, NoMemory>
+    requires tables { AreTables leaf.now.setting.problem tables.now }
+    requires start { IsStart leaf.now tables.now start }
+    ensures { IfOk result (λ walks.
+        AreLeastWalks leaf.now.setting.problem (windows_in leaf.now.setting.windows)
+        (points_in leaf.now.setting.network) leaf.now.sides tables.now start.kind start.forced
+        walks.items) }
+{
+    match leaf.walks(alloc, tables, start.kind, start.forced)? {
+        Some(walks) => timed_walks(alloc, &walks),
+        None => unreachable!(),
+    }
+}
+
+// The best start, or the prices by a table that is better and is added to the tables.
+fn choice(
+    alloc: Global,
+    leaf: &Leaf,
+    tables: &mut Tables,
+    start: Start,
+    inherited: Kind,
+    effort: &Effort,
+) -> Result<Start, NoMemory>
+    requires tables { ArePriceTables leaf.now.setting.problem tables.old }
+    requires best { IsBestStart leaf.now tables.old inherited start }
+    ensures tables { ArePriceTables leaf.now.setting.problem tables.new }
+    ensures choice { IfOk result (IsChoice leaf.now tables.old tables.new inherited) }
+    ensures no_less { IfOk result (λ chosen. start.value ≤ chosen.value) }
+    ensures err { OnErr result (tables.new ≡ tables.old) }
+{
+    match better_table(alloc, leaf, tables, start, effort)? {
+        Some(found) => {
+            tables.push(found.table)?;
+            Ok(found.start)
+        }
+        None => Ok(start),
+    }
+}
+
+// The price of a leaf that has a value by linear prices where forced classes are paid whole, which
+// is the first start.
+fn priced(
+    alloc: Global,
+    leaf: &Leaf,
+    round: u32,
+    inherited: Kind,
+    first: Start,
+    effort: &Effort,
+    tables: &mut Tables,
+) -> Result<Improved, NoMemory>
+    requires belongs { BelongsTo leaf.now.setting.problem leaf.now.setting.windows }
+    requires tables { ArePriceTables leaf.now.setting.problem tables.old }
+    requires kind { HasKind tables.old inherited }
+    requires start { IsStart leaf.now tables.old first }
+    requires linear { first.kind ≡ Linear }
+    requires forced { first.forced ≡ true }
+    ensures improved { IfOk result
+        (IsImproved leaf.now.setting.problem (windows_in leaf.now.setting.windows)
+        (points_in leaf.now.setting.network) leaf.now.sides tables.old tables.new inherited round) }
+    ensures tables { ArePriceTables leaf.now.setting.problem tables.new }
+    ensures err { OnErr result (tables.new ≡ tables.old) }
+{
+    let count = tables.list().len() as u32;
+    let start = first.best(alloc, leaf, tables.list(), inherited)?;
+    let chosen = choice(alloc, leaf, tables, start, inherited, effort)?;
+    match least_walks(alloc, leaf, tables.list(), chosen) {
+        Ok(walks) => Ok(Improved::Priced {
+            price: LeafPrice {
+                kind: chosen.kind,
+                round,
+                forced: chosen.forced,
+            },
+            value: chosen.value,
+            walks,
+        }),
+        Err(error) => {
+            tables.cut(count);
+            Err(error)
+        }
+    }
+}
+
+/// Improves the price of a leaf over the network of a round, with so much effort.
+///
+/// It is [`Improved::Empty`] exactly where some shipment has no allowed timed walk; the first is
+/// named, and the tables stay. Otherwise the price has this number of a round, which is used for
+/// nothing else; its value is at least those by all six starting prices, which are of the kinds
+/// linear, even and inherited, each plain and with forced classes paid whole; and there is a walk of
+/// least cost under it for each shipment, which repeats no timed node. Where the forced chain of
+/// each shipment reaches its destination, the value is the scale times what the chains cost.
+///
+/// The tables that were there stay. At most one is added: it is the last, it has a share, the price
+/// is by it, and the value is above those by all six starting prices. The tables are of the
+/// instance, in order and within the price rule, before and after, and a table that `inherited`
+/// names is one of them; its round and mode aren't used. `NoMemory` only where no memory is found;
+/// then the tables are as before.
+pub fn improve_leaf(
+    alloc: Global,
+    leaf: &Leaf,
+    round: u32,
+    inherited: LeafPrice,
+    effort: &Effort,
+    tables: &mut Tables,
+) -> Result<Improved, NoMemory>
+    requires belongs { BelongsTo leaf.now.setting.problem leaf.now.setting.windows }
+    requires tables { ArePriceTables leaf.now.setting.problem tables.old }
+    requires kind { HasKind tables.old inherited.kind }
+    ensures improved { IfOk result
+        (IsImproved leaf.now.setting.problem (windows_in leaf.now.setting.windows)
+        (points_in leaf.now.setting.network) leaf.now.sides tables.old tables.new inherited.kind
+        round) }
+    ensures tables { ArePriceTables leaf.now.setting.problem tables.new }
+    ensures err { OnErr result (tables.new ≡ tables.old) }
+{
+    match leaf.bound(alloc, tables.list(), Kind::Linear, true)? {
+        LeafBound::Empty { shipment } => Ok(Improved::Empty { shipment }),
+        LeafBound::Value { value } => {
+            let first = Start {
+                kind: Kind::Linear,
+                forced: true,
+                value,
+            };
+            priced(alloc, leaf, round, inherited.kind, first, effort, tables)
+        }
+    }
+}
+
+/// Improves the price of a leaf with the points as of a round, as [`improve_leaf`] does, with the
+/// effort of a root.
+///
+/// The windows and the points belong to the instance; the terminals, the first points and the added
+/// points are together at most 65,000.
+pub fn improve(
+    alloc: Global,
+    instance: &Instance,
+    windows: &Windows,
+    points: &Points,
+    round: u32,
+    sides: &[Side],
+    inherited: LeafPrice,
+    tables: &mut Tables,
+) -> Result<Improved, NoMemory>
+    requires belongs { BelongsTo instance.now windows.now }
+    requires terminals { points.now.terminals ≡ length instance.now.terminals }
+    requires few { points.now.terminals + length points.now.first + length points.now.added ≤ 65000 }
+    requires tables { ArePriceTables instance.now tables.old }
+    requires kind { HasKind tables.old inherited.kind }
+    ensures improved { IfOk result
+        (IsImproved instance.now (windows_in windows.now)
+        (λ terminal. points_at points.now terminal round) sides.now tables.old tables.new
+        inherited.kind round) }
+    ensures tables { ArePriceTables instance.now tables.new }
+    ensures err { OnErr result (tables.new ≡ tables.old) }
+{
+    let network = RoundNetwork::of(alloc, instance, points, round)?;
+    let leaf = Leaf::of(alloc, &network, windows, sides)?;
+    improve_leaf(alloc, &leaf, round, inherited, &Effort::ROOT, tables)
+}

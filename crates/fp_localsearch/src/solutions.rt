@@ -1,0 +1,258 @@
+//! The state of the search: routes with groups, and what they cost.
+
+use crate::NoMemory;
+use crate::groups::{Group, GroupedLeg};
+use crate::labels::PathLeg;
+use crate::times::{lower, raise, reset};
+use crate::usable_arcs::UsableArcs;
+use fp_model::Instance;
+use std::alloc::Global;
+
+// A leg by the number of its shipment and its place in the shipment's route.
+#[derive(Clone, Copy)]
+pub(crate) struct Place {
+    pub shipment: usize,
+    pub leg: usize,
+}
+
+// For each shipment its legs, the groups, for each group the places of its legs, the numbers of the
+// groups of no legs, and the cost.
+#[derive(Drop)]
+pub(crate) struct Solution {
+    pub routes: Vec<Vec<GroupedLeg>>,
+    pub groups: Vec<Group>,
+    pub members: Vec<Vec<Place>>,
+    free: Vec<usize>,
+    pub cost: u128,
+    alloc: Global,
+}
+
+impl Solution {
+    // No legs, for so many shipments.
+    pub(crate) fn empty(alloc: Global, shipments: usize) -> Result<Solution, NoMemory> {
+        Ok(Solution {
+            routes: empty_routes(alloc, shipments)?,
+            groups: Vec::new(alloc),
+            members: Vec::new(alloc),
+            free: Vec::new(alloc),
+            cost: 0,
+            alloc,
+        })
+    }
+
+    // The number of a group of no legs by an arc.
+    pub(crate) fn open_group(&mut self, arc: u32) -> Result<usize, NoMemory> {
+        let number = match self.free.pop() {
+            Some(number) => number,
+            None => {
+                self.groups.push(Group::free(arc))?;
+                self.members.push(Vec::new(self.alloc))?;
+                self.groups.len() - 1
+            }
+        };
+        self.reopen(number, arc);
+        Ok(number)
+    }
+
+    // Makes a group one of no legs by an arc.
+    fn reopen(&mut self, number: usize, arc: u32) {
+        if let Some(group) = self.groups.get_mut(number) {
+            *group = Group::free(arc);
+        }
+    }
+
+    // Adds a leg to the end of a shipment's route.
+    pub(crate) fn add(
+        &mut self,
+        instance: &Instance,
+        shipment: usize,
+        leg: GroupedLeg,
+    ) -> Result<(), NoMemory> {
+        let size = size_of(instance, shipment);
+        if let Some(arc) = instance.arcs().get(leg.arc as usize)
+            && let Some(group) = self.groups.get_mut(leg.group)
+        {
+            let more = group.join(size, arc.capacity);
+            group.narrow(leg.lo, leg.hi);
+            let added = leg_cost(arc.truck, more, arc.freight, size);
+            self.cost = self.cost.saturating_add(added);
+        }
+        self.place(shipment, leg)
+    }
+
+    // Puts a leg at the end of a shipment's route, and notes its place at its group.
+    fn place(&mut self, shipment: usize, leg: GroupedLeg) -> Result<(), NoMemory> {
+        if let Some(route) = self.routes.get_mut(shipment)
+            && let Some(places) = self.members.get_mut(leg.group)
+        {
+            let at = route.len();
+            places.push(Place { shipment, leg: at })?;
+            route.push(leg)?;
+        }
+        Ok(())
+    }
+
+    // Lets a leg of a shipment leave its group.
+    fn leave(
+        &mut self,
+        instance: &Instance,
+        shipment: usize,
+        leg: GroupedLeg,
+    ) -> Result<(), NoMemory> {
+        let size = size_of(instance, shipment);
+        if let Some(arc) = instance.arcs().get(leg.arc as usize)
+            && let Some(group) = self.groups.get_mut(leg.group)
+        {
+            let fewer = group.leave(size, arc.capacity);
+            if group.count == 0 {
+                self.free.push(leg.group)?;
+            }
+            let saved = leg_cost(arc.truck, fewer, arc.freight, size);
+            self.cost = self.cost.saturating_sub(saved);
+        }
+        if let Some(places) = self.members.get_mut(leg.group) {
+            remove_shipment(places, shipment);
+        }
+        Ok(())
+    }
+
+    // The places of a group's legs.
+    pub(crate) fn places(&self, group: usize) -> &[Place] {
+        match self.members.get(group) {
+            Some(places) => places,
+            None => &[],
+        }
+    }
+
+    // The leg at a place.
+    pub(crate) fn leg(&self, place: Place) -> Option<GroupedLeg> {
+        self.routes.get(place.shipment)?.get(place.leg).copied()
+    }
+
+    // Gives a group its least time.
+    pub(crate) fn set_early(&mut self, group: usize, early: u32) {
+        if let Some(found) = self.groups.get_mut(group) {
+            found.early = early;
+        }
+    }
+
+    // Gives a group its greatest time.
+    pub(crate) fn set_late(&mut self, group: usize, late: u32) {
+        if let Some(found) = self.groups.get_mut(group) {
+            found.late = late;
+        }
+    }
+
+    // Takes a shipment out.
+    pub(crate) fn take_out(
+        &mut self,
+        instance: &Instance,
+        shipment: usize,
+    ) -> Result<(), NoMemory> {
+        for _ in 0..u32::MAX {
+            let Some(route) = self.routes.get_mut(shipment) else {
+                return Ok(());
+            };
+            let Some(leg) = route.pop() else {
+                return Ok(());
+            };
+            self.leave(instance, shipment, leg)?;
+        }
+        Ok(())
+    }
+
+    // Puts a shipment that is out in along a path.
+    pub(crate) fn put_in(
+        &mut self,
+        instance: &Instance,
+        usable: &UsableArcs,
+        shipment: usize,
+        path: &[PathLeg],
+    ) -> Result<(), NoMemory> {
+        for taken in path {
+            if let Some(arc) = usable.arcs.get(taken.usable) {
+                let group = match taken.group {
+                    Some(group) => group,
+                    None => self.open_group(arc.number)?,
+                };
+                let leg = GroupedLeg {
+                    arc: arc.number,
+                    group,
+                    lo: arc.lo,
+                    hi: arc.hi,
+                    step: arc.step,
+                };
+                self.add(instance, shipment, leg)?;
+            }
+        }
+        Ok(())
+    }
+
+    // Puts a leg back that was taken out, in its group of before.
+    pub(crate) fn restore(
+        &mut self,
+        instance: &Instance,
+        shipment: usize,
+        leg: GroupedLeg,
+    ) -> Result<(), NoMemory> {
+        let is_free = self
+            .groups
+            .get(leg.group)
+            .is_some_and(|group| group.count == 0);
+        if is_free {
+            self.reopen(leg.group, leg.arc);
+        }
+        self.add(instance, shipment, leg)
+    }
+
+    // Lists the groups of no legs anew.
+    pub(crate) fn list_free(&mut self) -> Result<(), NoMemory> {
+        self.free.clear();
+        for (number, group) in self.groups.iter().enumerate() {
+            if group.count == 0 {
+                self.free.push(number)?;
+            }
+        }
+        Ok(())
+    }
+
+    // Finds the least and the greatest times of all groups, as far as there are any.
+    pub(crate) fn set_times(&mut self) {
+        reset(&self.routes, &mut self.groups);
+        if raise(&self.routes, &mut self.groups) {
+            lower(&self.routes, &mut self.groups);
+        }
+    }
+}
+
+// Removes the place of a shipment's leg.
+fn remove_shipment(places: &mut Vec<Place>, shipment: usize) {
+    if let Some(at) = places.iter().position(|place| place.shipment == shipment)
+        && at < places.len()
+    {
+        places.swap_remove(at);
+    }
+}
+
+// Empty routes for so many shipments.
+pub(crate) fn empty_routes(
+    alloc: Global,
+    shipments: usize,
+) -> Result<Vec<Vec<GroupedLeg>>, NoMemory> {
+    let mut routes = Vec::with_capacity(alloc, shipments)?;
+    for _shipment in 0..shipments {
+        routes.push(Vec::new(alloc))?;
+    }
+    Ok(routes)
+}
+
+// The size of a shipment.
+pub(crate) fn size_of(instance: &Instance, shipment: usize) -> u64 {
+    instance.shipments().get(shipment).map_or(0, |s| s.size)
+}
+
+// What trucks and the flow of a size cost.
+fn leg_cost(truck: u64, trucks: u64, freight: u64, size: u64) -> u128 {
+    let trucks = u128::from(truck).saturating_mul(u128::from(trucks));
+    trucks.saturating_add(u128::from(freight).saturating_mul(u128::from(size)))
+}

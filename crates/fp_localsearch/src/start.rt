@@ -1,0 +1,58 @@
+//! The state that a plan is: legs that leave at one time by one arc are a group.
+
+use crate::NoMemory;
+use crate::groups::GroupedLeg;
+use crate::solutions::Solution;
+use crate::usable_arcs::UsableArcs;
+use fp_model::{Instance, Leg, Plan};
+use std::alloc::Global;
+use std::collections::BTreeMap;
+
+// The state of a plan.
+pub(crate) fn solution_of(
+    alloc: Global,
+    instance: &Instance,
+    usable: &[UsableArcs],
+    plan: &Plan,
+) -> Result<Solution, NoMemory> {
+    let mut solution = Solution::empty(alloc, plan.routes.len())?;
+    let mut groups = BTreeMap::new(alloc);
+    for (shipment, route) in plan.routes.iter().enumerate() {
+        if let Some(own) = usable.get(shipment) {
+            add_route(&mut solution, &mut groups, instance, own, shipment, route)?;
+        }
+    }
+    Ok(solution)
+}
+
+// Adds the route of a shipment.
+fn add_route(
+    solution: &mut Solution,
+    groups: &mut BTreeMap<(u32, u32), usize>,
+    instance: &Instance,
+    usable: &UsableArcs,
+    shipment: usize,
+    route: &[Leg],
+) -> Result<(), NoMemory> {
+    for leg in route {
+        if let Some(arc) = usable.with_number(leg.arc) {
+            let group = match groups.get(&(leg.arc, leg.depart)).copied() {
+                Some(group) => group,
+                None => {
+                    let group = solution.open_group(leg.arc)?;
+                    groups.insert((leg.arc, leg.depart), group)?;
+                    group
+                }
+            };
+            let taken = GroupedLeg {
+                arc: leg.arc,
+                group,
+                lo: arc.lo,
+                hi: arc.hi,
+                step: arc.step,
+            };
+            solution.add(instance, shipment, taken)?;
+        }
+    }
+    Ok(())
+}

@@ -1,0 +1,11 @@
+//! Tests of the crates that find plans of routes: values from outside, and that memory is found.
+#![tactic(auto)]
+
+#[cfg(test)]
+mod dispatch;
+#[cfg(test)]
+mod local;
+#[cfg(test)]
+mod repair;
+#[cfg(test)]
+mod shortarcs;

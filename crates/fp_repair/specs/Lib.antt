@@ -1,0 +1,2 @@
+pub mod KeptGroups
+pub mod Candidates

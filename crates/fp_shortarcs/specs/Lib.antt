@@ -1,0 +1,2 @@
+pub mod TooShort
+pub mod Listing
