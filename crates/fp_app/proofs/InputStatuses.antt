@@ -6,14 +6,14 @@ use Rattle.fp_model.specs.Problem.{Problem}
 use Rattle.fp_fields.specs.Faults.{Fault}
 use Rattle.fp_lines.specs.Statements.{Statement}
 use Rattle.fp_words.specs.declared.orders.Order.{Order}
-use Rattle.fp_words.specs.declared.orders.Order.TheVariants.{Direct, Check}
+use Rattle.fp_words.specs.declared.orders.Order.TheVariants.{Direct, Check, Bound}
 use Rattle.fp_app.specs.declared.shown.Shown.{Shown}
 use Rattle.fp_app.specs.declared.shown.Shown.TheVariants as shown
 use Rattle.fp_app.specs.declared.shown.Status.TheVariants as status
 use Rattle.fp_app.specs.Causes.{CheckStatus, InputStatus, PlanStatus, StatusOf}
 use Rattle.fp_app.specs.Checks.{ShowsCheck, scaled}
 use Rattle.fp_app.specs.Inputs.{certificate_in, instance_in, leading_instance_in, limit_of}
-use Rattle.fp_app.specs.Runs.{Answers, ShowsDirect, ShowsInput}
+use Rattle.fp_app.specs.Runs.{Answers, ShowsBound, ShowsDirect, ShowsInput}
 use Rattle.fp_app.specs.Shown.{status_of}
 
 MatchBool_map : (b : Bool) (X Y V W : Type 0) → (X → V) → (Y → W) → MatchBool b X Y → MatchBool b V W
@@ -31,6 +31,11 @@ direct-status p (shown.Direct q plan) told = let some : 1 ≤ 1 = omega arith in
 direct-status p (shown.Infeasible q shipment time) told = inr (refl, told.2)
 direct-status p _ told = absurd told
 
+bound-status : (p : Problem) (s : Shown) → ShowsBound p s → PlanStatus p (status_of s)
+bound-status p (shown.Bound q price tables value) told = inl (refl, told.1)
+bound-status p (shown.Infeasible q shipment time) told = inr (refl, told.2)
+bound-status p _ told = absurd told
+
 check-status : (p : Problem) (c : Statement) (s : Shown) → ShowsCheck p c s → CheckStatus p c (status_of s)
 check-status p c (shown.Accepted kind) told = inl (refl, told.accepted)
 check-status p c (shown.RejectedPart number) told = inr (refl, told.rejected)
@@ -38,6 +43,7 @@ check-status p c _ told = absurd told
 
 ShowsInput-InputStatus : (o : Order) (input : List ℕ) (s : Shown) → ShowsInput o input s → InputStatus o input (status_of s)
 ShowsInput-InputStatus Direct input s told = MatchResult_map (instance_in input) (λ p. ShowsDirect p s) (λ p. PlanStatus p (status_of s)) s (λ p. direct-status p s) told
+ShowsInput-InputStatus Bound input s told = MatchResult_map (instance_in input) (λ p. ShowsBound p s) (λ p. PlanStatus p (status_of s)) s (λ p. bound-status p s) told
 ShowsInput-InputStatus Check input s told =
     MatchResult_map (leading_instance_in input)
     (λ p. MatchResult (certificate_in p input) (λ c. ShowsCheck (scaled p c) c s) (λ (f : Fault). s ≡ shown.BadInput f.ordinal f.code))

@@ -20,6 +20,7 @@ abbrev pub limit_of : Option Order → ℕ
 limit_of None = 0
 limit_of (Some order.Direct) = INSTANCE_LIMIT
 limit_of (Some order.Check) = CHECK_LIMIT
+limit_of (Some order.Bound) = INSTANCE_LIMIT
 
 -- what an input alone gives: the instance of its records, or their first fault
 abbrev pub instance_in : List ℕ → Result Problem Fault
@@ -71,3 +72,4 @@ abbrev pub fault_in : Option Order → List ℕ → Option Fault
 fault_in None input = None
 fault_in (Some order.Direct) input = fault_of (instance_in input)
 fault_in (Some order.Check) input = input_fault input (leading_instance_in input)
+fault_in (Some order.Bound) input = fault_of (instance_in input)

@@ -15,6 +15,7 @@ use Rattle.fp_app.specs.declared.shown.Shown.{Shown}
 use Rattle.fp_app.specs.declared.shown.Shown.TheVariants as shown
 use Rattle.fp_app.specs.declared.shown.Status.{Status}
 use Rattle.fp_app.specs.declared.shown.Status.TheVariants as status
+use Rattle.fp_app.specs.Bounds.{IsRootBound}
 use Rattle.fp_app.specs.Checks.{ShowsCheck, scaled}
 use Rattle.fp_app.specs.Inputs.{OfCertificate, OfInstance, limit_of}
 use Rattle.fp_app.specs.Shown.{status_of}
@@ -28,6 +29,13 @@ abbrev pub ShowsDirect : Problem → Shown → Type 0
 ShowsDirect p (shown.Direct instance plan) = (instance ≡ p) × IsPlan p 1 plan × IsDirectPlan p plan
 ShowsDirect p (shown.Infeasible instance shipment time) = (instance ≡ p) × IsBlocked p shipment time × (PlanExists p → ⊥)
 ShowsDirect p _ = ⊥
+
+-- `bound`: where a plan exists, a number under which none costs, and otherwise the first shipment
+-- that can't be carried in time, with its fastest time.
+abbrev pub ShowsBound : Problem → Shown → Type 0
+ShowsBound p (shown.Bound instance price tables value) = (instance ≡ p) × PlanExists p × IsRootBound p price tables.items value
+ShowsBound p (shown.Infeasible instance shipment time) = (instance ≡ p) × IsBlocked p shipment time × (PlanExists p → ⊥)
+ShowsBound p _ = ⊥
 
 -- The whole input was read and P holds of it, or more than the limit came.
 abbrev pub OfInput : ℕ → Option (List ℕ) → Option (List ℕ) → Shown → (List ℕ → Type 0) → Type 0
@@ -53,6 +61,7 @@ TakesOneMore limit old new = (taken : List ℕ) × Consumes old new taken × (le
 abbrev pub ShowsInput : Order → List ℕ → Shown → Type 0
 ShowsInput order.Direct input result = OfInstance input result (λ p. ShowsDirect p result)
 ShowsInput order.Check input result = OfCertificate input result (λ p c. ShowsCheck (scaled p c) c result)
+ShowsInput order.Bound input result = OfInstance input result (λ p. ShowsBound p result)
 
 -- what an order shows, by what the source had left and has left now
 abbrev pub Answers : Option Order → Option (List ℕ) → Option (List ℕ) → Shown → Type 0

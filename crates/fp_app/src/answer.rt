@@ -6,6 +6,7 @@ ghost use Rattle.fp_app.specs.Inputs.{limit_of};
 ghost use Rattle.fp_app.specs.Runs.{Answers, Leaves, ShowsInput, TakesOneMore, TakesWithin};
 ghost use Rattle.fp_app.specs.Shown.{IsPrintable};
 
+use crate::bounds::bound_shown;
 use crate::checks::check_shown;
 use crate::directs::direct_shown;
 use crate::failures::Failure;
@@ -64,5 +65,6 @@ fn input_shown(alloc: Global, order: Order, bytes: Vec<u8>) -> Result<Shown, NoM
     match order {
         Order::Direct => direct_shown(alloc, bytes),
         Order::Check => check_shown(alloc, bytes),
+        Order::Bound => bound_shown(alloc, bytes),
     }
 }

@@ -2,6 +2,7 @@
 #![tactic(auto)]
 
 mod answer;
+mod bounds;
 mod certificates;
 mod checks;
 mod directs;

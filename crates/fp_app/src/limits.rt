@@ -15,7 +15,7 @@ pub fn limit_of(order: Order) -> usize
     ensures { result ≡ limit_of (Some order) }
 {
     match order {
-        Order::Direct => INSTANCE_LIMIT,
+        Order::Direct | Order::Bound => INSTANCE_LIMIT,
         Order::Check => CHECK_LIMIT,
     }
 }

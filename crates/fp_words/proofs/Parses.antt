@@ -9,7 +9,7 @@ use Rattle.clap.specs.Walk.{answers_to}
 use Rattle.clap.specs.Simple.{Shape, label_of, rows_at, subcommand_of}
 use Rattle.clap.specs.Faults.{fault_of}
 use Rattle.fp_words.specs.declared.orders.Order.{Order}
-use Rattle.fp_words.specs.declared.orders.Order.TheVariants.{Direct, Check}
+use Rattle.fp_words.specs.declared.orders.Order.TheVariants.{Direct, Check, Bound}
 use Rattle.fp_words.specs.Words.{Form, alone, forms, order_by, order_of, texts}
 use Rattle.fp_words.specs.Commands.{app, bare, entered_order, is_dashes}
 use Rattle.fp_words.proofs.FirstWords.{entry, entry-named, faults, faults-named, faults-none, faults-unnamed, named, rest_faults}
@@ -109,11 +109,11 @@ alone-reads name order plain gives = record {
 
 -- the subcommands as they are built
 abbrev leaves : List Shape
-leaves = leaf (bare (codes "direct")) ∷ leaf (bare (codes "check")) ∷ []
+leaves = leaf (bare (codes "direct")) ∷ leaf (bare (codes "check")) ∷ leaf (bare (codes "bound")) ∷ []
 
 -- each form has its subcommand
 all-read : AllRead forms leaves
-all-read = (alone-reads (codes "direct") Direct refl refl, (alone-reads (codes "check") Check refl refl, tt))
+all-read = (alone-reads (codes "direct") Direct refl refl, (alone-reads (codes "check") Check refl refl, (alone-reads (codes "bound") Bound refl refl, tt)))
 
 -- a test of each word, by its bytes
 list_any-texts : (words : List (String Global)) → list_any (λ word. is_dashes (string_bytes word)) words ≡ list_any is_dashes (texts words)

@@ -4,7 +4,7 @@ use Rattle.std.specs.Str.{bytes_eq}
 use Rattle.std.specs.declared.option.Option.{Option}
 use Rattle.clap.specs.Words.{App, Row, Shape, new_app}
 use Rattle.fp_words.specs.declared.orders.Order.{Order}
-use Rattle.fp_words.specs.declared.orders.Order.TheVariants.{Direct, Check}
+use Rattle.fp_words.specs.declared.orders.Order.TheVariants.{Direct, Check, Bound}
 
 -- the word is `--`
 abbrev pub is_dashes : List ℕ → Bool
@@ -31,11 +31,12 @@ above subcommands = record {
 
 -- the command, with a subcommand for each form
 abbrev pub app : App
-app = above (bare (codes "direct") ∷ bare (codes "check") ∷ [])
+app = above (bare (codes "direct") ∷ bare (codes "check") ∷ bare (codes "bound") ∷ [])
 
 -- what a subcommand orders in which this was found
 abbrev pub entered_order : List ℕ × List Row → Option Order
 entered_order found =
     if bytes_eq found.0 (codes "direct") then Some Direct
     else if bytes_eq found.0 (codes "check") then Some Check
+    else if bytes_eq found.0 (codes "bound") then Some Bound
     else None

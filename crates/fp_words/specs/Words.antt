@@ -4,7 +4,7 @@ use Rattle.std.specs.Str.{bytes_eq}
 use Rattle.std.specs.declared.option.Option.{Option}
 use Rattle.std.specs.declared.alloc.Global.{Global}
 use Rattle.fp_words.specs.declared.orders.Order.{Order}
-use Rattle.fp_words.specs.declared.orders.Order.TheVariants.{Direct, Check}
+use Rattle.fp_words.specs.declared.orders.Order.TheVariants.{Direct, Check, Bound}
 use Rattle.fp_words.specs.declared.orders.WordFault.{WordFault}
 use Rattle.fp_words.specs.declared.orders.WordFault.TheVariants.{BadWords, NoMemory}
 
@@ -28,6 +28,7 @@ abbrev pub forms : List Form
 forms =
     record { name = codes "direct"; order = alone Direct }
     ∷ record { name = codes "check"; order = alone Check }
+    ∷ record { name = codes "bound"; order = alone Bound }
     ∷ []
 
 -- what a first word and the words after it order by the first of these forms that has this name

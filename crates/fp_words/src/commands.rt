@@ -18,7 +18,8 @@ pub fn command<'a>(alloc: Global) -> Result<Command<'a>, NoMemory>
         .disable_version_flag(true)
         .subcommand_required(true)
         .subcommand(Command::new(alloc, "direct"))?
-        .subcommand(Command::new(alloc, "check"))?;
+        .subcommand(Command::new(alloc, "check"))?
+        .subcommand(Command::new(alloc, "bound"))?;
     Ok(command)
 }
 
@@ -31,6 +32,8 @@ pub fn order_in(matches: &ArgMatches) -> Option<Order>
         Some(Order::Direct)
     } else if name == "check" {
         Some(Order::Check)
+    } else if name == "bound" {
+        Some(Order::Bound)
     } else {
         None
     }

@@ -8,6 +8,8 @@ pub enum Order {
     Direct,
     /// Whether a certificate is accepted.
     Check,
+    /// A number under which no plan costs.
+    Bound,
 }
 
 /// Why words give no order.

@@ -20,7 +20,7 @@ fn has_dashes(words: &[String]) -> bool
 /// The order that the words after the program's name give.
 ///
 /// `BadWords` comes exactly where they have none of the forms: a command's name and the words that
-/// it takes, which are none for `direct` and `check`. `NoMemory` only where no memory is
+/// it takes, which are none for `direct`, `check` and `bound`. `NoMemory` only where no memory is
 /// found.
 pub fn read_words(alloc: Global, words: &[String]) -> Result<Order, WordFault>
     ensures { Orders (order_of (texts words.now)) result }

@@ -13,5 +13,7 @@ returns c =
     (app_of-help_flag _ _ _ c.disable_help_flag.ensures
     (app_of-no_binary_name _ _ _ c.no_binary_name.ensures c.new.ensures.app)))) in
     app_of-subcommand _ _ _ _ _ c.in_ok-command.ensures
+    (app_of-subcommand _ _ _ _ _ c.in_ok-subcommand-2.ensures
     (app_of-subcommand _ _ _ _ _ c.in_ok-subcommand.ensures top c.new-2.ensures.app c.new-2.ensures.local)
-    c.new-3.ensures.app c.new-3.ensures.local
+    c.new-3.ensures.app c.new-3.ensures.local)
+    c.new-4.ensures.app c.new-4.ensures.local
