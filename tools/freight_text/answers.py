@@ -10,7 +10,7 @@ STATUSES = {
     40: "there wasn't memory enough; nothing was written",
     41: "the system didn't hand over the words as text; nothing was done",
 }
-LIMITS = {"direct": 16_777_216, "check": 134_217_728}
+LIMITS = {"direct": 16_777_216, "bound": 16_777_216, "check": 134_217_728}
 
 
 def refused_words(records, data, ordinal, code):

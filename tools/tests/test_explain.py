@@ -123,6 +123,7 @@ class Explanations(unittest.TestCase):
 
     def test_other_ends(self):
         self.holds(said("direct", 22, b"", "refused,long"), "more than 16,777,216 bytes")
+        self.holds(said("bound", 22, b"", "refused,long"), "more than 16,777,216 bytes")
         self.holds(said("direct", 0, b"", "answer,direct,0"), "no shipments")
         for status in (30, 31, 40, 41):
             self.assertTrue(said("direct", status, b"", ""))

@@ -1,3 +1,6 @@
 pub mod OneTable
 pub mod Verdicts
+pub mod PlainValues
+pub mod RootValues
 pub mod StatusCauses
+pub mod InputStatuses

@@ -7,7 +7,7 @@ use Rattle.fp_lines.specs.Statements.{Statement}
 use Rattle.fp_certificate.specs.Reading.{certificate_of}
 use Rattle.fp_app.specs.declared.checks.CheckInput.{CheckInput}
 use Rattle.fp_app.specs.declared.checks.CheckInput.TheVariants.{Fault, Both}
-use Rattle.fp_app.specs.declared.words.Order.TheVariants.{Check}
+use Rattle.fp_words.specs.declared.orders.Order.TheVariants.{Check}
 use Rattle.fp_app.specs.Inputs.{certificate_in, fault_in, leading_instance_in}
 
 -- it is the instance and the certificate of the input, or the first fault

@@ -7,17 +7,20 @@ use Rattle.fp_reader.specs.Input.{input_of, instance_records}
 use Rattle.fp_fields.specs.Faults.{Fault}
 use Rattle.fp_certificate.specs.Reading.{certificate_of}
 use Rattle.fp_lines.specs.Statements.{Statement}
-use Rattle.fp_app.specs.declared.limits.TheConstants.{CHECK_LIMIT, DIRECT_LIMIT}
-use Rattle.fp_app.specs.declared.words.Order.{Order}
-use Rattle.fp_app.specs.declared.words.Order.TheVariants as order
+use Rattle.fp_app.specs.declared.limits.TheConstants.{CHECK_LIMIT, INSTANCE_LIMIT}
+use Rattle.fp_words.specs.declared.orders.Order.{Order}
+use Rattle.fp_words.specs.declared.orders.Order.TheVariants as order
+use Rattle.fp_app.specs.declared.instances.InstanceInput.{InstanceInput}
+use Rattle.fp_app.specs.declared.instances.InstanceInput.TheVariants as given
 use Rattle.fp_app.specs.declared.shown.Shown.{Shown}
 use Rattle.fp_app.specs.declared.shown.Shown.TheVariants as shown
 
 -- the most bytes of an input to an order
 abbrev pub limit_of : Option Order → ℕ
 limit_of None = 0
-limit_of (Some order.Direct) = DIRECT_LIMIT
+limit_of (Some order.Direct) = INSTANCE_LIMIT
 limit_of (Some order.Check) = CHECK_LIMIT
+limit_of (Some order.Bound) = INSTANCE_LIMIT
 
 -- what an input alone gives: the instance of its records, or their first fault
 abbrev pub instance_in : List ℕ → Result Problem Fault
@@ -36,6 +39,11 @@ leading_count input = length (instance_records Certificate (records_of input))
 -- fault
 abbrev pub certificate_in : Problem → List ℕ → Result Statement Fault
 certificate_in p input = certificate_of p (leading_count input + 1) (drop (leading_count input) (records_of input))
+
+-- it is the instance of an input alone, or the first fault
+abbrev pub IsInstanceInput : List ℕ → InstanceInput → Type 0
+IsInstanceInput input (given.Read p) = instance_in input ≡ Ok p
+IsInstanceInput input (given.Fault ordinal code) = instance_in input ≡ Err (record { ordinal = ordinal; code = code })
 
 -- the instance of the input's records, or their first fault
 abbrev pub OfInstance : List ℕ → Shown → (Problem → Type 0) → Type 0
@@ -64,3 +72,4 @@ abbrev pub fault_in : Option Order → List ℕ → Option Fault
 fault_in None input = None
 fault_in (Some order.Direct) input = fault_of (instance_in input)
 fault_in (Some order.Check) input = input_fault input (leading_instance_in input)
+fault_in (Some order.Bound) input = fault_of (instance_in input)

@@ -9,15 +9,15 @@ use Rattle.fp_model.specs.Plans.{IsPlan, PlanExists}
 use Rattle.fp_model.specs.Problem.{Problem}
 use Rattle.fp_flatnet.specs.Directs.{IsDirectPlan}
 use Rattle.fp_flatnet.specs.Verdicts.{IsBlocked}
-use Rattle.fp_app.specs.declared.words.Order.{Order}
-use Rattle.fp_app.specs.declared.words.Order.TheVariants as order
+use Rattle.fp_words.specs.declared.orders.Order.{Order}
+use Rattle.fp_words.specs.declared.orders.Order.TheVariants as order
 use Rattle.fp_app.specs.declared.shown.Shown.{Shown}
 use Rattle.fp_app.specs.declared.shown.Shown.TheVariants as shown
 use Rattle.fp_app.specs.declared.shown.Status.{Status}
 use Rattle.fp_app.specs.declared.shown.Status.TheVariants as status
+use Rattle.fp_app.specs.Bounds.{IsRootBound}
 use Rattle.fp_app.specs.Checks.{ShowsCheck, scaled}
-use Rattle.fp_app.specs.Inputs.{OfCertificate, OfInstance}
-use Rattle.fp_app.specs.declared.limits.TheConstants.{CHECK_LIMIT, DIRECT_LIMIT}
+use Rattle.fp_app.specs.Inputs.{OfCertificate, OfInstance, limit_of}
 use Rattle.fp_app.specs.Shown.{status_of}
 use Rattle.fp_app.specs.Texts.{IsText}
 
@@ -29,6 +29,13 @@ abbrev pub ShowsDirect : Problem → Shown → Type 0
 ShowsDirect p (shown.Direct instance plan) = (instance ≡ p) × IsPlan p 1 plan × IsDirectPlan p plan
 ShowsDirect p (shown.Infeasible instance shipment time) = (instance ≡ p) × IsBlocked p shipment time × (PlanExists p → ⊥)
 ShowsDirect p _ = ⊥
+
+-- `bound`: where a plan exists, a number under which none costs, and otherwise the first shipment
+-- that can't be carried in time, with its fastest time.
+abbrev pub ShowsBound : Problem → Shown → Type 0
+ShowsBound p (shown.Bound instance price tables value) = (instance ≡ p) × PlanExists p × IsRootBound p price tables.items value
+ShowsBound p (shown.Infeasible instance shipment time) = (instance ≡ p) × IsBlocked p shipment time × (PlanExists p → ⊥)
+ShowsBound p _ = ⊥
 
 -- The whole input was read and P holds of it, or more than the limit came.
 abbrev pub OfInput : ℕ → Option (List ℕ) → Option (List ℕ) → Shown → (List ℕ → Type 0) → Type 0
@@ -50,13 +57,16 @@ TakesWithin limit old new = (taken : List ℕ) × Consumes old new taken × (len
 abbrev pub TakesOneMore : ℕ → Option (List ℕ) → Option (List ℕ) → Type 0
 TakesOneMore limit old new = (taken : List ℕ) × Consumes old new taken × (length taken ≡ limit + 1)
 
--- What an order shows, by what the source had left and has left now. One line for each command.
+-- What an order shows for the whole input. One line for each command.
+abbrev pub ShowsInput : Order → List ℕ → Shown → Type 0
+ShowsInput order.Direct input result = OfInstance input result (λ p. ShowsDirect p result)
+ShowsInput order.Check input result = OfCertificate input result (λ p c. ShowsCheck (scaled p c) c result)
+ShowsInput order.Bound input result = OfInstance input result (λ p. ShowsBound p result)
+
+-- what an order shows, by what the source had left and has left now
 abbrev pub Answers : Option Order → Option (List ℕ) → Option (List ℕ) → Shown → Type 0
 Answers None old new result = result ≡ shown.BadWords
-Answers (Some order.Direct) old new result =
-    OfInput DIRECT_LIMIT old new result (λ input. OfInstance input result (λ p. ShowsDirect p result))
-Answers (Some order.Check) old new result =
-    OfInput CHECK_LIMIT old new result (λ input. OfCertificate input result (λ p c. ShowsCheck (scaled p c) c result))
+Answers (Some order) old new result = OfInput (limit_of (Some order)) old new result (λ input. ShowsInput order input result)
 
 -- Words of no form leave the source alone.
 abbrev pub Leaves : {S : Type 0} → Option Order → S → S → Type 0

@@ -9,6 +9,7 @@ use Rattle.fp_app.specs.declared.shown.Status.TheVariants as status
 -- the status of a run that showed this to its end
 abbrev pub status_of : Shown → Status
 status_of (shown.Direct instance plan) = status.Done
+status_of (shown.Bound instance price tables value) = status.Done
 status_of (shown.Infeasible instance shipment time) = status.Infeasible
 status_of (shown.Accepted kind) = status.Done
 status_of (shown.RejectedPart number) = status.Rejected

@@ -12,6 +12,7 @@ use Rattle.fp_lines.specs.declared.certificates.Answer.{Answer}
 use Rattle.fp_lines.specs.declared.certificates.Answer.TheVariants as answer
 use Rattle.fp_lines.specs.Rows.{rows_of}
 use Rattle.fp_lines.specs.Statements.{Statement}
+use Rattle.fp_app.specs.Bounds.{whole_units}
 use Rattle.fp_app.specs.declared.shown.AnswerKind.{AnswerKind}
 use Rattle.fp_app.specs.declared.shown.AnswerKind.TheVariants as kind
 use Rattle.fp_app.specs.declared.shown.Shown.{Shown}
@@ -38,10 +39,15 @@ kind_word kind.Optimal = codes "optimal"
 kind_word kind.Unfinished = codes "unfinished"
 kind_word kind.Infeasible = codes "infeasible"
 
+-- the lines of a bound
+abbrev pub bound_lines : ℕ → List ℕ
+bound_lines number = lines_of ((codes "answer" ∷ codes "bound" ∷ decimal number ∷ []) ∷ (codes "end" ∷ []) ∷ [])
+
 -- it is the text of what is shown
 abbrev pub IsText : Shown → List ℕ → Type 0
 IsText (shown.Direct p routes) text =
     (c : Statement) × IsDirectCertificate p routes c × (text ≡ certificate_text p c)
+IsText (shown.Bound p price tables value) text = text ≡ bound_lines (whole_units p value)
 IsText (shown.Infeasible p shipment time) text = text ≡ certificate_text p (timetable_of (answer.Infeasible shipment time) [] [])
 IsText (shown.Accepted kind) text = text ≡ line_of (codes "accepted" ∷ kind_word kind ∷ [])
 IsText (shown.RejectedPart number) text = text ≡ line_of (codes "rejected" ∷ decimal number ∷ [])

@@ -1,18 +1,18 @@
 //! The answer to an order, from the source's bytes.
-ghost use Rattle.std.specs.Prelude.{◌≡◌, ◌+◌, ◌≤◌, IfOk, Some, IsErrOf, Ok};
+ghost use Rattle.std.specs.Prelude.{◌≡◌, ◌+◌, ◌≤◌, IfOk, Some, IsErrOf, Ok, length};
 ghost use Rattle.fp_ends.specs.Causes.{Rose};
+ghost use Rattle.fp_words.specs.Words.{order_of, texts};
 ghost use Rattle.fp_app.specs.Inputs.{limit_of};
-ghost use Rattle.fp_app.specs.declared.limits.TheConstants.{CHECK_LIMIT, DIRECT_LIMIT};
-ghost use Rattle.fp_app.specs.Runs.{Answers, Leaves, TakesOneMore, TakesWithin};
+ghost use Rattle.fp_app.specs.Runs.{Answers, Leaves, ShowsInput, TakesOneMore, TakesWithin};
 ghost use Rattle.fp_app.specs.Shown.{IsPrintable};
-ghost use Rattle.fp_app.specs.Words.{order_of, texts};
 
+use crate::bounds::bound_shown;
 use crate::checks::check_shown;
 use crate::directs::direct_shown;
 use crate::failures::Failure;
 use crate::inputs::take_input;
-use crate::limits::{CHECK_LIMIT, DIRECT_LIMIT};
-use crate::{Order, Shown, WordFault, read_words};
+use crate::limits::limit_of;
+use crate::{NoMemory, Order, Shown, WordFault, read_words};
 use fp_ends::Source;
 use std::alloc::Global;
 
@@ -31,47 +31,40 @@ pub fn answer<S: Source>(alloc: Global, words: &[String], source: &mut S) -> Res
     ensures leaves { Leaves (order_of (texts words.now)) source.old source.new }
 {
     match read_words(alloc, words) {
-        Ok(Order::Direct) => answer_direct(alloc, source),
-        Ok(Order::Check) => answer_check(alloc, source),
+        Ok(order) => answer_order(alloc, order, source),
         Err(WordFault::BadWords) => Ok(Shown::BadWords),
         Err(WordFault::NoMemory) => Err(Failure::NoMemory),
     }
 }
 
-// What `direct` shows.
-fn answer_direct<S: Source>(alloc: Global, source: &mut S) -> Result<Shown, Failure>
-    ensures shown { IfOk result (Answers (Some Order.Direct) (S.left source.old) (S.left source.new)) }
+// What an order and the source's bytes show.
+fn answer_order<S: Source>(alloc: Global, order: Order, source: &mut S) -> Result<Shown, Failure>
+    ensures shown { IfOk result (Answers (Some order) (S.left source.old) (S.left source.new)) }
     ensures printable { IfOk result IsPrintable }
     ensures later { S.faults source.old ≤ S.faults source.new }
-    ensures within { TakesWithin (DIRECT_LIMIT + 1) (S.left source.old) (S.left source.new) }
+    ensures within { TakesWithin (limit_of (Some order) + 1) (S.left source.old) (S.left source.new) }
     ensures fault { IsErrOf result Failure.ReadFault
         → Rose (S.faults source.old) (S.faults source.new) }
     ensures fault_within { IsErrOf result Failure.ReadFault
-        → TakesWithin DIRECT_LIMIT (S.left source.old) (S.left source.new) }
+        → TakesWithin (limit_of (Some order)) (S.left source.old) (S.left source.new) }
     ensures long_within { result ≡ Ok Shown.TooLong
-        → TakesOneMore DIRECT_LIMIT (S.left source.old) (S.left source.new) }
+        → TakesOneMore (limit_of (Some order)) (S.left source.old) (S.left source.new) }
 {
-    match take_input(alloc, source, DIRECT_LIMIT)? {
-        Some(bytes) => Ok(direct_shown(alloc, &bytes)?),
+    match take_input(alloc, source, limit_of(order))? {
+        Some(bytes) => Ok(input_shown(alloc, order, bytes)?),
         None => Ok(Shown::TooLong),
     }
 }
 
-// What `check` shows.
-fn answer_check<S: Source>(alloc: Global, source: &mut S) -> Result<Shown, Failure>
-    ensures shown { IfOk result (Answers (Some Order.Check) (S.left source.old) (S.left source.new)) }
+// What an order shows for the bytes of an input.
+fn input_shown(alloc: Global, order: Order, bytes: Vec<u8>) -> Result<Shown, NoMemory>
+    requires { length bytes.items ≤ limit_of (Some order) }
+    ensures shown { IfOk result (ShowsInput order bytes.items) }
     ensures printable { IfOk result IsPrintable }
-    ensures later { S.faults source.old ≤ S.faults source.new }
-    ensures within { TakesWithin (CHECK_LIMIT + 1) (S.left source.old) (S.left source.new) }
-    ensures fault { IsErrOf result Failure.ReadFault
-        → Rose (S.faults source.old) (S.faults source.new) }
-    ensures fault_within { IsErrOf result Failure.ReadFault
-        → TakesWithin CHECK_LIMIT (S.left source.old) (S.left source.new) }
-    ensures long_within { result ≡ Ok Shown.TooLong
-        → TakesOneMore CHECK_LIMIT (S.left source.old) (S.left source.new) }
 {
-    match take_input(alloc, source, CHECK_LIMIT)? {
-        Some(bytes) => Ok(check_shown(alloc, bytes)?),
-        None => Ok(Shown::TooLong),
+    match order {
+        Order::Direct => direct_shown(alloc, bytes),
+        Order::Check => check_shown(alloc, bytes),
+        Order::Bound => bound_shown(alloc, bytes),
     }
 }

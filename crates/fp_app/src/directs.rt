@@ -1,28 +1,25 @@
 //! What `direct` shows.
 ghost use Rattle.std.specs.Prelude.{◌≤◌, length, IfOk};
 ghost use Rattle.fp_app.specs.Inputs.{OfInstance};
-ghost use Rattle.fp_app.specs.declared.limits.TheConstants.{DIRECT_LIMIT};
+ghost use Rattle.fp_app.specs.declared.limits.TheConstants.{INSTANCE_LIMIT};
 ghost use Rattle.fp_app.specs.Runs.{ShowsDirect};
 ghost use Rattle.fp_app.specs.Shown.{IsPrintable};
 
+use crate::instances::{InstanceInput, read_instance};
 use crate::{NoMemory, Shown};
 use fp_flatnet::{Verdict, direct, feasible};
 use fp_model::Instance;
-use fp_reader::{InputFault, Tail, instance};
-use fp_records::records;
-use std::alloc::{AllocError, Global};
+use std::alloc::Global;
 
 /// What `direct` shows for the bytes of an input.
-pub fn direct_shown(alloc: Global, bytes: &[u8]) -> Result<Shown, NoMemory>
-    requires { length bytes.now ≤ DIRECT_LIMIT }
-    ensures shown { IfOk result (λ shown. OfInstance bytes.now shown (λ p. ShowsDirect p shown)) }
+pub fn direct_shown(alloc: Global, bytes: Vec<u8>) -> Result<Shown, NoMemory>
+    requires { length bytes.items ≤ INSTANCE_LIMIT }
+    ensures shown { IfOk result (λ shown. OfInstance bytes.items shown (λ p. ShowsDirect p shown)) }
     ensures printable { IfOk result IsPrintable }
 {
-    let lines = records(alloc, bytes)?;
-    match instance(alloc, &lines, Tail::Alone) {
-        Ok(read) => plan_directly(alloc, read.instance),
-        Err(InputFault::Bad { ordinal, code }) => Ok(Shown::BadInput { ordinal, code }),
-        Err(InputFault::NoMemory) => Err(AllocError),
+    match read_instance(alloc, bytes)? {
+        InstanceInput::Read { instance } => plan_directly(alloc, instance),
+        InstanceInput::Fault { ordinal, code } => Ok(Shown::BadInput { ordinal, code }),
     }
 }
 

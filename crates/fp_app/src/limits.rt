@@ -1,7 +1,21 @@
 //! The limits of the inputs.
+ghost use Rattle.std.specs.Prelude.{◌≡◌, Some};
+ghost use Rattle.fp_app.specs.Inputs.{limit_of};
 
-/// The most bytes of an input to `direct`.
-pub const DIRECT_LIMIT: usize = 16_777_216;
+use crate::Order;
 
-/// The most bytes of an input to `check`.
+/// The most bytes of an input that is an instance alone.
+pub const INSTANCE_LIMIT: usize = 16_777_216;
+
+/// The most bytes of an input in which a certificate follows the instance.
 pub const CHECK_LIMIT: usize = 134_217_728;
+
+/// The most bytes of an input to an order.
+pub fn limit_of(order: Order) -> usize
+    ensures { result ≡ limit_of (Some order) }
+{
+    match order {
+        Order::Direct | Order::Bound => INSTANCE_LIMIT,
+        Order::Check => CHECK_LIMIT,
+    }
+}

@@ -5,6 +5,7 @@ ghost use Rattle.fp_app.specs.Shown.{status_of, status_code};
 
 use fp_certificate::Answer;
 use fp_model::{Instance, Plan};
+use fp_prices::{LeafPrice, Table};
 
 /// How a run ended.
 #[derive(Clone, Copy, Debug, PartialEq, Eq)]
@@ -102,6 +103,15 @@ pub enum Shown {
         instance: Instance,
         plan: Plan,
     },
+    /// What a plan of an instance costs at least: the value of the leaf without sides at round 0
+    /// under the price and the tables, in parts of a unit of money, of which the instance's scale
+    /// makes one. It's printed in whole units, rounded up.
+    Bound {
+        instance: Instance,
+        price: LeafPrice,
+        tables: Vec<Table>,
+        value: u128,
+    },
     /// The first shipment that can't be carried in time, by its number, and its fastest time in
     /// the input's unit, `None` where it has no route.
     Infeasible {
@@ -140,6 +150,7 @@ impl Shown {
     {
         match self {
             Shown::Direct { .. } => Status::Done,
+            Shown::Bound { .. } => Status::Done,
             Shown::Infeasible { .. } => Status::Infeasible,
             Shown::Accepted { .. } => Status::Done,
             Shown::RejectedPart { .. } => Status::Rejected,

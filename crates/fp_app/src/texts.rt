@@ -2,7 +2,7 @@
 ghost use Rattle.std.specs.Prelude.{◌≡◌, ◌∷◌, [], codes, decimal, IfOk};
 ghost use Rattle.fp_records.specs.Text.{line_of};
 ghost use Rattle.fp_app.specs.Shown.{IsPrintable};
-ghost use Rattle.fp_app.specs.Texts.{IsText, kind_word};
+ghost use Rattle.fp_app.specs.Texts.{IsText, bound_lines, kind_word};
 
 use crate::certificates::{direct_certificate, infeasible_certificate};
 use crate::{AnswerKind, NoMemory, Shown};
@@ -51,6 +51,20 @@ fn fault_text(alloc: Global, ordinal: u32, code: u32) -> Result<Vec<u8>, NoMemor
     Ok(line.into_bytes())
 }
 
+// `answer`, `bound` and a number; `end`.
+fn bound_text(alloc: Global, number: u128) -> Result<Vec<u8>, NoMemory>
+    ensures { IfOk result (λ text. text.items ≡ bound_lines number) }
+{
+    let mut line = Line::new(alloc)?;
+    line.word(b"answer")?;
+    line.word(b"bound")?;
+    line.number(number)?;
+    line.end()?;
+    line.word(b"end")?;
+    line.end()?;
+    Ok(line.into_bytes())
+}
+
 /// The text of what is shown: fields joined by commas, lines ended by line feeds. What is shown as
 /// a certificate is written as one.
 ///
@@ -64,6 +78,11 @@ pub fn text(alloc: Global, shown: &Shown) -> Result<Vec<u8>, NoMemory>
         Shown::Direct { instance, plan } => {
             write(alloc, instance, &direct_certificate(alloc, instance, plan)?)
         }
+        Shown::Bound {
+            instance,
+            value,
+            ..
+        } => bound_text(alloc, value.div_ceil(u128::from(instance.scale()))),
         Shown::Infeasible {
             instance,
             shipment,

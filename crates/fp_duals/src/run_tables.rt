@@ -64,6 +64,13 @@ impl Tables {
         &self.list
     }
 
+    /// The tables, handed out. Takes no memory.
+    pub fn into_list(self) -> Vec<Table>
+        ensures { result.items ≡ self }
+    {
+        self.list
+    }
+
     /// Keeps exactly the first `count` tables, of which there are at least so many. Takes no
     /// memory.
     pub fn cut(&mut self, count: u32)

@@ -1,4 +1,4 @@
-//! What `direct` prints, and words that are none of the forms.
+//! What `direct` prints.
 
 use crate::runs::run_on;
 use fp_examples::{LINE, ONE_ARC, PAIR};
@@ -9,7 +9,7 @@ type Row = (&'static str, &'static str, u8, &'static str);
 
 const ONE_ARC_DIRECT: &str = "answer,direct,104\nleg,S1,A,B,0,5\ntruck,A,B,0,1,4\nend\n";
 
-const ROWS: [Row; 18] = [
+const ROWS: [Row; 14] = [
     ("direct", ONE_ARC, 0, ONE_ARC_DIRECT),
     (
         "direct",
@@ -90,10 +90,6 @@ const ROWS: [Row; 18] = [
         0,
         "answer,direct,0\nend\n",
     ),
-    ("", ONE_ARC, 20, "refused,words\n"),
-    ("fly", ONE_ARC, 20, "refused,words\n"),
-    ("direct now", ONE_ARC, 20, "refused,words\n"),
-    ("check now", ONE_ARC, 20, "refused,words\n"),
 ];
 
 #[test]

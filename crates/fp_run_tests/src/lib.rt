@@ -2,6 +2,8 @@
 #![tactic(auto)]
 
 #[cfg(test)]
+mod bounds;
+#[cfg(test)]
 mod certificate_faults;
 #[cfg(test)]
 mod certificates;
@@ -15,3 +17,5 @@ mod input_faults;
 mod runs;
 #[cfg(test)]
 mod sizes;
+#[cfg(test)]
+mod words;

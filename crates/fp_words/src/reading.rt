@@ -1,0 +1,44 @@
+//! The order that words give.
+ghost use Rattle.std.specs.Prelude.{◌≡◌, string_bytes};
+ghost use Rattle.std.specs.List.{list_any};
+ghost use Rattle.fp_words.specs.Commands.{is_dashes};
+ghost use Rattle.fp_words.specs.Words.{Orders, order_of, texts};
+
+use crate::commands::{command, order_in};
+use crate::{Order, WordFault};
+use clap::error::ErrorKind;
+use std::alloc::Global;
+
+// Whether a word is `--`. To clap that is a mark and no word, so that it would take `direct --` for
+// `direct`.
+fn has_dashes(words: &[String]) -> bool
+    ensures { result ≡ list_any (λ word. is_dashes (string_bytes word)) words.now }
+{
+    words.iter().any(|word| word.as_str() == "--")
+}
+
+/// The order that the words after the program's name give.
+///
+/// `BadWords` comes exactly where they have none of the forms: a command's name and the words that
+/// it takes, which are none for `direct`, `check` and `bound`. `NoMemory` only where no memory is
+/// found.
+pub fn read_words(alloc: Global, words: &[String]) -> Result<Order, WordFault>
+    ensures { Orders (order_of (texts words.now)) result }
+{
+    if has_dashes(words) {
+        return Err(WordFault::BadWords);
+    }
+    let Ok(command) = command(alloc) else {
+        return Err(WordFault::NoMemory);
+    };
+    match command.try_get_matches_from(words) {
+        Ok(matches) => match order_in(&matches) {
+            Some(order) => Ok(order),
+            None => Err(WordFault::BadWords),
+        },
+        Err(error) => match error.kind() {
+            ErrorKind::OutOfMemory => Err(WordFault::NoMemory),
+            _ => Err(WordFault::BadWords),
+        },
+    }
+}
