@@ -26,7 +26,8 @@ CRATES = [
     "fp_reader: fp_lists fp_model fp_records fp_fields thiserror",
     "fp_flatnet: fp_lists fp_model fp_labels fp_timenodes",
     "fp_timetable: fp_lists fp_model",
-    "fp_localsearch: fp_lists fp_model fp_timenodes fp_flatnet fp_timetable",
+    "fp_consolidation: fp_lists fp_model fp_timenodes fp_flatnet",
+    "fp_localsearch: fp_lists fp_model fp_timenodes fp_flatnet fp_timetable fp_consolidation",
 ]
 
 USES = ["fp_ends", "fp_model", "fp_records", "fp_reader", "fp_flatnet", "fp_timetable", "fp_localsearch", "anyhow"]

@@ -15,12 +15,7 @@ use fp_timetable::cost;
 use std::alloc::Global;
 
 // The window of a shipment and an arc, and none where there is no such shipment or arc.
-pub(crate) fn window_of(
-    instance: &Instance,
-    windows: &Windows,
-    shipment: u32,
-    arc: u32,
-) -> Option<(u32, u32)>
+fn window_of(instance: &Instance, windows: &Windows, shipment: u32, arc: u32) -> Option<(u32, u32)>
     requires { BelongsTo instance.now windows.now }
     ensures { result ≡ option_map (λ w. (w.lo, w.hi)) (windows_in windows.now shipment arc) }
 {

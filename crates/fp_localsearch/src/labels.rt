@@ -1,17 +1,10 @@
 //! The labels of a search for a path: where a shipment can be, when, and at what added cost.
 
 use crate::NoMemory;
+use fp_consolidation::PathLeg;
 use std::alloc::Global;
 use std::cmp::Reverse;
 use std::collections::BinaryHeap;
-
-// A leg of a path: the place of a usable arc, and the group that it joins, or `None` for a group of
-// its own.
-#[derive(Clone, Copy)]
-pub(crate) struct PathLeg {
-    pub usable: usize,
-    pub group: Option<usize>,
-}
 
 // That a shipment can leave a terminal at a time, after the leg by which it came and the label
 // before it, having met the terminals of the bits of `met`.

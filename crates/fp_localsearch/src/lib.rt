@@ -10,18 +10,11 @@
 
 mod acceptance;
 mod draws;
-mod groups;
 mod labels;
 mod paths;
 mod removal;
-mod saved_times;
 mod searches;
-mod solutions;
-mod start;
-mod time_changes;
-mod times;
 mod turns;
-mod usable_arcs;
 
 pub use searches::{Search, local_search};
 

@@ -1,9 +1,8 @@
 //! The path of least added cost for a shipment beside the groups of the others.
 
 use crate::NoMemory;
-use crate::groups::Group;
-use crate::labels::{Label, Labels, PathLeg};
-use crate::usable_arcs::{PARTS, UsableArc, UsableArcs};
+use crate::labels::{Label, Labels};
+use fp_consolidation::{Group, PARTS, PathLeg, UsableArc, UsableArcs};
 use fp_model::{Instance, Shipment};
 use std::alloc::Global;
 

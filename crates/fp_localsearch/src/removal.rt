@@ -2,8 +2,7 @@
 
 use crate::NoMemory;
 use crate::draws::Draws;
-use crate::groups::GroupedLeg;
-use crate::solutions::size_of;
+use fp_consolidation::{GroupedLeg, size_of};
 use fp_model::Instance;
 use std::alloc::Global;
 use std::cmp::Reverse;

@@ -9,11 +9,8 @@ ghost use Rattle.fp_flatnet.specs.Windows.{PlanLiesWithin};
 
 use crate::NoMemory;
 use crate::acceptance::is_no_dearer;
-use crate::groups::{Group, GroupedLeg};
-use crate::solutions::Solution;
-use crate::start::solution_of;
 use crate::turns::Turns;
-use crate::usable_arcs::all_usable_arcs;
+use fp_consolidation::{Group, GroupedLeg, Solution, all_usable_arcs, solution_of};
 use fp_flatnet::Windows;
 use fp_model::{Instance, Leg, Plan};
 use std::alloc::Global;

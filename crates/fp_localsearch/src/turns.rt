@@ -2,13 +2,11 @@
 
 use crate::NoMemory;
 use crate::draws::Draws;
-use crate::groups::GroupedLeg;
 use crate::paths::Paths;
 use crate::removal::Removal;
-use crate::saved_times::SavedTimes;
-use crate::solutions::{Solution, empty_routes};
-use crate::time_changes::TimeChanges;
-use crate::usable_arcs::{PARTS, UsableArcs};
+use fp_consolidation::{
+    GroupedLeg, PARTS, SavedTimes, Solution, TimeChanges, UsableArcs, empty_routes,
+};
 use fp_model::Instance;
 use std::alloc::Global;
 

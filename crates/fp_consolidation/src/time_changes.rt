@@ -2,7 +2,8 @@
 //!
 //! The least time of a group is the length of a longest path that ends there, so after a removal
 //! the groups are looked at in the order of the times that they had (as I. Katriel and P. Van
-//! Hentenryck, "Maintaining Longest Paths in Cyclic Graphs", 2005), and those alone that can change.
+//! Hentenryck, "Maintaining Longest Paths in Cyclic Graphs", 2005), and those alone that can
+//! change.
 
 use crate::NoMemory;
 use crate::groups::{Group, GroupedLeg};
@@ -11,12 +12,13 @@ use std::alloc::Global;
 use std::cmp::Reverse;
 use std::collections::BinaryHeap;
 
-// The groups that are still to be looked at: after a removal with their old times, the least or the
-// greatest first; else in any order.
+/// The groups whose times may change since shipments were taken out or put in.
 #[derive(Drop)]
-pub(crate) struct TimeChanges {
+pub struct TimeChanges {
+    // After a removal the groups with their old times, the least or the greatest first.
     soonest: BinaryHeap<Reverse<(u32, usize)>>,
     latest: BinaryHeap<(u32, usize)>,
+    // After a shipment was put in, in any order.
     waiting: Vec<usize>,
 }
 
@@ -75,8 +77,8 @@ fn greatest_time(solution: &Solution, places: &[Place]) -> u32 {
 }
 
 impl TimeChanges {
-    // Nothing to look at.
-    pub(crate) fn new(alloc: Global) -> TimeChanges {
+    /// Nothing to look at. It takes no memory.
+    pub fn new(alloc: Global) -> TimeChanges {
         TimeChanges {
             soonest: BinaryHeap::new(alloc),
             latest: BinaryHeap::new(alloc),
@@ -84,16 +86,18 @@ impl TimeChanges {
         }
     }
 
-    // Notes that a leg has left a group.
-    pub(crate) fn note_left(&mut self, groups: &[Group], group: usize) -> Result<(), NoMemory> {
+    /// Notes that a leg has left a group, before any times are widened. `NoMemory` only where no
+    /// memory is found.
+    pub fn note_left(&mut self, groups: &[Group], group: usize) -> Result<(), NoMemory> {
         self.soonest
             .push(Reverse((early_of(groups, group), group)))?;
         self.latest.push((late_of(groups, group), group))?;
         Ok(())
     }
 
-    // Widens the times of the groups after the legs that have left.
-    pub(crate) fn widen(&mut self, solution: &mut Solution) -> Result<(), NoMemory> {
+    /// Widens the times of the groups as the legs let them that were noted to have left. `NoMemory`
+    /// only where no memory is found.
+    pub fn widen(&mut self, solution: &mut Solution) -> Result<(), NoMemory> {
         self.widen_least(solution)?;
         self.widen_greatest(solution)
     }
@@ -154,12 +158,10 @@ impl TimeChanges {
         Ok(())
     }
 
-    // Narrows the times of the groups after a shipment was put in. Answers whether there are any.
-    pub(crate) fn narrow(
-        &mut self,
-        solution: &mut Solution,
-        shipment: usize,
-    ) -> Result<bool, NoMemory> {
+    /// Narrows the times of the groups after a shipment was put in. Answers whether there are any:
+    /// else some are narrowed, and those of before have to be loaded. `NoMemory` only where no
+    /// memory is found.
+    pub fn narrow(&mut self, solution: &mut Solution, shipment: usize) -> Result<bool, NoMemory> {
         self.wait_for(solution, shipment)?;
         if !self.raise_waiting(solution)? {
             return Ok(false);

@@ -1,4 +1,4 @@
-//! The state that a plan is: legs that leave at one time by one arc are a group.
+//! The solution that a plan is: legs that leave at one time by one arc are a group.
 
 use crate::NoMemory;
 use crate::groups::GroupedLeg;
@@ -8,8 +8,12 @@ use fp_model::{Instance, Leg, Plan};
 use std::alloc::Global;
 use std::collections::BTreeMap;
 
-// The state of a plan.
-pub(crate) fn solution_of(
+/// The solution of a plan, where `usable` has for each shipment the arcs that it can use: the plan's
+/// routes, with the legs that leave at one time by one arc in a group. A leg by another arc is left
+/// out. The groups have the times of their windows until [`Solution::set_times`].
+///
+/// `NoMemory` only where no memory is found.
+pub fn solution_of(
     alloc: Global,
     instance: &Instance,
     usable: &[UsableArcs],

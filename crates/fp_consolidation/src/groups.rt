@@ -2,27 +2,34 @@
 
 use crate::usable_arcs::trucks_for;
 
-// Legs by one arc that leave together, with how many they are, their load, the room that is left in
-// their trucks, and the least and the greatest time at which they can leave. A group of no legs
-// stands free to be used again.
+/// Legs by one arc that leave together. A group of no legs stands free to be used again.
 #[derive(Clone, Copy)]
-pub(crate) struct Group {
+pub struct Group {
+    /// The number of the arc.
     pub arc: u32,
+    /// How many legs there are.
     pub count: u32,
-    pub load: u64,
-    pub room: u64,
+    /// The sizes of their shipments together.
+    load: u64,
+    /// What their trucks can hold beside the load.
+    room: u64,
+    /// The least time at which they can leave, in the input's unit of time.
     pub early: u32,
+    /// The greatest time at which they can leave.
     pub late: u32,
 }
 
-// A leg of a shipment, with the number of its group, its window and its arc's step.
+/// A leg of a shipment, with its window, from `lo` to `hi`, and its arc's step, in the input's unit
+/// of time.
 #[derive(Clone, Copy)]
-pub(crate) struct GroupedLeg {
+pub struct GroupedLeg {
+    /// The number of the arc.
     pub arc: u32,
+    /// The number of the group in which it leaves.
     pub group: usize,
-    pub lo: u32,
-    pub hi: u32,
-    pub step: u32,
+    pub(crate) lo: u32,
+    pub(crate) hi: u32,
+    pub(crate) step: u32,
 }
 
 impl Group {
@@ -38,8 +45,8 @@ impl Group {
         }
     }
 
-    // How many trucks more it takes to carry a size too.
-    pub(crate) fn more_trucks(&self, size: u64, capacity: u64) -> u64 {
+    /// How many trucks more it takes to carry a size too, where a truck holds `capacity`.
+    pub fn more_trucks(&self, size: u64, capacity: u64) -> u64 {
         if size <= self.room {
             return 0;
         }

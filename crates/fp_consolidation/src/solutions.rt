@@ -1,12 +1,20 @@
-//! The state of the search: routes with groups, and what they cost.
+//! Solutions: routes whose legs are in groups, and what they cost.
 
 use crate::NoMemory;
 use crate::groups::{Group, GroupedLeg};
-use crate::labels::PathLeg;
 use crate::times::{lower, raise, reset};
 use crate::usable_arcs::UsableArcs;
 use fp_model::Instance;
 use std::alloc::Global;
+
+/// A leg of a path on which a shipment is put in.
+#[derive(Clone, Copy)]
+pub struct PathLeg {
+    /// The place of the arc in the shipment's usable arcs.
+    pub usable: usize,
+    /// The number of the group that it joins, or `None` for a group of its own.
+    pub group: Option<usize>,
+}
 
 // A leg by the number of its shipment and its place in the shipment's route.
 #[derive(Clone, Copy)]
@@ -15,15 +23,19 @@ pub(crate) struct Place {
     pub leg: usize,
 }
 
-// For each shipment its legs, the groups, for each group the places of its legs, the numbers of the
-// groups of no legs, and the cost.
+/// Routes whose legs are in groups, and what they cost. Shipments may be out: they have no legs.
 #[derive(Drop)]
-pub(crate) struct Solution {
+pub struct Solution {
+    /// For each shipment its legs, by the numbers of the shipments.
     pub routes: Vec<Vec<GroupedLeg>>,
+    /// The groups by their numbers, free ones among them.
     pub groups: Vec<Group>,
-    pub members: Vec<Vec<Place>>,
-    free: Vec<usize>,
+    /// What the trucks of the groups and the flow cost, in the unit of money.
     pub cost: u128,
+    // For each group the places of its legs.
+    pub(crate) members: Vec<Vec<Place>>,
+    // The numbers of the free groups.
+    free: Vec<usize>,
     alloc: Global,
 }
 
@@ -33,9 +45,9 @@ impl Solution {
         Ok(Solution {
             routes: empty_routes(alloc, shipments)?,
             groups: Vec::new(alloc),
+            cost: 0,
             members: Vec::new(alloc),
             free: Vec::new(alloc),
-            cost: 0,
             alloc,
         })
     }
@@ -143,12 +155,9 @@ impl Solution {
         }
     }
 
-    // Takes a shipment out.
-    pub(crate) fn take_out(
-        &mut self,
-        instance: &Instance,
-        shipment: usize,
-    ) -> Result<(), NoMemory> {
+    /// Takes a shipment out: its legs leave their groups. The times of the groups stay. `NoMemory`
+    /// only where no memory is found; then it may be out in part.
+    pub fn take_out(&mut self, instance: &Instance, shipment: usize) -> Result<(), NoMemory> {
         for _ in 0..u32::MAX {
             let Some(route) = self.routes.get_mut(shipment) else {
                 return Ok(());
@@ -161,8 +170,10 @@ impl Solution {
         Ok(())
     }
 
-    // Puts a shipment that is out in along a path.
-    pub(crate) fn put_in(
+    /// Puts a shipment that is out in along a path over the arcs that it can use. The times of the
+    /// groups that it joins narrow to its windows alone. `NoMemory` only where no memory is found;
+    /// then it may be in in part.
+    pub fn put_in(
         &mut self,
         instance: &Instance,
         usable: &UsableArcs,
@@ -188,8 +199,10 @@ impl Solution {
         Ok(())
     }
 
-    // Puts a leg back that was taken out, in its group of before.
-    pub(crate) fn restore(
+    /// Puts a leg that was taken out back at the end of its shipment's route, in its group of
+    /// before. After the last one call [`Solution::list_free`]. `NoMemory` only where no memory is
+    /// found.
+    pub fn restore(
         &mut self,
         instance: &Instance,
         shipment: usize,
@@ -205,8 +218,9 @@ impl Solution {
         self.add(instance, shipment, leg)
     }
 
-    // Lists the groups of no legs anew.
-    pub(crate) fn list_free(&mut self) -> Result<(), NoMemory> {
+    /// Lists the groups of no legs anew as those that are free. `NoMemory` only where no memory is
+    /// found.
+    pub fn list_free(&mut self) -> Result<(), NoMemory> {
         self.free.clear();
         for (number, group) in self.groups.iter().enumerate() {
             if group.count == 0 {
@@ -216,8 +230,8 @@ impl Solution {
         Ok(())
     }
 
-    // Finds the least and the greatest times of all groups, as far as there are any.
-    pub(crate) fn set_times(&mut self) {
+    /// Finds the least and the greatest times of all groups anew, as far as there are any.
+    pub fn set_times(&mut self) {
         reset(&self.routes, &mut self.groups);
         if raise(&self.routes, &mut self.groups) {
             lower(&self.routes, &mut self.groups);
@@ -234,11 +248,8 @@ fn remove_shipment(places: &mut Vec<Place>, shipment: usize) {
     }
 }
 
-// Empty routes for so many shipments.
-pub(crate) fn empty_routes(
-    alloc: Global,
-    shipments: usize,
-) -> Result<Vec<Vec<GroupedLeg>>, NoMemory> {
+/// Empty routes for so many shipments. `NoMemory` only where no memory is found.
+pub fn empty_routes(alloc: Global, shipments: usize) -> Result<Vec<Vec<GroupedLeg>>, NoMemory> {
     let mut routes = Vec::with_capacity(alloc, shipments)?;
     for _shipment in 0..shipments {
         routes.push(Vec::new(alloc))?;
@@ -246,8 +257,8 @@ pub(crate) fn empty_routes(
     Ok(routes)
 }
 
-// The size of a shipment.
-pub(crate) fn size_of(instance: &Instance, shipment: usize) -> u64 {
+/// The size of a shipment, 0 where there is none with that number.
+pub fn size_of(instance: &Instance, shipment: usize) -> u64 {
     instance.shipments().get(shipment).map_or(0, |s| s.size)
 }
 

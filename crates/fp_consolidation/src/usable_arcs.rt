@@ -3,40 +3,47 @@
 ghost use Rattle.fp_flatnet.specs.Belonging.{BelongsTo};
 
 use crate::NoMemory;
-use crate::acceptance::window_of;
 use fp_flatnet::Windows;
-use fp_model::{Arc, Instance, Shipment};
+use fp_model::{Arc, Instance};
 use std::alloc::Global;
 
-// Costs inside the search are in so many parts of the unit of money.
-pub(crate) const PARTS: u32 = 16;
+/// So many parts has a unit of money where costs are counted in parts.
+pub const PARTS: u32 = 16;
 
-// An arc that a shipment can use. `freight` is what the shipment's flow costs, `alone` what trucks
-// for it alone cost, and `share` its share of full trucks, by its size; `freight` in parts of the
-// unit of money.
+/// An arc that a shipment can use, at the times from `lo` to `hi`, in the input's unit of time.
 #[derive(Clone, Copy)]
-pub(crate) struct UsableArc {
+pub struct UsableArc {
+    /// The number of the arc.
     pub number: u32,
+    /// The terminal that it leads to.
     pub to: u32,
+    /// The first time of the window.
     pub lo: u32,
+    /// The last time of the window.
     pub hi: u32,
+    /// So long after it left by the arc the shipment can leave the next terminal.
     pub step: u32,
+    /// What the shipment's flow costs, in [`PARTS`] of the unit of money.
     pub freight: u128,
+    /// What trucks for the shipment alone cost, in the unit of money.
     pub alone: u128,
+    /// What its share of full trucks costs, by its size, in the unit of money, rounded down.
     pub share: u128,
 }
 
-// The arcs that one shipment can use, by their tails.
+/// The arcs that one shipment can use, by their tails.
 #[derive(Drop)]
-pub(crate) struct UsableArcs {
+pub struct UsableArcs {
     // Where the arcs of each tail begin in `arcs`, and at last where those of the last one end.
     starts: Vec<usize>,
+    /// The arcs in the order of their tails.
     pub arcs: Vec<UsableArc>,
 }
 
 impl UsableArcs {
-    // Where the arcs that leave a terminal begin and end.
-    pub(crate) fn leaving(&self, terminal: u32) -> (usize, usize) {
+    /// Where the arcs that leave a terminal begin in `arcs` and end; nowhere for a terminal that
+    /// isn't there.
+    pub fn leaving(&self, terminal: u32) -> (usize, usize) {
         let at = terminal as usize;
         match (self.starts.get(at), self.starts.get(at + 1)) {
             (Some(first), Some(end)) => (*first, *end),
@@ -90,14 +97,15 @@ fn push_usable(
 ) -> Result<(), NoMemory>
     requires { BelongsTo instance.now windows.now }
 {
-    let Some(size) = instance.shipments().get(shipment as usize).map(|s| s.size) else {
+    let Some(carried) = instance.shipments().get(shipment as usize) else {
         return Ok(());
     };
     for number in numbers {
-        let window = window_of(instance, windows, shipment, *number);
-        if let (Some(window), Some(arc)) = (window, instance.arcs().get(*number as usize)) {
+        if let Some(arc) = instance.arcs().get(*number as usize)
+            && let Some(window) = windows.window(shipment, *number)
+        {
             let step = instance.step(*number);
-            list.push(usable(arc, *number, step, size, window))?;
+            list.push(usable(arc, *number, step, carried.size, window))?;
         }
     }
     Ok(())
@@ -137,8 +145,9 @@ fn leaving(alloc: Global, instance: &Instance) -> Result<Vec<Vec<u32>>, NoMemory
     Ok(lists)
 }
 
-// The arcs that each shipment can use.
-pub(crate) fn all_usable_arcs(
+/// For each shipment the arcs that it can use: those with a window. `NoMemory` only where no memory
+/// is found.
+pub fn all_usable_arcs(
     alloc: Global,
     instance: &Instance,
     windows: &Windows,
