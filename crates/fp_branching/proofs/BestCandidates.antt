@@ -1,20 +1,21 @@
 -- The best candidates, shipment by shipment.
-use Rattle.std.proofs.Common.{◌≡◌, ◌≢◌, ℕ, ◌+◌, ◌<◌, ◌≤◌, List, [], ◌∷◌, length, map, min, take, ⊎_elim, sym, ap, ◌∙◌, subst, arith}
+use Rattle.std.proofs.Common.{◌≡◌, ◌≢◌, ℕ, ◌+◌, ◌<◌, ◌≤◌, List, [], ◌∷◌, length, map, min, take, ⊎_elim, refl, sym, ap, ◌∙◌, subst, arith}
 use Rattle.std.specs.Prelude.{All, insert}
 use Rattle.std.specs.List.{AllByRecursion}
 use Rattle.std.proofs.lemmas.Bool.{cases_lt}
-use Rattle.std.proofs.lemmas.List.{length-take, take-map}
+use Rattle.std.proofs.lemmas.List.{length-map, length-take, take-map}
 use Rattle.std.proofs.lemmas.List.Edits.{length-insert}
-use Rattle.std.proofs.lemmas.List.Elements.{All-cons, All-nil, All-take, All-weaker, recursion_from_All}
+use Rattle.std.proofs.lemmas.List.Elements.{All-cons, All-from_recursion, All-nil, All-take, All-weaker, recursion_from_All}
 use Rattle.std.proofs.lemmas.List.Sorted.{All-permutation, IsPermutation-insert}
 use Rattle.fp_lists.specs.Distinct.{AreDistinct}
 use Rattle.fp_lists.proofs.Distinct.{AreDistinct-nil}
 use Rattle.fp_lists.proofs.Elements.{AllByRecursion-weaker}
 use Rattle.fp_lists.proofs.Maps.{map-insert}
 use Rattle.fp_prices.specs.Rounds.{LeafModel}
+use Rattle.fp_branching.specs.declared.leaf_candidates.Candidate.{Candidate}
 use Rattle.fp_branching.specs.declared.ranks.Ranked.{Ranked}
-use Rattle.fp_branching.specs.Best.{AreBest, shipment_in}
-use Rattle.fp_branching.specs.Candidates.{EndsInSeveral, IsCandidate}
+use Rattle.fp_branching.specs.Best.{AreBest, candidate_in, shipment_in}
+use Rattle.fp_branching.specs.Candidates.{EndsInSeveral, IsCandidate, shipment_of}
 use Rattle.fp_branching.proofs.DistinctInsertions.{AreDistinct-insert, AreDistinct-take}
 
 -- what is asked of each candidate among the shipments with numbers below n
@@ -67,3 +68,26 @@ best_more l n most place old new next within is candidate here so_far =
     others : (ranked : List Ranked) → AllByRecursion (IsOne l n) ranked → AllByRecursion (λ k. k ≢ shipment_in next) (map shipment_in ranked)
     others [] all = tt
     others (r ∷ ranked) all = (λ same. absurd (omega (arith, all.0.1, same, here)), others ranked all.1)
+
+-- the candidates alone
+pub record AreListed (l : LeafModel) (n most : ℕ) (list : List Candidate) : Type 0 where
+  pub each : All (IsCandidate l) list
+  pub apart : AreDistinct (map shipment_of list)
+  pub few : length list ≤ most
+  pub some : 1 ≤ most → (k terminal : ℕ) → k < n → EndsInSeveral l k terminal → 1 ≤ length list
+
+pub best_listed : (l : LeafModel) (n most : ℕ) (ranked : List Ranked) → AreBest l n most ranked → AreListed l n most (map candidate_in ranked)
+best_listed l n most ranked best = record {
+  each = All-from_recursion (IsCandidate l) (map candidate_in ranked) (candidates ranked (recursion_from_All (IsOne l n) ranked best.each));
+  apart = subst AreDistinct (sym (shipments ranked)) best.apart;
+  few = omega (arith, best.few, length-map ranked candidate_in);
+  some = λ room k terminal before ends. omega (arith, best.some room k terminal before ends, length-map ranked candidate_in);
+}
+  where
+    candidates : (rs : List Ranked) → AllByRecursion (IsOne l n) rs → AllByRecursion (IsCandidate l) (map candidate_in rs)
+    candidates [] all = tt
+    candidates (r ∷ rs) all = (all.0.0, candidates rs all.1)
+
+    shipments : (rs : List Ranked) → map shipment_of (map candidate_in rs) ≡ map shipment_in rs
+    shipments [] = refl
+    shipments (r ∷ rs) = ap (λ (ks : List ℕ). shipment_in r ∷ ks) (shipments rs)

@@ -1,3 +1,4 @@
 pub mod DistinctInsertions
 pub mod ChainEnds
 pub mod BestCandidates
+pub mod SmallCosts

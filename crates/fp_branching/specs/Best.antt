@@ -2,7 +2,7 @@
 use Rattle.std.specs.Prelude.{ℕ, ◌<◌, ◌≤◌, List, length, map, All}
 use Rattle.fp_lists.specs.Distinct.{AreDistinct}
 use Rattle.fp_prices.specs.Rounds.{LeafModel}
-use Rattle.fp_branching.specs.declared.candidates.Candidate.{Candidate}
+use Rattle.fp_branching.specs.declared.leaf_candidates.Candidate.{Candidate}
 use Rattle.fp_branching.specs.declared.ranks.Ranked.{Ranked}
 use Rattle.fp_branching.specs.Candidates.{EndsInSeveral, IsCandidate}
 

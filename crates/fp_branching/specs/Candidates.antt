@@ -10,7 +10,7 @@ use Rattle.fp_allowed.specs.Chains.{EndsAs}
 use Rattle.fp_allowed.specs.Choices.{IsTaken}
 use Rattle.fp_allowed.specs.Departures.{DividesDepartures, IsSplitAt}
 use Rattle.fp_prices.specs.Rounds.{LeafModel}
-use Rattle.fp_branching.specs.declared.candidates.Candidate.{Candidate}
+use Rattle.fp_branching.specs.declared.leaf_candidates.Candidate.{Candidate}
 
 -- the forced chain of the shipment with the number k ends at a terminal that several allowed classes leave
 pub record EndsInSeveral (l : LeafModel) (k terminal : ℕ) : Type 0 where

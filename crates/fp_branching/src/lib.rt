@@ -7,13 +7,13 @@
 //! 2005); at equal gaps by how much the dearer side of its split raises its cost.
 #![tactic(auto)]
 
-mod candidates;
 mod class_uses;
 mod gaps;
+mod leaf_candidates;
 mod ranks;
 mod rises;
 
-pub use candidates::{Candidate, candidates};
+pub use leaf_candidates::{Candidate, candidates};
 
 /// The error of a call that finds no memory.
 pub type NoMemory = std::alloc::AllocError;

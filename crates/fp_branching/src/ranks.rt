@@ -3,7 +3,7 @@ ghost use Rattle.std.specs.Prelude.{ℕ, ◌≡◌, ◌≤◌, IsTrue, OnOk, ins
 ghost use Rattle.fp_branching.specs.declared.ranks.Ranked.{Ranked};
 
 use crate::NoMemory;
-use crate::candidates::Candidate;
+use crate::leaf_candidates::Candidate;
 
 /// By what a candidate is ranked: the greatest gap on its shipment's walk for each leg that is
 /// still to be forced, and how much the dearer side of its split raises the shipment's cost. The

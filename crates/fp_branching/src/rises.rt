@@ -3,7 +3,7 @@ ghost use Rattle.std.specs.Prelude.{◌≡◌, ◌<◌, ◌≤◌, All, IfOk, If
 ghost use Rattle.fp_longestarcs.specs.Networks.{class_count};
 
 use crate::NoMemory;
-use crate::candidates::Candidate;
+use crate::leaf_candidates::Candidate;
 use fp_allowed::Allowed;
 use fp_labels::distances;
 use fp_prices::LeafPricing;
@@ -14,6 +14,16 @@ use std::alloc::Global;
 
 // A cost of a class at which a walk over all points can be summed up.
 const GREATEST: u128 = ((1 << 127) - 1) / MOST_POINTS as u128;
+
+// A cost, or the greatest one where it is above.
+fn capped_cost(cost: Option<u128>) -> Option<u128>
+    ensures { IfSome result (λ cost. cost ≤ GREATEST) }
+{
+    match cost {
+        Some(cost) => Some(cost.min(GREATEST)),
+        None => None,
+    }
+}
 
 // The costs of the edges of a network's points, where only the classes of a row are capped, each at
 // most the greatest cost. The row has so many bits, and the classes come first.
@@ -29,11 +39,11 @@ fn costs_over(
 {
     let mut capped = Vec::with_capacity(alloc, costs.len())?;
     for place in 0..costs.len() {
-        let is_open = place >= bits as usize || row.get(place as u32);
-        capped.push(match costs[place] {
-            Some(cost) if is_open => Some(cost.min(GREATEST)),
-            _ => None,
-        })?;
+        if place >= bits as usize || row.get(place as u32) {
+            capped.push(capped_cost(costs[place]))?;
+        } else {
+            capped.push(None)?;
+        }
     }
     Ok(capped)
 }

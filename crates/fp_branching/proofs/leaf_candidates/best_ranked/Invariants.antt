@@ -1,5 +1,5 @@
 use Rattle.fp_branching.specs.Best.{AreBest}
-use Rattle.fp_branching.proofs.candidates.best_ranked.Given as goal
+use Rattle.fp_branching.proofs.leaf_candidates.best_ranked.Given as goal
 
 -- the best ones among the shipments so far
 abbrev pub invariant-loop-shipment : goal.invariant-loop-shipment

@@ -40,7 +40,8 @@ fn candidate_of(alloc: Global, leaf: &Leaf, shipment: u32) -> Result<Option<Cand
             })),
             None => Ok(None),
         },
-        ChainEnd::Reached | ChainEnd::Stuck { .. } => Ok(None),
+        ChainEnd::Reached => Ok(None),
+        ChainEnd::Stuck { .. } => Ok(None),
     }
 }
 
@@ -78,8 +79,9 @@ fn best_ranked(
     let leaf = pricing.leaf();
     let mut ranked = Vec::new(alloc);
     for shipment in 0..leaf.round().instance().shipments().len() as u32 {
-        let Some(candidate) = candidate_of(alloc, leaf, shipment)? else {
-            continue;
+        let candidate = match candidate_of(alloc, leaf, shipment)? {
+            Some(candidate) => candidate,
+            None => continue,
         };
         let gap = gaps.get(shipment as usize).copied().unwrap_or(0);
         if is_left_out(&ranked, gap, most) {
