@@ -49,3 +49,41 @@ def generated(seed, terminals, shipments):
         due = release + 300 * terminals + draw(2000)
         lines.append(f"shipment,S{number + 1},T{origin + 1},T{destination + 1},{size},{release},{due}")
     return "\n".join(lines) + "\n"
+
+
+def _carrier(names, arcs, ways, shipments, slack, seed):
+    """CSV records of a carrier's instance, in minutes, pallets and cents: arcs both ways between the pairs in `arcs`, with times in
+    `ways`, and shipments between any two terminals, each with up to `slack` minutes more than its fastest way takes."""
+    draw = random.Random(seed)
+    lines = [f"terminal,{name}" for name in names]
+    time = {}
+    for (tail, head), minutes in zip(arcs, ways):
+        for ends in ((tail, head), (head, tail)):
+            time[ends] = minutes
+            lines.append(f"arc,{names[ends[0]]},{names[ends[1]]},{minutes},33,{15_000 + 120 * minutes},{20 + minutes // 3}")
+    fastest = {(i, j): 0 if i == j else time.get((i, j), 10**9) for i in range(len(names)) for j in range(len(names))}
+    for via in range(len(names)):
+        for pair in fastest:
+            fastest[pair] = min(fastest[pair], fastest[pair[0], via] + fastest[via, pair[1]])
+    for number in range(shipments):
+        origin, destination = draw.sample(range(len(names)), 2)
+        release = draw.randrange(1440)
+        due = release + fastest[origin, destination] + draw.randrange(slack + 1)
+        lines.append(f"shipment,P{number + 1},{names[origin]},{names[destination]},{1 + draw.randrange(15)},{release},{due}")
+    return "\n".join(lines) + "\n"
+
+
+def line(terminals, shipments, slack, seed=1):
+    """Terminals along one road."""
+    draw = random.Random(seed)
+    arcs = [(i, i + 1) for i in range(terminals - 1)]
+    return _carrier([f"L{i + 1}" for i in range(terminals)], arcs, [90 + draw.randrange(200) for _ in arcs], shipments, slack, seed)
+
+
+def hubs(count, spokes, shipments, slack, seed=1):
+    """Hubs that are joined to each other, each with so many terminals around it."""
+    draw = random.Random(seed)
+    names = [f"H{hub + 1}" for hub in range(count)] + [f"H{hub + 1}S{spoke + 1}" for hub in range(count) for spoke in range(spokes)]
+    arcs = [(i, j) for i in range(count) for j in range(i)] + [(hub, count + hub * spokes + spoke) for hub in range(count) for spoke in range(spokes)]
+    ways = [240 + draw.randrange(240) if head < count else 40 + draw.randrange(120) for _, head in arcs]
+    return _carrier(names, arcs, ways, shipments, slack, seed)
