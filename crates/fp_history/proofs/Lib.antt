@@ -1,0 +1,7 @@
+mod Examples
+pub mod PointsKept
+pub mod Stays
+pub mod AddedPoints
+pub mod Enough
+pub mod SamePoints
+pub mod HistoryPoints
