@@ -1,5 +1,5 @@
 #!/usr/bin/env python3
-"""How good the bound of a root is and how long it takes, on generated instances.
+"""How good the bound of a root is and how long it takes, on generated instances and on a carrier's lines and hubs.
 
     bench/bound.py [PROGRAM [OTHER [WORD=VALUE ..]]]
 
@@ -14,7 +14,7 @@ import sys
 import time
 
 sys.path.insert(0, os.path.dirname(os.path.abspath(__file__)))
-from instances import generated
+from instances import generated, hubs, line
 from kit import built_program
 
 SIZES = ((6, 15), (8, 30), (10, 40), (12, 50), (20, 60))
@@ -65,19 +65,27 @@ def bound_by(program, settings, text):
     return first.split(",")[2], best
 
 
+def cases():
+    """What each instance is called, and its records."""
+    for terminals, shipments in SIZES:
+        for seed in SEEDS:
+            yield f"{terminals}x{shipments} s{seed}", generated(seed, terminals, shipments)
+    for slack in (120, 720):
+        yield f"line, slack {slack}", line(6, 20, slack)
+        yield f"hubs, slack {slack}", hubs(2, 6, 30, slack)
+
+
 def main():
     programs = [(built_program(), {})]
     if len(sys.argv) > 2:
         programs.append((sys.argv[2], dict(word.split("=", 1) for word in sys.argv[3:])))
-    print("instance     flat" + "   bound  seconds" * len(programs))
-    for terminals, shipments in SIZES:
-        for seed in SEEDS:
-            text = generated(seed, terminals, shipments)
-            row = f"{f'{terminals}x{shipments} s{seed}':9} {flat_bound(text):7}"
-            for program, settings in programs:
-                value, seconds = bound_by(program, settings, text)
-                row += f" {value:>7} {seconds:8.3f}"
-            print(row, flush=True)
+    print("instance             flat" + "   bound  seconds" * len(programs))
+    for name, text in cases():
+        row = f"{name:15} {flat_bound(text):9}"
+        for program, settings in programs:
+            value, seconds = bound_by(program, settings, text)
+            row += f" {value:>7} {seconds:8.3f}"
+        print(row, flush=True)
 
 
 main()
