@@ -15,7 +15,7 @@ mod texts;
 mod top;
 
 pub use fp_words::{Order, WordFault, read_words};
-pub use limits::{CHECK_LIMIT, INSTANCE_LIMIT, limit_of};
+pub use limits::{CHECK_LIMIT, INSTANCE_LIMIT};
 pub use shown::{AnswerKind, Ran, Shown, Status};
 pub use texts::text;
 pub use top::run;

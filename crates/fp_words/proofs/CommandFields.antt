@@ -1,6 +1,6 @@
 -- What a command is after one more setting or subcommand.
 use Rattle.std.proofs.Common.{◌≡◌, ◌∙◌, ap, ap₂, true, false}
-use Rattle.clap.specs.Simple.{Shape, app_of_fields, on_top}
+use Rattle.clap.specs.Simple.{app_of_fields, on_top}
 use Rattle.clap.specs.Words.{AddsSubcommand, App, app_of, with_subcommand}
 use Rattle.clap.specs.declared.builder.command.Command.{Command}
 use Rattle.clap.specs.declared.builder.command.Command.TheViews.{out-Command}

@@ -1,6 +1,6 @@
 -- What a parse of the words says of their order.
-use Rattle.std.proofs.Common.{◌≡◌, ◌∙◌, ℕ, Bool, true, false, List, [], ◌∷◌, map, refl, sym, ap, inl, inr, String, Global}
-use Rattle.std.specs.Prelude.{Option, Some, None, codes, find, option_map, option_and_then, string_bytes, ◌||◌}
+use Rattle.std.proofs.Common.{◌≡◌, ◌∙◌, ℕ, Bool, true, false, List, [], ◌∷◌, refl, sym, ap, inl, inr, String, Global}
+use Rattle.std.specs.Prelude.{Some, None, codes, option_and_then, string_bytes, ◌||◌}
 use Rattle.std.specs.List.{list_any}
 use Rattle.std.specs.Str.{bytes_eq}
 use Rattle.std.proofs.lemmas.Bool.{cases_Bool}

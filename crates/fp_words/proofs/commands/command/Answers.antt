@@ -1,6 +1,3 @@
-use Rattle.std.proofs.Common.{◌≡◌, codes, []}
-use Rattle.clap.specs.Words.{app_of}
-use Rattle.fp_words.specs.Commands.{above}
 use Rattle.fp_words.proofs.CommandFields.{app_of-help_flag, app_of-help_subcommand, app_of-no_binary_name, app_of-subcommand, app_of-subcommand_required, app_of-version_flag}
 use Rattle.fp_words.proofs.commands.command.Goals as goal
 
