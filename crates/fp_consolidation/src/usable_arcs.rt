@@ -7,7 +7,7 @@ use fp_flatnet::Windows;
 use fp_model::{Arc, Instance};
 use std::alloc::Global;
 
-/// Where costs are counted in parts of the unit of money, the unit has so many.
+/// So many parts has a unit of money where costs are counted in parts.
 pub const PARTS: u32 = 16;
 
 /// An arc that a shipment can use, at the times from `lo` to `hi`, in the input's unit of time.
