@@ -1,5 +1,5 @@
 -- The best candidates, shipment by shipment.
-use Rattle.std.proofs.Common.{◌≡◌, ◌≢◌, ℕ, ◌+◌, ◌<◌, ◌≤◌, List, [], ◌∷◌, length, map, min, take, ⊎_elim, refl, sym, ap, ◌∙◌, subst, arith}
+use Rattle.std.proofs.Common.{◌≡◌, ◌≢◌, ℕ, ◌+◌, ◌<◌, ◌≤◌, List, [], ◌∷◌, length, map, take, ⊎_elim, refl, sym, ap, subst, arith}
 use Rattle.std.specs.Prelude.{All, insert}
 use Rattle.std.specs.List.{AllByRecursion}
 use Rattle.std.proofs.lemmas.Bool.{cases_lt}
@@ -9,7 +9,6 @@ use Rattle.std.proofs.lemmas.List.Elements.{All-cons, All-from_recursion, All-ni
 use Rattle.std.proofs.lemmas.List.Sorted.{All-permutation, IsPermutation-insert}
 use Rattle.fp_lists.specs.Distinct.{AreDistinct}
 use Rattle.fp_lists.proofs.Distinct.{AreDistinct-nil}
-use Rattle.fp_lists.proofs.Elements.{AllByRecursion-weaker}
 use Rattle.fp_lists.proofs.Maps.{map-insert}
 use Rattle.fp_prices.specs.Rounds.{LeafModel}
 use Rattle.fp_branching.specs.declared.leaf_candidates.Candidate.{Candidate}

@@ -1,4 +1,4 @@
-use Rattle.std.proofs.Common.{◌≡◌, ℕ, subst}
+use Rattle.std.proofs.Common.{ℕ, subst}
 use Rattle.std.specs.Prelude.{IfNone, IfSome, Option}
 use Rattle.fp_prices.specs.Rounds.{LeafModel}
 use Rattle.fp_branching.specs.declared.leaf_candidates.Candidate.{Candidate}
