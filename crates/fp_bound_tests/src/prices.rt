@@ -1,6 +1,6 @@
 //! What leaves are worth: by each kind of prices, in both modes, with a table, and under sides.
 
-ghost use Rattle.std.specs.Prelude.{◌≡◌, ◌≤◌, [], ◌∷◌, All, IfOk, length};
+ghost use Rattle.std.specs.Prelude.{◌≡◌, ◌<◌, ◌≤◌, [], ◌∷◌, All, IfOk, length};
 ghost use Rattle.fp_prices.specs.Tables.{AreCountable, HasKind, IsAscendingTable};
 
 use fp_examples::{DETOUR, LINE, PAIR, instance_of};
