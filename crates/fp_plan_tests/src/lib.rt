@@ -10,4 +10,6 @@ mod local;
 #[cfg(test)]
 mod repair;
 #[cfg(test)]
+mod session;
+#[cfg(test)]
 mod shortarcs;

@@ -1,0 +1,111 @@
+-- What the leaves of a search are worth, and the bound of an answer that is unfinished.
+use Rattle.std.proofs.Common.{◌≡◌, ℕ, ◌+◌, ◌<◌, ◌≤◌, Bool, true, false, List, [], ◌∷◌, ◌++◌, ◌⊎◌, inl, inr, length, ⊎_elim, refl, sym, ap, ◌∙◌, subst, arith}
+use Rattle.std.specs.Prelude.{All, IsSomeAnd, MatchBool, Option, Some, None, slice_get}
+use Rattle.std.specs.Int.{div_ceil}
+use Rattle.std.proofs.lemmas.Bool.{false≢true}
+use Rattle.std.proofs.lemmas.Option.{slice_get_within}
+use Rattle.fp_flatnet.specs.Tables.{windows_in}
+use Rattle.fp_tree.specs.declared.sides.Side.{Side}
+use Rattle.fp_tree.specs.Nodes.{Node, closed_of, fork_of as fork_at, leaf_at, leaf_count, value_of}
+use Rattle.fp_tree.specs.Trees.{HaveTails, IsTree, Leaf, tree_leaves}
+use Rattle.fp_allowed.specs.Allowed.{tails_of}
+use Rattle.fp_prices.specs.declared.leaf_prices.LeafPrice.{LeafPrice}
+use Rattle.fp_prices.specs.Leaves.{IsLeafEmpty, IsLeafValue}
+use Rattle.fp_prices.proofs.OneValue.{leaf-value-some, leaf-value-unique}
+use Rattle.fp_lines.specs.declared.certificates.Node.{Node as Line}
+use Rattle.fp_acceptance.specs.Leaves.{fork_of}
+use Rattle.fp_history.specs.Notes.{History, last_round, points_of}
+use Rattle.fp_history.specs.PrintedLeaves.{IsEmptyAt, IsLeastWorth, IsOpenBelow, IsPrintedLeaf, IsWorth, OfLeaf}
+use Rattle.fp_history.specs.Solutions.{AtLeaf}
+use Rattle.fp_history.specs.Splits.{IsEarnedAt, IsValueAt}
+use Rattle.fp_session.specs.declared.payloads.Payload.{Payload}
+use Rattle.fp_session.specs.Nodes.{IsEarnedAs, IsKept, IsLeafOf, IsSettled}
+use Rattle.fp_session.specs.Searches.{IsLeftOpen}
+use Rattle.fp_session.specs.TreeLines.{IsLeastBelow, lines_of, worth_of}
+use Rattle.fp_session.proofs.PrintedTree.{leaf-line, leaf-printed, leaf_line, leaves-printed}
+use Rattle.fp_session.proofs.TreeLines.{some_and}
+use Rattle.fp_session.proofs.TreeRanges.{all-at}
+
+module _ (h : History) where
+  -- what a leaf keeps, by its mark
+  by_mark : (G : Type 0) (sides : List Side) (payload : Payload) (value : ℕ) → IsKept h sides payload value → (payload.empty ≡ true → IsEmptyAt h sides payload.price → G) →
+      (payload.empty ≡ false → IsEarnedAs h sides payload.price value → G) → G
+  by_mark G sides payload value kept empty earned = cases payload.empty refl kept.worth
+    where
+      cases : (b : Bool) → payload.empty ≡ b → MatchBool b (IsEmptyAt h sides payload.price) (IsEarnedAs h sides payload.price value) → G
+      cases true is worth = empty is worth
+      cases false is worth = earned is worth
+
+  -- a leaf that has a value isn't empty, and keeps that value
+  pub value-kept : (sides : List Side) (payload : Payload) (value v : ℕ) → IsKept h sides payload value → IsValueAt h sides payload.price v → (payload.empty ≡ false) × (value ≡ v)
+  value-kept sides payload value v kept is =
+      by_mark ((payload.empty ≡ false) × (value ≡ v)) sides payload value kept
+      (λ mark empty. absurd (leaf-value-some h.problem (windows_in h.windows) (points_of h payload.price.round) sides h.tables payload.price.kind payload.price.forced v is empty.empty))
+      (λ mark earned.
+      (mark, earned.is ∙ leaf-value-unique h.problem (windows_in h.windows) (points_of h payload.price.round) sides h.tables payload.price.kind payload.price.forced earned.earned.value v earned.earned.is is))
+
+  -- a leaf is printed as it is kept
+  pub printed-kept : (sides : List Side) (payload : Payload) (value : ℕ) → IsKept h sides payload value → IsEmptyAt h sides payload.price ⊎ IsEarnedAt h sides payload.price
+  printed-kept sides payload value kept =
+      by_mark (IsEmptyAt h sides payload.price ⊎ IsEarnedAt h sides payload.price) sides payload value kept (λ mark empty. inl empty) (λ mark earned. inr earned.earned)
+
+  -- a leaf is empty, or worth a claim
+  abbrev pub IsWorthClaim : (claim : ℕ) → List Side → LeafPrice → Type 0
+  IsWorthClaim claim sides price =
+      IsLeafEmpty h.problem (windows_in h.windows) (points_of h price.round) sides
+      ⊎ ((value : ℕ) × IsLeafValue h.problem (windows_in h.windows) (points_of h price.round) sides h.tables price.kind price.forced value × (claim ≤ div_ceil value h.problem.scale))
+
+  pub worth-kept : (claim : ℕ) (sides : List Side) (payload : Payload) (value : ℕ) → IsKept h sides payload value → (payload.empty ≡ false → claim ≤ div_ceil value h.problem.scale) → IsWorthClaim claim sides payload.price
+  worth-kept claim sides payload value kept unmarked =
+      by_mark (IsWorthClaim claim sides payload.price) sides payload value kept (λ mark empty. inl empty.empty)
+      (λ mark earned. inr (earned.earned.value, earned.earned.is, subst (λ (v : ℕ). claim ≤ div_ceil v h.problem.scale) earned.is (unmarked mark)))
+
+  -- a leaf that is settled and isn't empty is worth the cost
+  pub settled-worth : (cost : ℕ) (payload : Payload) (value : ℕ) → IsSettled h cost payload value → payload.empty ≡ false → cost ≤ div_ceil value h.problem.scale
+  settled-worth cost payload value settled unmarked = ⊎_elim (λ (empty : payload.empty ≡ true). absurd (false≢true (sym unmarked ∙ empty))) (λ (worth : cost ≤ div_ceil value h.problem.scale). worth) settled
+
+  module _ (cost : ℕ) (nodes : List (Node Payload)) (tails : HaveTails (tails_of h.problem) fork_at nodes) (whole : IsTree fork_at nodes) (leaves : All (IsLeafOf h cost) (tree_leaves fork_at nodes)) where
+    -- a leaf by its number
+    pub leaf-of : (k : ℕ) (l : Leaf (Node Payload)) → leaf_at nodes k ≡ Some l → IsLeafOf h cost l
+    leaf-of k l at = all-at (IsLeafOf h cost) (tree_leaves fork_at nodes) k l leaves at
+
+    -- all leaves are printed as they are kept
+    pub leaves-shown : Rattle.std.specs.List.AllByRecursion (IsPrintedLeaf h) (tree_leaves (fork_of h.problem) (lines_of nodes))
+    leaves-shown = leaves-printed h.problem nodes tails whole (IsPrintedLeaf h) (λ k l at. printed-kept l.sides l.node.payload (value_of l.node) (leaf-of k l at).kept)
+
+    -- the leaf that is left, as it is printed
+    pub left-shown : (P : LeafPrice → List Side → Type 0) (k : ℕ) → IsSomeAnd (leaf_at nodes k) (λ (l : Leaf (Node Payload)). P l.node.payload.price l.sides) → AtLeaf (tree_leaves (fork_of h.problem) (lines_of nodes)) k P
+    left-shown P k is =
+        let some = some_and (leaf_at nodes k) (λ (l : Leaf (Node Payload)). P l.node.payload.price l.sides) is in
+        subst (λ (o : Option (Leaf Line)). IsSomeAnd o (OfLeaf P)) (sym (leaf-line h.problem nodes tails whole k some.0 some.1)) some.2
+
+    module _ (bound : ℕ) (least : IsLeastBelow h.problem.scale cost nodes (leaf_count nodes) bound) where
+      -- a leaf that isn't empty is worth the bound
+      pub bound-le : (k : ℕ) (l : Leaf (Node Payload)) → leaf_at nodes k ≡ Some l → l.node.payload.empty ≡ false → bound ≤ div_ceil (value_of l.node) h.problem.scale
+      bound-le k l at unmarked = least.each k l (slice_get_within (tree_leaves fork_at nodes) k l at) at unmarked
+
+      -- where a leaf is worth less than the cost, the bound is below it
+      pub bound-lt : (k : ℕ) → IsSomeAnd (leaf_at nodes k) (λ (l : Leaf (Node Payload)). IsOpenBelow h cost l.sides l.node.payload.price) → bound < cost
+      bound-lt k is =
+          let some = some_and (leaf_at nodes k) (λ (l : Leaf (Node Payload)). IsOpenBelow h cost l.sides l.node.payload.price) is in
+          let l : Leaf (Node Payload) = some.0 in
+          let kept = value-kept l.sides l.node.payload (value_of l.node) some.2.value (leaf-of k l some.1).kept some.2.is in
+          let le : bound ≤ div_ceil some.2.value h.problem.scale = subst (λ (v : ℕ). bound ≤ div_ceil v h.problem.scale) kept.1 (bound-le k l some.1 kept.0) in
+          omega (arith, le, some.2.below)
+
+      -- and it is the least that a leaf is worth
+      pub least-worth : bound < cost → IsLeastWorth h (tree_leaves (fork_of h.problem) (lines_of nodes)) bound
+      least-worth below =
+          let found = least.some below in
+          let some = some_and (leaf_at nodes found.0) (λ (l : Leaf (Node Payload)). (l.node.payload.empty ≡ false) × (bound ≡ worth_of h.problem.scale l)) found.1 in
+          record {
+            each = leaves-printed h.problem nodes tails whole (OfLeaf (λ price sides. (worth : ℕ) → IsWorth h sides price worth → bound ≤ worth))
+                (λ k l at worth is.
+                let kept = value-kept l.sides l.node.payload (value_of l.node) is.value (leaf-of k l at).kept is.is in
+                let le : bound ≤ div_ceil is.value h.problem.scale = subst (λ (v : ℕ). bound ≤ div_ceil v h.problem.scale) kept.1 (bound-le k l at kept.0) in
+                omega (arith, le, is.rounded));
+            some = leaf-printed h.problem nodes tails whole (OfLeaf (λ price sides. IsWorth h sides price bound)) found.0 some.0 some.1
+                (by_mark (IsWorth h some.0.sides some.0.node.payload.price bound) some.0.sides some.0.node.payload (value_of some.0.node) (leaf-of found.0 some.0 some.1).kept
+                (λ mark empty. absurd (false≢true (sym some.2.0 ∙ mark)))
+                (λ mark earned. record { value = earned.earned.value; is = earned.earned.is; rounded = some.2.1 ∙ ap (λ (v : ℕ). div_ceil v h.problem.scale) earned.is }));
+          }

@@ -1,0 +1,109 @@
+-- One more round is earned by a relaxed plan that calls for it.
+use Rattle.std.proofs.Common.{◌≡◌, ◌≢◌, ℕ, zero, suc, ◌+◌, ◌<◌, ◌≤◌, Bool, true, false, List, [], ◌∷◌, ◌++◌, length, get_or, refl, sym, ap, ◌∙◌, subst, arith}
+use Rattle.std.specs.Prelude.{All, Contains}
+use Rattle.std.proofs.lemmas.Bool.{or_left}
+use Rattle.std.proofs.lemmas.List.Elements.{All-contains, All-weaker}
+use Rattle.fp_lists.specs.Membership.{list_has}
+use Rattle.fp_lists.proofs.Membership.{list_has-append}
+use Rattle.fp_model.specs.declared.limits.TheConstants as limit
+use Rattle.fp_model.specs.declared.parts.Leg.{Leg}
+use Rattle.fp_model.specs.declared.parts.Member.{Member}
+use Rattle.fp_model.specs.Members.{named_from}
+use Rattle.fp_timenodes.specs.declared.places.Place.{Place}
+use Rattle.fp_timenodes.specs.Points.{added_at, greatest_round, points_at}
+use Rattle.fp_timenodes.proofs.Rounds.{points_at_from_greatest}
+use Rattle.fp_flatnet.specs.Initial.{initial_points}
+use Rattle.fp_flatnet.specs.Tables.{windows_in}
+use Rattle.fp_longestarcs.specs.Networks.{points_in}
+use Rattle.fp_longestarcs.specs.Whole.{IsNetworkOf}
+use Rattle.fp_longestarcs.proofs.NetworkRounds.{IsNetworkOf_from_greatest}
+use Rattle.fp_allowed.specs.InitialPoints.{HasInitialPoints}
+use Rattle.fp_allowed.specs.SamePoints.{AgreeOnPoints}
+use Rattle.fp_allowed.proofs.InitialPoints.{HasInitialPoints_same}
+use Rattle.fp_allowed.proofs.SamePoints.{AgreeOnPoints_sym}
+use Rattle.fp_relaxmodel.specs.Groups.{AreGroups}
+use Rattle.fp_relaxmodel.specs.Relaxed.{HasRoutes, IsRelaxedPlan}
+use Rattle.fp_relaxmodel.proofs.PlansCoarsen.{HasRoutes-relaxed}
+use Rattle.fp_relaxmodel.proofs.RelaxedWalks.{IsRelaxedPlan_same}
+use Rattle.fp_prices.specs.Shares.{ClassShare}
+use Rattle.fp_shortarcs.specs.declared.shorts.Short.{Short}
+use Rattle.fp_shortarcs.specs.TooShort.{AreTooShort, CanBePoint, IsShort}
+use Rattle.fp_shortarcs.proofs.SamePoints.{AreTooShort_same, CanBePoint_same}
+use Rattle.fp_history.specs.Clashes.{ClashesBelow, IsShortPlace}
+use Rattle.fp_history.specs.Notes.{Refinement, added_of, last_round}
+use Rattle.fp_history.specs.Traces.{IsEarnedRound}
+use Rattle.fp_history.proofs.HistoryPoints.{AgreeOnPoints-history, greatest_round-history, horizon-in_time}
+use Rattle.fp_session.specs.declared.searches.Search.{Search}
+use Rattle.fp_session.specs.Moves.{points_now}
+use Rattle.fp_session.specs.Refining.{ArePlacesOf, CanAdd, IsPlaceAmong}
+use Rattle.fp_session.specs.Searches.{IsSearch, history}
+
+module _ (s : Search) (tables : List (List ClassShare)) (is : IsSearch s tables) where
+  -- the network has the points as of the last round
+  pub agree-now : AgreeOnPoints s.instance (points_in s.network) (points_now s)
+  agree-now =
+      AgreeOnPoints-history (history s tables) s.started s.cost is.belongs is.trace (omega (arith, is.rounds, is.budget.rounds)) s.points (last_round (history s tables)) s.network is.points is.added is.network
+
+  -- among them the initial ones
+  pub initial-now : HasInitialPoints s.instance s.windows.anchors (points_in s.network)
+  initial-now =
+      HasInitialPoints_same s.instance s.windows.anchors (points_now s) (points_in s.network) (AgreeOnPoints_sym s.instance (points_in s.network) (points_now s) agree-now)
+      (λ terminal at lt has.
+      list_has-append (initial_points s.instance s.windows.anchors terminal) (added_at (added_of s.trace.items) terminal (last_round (history s tables))) at
+      ∙ or_left (list_has (initial_points s.instance s.windows.anchors terminal) at) (list_has (added_at (added_of s.trace.items) terminal (last_round (history s tables))) at) has)
+
+  -- a relaxed plan as of the last round is one of the network
+  pub relaxed-now : (walks : List (List Leg)) → IsRelaxedPlan s.instance (windows_in s.windows) (points_now s) walks → IsRelaxedPlan s.instance (windows_in s.windows) (points_in s.network) walks
+  relaxed-now walks relaxed =
+      IsRelaxedPlan_same s.instance is.belongs.valid (windows_in s.windows) (points_now s) (points_in s.network) (AgreeOnPoints_sym s.instance (points_in s.network) (points_now s) agree-now) walks relaxed
+
+  -- no point is of a round after the last one
+  pub greatest-now : greatest_round s.points.added ≤ last_round (history s tables)
+  greatest-now = omega (arith, ap greatest_round is.added, greatest_round-history (history s tables) s.started s.cost is.trace)
+
+  -- so the network is that of the next round too, before its points are added
+  pub network-next : (round : ℕ) → round ≡ last_round (history s tables) + 1 → IsNetworkOf s.instance s.points round s.network
+  network-next round next = IsNetworkOf_from_greatest s.instance s.points (last_round (history s tables)) round s.network greatest-now (omega (arith, next)) is.network
+
+  module _ (walks : List (List Leg)) (shorts : List Short) (places : List Place) (short : AreTooShort s.instance (points_in s.network) walks shorts) (can : All (CanBePoint s.instance (points_in s.network)) shorts)
+      (are : ArePlacesOf shorts places) where
+    -- the places can be added
+    pub places-can : (round : ℕ) → round ≡ last_round (history s tables) + 1 → All (CanAdd s.instance s.points round) places
+    places-can round next = All-weaker (IsPlaceAmong shorts) (CanAdd s.instance s.points round) one places are.each
+      where
+        one : (q : Place) → IsPlaceAmong shorts q → CanAdd s.instance s.points round q
+        one q among =
+            let own : CanBePoint s.instance (points_in s.network) among.short = All-contains (CanBePoint s.instance (points_in s.network)) shorts among.short can among.among in
+            subst (CanAdd s.instance s.points round) (sym among.is)
+            (record {
+              terminal = own.terminal;
+              time = omega (arith, own.before, horizon-in_time s.instance.shipments (λ k d lt. (is.belongs.valid.parts.shipments k d lt).within.due));
+              new = ap (λ (qs : List ℕ). list_has qs among.short.at) (points_at_from_greatest s.points among.short.terminal (last_round (history s tables)) round greatest-now (omega (arith, next)))
+                  ∙ sym (is.network.points among.short.terminal own.terminal among.short.at) ∙ own.new;
+            })
+
+    -- a round that adds them is earned
+    pub round-earned : (n : Refinement) → n.relaxed ≡ walks → n.added ≡ places → ClashesBelow s.instance s.windows (points_now s) n.incumbent walks → 1 ≤ length places →
+        IsEarnedRound s.instance s.windows (points_now s) n
+    round-earned n relaxed added clashes some = record {
+      clashes = subst (ClashesBelow s.instance s.windows (points_now s) n.incumbent) (sym relaxed) clashes;
+      some = subst (λ (qs : List Place). 1 ≤ length qs) (sym added) some;
+      few = subst (λ (qs : List Place). length qs ≤ 8) (sym added) are.few;
+      distinct = subst (λ (qs : List Place). Rattle.fp_lists.specs.Distinct.AreDistinct qs) (sym added) are.distinct;
+      short = subst (λ (ws : List (List Leg)). All (IsShortPlace s.instance (points_now s) ws) n.added) (sym relaxed)
+          (subst (λ (qs : List Place). All (IsShortPlace s.instance (points_now s) walks) qs) (sym added) (All-weaker (IsPlaceAmong shorts) (IsShortPlace s.instance (points_now s) walks) place places are.each));
+      new = subst (λ (qs : List Place). All (λ (q : Place). list_has (points_now s q.terminal) q.at ≡ false) qs) (sym added)
+          (All-weaker (IsPlaceAmong shorts) (λ (q : Place). list_has (points_now s q.terminal) q.at ≡ false) new places are.each);
+    }
+      where
+        over : AreTooShort s.instance (points_now s) walks shorts
+        over = AreTooShort_same s.instance walks is.belongs.valid (HasRoutes-relaxed s.instance (windows_in s.windows) (points_now s) walks clashes.is) (points_in s.network) (points_now s) agree-now shorts short
+
+        place : (q : Place) → IsPlaceAmong shorts q → IsShortPlace s.instance (points_now s) walks q
+        place q among = record { short = among.short; is = All-contains (IsShort s.instance (points_now s) walks) shorts among.short over.each among.among; at = among.is }
+
+        new : (q : Place) → IsPlaceAmong shorts q → list_has (points_now s q.terminal) q.at ≡ false
+        new q among =
+            let own : CanBePoint s.instance (points_now s) among.short =
+            CanBePoint_same s.instance (points_in s.network) (points_now s) among.short agree-now (All-contains (CanBePoint s.instance (points_in s.network)) shorts among.short can among.among) in
+            subst (λ (r : Place). list_has (points_now s r.terminal) r.at ≡ false) (sym among.is) own.new

@@ -1,0 +1,205 @@
+-- What a step may do at an open leaf.
+use Rattle.std.proofs.Common.{◌≡◌, ℕ, zero, suc, ◌+◌, ◌<◌, ◌≤◌, inl, inr, Bool, true, false, List, [], ◌∷◌, length, get_or, refl, sym, ap, ap₂, ◌∙◌, subst, arith}
+use Rattle.std.specs.Prelude.{All, IsSomeAnd, None, Option, Some}
+use Rattle.std.specs.Int.{div_ceil}
+use Rattle.std.proofs.lemmas.Bool.{false≢true}
+use Rattle.std.proofs.lemmas.List.Elements.{All-cons, All-nil}
+use Rattle.fp_lists.specs.Distinct.{AreDistinct}
+use Rattle.fp_lists.specs.Numbered.{AllZipFrom}
+use Rattle.fp_lists.proofs.Numbered.{AllZipFrom-weaker}
+use Rattle.fp_model.specs.declared.parts.Leg.{Leg}
+use Rattle.fp_model.specs.declared.parts.Shipment.{Shipment}
+use Rattle.fp_model.specs.Costs.{cost}
+use Rattle.fp_model.specs.Numbered.{shipment_at}
+use Rattle.fp_model.specs.Problem.{Problem}
+use Rattle.fp_model.specs.Routes.{ArcsExist, arcs_of}
+use Rattle.fp_model.proofs.Bounds.{Leads-exist, legs-exist}
+use Rattle.fp_flatnet.specs.Tables.{windows_in}
+use Rattle.fp_longestarcs.specs.Networks.{TimedNetwork, points_in}
+use Rattle.fp_tree.specs.declared.sides.Side.{Side}
+use Rattle.fp_tree.specs.Nodes.{Node, closed_of, fork_of, leaf_at, value_of}
+use Rattle.fp_tree.specs.Trees.{Leaf, tree_leaves}
+use Rattle.fp_allowed.specs.declared.chain_ends.ChainEnd.TheVariants as end
+use Rattle.fp_allowed.specs.Allowed.{IsForcedChain, is_allowed}
+use Rattle.fp_allowed.specs.Chains.{EndsAs}
+use Rattle.fp_allowed.specs.Settings.{Setting}
+use Rattle.fp_allowed.specs.Walks.{IsTimedWalk}
+use Rattle.fp_allowed.proofs.FewerSides.{IsTimedWalk_without_sides}
+use Rattle.fp_allowed.proofs.SamePoints.{is_allowed_same}
+use Rattle.fp_relaxmodel.specs.Relaxed.{AreTimedWalks, IsRelaxedPlan}
+use Rattle.fp_relaxmodel.specs.Terminals.{terminals_on}
+use Rattle.fp_relaxmodel.proofs.RelaxedWalks.{IsRelaxedPlan-timed}
+use Rattle.fp_prices.specs.Rounds.{LeafModel, RoundModel}
+use Rattle.fp_prices.specs.Shares.{ClassShare}
+use Rattle.fp_history.specs.Notes.{last_round, points_of}
+use Rattle.fp_history.specs.Solutions.{AreWalksUnder, HasSeveral}
+use Rattle.fp_session.specs.declared.dividing.Several.{Several}
+use Rattle.fp_session.specs.declared.kept.Kept.{Kept}
+use Rattle.fp_session.specs.declared.moves.Move.{Move}
+use Rattle.fp_session.specs.declared.moves.Move.TheVariants as move
+use Rattle.fp_session.specs.declared.payloads.Payload.{Payload}
+use Rattle.fp_session.specs.declared.searches.Search.{Search}
+use Rattle.fp_session.specs.Dividing.{IsSeveral, NoneSeveral}
+use Rattle.fp_session.specs.Moves.{AtOpenLeaf, IsMove, IsMoveAt, IsOpenMove, IsUnsettled, points_now}
+use Rattle.fp_session.specs.Nodes.{IsKept, IsKeptAs, IsLeafOf, IsSettled}
+use Rattle.fp_session.specs.Outcomes.{HaveGrown, IsFound}
+use Rattle.fp_session.specs.Searches.{IsSearch, history}
+use Rattle.fp_session.proofs.Applied.{of-value, some-value}
+use Rattle.fp_session.proofs.Improvements.{IsKept-grown, setting_of}
+use Rattle.fp_session.proofs.NextRounds.{agree-now}
+use Rattle.fp_session.proofs.ReachedWalks.{NoneSeveral-cheaper, NoneSeveral-routes}
+use Rattle.fp_session.proofs.TreeRanges.{all-at}
+
+-- the arcs of timed walks exist
+walks-exist : (p : Problem) (points : ℕ → List ℕ) (allowed : ℕ → Leg → Bool) (i : ℕ) (ss : List Shipment) (walks : List (List Leg)) →
+    AllZipFrom (λ k (s : Shipment) walk. IsTimedWalk p points (allowed k) s walk) i ss walks → All (ArcsExist p) walks
+walks-exist p points allowed i [] [] timed = All-nil (ArcsExist p)
+walks-exist p points allowed i [] (w ∷ walks) timed = absurd timed
+walks-exist p points allowed i (s ∷ ss) [] timed = absurd timed
+walks-exist p points allowed i (s ∷ ss) (w ∷ walks) timed =
+    All-cons (ArcsExist p) w walks (legs-exist p w (Leads-exist p s.from (arcs_of w) s.to timed.0.leads)) (walks-exist p points allowed (i + 1) ss walks timed.1)
+
+module _ (s : Search) (sides : List Side) (walks : List (List Leg)) (under : AreWalksUnder s.instance s.windows (points_now s) sides walks) where
+  pub under-exist : All (ArcsExist s.instance) walks
+  under-exist = walks-exist s.instance (points_now s) (is_allowed s.instance (windows_in s.windows) (points_now s) sides) 0 s.instance.shipments walks under
+
+  -- walks under sides are timed walks
+  under-timed : AreTimedWalks s.instance (windows_in s.windows) (points_now s) walks
+  under-timed =
+      AllZipFrom-weaker (λ k (t : Shipment) walk. IsTimedWalk s.instance (points_now s) (is_allowed s.instance (windows_in s.windows) (points_now s) sides k) t walk)
+      (λ k (t : Shipment) walk. IsTimedWalk s.instance (points_now s) (is_allowed s.instance (windows_in s.windows) (points_now s) [] k) t walk)
+      (λ k t walk timed. IsTimedWalk_without_sides s.instance (windows_in s.windows) (points_now s) sides k t walk timed) 0 s.instance.shipments walks under
+
+  -- so they are a relaxed plan where no terminal stands twice on one
+  pub under-relaxed : (tables : List (List ClassShare)) → IsSearch s tables → All (λ walk. AreDistinct (terminals_on s.instance walk)) walks →
+      IsRelaxedPlan s.instance (windows_in s.windows) (points_now s) walks
+  under-relaxed tables is apart = IsRelaxedPlan-timed s.instance (windows_in s.windows) (points_now s) walks is.belongs.valid under-timed apart
+
+-- a shipment that has several ways to go at a leaf has them over the points as of the last round
+pub IsSeveral-now : (s : Search) (tables : List (List ClassShare)) (leaf : LeafModel) (sides : List Side) (several : Several) → IsSearch s tables → leaf.setting ≡ setting_of s → leaf.sides ≡ sides →
+    IsSeveral leaf several → HasSeveral s.instance s.windows (points_now s) sides several.shipment
+IsSeveral-now s tables leaf sides several is setting are has =
+    over (subst (λ (l : List Side). IsSeveral (record { setting = setting_of s; sides = l }) several) are
+    (subst (λ (x : Setting). IsSeveral (record { setting = x; sides = leaf.sides }) several) setting has))
+  where
+    same : is_allowed s.instance (windows_in s.windows) (points_in s.network) sides ≡ is_allowed s.instance (windows_in s.windows) (points_now s) sides
+    same = is_allowed_same s.instance is.belongs.valid (points_in s.network) (points_now s) (agree-now s tables is) (windows_in s.windows) sides
+
+    over : IsSeveral (record { setting = setting_of s; sides = sides }) several → HasSeveral s.instance s.windows (points_now s) sides several.shipment
+    over own = record {
+      exists = own.exists;
+      chain = own.chain;
+      terminal = several.terminal;
+      forced = subst (λ (a : ℕ → Leg → Bool). IsForcedChain s.instance (a several.shipment) (shipment_at s.instance several.shipment) own.chain) same own.forced;
+      ends = subst (λ (a : ℕ → Leg → Bool). EndsAs s.instance (a several.shipment) (shipment_at s.instance several.shipment) own.chain (end.Several several.terminal)) same own.ends;
+    }
+
+-- what may be done at a leaf that has something to search for may be done at it
+pub IsMoveAt-open : (s : Search) (tables : List (List ClassShare)) (leaf : ℕ) (sides : List Side) (kept : Kept) (m : Move) → IsUnsettled (history s tables) s.cost sides kept →
+    IsOpenMove s tables leaf sides m → IsMoveAt s tables leaf sides kept m
+IsMoveAt-open s tables leaf sides kept move.Close unsettled is = absurd is
+IsMoveAt-open s tables leaf sides kept (move.Better cheaper) unsettled is = (unsettled, is)
+IsMoveAt-open s tables leaf sides kept (move.Refine note refined) unsettled is = (unsettled, is)
+IsMoveAt-open s tables leaf sides kept (move.Divide division) unsettled is = (unsettled, is.0, is.1)
+IsMoveAt-open s tables leaf sides kept (move.Stop left) unsettled is = (unsettled, is)
+
+-- a leaf of which something is found has something to search for, where it is worth less than the cost
+pub IsUnsettled-found : (s : Search) (before after : List (List ClassShare)) (sides : List Side) (kept : Kept) (walks : List (List Leg)) → IsFound (history s before) sides kept walks →
+    div_ceil kept.value s.instance.scale < s.cost → IsUnsettled (history s after) s.cost sides kept
+IsUnsettled-found s before after sides kept walks found below = record {
+  some = found.some;
+  below = below;
+  starts = record { linear = found.starts.linear; even = found.starts.even };
+}
+
+-- a move at an open leaf, by what is kept of it
+pub IsMove-at : (s : Search) (tables : List (List ClassShare)) (k : ℕ) (l : Leaf (Node Payload)) (kept : Kept) (m : Move) → leaf_at s.tree k ≡ Some l → closed_of l.node ≡ false →
+    IsKept (history s tables) l.sides kept.payload kept.value → (kept.payload.empty ≡ false → value_of l.node ≤ kept.value) → IsMoveAt s tables k l.sides kept m → IsMove s tables k kept m
+IsMove-at s tables k l kept m at still keeps no_less may = record {
+  kept = here (λ x. IsKept (history s tables) x.sides kept.payload kept.value) keeps;
+  no_less = here (λ x. kept.payload.empty ≡ false → value_of x.node ≤ kept.value) no_less;
+  planned = here (λ x. IsMoveAt s tables k x.sides kept m) may;
+}
+  where
+    here : (P : Leaf (Node Payload) → Type 0) → P l → AtOpenLeaf s.tree k P
+    here P holds = subst (λ (o : Option (Leaf (Node Payload))). IsSomeAnd o (λ (x : Leaf (Node Payload)). (closed_of x.node ≡ false) × P x)) (sym at) (still, holds)
+
+module _ (s : Search) (before after : List (List ClassShare)) (k : ℕ) (sides : List Side) (old : Kept) (was : AtOpenLeaf s.tree k (λ l. IsKeptAs l old))
+    (on : IsSomeAnd (leaf_at s.tree k) (λ (l : Leaf (Node Payload)). l.sides ≡ sides)) where
+  -- the leaf with the number
+  chosen : (l : Leaf (Node Payload)) × (leaf_at s.tree k ≡ Some l) × ((closed_of l.node ≡ false) × IsKeptAs l old)
+  chosen = some-value (leaf_at s.tree k) (λ (l : Leaf (Node Payload)). (closed_of l.node ≡ false) × IsKeptAs l old) was
+
+  way : chosen.0.sides ≡ sides
+  way = of-value (leaf_at s.tree k) chosen.0 (λ (l : Leaf (Node Payload)). l.sides ≡ sides) chosen.1 on
+
+  -- what was kept of it is true
+  pub was-kept : IsSearch s before → IsKept (history s before) sides old.payload old.value
+  was-kept is =
+      subst (λ (ss : List Side). IsKept (history s before) ss old.payload old.value) way
+      (subst (λ (p : Payload). IsKept (history s before) chosen.0.sides p old.value) chosen.2.1.payload
+      (subst (λ (v : ℕ). IsKept (history s before) chosen.0.sides chosen.0.node.payload v) chosen.2.1.value
+      (all-at (IsLeafOf (history s before) s.cost) (tree_leaves fork_of s.tree) k chosen.0 is.leaves chosen.1).kept))
+
+  -- a move there, by what is kept of it now
+  pub chosen-move : (kept : Kept) (m : Move) → IsKept (history s after) sides kept.payload kept.value → (kept.payload.empty ≡ false → old.value ≤ kept.value) → IsMoveAt s after k sides kept m → IsMove s after k kept m
+  chosen-move kept m keeps no_less may =
+      IsMove-at s after k chosen.0 kept m chosen.1 chosen.2.0 (subst (λ (ss : List Side). IsKept (history s after) ss kept.payload kept.value) (sym way) keeps)
+      (λ some. omega (arith, no_less some, chosen.2.1.value)) (subst (λ (ss : List Side). IsMoveAt s after k ss kept m) (sym way) may)
+
+  -- an empty leaf is closed
+  pub empty-move : (kept : Kept) → IsKept (history s after) sides kept.payload kept.value → kept.payload.empty ≡ true → IsMove s after k kept move.Close
+  empty-move kept keeps empty =
+      let settled : IsSettled (history s after) s.cost kept.payload kept.value = inl empty in
+      chosen-move kept move.Close keeps (λ some. absurd (false≢true (sym some ∙ empty))) settled
+
+  -- and a leaf that is worth at least the cost
+  pub dear-move : (kept : Kept) (walks : List (List Leg)) → IsFound (history s after) sides kept walks → old.value ≤ kept.value → s.cost ≤ div_ceil kept.value s.instance.scale → IsMove s after k kept move.Close
+  dear-move kept walks found no_less dear =
+      let settled : IsSettled (history s after) s.cost kept.payload kept.value = inr dear in chosen-move kept move.Close found.kept (λ some. no_less) settled
+
+  -- at another the move is one that may be made there
+  pub found-move : (between : List (List ClassShare)) (kept : Kept) (walks : List (List Leg)) (m : Move) → IsFound (history s between) sides kept walks → HaveGrown s.instance between after →
+      old.value ≤ kept.value → div_ceil kept.value s.instance.scale < s.cost → IsOpenMove s after k sides m → IsMove s after k kept m
+  found-move between kept walks m found grown no_less below may =
+      chosen-move kept m (IsKept-grown s between after sides kept grown found.kept) (λ some. no_less)
+      (IsMoveAt-open s after k sides kept m (IsUnsettled-found s between after sides kept walks found below) may)
+
+-- where no shipment of a leaf has several ways to go, the walks that were found are routes and cost
+-- less than the incumbent
+pub NoneSeveral-found : (s : Search) (tables : List (List ClassShare)) (leaf : LeafModel) (sides : List Side) (kept : Kept) (walks : List (List Leg)) (n : ℕ) → IsSearch s tables → leaf.setting ≡ setting_of s →
+    leaf.sides ≡ sides → IsFound (history s tables) sides kept walks → div_ceil kept.value s.instance.scale < s.cost → n ≡ length s.instance.shipments → NoneSeveral leaf n →
+    All (λ walk. AreDistinct (terminals_on s.instance walk)) walks × (cost s.instance walks < s.cost)
+NoneSeveral-found s tables leaf sides kept walks n is setting are found below long none = (
+  NoneSeveral-routes (history s tables) s.network sides is.belongs (agree-now s tables is) kept walks found own,
+  NoneSeveral-cheaper (history s tables) s.network sides is.belongs (agree-now s tables is) kept walks found own s.cost below,
+)
+  where
+    own : NoneSeveral (record { setting = setting_of s; sides = sides }) (length s.instance.shipments)
+    own = subst (λ (m : ℕ). NoneSeveral (record { setting = setting_of s; sides = sides }) m) long
+        (subst (λ (l : List Side). NoneSeveral (record { setting = setting_of s; sides = l }) n) are
+        (subst (λ (x : Setting). NoneSeveral (record { setting = x; sides = leaf.sides }) n) setting none))
+
+-- a leaf over a network that is the search's is in its setting
+pub setting-over : (s : Search) (r : RoundModel) (net : TimedNetwork) (x : Setting) → r ≡ record { problem = s.instance; network = net } → net ≡ s.network →
+    x ≡ record { problem = r.problem; windows = s.windows; network = r.network } → x ≡ setting_of s
+setting-over s r net x is same of =
+    of ∙ ap (λ (q : RoundModel). let y : Setting = record { problem = q.problem; windows = s.windows; network = q.network } in y) is
+    ∙ ap (λ (n : TimedNetwork). let y : Setting = record { problem = s.instance; windows = s.windows; network = n } in y) same
+
+-- what is so of a leaf that is open is so at an open leaf
+pub AtOpenLeaf-both : (nodes : List (Node Payload)) (k : ℕ) (P : Leaf (Node Payload) → Type 0) → IsSomeAnd (leaf_at nodes k) (λ (l : Leaf (Node Payload)). closed_of l.node ≡ false) → IsSomeAnd (leaf_at nodes k) P →
+    AtOpenLeaf nodes k P
+AtOpenLeaf-both nodes k P still holds = both (leaf_at nodes k) still holds
+  where
+    both : (o : Option (Leaf (Node Payload))) → IsSomeAnd o (λ (l : Leaf (Node Payload)). closed_of l.node ≡ false) → IsSomeAnd o P → IsSomeAnd o (λ (l : Leaf (Node Payload)). (closed_of l.node ≡ false) × P l)
+    both None one other = absurd one
+    both (Some l) one other = (one, other)
+
+-- an open leaf that was empty is closed
+pub empty-stays : (s : Search) (tables : List (List ClassShare)) (k : ℕ) (old : Kept) → IsSearch s tables → AtOpenLeaf s.tree k (λ l. IsKeptAs l old) → old.payload.empty ≡ true → IsMove s tables k old move.Close
+empty-stays s tables k old is was empty =
+    let found = some-value (leaf_at s.tree k) (λ (l : Leaf (Node Payload)). (closed_of l.node ≡ false) × IsKeptAs l old) was in
+    let on : IsSomeAnd (leaf_at s.tree k) (λ (l : Leaf (Node Payload)). l.sides ≡ found.0.sides) =
+    subst (λ (o : Option (Leaf (Node Payload))). IsSomeAnd o (λ (l : Leaf (Node Payload)). l.sides ≡ found.0.sides)) (sym found.1) refl in
+    empty-move s tables tables k found.0.sides old was on old (was-kept s tables tables k found.0.sides old was on is) empty

@@ -1,0 +1,124 @@
+-- What a search knows depends on what it has in hand alone.
+use Rattle.std.proofs.Common.{◌≡◌, ℕ, ◌+◌, ◌≤◌, List, [], ◌∷◌, ◌++◌, length, take, refl, sym, ap, ◌∙◌, subst, arith}
+use Rattle.std.proofs.Math.Seq.{take-append_seam}
+use Rattle.std.proofs.lemmas.List.{length-append}
+use Rattle.std.specs.Prelude.{All, IfSome, IsSomeAnd, None, Option, Some}
+use Rattle.std.specs.declared.alloc.Global.{Global}
+use Rattle.std.specs.declared.vec.Vec.{Vec}
+use Rattle.fp_longestarcs.specs.Whole.{IsNetworkOf}
+use Rattle.fp_tree.specs.Nodes.{fork_of, split_count}
+use Rattle.fp_tree.specs.Trees.{tree_branches, tree_leaves}
+use Rattle.fp_prices.specs.Shares.{ClassShare}
+use Rattle.fp_history.specs.declared.endings.Left.{Left}
+use Rattle.fp_history.specs.declared.endings.Left.TheVariants.{Nothing, Several, Timing}
+use Rattle.fp_history.specs.Clashes.{ClashesBelow}
+use Rattle.fp_history.specs.Notes.{History, Refinement, added_of, last_round, points_of}
+use Rattle.fp_history.specs.Solutions.{AreWalksUnder, HasSeveral}
+use Rattle.fp_history.specs.Traces.{IsEarnedTrace}
+use Rattle.fp_session.specs.declared.searches.Search.{Search}
+use Rattle.fp_session.specs.Nodes.{IsLeafOf, IsSplitOf}
+use Rattle.fp_session.specs.Outcomes.{HaveGrown}
+use Rattle.fp_session.specs.Searches.{InHand, IsLeft, IsLeftOpen, IsSearch, history, in_hand}
+use Rattle.fp_session.proofs.SearchChanges.{IsSearch-with_tables}
+
+module _ (s : Search) (tables : List (List ClassShare)) where
+  module _ (trace : Vec Refinement Global) (same : trace.items ≡ s.trace.items) where
+    -- the history with the same notes
+    at : (P : History → Type 0) → P (history s tables) → P (history (record s { trace = trace }) tables)
+    at P = subst (λ (ns : List Refinement). P (record { problem = s.instance; windows = s.windows; trace = ns; tables = tables })) (sym same)
+
+    -- what it left is so
+    left-trace : (o : Option Left) → IfSome o (IsLeft s tables) → IfSome o (IsLeft (record s { trace = trace }) tables)
+    left-trace None is = tt
+    left-trace (Some Nothing) is = is
+    left-trace (Some (Timing leaf relaxed)) is =
+        at
+        (λ h.
+        (last_round h ≡ s.budget.rounds) × ClashesBelow s.instance s.windows (points_of h (last_round h)) s.cost relaxed
+        × IsLeftOpen h s.cost s.tree leaf (λ sides. AreWalksUnder s.instance s.windows (points_of h (last_round h)) sides relaxed))
+        is
+    left-trace (Some (Several leaf shipment)) is =
+        at (λ h. (split_count s.tree ≡ s.budget.branches) × IsLeftOpen h s.cost s.tree leaf (λ sides. HasSeveral s.instance s.windows (points_of h (last_round h)) sides shipment)) is
+
+    -- a search with the same notes
+    pub IsSearch-trace : IsSearch s tables → IsSearch (record s { trace = trace }) tables
+    IsSearch-trace is = record {
+      belongs = is.belongs;
+      budget = is.budget;
+      incumbent = is.incumbent;
+      cheaper = is.cheaper;
+      trace = at (λ h. IsEarnedTrace h s.started s.cost) is.trace;
+      rounds = at (λ h. last_round h ≤ s.budget.rounds) is.rounds;
+      points = is.points;
+      added = is.added ∙ sym (ap added_of same);
+      network = at (λ h. IsNetworkOf s.instance s.points (last_round h) s.network) is.network;
+      prices = is.prices;
+      tails = is.tails;
+      few = is.few;
+      splits = at (λ h. All (IsSplitOf h s.started s.cost) (tree_branches fork_of s.tree)) is.splits;
+      leaves = at (λ h. All (IsLeafOf h s.cost) (tree_leaves fork_of s.tree)) is.leaves;
+      left = left-trace s.left is.left;
+    }
+
+  -- what it left is taken out of it
+  pub IsSearch-taken : IsSearch s tables → IsSearch (record s { left = None }) tables
+  IsSearch-taken is = record {
+    belongs = is.belongs;
+    budget = is.budget;
+    incumbent = is.incumbent;
+    cheaper = is.cheaper;
+    trace = is.trace;
+    rounds = is.rounds;
+    points = is.points;
+    added = is.added;
+    network = is.network;
+    prices = is.prices;
+    tails = is.tails;
+    few = is.few;
+    splits = is.splits;
+    leaves = is.leaves;
+    left = tt;
+  }
+
+  pub IsLeft-taken : (left : Left) → IsLeft s tables left → IsLeft (record s { left = None }) tables left
+  IsLeft-taken Nothing is = is
+  IsLeft-taken (Timing leaf relaxed) is = is
+  IsLeft-taken (Several leaf shipment) is = is
+
+-- a search of what is in hand, with a vector of its notes
+abbrev rebuild : InHand → Vec Refinement Global → Search
+rebuild h trace = record {
+  instance = h.instance;
+  windows = h.windows;
+  budget = h.budget;
+  started = h.started;
+  incumbent = h.incumbent;
+  cost = h.cost;
+  points = h.points;
+  network = h.network;
+  tree = h.tree;
+  trace = trace;
+  left = h.left;
+}
+
+-- a search with the same in hand
+pub IsSearch-hand : (s t : Search) (tables : List (List ClassShare)) → in_hand t ≡ in_hand s → IsSearch s tables → IsSearch t tables
+IsSearch-hand s t tables same is =
+    subst (λ (h : InHand). IsSearch (rebuild h t.trace) tables) (sym same) (IsSearch-trace s tables t.trace (ap (λ (h : InHand). h.trace) same) is)
+
+-- a search with tables that have grown
+pub IsSearch-grown : (s : Search) (before after : List (List ClassShare)) → HaveGrown s.instance before after → s.left ≡ None → IsSearch s before → IsSearch s after
+IsSearch-grown s before after grown going is =
+    subst (IsSearch s) (sym grown.is) (IsSearch-with_tables s before is going grown.more (subst (Rattle.fp_duals.specs.PriceTables.ArePriceTables s.instance) grown.is grown.prices))
+
+-- tables that have grown, cut to as many as they were
+pub cut-back : (p : Rattle.fp_model.specs.Problem.Problem) (before after cut : List (List ClassShare)) (count : ℕ) → HaveGrown p before after → count ≡ length before → cut ≡ take count after → cut ≡ before
+cut-back p before after cut count grown is made =
+    made ∙ ap (take count) grown.is ∙ ap (λ (n : ℕ). take n (before ++ grown.more)) is ∙ take-append_seam before grown.more
+
+pub cut-few : (p : Rattle.fp_model.specs.Problem.Problem) (before after : List (List ClassShare)) (count : ℕ) → HaveGrown p before after → count ≡ length before → count ≤ length after
+cut-few p before after count grown is = omega (arith, is, ap (λ (ts : List (List ClassShare)). length ts) grown.is, length-append before grown.more)
+
+-- with tables that are as they were
+pub IsSearch-back : (s t : Search) (before cut : List (List ClassShare)) → in_hand t ≡ in_hand s → cut ≡ before → IsSearch s before → IsSearch t cut
+IsSearch-back s t before cut same tables is = subst (IsSearch t) (sym tables) (IsSearch-hand s t before same is)

@@ -1,0 +1,282 @@
+-- What a search knows stays true with each of its changes.
+use Rattle.std.proofs.Common.{◌≡◌, ℕ, zero, suc, ◌+◌, ◌<◌, ◌≤◌, ◌⊎◌, ⊎_elim, inl, inr, Bool, true, false, List, [], ◌∷◌, ◌++◌, length, refl, sym, ap, ◌∙◌, subst, arith}
+use Rattle.std.specs.Prelude.{All, IfSome, MatchBool, None, Option, Some}
+use Rattle.std.specs.Int.{div_ceil}
+use Rattle.std.specs.declared.alloc.Global.{Global}
+use Rattle.std.specs.declared.vec.Vec.{Vec}
+use Rattle.std.proofs.lemmas.Bool.{false≢true}
+use Rattle.std.proofs.lemmas.List.{length-append}
+use Rattle.std.proofs.lemmas.List.Elements.{All-weaker}
+use Rattle.fp_prices.specs.declared.leaf_prices.LeafPrice.{LeafPrice}
+use Rattle.fp_prices.proofs.TableAppends.{HasKind-append}
+use Rattle.fp_timenodes.specs.declared.places.AddedPoint.{AddedPoint}
+use Rattle.fp_timenodes.specs.Floor.{HaveSamePoints}
+use Rattle.fp_timenodes.specs.Points.{TimePoints, times_at}
+use Rattle.fp_flatnet.specs.Initial.{initial_points}
+use Rattle.fp_longestarcs.specs.Whole.{IsNetworkOf}
+use Rattle.fp_tree.specs.declared.sides.Side.{Side}
+use Rattle.fp_tree.specs.Nodes.{Node, close_leaf, closed_of, divide_leaf, fork_of, leaf_at, open_leaf, put_leaf, split_count, value_of}
+use Rattle.fp_tree.specs.Sides.{Fork}
+use Rattle.fp_tree.specs.Trees.{Branch, Leaf, tree_branches, tree_leaves, with_leaf}
+use Rattle.fp_allowed.specs.Allowed.{tails_of}
+use Rattle.fp_prices.specs.Shares.{ClassShare}
+use Rattle.fp_duals.specs.PriceTables.{ArePriceTables}
+use Rattle.fp_history.specs.declared.endings.Left.{Left}
+use Rattle.fp_history.specs.declared.endings.Left.TheVariants.{Nothing, Several, Timing}
+use Rattle.fp_history.specs.Notes.{History, Refinement, added_of, last_round, points_added, with_note, with_tables}
+use Rattle.fp_history.specs.PrintedLeaves.{IsEmptyAt}
+use Rattle.fp_history.specs.Splits.{IsEarnedSplit}
+use Rattle.fp_history.specs.Traces.{IsEarnedTrace}
+use Rattle.fp_history.proofs.PointsKept.{added_of_push}
+use Rattle.fp_history.proofs.Stays.{IsEarnedAt-with_note, IsEarnedSplit-cheaper, IsEarnedSplit-with_note, IsEarnedSplit-with_tables, IsEarnedTrace-cheaper, IsEarnedTrace-with_note, IsEarnedTrace-with_tables, IsEmptyAt-with_note}
+use Rattle.fp_session.specs.declared.kept.Kept.{Kept}
+use Rattle.fp_session.specs.declared.moves.Cheaper.{Cheaper}
+use Rattle.fp_session.specs.declared.moves.Division.{Division}
+use Rattle.fp_session.specs.declared.moves.Refined.{Refined}
+use Rattle.fp_session.specs.declared.payloads.Payload.{Payload}
+use Rattle.fp_session.specs.declared.searches.Search.{Search}
+use Rattle.fp_session.specs.Moves.{IsCheaper, IsDivision, IsNextRound, fork_in}
+use Rattle.fp_session.specs.Nodes.{IsEarnedAs, IsKept, IsLeafOf, IsPriceOf, IsSettled, IsSplitOf, split_note}
+use Rattle.fp_session.specs.Searches.{IsLeft, IsSearch, history}
+use Rattle.fp_session.proofs.ImprovedLeaves.{IsKept-with_tables}
+use Rattle.fp_session.proofs.TreeChanges.{branches-close, branches-divide, branches-put, leaves-close, leaves-divide, leaves-put, tails-close, tails-divide, tails-put}
+
+-- nothing is left where the search hasn't ended
+nothing-left : (s : Search) (tables : List (List ClassShare)) → s.left ≡ None → IfSome s.left (IsLeft s tables)
+nothing-left s tables none = subst (λ (o : Option Left). IfSome o (IsLeft s tables)) (sym none) tt
+
+module _ (h : History) (started cost : ℕ) where
+  -- a leaf and a split with more tables
+  pub IsLeafOf-with_tables : (more : List (List ClassShare)) (l : Leaf (Node Payload)) → IsLeafOf h cost l → IsLeafOf (with_tables h more) cost l
+  IsLeafOf-with_tables more l is = record { kept = IsKept-with_tables h more l.sides l.node.payload (value_of l.node) is.kept; closed = is.closed }
+
+  pub IsSplitOf-with_tables : (more : List (List ClassShare)) (b : Branch (Node Payload)) → IsSplitOf h started cost b → IsSplitOf (with_tables h more) started cost b
+  IsSplitOf-with_tables more b is = record {
+    price = record { round = is.price.round; kind = HasKind-append h.tables more b.node.payload.price.kind is.price.kind };
+    earned = IsEarnedSplit-with_tables h started cost b.sides (split_note b.node.payload) is.earned more is.price.kind;
+    range = is.range;
+    divides = is.divides;
+  }
+
+  -- under a cheaper incumbent
+  pub IsLeafOf-cheaper : (cheaper : ℕ) → cheaper ≤ cost → (l : Leaf (Node Payload)) → IsLeafOf h cost l → IsLeafOf h cheaper l
+  IsLeafOf-cheaper cheaper le l is = record {
+    kept = is.kept;
+    closed = λ shut.
+        ⊎_elim
+        (λ (empty : l.node.payload.empty ≡ true). let e : IsSettled h cheaper l.node.payload (value_of l.node) = inl empty in e)
+        (λ (worth : cost ≤ div_ceil (value_of l.node) h.problem.scale). let e : IsSettled h cheaper l.node.payload (value_of l.node) = inr (omega (arith, le, worth)) in e)
+        (is.closed shut);
+  }
+
+  pub IsSplitOf-cheaper : (cheaper : ℕ) → cheaper ≤ cost → (b : Branch (Node Payload)) → IsSplitOf h started cost b → IsSplitOf h started cheaper b
+  IsSplitOf-cheaper cheaper le b is = record {
+    price = is.price;
+    earned = IsEarnedSplit-cheaper h started cost b.sides (split_note b.node.payload) is.earned cheaper le;
+    range = is.range;
+    divides = is.divides;
+  }
+
+  -- and with one more note
+  IsPriceOf-with_note : (n : Refinement) (price : LeafPrice) → IsPriceOf h price → IsPriceOf (with_note h n) price
+  IsPriceOf-with_note n price is = record { round = omega (arith, is.round, length-append h.trace (n ∷ [])); kind = is.kind }
+
+  pub IsLeafOf-with_note : (n : Refinement) → n.round ≡ last_round h + 1 → (l : Leaf (Node Payload)) → IsLeafOf h cost l → IsLeafOf (with_note h n) cost l
+  IsLeafOf-with_note n next l is = record {
+    kept = record {
+      price = IsPriceOf-with_note n l.node.payload.price is.kept.price;
+      worth = by_mark l.node.payload.empty is.kept.worth;
+    };
+    closed = is.closed;
+  }
+    where
+      by_mark : (b : Bool) → MatchBool b (IsEmptyAt h l.sides l.node.payload.price) (IsEarnedAs h l.sides l.node.payload.price (value_of l.node)) →
+          MatchBool b (IsEmptyAt (with_note h n) l.sides l.node.payload.price) (IsEarnedAs (with_note h n) l.sides l.node.payload.price (value_of l.node))
+      by_mark true own = IsEmptyAt-with_note h n l.sides l.node.payload.price (omega (arith, next, is.kept.price.round)) own
+      by_mark false own = record { earned = IsEarnedAt-with_note h n l.sides l.node.payload.price (omega (arith, next, is.kept.price.round)) own.earned; is = own.is }
+
+  pub IsSplitOf-with_note : (n : Refinement) → n.round ≡ last_round h + 1 → (b : Branch (Node Payload)) → IsSplitOf h started cost b → IsSplitOf (with_note h n) started cost b
+  IsSplitOf-with_note n next b is = record {
+    price = IsPriceOf-with_note n b.node.payload.price is.price;
+    earned = IsEarnedSplit-with_note h started cost b.sides (split_note b.node.payload) is.earned n (omega (arith, next, is.price.round));
+    range = is.range;
+    divides = is.divides;
+  }
+
+module _ (s : Search) (tables : List (List ClassShare)) (is : IsSearch s tables) (going : s.left ≡ None) where
+  -- more tables
+  pub IsSearch-with_tables : (more : List (List ClassShare)) → ArePriceTables s.instance (tables ++ more) → IsSearch s (tables ++ more)
+  IsSearch-with_tables more grown = record {
+    belongs = is.belongs;
+    budget = is.budget;
+    incumbent = is.incumbent;
+    cheaper = is.cheaper;
+    trace = IsEarnedTrace-with_tables (history s tables) s.started s.cost is.trace more;
+    rounds = is.rounds;
+    points = is.points;
+    added = is.added;
+    network = is.network;
+    prices = grown;
+    tails = is.tails;
+    few = is.few;
+    splits = All-weaker (IsSplitOf (history s tables) s.started s.cost) (IsSplitOf (history s (tables ++ more)) s.started s.cost)
+        (IsSplitOf-with_tables (history s tables) s.started s.cost more) (tree_branches fork_of s.tree) is.splits;
+    leaves = All-weaker (IsLeafOf (history s tables) s.cost) (IsLeafOf (history s (tables ++ more)) s.cost)
+        (IsLeafOf-with_tables (history s tables) s.started s.cost more) (tree_leaves fork_of s.tree) is.leaves;
+    left = nothing-left s (tables ++ more) going;
+  }
+
+  -- a cheaper incumbent
+  pub IsSearch-better : (c : Cheaper) → IsCheaper s c → IsSearch (record s { incumbent = c.plan; cost = c.cost }) tables
+  IsSearch-better c better = record {
+    belongs = is.belongs;
+    budget = is.budget;
+    incumbent = better.incumbent;
+    cheaper = omega (arith, better.less, is.cheaper);
+    trace = IsEarnedTrace-cheaper (history s tables) s.started s.cost is.trace c.cost (omega (arith, better.less));
+    rounds = is.rounds;
+    points = is.points;
+    added = is.added;
+    network = is.network;
+    prices = is.prices;
+    tails = is.tails;
+    few = is.few;
+    splits = All-weaker (IsSplitOf (history s tables) s.started s.cost) (IsSplitOf (history s tables) s.started c.cost)
+        (IsSplitOf-cheaper (history s tables) s.started s.cost c.cost (omega (arith, better.less))) (tree_branches fork_of s.tree) is.splits;
+    leaves = All-weaker (IsLeafOf (history s tables) s.cost) (IsLeafOf (history s tables) c.cost)
+        (IsLeafOf-cheaper (history s tables) s.started s.cost c.cost (omega (arith, better.less))) (tree_leaves fork_of s.tree) is.leaves;
+    left = nothing-left (record s { incumbent = c.plan; cost = c.cost }) tables going;
+  }
+
+  module _ (k : ℕ) (l : Leaf (Node Payload)) (at : leaf_at s.tree k ≡ Some l) where
+    -- what was found of an open leaf
+    pub IsSearch-put : (payload : Payload) (value : ℕ) → IsKept (history s tables) l.sides payload value → closed_of l.node ≡ false →
+        split_count (with_leaf fork_of (put_leaf payload value) k s.tree) ≡ split_count s.tree → IsSearch (record s { tree = with_leaf fork_of (put_leaf payload value) k s.tree }) tables
+    IsSearch-put payload value kept still count = record {
+      belongs = is.belongs;
+      budget = is.budget;
+      incumbent = is.incumbent;
+      cheaper = is.cheaper;
+      trace = is.trace;
+      rounds = is.rounds;
+      points = is.points;
+      added = is.added;
+      network = is.network;
+      prices = is.prices;
+      tails = tails-put (tails_of s.instance) payload value s.tree k is.tails;
+      few = omega (arith, count, is.few);
+      splits = subst (All (IsSplitOf (history s tables) s.started s.cost)) (sym (branches-put s.tree k l at payload value)) is.splits;
+      leaves = leaves-put s.tree k l at (IsLeafOf (history s tables) s.cost) payload value is.leaves
+          (record { kept = kept; closed = λ shut. absurd (false≢true (sym still ∙ shut)) });
+      left = nothing-left (record s { tree = with_leaf fork_of (put_leaf payload value) k s.tree }) tables going;
+    }
+
+    -- a leaf that is settled is closed
+    pub IsSearch-close : IsKept (history s tables) l.sides l.node.payload (value_of l.node) → IsSettled (history s tables) s.cost l.node.payload (value_of l.node) →
+        split_count (with_leaf fork_of close_leaf k s.tree) ≡ split_count s.tree → IsSearch (record s { tree = with_leaf fork_of close_leaf k s.tree }) tables
+    IsSearch-close kept settled count = record {
+      belongs = is.belongs;
+      budget = is.budget;
+      incumbent = is.incumbent;
+      cheaper = is.cheaper;
+      trace = is.trace;
+      rounds = is.rounds;
+      points = is.points;
+      added = is.added;
+      network = is.network;
+      prices = is.prices;
+      tails = tails-close (tails_of s.instance) s.tree k is.tails;
+      few = omega (arith, count, is.few);
+      splits = subst (All (IsSplitOf (history s tables) s.started s.cost)) (sym (branches-close s.tree k l at)) is.splits;
+      leaves = leaves-close s.tree k l at (IsLeafOf (history s tables) s.cost) is.leaves (record { kept = kept; closed = λ shut. settled });
+      left = nothing-left (record s { tree = with_leaf fork_of close_leaf k s.tree }) tables going;
+    }
+
+    -- a leaf is divided that was earned and worth less than the incumbent costs, with that cost in its
+    -- payload
+    pub IsSearch-divide : (d : Division) → IsDivision (history s tables) l.sides d → IsEarnedSplit (history s tables) s.started s.cost l.sides (split_note l.node.payload) →
+        IsPriceOf (history s tables) l.node.payload.price →
+        split_count (with_leaf fork_of (divide_leaf (fork_in d) (open_leaf d.first.payload d.first.value) (open_leaf d.second.payload d.second.value)) k s.tree) ≤ s.budget.branches →
+        IsSearch (record s { tree = with_leaf fork_of (divide_leaf (fork_in d) (open_leaf d.first.payload d.first.value) (open_leaf d.second.payload d.second.value)) k s.tree }) tables
+    IsSearch-divide d division earned price count = record {
+      belongs = is.belongs;
+      budget = is.budget;
+      incumbent = is.incumbent;
+      cheaper = is.cheaper;
+      trace = is.trace;
+      rounds = is.rounds;
+      points = is.points;
+      added = is.added;
+      network = is.network;
+      prices = is.prices;
+      tails = tails-divide (tails_of s.instance) (fork_in d) d.first.payload d.second.payload d.first.value d.second.value s.tree k division.tail is.tails;
+      few = count;
+      splits = branches-divide s.tree k l at (IsSplitOf (history s tables) s.started s.cost) (fork_in d) d.first.payload d.second.payload d.first.value d.second.value is.splits
+          (record { price = price; earned = earned; range = division.range; divides = division.divides });
+      leaves = leaves-divide s.tree k l at (IsLeafOf (history s tables) s.cost) (fork_in d) d.first.payload d.second.payload d.first.value d.second.value is.leaves
+          (record { kept = division.first; closed = λ shut. absurd (false≢true shut) }) (record { kept = division.second; closed = λ shut. absurd (false≢true shut) });
+      left = nothing-left (record s { tree = with_leaf fork_of (divide_leaf (fork_in d) (open_leaf d.first.payload d.first.value) (open_leaf d.second.payload d.second.value)) k s.tree }) tables going;
+    }
+
+  -- one more round
+  pub IsSearch-refine : (note : Refinement) (r : Refined) (trace : Vec Refinement Global) → trace.items ≡ s.trace.items ++ (note ∷ []) → IsNextRound s note r →
+      IsSearch (record s { points = r.points; network = r.network; trace = trace }) tables
+  IsSearch-refine note r trace grown next = record {
+    belongs = is.belongs;
+    budget = is.budget;
+    incumbent = is.incumbent;
+    cheaper = is.cheaper;
+    trace = at (λ h. IsEarnedTrace h s.started s.cost)
+        (IsEarnedTrace-with_note (history s tables) s.started s.cost is.trace note next.round next.incumbent is.cheaper next.earned);
+    rounds = omega (arith, next.left, long);
+    points = record {
+      terminals = ap (λ (v : TimePoints). v.terminals) next.refined.points ∙ is.points.terminals;
+      few = omega (arith, is.points.few, ap (λ (v : TimePoints). length v.first) next.refined.points);
+      first = subst (λ (v : TimePoints). (terminal : ℕ) → terminal < length s.instance.terminals → HaveSamePoints (times_at v.first terminal ++ 0 ∷ []) (initial_points s.instance s.windows.anchors terminal))
+          (sym next.refined.points) is.points.first;
+    };
+    added = ap (λ (v : TimePoints). v.added) next.refined.points ∙ ap (λ (qs : List AddedPoint). qs ++ points_added note.round note.added) is.added
+        ∙ sym (added_of_push s.trace.items note) ∙ ap added_of (sym grown);
+    network = subst (λ (k : ℕ). IsNetworkOf s.instance r.points k r.network) (omega (arith, next.round, long)) next.refined.network;
+    prices = is.prices;
+    tails = is.tails;
+    few = is.few;
+    splits = at (λ h. All (IsSplitOf h s.started s.cost) (tree_branches fork_of s.tree))
+        (All-weaker (IsSplitOf (history s tables) s.started s.cost) (IsSplitOf (with_note (history s tables) note) s.started s.cost)
+        (IsSplitOf-with_note (history s tables) s.started s.cost note next.round) (tree_branches fork_of s.tree) is.splits);
+    leaves = at (λ h. All (IsLeafOf h s.cost) (tree_leaves fork_of s.tree))
+        (All-weaker (IsLeafOf (history s tables) s.cost) (IsLeafOf (with_note (history s tables) note) s.cost)
+        (IsLeafOf-with_note (history s tables) s.started s.cost note next.round) (tree_leaves fork_of s.tree) is.leaves);
+    left = nothing-left (record s { points = r.points; network = r.network; trace = trace }) tables going;
+  }
+    where
+      long : length trace.items ≡ length s.trace.items + 1
+      long = omega (arith, ap (λ (ns : List Refinement). length ns) grown, length-append s.trace.items (note ∷ []))
+
+      at : (P : History → Type 0) → P (with_note (history s tables) note) → P (record { problem = s.instance; windows = s.windows; trace = trace.items; tables = tables })
+      at P = subst (λ (ns : List Refinement). P (record { problem = s.instance; windows = s.windows; trace = ns; tables = tables })) (sym grown)
+
+  -- and its end
+  pub IsSearch-stop : (left : Left) → IsLeft s tables left → IsSearch (record s { left = Some left }) tables
+  IsSearch-stop left why = record {
+    belongs = is.belongs;
+    budget = is.budget;
+    incumbent = is.incumbent;
+    cheaper = is.cheaper;
+    trace = is.trace;
+    rounds = is.rounds;
+    points = is.points;
+    added = is.added;
+    network = is.network;
+    prices = is.prices;
+    tails = is.tails;
+    few = is.few;
+    splits = is.splits;
+    leaves = is.leaves;
+    left = by_left left why;
+  }
+    where
+      by_left : (what : Left) → IsLeft s tables what → IsLeft (record s { left = Some left }) tables what
+      by_left Nothing all = all
+      by_left (Timing leaf relaxed) all = all
+      by_left (Several leaf shipment) all = all

@@ -1,0 +1,230 @@
+-- All that is shown of a search that has ended.
+use Rattle.std.proofs.Common.{◌≡◌, ℕ, ◌+◌, ◌<◌, ◌≤◌, Bool, true, false, cond, List, [], ◌∷◌, ◌++◌, length, refl, sym, ap, ◌∙◌, subst, arith}
+use Rattle.std.specs.Prelude.{◌==◌, All, IfSome, IsSomeAnd, Option, Some, None}
+use Rattle.std.proofs.lemmas.List.Elements.{All-weaker}
+use Rattle.fp_model.specs.declared.limits.TheConstants.{LAST_ROUND, SCALE}
+use Rattle.fp_model.specs.declared.parts.Leg.{Leg}
+use Rattle.fp_model.specs.Costs.{cost}
+use Rattle.fp_model.specs.Plans.{IsPlan}
+use Rattle.fp_model.specs.Problem.{IsValid, Problem}
+use Rattle.fp_flatnet.specs.Tables.{windows_in}
+use Rattle.fp_flatnet.specs.Windows.{PlanLiesWithin}
+use Rattle.fp_timenodes.specs.declared.places.AddedPoint.{AddedPoint}
+use Rattle.fp_tree.specs.declared.sides.Side.{Side}
+use Rattle.fp_tree.specs.Nodes.{Node, fork_of as fork_at, leaf_at, value_of}
+use Rattle.fp_tree.specs.Sides.{Fork}
+use Rattle.fp_tree.specs.Trees.{Branch, IsTree, Leaf, tree_branches, tree_leaves}
+use Rattle.fp_allowed.specs.Slack.{DividesSome}
+use Rattle.fp_timetable.specs.declared.lines.LegLine.{LegLine}
+use Rattle.fp_timetable.specs.declared.lines.TruckLine.{TruckLine}
+use Rattle.fp_timetable.specs.Lines.{AreLegLines, AreTruckLines, LegExists, TruckExists, routes_from}
+use Rattle.fp_prices.specs.Shares.{ClassShare}
+use Rattle.fp_lines.specs.declared.certificates.Answer.{Answer}
+use Rattle.fp_lines.specs.declared.certificates.Answer.TheVariants.{Direct, Infeasible, Optimal, Unfinished}
+use Rattle.fp_lines.specs.declared.certificates.Node.{Node as Line}
+use Rattle.fp_lines.specs.declared.certificates.Spent.TheVariants.{Branches, Rounds}
+use Rattle.fp_lines.specs.Ranges.{IsAnswerInRange, IsInRange, IsLeafInRange, IsScaleInRange, IsSplitInRange, largest_figure}
+use Rattle.fp_lines.specs.Statements.{Statement}
+use Rattle.fp_acceptance.specs.Accepted.{Applies, Holds, IsAccepted, Part, claim_of}
+use Rattle.fp_acceptance.specs.Leaves.{AreLeavesWorth, IsLeafWorth, fork_of}
+use Rattle.fp_acceptance.specs.Plans.{routes_of, stated_cost}
+use Rattle.fp_duals.specs.PriceLines.{AreWithinLimits}
+use Rattle.fp_history.specs.declared.endings.Left.{Left}
+use Rattle.fp_history.specs.declared.endings.Left.TheVariants.{Nothing, Several, Timing}
+use Rattle.fp_history.specs.declared.notes.SplitNote.{SplitNote}
+use Rattle.fp_history.specs.Notes.{History, added_of, last_round, points_of}
+use Rattle.fp_history.specs.PrintedLeaves.{IsOpenBelow}
+use Rattle.fp_history.specs.Solutions.{AreWalksUnder, HasCause, HasSeveral, IsEarnedSolution, Solution, branches_shown, leaves_shown}
+use Rattle.fp_history.specs.Splits.{IsEarnedSplit}
+use Rattle.fp_history.specs.Traces.{IsEarnedTrace}
+use Rattle.fp_history.proofs.AddedPoints.{AreAddedPoints-IsEarnedTrace}
+use Rattle.fp_session.specs.declared.payloads.Payload.{Payload}
+use Rattle.fp_session.specs.declared.searches.Search.{Search}
+use Rattle.fp_session.specs.Certificates.{IsAnswer, IsCertificate, IsShown, named_scale}
+use Rattle.fp_session.specs.Nodes.{IsLeafOf, IsSplitOf, split_note}
+use Rattle.fp_session.specs.Searches.{IsLeft, IsSearch, history}
+use Rattle.fp_session.specs.TreeLines.{lines_of, notes_of}
+use Rattle.fp_session.proofs.LeafWorths.{bound-le, bound-lt, leaf-of, least-worth, leaves-shown, left-shown, settled-worth, worth-kept}
+use Rattle.fp_session.proofs.LineRanges.{legs-in_range, trucks-in_range}
+use Rattle.fp_session.proofs.PlanCosts.{cost-in_range}
+use Rattle.fp_session.proofs.PointRanges.{points-in_range}
+use Rattle.fp_session.proofs.PrintedTree.{AllDivide-lines, IsTree-lines, branches-noted, leaves-printed, length-branches, splits-lines}
+use Rattle.fp_session.proofs.TableRanges.{tables-countable, tables-in_range}
+use Rattle.fp_session.proofs.TreeRanges.{all-at, tree-in_range}
+
+-- a named scale is in range
+scale-in_range : (p : Problem) → IsValid p → (b : Bool) → IfSome (cond b None (Some p.scale)) (IsScaleInRange p)
+scale-in_range p valid true = tt
+scale-in_range p valid false = record { least = valid.scale.0; most = valid.scale.1; fits = valid.fits }
+
+module _ (s : Search) (prices : List (List ClassShare)) (search : IsSearch s prices) (whole : IsTree fork_at s.tree) (within : AreWithinLimits prices)
+    (legs : List LegLine) (trucks : List TruckLine) (are_legs : AreLegLines s.instance s.incumbent legs) (routes : routes_from legs 0 s.instance.shipments ≡ s.incumbent)
+    (legs_exist : All (LegExists s.instance) legs) (are_trucks : AreTruckLines s.instance s.incumbent trucks) (trucks_exist : All (TruckExists s.instance) trucks) where
+  -- the history of the search
+  abbrev h : History
+  h = history s prices
+
+  -- the certificate with an answer
+  abbrev statement : Answer → Statement
+  statement stated = record {
+    answer = stated;
+    scale = named_scale s.instance.scale;
+    legs = legs;
+    trucks = trucks;
+    points = added_of s.trace.items;
+    tables = prices;
+    tree = lines_of s.tree;
+  }
+
+  -- what is shown with it
+  abbrev solution : Answer → Left → Solution
+  solution stated kept = record { certificate = statement stated; trace = s.trace.items; splits = notes_of s.tree; left = kept }
+
+  -- where the leaves are worth the claim, each part holds that applies to a plan
+  part-holds : (stated : Answer) → stated_cost stated ≡ s.cost → AreLeavesWorth s.instance s.windows (statement stated) (claim_of stated) → (Applies stated Part.Blocked → ⊥) → (part : Part) →
+      Applies stated part → Holds s.instance s.windows (statement stated) part
+  part-holds stated costs worth carried Part.Plan applies = record {
+    ascending = are_legs.ascending;
+    arrivals = λ i d lt. (are_legs.legs i d lt).arrive;
+    plan = subst (IsPlan s.instance 1) (sym routes) search.incumbent.plan;
+    within = subst (PlanLiesWithin (windows_in s.windows) 1) (sym routes) search.incumbent.within;
+  }
+  part-holds stated costs worth carried Part.Cost applies = costs ∙ search.incumbent.costs ∙ ap (cost s.instance) (sym routes)
+  part-holds stated costs worth carried Part.Trucks applies = subst (λ (R : List (List Leg)). AreTruckLines s.instance R trucks) (sym routes) are_trucks
+  part-holds stated costs worth carried Part.Points applies = AreAddedPoints-IsEarnedTrace h s.started s.cost search.trace
+  part-holds stated costs worth carried Part.Prices applies = search.prices.in_order
+  part-holds stated costs worth carried Part.Tree applies = record {
+    tree = IsTree-lines s.instance s.tree search.tails whole;
+    few = omega (arith, splits-lines s.instance s.tree search.tails whole, search.few, search.budget.branches);
+  }
+  part-holds stated costs worth carried Part.Leaves applies = worth
+  part-holds stated costs worth carried Part.Blocked applies = absurd (carried applies)
+
+  -- the leaves are worth what each of them is that isn't empty
+  leaves-worth : (stated : Answer) (claim : ℕ) →
+      ((k : ℕ) (l : Leaf (Node Payload)) → leaf_at s.tree k ≡ Some l → l.node.payload.empty ≡ false → claim ≤ Rattle.std.specs.Int.div_ceil (value_of l.node) s.instance.scale) →
+      AreLeavesWorth s.instance s.windows (statement stated) claim
+  leaves-worth stated claim unmarked =
+      leaves-printed s.instance s.tree search.tails whole (λ (l : Leaf Line). IsLeafWorth s.instance s.windows (statement stated) claim l.node l.sides)
+      (λ k l at. worth-kept h claim l.sides l.node.payload (value_of l.node) (leaf-of h s.cost s.tree search.tails whole search.leaves k l at).kept (unmarked k l at))
+
+  -- where the answer is in range, so is the certificate
+  statement-in_range : (stated : Answer) → IsAnswerInRange s.instance stated → IsInRange s.instance (statement stated)
+  statement-in_range stated range = record {
+    answer = range;
+    scale = scale-in_range s.instance search.belongs.valid (s.instance.scale == SCALE);
+    legs = legs-in_range s.instance s.incumbent legs search.belongs.valid search.incumbent.plan are_legs legs_exist;
+    trucks = trucks-in_range s.instance s.incumbent trucks search.belongs.valid search.incumbent.plan are_trucks trucks_exist;
+    points = points-in_range h s.started s.cost search.belongs search.trace few;
+    tables = tables-in_range s.instance prices search.belongs.valid search.prices within;
+    tree = tree-in_range s.instance prices s.tree whole
+        (All-weaker (IsSplitOf h s.started s.cost) (λ (b : Branch (Node Payload)). IfSome (fork_at b.node) (λ (f : Fork). IsSplitInRange s.instance f.split)) (λ b split. split.range) (tree_branches fork_at s.tree) search.splits)
+        (All-weaker (IsLeafOf h s.cost) (λ (l : Leaf (Node Payload)). IsLeafInRange prices l.node.payload.price) (λ l leaf. record { kind = leaf.kept.price.kind; round = omega (arith, leaf.kept.price.round, few) })
+        (tree_leaves fork_at s.tree) search.leaves);
+  }
+    where
+      few : last_round h ≤ LAST_ROUND
+      few = omega (arith, search.rounds, search.budget.rounds)
+
+  -- with its cause, the solution is earned
+  solution-earned : (stated : Answer) (kept : Left) → stated_cost stated ≡ s.cost → HasCause h s.budget (leaves_shown s.instance (solution stated kept)) (branches_shown s.instance (solution stated kept)) kept stated →
+      IsEarnedSolution s.instance s.windows s.budget s.started (solution stated kept)
+  solution-earned stated kept costs cause = record {
+    points = refl;
+    trace = subst (IsEarnedTrace h s.started) (sym costs) search.trace;
+    splits = branches-noted s.instance s.tree search.tails whole (λ (n : Node Payload). split_note n.payload) (λ sides n. IsEarnedSplit h s.started (stated_cost stated) sides n)
+        (All-weaker (IsSplitOf h s.started s.cost) (λ (b : Branch (Node Payload)). IsEarnedSplit h s.started (stated_cost stated) b.sides (split_note b.node.payload))
+        (λ b split. subst (λ (n : ℕ). IsEarnedSplit h s.started n b.sides (split_note b.node.payload)) (sym costs) split.earned) (tree_branches fork_at s.tree) search.splits);
+    divide = AllDivide-lines s.instance s.tree search.tails whole (windows_in s.windows)
+        (All-weaker (IsSplitOf h s.started s.cost) (λ (b : Branch (Node Payload)). IfSome (fork_at b.node) (DividesSome s.instance (windows_in s.windows) b.sides)) (λ b split. split.divides) (tree_branches fork_at s.tree) search.splits);
+    leaves = leaves-shown h s.cost s.tree search.tails whole search.leaves;
+    cause = cause;
+    cheaper = subst (λ (n : ℕ). n ≤ s.started) (sym costs) search.cheaper;
+  }
+
+  -- all of it
+  shown-of : (stated : Answer) (kept : Left) → stated_cost stated ≡ s.cost → (Applies stated Part.Blocked → ⊥) → IsAnswerInRange s.instance stated →
+      AreLeavesWorth s.instance s.windows (statement stated) (claim_of stated) →
+      HasCause h s.budget (leaves_shown s.instance (solution stated kept)) (branches_shown s.instance (solution stated kept)) kept stated → IsShown s kept (solution stated kept)
+  shown-of stated kept costs carried range worth cause = record {
+    accepted = part-holds stated costs worth carried;
+    range = statement-in_range stated range;
+    countable = tables-countable s.instance prices search.prices within;
+    scale = refl;
+    plan = routes;
+    cost = costs;
+    earned = solution-earned stated kept costs cause;
+    left = refl;
+  }
+
+  -- the cost is no larger than a field may be
+  cost-small : s.cost ≤ largest_figure
+  cost-small = omega (arith, search.incumbent.costs, cost-in_range s.instance 1 s.incumbent search.belongs.valid search.incumbent.plan)
+
+  -- with the answer by what was left
+  pub shown-answer : (stated : Answer) (kept : Left) → IsLeft s prices kept → IsAnswer s kept stated → IsShown s kept (solution stated kept)
+  shown-answer (Optimal n) Nothing closed is =
+      shown-of (Optimal n) Nothing is (λ none. none) (omega (arith, is, cost-small))
+      (leaves-worth (Optimal n) n
+      (λ k l at unmarked.
+      let leaf = leaf-of h s.cost s.tree search.tails whole search.leaves k l at in
+      let shut = all-at (λ (m : Leaf (Node Payload)). Rattle.fp_tree.specs.Nodes.closed_of m.node ≡ true) (tree_leaves fork_at s.tree) k l closed at in
+      subst (λ (m : ℕ). m ≤ Rattle.std.specs.Int.div_ceil (value_of l.node) s.instance.scale) (sym is) (settled-worth h s.cost l.node.payload (value_of l.node) (leaf.closed shut) unmarked)))
+      tt
+  shown-answer (Unfinished n bound Rounds) (Timing leaf relaxed) left is =
+      let lt : bound < s.cost = bound-lt h s.cost s.tree search.tails whole search.leaves bound is.1 leaf left.2.open_at in
+      shown-of (Unfinished n bound Rounds) (Timing leaf relaxed) is.0 (λ none. none) (omega (arith, is.0, cost-small), omega (arith, lt, cost-small))
+      (leaves-worth (Unfinished n bound Rounds) bound (bound-le h s.cost s.tree search.tails whole search.leaves bound is.1)) (
+        subst (λ (m : ℕ). Rattle.fp_history.specs.Solutions.HasUsedRounds h s.budget (leaves_shown s.instance (solution (Unfinished n bound Rounds) (Timing leaf relaxed))) m leaf relaxed) (sym is.0)
+            (record {
+              spent = left.0;
+              leaf_left = left-shown h s.cost s.tree search.tails whole search.leaves (λ price sides. IsOpenBelow h s.cost sides price) leaf left.2.open_at;
+              under = left-shown h s.cost s.tree search.tails whole search.leaves (λ price sides. AreWalksUnder s.instance s.windows (points_of h (last_round h)) sides relaxed) leaf left.2.holds;
+              clashes = left.1;
+            }),
+        least-worth h s.cost s.tree search.tails whole search.leaves bound is.1 lt,
+        omega (arith, lt, is.0),
+      )
+  shown-answer (Unfinished n bound Branches) (Several leaf shipment) left is =
+      let lt : bound < s.cost = bound-lt h s.cost s.tree search.tails whole search.leaves bound is.1 leaf left.1.open_at in
+      shown-of (Unfinished n bound Branches) (Several leaf shipment) is.0 (λ none. none) (omega (arith, is.0, cost-small), omega (arith, lt, cost-small))
+      (leaves-worth (Unfinished n bound Branches) bound (bound-le h s.cost s.tree search.tails whole search.leaves bound is.1)) (
+        subst (λ (m : ℕ). Rattle.fp_history.specs.Solutions.HasUsedBranches h s.budget (leaves_shown s.instance (solution (Unfinished n bound Branches) (Several leaf shipment)))
+            (branches_shown s.instance (solution (Unfinished n bound Branches) (Several leaf shipment))) m leaf shipment) (sym is.0)
+            (record {
+              spent = length-branches s.instance s.tree search.tails whole ∙ left.0;
+              leaf_left = left-shown h s.cost s.tree search.tails whole search.leaves (λ price sides. IsOpenBelow h s.cost sides price) leaf left.1.open_at;
+              several = left-shown h s.cost s.tree search.tails whole search.leaves (λ price sides. HasSeveral s.instance s.windows (points_of h (last_round h)) sides shipment) leaf left.1.holds;
+            }),
+        least-worth h s.cost s.tree search.tails whole search.leaves bound is.1 lt,
+        omega (arith, lt, is.0),
+      )
+  shown-answer (Optimal n) (Timing leaf relaxed) left is = absurd is
+  shown-answer (Optimal n) (Several leaf shipment) left is = absurd is
+  shown-answer (Unfinished n bound Rounds) Nothing left is = absurd is
+  shown-answer (Unfinished n bound Branches) Nothing left is = absurd is
+  shown-answer (Unfinished n bound Branches) (Timing leaf relaxed) left is = absurd is
+  shown-answer (Unfinished n bound Rounds) (Several leaf shipment) left is = absurd is
+  shown-answer (Direct n) Nothing left is = absurd is
+  shown-answer (Direct n) (Timing leaf relaxed) left is = absurd is
+  shown-answer (Direct n) (Several leaf shipment) left is = absurd is
+  shown-answer (Infeasible shipment time) Nothing left is = absurd is
+  shown-answer (Infeasible shipment time) (Timing leaf relaxed) left is = absurd is
+  shown-answer (Infeasible shipment time) (Several leaf at) left is = absurd is
+
+-- a certificate of a search is the one with its parts
+pub IsShown-certificate : (s : Search) (prices : List (List ClassShare)) (kept : Left) (stated : Answer) (c : Statement) (splits : List SplitNote) → IsSearch s prices → IsLeft s prices kept →
+    IsTree fork_at s.tree → IsAnswer s kept stated → IsCertificate s prices stated c → splits ≡ notes_of s.tree →
+    IsShown s kept (record { certificate = c; trace = s.trace.items; splits = splits; left = kept })
+IsShown-certificate s prices kept stated c splits search left whole answered is noted =
+    let made : Answer → Option ℕ → List AddedPoint → List (List ClassShare) → List Line → Statement =
+    λ a n points tables tree. record { answer = a; scale = n; legs = c.legs; trucks = c.trucks; points = points; tables = tables; tree = tree } in
+    let same : c ≡ made stated (named_scale s.instance.scale) (added_of s.trace.items) prices (lines_of s.tree) =
+    ap (λ (a : Answer). made a c.scale c.points c.tables c.tree) is.answer
+    ∙ ap (λ (n : Option ℕ). made stated n c.points c.tables c.tree) is.scale
+    ∙ ap (λ (points : List AddedPoint). made stated (named_scale s.instance.scale) points c.tables c.tree) (is.points ∙ search.added)
+    ∙ ap (λ (tables : List (List ClassShare)). made stated (named_scale s.instance.scale) (added_of s.trace.items) tables c.tree) is.tables
+    ∙ ap (λ (tree : List Line). made stated (named_scale s.instance.scale) (added_of s.trace.items) prices tree) is.tree in
+    subst (λ (x : Statement). IsShown s kept (record { certificate = x; trace = s.trace.items; splits = splits; left = kept })) (sym same)
+    (subst (λ (notes : List SplitNote). IsShown s kept (record { certificate = made stated (named_scale s.instance.scale) (added_of s.trace.items) prices (lines_of s.tree); trace = s.trace.items; splits = notes; left = kept })) (sym noted)
+    (shown-answer s prices search whole is.within c.legs c.trucks is.legs is.routes is.legs_exist is.trucks is.trucks_exist stated kept left answered))

@@ -1,0 +1,120 @@
+-- Lines and notes of a tree, one after another.
+use Rattle.std.proofs.Common.{◌≡◌, ℕ, ◌+◌, ◌<◌, ◌≤◌, Bool, true, false, List, [], ◌∷◌, ◌++◌, length, get_or, map, take, refl, sym, ap, ◌∙◌, subst, arith, ⊎_elim}
+use Rattle.std.specs.Prelude.{IfSome, Option, Some, None, IsSomeAnd, slice_get, option_map}
+use Rattle.std.proofs.lemmas.Bool.{cases_lt, false≢true}
+use Rattle.std.proofs.lemmas.List.{map-append, take_more}
+use Rattle.std.proofs.lemmas.Option.{none-some, get_or_from_slice_get, same_Some, slice_get_within}
+use Rattle.fp_tree.specs.declared.sides.Split.{Split}
+use Rattle.fp_tree.specs.Nodes.{Divided, Node, Role, Undivided, fork_of, leaf_at, leaf_count, split_of}
+use Rattle.fp_tree.specs.Sides.{Fork}
+use Rattle.fp_tree.specs.Trees.{IsTree, Leaf}
+use Rattle.fp_lines.specs.declared.certificates.Node.{Node as Line}
+use Rattle.fp_lines.specs.declared.certificates.Node.TheVariants as line
+use Rattle.fp_session.specs.declared.payloads.Payload.{Payload}
+use Rattle.fp_session.specs.TreeLines.{IsLeastBelow, IsWorthAt, line_of, worth_of}
+use Rattle.fp_session.proofs.LeafNumbers.{after-leaf, after-split, leaf-at_place, leaves_before}
+
+-- the value of which something holds
+pub some_and : {X : Type 0} (o : Option X) (P : X → Type 0) → IsSomeAnd o P → (x : X) × (o ≡ Some x) × P x
+some_and None P is = absurd is
+some_and (Some x) P is = (x, refl, is)
+
+-- what a function makes of the elements so far, and of one more
+pub map-take_more : {X Y : Type 0} (f : X → Y) (xs : List X) (n : ℕ) (x : X) (ys : List Y) (y : Y) → slice_get xs n ≡ Some x → ys ≡ map f (take n xs) → y ≡ f x →
+    ys ++ (y ∷ []) ≡ map f (take (n + 1) xs)
+map-take_more f xs n x ys y at before is =
+    let more : take (n + 1) xs ≡ take n xs ++ (get_or xs n x ∷ []) = take_more xs n x (slice_get_within xs n x at) in
+    let all : map f (take (n + 1) xs) ≡ map f (take n xs) ++ (f x ∷ []) =
+    ap (map f) (more ∙ ap (λ z. take n xs ++ (z ∷ [])) (get_or_from_slice_get xs n x x at)) ∙ map-append f (take n xs) (x ∷ []) in
+    ap (λ z. z ++ (y ∷ [])) before ∙ ap (λ z. map f (take n xs) ++ (z ∷ [])) is ∙ sym all
+
+-- the fork of a node by its split
+no-fork : (o : Option Fork) → option_map (λ (f : Fork). f.split) o ≡ None → o ≡ None
+no-fork None none = refl
+no-fork (Some f) none = absurd (none-some f.split (sym none))
+
+some-fork : (o : Option Fork) (split : Split) → option_map (λ (f : Fork). f.split) o ≡ Some split → (f : Fork) × (o ≡ Some f)
+some-fork None split some = absurd (none-some split some)
+some-fork (Some f) split some = (f, refl)
+
+-- the line of a node by its split
+pub line-split : (n : Node Payload) (split : Split) → split_of n ≡ Some split → line.Branch split ≡ line_of n
+line-split n split is = ap (λ (o : Option Split). elim o as (λ o. Line) [ None ↦ line.Leaf n.payload.price | Some s ↦ line.Branch s ]) (sym is)
+
+pub line-leaf : (n : Node Payload) → split_of n ≡ None → line.Leaf n.payload.price ≡ line_of n
+line-leaf n is = ap (λ (o : Option Split). elim o as (λ o. Line) [ None ↦ line.Leaf n.payload.price | Some s ↦ line.Branch s ]) (sym is)
+
+-- a leaf that stands at a place of a tree, with the number of leaves before it
+pub record IsLeafHere (nodes : List (Node Payload)) (node leaf : ℕ) : Type 0 where
+  pub found : Leaf (Node Payload)
+  pub at : leaf_at nodes leaf ≡ Some found
+  pub place : slice_get nodes node ≡ Some found.node
+  pub whole : split_of found.node ≡ None
+  pub after : leaves_before fork_of (node + 1) nodes ≡ leaf + 1
+  pub within : leaf < leaf_count nodes
+
+pub leaf-here : (nodes : List (Node Payload)) (node leaf : ℕ) → IsTree fork_of nodes → leaf ≡ leaves_before fork_of node nodes → IsSomeAnd (slice_get nodes node) (λ (n : Node Payload). split_of n ≡ None) →
+    IsLeafHere nodes node leaf
+leaf-here nodes node leaf tree count here =
+    let some = some_and (slice_get nodes node) (λ (n : Node Payload). split_of n ≡ None) here in
+    let none : fork_of some.0 ≡ None = no-fork (fork_of some.0) some.2 in
+    let it = leaf-at_place fork_of node nodes some.0 tree some.1 none in
+    let at : leaf_at nodes leaf ≡ Some it.0 = ap (λ (k : ℕ). leaf_at nodes k) count ∙ it.1 in
+    record {
+      found = it.0;
+      at = at;
+      place = some.1 ∙ ap (λ (n : Node Payload). Some n) (sym it.2);
+      whole = ap (λ (n : Node Payload). split_of n) it.2 ∙ some.2;
+      after = after-leaf fork_of node nodes some.0 some.1 none ∙ ap (λ (k : ℕ). k + 1) (sym count);
+      within = slice_get_within (Rattle.fp_tree.specs.Trees.tree_leaves fork_of nodes) leaf it.0 at;
+    }
+
+-- the line of the leaf, by the price that was read
+pub leaf-line : (nodes : List (Node Payload)) (node leaf : ℕ) (payload : Payload) (ys : List Line) → IsLeafHere nodes node leaf →
+    IsSomeAnd (leaf_at nodes leaf) (λ (l : Leaf (Node Payload)). l.node.payload ≡ payload) → ys ≡ map line_of (take node nodes) →
+    ys ++ (line.Leaf payload.price ∷ []) ≡ map line_of (take (node + 1) nodes)
+leaf-line nodes node leaf payload ys is read before =
+    let own : is.found.node.payload ≡ payload = subst (λ (o : Option (Leaf (Node Payload))). IsSomeAnd o (λ (l : Leaf (Node Payload)). l.node.payload ≡ payload)) is.at read in
+    map-take_more line_of nodes node is.found.node ys (line.Leaf payload.price) is.place before (ap (λ (x : Payload). line.Leaf x.price) (sym own) ∙ line-leaf is.found.node is.whole)
+
+-- the line of a split, and the leaves before the place after it
+pub split-line : (nodes : List (Node Payload)) (node : ℕ) (split : Split) (ys : List Line) → IsSomeAnd (slice_get nodes node) (λ (n : Node Payload). split_of n ≡ Some split) → ys ≡ map line_of (take node nodes) →
+    (ys ++ (line.Branch split ∷ []) ≡ map line_of (take (node + 1) nodes)) × (leaves_before fork_of (node + 1) nodes ≡ leaves_before fork_of node nodes)
+split-line nodes node split ys here before =
+    let some = some_and (slice_get nodes node) (λ (n : Node Payload). split_of n ≡ Some split) here in
+    let fork = some-fork (fork_of some.0) split some.2 in
+    (map-take_more line_of nodes node some.0 ys (line.Branch split) some.1 before (line-split some.0 split some.2), after-split fork_of node nodes some.0 fork.0 some.1 fork.1)
+
+-- the least so far and one more leaf
+pub least-more : (scale ceiling : ℕ) (nodes : List (Node Payload)) (n least lesser : ℕ) (other : Option ℕ) → IsLeastBelow scale ceiling nodes n least →
+    IsSomeAnd (leaf_at nodes n) (λ (l : Leaf (Node Payload)). IsWorthAt scale l other) → lesser ≤ least → IfSome other (λ m. lesser ≤ m) → (lesser < least → other ≡ Some lesser) →
+    IsLeastBelow scale ceiling nodes (n + 1) lesser
+least-more scale ceiling nodes n least lesser other before here le under newer = record {
+  within = omega (arith, before.within, le);
+  each = λ k l lt at unmarked.
+      ⊎_elim
+      (λ (less : k < n). omega (arith, before.each k l less at unmarked, le))
+      (λ (more : n ≤ k).
+      let last : n ≡ k = omega (arith, lt, more) in
+      own l (subst (λ (j : ℕ). leaf_at nodes j ≡ Some l) (sym last) at) unmarked other here under)
+      (cases_lt k n);
+  some = λ below.
+      ⊎_elim
+      (λ (less : lesser < least). (n, newest other (newer less) here))
+      (λ (same : least ≤ lesser).
+      let is : least ≡ lesser = omega (arith, le, same) in
+      let found = before.some (omega (arith, is, below)) in
+      (found.0, subst (λ (m : ℕ). IsSomeAnd (leaf_at nodes found.0) (λ (l : Leaf (Node Payload)). (l.node.payload.empty ≡ false) × (m ≡ worth_of scale l))) is found.1))
+      (cases_lt lesser least);
+}
+  where
+    own : (l : Leaf (Node Payload)) → leaf_at nodes n ≡ Some l → l.node.payload.empty ≡ false → (o : Option ℕ) → IsSomeAnd (leaf_at nodes n) (λ (m : Leaf (Node Payload)). IsWorthAt scale m o) →
+        IfSome o (λ m. lesser ≤ m) → lesser ≤ worth_of scale l
+    own l at unmarked None is none = absurd (false≢true (sym unmarked ∙ subst (λ (p : Option (Leaf (Node Payload))). IsSomeAnd p (λ (m : Leaf (Node Payload)). IsWorthAt scale m None)) at is))
+    own l at unmarked (Some m) is most =
+        let both : IsWorthAt scale l (Some m) = subst (λ (p : Option (Leaf (Node Payload))). IsSomeAnd p (λ (x : Leaf (Node Payload)). IsWorthAt scale x (Some m))) at is in
+        omega (arith, both.1, most)
+
+    newest : (o : Option ℕ) → o ≡ Some lesser → IsSomeAnd (leaf_at nodes n) (λ (m : Leaf (Node Payload)). IsWorthAt scale m o) →
+        IsSomeAnd (leaf_at nodes n) (λ (l : Leaf (Node Payload)). (l.node.payload.empty ≡ false) × (lesser ≡ worth_of scale l))
+    newest o is at = subst (λ (p : Option ℕ). IsSomeAnd (leaf_at nodes n) (λ (m : Leaf (Node Payload)). IsWorthAt scale m p)) is at

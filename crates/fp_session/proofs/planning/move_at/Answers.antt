@@ -1,0 +1,39 @@
+-- Walks that are a relaxed plan and cost less are timed; where they aren't, a shipment has several
+-- ways to go.
+use Rattle.std.proofs.Common.{◌≡◌, ◌∙◌, List, ap, arith, length, subst, sym}
+use Rattle.std.specs.Prelude.{MatchOption, Option}
+use Rattle.std.proofs.lemmas.Bool.{false≢true}
+use Rattle.fp_model.specs.declared.parts.Shipment.{Shipment}
+use Rattle.fp_flatnet.specs.Tables.{windows_in}
+use Rattle.fp_relaxmodel.proofs.PlansCoarsen.{HasRoutes-relaxed}
+use Rattle.fp_session.specs.declared.dividing.Several.{Several}
+use Rattle.fp_session.specs.Dividing.{IsSeveral, NoneSeveral}
+use Rattle.fp_session.specs.Moves.{points_now}
+use Rattle.fp_session.proofs.OpenMoves.{NoneSeveral-found, under-exist, under-relaxed}
+use Rattle.fp_session.proofs.planning.move_at.Goals as goal
+
+pub are_cheaper-requires-clause-exist : goal.are_cheaper-requires-clause-exist
+are_cheaper-requires-clause-exist c = under-exist c.args.search.now c.args.sides.now c.args.walks.items c.requires.found.walks
+
+pub are_cheaper-requires-clause-routes : goal.are_cheaper-requires-clause-routes
+are_cheaper-requires-clause-routes c = λ apart.
+    HasRoutes-relaxed c.args.search.now.instance (windows_in c.args.search.now.windows) (points_now c.args.search.now) c.args.walks.items
+    (under-relaxed c.args.search.now c.args.sides.now c.args.walks.items c.requires.found.walks c.args.tables.now c.requires.search apart)
+
+pub timed_move-requires-clause-relaxed : goal.timed_move-requires-clause-relaxed
+timed_move-requires-clause-relaxed c =
+    under-relaxed c.args.search.now c.args.sides.now c.args.walks.items c.requires.found.walks c.args.tables.now c.requires.search (c.are_cheaper.ensures.0 c.if-are_cheaper.true).0
+
+pub timed_move-requires-clause-cheaper : goal.timed_move-requires-clause-cheaper
+timed_move-requires-clause-cheaper c = (c.are_cheaper.ensures.0 c.if-are_cheaper.true).1
+
+pub unreachable-requires : goal.unreachable-requires
+unreachable-requires c =
+    let none : NoneSeveral c.args.leaf.now (length c.shipments.result.now) =
+    subst (λ (o : Option Several). MatchOption o (NoneSeveral c.args.leaf.now (length c.shipments.result.now)) (IsSeveral c.args.leaf.now)) c.in-None.is c.in_ok-first_several.ensures in
+    absurd
+    (false≢true
+    (sym c.if-are_cheaper.false
+    ∙ c.are_cheaper.ensures.1
+    (NoneSeveral-found c.args.search.now c.args.tables.now c.args.leaf.now c.args.sides.now c.args.kept c.args.walks.items (length c.shipments.result.now) c.requires.search c.requires.setting c.requires.sides
+    c.requires.found c.requires.below (omega (arith, ap (λ (ss : List Shipment). length ss) c.shipments.ensures.same)) none)))

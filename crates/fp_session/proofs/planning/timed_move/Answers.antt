@@ -1,0 +1,20 @@
+-- A relaxed plan whose timing is spent is left under the sides.
+use Rattle.std.proofs.Common.{◌≡◌, List, refl, sym, subst}
+use Rattle.fp_model.specs.declared.parts.Leg.{Leg}
+use Rattle.fp_history.specs.Clashes.{ClashesBelow}
+use Rattle.fp_history.specs.Solutions.{AreWalksUnder}
+use Rattle.fp_session.specs.Moves.{points_now}
+use Rattle.fp_session.specs.declared.timing.Timing.TheVariants as timing
+use Rattle.fp_session.specs.Timing.{IsTiming}
+use Rattle.fp_session.proofs.planning.timed_move.Goals as goal
+
+pub returns-in-Spent : goal.returns-in-Spent
+returns-in-Spent c =
+    let own : IsTiming c.args.search.now c.args.relaxed (timing.Spent c.in-Spent.relaxed) = subst (IsTiming c.args.search.now c.args.relaxed) c.in-Spent.is c.in_ok-cheaper.ensures in (
+      refl,
+      record {
+        spent = own.1;
+        under = subst (λ (walks : List (List Leg)). AreWalksUnder c.args.search.now.instance c.args.search.now.windows (points_now c.args.search.now) c.args.sides.now walks) (sym own.0) c.requires.under;
+        clashes = subst (λ (walks : List (List Leg)). ClashesBelow c.args.search.now.instance c.args.search.now.windows (points_now c.args.search.now) c.args.search.now.cost walks) (sym own.0) own.2;
+      },
+    )

@@ -1,0 +1,46 @@
+-- What was planned may be done, and it is what the answer says.
+use Rattle.std.proofs.Common.{◌≡◌, refl, sym, subst}
+use Rattle.std.specs.Prelude.{IsSomeAnd, Some}
+use Rattle.fp_history.specs.declared.endings.Ending.{Ending}
+use Rattle.fp_session.specs.Searches.{in_hand}
+use Rattle.fp_session.specs.Steps.{HasEnded}
+use Rattle.fp_session.proofs.StepsTaken.{better-cheaper, better-fixed, better-taken, close-settled, divide-division, divide-left, divide-unsettled, kept-cheaper, kept-going, refine-next, round-fixed, round-going, round-kept, round-taken, stop-left, stop-unsettled}
+use Rattle.fp_session.proofs.searches.Search.apply.Goals as goal
+
+pub close-requires-clause-settled : goal.close-requires-clause-settled
+close-requires-clause-settled c = close-settled c.args.self.now c.args.tables.now c.args.leaf c.args.planned.kept c.args.planned.planned c.requires.planned c.in-Close.is
+
+pub take-requires-clause-going : goal.take-requires-clause-going
+take-requires-clause-going c =
+    kept-going c.args.self.now c.keep.new.self c.args.self.now c.in-Better.cheaper
+    (better-cheaper c.args.self.now c.args.tables.now c.args.leaf c.args.planned.kept c.args.planned.planned c.requires.planned c.in-Better.cheaper c.in-Better.is) c.keep.ensures.others c.requires.going
+
+pub take-requires-clause-cheaper : goal.take-requires-clause-cheaper
+take-requires-clause-cheaper c =
+    rw c.in-Better.is (kept-cheaper c.args.self.now c.keep.new.self c.args.self.now c.in-Better.cheaper
+    (better-cheaper c.args.self.now c.args.tables.now c.args.leaf c.args.planned.kept c.args.planned.planned c.requires.planned c.in-Better.cheaper c.in-Better.is) c.keep.ensures.others)
+
+pub refine-requires-clause-round : goal.refine-requires-clause-round
+refine-requires-clause-round c =
+    rw c.in-Refine.is (refine-next c.args.self.now c.args.tables.now c.args.leaf c.args.planned.kept c.args.planned.planned c.requires.planned c.in-Refine.note c.in-Refine.refined c.in-Refine.is)
+
+pub divide-requires-clause-left : goal.divide-requires-clause-left
+divide-requires-clause-left c = divide-left c.args.self.now c.args.tables.now c.args.leaf c.args.planned.kept c.args.planned.planned c.requires.planned c.in-Divide.division c.in-Divide.is
+
+pub divide-requires-clause-unsettled : goal.divide-requires-clause-unsettled
+divide-requires-clause-unsettled c = divide-unsettled c.args.self.now c.args.tables.now c.args.leaf c.args.planned.kept c.args.planned.planned c.requires.planned c.in-Divide.division c.in-Divide.is
+
+pub divide-requires-clause-division : goal.divide-requires-clause-division
+divide-requires-clause-division c = divide-division c.args.self.now c.args.tables.now c.args.leaf c.args.planned.kept c.args.planned.planned c.requires.planned c.in-Divide.division c.in-Divide.is
+
+pub stop-requires-clause-unsettled : goal.stop-requires-clause-unsettled
+stop-requires-clause-unsettled c = stop-unsettled c.args.self.now c.args.tables.now c.args.leaf c.args.planned.kept c.args.planned.planned c.requires.planned c.in-Stop.left c.in-Stop.is
+
+pub stop-requires-clause-left : goal.stop-requires-clause-left
+stop-requires-clause-left c = rw c.in-Stop.is (stop-left c.args.self.now c.args.tables.now c.args.leaf c.args.planned.kept c.args.planned.planned c.requires.planned c.in-Stop.left c.in-Stop.is)
+
+pub keep-requires-in-Refine-clause-kept : goal.keep-requires-in-Refine-clause-kept
+keep-requires-in-Refine-clause-kept c =
+    round-kept c.args.self.now c.refine.new.self c.args.tables.now c.in-Refine.note c.in-Refine.refined
+    (refine-next c.args.self.now c.args.tables.now c.args.leaf c.args.planned.kept c.args.planned.planned c.requires.planned c.in-Refine.note c.in-Refine.refined c.in-Refine.is)
+    (rw c.in-Refine.is at c.in_ok-refine-in-Refine.ensures.refined) c.args.leaf c.args.planned.kept c.requires.planned.kept

@@ -1,0 +1,14 @@
+pub mod Nodes
+pub mod Searches
+pub mod Refining
+pub mod Outcomes
+pub mod Moves
+pub mod Timing
+pub mod Dividing
+pub mod StepCauses
+pub mod Steps
+pub mod TreeLines
+pub mod Certificates
+pub mod Starts
+pub mod Sessions
+pub mod Solved

@@ -1,0 +1,114 @@
+-- What a step may do, before it does it.
+use Rattle.std.specs.Prelude.{ℕ, ◌+◌, ◌<◌, ◌≤◌, ◌≡◌, List, [], ◌∷◌, ◌++◌, Bool, true, false, Option, IsSomeAnd, length}
+use Rattle.std.specs.Int.{div_ceil}
+use Rattle.fp_model.specs.declared.parts.Leg.{Leg}
+use Rattle.fp_model.specs.Problem.{Problem}
+use Rattle.fp_flatnet.specs.Tables.{windows_in}
+use Rattle.fp_tree.specs.declared.sides.Side.{Side}
+use Rattle.fp_tree.specs.Nodes.{Node, closed_of, leaf_at, split_count, value_of}
+use Rattle.fp_tree.specs.Sides.{Fork, HasTail, first, second}
+use Rattle.fp_tree.specs.Trees.{Leaf}
+use Rattle.fp_allowed.specs.Allowed.{tails_of}
+use Rattle.fp_allowed.specs.Slack.{DividesSome}
+use Rattle.fp_lines.specs.Ranges.{IsSplitInRange}
+use Rattle.fp_prices.specs.Shares.{ClassShare}
+use Rattle.fp_history.specs.declared.endings.Left.{Left}
+use Rattle.fp_history.specs.declared.endings.Left.TheVariants.{Nothing, Several, Timing}
+use Rattle.fp_history.specs.Clashes.{ClashesBelow}
+use Rattle.fp_history.specs.Notes.{History, Refinement, last_round, points_of}
+use Rattle.fp_history.specs.Solutions.{AreWalksUnder, HasSeveral}
+use Rattle.fp_history.specs.Traces.{IsEarnedRound}
+use Rattle.fp_session.specs.declared.kept.Kept.{Kept}
+use Rattle.fp_session.specs.declared.moves.Cheaper.{Cheaper}
+use Rattle.fp_session.specs.declared.moves.Division.{Division}
+use Rattle.fp_session.specs.declared.moves.Move.{Move}
+use Rattle.fp_session.specs.declared.moves.Move.TheVariants as move
+use Rattle.fp_session.specs.declared.moves.Refined.{Refined}
+use Rattle.fp_session.specs.declared.payloads.Payload.{Payload}
+use Rattle.fp_session.specs.declared.searches.Search.{Search}
+use Rattle.fp_session.specs.Nodes.{IsKept, IsSettled}
+use Rattle.fp_session.specs.Outcomes.{IsAtLeastStarts}
+use Rattle.fp_session.specs.Refining.{IsRefined}
+use Rattle.fp_session.specs.Searches.{IsIncumbent, history}
+
+-- the points as of the last round
+abbrev pub points_now : Search → ℕ → List ℕ
+points_now s = points_of (history s []) (last_round (history s []))
+
+-- a plan that is cheaper than the incumbent
+pub record IsCheaper (s : Search) (c : Cheaper) : Type 0 where
+  pub incumbent : IsIncumbent s.instance s.windows c.plan c.cost
+  pub less : c.cost < s.cost
+
+-- one more round, with the incumbent of the moment: it is earned, and there is one left
+pub record IsNextRound (s : Search) (note : Refinement) (r : Refined) : Type 0 where
+  pub left : last_round (history s []) < s.budget.rounds
+  pub round : note.round ≡ last_round (history s []) + 1
+  pub incumbent : note.incumbent ≡ s.cost
+  pub earned : IsEarnedRound s.instance s.windows (points_now s) note
+  pub refined : IsRefined s.instance s.points note.round note.added r
+
+-- the fork of a division
+abbrev pub fork_in : Division → Fork
+fork_in d = record { split = d.split; tail = d.tail }
+
+-- a leaf is divided: there is a branch left, the split is in range and divides departures, and this
+-- is known of the two leaves below
+pub record IsDivision (h : History) (sides : List Side) (d : Division) : Type 0 where
+  pub range : IsSplitInRange h.problem d.split
+  pub divides : DividesSome h.problem (windows_in h.windows) sides (fork_in d)
+  pub tail : HasTail (tails_of h.problem) (fork_in d)
+  pub first : IsKept h (sides ++ (first (fork_in d) ∷ [])) d.first.payload d.first.value
+  pub second : IsKept h (sides ++ (second (fork_in d) ∷ [])) d.second.payload d.second.value
+
+-- nothing is left of rounds, and a relaxed plan under the sides calls for one
+pub record IsTimingLeft (s : Search) (sides : List Side) (relaxed : List (List Leg)) : Type 0 where
+  pub spent : last_round (history s []) ≡ s.budget.rounds
+  pub under : AreWalksUnder s.instance s.windows (points_now s) sides relaxed
+  pub clashes : ClashesBelow s.instance s.windows (points_now s) s.cost relaxed
+
+-- nothing is left of branches, and a shipment has several ways to go under the sides
+pub record IsSeveralLeft (s : Search) (sides : List Side) (shipment : ℕ) : Type 0 where
+  pub spent : split_count s.tree ≡ s.budget.branches
+  pub several : HasSeveral s.instance s.windows (points_now s) sides shipment
+
+-- what is left at a leaf with a number
+abbrev pub IsLeftAt : Search → ℕ → List Side → Left → Type 0
+IsLeftAt s leaf sides Nothing = ⊥
+IsLeftAt s leaf sides (Timing at relaxed) = (at ≡ leaf) × IsTimingLeft s sides relaxed
+IsLeftAt s leaf sides (Several at shipment) = (at ≡ leaf) × IsSeveralLeft s sides shipment
+
+-- a leaf has something to search for: it isn't empty, is worth less than the cost, and at least its
+-- values by linear and by even prices
+pub record IsUnsettled (h : History) (cost : ℕ) (sides : List Side) (kept : Kept) : Type 0 where
+  pub some : kept.payload.empty ≡ false
+  pub below : div_ceil kept.value h.problem.scale < cost
+  pub starts : IsAtLeastStarts h sides kept.value
+
+-- what a step may do at a leaf that has something to search for
+abbrev pub IsOpenMove : Search → List (List ClassShare) → (leaf : ℕ) → List Side → Move → Type 0
+IsOpenMove s tables leaf sides move.Close = ⊥
+IsOpenMove s tables leaf sides (move.Better cheaper) = IsCheaper s cheaper
+IsOpenMove s tables leaf sides (move.Refine note refined) = IsNextRound s note refined
+IsOpenMove s tables leaf sides (move.Divide division) = (split_count s.tree < s.budget.branches) × IsDivision (history s tables) sides division
+IsOpenMove s tables leaf sides (move.Stop left) = IsLeftAt s leaf sides left
+
+-- what a step may do at a leaf of which this is kept
+abbrev pub IsMoveAt : Search → List (List ClassShare) → (leaf : ℕ) → List Side → Kept → Move → Type 0
+IsMoveAt s tables leaf sides kept move.Close = IsSettled (history s tables) s.cost kept.payload kept.value
+IsMoveAt s tables leaf sides kept (move.Better cheaper) = IsUnsettled (history s tables) s.cost sides kept × IsCheaper s cheaper
+IsMoveAt s tables leaf sides kept (move.Refine note refined) = IsUnsettled (history s tables) s.cost sides kept × IsNextRound s note refined
+IsMoveAt s tables leaf sides kept (move.Divide division) =
+    IsUnsettled (history s tables) s.cost sides kept × (split_count s.tree < s.budget.branches) × IsDivision (history s tables) sides division
+IsMoveAt s tables leaf sides kept (move.Stop left) = IsUnsettled (history s tables) s.cost sides kept × IsLeftAt s leaf sides left
+
+-- the leaf with a number is open, and it is so of its sides and its value
+abbrev pub AtOpenLeaf : List (Node Payload) → ℕ → (Leaf (Node Payload) → Type 0) → Type 0
+AtOpenLeaf nodes leaf P = IsSomeAnd (leaf_at nodes leaf) (λ (l : Leaf (Node Payload)). (closed_of l.node ≡ false) × P l)
+
+-- what a step may do: at an open leaf, of which this is kept, with no less value than it had unless
+-- it is empty
+pub record IsMove (s : Search) (tables : List (List ClassShare)) (leaf : ℕ) (now : Kept) (m : Move) : Type 0 where
+  pub kept : AtOpenLeaf s.tree leaf (λ l. IsKept (history s tables) l.sides now.payload now.value)
+  pub no_less : AtOpenLeaf s.tree leaf (λ l. now.payload.empty ≡ false → value_of l.node ≤ now.value)
+  pub planned : AtOpenLeaf s.tree leaf (λ l. IsMoveAt s tables leaf l.sides now m)

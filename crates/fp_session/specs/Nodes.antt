@@ -1,0 +1,59 @@
+-- What a search knows of the nodes of its tree.
+use Rattle.std.specs.Prelude.{ℕ, ◌<◌, ◌≤◌, ◌≡◌, ◌⊎◌, List, [], Bool, true, false, MatchBool, IfSome}
+use Rattle.std.specs.Int.{div_ceil}
+use Rattle.fp_flatnet.specs.Tables.{windows_in}
+use Rattle.fp_tree.specs.declared.sides.Side.{Side}
+use Rattle.fp_tree.specs.Nodes.{Node, closed_of, fork_of, value_of}
+use Rattle.fp_tree.specs.Sides.{Fork}
+use Rattle.fp_tree.specs.Trees.{Branch, Leaf}
+use Rattle.fp_allowed.specs.Slack.{DividesSome}
+use Rattle.fp_prices.specs.declared.leaf_prices.LeafPrice.{LeafPrice}
+use Rattle.fp_prices.specs.Tables.{HasKind}
+use Rattle.fp_lines.specs.Ranges.{IsSplitInRange}
+use Rattle.fp_history.specs.declared.notes.SplitNote.{SplitNote}
+use Rattle.fp_history.specs.Notes.{History, last_round}
+use Rattle.fp_history.specs.PrintedLeaves.{IsEmptyAt}
+use Rattle.fp_history.specs.Splits.{IsEarnedAt, IsEarnedSplit}
+use Rattle.fp_session.specs.declared.kept.Kept.{Kept}
+use Rattle.fp_session.specs.declared.payloads.Payload.{Payload}
+
+-- a price is one of the search's: as of a round that there was, and by a table that there is
+pub record IsPriceOf (h : History) (price : LeafPrice) : Type 0 where
+  pub round : price.round ≤ last_round h
+  pub kind : HasKind h.tables price.kind
+
+-- a leaf is earned by its price, and this is its value
+pub record IsEarnedAs (h : History) (sides : List Side) (price : LeafPrice) (value : ℕ) : Type 0 where
+  pub earned : IsEarnedAt h sides price
+  pub is : value ≡ earned.value
+
+-- what a leaf keeps is true under its sides: it is empty where it's marked so, and otherwise this is
+-- its value
+pub record IsKept (h : History) (sides : List Side) (payload : Payload) (value : ℕ) : Type 0 where
+  pub price : IsPriceOf h payload.price
+  pub worth : MatchBool payload.empty (IsEmptyAt h sides payload.price) (IsEarnedAs h sides payload.price value)
+
+-- this is kept of a leaf
+pub record IsKeptAs (l : Leaf (Node Payload)) (kept : Kept) : Type 0 where
+  pub payload : l.node.payload ≡ kept.payload
+  pub value : value_of l.node ≡ kept.value
+
+-- a leaf has nothing to search for: it is empty, or worth at least the cost
+abbrev pub IsSettled : History → (cost : ℕ) → Payload → (value : ℕ) → Type 0
+IsSettled h cost payload value = (payload.empty ≡ true) ⊎ (cost ≤ div_ceil value h.problem.scale)
+
+-- a leaf of the tree: what it keeps is true, and where it is closed it is settled
+pub record IsLeafOf (h : History) (cost : ℕ) (l : Leaf (Node Payload)) : Type 0 where
+  pub kept : IsKept h l.sides l.node.payload (value_of l.node)
+  pub closed : closed_of l.node ≡ true → IsSettled h cost l.node.payload (value_of l.node)
+
+-- the note on a split
+abbrev pub split_note : Payload → SplitNote
+split_note payload = record { incumbent = payload.incumbent; price = payload.price }
+
+-- a split of the tree: it is earned by its note, it is in range, and it divides departures
+pub record IsSplitOf (h : History) (started cost : ℕ) (b : Branch (Node Payload)) : Type 0 where
+  pub price : IsPriceOf h b.node.payload.price
+  pub earned : IsEarnedSplit h started cost b.sides (split_note b.node.payload)
+  pub range : IfSome (fork_of b.node) (λ (f : Fork). IsSplitInRange h.problem f.split)
+  pub divides : IfSome (fork_of b.node) (DividesSome h.problem (windows_in h.windows) b.sides)

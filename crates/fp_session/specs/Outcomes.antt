@@ -1,0 +1,61 @@
+-- What comes of improving a leaf that is open.
+use Rattle.std.specs.Prelude.{ℕ, ◌*◌, ◌<◌, ◌≤◌, ◌≡◌, List, [], ◌∷◌, ◌++◌, Bool, true, false, Option, ◌⊎◌}
+use Rattle.fp_lists.specs.Numbered.{AllZipFrom}
+use Rattle.fp_model.specs.declared.parts.Leg.{Leg}
+use Rattle.fp_model.specs.Costs.{cost}
+use Rattle.fp_model.specs.Problem.{Problem}
+use Rattle.fp_flatnet.specs.Tables.{windows_in}
+use Rattle.fp_tree.specs.declared.sides.Side.{Side}
+use Rattle.fp_allowed.specs.Allowed.{is_allowed}
+use Rattle.fp_prices.specs.declared.leaf_prices.Kind.TheVariants.{Even, Linear}
+use Rattle.fp_prices.specs.declared.leaf_prices.LeafPrice.{LeafPrice}
+use Rattle.fp_prices.specs.Leaves.{IsLeafValue}
+use Rattle.fp_prices.specs.Shares.{ClassShare}
+use Rattle.fp_duals.specs.Improvements.{IsReachedChain}
+use Rattle.fp_duals.specs.PriceTables.{ArePriceTables}
+use Rattle.fp_history.specs.Notes.{History, last_round, points_of}
+use Rattle.fp_history.specs.Solutions.{AreWalksUnder}
+use Rattle.fp_session.specs.declared.kept.Kept.{Kept}
+use Rattle.fp_session.specs.declared.outcomes.Outcome.{Outcome}
+use Rattle.fp_session.specs.declared.outcomes.Outcome.TheVariants.{Empty, Open}
+use Rattle.fp_session.specs.Nodes.{IsKept}
+
+-- the tables that were there stay, others may have come after them, and all are in order
+pub record HaveGrown (p : Problem) (before after : List (List ClassShare)) : Type 0 where
+  pub more : List (List ClassShare)
+  pub is : after ≡ before ++ more
+  pub prices : ArePriceTables p after
+
+-- a value is at least those of the leaf by linear and by even prices over the points as of the last
+-- round, plain and with forced classes paid whole
+pub record IsAtLeastStarts (h : History) (sides : List Side) (value : ℕ) : Type 0 where
+  pub linear : (f : Bool) (other : ℕ) → IsLeafValue h.problem (windows_in h.windows) (points_of h (last_round h)) sides [] Linear f other → other ≤ value
+  pub even : (f : Bool) (other : ℕ) → IsLeafValue h.problem (windows_in h.windows) (points_of h (last_round h)) sides [] Even f other → other ≤ value
+
+-- what is kept of a leaf that isn't empty, and a walk of each shipment under its sides; where the
+-- forced chain of each shipment reaches its destination, the value is at least what they cost
+pub record IsFound (h : History) (sides : List Side) (now : Kept) (chosen : List (List Leg)) : Type 0 where
+  pub kept : IsKept h sides now.payload now.value
+  pub some : now.payload.empty ≡ false
+  pub starts : IsAtLeastStarts h sides now.value
+  pub walks : AreWalksUnder h.problem h.windows (points_of h (last_round h)) sides chosen
+  pub reached : (chains : List (List Leg)) →
+      AllZipFrom (λ k. IsReachedChain h.problem (is_allowed h.problem (windows_in h.windows) (points_of h (last_round h)) sides k)) 0 h.problem.shipments chains →
+      h.problem.scale * cost h.problem chains ≤ now.value
+
+-- what is kept of a leaf that is empty as of a round
+abbrev pub empty_kept : ℕ → Kept
+empty_kept round = record { payload = record { price = record { kind = Linear; round = round; forced = false }; empty = true; incumbent = 0 }; value = 0 }
+
+-- what is kept of a leaf that has a value by a price
+abbrev pub priced_kept : LeafPrice → ℕ → Kept
+priced_kept price value = record { payload = record { price = price; empty = false; incumbent = 0 }; value = value }
+
+-- of what was kept and of another price with its value, the other where its value is greater
+abbrev pub IsGreater : Kept → LeafPrice → ℕ → Kept → Type 0
+IsGreater old price value kept = ((kept ≡ priced_kept price value) × (old.value < value)) ⊎ ((kept ≡ old) × (value ≤ old.value))
+
+-- what came of improving a leaf: it is empty, or this is kept of it, with no less value than it had
+abbrev pub IsOutcome : History → List Side → Kept → Outcome → Type 0
+IsOutcome h sides old (Empty kept) = IsKept h sides kept.payload kept.value × (kept.payload.empty ≡ true)
+IsOutcome h sides old (Open kept walks) = IsFound h sides kept walks.items × (old.value ≤ kept.value)

@@ -1,0 +1,112 @@
+-- What a search knows of what it has in hand.
+use Rattle.std.specs.Prelude.{ℕ, ◌+◌, ◌*◌, ◌<◌, ◌≤◌, ◌≡◌, List, [], ◌∷◌, ◌++◌, length, true, All, IfSome, IsSomeAnd, Option}
+use Rattle.fp_model.specs.declared.limits.TheConstants.{LAST_ROUND}
+use Rattle.fp_model.specs.declared.parts.Leg.{Leg}
+use Rattle.fp_model.specs.Costs.{cost}
+use Rattle.fp_model.specs.Plans.{IsPlan}
+use Rattle.fp_model.specs.Problem.{Problem}
+use Rattle.fp_timenodes.specs.Points.{TimePoints}
+use Rattle.fp_flatnet.specs.Belonging.{BelongsTo}
+use Rattle.fp_flatnet.specs.Tables.{WindowTable, windows_in}
+use Rattle.fp_flatnet.specs.Windows.{PlanLiesWithin}
+use Rattle.fp_longestarcs.specs.Networks.{TimedNetwork}
+use Rattle.fp_longestarcs.specs.Whole.{IsNetworkOf}
+use Rattle.fp_tree.specs.declared.layout.TheConstants.{MOST_SPLITS}
+use Rattle.fp_tree.specs.declared.sides.Side.{Side}
+use Rattle.fp_tree.specs.Nodes.{Node, closed_of, fork_of, leaf_at, split_count}
+use Rattle.fp_tree.specs.Trees.{HaveTails, Leaf, tree_branches, tree_leaves}
+use Rattle.fp_allowed.specs.Allowed.{tails_of}
+use Rattle.fp_prices.specs.Shares.{ClassShare}
+use Rattle.fp_duals.specs.PriceTables.{ArePriceTables}
+use Rattle.fp_history.specs.declared.budgets.Budget.{Budget}
+use Rattle.fp_history.specs.declared.endings.Left.{Left}
+use Rattle.fp_history.specs.declared.endings.Left.TheVariants.{Nothing, Several, Timing}
+use Rattle.fp_history.specs.Clashes.{ClashesBelow}
+use Rattle.fp_history.specs.Notes.{History, Refinement, added_of, last_round, points_of}
+use Rattle.fp_history.specs.Points.{BeginWith}
+use Rattle.fp_history.specs.PrintedLeaves.{IsOpenBelow}
+use Rattle.fp_history.specs.Solutions.{AreWalksUnder, HasSeveral}
+use Rattle.fp_history.specs.Traces.{IsEarnedTrace}
+use Rattle.fp_session.specs.declared.payloads.Payload.{Payload}
+use Rattle.fp_session.specs.declared.searches.Search.{Search}
+use Rattle.fp_session.specs.Nodes.{IsLeafOf, IsSplitOf}
+
+-- a plan in whole units within the windows, with what it costs
+pub record IsIncumbent (p : Problem) (table : WindowTable) (legs : List (List Leg)) (n : ℕ) : Type 0 where
+  pub plan : IsPlan p 1 legs
+  pub within : PlanLiesWithin (windows_in table) 1 legs
+  pub costs : n ≡ cost p legs
+
+-- a budget within the limits
+pub record IsBudget (budget : Budget) : Type 0 where
+  pub rounds : budget.rounds ≤ LAST_ROUND
+  pub branches : budget.branches ≤ MOST_SPLITS
+
+-- the history of a search with these tables
+abbrev pub history : Search → List (List ClassShare) → History
+history s tables = record { problem = s.instance; windows = s.windows; trace = s.trace.items; tables = tables }
+
+-- the leaf with a number is left open: it isn't empty and is worth less than the cost, and P of its
+-- sides
+pub record IsLeftOpen (h : History) (cost : ℕ) (nodes : List (Node Payload)) (leaf : ℕ) (P : List Side → Type 0) : Type 0 where
+  pub open_at : IsSomeAnd (leaf_at nodes leaf) (λ (l : Leaf (Node Payload)). IsOpenBelow h cost l.sides l.node.payload.price)
+  pub holds : IsSomeAnd (leaf_at nodes leaf) (λ (l : Leaf (Node Payload)). P l.sides)
+
+-- what a search left is so, and why it left it
+abbrev pub IsLeft : Search → List (List ClassShare) → Left → Type 0
+IsLeft s tables Nothing = All (λ (l : Leaf (Node Payload)). closed_of l.node ≡ true) (tree_leaves fork_of s.tree)
+IsLeft s tables (Timing leaf relaxed) =
+    (last_round (history s tables) ≡ s.budget.rounds)
+    × ClashesBelow s.instance s.windows (points_of (history s tables) (last_round (history s tables))) s.cost relaxed
+    × IsLeftOpen (history s tables) s.cost s.tree leaf (λ sides. AreWalksUnder s.instance s.windows (points_of (history s tables) (last_round (history s tables))) sides relaxed)
+IsLeft s tables (Several leaf shipment) =
+    (split_count s.tree ≡ s.budget.branches)
+    × IsLeftOpen (history s tables) s.cost s.tree leaf (λ sides. HasSeveral s.instance s.windows (points_of (history s tables) (last_round (history s tables))) sides shipment)
+
+-- what a search has in hand, with its notes as a list
+pub record InHand : Type 0 where
+  pub instance : Problem
+  pub windows : WindowTable
+  pub budget : Budget
+  pub started : ℕ
+  pub incumbent : List (List Leg)
+  pub cost : ℕ
+  pub points : TimePoints
+  pub network : TimedNetwork
+  pub tree : List (Node Payload)
+  pub trace : List Refinement
+  pub left : Option Left
+
+-- what it has in hand
+abbrev pub in_hand : Search → InHand
+in_hand s = record {
+  instance = s.instance;
+  windows = s.windows;
+  budget = s.budget;
+  started = s.started;
+  incumbent = s.incumbent;
+  cost = s.cost;
+  points = s.points;
+  network = s.network;
+  tree = s.tree;
+  trace = s.trace.items;
+  left = s.left;
+}
+
+-- all that a search knows of what it has in hand, with its tables of prices
+pub record IsSearch (s : Search) (tables : List (List ClassShare)) : Type 0 where
+  pub belongs : BelongsTo s.instance s.windows
+  pub budget : IsBudget s.budget
+  pub incumbent : IsIncumbent s.instance s.windows s.incumbent s.cost
+  pub cheaper : s.cost ≤ s.started
+  pub trace : IsEarnedTrace (history s tables) s.started s.cost
+  pub rounds : last_round (history s tables) ≤ s.budget.rounds
+  pub points : BeginWith s.instance s.windows.anchors s.points
+  pub added : s.points.added ≡ added_of s.trace.items
+  pub network : IsNetworkOf s.instance s.points (last_round (history s tables)) s.network
+  pub prices : ArePriceTables s.instance tables
+  pub tails : HaveTails (tails_of s.instance) fork_of s.tree
+  pub few : split_count s.tree ≤ s.budget.branches
+  pub splits : All (IsSplitOf (history s tables) s.started s.cost) (tree_branches fork_of s.tree)
+  pub leaves : All (IsLeafOf (history s tables) s.cost) (tree_leaves fork_of s.tree)
+  pub left : IfSome s.left (IsLeft s tables)

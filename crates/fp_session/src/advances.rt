@@ -1,0 +1,127 @@
+//! A search goes on by one step.
+ghost use Rattle.std.specs.Prelude.{◌≡◌, ◌<◌, ⊤, None, Ok, IfOk, IfSome, IsSomeAnd, OnErr, OnOk, false};
+ghost use Rattle.fp_tree.specs.Nodes.{closed_of, leaf_at, leaf_count};
+ghost use Rattle.fp_session.specs.declared.steps.Step.TheVariants.{Done};
+ghost use Rattle.fp_session.specs.Outcomes.{HaveGrown};
+ghost use Rattle.fp_session.specs.Searches.{IsSearch, in_hand};
+ghost use Rattle.fp_session.specs.StepCauses.{ending_of as ending_in};
+ghost use Rattle.fp_session.specs.Steps.{IsStep, StayFixed};
+
+use crate::NoMemory;
+use crate::applying::ending_of;
+use crate::planning::next_move;
+use crate::searches::Search;
+use crate::steps::Step;
+use fp_duals::Tables;
+use fp_history::{Ending, Left};
+use std::alloc::Global;
+
+// One step at an open leaf. Without memory there may be more tables, and all else is as before.
+fn attempt(
+    alloc: Global,
+    search: &mut Search,
+    tables: &mut Tables,
+    leaf: u32,
+) -> Result<Step, NoMemory>
+    requires search { IsSearch search.old tables.old }
+    requires going { search.old.left ≡ None }
+    requires leaf { leaf < leaf_count search.old.tree }
+    requires open { IsSomeAnd (leaf_at search.old.tree leaf) (λ l. closed_of l.node ≡ false) }
+    ensures grown { HaveGrown search.old.instance tables.old tables.new }
+    ensures search { OnOk result (IsSearch search.new tables.new) }
+    ensures fixed { StayFixed (in_hand search.old) (in_hand search.new) }
+    ensures step { IfOk result (IsStep (in_hand search.old) (in_hand search.new)) }
+    ensures err { OnErr result (in_hand search.new ≡ in_hand search.old) }
+{
+    let planned = next_move(alloc, search, leaf, tables)?;
+    search.apply(alloc, tables, leaf, planned)
+}
+
+// One step at an open leaf. Without memory all is as before.
+fn advance_at(
+    alloc: Global,
+    search: &mut Search,
+    tables: &mut Tables,
+    leaf: u32,
+) -> Result<Step, NoMemory>
+    requires search { IsSearch search.old tables.old }
+    requires going { search.old.left ≡ None }
+    requires leaf { leaf < leaf_count search.old.tree }
+    requires open { IsSomeAnd (leaf_at search.old.tree leaf) (λ l. closed_of l.node ≡ false) }
+    ensures search { IsSearch search.new tables.new }
+    ensures fixed { StayFixed (in_hand search.old) (in_hand search.new) }
+    ensures step { IfOk result (IsStep (in_hand search.old) (in_hand search.new)) }
+    ensures hand { OnErr result (in_hand search.new ≡ in_hand search.old) }
+    ensures tables { OnErr result (tables.new ≡ tables.old) }
+{
+    let count = tables.list().len() as u32;
+    match attempt(alloc, search, tables, leaf) {
+        Ok(step) => Ok(step),
+        Err(error) => {
+            tables.cut(count);
+            Err(error)
+        }
+    }
+}
+
+// One step of a search that hasn't ended. Without memory all is as before.
+fn advance_open(alloc: Global, search: &mut Search, tables: &mut Tables) -> Result<Step, NoMemory>
+    requires search { IsSearch search.old tables.old }
+    requires going { search.old.left ≡ None }
+    ensures search { IsSearch search.new tables.new }
+    ensures fixed { StayFixed (in_hand search.old) (in_hand search.new) }
+    ensures step { IfOk result (IsStep (in_hand search.old) (in_hand search.new)) }
+    ensures hand { OnErr result (in_hand search.new ≡ in_hand search.old) }
+    ensures tables { OnErr result (tables.new ≡ tables.old) }
+{
+    match search.tree.best_open() {
+        Some(leaf) => advance_at(alloc, search, tables, leaf),
+        None => {
+            search.left = Some(Left::Nothing);
+            Ok(Step::Done {
+                ending: Ending::Optimal,
+            })
+        }
+    }
+}
+
+// One step. A search that has ended stays as it is, and so does one without memory.
+pub(crate) fn advance(
+    alloc: Global,
+    search: &mut Search,
+    tables: &mut Tables,
+) -> Result<Step, NoMemory>
+    requires search { IsSearch search.old tables.old }
+    ensures search { IsSearch search.new tables.new }
+    ensures fixed { StayFixed (in_hand search.old) (in_hand search.new) }
+    ensures step { IfOk result (IsStep (in_hand search.old) (in_hand search.new)) }
+    ensures answer { IfSome search.old.left (λ left. result ≡ Ok (Done (ending_in left))) }
+    ensures ended { IfSome search.old.left (λ left. in_hand search.new ≡ in_hand search.old) }
+    ensures kept { IfSome search.old.left (λ left. tables.new ≡ tables.old) }
+    ensures hand { OnErr result (in_hand search.new ≡ in_hand search.old) }
+    ensures tables { OnErr result (tables.new ≡ tables.old) }
+{
+    match &search.left {
+        Some(left) => Ok(Step::Done {
+            ending: ending_of(left),
+        }),
+        None => advance_open(alloc, search, tables),
+    }
+}
+
+// Goes on until the search has ended.
+pub(crate) fn finish(
+    alloc: Global,
+    search: &mut Search,
+    tables: &mut Tables,
+) -> Result<(), NoMemory>
+    requires search { IsSearch search.old tables.old }
+    ensures search { IsSearch search.new tables.new }
+    ensures fixed { StayFixed (in_hand search.old) (in_hand search.new) }
+    ensures ended { OnOk result (IsSomeAnd search.new.left (λ left. ⊤)) }
+{
+    while search.left.is_none() {
+        advance(alloc, search, tables)?;
+    }
+    Ok(())
+}

@@ -1,0 +1,192 @@
+//! A step does what was planned.
+ghost use Rattle.std.specs.Prelude.{◌≡◌, ◌<◌, None, IfOk, OnErr, OnOk};
+ghost use Rattle.fp_tree.specs.Nodes.{split_count};
+ghost use Rattle.fp_session.specs.Moves.{AtOpenLeaf, IsCheaper, IsDivision, IsLeftAt, IsMove, IsNextRound, IsUnsettled};
+ghost use Rattle.fp_session.specs.Nodes.{IsKept, IsSettled};
+ghost use Rattle.fp_session.specs.Searches.{IsSearch, history, in_hand};
+ghost use Rattle.fp_session.specs.StepCauses.{ending_of as ending_in, open_count, with_incumbent, with_round, with_tree};
+ghost use Rattle.fp_session.specs.Steps.{HasBranched, HasClosed, HasEnded, IsStep, StayFixed};
+
+use crate::NoMemory;
+use crate::kept::Kept;
+use crate::moves::{Cheaper, Division, Move};
+use crate::payloads::Payload;
+use crate::planning::Planned;
+use crate::searches::Search;
+use crate::steps::Step;
+use crate::timing::NextRound;
+use fp_duals::Tables;
+use fp_history::{Ending, Left};
+use fp_lines::Spent;
+use std::alloc::Global;
+
+// How a search ended that left this.
+pub(crate) fn ending_of(left: &Left) -> Ending
+    ensures { result ≡ ending_in left.now }
+{
+    match left {
+        Left::Nothing => Ending::Optimal,
+        Left::Timing { .. } => Ending::Unfinished {
+            spent: Spent::Rounds,
+        },
+        Left::Several { .. } => Ending::Unfinished {
+            spent: Spent::Branches,
+        },
+    }
+}
+
+impl Search {
+    // Keeps what was found of an open leaf, which is settled, and closes it. The tables serve the
+    // contract alone, here and below.
+    pub(crate) fn close(&mut self, tables: &Tables, leaf: u32, kept: Kept)
+        requires search { IsSearch self.old tables.now }
+        requires going { self.old.left ≡ None }
+        requires kept { AtOpenLeaf self.old.tree leaf (λ l. IsKept (history self.old tables.now) l.sides kept.payload kept.value) }
+        requires settled { IsSettled (history self.old tables.now) self.old.cost kept.payload kept.value }
+        ensures search { IsSearch self.new tables.now }
+        ensures fixed { StayFixed (in_hand self.old) (in_hand self.new) }
+        ensures closed { HasClosed (in_hand self.old) (in_hand self.new) }
+    {
+        self.tree.put(leaf, kept.payload, kept.value);
+        self.tree.close(leaf);
+    }
+
+    // Keeps what was found of an open leaf.
+    fn keep(&mut self, tables: &Tables, leaf: u32, kept: Kept)
+        requires search { IsSearch self.old tables.now }
+        requires going { self.old.left ≡ None }
+        requires kept { AtOpenLeaf self.old.tree leaf (λ l. IsKept (history self.old tables.now) l.sides kept.payload kept.value) }
+        ensures search { IsSearch self.new tables.now }
+        ensures others { self.new ≡ with_tree self.old self.new.tree }
+        ensures open_leaves { open_count self.new.tree ≡ open_count self.old.tree }
+        ensures splits { split_count self.new.tree ≡ split_count self.old.tree }
+    {
+        self.tree.put(leaf, kept.payload, kept.value);
+    }
+
+    // A cheaper plan becomes the incumbent.
+    fn take(&mut self, tables: &Tables, cheaper: Cheaper)
+        requires search { IsSearch self.old tables.now }
+        requires going { self.old.left ≡ None }
+        requires cheaper { IsCheaper self.old cheaper }
+        ensures search { IsSearch self.new tables.now }
+        ensures taken { self.new ≡ with_incumbent self.old cheaper }
+    {
+        self.incumbent = cheaper.plan;
+        self.cost = cheaper.cost;
+    }
+
+    // A round is added, with its note.
+    fn refine(&mut self, tables: &Tables, round: NextRound) -> Result<(), NoMemory>
+        requires search { IsSearch self.old tables.now }
+        requires going { self.old.left ≡ None }
+        requires round { IsNextRound self.old round.note round.refined }
+        ensures search { OnOk result (IsSearch self.new tables.now) }
+        ensures refined { OnOk result
+            (in_hand self.new ≡ with_round (in_hand self.old) round.note round.refined) }
+        ensures err { OnErr result (in_hand self.new ≡ in_hand self.old) }
+    {
+        self.trace.push(round.note)?;
+        self.points = round.refined.points;
+        self.network = round.refined.network;
+        Ok(())
+    }
+
+    // Divides an open leaf, which keeps what was found of it and what the incumbent costs now.
+    // Without memory it keeps what it had.
+    fn divide(
+        &mut self,
+        alloc: Global,
+        tables: &Tables,
+        leaf: u32,
+        kept: Kept,
+        division: Division,
+    ) -> Result<(), NoMemory>
+        requires search { IsSearch self.old tables.now }
+        requires going { self.old.left ≡ None }
+        requires left { split_count self.old.tree < self.old.budget.branches }
+        requires unsettled { AtOpenLeaf self.old.tree leaf (λ l. IsUnsettled (history self.old tables.now) self.old.cost l.sides kept) }
+        requires kept { AtOpenLeaf self.old.tree leaf (λ l. IsKept (history self.old tables.now) l.sides kept.payload kept.value) }
+        requires division { AtOpenLeaf self.old.tree leaf (λ l. IsDivision (history self.old tables.now) l.sides division) }
+        ensures search { OnOk result (IsSearch self.new tables.now) }
+        ensures fixed { StayFixed (in_hand self.old) (in_hand self.new) }
+        ensures branched { OnOk result (HasBranched (in_hand self.old) (in_hand self.new)) }
+        ensures err { OnErr result (self.new ≡ self.old) }
+    {
+        let before = *self.tree.payload(leaf);
+        let value = self.tree.value(leaf);
+        let noted = Payload {
+            incumbent: self.cost,
+            ..kept.payload
+        };
+        self.tree.put(leaf, noted, kept.value);
+        let first = (division.first.payload, division.first.value);
+        let second = (division.second.payload, division.second.value);
+        let divided = self
+            .tree
+            .split_leaf(alloc, leaf, division.split, division.tail, first, second);
+        if divided.is_err() {
+            self.tree.put(leaf, before, value);
+        }
+        divided
+    }
+
+    // Ends the search, with what it left at an open leaf, which keeps what was found of it.
+    fn stop(&mut self, tables: &Tables, leaf: u32, kept: Kept, left: Left)
+        requires search { IsSearch self.old tables.now }
+        requires going { self.old.left ≡ None }
+        requires unsettled { AtOpenLeaf self.old.tree leaf (λ l. IsUnsettled (history self.old tables.now) self.old.cost l.sides kept) }
+        requires kept { AtOpenLeaf self.old.tree leaf (λ l. IsKept (history self.old tables.now) l.sides kept.payload kept.value) }
+        requires left { AtOpenLeaf self.old.tree leaf (λ l. IsLeftAt self.old leaf l.sides left) }
+        ensures search { IsSearch self.new tables.now }
+        ensures fixed { StayFixed (in_hand self.old) (in_hand self.new) }
+        ensures ended { HasEnded (in_hand self.old) (in_hand self.new) (ending_in left) }
+    {
+        self.tree.put(leaf, kept.payload, kept.value);
+        self.left = Some(left);
+    }
+
+    // Does what was planned at an open leaf. Without memory all stays.
+    pub(crate) fn apply(
+        &mut self,
+        alloc: Global,
+        tables: &Tables,
+        leaf: u32,
+        planned: Planned,
+    ) -> Result<Step, NoMemory>
+        requires search { IsSearch self.old tables.now }
+        requires going { self.old.left ≡ None }
+        requires planned { IsMove self.old tables.now leaf planned.kept planned.planned }
+        ensures search { OnOk result (IsSearch self.new tables.now) }
+        ensures fixed { StayFixed (in_hand self.old) (in_hand self.new) }
+        ensures step { IfOk result (IsStep (in_hand self.old) (in_hand self.new)) }
+        ensures err { OnErr result (in_hand self.new ≡ in_hand self.old) }
+    {
+        let kept = planned.kept;
+        match planned.planned {
+            Move::Close => {
+                self.close(tables, leaf, kept);
+                Ok(Step::Closed)
+            }
+            Move::Better { cheaper } => {
+                self.keep(tables, leaf, kept);
+                self.take(tables, cheaper);
+                Ok(Step::Better)
+            }
+            Move::Refine { note, refined } => {
+                self.refine(tables, NextRound { note, refined })?;
+                self.keep(tables, leaf, kept);
+                Ok(Step::Round)
+            }
+            Move::Divide { division } => {
+                self.divide(alloc, tables, leaf, kept, division)?;
+                Ok(Step::Branch)
+            }
+            Move::Stop { left } => {
+                let ending = ending_of(&left);
+                self.stop(tables, leaf, kept, left);
+                Ok(Step::Done { ending })
+            }
+        }
+    }
+}

@@ -1,0 +1,51 @@
+//! The certificate of a search that has ended.
+ghost use Rattle.std.specs.Prelude.{◌≡◌, IfOk};
+ghost use Rattle.fp_model.specs.Plans.{IsPlan};
+ghost use Rattle.fp_session.specs.Certificates.{IsCertificate, named_scale};
+
+use crate::NoMemory;
+use crate::searches::Search;
+use crate::tree_lines::tree_lines;
+use fp_duals::Tables;
+use fp_lines::{Answer, Certificate};
+use fp_model::Instance;
+use fp_model::limits::SCALE;
+use fp_timetable::{legs, trucks};
+use std::alloc::Global;
+
+// The scale that the certificate of an instance names: none where it is 1,000,000.
+fn named_scale(instance: &Instance) -> Option<u32>
+    ensures { result ≡ named_scale instance.now.scale }
+{
+    let scale = instance.scale();
+    if u128::from(scale) == SCALE {
+        None
+    } else {
+        Some(scale)
+    }
+}
+
+// The certificate of a search with an answer.
+pub(crate) fn certificate(
+    alloc: Global,
+    search: &Search,
+    tables: Tables,
+    answer: Answer,
+) -> Result<Certificate, NoMemory>
+    requires { IsPlan search.now.instance 1 search.now.incumbent }
+    ensures { IfOk result (IsCertificate search.now tables answer) }
+{
+    let legs = legs(alloc, &search.instance, &search.incumbent)?;
+    let trucks = trucks(alloc, &search.instance, &search.incumbent)?;
+    let points = search.points.added().to_vec(alloc)?;
+    let tree = tree_lines(alloc, &search.tree)?;
+    Ok(Certificate {
+        answer,
+        scale: named_scale(&search.instance),
+        legs,
+        trucks,
+        points,
+        tables: tables.into_list(),
+        tree,
+    })
+}

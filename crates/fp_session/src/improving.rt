@@ -1,0 +1,94 @@
+//! A leaf's price is improved at the present round.
+ghost use Rattle.std.specs.Prelude.{◌≡◌, ◌≤◌, IfOk, OnErr, false};
+ghost use Rattle.fp_prices.specs.Tables.{HasKind};
+ghost use Rattle.fp_session.specs.Nodes.{IsKept};
+ghost use Rattle.fp_session.specs.Outcomes.{HaveGrown, IsGreater, IsOutcome, empty_kept, priced_kept};
+ghost use Rattle.fp_session.specs.Searches.{IsSearch, history};
+
+use crate::NoMemory;
+use crate::kept::Kept;
+use crate::outcomes::Outcome;
+use crate::payloads::Payload;
+use crate::searches::Search;
+use fp_duals::{Effort, Improved, Tables, improve_leaf};
+use fp_prices::{Kind, Leaf, LeafPrice};
+use std::alloc::Global;
+
+// What is kept of a leaf that is empty as of a round.
+pub(crate) fn emptied(round: u32) -> Kept
+    ensures { result ≡ empty_kept round }
+{
+    Kept {
+        payload: Payload {
+            price: LeafPrice {
+                kind: Kind::Linear,
+                round,
+                forced: false,
+            },
+            empty: true,
+            incumbent: 0,
+        },
+        value: 0,
+    }
+}
+
+// What is kept of a leaf that has this value by a price.
+pub(crate) fn priced(price: LeafPrice, value: u128) -> Kept
+    ensures { result ≡ priced_kept price value }
+{
+    Kept {
+        payload: Payload {
+            price,
+            empty: false,
+            incumbent: 0,
+        },
+        value,
+    }
+}
+
+// What is kept of a leaf of which this was kept, where another price gives this value: the other
+// price only where its value is greater.
+fn greater(old: Kept, price: LeafPrice, value: u128) -> Kept
+    ensures { IsGreater old price value result }
+{
+    if value > old.value {
+        priced(price, value)
+    } else {
+        old
+    }
+}
+
+// What is kept of a leaf of which this was kept before, after its price was improved as of the last
+// round. The new price is kept only where its value is greater.
+pub(crate) fn improved(
+    alloc: Global,
+    search: &Search,
+    leaf: &Leaf,
+    old: Kept,
+    effort: &Effort,
+    tables: &mut Tables,
+) -> Result<Outcome, NoMemory>
+    requires search { IsSearch search.now tables.old }
+    requires setting { leaf.now.setting ≡ record { problem = search.now.instance; windows = search.now.windows; network = search.now.network } }
+    requires kept { IsKept (history search.now tables.old) leaf.now.sides old.payload old.value }
+    requires some { old.payload.empty ≡ false }
+    ensures grown { HaveGrown search.now.instance tables.old tables.new }
+    ensures outcome { IfOk result
+        (IsOutcome (history search.now tables.new) leaf.now.sides old) }
+    ensures err { OnErr result (tables.new ≡ tables.old) }
+{
+    let round = search.trace.len() as u32;
+    match improve_leaf(alloc, leaf, round, old.payload.price, effort, tables)? {
+        Improved::Empty { .. } => Ok(Outcome::Empty {
+            kept: emptied(round),
+        }),
+        Improved::Priced {
+            price,
+            value,
+            walks,
+        } => Ok(Outcome::Open {
+            kept: greater(old, price, value),
+            walks,
+        }),
+    }
+}

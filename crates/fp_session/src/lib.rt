@@ -1,0 +1,36 @@
+//! The search for the cheapest plan: rounds of refinement and a tree of splits, from a plan in hand.
+//!
+//! The search is dynamic discretization discovery (Boland, Hewitt, Marshall and Savelsbergh, "The
+//! Continuous-Time Service Network Design Problem", Operations Research 65, 2017) within a
+//! branch-and-bound tree. Its bounds by prices, its notes and its certificates are this project's
+//! own.
+#![tactic(auto)]
+
+mod advances;
+mod answers;
+mod applying;
+mod certificates;
+mod dividing;
+mod improving;
+mod kept;
+mod least_worth;
+mod moves;
+mod outcomes;
+mod payloads;
+mod planning;
+mod refining;
+mod searches;
+mod sessions;
+mod solutions;
+mod starts;
+mod steps;
+mod timing;
+mod tree_lines;
+
+pub use fp_history::{Budget, Ending, Left, RoundNote, SplitNote};
+pub use sessions::Session;
+pub use solutions::Solved;
+pub use steps::Step;
+
+/// The error of a call that finds no memory.
+pub type NoMemory = std::alloc::AllocError;

@@ -1,0 +1,40 @@
+//! What a step is going to do, worked out before anything changes.
+use crate::kept::Kept;
+use fp_history::{Left, RoundNote};
+use fp_longestarcs::Network;
+use fp_model::Plan;
+use fp_timenodes::Points;
+use fp_tree::Split;
+
+// A cheaper plan, with what it costs.
+#[derive(Drop)]
+pub(crate) struct Cheaper {
+    pub plan: Plan,
+    pub cost: u128,
+}
+
+// The points with those that a round adds, and the network with them.
+#[derive(Drop)]
+pub(crate) struct Refined {
+    pub points: Points,
+    pub network: Network,
+}
+
+// A split, with the terminal that its arc leaves, and the two leaves below it.
+#[derive(Clone, Copy, Debug, PartialEq, Eq)]
+pub(crate) struct Division {
+    pub split: Split,
+    pub tail: u32,
+    pub first: Kept,
+    pub second: Kept,
+}
+
+// What a step does besides keeping what it found of its leaf.
+#[derive(Drop)]
+pub(crate) enum Move {
+    Close,
+    Better { cheaper: Cheaper },
+    Refine { note: RoundNote, refined: Refined },
+    Divide { division: Division },
+    Stop { left: Left },
+}

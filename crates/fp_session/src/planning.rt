@@ -1,0 +1,276 @@
+//! What a step is going to do at an open leaf.
+ghost use Rattle.std.specs.Prelude.{◌≡◌, ◌<◌, ◌≤◌, None, All, IfOk, IsTrue, ◌↔◌, IsSomeAnd, false};
+ghost use Rattle.std.specs.Int.{div_ceil};
+ghost use Rattle.fp_lists.specs.Distinct.{AreDistinct};
+ghost use Rattle.fp_model.specs.Costs.{cost as cost_of};
+ghost use Rattle.fp_model.specs.Routes.{ArcsExist};
+ghost use Rattle.fp_flatnet.specs.Tables.{windows_in};
+ghost use Rattle.fp_relaxmodel.specs.Relaxed.{HasRoutes, IsRelaxedPlan};
+ghost use Rattle.fp_relaxmodel.specs.Terminals.{terminals_on};
+ghost use Rattle.fp_tree.specs.Nodes.{closed_of, leaf_at, leaf_count};
+ghost use Rattle.fp_prices.specs.Tables.{HasKind};
+ghost use Rattle.fp_history.specs.Solutions.{AreWalksUnder};
+ghost use Rattle.fp_session.specs.Dividing.{IsSeveral};
+ghost use Rattle.fp_session.specs.Moves.{AtOpenLeaf, IsMove, IsOpenMove, points_now};
+ghost use Rattle.fp_session.specs.Nodes.{IsKeptAs};
+ghost use Rattle.fp_session.specs.Outcomes.{HaveGrown, IsFound};
+ghost use Rattle.fp_session.specs.Searches.{IsSearch, history};
+
+use crate::NoMemory;
+use crate::dividing::{Several, division, first_several};
+use crate::improving::improved;
+use crate::kept::Kept;
+use crate::moves::Move;
+use crate::outcomes::Outcome;
+use crate::searches::Search;
+use crate::timing::{Timing, timed};
+use fp_duals::{Effort, Tables};
+use fp_history::Left;
+use fp_model::Instance;
+use fp_prices::{Leaf, LeafPrice, RoundNetwork};
+use fp_relaxmodel::{RelaxedPlan, TimedWalk, is_route, relaxed_cost};
+use fp_tree::Side;
+use std::alloc::Global;
+
+// What a step is going to do, with what it keeps of its leaf.
+#[derive(Drop)]
+pub(crate) struct Planned {
+    pub kept: Kept,
+    pub planned: Move,
+}
+
+// Whether no walk meets a terminal twice.
+fn are_routes(instance: &Instance, walks: &[TimedWalk]) -> bool
+    requires { All (ArcsExist instance.now) walks.now }
+    ensures { IsTrue result ↔ All (λ walk. AreDistinct (terminals_on instance.now walk)) walks.now }
+{
+    for walk in walks {
+        if !is_route(instance, walk) {
+            return false;
+        }
+    }
+    true
+}
+
+// Whether walks of the shipments are routes and cost less than the incumbent.
+fn are_cheaper(search: &Search, relaxed: &RelaxedPlan) -> bool
+    requires exist { All (ArcsExist search.now.instance) relaxed.now }
+    requires routes { All (λ walk. AreDistinct (terminals_on search.now.instance walk)) relaxed.now
+        → HasRoutes search.now.instance relaxed.now }
+    ensures { IsTrue result
+        ↔ (All (λ walk. AreDistinct (terminals_on search.now.instance walk)) relaxed.now
+        × (cost_of search.now.instance relaxed.now < search.now.cost)) }
+{
+    if are_routes(&search.instance, &relaxed.walks) {
+        relaxed_cost(&search.instance, relaxed) < search.cost
+    } else {
+        false
+    }
+}
+
+// Whether a leaf with this value is worth at least what the incumbent costs.
+fn is_dear(search: &Search, value: u128) -> bool
+    ensures { IsTrue result ↔ (search.now.cost ≤ div_ceil value search.now.instance.scale) }
+{
+    value.div_ceil(u128::from(search.instance.scale())) >= search.cost
+}
+
+// What a step is going to do where a relaxed plan under the sides of a leaf costs less than the
+// incumbent. The sides serve the contract alone.
+fn timed_move(
+    alloc: Global,
+    search: &Search,
+    tables: &Tables,
+    sides: &[Side],
+    number: u32,
+    relaxed: RelaxedPlan,
+) -> Result<Move, NoMemory>
+    requires search { IsSearch search.now tables.now }
+    requires relaxed { IsRelaxedPlan search.now.instance (windows_in search.now.windows)
+        (points_now search.now) relaxed }
+    requires under { AreWalksUnder search.now.instance search.now.windows (points_now search.now)
+        sides.now relaxed }
+    requires cheaper { cost_of search.now.instance relaxed < search.now.cost }
+    ensures { IfOk result (IsOpenMove search.now tables.now number sides.now) }
+{
+    match timed(alloc, search, tables, relaxed)? {
+        Timing::Better { cheaper } => Ok(Move::Better { cheaper }),
+        Timing::Refine { round } => Ok(Move::Refine {
+            note: round.note,
+            refined: round.refined,
+        }),
+        Timing::Spent { relaxed } => Ok(Move::Stop {
+            left: Left::Timing {
+                leaf: number,
+                relaxed,
+            },
+        }),
+    }
+}
+
+// What a step is going to do at a leaf in which a shipment has several ways to go: it divides the
+// leaf, where a branch is left.
+fn several_move(
+    alloc: Global,
+    search: &Search,
+    round: &RoundNetwork,
+    leaf: &Leaf,
+    sides: &[Side],
+    number: u32,
+    several: Several,
+    inherited: LeafPrice,
+    tables: &mut Tables,
+) -> Result<Move, NoMemory>
+    requires search { IsSearch search.now tables.old }
+    requires going { search.now.left ≡ None }
+    requires problem { round.now.problem ≡ search.now.instance }
+    requires network { round.now.network ≡ search.now.network }
+    requires setting { leaf.now.setting ≡ record { problem = search.now.instance; windows = search.now.windows; network = search.now.network } }
+    requires sides { leaf.now.sides ≡ sides.now }
+    requires several { IsSeveral leaf.now several }
+    requires kind { HasKind tables.old inherited.kind }
+    ensures grown { HaveGrown search.now.instance tables.old tables.new }
+    ensures planned { IfOk result (IsOpenMove search.now tables.new number sides.now) }
+{
+    if search.tree.splits() >= search.budget.branches {
+        return Ok(Move::Stop {
+            left: Left::Several {
+                leaf: number,
+                shipment: several.shipment,
+            },
+        });
+    }
+    let division = division(
+        alloc, search, round, leaf, sides, several, inherited, tables,
+    )?;
+    Ok(Move::Divide { division })
+}
+
+// What a step is going to do at an open leaf that is worth less than the incumbent costs.
+fn move_at(
+    alloc: Global,
+    search: &Search,
+    round: &RoundNetwork,
+    leaf: &Leaf,
+    sides: &[Side],
+    number: u32,
+    kept: Kept,
+    walks: Vec<TimedWalk>,
+    tables: &mut Tables,
+) -> Result<Move, NoMemory>
+    requires search { IsSearch search.now tables.old }
+    requires going { search.now.left ≡ None }
+    requires problem { round.now.problem ≡ search.now.instance }
+    requires network { round.now.network ≡ search.now.network }
+    requires setting { leaf.now.setting ≡ record { problem = search.now.instance; windows = search.now.windows; network = search.now.network } }
+    requires sides { leaf.now.sides ≡ sides.now }
+    requires found { IsFound (history search.now tables.old) sides.now kept walks.items }
+    requires below { div_ceil kept.value search.now.instance.scale < search.now.cost }
+    ensures grown { HaveGrown search.now.instance tables.old tables.new }
+    ensures planned { IfOk result (IsOpenMove search.now tables.new number sides.now) }
+{
+    let relaxed = RelaxedPlan { walks };
+    if are_cheaper(search, &relaxed) {
+        return timed_move(alloc, search, tables, sides, number, relaxed);
+    }
+    let shipments = search.instance.shipments().len() as u32;
+    match first_several(alloc, leaf, shipments)? {
+        // Where no shipment has several ways to go, the walks are routes and cost less.
+        None => unreachable!(),
+        Some(several) => {
+            let price = kept.payload.price;
+            several_move(
+                alloc, search, round, leaf, sides, number, several, price, tables,
+            )
+        }
+    }
+}
+
+// What is kept of a leaf.
+fn kept_at(search: &Search, number: u32) -> Kept
+    requires { number < leaf_count search.now.tree }
+    ensures { IsSomeAnd (leaf_at search.now.tree number) (λ l. IsKeptAs l result) }
+{
+    Kept {
+        payload: *search.tree.payload(number),
+        value: search.tree.value(number),
+    }
+}
+
+// The effort at a leaf that a step has chosen: more at the root.
+fn effort_at(sides: &[Side]) -> Effort {
+    if sides.is_empty() {
+        Effort::ROOT
+    } else {
+        Effort::CHOSEN
+    }
+}
+
+// What a step is going to do at an open leaf of which this was kept and which isn't known to be
+// empty, and what it keeps of it.
+fn open_move(
+    alloc: Global,
+    search: &Search,
+    number: u32,
+    old: Kept,
+    tables: &mut Tables,
+) -> Result<Planned, NoMemory>
+    requires search { IsSearch search.now tables.old }
+    requires going { search.now.left ≡ None }
+    requires leaf { number < leaf_count search.now.tree }
+    requires old { AtOpenLeaf search.now.tree number (λ l. IsKeptAs l old) }
+    requires some { old.payload.empty ≡ false }
+    ensures grown { HaveGrown search.now.instance tables.old tables.new }
+    ensures planned { IfOk result
+        (λ p. IsMove search.now tables.new number p.kept p.planned) }
+{
+    let network = search.network.copy(alloc)?;
+    let round = RoundNetwork::over(alloc, &search.instance, network)?;
+    let sides = search.tree.leaf_sides(alloc, number)?;
+    let leaf = Leaf::of(alloc, &round, &search.windows, &sides)?;
+    let effort = effort_at(&sides);
+    match improved(alloc, search, &leaf, old, &effort, tables)? {
+        Outcome::Empty { kept } => Ok(Planned {
+            kept,
+            planned: Move::Close,
+        }),
+        Outcome::Open { kept, walks } => {
+            if is_dear(search, kept.value) {
+                return Ok(Planned {
+                    kept,
+                    planned: Move::Close,
+                });
+            }
+            let planned = move_at(
+                alloc, search, &round, &leaf, &sides, number, kept, walks, tables,
+            )?;
+            Ok(Planned { kept, planned })
+        }
+    }
+}
+
+// What a step is going to do at an open leaf, and what it keeps of it. Also without memory the
+// tables have only grown.
+pub(crate) fn next_move(
+    alloc: Global,
+    search: &Search,
+    number: u32,
+    tables: &mut Tables,
+) -> Result<Planned, NoMemory>
+    requires search { IsSearch search.now tables.old }
+    requires going { search.now.left ≡ None }
+    requires leaf { number < leaf_count search.now.tree }
+    requires still_open { IsSomeAnd (leaf_at search.now.tree number) (λ l. closed_of l.node ≡ false) }
+    ensures grown { HaveGrown search.now.instance tables.old tables.new }
+    ensures planned { IfOk result
+        (λ p. IsMove search.now tables.new number p.kept p.planned) }
+{
+    let old = kept_at(search, number);
+    if old.payload.empty {
+        return Ok(Planned {
+            kept: old,
+            planned: Move::Close,
+        });
+    }
+    open_move(alloc, search, number, old, tables)
+}

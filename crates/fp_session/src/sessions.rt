@@ -1,0 +1,103 @@
+//! A search, step by step.
+ghost use Rattle.std.specs.Prelude.{◌≡◌, Ok, IfOk, IfSome, OnErr};
+ghost use Rattle.fp_model.specs.Costs.{cost as cost_of};
+ghost use Rattle.fp_model.specs.Plans.{IsPlan};
+ghost use Rattle.fp_flatnet.specs.Belonging.{BelongsTo};
+ghost use Rattle.fp_flatnet.specs.Tables.{windows_in};
+ghost use Rattle.fp_flatnet.specs.Windows.{PlanLiesWithin};
+ghost use Rattle.fp_session.specs.declared.steps.Step.TheVariants.{Done};
+ghost use Rattle.fp_session.specs.Searches.{IsBudget};
+ghost use Rattle.fp_session.specs.Sessions.{IsSound, hand_of};
+ghost use Rattle.fp_session.specs.Solved.{IsSolved};
+ghost use Rattle.fp_session.specs.StepCauses.{ending_of};
+ghost use Rattle.fp_session.specs.Steps.{IsStep, StayFixed};
+
+use crate::NoMemory;
+use crate::advances::{advance, finish};
+use crate::searches::Search;
+use crate::solutions::{Solved, solution};
+use crate::starts::started;
+use crate::steps::Step;
+use fp_duals::Tables;
+use fp_flatnet::Windows;
+use fp_history::Budget;
+use fp_model::{Instance, Plan};
+use std::alloc::Global;
+use std::marker::Model;
+
+/// A search: its plan in hand, its points, its tree, its tables and its notes.
+///
+/// Contracts see the instance, its windows, the budget, what the plan costs that the search started
+/// with, and all that it has in hand. Of each search they know that it is sound: its plan in hand is
+/// a plan within the windows, its rounds, its splits and its leaves are earned, and what it left is
+/// so.
+#[derive(Drop)]
+pub struct Session {
+    search: Search,
+    tables: Tables,
+}
+
+impl Model for Session {
+    ghost use Rattle.fp_session.specs.Searches.{IsSearch, in_hand};
+    ghost use Rattle.fp_session.specs.Sessions.{SessionModel, session_of};
+
+    ghost Value = { SessionModel };
+
+    ghost view = { λ s. session_of (in_hand s.search) s.tables };
+
+    ghost invariant = { λ s. IsSearch s.search s.tables };
+}
+
+impl Session {
+    /// A search that starts with a plan within the windows, which belong to the instance, and may
+    /// spend so much: at most 4,000 rounds and 100,000 branches. Its tree is one leaf. `NoMemory`
+    /// only where no memory is found.
+    pub fn new(
+        alloc: Global,
+        instance: Instance,
+        windows: Windows,
+        start: Plan,
+        budget: Budget,
+    ) -> Result<Session, NoMemory>
+        requires belongs { BelongsTo instance windows }
+        requires plan { IsPlan instance 1 start }
+        requires within { PlanLiesWithin (windows_in windows) 1 start }
+        requires budget { IsBudget budget }
+        ensures instance { IfOk result (λ s. s.instance ≡ instance) }
+        ensures windows { IfOk result (λ s. s.windows ≡ windows) }
+        ensures budget { IfOk result (λ s. s.budget ≡ budget) }
+        ensures started { IfOk result (λ s. s.started ≡ cost_of instance start) }
+        ensures sound { IfOk result IsSound }
+    {
+        let mut tables = Tables::new(alloc);
+        let search = started(alloc, instance, windows, start, budget, &mut tables)?;
+        Ok(Session { search, tables })
+    }
+
+    /// One step of the search. A search that has ended stays as it is and gives the same answer
+    /// again. `NoMemory` only where no memory is found; then all is as before.
+    pub fn step(&mut self, alloc: Global) -> Result<Step, NoMemory>
+        ensures step { IfOk result (IsStep (hand_of self.old) (hand_of self.new)) }
+        ensures fixed { StayFixed (hand_of self.old) (hand_of self.new) }
+        ensures answer { IfSome self.old.left (λ left. result ≡ Ok (Done (ending_of left))) }
+        ensures ended { IfSome self.old.left (λ left. self.new ≡ self.old) }
+        ensures err { OnErr result (self.new ≡ self.old) }
+        ensures sound { IsSound self.new }
+    {
+        advance(alloc, &mut self.search, &mut self.tables)
+    }
+
+    /// Steps until the search has ended, and what it shows then. `NoMemory` only where no memory is
+    /// found.
+    pub fn solve(self, alloc: Global) -> Result<Solved, NoMemory>
+        ensures { IfOk result (IsSolved self.instance self.windows self.budget self.started) }
+    {
+        let mut search = self.search;
+        let mut tables = self.tables;
+        finish(alloc, &mut search, &mut tables)?;
+        let Some(left) = search.left.take() else {
+            unreachable!()
+        };
+        solution(alloc, search, tables, left)
+    }
+}

@@ -1,0 +1,69 @@
+//! What a search shows once it has ended.
+ghost use Rattle.std.specs.Prelude.{IfOk};
+ghost use Rattle.fp_session.specs.Certificates.{IsShown};
+ghost use Rattle.fp_session.specs.Searches.{IsLeft, IsSearch};
+
+use crate::NoMemory;
+use crate::answers::answer;
+use crate::certificates::certificate;
+use crate::searches::Search;
+use crate::tree_lines::split_notes;
+use fp_duals::Tables;
+use fp_history::{Left, RoundNote, SplitNote};
+use fp_lines::Certificate;
+use fp_tree::leaves_cover_all;
+use std::alloc::Global;
+use std::marker::Model;
+
+/// What a search shows once it has ended: its certificate, the notes on its rounds and on its
+/// splits, these in preorder, and what it left.
+///
+/// Contracts see the record of these parts, with lists.
+#[derive(Drop)]
+pub struct Solved {
+    /// The answer with all that tells why it is true.
+    pub certificate: Certificate,
+    /// Why each round added points, from the first round on.
+    pub trace: Vec<RoundNote>,
+    /// Why each leaf was split that is a split of the certificate's tree, in the tree's order.
+    pub splits: Vec<SplitNote>,
+    /// What would have been next. `Nothing` exactly where the answer is optimal.
+    pub left: Left,
+}
+
+impl Model for Solved {
+    ghost use Rattle.fp_history.specs.Solutions.{Solution};
+
+    ghost Value = { Solution };
+
+    ghost view = { λ s. record {
+      certificate = s.certificate;
+      trace = s.trace.items;
+      splits = s.splits.items;
+      left = s.left;
+    } };
+}
+
+// What is shown of a search that has ended and left this.
+pub(crate) fn solution(
+    alloc: Global,
+    search: Search,
+    tables: Tables,
+    left: Left,
+) -> Result<Solved, NoMemory>
+    requires search { IsSearch search tables }
+    requires left { IsLeft search tables left }
+    ensures { IfOk result (IsShown search left) }
+{
+    // The nodes are one tree.
+    leaves_cover_all(&search.tree);
+    let answer = answer(&search, &left);
+    let splits = split_notes(alloc, &search.tree)?;
+    let certificate = certificate(alloc, &search, tables, answer)?;
+    Ok(Solved {
+        certificate,
+        trace: search.trace,
+        splits,
+        left,
+    })
+}
