@@ -14,11 +14,9 @@ import sys
 import time
 
 sys.path.insert(0, os.path.dirname(os.path.abspath(__file__)))
-from instances import generated, hubs, line
+from instances import cases
 from kit import built_program
 
-SIZES = ((6, 15), (8, 30), (10, 40), (12, 50), (20, 60))
-SEEDS = (1, 2, 3)
 SCALE = 1_000_000
 
 
@@ -65,23 +63,13 @@ def bound_by(program, settings, text):
     return first.split(",")[2], best
 
 
-def cases():
-    """What each instance is called, and its records."""
-    for terminals, shipments in SIZES:
-        for seed in SEEDS:
-            yield f"{terminals}x{shipments} s{seed}", generated(seed, terminals, shipments)
-    for slack in (120, 720):
-        yield f"line, slack {slack}", line(6, 20, slack)
-        yield f"hubs, slack {slack}", hubs(2, 6, 30, slack)
-
-
 def main():
     programs = [(built_program(), {})]
     if len(sys.argv) > 2:
         programs.append((sys.argv[2], dict(word.split("=", 1) for word in sys.argv[3:])))
-    print("instance             flat" + "   bound  seconds" * len(programs))
+    print(f"{'instance':28}      flat" + "   bound  seconds" * len(programs))
     for name, text in cases():
-        row = f"{name:15} {flat_bound(text):9}"
+        row = f"{name:28} {flat_bound(text):9}"
         for program, settings in programs:
             value, seconds = bound_by(program, settings, text)
             row += f" {value:>7} {seconds:8.3f}"

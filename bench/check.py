@@ -10,12 +10,10 @@ a tree of up to 10,000 leaves of one round, over a generated instance of 10 term
 import os
 import subprocess
 import sys
-import tempfile
-import time
 
 sys.path.insert(0, os.path.dirname(os.path.abspath(__file__)))
 from instances import generated
-from kit import built_program
+from kit import built_program, measured
 
 
 def splits(count):
@@ -71,19 +69,12 @@ def leaves(count, program):
     return lines + [f"answer,unfinished,{direct[0].split(',')[2]},0,rounds"] + direct[1:-1] + tree(count, 0) + ["end"]
 
 
-def measured(program, lines, wanted):
+def checked(program, lines, wanted):
     """Seconds and megabytes of one run."""
-    with tempfile.TemporaryFile() as text:
-        text.write(("\n".join(lines) + "\n").encode())
-        text.seek(0)
-        start = time.monotonic()
-        child = subprocess.Popen([program, "check"], stdin=text, stdout=subprocess.PIPE)
-        printed = child.stdout.read().decode()
-        _, status, usage = os.wait4(child.pid, 0)
-        took = time.monotonic() - start
+    printed, took, megabytes = measured([program, "check"], "\n".join(lines) + "\n")
     if printed != wanted:
         sys.exit(f"{printed!r} where {wanted!r} was expected")
-    return took, usage.ru_maxrss / 1024
+    return took, megabytes
 
 
 def main():
@@ -97,7 +88,7 @@ def main():
     ):
         before = None
         for size in sizes:
-            took, megabytes = measured(program, make(size), wanted)
+            took, megabytes = checked(program, make(size), wanted)
             growth = ("-", "-") if before is None else (f"{took / before[0]:.1f}", f"{megabytes / before[1]:.1f}")
             print(f"{what:6} {size:9} {took:7.2f} {growth[0]:>6} {megabytes:8.0f} {growth[1]:>6}")
             before = (took, megabytes)

@@ -87,3 +87,14 @@ def hubs(count, spokes, shipments, slack, seed=1):
     arcs = [(i, j) for i in range(count) for j in range(i)] + [(hub, count + hub * spokes + spoke) for hub in range(count) for spoke in range(spokes)]
     ways = [240 + draw.randrange(240) if head < count else 40 + draw.randrange(120) for _, head in arcs]
     return _carrier(names, arcs, ways, shipments, slack, seed)
+
+
+def cases():
+    """What each instance of the tables is called, and its records: generated ones, and a carrier's lines and hubs with little and much
+    time beside the fastest way."""
+    for terminals, shipments in ((6, 15), (8, 30), (10, 40), (12, 50), (20, 60)):
+        for seed in (1, 2, 3):
+            yield f"{terminals}x{shipments} seed {seed}", generated(seed, terminals, shipments)
+    for slack in (120, 720):
+        yield f"line 6 with 20, slack {slack}", line(6, 20, slack)
+        yield f"hubs 2x6 with 30, slack {slack}", hubs(2, 6, 30, slack)

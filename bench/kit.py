@@ -1,10 +1,12 @@
-"""Runs a small Rattle program over some of the repository's crates, compiled and not proved."""
+"""Runs programs: the proved one, others beside it, and small ones over some of the repository's crates."""
 import contextlib
 import os
 import shutil
 import subprocess
 import sys
 import tempfile
+import threading
+import time
 
 TOP = os.path.dirname(os.path.dirname(os.path.abspath(__file__)))
 
@@ -18,6 +20,47 @@ def built_program():
         if os.path.exists(path):
             return path
     sys.exit("no program is built here: run .ci/run (or ./freight direct < examples/one-arc.csv), or name one")
+
+
+def measured(words, text="", limit=None, **ends):
+    """What a program prints on a text, its seconds and its megabytes. It is ended after the seconds of the limit."""
+    with tempfile.TemporaryFile() as source:
+        source.write(text.encode())
+        source.seek(0)
+        start = time.monotonic()
+        child = subprocess.Popen(words, stdin=source, stdout=subprocess.PIPE, **ends)
+        if limit is not None:
+            end = threading.Timer(limit, child.kill)
+            end.start()
+        printed = child.stdout.read().decode()
+        child.stdout.close()
+        _, _, usage = os.wait4(child.pid, 0)
+        if limit is not None:
+            end.cancel()
+        return printed, time.monotonic() - start, usage.ru_maxrss / 1024
+
+
+def planned(words, text):
+    """The figures of a program with the command `plan`: cost, bound, ending, seconds and megabytes; and what it prints."""
+    printed, seconds, megabytes = measured(words, text)
+    fields = printed.split("\n", 1)[0].split(",")
+    if fields[:2] == ["answer", "optimal"]:
+        found = (int(fields[2]), int(fields[2]), "optimal")
+    elif fields[:2] == ["answer", "unfinished"]:
+        found = (int(fields[2]), int(fields[3]), fields[4])
+    elif fields == ["refused", "words"]:
+        sys.exit(f"{words[0]} has no command plan: build the program of these sources with .ci/run, or name another")
+    else:
+        sys.exit(f"{words[0]} says {','.join(fields)!r}")
+    return (*found, seconds, megabytes), printed
+
+
+def row_of(cost, bound, ending, seconds, megabytes):
+    """Figures as they stand in a table; nothing was found where there is no cost."""
+    return f"{'-' if cost is None else cost:>8} {bound:>8} {ending:9} {seconds:8.1f} {megabytes:6.0f}"
+
+
+HEADS = f"{'cost':>8} {'bound':>8} {'ending':9} {'seconds':>8} {'MB':>6}"
 
 
 def laid_out(folder, source, crates, uses):

@@ -1,6 +1,6 @@
 """What an answer of the program says beside itself, in words, for standard error."""
 
-from . import certificate_faults, input_faults, rejections
+from . import certificate_faults, input_faults, kept_faults, rejections
 from .instances import certificate_part, instance_of, least_times
 from .records import records_of
 
@@ -10,12 +10,31 @@ STATUSES = {
     40: "there wasn't memory enough; nothing was written",
     41: "the system didn't hand over the words as text; nothing was done",
 }
-LIMITS = {"direct": 16_777_216, "bound": 16_777_216, "check": 134_217_728}
+SMALL, LARGE = 16_777_216, 134_217_728
+LIMITS = {"direct": SMALL, "plan": SMALL, "bound": SMALL, "replan": SMALL, "quote": SMALL, "check": LARGE, "yard": LARGE, "fleet": LARGE}
+# Beyond so many bytes the place of a fault isn't looked for, since that would take longer than the answer did.
+READ_AGAIN = 32_000_000
+
+# What a search can use up: the most that it may be given, what it has without the option, and what each one does.
+BUDGETS = {
+    "rounds": (4_000, 400, "a round adds time points, so that more departures are told apart"),
+    "branches": (100_000, 4_000, "a branch parts the plans of a leaf into two, so that the bound can rise"),
+}
 
 
-def refused_words(records, data, ordinal, code):
+def option(words, name, without):
+    """The number that the words give to an option."""
+    parts = " ".join(words).replace("=", " ").split()
+    return int(parts[parts.index(name) + 1]) if name in parts else without
+
+
+def refused_words(words, records, data, ordinal, code):
+    if code >= 31:
+        return kept_faults.explanation(records, ordinal, code)
     if code >= 21:
         return certificate_faults.explanation(records, certificate_part(records), data, ordinal, code)
+    if code == 12 and not input_faults.is_too_large(records):
+        return input_faults.scale_fault(records, option(words, "--scale", 1_000_000))
     return input_faults.explanation(records, data, ordinal, code)
 
 
@@ -32,6 +51,41 @@ def infeasible_words(records, name, time):
     return [f"line {shipment.line}: {name} takes {int(time):,} at the fastest, and has {room:,} from RELEASE to DUE"]
 
 
+def spent_words(words, spent):
+    """What was used up, and what more of it buys."""
+    most, without, effect = BUDGETS[spent]
+    used = option(words, f"--{spent}", without)
+    if used == most:
+        return f"all {used:,} {spent} were used, as many as there may be: {effect}; a smaller instance is searched further"
+    more = min(most, 2 * used or without)
+    return f"all {used:,} {spent} were used: {effect}; with --{spent} {more} (at most {most}) it takes longer, and the cost may fall or the bound rise"
+
+
+def unfinished_words(words, cost, bound, spent):
+    gap = cost - bound
+    return [
+        f"no plan costs less than {bound:,}, and the one printed costs {cost:,}: at most {gap:,} more than the cheapest, {100 * gap / cost:.1f} % of its cost",
+        spent_words(words, spent),
+    ]
+
+
+def quoted_words(name, low, high):
+    return [
+        f"carrying {name} costs {low:,} to {high:,} more: a search, of those without it and with it, had used up its rounds or branches",
+        "--rounds N and --branches N give both searches more, and bring the two numbers closer together",
+    ]
+
+
+def unread_words(fields):
+    """What is said of an input that is too long to be read again."""
+    if fields[0] == "rejected":
+        number = int(fields[1])
+        return [f"part {number} of the certificate fails: {rejections.PARTS[number]}"]
+    if fields[0] == "refused" and len(fields) == 3:
+        return [f"record {int(fields[1]):,} has the fault {fields[2]}: docs/formats.md has the codes"]
+    return []
+
+
 def explanation(words, status, data, answer):
     """The lines on an answer: none where it needs no words. `data` and `answer` are what was read and printed."""
     if status in STATUSES:
@@ -39,13 +93,21 @@ def explanation(words, status, data, answer):
     fields = answer.decode("latin-1").split("\n", 1)[0].split(",")
     if fields == ["refused", "long"]:
         return [f"more than {LIMITS.get(words[0], 0):,} bytes came"]
+    if fields[:2] == ["answer", "unfinished"]:
+        return unfinished_words(words, int(fields[2]), int(fields[3]), fields[4])
+    if fields[0] == "quote":
+        return quoted_words(fields[1], int(fields[2]), int(fields[3])) if status == 10 else []
+    if len(data) > READ_AGAIN:
+        return unread_words(fields)
     records = records_of(data)
     if fields[0] == "refused" and len(fields) == 3:
-        return refused_words(records, data, int(fields[1]), int(fields[2]))
+        return refused_words(words, records, data, int(fields[1]), int(fields[2]))
     if fields[0] == "rejected":
         return rejections.explanation(records, int(fields[1]))
     if fields[:2] == ["answer", "infeasible"]:
         return infeasible_words(records, fields[2], fields[3])
+    if fields[:2] == ["answer", "stuck"]:
+        return kept_faults.stuck_words(records, fields[2])
     if status == 0 and not any(it.kind == "shipment" for it in records):
         return ["the instance has no shipments"]
     return []

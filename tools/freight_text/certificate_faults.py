@@ -1,9 +1,8 @@
 """What the codes 21 to 28 of a refused certificate mean at a record, in words."""
 
-import re
-
-from .input_faults import DIGITS, shown
+from . import line_fields
 from .instances import LATEST, instance_of
+from .line_fields import shown
 
 NAMES = {
     21: "Kind", 22: "Fields", 23: "Digits", 24: "Order", 25: "Name", 26: "MissingEnd", 27: "AfterEnd", 28: "Range",
@@ -12,8 +11,7 @@ ANSWERS = ("optimal", "unfinished", "infeasible", "direct")
 GREATEST = 2**127 - 1
 LATEST_TIME, LATEST_ROUND, FASTEST, GREATEST_SCALE = LATEST, 4000, 10_000_000, 10**9
 
-# The fields of each line after its words: what each is called, and what may stand there. A tuple of words, with None
-# beside them where a number may stand too; "name" for a name; or the least and greatest number.
+# The fields of each line after its words.
 LINES = {
     "answer,direct": (("COST", (0, GREATEST)),),
     "answer,optimal": (("COST", (0, GREATEST)),),
@@ -42,13 +40,8 @@ def form_of(record):
 
 
 def listed(record):
-    """Each field of a line: what it is called, what may stand there, and what stands there."""
     form, before = form_of(record)
-    return [(name, what, text) for (name, what), text in zip(LINES[form], record.fields[before:])]
-
-
-def words_of(what):
-    return [it for it in what if isinstance(it, str)] if isinstance(what, tuple) else []
+    return line_fields.named(LINES[form], record.fields[before:])
 
 
 def kind_fault(instance, before, record):
@@ -61,22 +54,12 @@ def kind_fault(instance, before, record):
 
 
 def fields_fault(instance, before, record):
-    form, leading = form_of(record)
-    wanted = leading + len(LINES[form])
-    return f"{len(record.fields)} fields in place of {wanted}: " + ",".join([form] + [name for name, _ in LINES[form]])
+    form, _ = form_of(record)
+    return line_fields.count_fault(form.split(","), LINES[form], len(record.fields))
 
 
 def digits_fault(instance, before, record):
-    for name, what, text in listed(record):
-        words = words_of(what)
-        if isinstance(what, str) or text in words:
-            continue
-        takes_number = isinstance(what[0], int)
-        if takes_number and DIGITS.fullmatch(text):
-            continue
-        wanted = " or ".join(words + (["a number"] if takes_number else []))
-        return f"field {name} is {shown(text)}: not {wanted}"
-    return "a field is none of what its place takes"
+    return line_fields.digits_fault(listed(record))
 
 
 def order_fault(instance, before, record):
@@ -101,24 +84,14 @@ def order_fault(instance, before, record):
 
 
 def name_fault(instance, before, record):
-    ends = [text for _, what, text in listed(record) if what == "arc"]
-    for name, what, text in listed(record):
-        if what == "shipment" and text not in instance.shipments:
-            return f"field {name} is {shown(text)}: no shipment has this name"
-        if what in ("terminal", "arc") and text not in instance.holds:
-            return f"field {name} is {shown(text)}: no terminal has this name"
-    return f"no arc leads from {shown(ends[0])} to {shown(ends[1])}" if len(ends) == 2 else "a name isn't the instance's"
+    return line_fields.name_fault(instance, listed(record))
 
 
 def range_fault(instance, before, record):
-    for name, what, text in listed(record):
-        if not isinstance(what, tuple) or not isinstance(what[0], int) or not DIGITS.fullmatch(text):
-            continue
-        if not what[0] <= int(text) <= what[1]:
-            return f"field {name} is {shown(text)}: it has to be {what[0]:,} to {what[1]:,}"
-    if record.kind == "leaf":
+    fault = line_fields.range_fault(listed(record))
+    if fault is None and record.kind == "leaf":
         return f"there is no table {shown(record.fields[1])}"
-    return "the scale doesn't fit: the weight of the instance at it is above 2^127 - 1"
+    return fault or "the scale doesn't fit: the weight of the instance at it is above 2^127 - 1"
 
 
 WORDS = {

@@ -3,19 +3,13 @@
 import re
 
 from .instances import FIELDS, MOST, instance_of, scaled_alone_cost
+from .line_fields import DIGITS, shown
 
 NAMES = {
     1: "Kind", 2: "Fields", 3: "Name", 4: "Digits", 5: "Range", 6: "NameTaken", 7: "NoTerminal", 8: "SameEnds",
     9: "ArcTaken", 10: "DueBeforeRelease", 11: "TooMany", 12: "TooLarge",
 }  # fmt: skip
 NAME = re.compile(r"[A-Za-z0-9_-]{1,32}")
-DIGITS = re.compile(r"[0-9]+")
-
-
-def shown(text):
-    """A field as it is shown: quoted, cut where it is long, with other bytes than printable ASCII as escapes."""
-    text = text if len(text) <= 40 else text[:40] + ".."
-    return '"' + "".join(it if " " <= it <= "~" else f"\\x{ord(it):02x}" for it in text) + '"'
 
 
 def named_fields(record):
@@ -110,6 +104,16 @@ def due_fault(records, record, data):
 
 def too_many_fault(records, record, data):
     return [f"this is {record.kind} number {MOST[record.kind] + 1:,}: there may be {MOST[record.kind]:,}"]
+
+
+def is_too_large(records):
+    return scaled_alone_cost(instance_of(records)) * 65536 >= 2**127
+
+
+def scale_fault(records, scale):
+    total = scaled_alone_cost(instance_of(records)) // 1_000_000
+    most = (2**127 - 1) // (65536 * total)
+    return [f"the scale {scale:,} is too large for this instance: it may be {most:,} at most (code 12, {NAMES[12]})"]
 
 
 def too_large_fault(records, record, data):

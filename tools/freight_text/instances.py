@@ -1,5 +1,6 @@
 """The instance of records that have no fault, and the words of its fields."""
 
+import heapq
 from dataclasses import dataclass, field
 
 from .records import Record
@@ -57,21 +58,25 @@ class Instance:
 
 
 def instance_of(records):
-    """The instance of records that the program read without a fault; of a certificate after it nothing is taken."""
+    """The instance of records that the program read without a fault; of a certificate or kept legs after it nothing is taken."""
     instance = Instance()
     for record in records:
-        if record.kind == "answer":
+        if record.kind in ("answer", "kept"):
             break
         instance.add(record)
     return instance
 
 
-def certificate_part(records):
-    """The records from the first `answer` on."""
+def part_from(records, kind):
+    """The records from the first of a kind on."""
     for place, record in enumerate(records):
-        if record.kind == "answer":
+        if record.kind == kind:
             return records[place:]
     return []
+
+
+def certificate_part(records):
+    return part_from(records, "answer")
 
 
 def trucks_for(size, capacity):
@@ -88,10 +93,8 @@ def scaled_alone_cost(instance):
     return 1_000_000 * total
 
 
-def least_times(instance, origin):
-    """The least time of a walk from a terminal to each other, with the holds of the terminals between."""
-    import heapq
-
+def least_times(instance, origin, avoided=frozenset()):
+    """The least time of a walk from a terminal to each other, with the holds of the terminals between, past none to avoid."""
     outgoing = {}
     for arc in instance.arcs.values():
         outgoing.setdefault(arc.tail, []).append(arc)
@@ -103,6 +106,6 @@ def least_times(instance, origin):
         times[here] = time
         held = time + (instance.holds[here] if here != origin else 0)
         for arc in outgoing.get(here, ()):
-            if arc.head not in times:
+            if arc.head not in times and arc.head not in avoided:
                 heapq.heappush(queue, (held + arc.time, arc.head))
     return times

@@ -1,29 +1,42 @@
 """A timetable as one page of HTML: the picture in time and space, and tables."""
 
+from collections import Counter
 from html import escape
 
-ROW, LEFT, TOP, WIDTH = 46, 120, 28, 1400
+from .pictures import Picture
 
 STYLE = """
 body{font:14px/1.45 system-ui,sans-serif;margin:24px;color:#1d2430;background:#fff}
 h1{font-size:20px;margin:0 0 4px} h2{font-size:16px;margin:26px 0 6px}
-p.note{color:#566;margin:2px 0 10px} .scroll{overflow:auto;border:1px solid #d8dee8;border-radius:6px}
-table{border-collapse:collapse} th,td{padding:3px 10px;border-bottom:1px solid #e6eaf0;text-align:left;white-space:nowrap}
+p.note{color:#566;margin:2px 0 10px} p.verdict{display:inline-block;margin:4px 0;padding:6px 12px;border-radius:6px;background:#eef1f5}
+p.verdict.yes{background:#e3f4e5;color:#14532d} p.verdict.no{background:#fde8e6;color:#7f1d1d}
+.scroll{overflow:auto;border:1px solid #d8dee8;border-radius:6px} .rows{display:inline-block;max-width:100%;max-height:500px}
+table{border-collapse:separate;border-spacing:0} th,td{padding:3px 10px;border-bottom:1px solid #e6eaf0;text-align:left;white-space:nowrap}
+th{position:sticky;top:0;background:#f5f7fa}
 td.n,th.n{text-align:right;font-variant-numeric:tabular-nums} tr[data-s]{cursor:pointer} tr[data-s]:hover{background:#f2f6fc}
 tr.on{background:#ffe9c7!important} svg text{font-size:11px;fill:#334;paint-order:stroke;stroke:#fff;stroke-width:3px} svg .grid{stroke:#e8ecf2} svg .row{stroke:#cfd7e3}
-svg .dep{stroke:#5b84b8;stroke-linecap:round} svg .dep:hover{stroke:#1f4e8c}
+svg .dep{stroke-linecap:round} svg .dep.low{stroke:#a9bfdd} svg .dep.half{stroke:#5b84b8} svg .dep.full{stroke:#163f75} svg .dep:hover{stroke:#d9480f}
+b.low{color:#86a3cc} b.half{color:#5b84b8} b.full{color:#163f75}
 svg .leg{stroke:#d9480f;stroke-width:3;fill:none;visibility:hidden} svg .leg.on{visibility:visible}
 """
 
 SCRIPT = """
-const rows=document.querySelectorAll('tr[data-s]');
+const rows=document.querySelectorAll('tr[data-s]'),loads=document.querySelectorAll('tr[data-aboard]');
 function light(name){
   rows.forEach(it=>it.classList.toggle('on',it.dataset.s===name&&!it.classList.contains('on')));
   const on=[...rows].some(it=>it.classList.contains('on'));
   document.querySelectorAll('.leg').forEach(it=>it.classList.toggle('on',on&&it.dataset.s===name));
+  loads.forEach(it=>it.classList.toggle('on',on&&it.dataset.aboard.split(' ').includes(name)));
 }
 rows.forEach(it=>it.addEventListener('click',()=>light(it.dataset.s)));
 """
+
+LEGEND = (
+    "Time from left to right; a line is a departure from terminal to terminal, wider with more trucks, and labelled with its load of its"
+    " capacity where there is room (the pointer shows the rest). Its trucks are <b class='low'>used below half</b>,"
+    " <b class='half'>from half on</b>, <b class='full'>from 90 % on</b>. Terminals that many trucks join stand near each other. Click a"
+    " shipment in the table to light its way and its departures."
+)
 
 
 def number(value):
@@ -39,62 +52,7 @@ def table(heads, rows, attributes=None):
             f'<td class="n">{escape(str(it))}</td>' if head.startswith("#") else f"<td>{escape(str(it))}</td>" for head, it in zip(heads, row)
         )
         lines.append(f"<tr{attributes[place] if attributes else ''}>{cells}</tr>")
-    return f'<div class="scroll"><table><tr>{names}</tr>{"".join(lines)}</table></div>'
-
-
-class Picture:
-    """The picture: a row for each terminal, time from left to right, a line for each departure."""
-
-    def __init__(self, timetable):
-        self.timetable = timetable
-        self.rows = {name: TOP + ROW // 2 + ROW * place for place, name in enumerate(timetable.instance.holds)}
-        shipments = timetable.instance.shipments.values()
-        times = [it.depart for it in timetable.legs] + [it.arrive for it in timetable.legs]
-        times += [it.release for it in shipments]
-        self.first, self.last = (min(times), max(times)) if times else (0, 1)
-        self.height = TOP + ROW * len(self.rows) + 10
-
-    def x(self, time):
-        return round(LEFT + (WIDTH - LEFT - 40) * (time - self.first) / max(1, self.last - self.first), 1)
-
-    def grid(self):
-        step = 1
-        while (self.last - self.first) / step > 16:
-            step = {1: 2, 2: 5, 5: 10}[int(str(step)[0])] * 10 ** (len(str(step)) - 1)
-        lines = []
-        for time in range(-(-self.first // step) * step, self.last + 1, step):
-            x = self.x(time)
-            lines.append(f'<line class="grid" x1="{x}" x2="{x}" y1="{TOP - 6}" y2="{self.height}"/><text x="{x}" y="{TOP - 12}" text-anchor="middle">{time}</text>')
-        for name, y in self.rows.items():
-            lines.append(f'<line class="row" x1="{LEFT}" x2="{WIDTH - 20}" y1="{y}" y2="{y}"/><text x="6" y="{y + 4}">{escape(name)}</text>')
-        return "".join(lines)
-
-    def departures(self):
-        lines, many = [], len(self.timetable.departures) > 120
-        pale = ' opacity=".4"' if many else ""
-        for it in self.timetable.departures:
-            x1, y1, x2, y2 = self.x(it.depart), self.rows[it.tail], self.x(it.arrive), self.rows[it.head]
-            label = f"{it.load} of {it.trucks * it.capacity}"
-            title = f"{it.tail} to {it.head}, {it.depart} to {it.arrive}: {it.trucks} truck(s), {label}; {', '.join(self.timetable.aboard(it))}"
-            lines.append(f'<line class="dep" x1="{x1}" y1="{y1}" x2="{x2}" y2="{y2}" stroke-width="{min(9, 1.5 + 1.5 * it.trucks)}"{pale}><title>{escape(title)}</title></line>')
-            if not many:
-                lines.append(f'<text x="{(x1 + x2) / 2 + 4}" y="{(y1 + y2) / 2 - 4}">{label}</text>')
-        return "".join(lines)
-
-    def ways(self):
-        """Each shipment's way, with the waits between its legs, from its release to its due time."""
-        lines = []
-        for name, legs in self.timetable.legs_by_shipment().items():
-            shipment = self.timetable.instance.shipments[name]
-            points = [(self.x(shipment.release), self.rows[shipment.origin])]
-            for leg in legs:
-                points += [(self.x(leg.depart), self.rows[leg.tail]), (self.x(leg.arrive), self.rows[leg.head])]
-            path = " ".join(f"{x},{y}" for x, y in points)
-            lines.append(f'<polyline class="leg" data-s="{escape(name)}" points="{path}"/>')
-        return "".join(lines)
-
-    def svg(self):
-        return f'<div class="scroll"><svg width="{WIDTH}" height="{self.height}">{self.grid()}{self.departures()}{self.ways()}</svg></div>'
+    return f'<div class="scroll rows"><table><tr>{names}</tr>{"".join(lines)}</table></div>'
 
 
 def shipment_table(timetable):
@@ -110,11 +68,13 @@ def shipment_table(timetable):
 
 
 def departure_table(timetable):
-    rows = [
-        (it.tail, it.head, it.depart, it.arrive, it.trucks, number(it.load), number(it.trucks * it.capacity), f"{it.use} %", ", ".join(timetable.aboard(it)))
-        for it in timetable.departures
-    ]
-    return table(("from", "to", "#leaves", "#arrives", "#trucks", "#load", "#capacity", "#use", "shipments"), rows)
+    rows, attributes = [], []
+    for it in timetable.departures:
+        aboard, room = timetable.aboard(it), it.trucks * it.capacity
+        rows.append((it.tail, it.head, it.depart, it.arrive, it.trucks, number(it.load), number(room), f"{it.use} %", ", ".join(aboard)))
+        attributes.append(f' data-aboard="{escape(" ".join(aboard))}"')
+    heads = ("from", "to", "#leaves", "#arrives", "#trucks", "#load", "#capacity", "#use", "shipments")
+    return table(heads, rows, attributes)
 
 
 def cost_table(timetable):
@@ -122,8 +82,8 @@ def cost_table(timetable):
         (tail, head, trucks, number(money), number(flow), number(money + flow))
         for (tail, head), (trucks, money, flow) in sorted(timetable.costs_by_arc().items(), key=lambda it: -it[1][1] - it[1][2])
     ]
-    total = [sum(it[place] for it in timetable.costs_by_arc().values()) for place in range(3)]
-    rows.append(("all", "", total[0], number(total[1]), number(total[2]), number(total[1] + total[2])))
+    trucks, money, flow = timetable.costs()
+    rows.append(("all", "", trucks, number(money), number(flow), number(money + flow)))
     return table(("from", "to", "#trucks", "#truck cost", "#flow cost", "#cost"), rows)
 
 
@@ -135,35 +95,49 @@ PROVED = {
 }
 
 
-def verdict(timetable, checked):
-    """What `check` said of the answer, in a sentence."""
+def verdict(checked):
+    """What `check` said of the answer, in a sentence, with how it is shown."""
     fields = (checked or "").strip().split(",")
     if fields[0] == "accepted":
-        return PROVED[fields[1]]
+        return "yes", PROVED[fields[1]]
     if fields[0] in ("rejected", "refused"):
-        return f"Not accepted by check ({','.join(fields)}): nothing on this page is proved."
-    return "Not checked: hand the instance and the answer to check, and give its answer as a third file."
+        return "no", f"Not accepted by check ({','.join(fields)}): nothing on this page is proved."
+    return "", "Not checked: hand the instance and the answer to check, and give its answer as a third file."
+
+
+def claim(timetable):
+    """What the answer says of its cost."""
+    kind, cost = timetable.answer[1], int(timetable.answer[2])
+    if kind == "unfinished":
+        bound = int(timetable.answer[3])
+        return f"Unfinished, cost {number(cost)}, bound {number(bound)}: at most {number(cost - bound)} more than the cheapest plan, {100 * (cost - bound) / cost:.1f} % of its cost"
+    return f"{kind.capitalize()}, cost {number(cost)}"
 
 
 def summary(timetable):
-    kind = timetable.answer[1]
-    if kind == "infeasible":
+    if timetable.answer[1] == "infeasible":
         return f"No plan exists: shipment {timetable.answer[2]} can't be carried in time."
-    trucks = sum(it.trucks for it in timetable.departures)
-    cost = number(int(timetable.answer[2]))
-    bound = f", bound {number(int(timetable.answer[3]))}" if kind == "unfinished" else ""
+    trucks, money, flow = timetable.costs()
     return (
-        f"{kind}, cost {cost}{bound}. {len(timetable.instance.shipments)} shipments, {len(timetable.legs)} legs, "
-        f"{len(timetable.departures)} departures, {trucks} trucks (one for each leg alone: {timetable.trucks_alone()})."
+        f"{claim(timetable)}. Trucks {number(money)}, flow {number(flow)}. {len(timetable.instance.shipments)} shipments, "
+        f"{len(timetable.legs)} legs, {len(timetable.departures)} departures, {trucks} trucks (one for each leg alone: {timetable.trucks_alone()})."
     )
+
+
+def certificate(timetable):
+    """What stands behind the claim."""
+    counts = Counter(it.kind for it in timetable.claims)
+    parts = [f"{counts[kind]:,} {name}{'' if counts[kind] == 1 else ending}" for kind, name, ending in (("point", "time point", "s"), ("table", "table", "s"), ("split", "split", "s")) if counts[kind]]
+    leaves = f"{counts['leaf']:,} {'leaf' if counts['leaf'] == 1 else 'leaves'}"
+    return f"The certificate has {', '.join(parts + [leaves])}." if counts["leaf"] else ""
 
 
 def page(timetable, checked=None):
     """The whole page."""
-    body = [f"<h1>Timetable</h1><p>{escape(summary(timetable))}</p><p class='note'>{escape(verdict(timetable, checked))}</p>"]
+    look, words = verdict(checked)
+    body = [f"<h1>Timetable</h1><p>{escape(summary(timetable))}</p><p class='verdict {look}'>{escape(words)} {escape(certificate(timetable))}</p>"]
     if timetable.legs:
-        body.append("<h2>Time and space</h2><p class='note'>Terminals from top to bottom, time from left to right; a line is a departure, wider with more trucks. Click a shipment in the table below to light its way.</p>")
-        body.append(Picture(timetable).svg())
+        body.append(f"<h2>Time and space</h2><p class='note'>{LEGEND}</p>{Picture(timetable).svg()}")
         body.append("<h2>Shipments</h2>" + shipment_table(timetable))
         body.append("<h2>Departures</h2>" + departure_table(timetable))
         body.append("<h2>Cost by arc</h2>" + cost_table(timetable))

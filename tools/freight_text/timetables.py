@@ -67,6 +67,10 @@ class Timetable:
             found[it.tail, it.head] = (trucks + it.trucks, money + it.trucks * arc.truck, flow + it.load * arc.freight)
         return found
 
+    def costs(self):
+        """All trucks, what they cost, and what the flow costs."""
+        return tuple(sum(it[place] for it in self.costs_by_arc().values()) for place in range(3))
+
     def trucks_alone(self):
         """How many trucks would run if no two shipments shared one."""
         return sum(trucks_for(self.instance.shipments[it.shipment].size, self.instance.arcs[it.tail, it.head].capacity) for it in self.legs)

@@ -1,13 +1,16 @@
 """What is said beside each refusal and each rejection: one case a code, one a part."""
 
 import pathlib
+import subprocess
 import sys
 import unittest
 
 sys.dont_write_bytecode = True
-sys.path.insert(0, str(pathlib.Path(__file__).resolve().parents[1]))
+sys.path[:0] = [str(it) for it in pathlib.Path(__file__).resolve().parents[:2]]
 
 from freight_text.answers import explanation  # noqa: E402
+from freight_text.rejections import PARTS as RULES  # noqa: E402
+from programs import proved  # noqa: E402
 
 ENDS = "terminal,A\nterminal,B\n"
 ONE_ARC = ENDS + "arc,A,B,5,10,100,1\nshipment,S1,A,B,4,0,10\n"
@@ -75,8 +78,31 @@ PARTS = (
 )
 
 
+# What follows the instance over two arcs, the refusal of the kept legs, and what is said of it.
+KEPT = (
+    ("kept,S1,A,B,0\nkeep", "9,31", 'the first field is "keep": after a kept record only kept records come (code 31, KeptKind)'),
+    ("kept,S1,A,B", "8,32", "4 fields in place of 5: kept,SHIPMENT,FROM,TO,DEPART"),
+    ("kept,S1,A,B,0x", "8,33", 'field DEPART is "0x": not whole digits'),
+    ("kept,S9,A,B,0", "8,34", 'field SHIPMENT is "S9": no shipment'),
+    ("kept,S1,A,D,0", "8,34", 'field TO is "D": no terminal'),
+    ("kept,S1,A,C,0", "8,34", 'no arc leads from "A" to "C"'),
+    ("kept,S1,A,B,100001", "8,35", 'field DEPART is "100001": it has to be 0 to 100,000'),
+    ("kept,S1,B,C,4", "8,36", "S1 is at A after 0 kept legs, and this one leaves B"),
+    ("arc,C,A,1,10,100,0\nkept,S1,A,B,0\nkept,S1,B,C,4\nkept,S1,C,A,9", "11,36", "S1 is at its destination C already"),
+    ("arc,B,A,1,10,100,0\nkept,S1,A,B,0\nkept,S1,B,A,4", "10,36", "S1 was at A before, and no route passes a terminal twice"),
+)  # fmt: skip
+
+# Kept legs that no plan has, the shipment that is stuck, and why.
+STUCK = (
+    ("kept,S2,B,C,4", "S2", "S2 arrives at 9, and is due at 8"),
+    ("kept,S1,A,B,1", "S1", "from B S1 can be at C at 10, and is due at 9"),
+    ("kept,S1,A,B,0\nkept,S1,B,C,3", "S1", "line 9: S1 leaves B at 3, and can at 4"),
+    ("terminal,D\narc,A,D,1,10,100,0\nkept,S1,A,D,0", "S1", "no way leads on from D to C for S1"),
+)
+
+
 def said(words, status, data, answer):
-    return "\n".join(explanation([words], status, data, answer.encode() + b"\n"))
+    return "\n".join(explanation(words.split(), status, data, answer.encode() + b"\n"))
 
 
 class Explanations(unittest.TestCase):
@@ -121,6 +147,41 @@ class Explanations(unittest.TestCase):
         back = ENDS + "arc,A,B,5,10,100,1\nshipment,S1,B,A,4,0,4\n"
         self.holds(said("direct", 11, back.encode(), "answer,infeasible,S1,none"), "no way leads from B to A")
 
+    def test_unfinished(self):
+        text = said("plan --rounds 50", 10, ONE_ARC.encode(), "answer,unfinished,300,200,rounds")
+        self.holds(text, "no plan costs less than 200, and the one printed costs 300: at most 100 more than the cheapest, 33.3 %")
+        self.holds(text, "all 50 rounds were used: a round adds time points", "with --rounds 100 (at most 4000)")
+        self.holds(said("plan", 10, ONE_ARC.encode(), "answer,unfinished,300,200,rounds"), "all 400 rounds", "with --rounds 800")
+        self.holds(said("plan --branches=0", 10, ONE_ARC.encode(), "answer,unfinished,180,150,branches"), "with --branches 4000")
+        text = said("plan --branches 100000", 10, ONE_ARC.encode(), "answer,unfinished,180,150,branches")
+        self.holds(text, "all 100,000 branches were used, as many as there may be", "the bound can rise")
+
+    def test_kept_legs(self):
+        for records, refusal, part in KEPT:
+            self.holds(said("replan", 21, f"{TWO_ARCS}{records}\n".encode(), f"refused,{refusal}"), part)
+        many = TWO_ARCS + "kept,S1,A,B,0\n" * 30_001
+        self.holds(said("replan", 21, many.encode(), "refused,30008,37"), "kept record number 30,001: there may be 30,000")
+
+    def test_stuck(self):
+        for records, shipment, part in STUCK:
+            self.holds(said("replan", 11, f"{TWO_ARCS}{records}\n".encode(), f"answer,stuck,{shipment}"), "no plan keeps the legs", part)
+
+    def test_quotes(self):
+        self.holds(said("quote", 21, ENDS.encode(), "refused,0,38"), "no shipment", "(code 38, NoShipment)")
+        self.holds(said("quote --rounds 0", 10, TWO_ARCS.encode(), "quote,S2,0,100"), "carrying S2 costs 0 to 100 more", "--branches N")
+        self.assertEqual(said("quote", 0, TWO_ARCS.encode(), "quote,S2,100,100"), "")
+
+    def test_long_inputs_are_not_read_again(self):
+        data = ONE_ARC.encode() + b"\n" * 33_000_000
+        self.assertEqual(said("check", 12, data, "rejected,5"), f"part 5 of the certificate fails: {RULES[5]}")
+        self.holds(said("check", 21, data, "refused,1234567,24"), "record 1,234,567 has the fault 24")
+        self.assertEqual(said("check", 0, data, "accepted,optimal"), "")
+
+    def test_scale(self):
+        large = ENDS + "arc,A,B,5,10,1000000000000000000,1\nshipment,S1,A,B,1000000000,0,10\n"
+        text = said("plan --scale=1000000000", 21, large.encode(), "refused,0,12")
+        self.holds(text, "the scale 1,000,000,000 is too large", "it may be 25,961,484 at most")
+
     def test_other_ends(self):
         self.holds(said("direct", 22, b"", "refused,long"), "more than 16,777,216 bytes")
         self.holds(said("bound", 22, b"", "refused,long"), "more than 16,777,216 bytes")
@@ -128,6 +189,37 @@ class Explanations(unittest.TestCase):
         for status in (30, 31, 40, 41):
             self.assertTrue(said("direct", status, b"", ""))
         self.assertEqual(said("direct", 0, ONE_ARC.encode(), "answer,direct,104"), "")
+
+
+@unittest.skipIf(proved() is None, "the proved program of these sources isn't here")
+class Program(unittest.TestCase):
+    """That the program refuses and rejects what stands above as it is said there."""
+
+    def prints(self, words, data, status, line):
+        done = subprocess.run([proved(), *words.split()], input=data.encode(), capture_output=True)
+        if done.stdout != b"refused,words\n":
+            self.assertEqual((done.returncode, done.stdout.decode().split("\n")[0]), (status, line), data)
+
+    def test_refusals(self):
+        for record, refusal, *_ in INPUTS:
+            self.prints("direct", ENDS + record + "\n", 21, f"refused,{refusal}")
+        for place, lines, refusal, _ in LINES:
+            changed = CERTIFICATE[: place - 1] + lines + CERTIFICATE[place:]
+            self.prints("check", ONE_ARC + "\n".join(changed) + "\n", 21, f"refused,{refusal}")
+        for records, refusal, _ in KEPT:
+            self.prints("replan", f"{TWO_ARCS}{records}\n", 21, f"refused,{refusal}")
+        self.prints("quote", ENDS, 21, "refused,0,38")
+
+    def test_rejections(self):
+        self.prints("check", TWO_ARCS + "\n".join(PROVED) + "\n", 0, "accepted,optimal")
+        for place, line, part, _ in PARTS:
+            lines = [*PROVED[: place - 1], line, *PROVED[place:]]
+            self.prints("check", TWO_ARCS + "\n".join(lines) + "\n", 12, f"rejected,{part}")
+        self.prints("check", f"{TWO_ARCS}answer,infeasible,S1,9\nend\n", 12, "rejected,8")
+
+    def test_kept_legs_that_no_plan_has(self):
+        for records, shipment, _ in STUCK:
+            self.prints("replan", f"{TWO_ARCS}{records}\n", 11, f"answer,stuck,{shipment}")
 
 
 if __name__ == "__main__":

@@ -13,10 +13,14 @@ TOP = pathlib.Path(__file__).resolve().parents[2]
 sys.path.insert(0, str(TOP / "tools"))
 
 from freight_text.pages import page  # noqa: E402
-from freight_text.timetables import Timetable  # noqa: E402
+from freight_text.row_order import Rows, row_order  # noqa: E402
+from freight_text.timetables import Departure, Timetable  # noqa: E402
 
 DAY = (TOP / "examples/carrier-day.csv").read_bytes()
 PLAN = (TOP / "examples/carrier-day.csv.stdout").read_bytes()
+# An instance and a certificate in one file, in which two shipments leave together in two trucks.
+HUB = (TOP / "examples/hub-proof.csv").read_bytes()
+UNFINISHED = HUB.replace(b"answer,optimal,1503", b"answer,unfinished,1503,1400,branches")
 
 
 def cells(text, heading):
@@ -38,8 +42,21 @@ class Pages(unittest.TestCase):
 
     def test_picture(self):
         text = page(Timetable(DAY, PLAN))
-        self.assertEqual(text.count('class="dep"'), 8)
+        self.assertEqual(text.count('class="dep '), 8)
         self.assertEqual(text.count('class="leg"'), 4)
+
+    def test_shared_departures_and_what_stands_behind_them(self):
+        text = page(Timetable(HUB, HUB), "accepted,optimal\n")
+        self.assertIn("Optimal, cost 1,503. Trucks 1,500, flow 3. 3 shipments, 3 legs, 2 departures, 3 trucks", text)
+        self.assertIn("The certificate has 1 table, 8 splits, 9 leaves.", text)
+        self.assertEqual(cells(text, "Departures")[0], ["DEPOT", "PORT", "0", "50", "2", "10", "12", "83 %", "S1, S2"])
+        self.assertEqual([row[-1] for row in cells(text, "Shipments")], ["70", "70", "45"])
+        self.assertIn('stroke-width="4.5"><title>DEPOT to PORT, 0 to 50: 2 truck(s), 10 of 12; S1, S2</title>', text)
+
+    def test_an_unfinished_answer_has_its_gap(self):
+        text = page(Timetable(HUB, UNFINISHED), "accepted,unfinished\n")
+        self.assertIn("Unfinished, cost 1,503, bound 1,400: at most 103 more than the cheapest plan, 6.9 % of its cost", text)
+        self.assertIn("no plan costs less than the bound", text)
 
     def test_claims(self):
         for checked, words in (
@@ -61,10 +78,35 @@ class Pages(unittest.TestCase):
             path = pathlib.Path(folder, "page.html")
             path.write_text(page(Timetable(DAY, PLAN)).replace("</body>", click))
             words = ["chromium", "--headless", "--no-sandbox", "--disable-gpu", f"--user-data-dir={folder}/profile", "--dump-dom", path.as_uri()]
-            shown = subprocess.run(words, capture_output=True, text=True, timeout=120).stdout
+            shown = subprocess.run(words, capture_output=True, text=True, timeout=600).stdout
         self.assertRegex(shown, r'<tr data-s="P1" class="on">')
         self.assertRegex(shown, r'class="leg on" data-s="P1"')
         self.assertNotRegex(shown, r'class="leg on" data-s="P2"')
+        self.assertEqual(len(re.findall(r'<tr data-aboard="P1" class="on">', shown)), 2)
+        self.assertEqual(len(re.findall(r'<tr data-aboard="[^"]*" class="on">', shown)), 2)
+
+
+def between(one, two, trucks):
+    return Departure(one, two, 0, 1, trucks, 1, 1)
+
+
+class RowOrders(unittest.TestCase):
+    def test_a_good_order_stays(self):
+        names = ["A", "B", "C", "D"]
+        self.assertEqual(row_order(names, [between("A", "B", 1), between("C", "B", 2), between("C", "D", 1)]), names)
+        self.assertEqual(row_order([], []), [])
+
+    def test_joined_terminals_come_together(self):
+        order = row_order(["A", "B", "C", "D"], [between("A", "D", 9), between("B", "C", 1)])
+        self.assertEqual(abs(order.index("A") - order.index("D")), 1)
+        self.assertEqual(abs(order.index("B") - order.index("C")), 1)
+
+    def test_the_length_of_lines_after_each_swap(self):
+        rows = Rows("ABCDE", [between(one, two, trucks) for one, two, trucks in (("A", "C", 3), ("B", "E", 2), ("D", "A", 5), ("E", "D", 1))])
+        for place in (0, 3, 1, 2, 0, 1):
+            before = rows.length()
+            more = rows.swap(place)
+            self.assertEqual(rows.length(), before + 2 * more)
 
 
 if __name__ == "__main__":

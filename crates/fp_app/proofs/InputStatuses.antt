@@ -4,17 +4,29 @@ use Rattle.std.specs.Prelude.{Option, Some, None, Result, Ok, Err, MatchBool, Ma
 use Rattle.std.specs.Io.KnownBytes.{IsAtEnd}
 use Rattle.fp_model.specs.Problem.{Problem}
 use Rattle.fp_fields.specs.Faults.{Fault}
+use Rattle.fp_reader.specs.Generator.{generated}
 use Rattle.fp_lines.specs.Statements.{Statement}
+use Rattle.fp_history.specs.declared.budgets.Budget.{Budget}
+use Rattle.fp_history.specs.Solutions.{Solution}
 use Rattle.fp_words.specs.declared.orders.Order.{Order}
-use Rattle.fp_words.specs.declared.orders.Order.TheVariants.{Direct, Check, Bound}
+use Rattle.fp_words.specs.declared.orders.Order.TheVariants.{Direct, Check, Bound, Plan, Trial, Fleet, Replan, Quote, Yard}
 use Rattle.fp_app.specs.declared.shown.Shown.{Shown}
 use Rattle.fp_app.specs.declared.shown.Shown.TheVariants as shown
 use Rattle.fp_app.specs.declared.shown.Status.TheVariants as status
-use Rattle.fp_app.specs.Causes.{CheckStatus, InputStatus, PlanStatus, StatusOf}
+use Rattle.fp_app.specs.Causes.{AloneStatus, CheckStatus, InputStatus, PlanStatus, SearchStatus, StatusOf, ToldStatus, TrialStatus, QuoteStatus}
 use Rattle.fp_app.specs.Checks.{ShowsCheck, scaled}
-use Rattle.fp_app.specs.Inputs.{certificate_in, instance_in, leading_instance_in, limit_of}
-use Rattle.fp_app.specs.Runs.{Answers, ShowsBound, ShowsDirect, ShowsInput}
-use Rattle.fp_app.specs.Shown.{status_of}
+use Rattle.fp_app.specs.Inputs.{OfCertificate, certificate_in, instance_at, instance_in, leading_instance_in, limit_of, reads_source, KeptInstance, kept_in, quoted_in}
+use Rattle.fp_app.specs.Runs.{Answers, OfInput, ShowsAlone, ShowsBound, ShowsDirect, ShowsInput, ShowsSearch, ShowsQuote, ShowsReplan}
+use Rattle.fp_app.specs.Searches.{IsSearched, trial_budget}
+use Rattle.fp_app.specs.Shown.{search_status, status_of}
+use Rattle.fp_app.specs.Fleets.{ShowsFleet}
+use Rattle.fp_app.specs.Yards.{ShowsYard}
+use Rattle.fp_app.proofs.FleetCauses.{fleet-status}
+use Rattle.fp_app.proofs.YardCauses.{yard-status}
+use Rattle.fp_app.proofs.SearchEnds.{SearchEnd, optimal, search-end, unfinished}
+use Rattle.fp_app.specs.Wanted.{every, keeping}
+use Rattle.fp_app.proofs.QuoteCauses.{quote-status}
+use Rattle.fp_app.proofs.ReplanCauses.{end-status, replan-status}
 
 MatchBool_map : (b : Bool) (X Y V W : Type 0) → (X → V) → (Y → W) → MatchBool b X Y → MatchBool b V W
 MatchBool_map true X Y V W first second x = first x
@@ -36,26 +48,61 @@ bound-status p (shown.Bound q price tables value) told = inl (refl, told.1)
 bound-status p (shown.Infeasible q shipment time) told = inr (refl, told.2)
 bound-status p _ told = absurd told
 
+search-input-status : (p : Problem) (budget : Budget) (s : Shown) → ShowsSearch budget p s → SearchStatus p every budget (status_of s)
+search-input-status p budget (shown.Planned q solved) told = end-status p every budget solved told.1 (search-end p every budget solved.certificate.answer told.1.says)
+search-input-status p budget (shown.Infeasible q shipment time) told = inr (inr (refl, told.2))
+search-input-status p budget _ told = absurd told
+
+trial-status : (p : Problem) (s : Solution) → IsSearched p every trial_budget s → SearchEnd p every trial_budget s.certificate.answer → TrialStatus p (search_status s.certificate.answer)
+trial-status p s told (optimal cost same plans) = inl (ap search_status same)
+trial-status p s told (unfinished cost bound spent same bounds) = inr (ap search_status same, (spent, bounds.scarce))
+
+ShowsAlone-AloneStatus : (o : Order) (s : Shown) → ShowsAlone o s → AloneStatus o (status_of s)
+ShowsAlone-AloneStatus (Trial seed terminals shipments) (shown.Trial shown_seed p solved) told =
+    trial-status (generated seed terminals shipments) solved told.2 (search-end (generated seed terminals shipments) every trial_budget solved.certificate.answer told.2.says)
+ShowsAlone-AloneStatus (Trial seed terminals shipments) _ told = absurd told
+ShowsAlone-AloneStatus _ s told = absurd told
+
 check-status : (p : Problem) (c : Statement) (s : Shown) → ShowsCheck p c s → CheckStatus p c (status_of s)
 check-status p c (shown.Accepted kind) told = inl (refl, told.accepted)
 check-status p c (shown.RejectedPart number) told = inr (refl, told.rejected)
 check-status p c _ told = absurd told
 
+-- what an instance and a certificate or the fault in their place give
+certificate-map : (input : List ℕ) (s : Shown) (P Q : Problem → Statement → Type 0) → ((p : Problem) (c : Statement) → P p c → Q p c) → OfCertificate input s P →
+    MatchResult (leading_instance_in input) (λ p. MatchResult (certificate_in p input) (Q p) (λ (f : Fault). status_of s ≡ status.BadInput)) (λ (f : Fault). status_of s ≡ status.BadInput)
+certificate-map input s P Q each told =
+    MatchResult_map (leading_instance_in input) (λ p. MatchResult (certificate_in p input) (P p) (λ (f : Fault). s ≡ shown.BadInput f.ordinal f.code))
+    (λ p. MatchResult (certificate_in p input) (Q p) (λ (f : Fault). status_of s ≡ status.BadInput)) s (λ p. MatchResult_map (certificate_in p input) (P p) (Q p) s (each p)) told
+
 ShowsInput-InputStatus : (o : Order) (input : List ℕ) (s : Shown) → ShowsInput o input s → InputStatus o input (status_of s)
 ShowsInput-InputStatus Direct input s told = MatchResult_map (instance_in input) (λ p. ShowsDirect p s) (λ p. PlanStatus p (status_of s)) s (λ p. direct-status p s) told
 ShowsInput-InputStatus Bound input s told = MatchResult_map (instance_in input) (λ p. ShowsBound p s) (λ p. PlanStatus p (status_of s)) s (λ p. bound-status p s) told
+ShowsInput-InputStatus (Plan budget scale) input s told =
+    MatchResult_map (instance_at scale input) (λ p. ShowsSearch budget p s) (λ p. SearchStatus p every budget (status_of s)) s (λ p. search-input-status p budget s) told
+ShowsInput-InputStatus (Trial seed terminals shipments) input s told = absurd told
+ShowsInput-InputStatus (Yard seed) input s told = certificate-map input s (λ p c. ShowsYard seed p c s) (λ p c. ToldStatus p c (status_of s)) (λ p c. yard-status seed p c s) told
+ShowsInput-InputStatus Fleet input s told = certificate-map input s (λ p c. ShowsFleet p c s) (λ p c. ToldStatus p c (status_of s)) (λ p c. fleet-status p c s) told
+ShowsInput-InputStatus (Replan budget) input s told =
+    MatchResult_map (kept_in input) (λ (x : KeptInstance). ShowsReplan budget x s) (λ (x : KeptInstance). SearchStatus x.instance (keeping x.kept) budget (status_of s)) s (λ (x : KeptInstance). replan-status budget x s) told
+ShowsInput-InputStatus (Quote budget) input s told =
+    MatchResult_map (quoted_in input) (λ p. ShowsQuote budget p s) (λ p. QuoteStatus p budget (status_of s)) s (λ p. quote-status budget p s) told
 ShowsInput-InputStatus Check input s told =
-    MatchResult_map (leading_instance_in input)
-    (λ p. MatchResult (certificate_in p input) (λ c. ShowsCheck (scaled p c) c s) (λ (f : Fault). s ≡ shown.BadInput f.ordinal f.code))
-    (λ p. MatchResult (certificate_in p input) (λ c. CheckStatus (scaled p c) c (status_of s)) (λ (f : Fault). status_of s ≡ status.BadInput)) s
-    (λ p. MatchResult_map (certificate_in p input) (λ c. ShowsCheck (scaled p c) c s) (λ c. CheckStatus (scaled p c) c (status_of s)) s (λ c. check-status (scaled p c) c s)) told
+    certificate-map input s (λ p c. ShowsCheck (scaled p c) c s) (λ p c. CheckStatus (scaled p c) c (status_of s)) (λ p c. check-status (scaled p c) c s) told
+
+OfInput_told : (o : Order) (input : List ℕ) (new : Option (List ℕ)) (s : Shown) → OfInput (limit_of (Some o)) (Some input) new s (λ i. ShowsInput o i s)
+    → MatchBool (nat_lt (limit_of (Some o)) (length input)) (status_of s ≡ status.TooLong) (InputStatus o input (status_of s))
+OfInput_told o input new s told =
+    MatchBool_map (nat_lt (limit_of (Some o)) (length input)) (s ≡ shown.TooLong) (IsAtEnd new × ShowsInput o input s) (status_of s ≡ status.TooLong) (InputStatus o input (status_of s)) (ap status_of)
+    (λ whole. ShowsInput-InputStatus o input s whole.1)
+    (subst (λ (i : List ℕ). MatchBool (nat_lt (limit_of (Some o)) (length i)) (s ≡ shown.TooLong) (IsAtEnd new × ShowsInput o i s)) told.1 told.2)
 
 Answers_told : (o : Option Order) (input : List ℕ) (new : Option (List ℕ)) (s : Shown) → Answers o (Some input) new s → StatusOf o input (status_of s)
 Answers_told None input new s same = ap status_of same
 Answers_told (Some o) input new s told =
-    MatchBool_map (nat_lt (limit_of (Some o)) (length input)) (s ≡ shown.TooLong) (IsAtEnd new × ShowsInput o input s) (status_of s ≡ status.TooLong) (InputStatus o input (status_of s)) (ap status_of)
-    (λ whole. ShowsInput-InputStatus o input s whole.1)
-    (subst (λ (i : List ℕ). MatchBool (nat_lt (limit_of (Some o)) (length i)) (s ≡ shown.TooLong) (IsAtEnd new × ShowsInput o i s)) told.1 told.2)
+    MatchBool_map (reads_source o) (OfInput (limit_of (Some o)) (Some input) new s (λ i. ShowsInput o i s)) (ShowsAlone o s)
+    (MatchBool (nat_lt (limit_of (Some o)) (length input)) (status_of s ≡ status.TooLong) (InputStatus o input (status_of s))) (AloneStatus o (status_of s))
+    (OfInput_told o input new s) (ShowsAlone-AloneStatus o s) told
 
 pub Answers-StatusOf : (o : Option Order) (input : List ℕ) (old new : Option (List ℕ)) (s : Shown) → old ≡ Some input → Answers o old new s → StatusOf o input (status_of s)
 Answers-StatusOf o input old new s is told = Answers_told o input new s (subst (λ (x : Option (List ℕ)). Answers o x new s) is told)

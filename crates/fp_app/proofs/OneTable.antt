@@ -31,7 +31,7 @@ IsWindow_unique p s a v w one two =
     same-parts v w lo hi = ap (λ (n : ℕ). record { lo = n; hi = v.hi }) lo ∙ ap (λ (n : ℕ). record { lo = w.lo; hi = n }) hi
 
 -- or none
-IsWindowOrNone_unique : (p : Problem) (s : Shipment) (a : ℕ) (o q : Option Window) → IsWindowOrNone p s a o → IsWindowOrNone p s a q → o ≡ q
+pub IsWindowOrNone_unique : (p : Problem) (s : Shipment) (a : ℕ) (o q : Option Window) → IsWindowOrNone p s a o → IsWindowOrNone p s a q → o ≡ q
 IsWindowOrNone_unique p s a None None one two = refl
 IsWindowOrNone_unique p s a None (Some w) one two = absurd (one w two)
 IsWindowOrNone_unique p s a (Some v) None one two = absurd (two v one)
@@ -52,19 +52,25 @@ length-row p table belongs k ship = long table.rows k belongs.arcs (omega (arith
     long : (rows : List (List (Option Window))) (k : ℕ) → All (λ row. length row ≡ length p.arcs) rows → k < length rows → length (slice_index_or rows k []) ≡ length p.arcs
     long rows k all lt = search rules
 
--- so the tables are one
-pub AreWindowsOf_unique : (p : Problem) (one two : WindowTable) → AreWindowsOf p one → AreWindowsOf p two → one ≡ two
-AreWindowsOf_unique p one two first second =
-    let long : length one.rows ≡ length two.rows = omega (arith, first.belongs.shipments, second.belongs.shipments) in
+-- tables of an instance are one that have the same windows and the same anchors
+pub same-tables : (p : Problem) (one two : WindowTable) → BelongsTo p one → BelongsTo p two → one.anchors ≡ two.anchors →
+    ((k a : ℕ) → k < length p.shipments → a < length p.arcs → windows_in one k a ≡ windows_in two k a) → one ≡ two
+same-tables p one two first second anchors same =
+    let long : length one.rows ≡ length two.rows = omega (arith, first.shipments, second.shipments) in
     let rows : one.rows ≡ two.rows = ext_get_or [] one.rows two.rows long (λ k lt.
-    let ship : k < length p.shipments = omega (arith, lt, first.belongs.shipments) in
+    let ship : k < length p.shipments = omega (arith, lt, first.shipments) in
     ext_get_or None (slice_index_or one.rows k []) (slice_index_or two.rows k [])
-    (length-row p one first.belongs k ship ∙ sym (length-row p two second.belongs k ship))
-    (λ a at. windows_in_same p one two first second k a ship (omega (arith, at, length-row p one first.belongs k ship)))) in
-    same-table one two (first.belongs.tails ∙ sym second.belongs.tails) rows (first.unanchored ∙ sym second.unanchored)
+    (length-row p one first k ship ∙ sym (length-row p two second k ship))
+    (λ a at. same k a ship (omega (arith, at, length-row p one first k ship)))) in
+    same-table one two (first.tails ∙ sym second.tails) rows anchors
   where
     same-table : (one two : WindowTable) → one.tails ≡ two.tails → one.rows ≡ two.rows → one.anchors ≡ two.anchors → one ≡ two
     same-table one two tails rows anchors =
         ap (λ (x : List ℕ). record one { tails = x }) tails
         ∙ ap (λ (x : List (List (Option Window))). record two { rows = x; anchors = one.anchors }) rows
         ∙ ap (λ x. record two { anchors = x }) anchors
+
+-- so the tables of its windows are one
+pub AreWindowsOf_unique : (p : Problem) (one two : WindowTable) → AreWindowsOf p one → AreWindowsOf p two → one ≡ two
+AreWindowsOf_unique p one two first second =
+    same-tables p one two first.belongs second.belongs (first.unanchored ∙ sym second.unanchored) (windows_in_same p one two first second)

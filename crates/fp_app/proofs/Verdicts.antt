@@ -11,7 +11,7 @@ use Rattle.fp_app.specs.Checks.{AreWindowsOf, IsAcceptedFor, ShowsRejected, scal
 use Rattle.fp_app.proofs.OneTable.{AreWindowsOf_unique}
 
 -- where a part fails under the windows of the instance, the certificate isn't accepted
-IsFirstFailed-not_accepted : (p : Problem) (table : WindowTable) (c : Statement) (number : ℕ) → AreWindowsOf p table → IsFirstFailed p table c number → IsAcceptedFor p c → ⊥
+pub IsFirstFailed-not_accepted : (p : Problem) (table : WindowTable) (c : Statement) (number : ℕ) → AreWindowsOf p table → IsFirstFailed p table c number → IsAcceptedFor p c → ⊥
 IsFirstFailed-not_accepted p table c number windows first told =
     let same : told.table ≡ table = AreWindowsOf_unique p told.table table told.windows windows in
     let here : IsAccepted p table c = subst (λ (t : WindowTable). IsAccepted p t c) same told.accepted in

@@ -1,14 +1,19 @@
 -- When each status comes, by the words and the whole input.
-use Rattle.std.specs.Prelude.{◌≡◌, ◌⊎◌, ℕ, List, length, nat_lt, MatchBool, MatchResult, Option, Some, None, Ok}
+use Rattle.std.specs.Prelude.{◌≡◌, ◌⊎◌, ◌-◌, ℕ, List, length, nat_lt, MatchBool, MatchResult, Option, Some, None, Ok, Result}
 use Rattle.std.specs.declared.alloc.Global.{Global}
 use Rattle.std.specs.declared.vec.Vec.{Vec}
 use Rattle.fp_model.specs.declared.parts.Leg.{Leg}
-use Rattle.fp_model.specs.Plans.{IsPlan, PlanExists}
+use Rattle.fp_model.specs.Plans.{IsPlan, NoPlanCheaper, PlanExists}
 use Rattle.fp_model.specs.Problem.{Problem}
 use Rattle.fp_fields.specs.Faults.{Fault}
+use Rattle.fp_reader.specs.Generator.{generated}
 use Rattle.fp_flatnet.specs.Directs.{IsDirectPlan}
 use Rattle.fp_flatnet.specs.Verdicts.{IsBlocked}
+use Rattle.fp_lines.specs.declared.certificates.Answer.TheVariants as answer
+use Rattle.fp_lines.specs.declared.certificates.Spent.{Spent}
 use Rattle.fp_lines.specs.Statements.{Statement}
+use Rattle.fp_history.specs.declared.budgets.Budget.{Budget}
+use Rattle.fp_history.specs.Solutions.{Solution}
 use Rattle.fp_prices.specs.declared.leaf_prices.LeafPrice.{LeafPrice}
 use Rattle.fp_prices.specs.Shares.{ClassShare}
 use Rattle.fp_app.specs.declared.shown.AnswerKind.{AnswerKind}
@@ -20,7 +25,19 @@ use Rattle.fp_app.specs.declared.shown.Status.{Status}
 use Rattle.fp_app.specs.declared.shown.Status.TheVariants as status
 use Rattle.fp_app.specs.Bounds.{IsRootBound}
 use Rattle.fp_app.specs.Checks.{IsAcceptedFor, ShowsAccepted, ShowsRejected, scaled}
-use Rattle.fp_app.specs.Inputs.{certificate_in, fault_in, instance_in, leading_instance_in, limit_of}
+use Rattle.fp_fleet.specs.Fleets.{Assignment}
+use Rattle.fp_yard.specs.declared.events.Event.{Event}
+use Rattle.fp_app.specs.Fleets.{IsSmallestFleet}
+use Rattle.fp_app.specs.Yards.{IsDrawnLog}
+use Rattle.fp_app.specs.Plans.{IsToldPlan, ShowsUntold, TellsTimetable}
+use Rattle.fp_app.specs.Inputs.{certificate_in, fault_in, given_to, instance_at, instance_in, leading_instance_in, limit_of, reads_source, KeptInstance, kept_in, quoted_in}
+use Rattle.fp_app.specs.Quotes.{IsQuoted}
+use Rattle.fp_app.specs.Wanted.{NoKeptPlanCheaper, Wanted, WantedExists, every, keeping}
+use Rattle.fp_replan.specs.declared.kept.Kept.{Kept}
+use Rattle.fp_replan.specs.KeptWindows.{CanBeKept}
+use Rattle.fp_replan.specs.Quotes.{IsExtraCost, without_last}
+use Rattle.fp_replan.specs.Starts.{IsStuck}
+use Rattle.fp_app.specs.Searches.{IsBoundBelow, IsEnough, IsSearched, trial_budget}
 
 -- The input gives an instance, and what is shown is its direct plan.
 pub record ShowsPlan (input : List ℕ) (result : Shown) : Type 0 where
@@ -43,13 +60,109 @@ pub record ShowsNumber (input : List ℕ) (result : Shown) : Type 0 where
   pub exists : PlanExists instance
   pub bound : IsRootBound instance price tables.items value
 
+-- There is an instance, of which a plan exists, and what is shown is what a search with a budget shows
+-- of it.
+pub record ShowsSolution (budget : Budget) (given : Result Problem Fault) (show : Problem → Solution → Shown) (result : Shown) : Type 0 where
+  pub instance : Problem
+  pub solved : Solution
+  pub read : given ≡ Ok instance
+  pub shows : result ≡ show instance solved
+  pub searched : IsSearched instance every budget solved
+
+-- What is shown is optimal: no plan is cheaper, over any denominator.
+pub record ShowsOptimal (budget : Budget) (given : Result Problem Fault) (show : Problem → Solution → Shown) (result : Shown) : Type 0 where
+  pub solution : ShowsSolution budget given show result
+  pub cost : ℕ
+  pub answer : solution.solved.certificate.answer ≡ answer.Optimal cost
+  pub plans : NoPlanCheaper solution.instance cost
+
+-- What is shown is unfinished: no plan costs less than its bound, over any denominator, and it tells
+-- what was spent.
+pub record ShowsUnfinished (budget : Budget) (given : Result Problem Fault) (show : Problem → Solution → Shown) (result : Shown) : Type 0 where
+  pub solution : ShowsSolution budget given show result
+  pub cost : ℕ
+  pub bound : ℕ
+  pub spent : Spent
+  pub answer : solution.solved.certificate.answer ≡ answer.Unfinished cost bound spent
+  pub bounds : IsBoundBelow solution.instance every budget cost bound spent
+
+-- The input gives an instance and legs that are kept, which some plan keeps, and what is shown is what
+-- a search with a budget shows among the plans that keep them.
+pub record ShowsKept (budget : Budget) (input : List ℕ) (result : Shown) : Type 0 where
+  pub instance : Problem
+  pub kept : Vec Kept Global
+  pub solved : Solution
+  pub read : kept_in input ≡ Ok (record { instance = instance; kept = kept.items })
+  pub shows : result ≡ shown.Replanned instance kept solved
+  pub searched : IsSearched instance (keeping kept.items) budget solved
+
+-- What is shown is optimal: no plan that keeps the legs is cheaper, over any denominator.
+pub record ShowsKeptOptimal (budget : Budget) (input : List ℕ) (result : Shown) : Type 0 where
+  pub solution : ShowsKept budget input result
+  pub cost : ℕ
+  pub answer : solution.solved.certificate.answer ≡ answer.Optimal cost
+  pub plans : NoKeptPlanCheaper solution.instance solution.kept.items cost
+
+-- What is shown is unfinished: no plan that keeps the legs costs less than its bound, over any
+-- denominator, and it tells what was spent.
+pub record ShowsKeptUnfinished (budget : Budget) (input : List ℕ) (result : Shown) : Type 0 where
+  pub solution : ShowsKept budget input result
+  pub cost : ℕ
+  pub bound : ℕ
+  pub spent : Spent
+  pub answer : solution.solved.certificate.answer ≡ answer.Unfinished cost bound spent
+  pub bounds : IsBoundBelow solution.instance (keeping solution.kept.items) budget cost bound spent
+
+-- The input gives an instance and legs that no plan keeps, over any denominator, and what is shown is
+-- the first shipment that no legs carry that begin with its kept legs.
+pub record ShowsStuck (input : List ℕ) (result : Shown) : Type 0 where
+  pub instance : Problem
+  pub kept : List Kept
+  pub shipment : ℕ
+  pub read : kept_in input ≡ Ok (record { instance = instance; kept = kept })
+  pub shows : result ≡ shown.Stuck instance shipment
+  pub stuck : IsStuck instance kept shipment
+  pub none : CanBeKept instance kept → ⊥
+
+-- The input gives an instance with a shipment, of which a plan exists, and what is shown is what its
+-- last shipment adds to the cost, by a search without it and one with it.
+pub record ShowsExtra (budget : Budget) (input : List ℕ) (result : Shown) : Type 0 where
+  pub instance : Problem
+  pub before : Solution
+  pub after : Solution
+  pub read : quoted_in input ≡ Ok instance
+  pub shows : result ≡ shown.Quoted instance before after
+  pub quoted : IsQuoted instance budget before after
+
+-- Both searches are optimal, and what the shipment adds is exact.
+pub record ShowsExactExtra (budget : Budget) (input : List ℕ) (result : Shown) : Type 0 where
+  pub extra : ShowsExtra budget input result
+  pub least : ℕ
+  pub most : ℕ
+  pub without : extra.before.certificate.answer ≡ answer.Optimal least
+  pub with_it : extra.after.certificate.answer ≡ answer.Optimal most
+  pub exact : IsExtraCost extra.instance (most - least)
+
+-- a search is unfinished, and has its cause
+pub record IsUnfinished (p : Problem) (budget : Budget) (s : Solution) : Type 0 where
+  pub cost : ℕ
+  pub bound : ℕ
+  pub spent : Spent
+  pub answer : s.certificate.answer ≡ answer.Unfinished cost bound spent
+  pub bounds : IsBoundBelow p every budget cost bound spent
+
+-- One of the two searches is unfinished.
+pub record ShowsOpenExtra (budget : Budget) (input : List ℕ) (result : Shown) : Type 0 where
+  pub extra : ShowsExtra budget input result
+  pub one_unfinished : IsUnfinished (without_last extra.instance) budget extra.before ⊎ IsUnfinished extra.instance budget extra.after
+
 -- The input gives an instance of which no plan exists over any denominator, and what is shown is
 -- the first shipment that can't be carried in time, with its fastest time.
-pub record ShowsNone (input : List ℕ) (result : Shown) : Type 0 where
+pub record ShowsNone (order : Order) (input : List ℕ) (result : Shown) : Type 0 where
   pub instance : Problem
   pub shipment : ℕ
   pub time : Option ℕ
-  pub read : instance_in input ≡ Ok instance
+  pub read : given_to order input ≡ Ok instance
   pub shows : result ≡ shown.Infeasible instance shipment time
   pub blocked : IsBlocked instance shipment time
   pub none : PlanExists instance → ⊥
@@ -66,16 +179,42 @@ pub record ShowsYes (input : List ℕ) (result : Shown) : Type 0 where
   pub shows : result ≡ shown.Accepted kind
   pub accepted : ShowsAccepted (scaled instance certificate) certificate kind
 
--- The input gives an instance and a certificate, which isn't accepted for the instance at the
--- certificate's scale, and what is shown is the first part that fails.
-pub record ShowsNo (input : List ℕ) (result : Shown) : Type 0 where
+-- The input gives an instance and a certificate, which is rejected, and what is shown is the first
+-- part that fails.
+pub record ShowsNo (Rejects : Problem → Statement → ℕ → Type 0) (input : List ℕ) (result : Shown) : Type 0 where
   pub instance : Problem
   pub certificate : Statement
   pub number : ℕ
   pub read : leading_instance_in input ≡ Ok instance
   pub certified : certificate_in instance input ≡ Ok certificate
   pub shows : result ≡ shown.RejectedPart number
-  pub rejected : ShowsRejected (scaled instance certificate) certificate number
+  pub rejected : Rejects instance certificate number
+
+-- The input gives an instance and a certificate that tells a plan, and what is shown is that plan with
+-- a fleet of its truck lines that no roster of them undercuts.
+pub record ShowsTrucks (input : List ℕ) (result : Shown) : Type 0 where
+  pub instance : Problem
+  pub certificate : Statement
+  pub plan : List (List Leg)
+  pub fleet : Assignment
+  pub read : leading_instance_in input ≡ Ok instance
+  pub certified : certificate_in instance input ≡ Ok certificate
+  pub shows : result ≡ shown.Fleet instance plan fleet
+  pub told : IsToldPlan instance certificate plan
+  pub smallest : IsSmallestFleet instance certificate.trucks fleet
+
+-- The input gives an instance and a certificate that tells a plan, and what is shown is that plan with
+-- the log that the draws from a seed choose.
+pub record ShowsRun (seed : ℕ) (input : List ℕ) (result : Shown) : Type 0 where
+  pub instance : Problem
+  pub certificate : Statement
+  pub plan : List (List Leg)
+  pub log : Vec Event Global
+  pub read : leading_instance_in input ≡ Ok instance
+  pub certified : certificate_in instance input ≡ Ok certificate
+  pub shows : result ≡ shown.Yard instance plan log
+  pub told : IsToldPlan instance certificate plan
+  pub drawn : IsDrawnLog instance plan seed log.items
 
 -- The records of the input have a fault for the order, and what is shown is the first.
 pub record ShowsFault (wanted : Option Order) (input : List ℕ) (result : Shown) : Type 0 where
@@ -83,23 +222,78 @@ pub record ShowsFault (wanted : Option Order) (input : List ℕ) (result : Shown
   pub first : fault_in wanted input ≡ Some fault
   pub shows : result ≡ shown.BadInput fault.ordinal fault.code
 
--- what is shown where an order is done: a direct plan, that a certificate is accepted, or a number
--- under which no plan costs
+-- what is shown where an order is done: a direct plan, that a certificate is accepted, a number
+-- under which no plan costs, a plan than which none is cheaper, or a plan that is run, or its fewest trucks
 abbrev pub ShowsDone : Option Order → List ℕ → Shown → Type 0
 ShowsDone None input result = ⊥
 ShowsDone (Some order.Direct) input result = ShowsPlan input result
 ShowsDone (Some order.Check) input result = ShowsYes input result
 ShowsDone (Some order.Bound) input result = ShowsNumber input result
+ShowsDone (Some (order.Plan budget scale)) input result = ShowsOptimal budget (instance_at scale input) shown.Planned result
+ShowsDone (Some (order.Trial seed terminals shipments)) input result = ShowsOptimal trial_budget (Ok (generated seed terminals shipments)) (shown.Trial seed) result
+ShowsDone (Some (order.Yard seed)) input result = ShowsRun seed input result
+ShowsDone (Some order.Fleet) input result = ShowsTrucks input result
+ShowsDone (Some (order.Replan budget)) input result = ShowsKeptOptimal budget input result
+ShowsDone (Some (order.Quote budget)) input result = ShowsExactExtra budget input result
+
+-- what is shown where an order is unfinished
+abbrev pub ShowsOpen : Option Order → List ℕ → Shown → Type 0
+ShowsOpen (Some (order.Plan budget scale)) input result = ShowsUnfinished budget (instance_at scale input) shown.Planned result
+ShowsOpen (Some (order.Trial seed terminals shipments)) input result = ShowsUnfinished trial_budget (Ok (generated seed terminals shipments)) (shown.Trial seed) result
+ShowsOpen (Some (order.Replan budget)) input result = ShowsKeptUnfinished budget input result
+ShowsOpen (Some (order.Quote budget)) input result = ShowsOpenExtra budget input result
+ShowsOpen _ input result = ⊥
+
+-- what is shown where no plan exists, or none that keeps the legs
+abbrev pub ShowsInfeasible : Option Order → List ℕ → Shown → Type 0
+ShowsInfeasible None input result = ⊥
+ShowsInfeasible (Some (order.Replan budget)) input result = ShowsStuck input result
+ShowsInfeasible (Some order) input result = ShowsNone order input result
+
+-- what is shown where a certificate is rejected: for `check` it isn't accepted for the instance at the
+-- certificate's scale, and for `yard` and `fleet` it tells no plan
+abbrev pub ShowsRejection : Option Order → List ℕ → Shown → Type 0
+ShowsRejection (Some order.Check) input result = ShowsNo (λ p c number. ShowsRejected (scaled p c) c number) input result
+ShowsRejection (Some (order.Yard seed)) input result = ShowsNo ShowsUntold input result
+ShowsRejection (Some order.Fleet) input result = ShowsNo ShowsUntold input result
+ShowsRejection _ input result = ⊥
 
 -- the status of an order that asks for plans of an instance: done where a plan exists, and
 -- infeasible where none does
 abbrev pub PlanStatus : Problem → Status → Type 0
 PlanStatus p result = ((result ≡ status.Done) × PlanExists p) ⊎ ((result ≡ status.Infeasible) × (PlanExists p → ⊥))
 
+-- the status of `plan` and `replan` with a budget: done or unfinished where a wanted plan exists, and
+-- infeasible where none does. Where both the rounds and the branches are enough, it isn't unfinished.
+abbrev pub SearchStatus : Problem → Wanted → Budget → Status → Type 0
+SearchStatus p wanted budget result =
+    ((result ≡ status.Done) × WantedExists p wanted)
+    ⊎ (((result ≡ status.Unfinished) × WantedExists p wanted × ((spent : Spent) × (IsEnough p wanted budget spent → ⊥)))
+    ⊎ ((result ≡ status.Infeasible) × (WantedExists p wanted → ⊥)))
+
+-- the status of `quote` with a budget: done or unfinished where a plan exists, and infeasible where
+-- none does. Where the rounds and the branches are enough without the last shipment and with it, it
+-- isn't unfinished.
+abbrev pub QuoteStatus : Problem → Budget → Status → Type 0
+QuoteStatus p budget result =
+    ((result ≡ status.Done) × PlanExists p)
+    ⊎ (((result ≡ status.Unfinished) × PlanExists p × ((spent : Spent) × ((IsEnough (without_last p) every budget spent × IsEnough p every budget spent) → ⊥)))
+    ⊎ ((result ≡ status.Infeasible) × (PlanExists p → ⊥)))
+
+-- the status of `trial`: done, or unfinished, and that only where the rounds or the branches aren't
+-- enough. Each drawn instance has a plan.
+abbrev pub TrialStatus : Problem → Status → Type 0
+TrialStatus p result = (result ≡ status.Done) ⊎ ((result ≡ status.Unfinished) × ((spent : Spent) × (IsEnough p every trial_budget spent → ⊥)))
+
 -- the status of `check` for an instance and a certificate: done where it is accepted, and rejected
 -- where it isn't
 abbrev pub CheckStatus : Problem → Statement → Status → Type 0
 CheckStatus p c result = ((result ≡ status.Done) × IsAcceptedFor p c) ⊎ ((result ≡ status.Rejected) × (IsAcceptedFor p c → ⊥))
+
+-- the status of an order about the plan that a certificate tells: done where it tells one, and
+-- rejected where it tells none
+abbrev pub ToldStatus : Problem → Statement → Status → Type 0
+ToldStatus p c result = ((result ≡ status.Done) × TellsTimetable p c) ⊎ ((result ≡ status.Rejected) × (TellsTimetable p c → ⊥))
 
 -- the one status of an order for an input within its limit
 abbrev pub InputStatus : Order → List ℕ → Status → Type 0
@@ -109,8 +303,28 @@ InputStatus order.Check input result =
     (λ p. MatchResult (certificate_in p input) (λ c. CheckStatus (scaled p c) c result) (λ f. result ≡ status.BadInput))
     (λ f. result ≡ status.BadInput)
 InputStatus order.Bound input result = MatchResult (instance_in input) (λ p. PlanStatus p result) (λ f. result ≡ status.BadInput)
+InputStatus (order.Plan budget scale) input result = MatchResult (instance_at scale input) (λ p. SearchStatus p every budget result) (λ f. result ≡ status.BadInput)
+InputStatus (order.Trial seed terminals shipments) input result = ⊥
+InputStatus (order.Yard seed) input result =
+    MatchResult (leading_instance_in input)
+    (λ p. MatchResult (certificate_in p input) (λ c. ToldStatus p c result) (λ f. result ≡ status.BadInput))
+    (λ f. result ≡ status.BadInput)
+InputStatus order.Fleet input result =
+    MatchResult (leading_instance_in input)
+    (λ p. MatchResult (certificate_in p input) (λ c. ToldStatus p c result) (λ f. result ≡ status.BadInput))
+    (λ f. result ≡ status.BadInput)
+InputStatus (order.Replan budget) input result = MatchResult (kept_in input) (λ (x : KeptInstance). SearchStatus x.instance (keeping x.kept) budget result) (λ f. result ≡ status.BadInput)
+InputStatus (order.Quote budget) input result = MatchResult (quoted_in input) (λ p. QuoteStatus p budget result) (λ f. result ≡ status.BadInput)
+
+-- the one status of an order that reads no input
+abbrev pub AloneStatus : Order → Status → Type 0
+AloneStatus (order.Trial seed terminals shipments) result = TrialStatus (generated seed terminals shipments) result
+AloneStatus _ result = ⊥
 
 -- the one status that a run with memory and without a fault of its source and its sink has
 abbrev pub StatusOf : Option Order → List ℕ → Status → Type 0
 StatusOf None input result = result ≡ status.BadWords
-StatusOf (Some order) input result = MatchBool (nat_lt (limit_of (Some order)) (length input)) (result ≡ status.TooLong) (InputStatus order input result)
+StatusOf (Some order) input result =
+    MatchBool (reads_source order)
+    (MatchBool (nat_lt (limit_of (Some order)) (length input)) (result ≡ status.TooLong) (InputStatus order input result))
+    (AloneStatus order result)

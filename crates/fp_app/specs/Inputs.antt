@@ -1,19 +1,28 @@
 -- What the bytes of an input give.
-use Rattle.std.specs.Prelude.{ℕ, ◌+◌, ◌≡◌, List, length, drop, MatchResult, Result, Ok, Err, Option, Some, None}
-use Rattle.fp_model.specs.Problem.{Problem}
+use Rattle.std.specs.Prelude.{ℕ, Bool, true, false, ◌+◌, ◌^◌, ◌≡◌, ◌==◌, List, [], length, drop, take_while, not, codes, nat_lt, if◌then◌else◌, MatchResult, Result, Ok, Err, Option, Some, None}
+use Rattle.fp_model.specs.Problem.{Problem, weight_at}
 use Rattle.fp_records.specs.Fields.{records_of}
 use Rattle.fp_reader.specs.declared.reading.Tail.TheVariants.{Alone, Certificate}
 use Rattle.fp_reader.specs.Input.{input_of, instance_records}
 use Rattle.fp_fields.specs.Faults.{Fault}
+use Rattle.fp_fields.specs.Fields.{is_kind}
 use Rattle.fp_certificate.specs.Reading.{certificate_of}
 use Rattle.fp_lines.specs.Statements.{Statement}
+use Rattle.fp_replan.specs.declared.kept.Kept.{Kept}
+use Rattle.fp_replan.specs.Records.{kept_from}
 use Rattle.fp_app.specs.declared.limits.TheConstants.{CHECK_LIMIT, INSTANCE_LIMIT}
 use Rattle.fp_words.specs.declared.orders.Order.{Order}
 use Rattle.fp_words.specs.declared.orders.Order.TheVariants as order
+use Rattle.fp_reader.specs.Generator.{generated}
 use Rattle.fp_app.specs.declared.instances.InstanceInput.{InstanceInput}
 use Rattle.fp_app.specs.declared.instances.InstanceInput.TheVariants as given
 use Rattle.fp_app.specs.declared.shown.Shown.{Shown}
 use Rattle.fp_app.specs.declared.shown.Shown.TheVariants as shown
+
+-- whether an order reads the source: all but `trial` do
+abbrev pub reads_source : Order → Bool
+reads_source (order.Trial seed terminals shipments) = false
+reads_source _ = true
 
 -- the most bytes of an input to an order
 abbrev pub limit_of : Option Order → ℕ
@@ -21,10 +30,29 @@ limit_of None = 0
 limit_of (Some order.Direct) = INSTANCE_LIMIT
 limit_of (Some order.Check) = CHECK_LIMIT
 limit_of (Some order.Bound) = INSTANCE_LIMIT
+limit_of (Some (order.Plan budget scale)) = INSTANCE_LIMIT
+limit_of (Some (order.Trial seed terminals shipments)) = 0
+limit_of (Some (order.Yard seed)) = CHECK_LIMIT
+limit_of (Some order.Fleet) = CHECK_LIMIT
+limit_of (Some (order.Replan budget)) = INSTANCE_LIMIT
+limit_of (Some (order.Quote budget)) = INSTANCE_LIMIT
 
 -- what an input alone gives: the instance of its records, or their first fault
 abbrev pub instance_in : List ℕ → Result Problem Fault
 instance_in input = input_of Alone (records_of input)
+
+-- the instance at a scale, or a fault of the input as a whole where the scale doesn't fit
+abbrev pub at_scale : ℕ → Problem → Result Problem Fault
+at_scale scale p = if nat_lt (weight_at scale p.arcs p.shipments) (2 ^ 127) then Ok (record p { scale = scale }) else Err (record { ordinal = 0; code = 12 })
+
+abbrev pub read_at_scale : ℕ → Result Problem Fault → Result Problem Fault
+read_at_scale scale (Ok p) = at_scale scale p
+read_at_scale scale (Err f) = Err f
+
+-- what an input alone gives at a scale: the instance of its records, their first fault, or that the
+-- scale doesn't fit
+abbrev pub instance_at : ℕ → List ℕ → Result Problem Fault
+instance_at scale input = read_at_scale scale (instance_in input)
 
 -- what an input gives that a certificate follows: the instance of the records before the first
 -- `answer`, or their first fault
@@ -40,14 +68,90 @@ leading_count input = length (instance_records Certificate (records_of input))
 abbrev pub certificate_in : Problem → List ℕ → Result Statement Fault
 certificate_in p input = certificate_of p (leading_count input + 1) (drop (leading_count input) (records_of input))
 
+-- whether a record is one of a kept leg
+abbrev pub is_kept : List (List ℕ) → Bool
+is_kept fields = is_kind (codes "kept") fields
+
+-- the records of an input before the first `kept`, which are those of the instance
+abbrev pub unkept_records : List (List (List ℕ)) → List (List (List ℕ))
+unkept_records records = take_while (λ fields. not (is_kept fields)) records
+
+-- the instance of the records before the first `kept`, or their first fault
+abbrev pub unkept_instance_in : List ℕ → Result Problem Fault
+unkept_instance_in input = input_of Alone (unkept_records (records_of input))
+
+-- an instance, and legs of it that are kept
+pub record KeptInstance : Type 0 where
+  pub instance : Problem
+  pub kept : List Kept
+
+-- an instance with the legs that records from a place on keep, or the first fault of these records
+abbrev pub kept_legs : Problem → Result (List Kept) Fault → Result KeptInstance Fault
+kept_legs p (Ok kept) = Ok (record { instance = p; kept = kept })
+kept_legs p (Err f) = Err f
+
+abbrev pub kept_after : List (List (List ℕ)) → Result Problem Fault → Result KeptInstance Fault
+kept_after records (Ok p) = kept_legs p (kept_from p [] (length (unkept_records records) + 1) (drop (length (unkept_records records)) records))
+kept_after records (Err f) = Err f
+
+-- the instance of an input and its kept legs, or the first fault: the instance's before those of the
+-- kept legs
+abbrev pub kept_in : List ℕ → Result KeptInstance Fault
+kept_in input = kept_after (records_of input) (unkept_instance_in input)
+
+-- an instance that has a shipment, or a fault of the input as a whole where it has none
+abbrev pub with_shipment : Problem → Result Problem Fault
+with_shipment p = if length p.shipments == 0 then Err (record { ordinal = 0; code = 38 }) else Ok p
+
+abbrev pub read_with_shipment : Result Problem Fault → Result Problem Fault
+read_with_shipment (Ok p) = with_shipment p
+read_with_shipment (Err f) = Err f
+
+-- what an input alone gives that has a shipment: the instance of its records, their first fault, or
+-- that there is no shipment
+abbrev pub quoted_in : List ℕ → Result Problem Fault
+quoted_in input = read_with_shipment (instance_in input)
+
 -- it is the instance of an input alone, or the first fault
 abbrev pub IsInstanceInput : List ℕ → InstanceInput → Type 0
 IsInstanceInput input (given.Read p) = instance_in input ≡ Ok p
 IsInstanceInput input (given.Fault ordinal code) = instance_in input ≡ Err (record { ordinal = ordinal; code = code })
 
+-- it is an instance at a scale, or that the scale doesn't fit
+abbrev pub IsAtScale : ℕ → Problem → InstanceInput → Type 0
+IsAtScale scale p (given.Read q) = at_scale scale p ≡ Ok q
+IsAtScale scale p (given.Fault ordinal code) = at_scale scale p ≡ Err (record { ordinal = ordinal; code = code })
+
+-- it is the instance of an input alone at a scale, or the first fault
+abbrev pub IsScaledInput : ℕ → List ℕ → InstanceInput → Type 0
+IsScaledInput scale input (given.Read p) = instance_at scale input ≡ Ok p
+IsScaledInput scale input (given.Fault ordinal code) = instance_at scale input ≡ Err (record { ordinal = ordinal; code = code })
+
+-- it is an instance that has a shipment, or that it has none
+abbrev pub IsWithShipment : Problem → InstanceInput → Type 0
+IsWithShipment p (given.Read q) = with_shipment p ≡ Ok q
+IsWithShipment p (given.Fault ordinal code) = with_shipment p ≡ Err (record { ordinal = ordinal; code = code })
+
+-- it is the instance of an input alone that has a shipment, or the first fault
+abbrev pub IsQuotedInput : List ℕ → InstanceInput → Type 0
+IsQuotedInput input (given.Read p) = quoted_in input ≡ Ok p
+IsQuotedInput input (given.Fault ordinal code) = quoted_in input ≡ Err (record { ordinal = ordinal; code = code })
+
+-- the instance of the input's records at a scale, or the first fault
+abbrev pub OfScaled : ℕ → List ℕ → Shown → (Problem → Type 0) → Type 0
+OfScaled scale input result P = MatchResult (instance_at scale input) P (λ (f : Fault). result ≡ shown.BadInput f.ordinal f.code)
+
 -- the instance of the input's records, or their first fault
 abbrev pub OfInstance : List ℕ → Shown → (Problem → Type 0) → Type 0
 OfInstance input result P = MatchResult (instance_in input) P (λ (f : Fault). result ≡ shown.BadInput f.ordinal f.code)
+
+-- the instance of the input's records that has a shipment, or the first fault
+abbrev pub OfQuoted : List ℕ → Shown → (Problem → Type 0) → Type 0
+OfQuoted input result P = MatchResult (quoted_in input) P (λ (f : Fault). result ≡ shown.BadInput f.ordinal f.code)
+
+-- the instance of the input's records and the legs that are kept, or the first fault
+abbrev pub OfKept : List ℕ → Shown → (KeptInstance → Type 0) → Type 0
+OfKept input result P = MatchResult (kept_in input) P (λ (f : Fault). result ≡ shown.BadInput f.ordinal f.code)
 
 -- the instance of the input's records and the certificate after it, or the first fault: the
 -- instance's before the certificate's
@@ -73,3 +177,22 @@ fault_in None input = None
 fault_in (Some order.Direct) input = fault_of (instance_in input)
 fault_in (Some order.Check) input = input_fault input (leading_instance_in input)
 fault_in (Some order.Bound) input = fault_of (instance_in input)
+fault_in (Some (order.Plan budget scale)) input = fault_of (instance_at scale input)
+fault_in (Some (order.Trial seed terminals shipments)) input = None
+fault_in (Some (order.Yard seed)) input = input_fault input (leading_instance_in input)
+fault_in (Some order.Fleet) input = input_fault input (leading_instance_in input)
+fault_in (Some (order.Replan budget)) input = fault_of (kept_in input)
+fault_in (Some (order.Quote budget)) input = fault_of (quoted_in input)
+
+-- the instance that an order is about: that of the input, or its first fault, and for `trial` the one
+-- that is drawn
+abbrev pub given_to : Order → List ℕ → Result Problem Fault
+given_to order.Direct input = instance_in input
+given_to order.Check input = leading_instance_in input
+given_to order.Bound input = instance_in input
+given_to (order.Plan budget scale) input = instance_at scale input
+given_to (order.Trial seed terminals shipments) input = Ok (generated seed terminals shipments)
+given_to (order.Yard seed) input = leading_instance_in input
+given_to order.Fleet input = leading_instance_in input
+given_to (order.Replan budget) input = unkept_instance_in input
+given_to (order.Quote budget) input = quoted_in input

@@ -3,6 +3,14 @@ pub mod Texts
 pub mod Inputs
 pub mod Checks
 pub mod Bounds
+pub mod Wanted
+pub mod Searches
+pub mod Quotes
 pub mod CheckInputs
+pub mod Plans
+pub mod Fleets
+pub mod KeptInputs
+pub mod Yards
 pub mod Runs
 pub mod Causes
+pub mod Laws

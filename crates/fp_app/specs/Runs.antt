@@ -9,6 +9,10 @@ use Rattle.fp_model.specs.Plans.{IsPlan, PlanExists}
 use Rattle.fp_model.specs.Problem.{Problem}
 use Rattle.fp_flatnet.specs.Directs.{IsDirectPlan}
 use Rattle.fp_flatnet.specs.Verdicts.{IsBlocked}
+use Rattle.fp_history.specs.declared.budgets.Budget.{Budget}
+use Rattle.fp_reader.specs.Generator.{generated}
+use Rattle.fp_replan.specs.KeptWindows.{CanBeKept}
+use Rattle.fp_replan.specs.Starts.{IsStuck}
 use Rattle.fp_words.specs.declared.orders.Order.{Order}
 use Rattle.fp_words.specs.declared.orders.Order.TheVariants as order
 use Rattle.fp_app.specs.declared.shown.Shown.{Shown}
@@ -17,9 +21,14 @@ use Rattle.fp_app.specs.declared.shown.Status.{Status}
 use Rattle.fp_app.specs.declared.shown.Status.TheVariants as status
 use Rattle.fp_app.specs.Bounds.{IsRootBound}
 use Rattle.fp_app.specs.Checks.{ShowsCheck, scaled}
-use Rattle.fp_app.specs.Inputs.{OfCertificate, OfInstance, limit_of}
+use Rattle.fp_app.specs.Fleets.{ShowsFleet}
+use Rattle.fp_app.specs.Inputs.{OfCertificate, OfInstance, OfScaled, limit_of, reads_source, KeptInstance, OfKept, OfQuoted}
+use Rattle.fp_app.specs.Quotes.{IsQuoted}
+use Rattle.fp_app.specs.Yards.{ShowsYard}
+use Rattle.fp_app.specs.Searches.{IsSearched, trial_budget}
 use Rattle.fp_app.specs.Shown.{status_of}
 use Rattle.fp_app.specs.Texts.{IsText}
+use Rattle.fp_app.specs.Wanted.{every, keeping}
 
 -- Each command: what it shows for an instance.
 
@@ -36,6 +45,34 @@ abbrev pub ShowsBound : Problem → Shown → Type 0
 ShowsBound p (shown.Bound instance price tables value) = (instance ≡ p) × PlanExists p × IsRootBound p price tables.items value
 ShowsBound p (shown.Infeasible instance shipment time) = (instance ≡ p) × IsBlocked p shipment time × (PlanExists p → ⊥)
 ShowsBound p _ = ⊥
+
+-- `plan`: where a plan exists, what a search with the budget shows, and otherwise the first shipment
+-- that can't be carried in time, with its fastest time.
+abbrev pub ShowsSearch : Budget → Problem → Shown → Type 0
+ShowsSearch budget p (shown.Planned instance solved) = (instance ≡ p) × IsSearched p every budget solved
+ShowsSearch budget p (shown.Infeasible instance shipment time) = (instance ≡ p) × IsBlocked p shipment time × (PlanExists p → ⊥)
+ShowsSearch budget p _ = ⊥
+
+-- `trial`: what a search of the drawn instance shows, with a small budget.
+abbrev pub ShowsTrial : (seed terminals shipments : ℕ) → Shown → Type 0
+ShowsTrial seed terminals shipments (shown.Trial shown_seed instance solved) =
+    (shown_seed ≡ seed) × (instance ≡ generated seed terminals shipments) × IsSearched (generated seed terminals shipments) every trial_budget solved
+ShowsTrial seed terminals shipments _ = ⊥
+
+-- `replan`: where a plan keeps the legs, what a search with the budget among those plans shows, and
+-- otherwise the first shipment that no legs carry that begin with its kept legs.
+abbrev pub ShowsReplan : Budget → KeptInstance → Shown → Type 0
+ShowsReplan budget x (shown.Replanned instance kept solved) =
+    (x ≡ record { instance = instance; kept = kept.items }) × IsSearched instance (keeping kept.items) budget solved
+ShowsReplan budget x (shown.Stuck instance shipment) = (instance ≡ x.instance) × IsStuck x.instance x.kept shipment × (CanBeKept x.instance x.kept → ⊥)
+ShowsReplan budget x _ = ⊥
+
+-- `quote`: where a plan exists, what searches without the last shipment and with it show, and
+-- otherwise the first shipment that can't be carried in time, with its fastest time.
+abbrev pub ShowsQuote : Budget → Problem → Shown → Type 0
+ShowsQuote budget p (shown.Quoted instance before after) = (instance ≡ p) × IsQuoted p budget before after
+ShowsQuote budget p (shown.Infeasible instance shipment time) = (instance ≡ p) × IsBlocked p shipment time × (PlanExists p → ⊥)
+ShowsQuote budget p _ = ⊥
 
 -- The whole input was read and P holds of it, or more than the limit came.
 abbrev pub OfInput : ℕ → Option (List ℕ) → Option (List ℕ) → Shown → (List ℕ → Type 0) → Type 0
@@ -62,16 +99,28 @@ abbrev pub ShowsInput : Order → List ℕ → Shown → Type 0
 ShowsInput order.Direct input result = OfInstance input result (λ p. ShowsDirect p result)
 ShowsInput order.Check input result = OfCertificate input result (λ p c. ShowsCheck (scaled p c) c result)
 ShowsInput order.Bound input result = OfInstance input result (λ p. ShowsBound p result)
+ShowsInput (order.Plan budget scale) input result = OfScaled scale input result (λ p. ShowsSearch budget p result)
+ShowsInput (order.Trial seed terminals shipments) input result = ⊥
+ShowsInput (order.Yard seed) input result = OfCertificate input result (λ p c. ShowsYard seed p c result)
+ShowsInput order.Fleet input result = OfCertificate input result (λ p c. ShowsFleet p c result)
+ShowsInput (order.Replan budget) input result = OfKept input result (λ x. ShowsReplan budget x result)
+ShowsInput (order.Quote budget) input result = OfQuoted input result (λ p. ShowsQuote budget p result)
+
+-- What an order shows that reads no input.
+abbrev pub ShowsAlone : Order → Shown → Type 0
+ShowsAlone (order.Trial seed terminals shipments) result = ShowsTrial seed terminals shipments result
+ShowsAlone _ result = ⊥
 
 -- what an order shows, by what the source had left and has left now
 abbrev pub Answers : Option Order → Option (List ℕ) → Option (List ℕ) → Shown → Type 0
 Answers None old new result = result ≡ shown.BadWords
-Answers (Some order) old new result = OfInput (limit_of (Some order)) old new result (λ input. ShowsInput order input result)
+Answers (Some order) old new result =
+    MatchBool (reads_source order) (OfInput (limit_of (Some order)) old new result (λ input. ShowsInput order input result)) (ShowsAlone order result)
 
--- Words of no form leave the source alone.
+-- Words of no form leave the source alone, and so does an order that reads no input.
 abbrev pub Leaves : {S : Type 0} → Option Order → S → S → Type 0
 Leaves None old new = new ≡ old
-Leaves (Some order) old new = ⊤
+Leaves (Some order) old new = MatchBool (reads_source order) ⊤ (new ≡ old)
 
 -- How far a run came: before its text, through a part of it, or through all.
 pub data Reach : Type 0 where

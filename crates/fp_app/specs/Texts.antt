@@ -1,6 +1,6 @@
 -- The text of what is shown. Fields are joined by commas, each line ends with a line feed, numbers
 -- are decimal.
-use Rattle.std.specs.Prelude.{ℕ, ◌≡◌, List, [], ◌∷◌, None, codes, decimal}
+use Rattle.std.specs.Prelude.{ℕ, ◌-◌, ◌≡◌, List, [], ◌∷◌, None, codes, decimal, length}
 use Rattle.fp_records.specs.Text.{line_of, lines_of}
 use Rattle.fp_model.specs.declared.parts.Leg.{Leg}
 use Rattle.fp_model.specs.Costs.{cost}
@@ -10,9 +10,13 @@ use Rattle.fp_timetable.specs.declared.lines.TruckLine.{TruckLine}
 use Rattle.fp_timetable.specs.Lines.{AreLegLines, AreTruckLines}
 use Rattle.fp_lines.specs.declared.certificates.Answer.{Answer}
 use Rattle.fp_lines.specs.declared.certificates.Answer.TheVariants as answer
-use Rattle.fp_lines.specs.Rows.{rows_of}
+use Rattle.fp_lines.specs.Rows.{answer_fields, rows_of, shipment_name}
 use Rattle.fp_lines.specs.Statements.{Statement}
+use Rattle.fp_fleet.specs.Rows.{fleet_rows}
+use Rattle.fp_replan.specs.declared.ranges.Bracket.{Bracket}
+use Rattle.fp_sheets.specs.Rows.{IsYardText}
 use Rattle.fp_app.specs.Bounds.{whole_units}
+use Rattle.fp_app.specs.Quotes.{extra_of}
 use Rattle.fp_app.specs.declared.shown.AnswerKind.{AnswerKind}
 use Rattle.fp_app.specs.declared.shown.AnswerKind.TheVariants as kind
 use Rattle.fp_app.specs.declared.shown.Shown.{Shown}
@@ -43,14 +47,38 @@ kind_word kind.Infeasible = codes "infeasible"
 abbrev pub bound_lines : ℕ → List ℕ
 bound_lines number = lines_of ((codes "answer" ∷ codes "bound" ∷ decimal number ∷ []) ∷ (codes "end" ∷ []) ∷ [])
 
+-- the lines of a trial: its numbers, with how many arcs were drawn, the answer, and that the
+-- certificate was checked
+abbrev pub trial_fields : (seed terminals arcs shipments : ℕ) → List (List ℕ)
+trial_fields seed terminals arcs shipments = codes "trial" ∷ decimal seed ∷ decimal terminals ∷ decimal arcs ∷ decimal shipments ∷ []
+
+abbrev pub trial_lines : ℕ → Problem → Answer → List ℕ
+trial_lines seed p a =
+    lines_of (trial_fields seed (length p.terminals) (length p.arcs) (length p.shipments) ∷ answer_fields p a ∷ (codes "checked" ∷ []) ∷ [])
+
+-- the lines of a shipment that is stuck
+abbrev pub stuck_lines : List ℕ → List ℕ
+stuck_lines name = lines_of ((codes "answer" ∷ codes "stuck" ∷ name ∷ []) ∷ (codes "end" ∷ []) ∷ [])
+
+-- the lines of what the last shipment adds to the cost: at least and at most so much
+abbrev pub quote_lines : List ℕ → Bracket → List ℕ
+quote_lines name extra = lines_of ((codes "quote" ∷ name ∷ decimal extra.low ∷ decimal extra.high ∷ []) ∷ (codes "end" ∷ []) ∷ [])
+
 -- it is the text of what is shown
 abbrev pub IsText : Shown → List ℕ → Type 0
 IsText (shown.Direct p routes) text =
     (c : Statement) × IsDirectCertificate p routes c × (text ≡ certificate_text p c)
 IsText (shown.Bound p price tables value) text = text ≡ bound_lines (whole_units p value)
+IsText (shown.Planned p solved) text = text ≡ certificate_text p solved.certificate
+IsText (shown.Trial seed p solved) text = text ≡ trial_lines seed p solved.certificate.answer
+IsText (shown.Replanned p kept solved) text = text ≡ certificate_text p solved.certificate
+IsText (shown.Stuck p shipment) text = text ≡ stuck_lines (shipment_name p shipment)
+IsText (shown.Quoted p before after) text = text ≡ quote_lines (shipment_name p (length p.shipments - 1)) (extra_of before.certificate.answer after.certificate.answer)
 IsText (shown.Infeasible p shipment time) text = text ≡ certificate_text p (timetable_of (answer.Infeasible shipment time) [] [])
 IsText (shown.Accepted kind) text = text ≡ line_of (codes "accepted" ∷ kind_word kind ∷ [])
 IsText (shown.RejectedPart number) text = text ≡ line_of (codes "rejected" ∷ decimal number ∷ [])
+IsText (shown.Yard p plan log) text = (lines : List TruckLine) → AreTruckLines p plan lines → IsYardText p plan lines log.items text
+IsText (shown.Fleet p plan fleet) text = (lines : List TruckLine) → AreTruckLines p plan lines → text ≡ lines_of (fleet_rows p lines fleet)
 IsText shown.BadWords text = text ≡ line_of (codes "refused" ∷ codes "words" ∷ [])
 IsText (shown.BadInput ordinal code) text = text ≡ line_of (codes "refused" ∷ decimal ordinal ∷ decimal code ∷ [])
 IsText shown.TooLong text = text ≡ line_of (codes "refused" ∷ codes "long" ∷ [])

@@ -1,8 +1,9 @@
 //! The answer to an order, from the source's bytes.
-ghost use Rattle.std.specs.Prelude.{◌≡◌, ◌+◌, ◌≤◌, IfOk, Some, IsErrOf, Ok, length};
+ghost use Rattle.std.specs.Prelude.{◌≡◌, ◌+◌, ◌≤◌, IfOk, Some, IsErrOf, Ok, length, true};
 ghost use Rattle.fp_ends.specs.Causes.{Rose};
+ghost use Rattle.fp_words.specs.Settings.{IsWithinLimits};
 ghost use Rattle.fp_words.specs.Words.{order_of, texts};
-ghost use Rattle.fp_app.specs.Inputs.{limit_of};
+ghost use Rattle.fp_app.specs.Inputs.{limit_of, reads_source};
 ghost use Rattle.fp_app.specs.Runs.{Answers, Leaves, ShowsInput, TakesOneMore, TakesWithin};
 ghost use Rattle.fp_app.specs.Shown.{IsPrintable};
 
@@ -10,8 +11,14 @@ use crate::bounds::bound_shown;
 use crate::checks::check_shown;
 use crate::directs::direct_shown;
 use crate::failures::Failure;
+use crate::fleets::fleet_shown;
 use crate::inputs::take_input;
 use crate::limits::limit_of;
+use crate::quotes::quote_shown;
+use crate::replans::replan_shown;
+use crate::searches::plan_shown;
+use crate::trials::trial_shown;
+use crate::yards::yard_shown;
 use crate::{NoMemory, Order, Shown, WordFault, read_words};
 use fp_ends::Source;
 use std::alloc::Global;
@@ -31,14 +38,23 @@ pub fn answer<S: Source>(alloc: Global, words: &[String], source: &mut S) -> Res
     ensures leaves { Leaves (order_of (texts words.now)) source.old source.new }
 {
     match read_words(alloc, words) {
+        Ok(
+            Order::Trial {
+                seed,
+                terminals,
+                shipments,
+            },
+        ) => Ok(trial_shown(alloc, seed, terminals, shipments)?),
         Ok(order) => answer_order(alloc, order, source),
         Err(WordFault::BadWords) => Ok(Shown::BadWords),
         Err(WordFault::NoMemory) => Err(Failure::NoMemory),
     }
 }
 
-// What an order and the source's bytes show.
+// What an order that reads the source, and the source's bytes, show.
 fn answer_order<S: Source>(alloc: Global, order: Order, source: &mut S) -> Result<Shown, Failure>
+    requires limits { IsWithinLimits order }
+    requires reads { reads_source order ≡ true }
     ensures shown { IfOk result (Answers (Some order) (S.left source.old) (S.left source.new)) }
     ensures printable { IfOk result IsPrintable }
     ensures later { S.faults source.old ≤ S.faults source.new }
@@ -49,6 +65,7 @@ fn answer_order<S: Source>(alloc: Global, order: Order, source: &mut S) -> Resul
         → TakesWithin (limit_of (Some order)) (S.left source.old) (S.left source.new) }
     ensures long_within { result ≡ Ok Shown.TooLong
         → TakesOneMore (limit_of (Some order)) (S.left source.old) (S.left source.new) }
+    ensures leaves { Leaves (Some order) source.old source.new }
 {
     match take_input(alloc, source, limit_of(order))? {
         Some(bytes) => Ok(input_shown(alloc, order, bytes)?),
@@ -58,7 +75,9 @@ fn answer_order<S: Source>(alloc: Global, order: Order, source: &mut S) -> Resul
 
 // What an order shows for the bytes of an input.
 fn input_shown(alloc: Global, order: Order, bytes: Vec<u8>) -> Result<Shown, NoMemory>
-    requires { length bytes.items ≤ limit_of (Some order) }
+    requires length { length bytes.items ≤ limit_of (Some order) }
+    requires limits { IsWithinLimits order }
+    requires reads { reads_source order ≡ true }
     ensures shown { IfOk result (ShowsInput order bytes.items) }
     ensures printable { IfOk result IsPrintable }
 {
@@ -66,5 +85,11 @@ fn input_shown(alloc: Global, order: Order, bytes: Vec<u8>) -> Result<Shown, NoM
         Order::Direct => direct_shown(alloc, bytes),
         Order::Check => check_shown(alloc, bytes),
         Order::Bound => bound_shown(alloc, bytes),
+        Order::Plan { budget, scale } => plan_shown(alloc, bytes, budget, scale),
+        Order::Trial { .. } => unreachable!(),
+        Order::Yard { seed } => yard_shown(alloc, bytes, seed),
+        Order::Fleet => fleet_shown(alloc, bytes),
+        Order::Replan { budget } => replan_shown(alloc, bytes, budget),
+        Order::Quote { budget } => quote_shown(alloc, bytes, budget),
     }
 }

@@ -47,9 +47,9 @@ pub fn check_shown(alloc: Global, bytes: Vec<u8>) -> Result<Shown, NoMemory>
     }
 }
 
-// The instance and the certificate of an input. Neither its bytes nor its records are kept; the
-// index of names that reading the instance made serves the certificate too.
-fn read_both(alloc: Global, bytes: Vec<u8>) -> Result<CheckInput, NoMemory>
+/// The instance and the certificate of an input. Neither its bytes nor its records are kept; the
+/// index of names that reading the instance made serves the certificate too.
+pub fn read_both(alloc: Global, bytes: Vec<u8>) -> Result<CheckInput, NoMemory>
     requires { length bytes.items ≤ CHECK_LIMIT }
     ensures given { IfOk result (IsCheckInput bytes.items) }
     ensures checkable { IfOk result AreCheckable }

@@ -1,11 +1,14 @@
 //! What a run shows, and the status with which it ends.
 ghost use Rattle.std.specs.Prelude.{◌≡◌};
 ghost use Rattle.fp_app.specs.Texts.{kind_word};
-ghost use Rattle.fp_app.specs.Shown.{status_of, status_code};
+ghost use Rattle.fp_app.specs.Shown.{both_status, search_status, status_of, status_code};
 
+use crate::{Kept, Solved};
 use fp_certificate::Answer;
+use fp_fleet::Fleet;
 use fp_model::{Instance, Plan};
 use fp_prices::{LeafPrice, Table};
+use fp_yard::Event;
 
 /// How a run ended.
 #[derive(Clone, Copy, Debug, PartialEq, Eq)]
@@ -112,6 +115,36 @@ pub enum Shown {
         tables: Vec<Table>,
         value: u128,
     },
+    /// What a search shows of an instance, at the scale of the words: its certificate, which is
+    /// optimal or unfinished, the notes on its rounds and splits, and what it left.
+    Planned {
+        instance: Instance,
+        solved: Solved,
+    },
+    /// What a search shows of an instance that was drawn from a seed. Its certificate was checked.
+    Trial {
+        seed: u32,
+        instance: Instance,
+        solved: Solved,
+    },
+    /// What a search shows among the plans of an instance that keep legs: its certificate, which is
+    /// optimal or unfinished, the notes on its rounds and splits, and what it left.
+    Replanned {
+        instance: Instance,
+        kept: Vec<Kept>,
+        solved: Solved,
+    },
+    /// The first shipment that no legs carry that begin with its kept legs, by its number.
+    Stuck {
+        instance: Instance,
+        shipment: u32,
+    },
+    /// What searches show of an instance without its last shipment and with it.
+    Quoted {
+        instance: Instance,
+        before: Solved,
+        after: Solved,
+    },
     /// The first shipment that can't be carried in time, by its number, and its fastest time in
     /// the input's unit, `None` where it has no route.
     Infeasible {
@@ -129,6 +162,19 @@ pub enum Shown {
     RejectedPart {
         number: u32,
     },
+    /// The plan that a certificate tells, with what happens as draws choose when its terminals run
+    /// it.
+    Yard {
+        instance: Instance,
+        plan: Plan,
+        log: Vec<Event>,
+    },
+    /// The plan that a certificate tells, with the fewest trucks that run it.
+    Fleet {
+        instance: Instance,
+        plan: Plan,
+        fleet: Fleet,
+    },
     /// The words are none of the forms.
     BadWords,
     /// The record with this ordinal, from 1, is the first with a fault, and this is the fault's
@@ -143,6 +189,26 @@ pub enum Shown {
     Nothing,
 }
 
+// The status of a search that ended with this answer.
+fn search_status(answer: &Answer) -> Status
+    ensures { result ≡ search_status answer.now }
+{
+    match answer {
+        Answer::Unfinished { .. } => Status::Unfinished,
+        _ => Status::Done,
+    }
+}
+
+// The status of two searches that ended with these answers: done where both are.
+fn both_status(before: &Answer, after: &Answer) -> Status
+    ensures { result ≡ both_status before.now after.now }
+{
+    match search_status(before) {
+        Status::Done => search_status(after),
+        unfinished => unfinished,
+    }
+}
+
 impl Shown {
     /// The status of a run that showed this to its end.
     pub fn status(&self) -> Status
@@ -151,9 +217,20 @@ impl Shown {
         match self {
             Shown::Direct { .. } => Status::Done,
             Shown::Bound { .. } => Status::Done,
+            Shown::Planned { solved, .. } | Shown::Trial { solved, .. } => search_status(
+                &solved.certificate.answer,
+            ),
+            Shown::Replanned { solved, .. } => search_status(&solved.certificate.answer),
+            Shown::Stuck { .. } => Status::Infeasible,
+            Shown::Quoted { before, after, .. } => both_status(
+                &before.certificate.answer,
+                &after.certificate.answer,
+            ),
             Shown::Infeasible { .. } => Status::Infeasible,
             Shown::Accepted { .. } => Status::Done,
             Shown::RejectedPart { .. } => Status::Rejected,
+            Shown::Yard { .. } => Status::Done,
+            Shown::Fleet { .. } => Status::Done,
             Shown::BadWords => Status::BadWords,
             Shown::BadInput { .. } => Status::BadInput,
             Shown::TooLong => Status::TooLong,

@@ -1,13 +1,23 @@
 //! The text of an answer.
-ghost use Rattle.std.specs.Prelude.{◌≡◌, ◌∷◌, [], codes, decimal, IfOk};
+ghost use Rattle.std.specs.Prelude.{◌≡◌, ◌-◌, ◌∷◌, ◌++◌, [], length, codes, decimal, false, IfOk, OnOk};
 ghost use Rattle.fp_records.specs.Text.{line_of};
-ghost use Rattle.fp_app.specs.Shown.{IsPrintable};
-ghost use Rattle.fp_app.specs.Texts.{IsText, bound_lines, kind_word};
+ghost use Rattle.fp_lines.specs.Ranges.{AnswerExists};
+ghost use Rattle.fp_lines.specs.Rows.{shipment_name};
+ghost use Rattle.fp_acceptance.specs.Accepted.{claim_of};
+ghost use Rattle.fp_acceptance.specs.Plans.{stated_cost};
+ghost use Rattle.fp_app.specs.Quotes.{extra_of};
+ghost use Rattle.fp_app.specs.Shown.{CanBeQuoted, IsBracketed, IsPrintable};
+ghost use Rattle.fp_app.specs.Texts.{IsText, bound_lines, kind_word, quote_lines, stuck_lines, trial_fields, trial_lines};
 
 use crate::certificates::{direct_certificate, infeasible_certificate};
 use crate::{AnswerKind, NoMemory, Shown};
-use fp_certificate::write;
+use fp_certificate::{Answer, write};
+use fp_fleet::write as write_fleet;
+use fp_lines::write_answer;
+use fp_model::{Instance, Name};
 use fp_records::Line;
+use fp_replan::{Bracket, extra_range};
+use fp_sheets::write as write_yard;
 use std::alloc::Global;
 
 // `accepted` and the kind of an answer.
@@ -65,6 +75,107 @@ fn bound_text(alloc: Global, number: u128) -> Result<Vec<u8>, NoMemory>
     Ok(line.into_bytes())
 }
 
+// Adds the line of a trial's numbers.
+fn write_trial(
+    line: &mut Line,
+    seed: u32,
+    terminals: usize,
+    arcs: usize,
+    shipments: usize,
+) -> Result<(), NoMemory>
+    requires begun { line.old.begun ≡ false }
+    ensures text { OnOk result (line.new.text ≡ line.old.text ++ line_of (trial_fields seed terminals arcs shipments)) }
+    ensures ended { OnOk result (line.new.begun ≡ false) }
+{
+    line.word(b"trial")?;
+    line.number(u128::from(seed))?;
+    line.number(terminals as u128)?;
+    line.number(arcs as u128)?;
+    line.number(shipments as u128)?;
+    line.end()?;
+    Ok(())
+}
+
+// The lines of a trial: its numbers, the answer, and `checked`.
+fn trial_text(
+    alloc: Global,
+    seed: u32,
+    instance: &Instance,
+    answer: Answer,
+) -> Result<Vec<u8>, NoMemory>
+    requires { AnswerExists instance.now answer }
+    ensures { IfOk result (λ text. text.items ≡ trial_lines seed instance.now answer) }
+{
+    let terminals = instance.terminals().len();
+    let arcs = instance.arcs().len();
+    let shipments = instance.shipments().len();
+    let mut line = Line::new(alloc)?;
+    write_trial(&mut line, seed, terminals, arcs, shipments)?;
+    write_answer(&mut line, instance, answer)?;
+    line.word(b"checked")?;
+    line.end()?;
+    Ok(line.into_bytes())
+}
+
+// `answer`, `stuck` and the name of a shipment; `end`.
+fn stuck_text(alloc: Global, name: &Name) -> Result<Vec<u8>, NoMemory>
+    ensures { IfOk result (λ text. text.items ≡ stuck_lines name.now) }
+{
+    let mut line = Line::new(alloc)?;
+    line.word(b"answer")?;
+    line.word(b"stuck")?;
+    line.word(name.bytes())?;
+    line.end()?;
+    line.word(b"end")?;
+    line.end()?;
+    Ok(line.into_bytes())
+}
+
+// What a plan costs at least by an answer, and what one costs.
+fn figures(answer: Answer) -> (u128, u128)
+    requires { IsBracketed answer }
+    ensures low { result.0 ≡ claim_of answer }
+    ensures cost { result.1 ≡ stated_cost answer }
+{
+    match answer {
+        Answer::Optimal { cost } => (cost, cost),
+        Answer::Unfinished { cost, bound, .. } => (bound, cost),
+        Answer::Direct { .. } | Answer::Infeasible { .. } => unreachable!(),
+    }
+}
+
+// `quote`, the name of a shipment, and what it adds at least and at most; `end`.
+fn extra_text(alloc: Global, name: &Name, extra: Bracket) -> Result<Vec<u8>, NoMemory>
+    ensures { IfOk result (λ text. text.items ≡ quote_lines name.now extra) }
+{
+    let mut line = Line::new(alloc)?;
+    line.word(b"quote")?;
+    line.word(name.bytes())?;
+    line.number(extra.low)?;
+    line.number(extra.high)?;
+    line.end()?;
+    line.word(b"end")?;
+    line.end()?;
+    Ok(line.into_bytes())
+}
+
+// What the last shipment of an instance adds, by the answers without it and with it.
+fn quote_text(
+    alloc: Global,
+    instance: &Instance,
+    before: Answer,
+    after: Answer,
+) -> Result<Vec<u8>, NoMemory>
+    requires { CanBeQuoted instance.now before after }
+    ensures { IfOk result (λ text. text.items ≡ quote_lines (shipment_name instance.now (length instance.now.shipments - 1)) (extra_of before after)) }
+{
+    let (before_low, before_cost) = figures(before);
+    let (after_low, after_cost) = figures(after);
+    let extra = extra_range(before_low, before_cost, after_low, after_cost);
+    let last = instance.shipments().len() as u32 - 1;
+    extra_text(alloc, &instance.shipment(last).name, extra)
+}
+
 /// The text of what is shown: fields joined by commas, lines ended by line feeds. What is shown as
 /// a certificate is written as one.
 ///
@@ -83,6 +194,30 @@ pub fn text(alloc: Global, shown: &Shown) -> Result<Vec<u8>, NoMemory>
             value,
             ..
         } => bound_text(alloc, value.div_ceil(u128::from(instance.scale()))),
+        Shown::Planned { instance, solved } => write(alloc, instance, &solved.certificate),
+        Shown::Trial {
+            seed,
+            instance,
+            solved,
+        } => trial_text(alloc, *seed, instance, solved.certificate.answer),
+        Shown::Replanned {
+            instance,
+            solved,
+            ..
+        } => write(alloc, instance, &solved.certificate),
+        Shown::Stuck { instance, shipment } => {
+            stuck_text(alloc, &instance.shipment(*shipment).name)
+        }
+        Shown::Quoted {
+            instance,
+            before,
+            after,
+        } => quote_text(
+            alloc,
+            instance,
+            before.certificate.answer,
+            after.certificate.answer,
+        ),
         Shown::Infeasible {
             instance,
             shipment,
@@ -94,6 +229,16 @@ pub fn text(alloc: Global, shown: &Shown) -> Result<Vec<u8>, NoMemory>
         ),
         Shown::Accepted { kind } => accepted_text(alloc, *kind),
         Shown::RejectedPart { number } => rejected_text(alloc, *number),
+        Shown::Yard {
+            instance,
+            plan,
+            log,
+        } => write_yard(alloc, instance, plan, log.as_slice()),
+        Shown::Fleet {
+            instance,
+            plan,
+            fleet,
+        } => write_fleet(alloc, instance, plan, fleet),
         Shown::BadWords => pair_text(alloc, b"refused", b"words"),
         Shown::BadInput { ordinal, code } => fault_text(alloc, *ordinal, *code),
         Shown::TooLong => pair_text(alloc, b"refused", b"long"),

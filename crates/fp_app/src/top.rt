@@ -1,7 +1,7 @@
 //! The top call.
 ghost use Rattle.std.specs.Prelude.{◌≡◌, ◌⊎◌, ◌+◌, ◌<◌, ◌≤◌, ℕ, List, length, None, Some};
 ghost use Rattle.fp_ends.specs.Causes.{Rose};
-ghost use Rattle.fp_app.specs.Causes.{ShowsDone, ShowsFault, ShowsNo, ShowsNone, StatusOf};
+ghost use Rattle.fp_app.specs.Causes.{ShowsDone, ShowsFault, ShowsInfeasible, ShowsOpen, ShowsRejection, StatusOf};
 ghost use Rattle.fp_app.specs.Inputs.{limit_of};
 ghost use Rattle.fp_app.specs.Runs.{Answers, Leaves, Settles, TakesOneMore, TakesWithin, Writes, reach_of};
 ghost use Rattle.fp_words.specs.Words.{order_of, texts};
@@ -62,11 +62,13 @@ pub fn run<S: Source, K: Sink>(alloc: Global, words: &[String], source: &mut S, 
     ensures bad_input { (input : List ℕ) → S.left source.old ≡ Some input → result.status ≡ Status.BadInput
         → ShowsFault (order_of (texts words.now)) input result.shown }
     ensures infeasible { (input : List ℕ) → S.left source.old ≡ Some input → result.status ≡ Status.Infeasible
-        → ShowsNone input result.shown }
+        → ShowsInfeasible (order_of (texts words.now)) input result.shown }
+    ensures unfinished { (input : List ℕ) → S.left source.old ≡ Some input → result.status ≡ Status.Unfinished
+        → ShowsOpen (order_of (texts words.now)) input result.shown }
     ensures done { (input : List ℕ) → S.left source.old ≡ Some input → result.status ≡ Status.Done
         → ShowsDone (order_of (texts words.now)) input result.shown }
     ensures rejected { (input : List ℕ) → S.left source.old ≡ Some input → result.status ≡ Status.Rejected
-        → ShowsNo input result.shown }
+        → ShowsRejection (order_of (texts words.now)) input result.shown }
 
     // With memory and without a fault the status is the one that the words and the input have.
     ensures completes { (input : List ℕ) → S.left source.old ≡ Some input

@@ -1,3 +1,4 @@
+pub mod Budgets
 pub mod Notes
 pub mod Points
 pub mod Clashes

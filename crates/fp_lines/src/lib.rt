@@ -19,6 +19,7 @@ mod truck_lines;
 mod weight_lines;
 mod writing;
 
+pub use answer_lines::write_answer;
 pub use certificates::{Answer, Certificate, Node, Spent};
 pub use writing::write;
 

@@ -1,5 +1,5 @@
 //! Searches from the direct plan, with ample budgets and with none.
-ghost use Rattle.fp_session.specs.Searches.{IsBudget};
+ghost use Rattle.fp_history.specs.Budgets.{IsBudget};
 
 use fp_examples::{LINE, PAIR, TRIO, instance_of};
 use fp_flatnet::{Verdict, Windows, direct, feasible};

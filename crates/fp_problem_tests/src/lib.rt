@@ -7,6 +7,12 @@ mod ends;
 #[cfg(test)]
 mod flatnet;
 #[cfg(test)]
+mod fleet;
+#[cfg(test)]
+mod generator;
+#[cfg(test)]
+mod kept;
+#[cfg(test)]
 mod labels;
 #[cfg(test)]
 mod longestarcs;
@@ -24,3 +30,5 @@ mod timenodes;
 mod timetable;
 #[cfg(test)]
 mod tree;
+#[cfg(test)]
+mod yard;

@@ -1,9 +1,7 @@
 -- What a record without a fault gives is fit to be added.
-use Rattle.std.proofs.Common.{◌≡◌, ℕ, ◌^◌, ◌<◌, ◌≤◌, true, false, ltb, leb, eqb, List, [], length, refl}
-use Rattle.std.specs.Prelude.{Option, Some, None, not, is_none, unwrap_or, ◌&&◌}
-use Rattle.std.specs.Str.{bytes_eq}
-use Rattle.std.proofs.lemmas.Bool.{and_parts, eqb-false, leb-false, leb-true, ltb-false, not-false, or_parts}
-use Rattle.std.proofs.lemmas.List.Quantifiers.{position-Some}
+use Rattle.std.proofs.Common.{◌≡◌, ℕ, ◌^◌, ◌<◌, ◌≤◌, false, ltb, leb, eqb, List, length, refl}
+use Rattle.std.specs.Prelude.{None, not, ◌&&◌}
+use Rattle.std.proofs.lemmas.Bool.{and_parts, eqb-false, leb-false, ltb-false, not-false, or_parts}
 use Rattle.fp_model.specs.Names.{IsName}
 use Rattle.fp_model.specs.Problem.{Problem, IsArc, IsShipment}
 use Rattle.fp_reader.specs.Faults.{arc_faults, has_arc, has_arc_digits, has_arc_names, has_arc_ranges, has_bad_hold, has_same_ends, has_shipment_digits, has_shipment_names, has_shipment_ranges, has_terminal_fields, lacks_end, shipment_faults, terminal_faults}
@@ -11,7 +9,7 @@ use Rattle.fp_fields.specs.Fields.{field, has_name, is_between, number_at}
 use Rattle.fp_fields.specs.Findings.{first_code}
 use Rattle.fp_fields.specs.Indexes.{shipment_names}
 use Rattle.fp_fields.specs.NamedParts.{lacks_terminal, terminal_in}
-use Rattle.fp_fields.specs.Names.{is_taken, number_of}
+use Rattle.fp_fields.specs.Names.{is_taken}
 use Rattle.fp_reader.specs.Parts.{arc_in, hold_in, shipment_in}
 use Rattle.fp_fields.proofs.NameForm.{name-form}
 use Rattle.fp_fields.proofs.NameNumbers.{number_of-lt}

@@ -4,3 +4,6 @@ pub mod Codes
 pub mod Input
 pub mod Drafts
 pub mod Answers
+pub mod Draws
+pub mod Generator
+pub mod ArcDraws

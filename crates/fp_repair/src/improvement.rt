@@ -16,13 +16,37 @@ use std::alloc::Global;
 // too early ends that, since points are added only while the relaxed plan costs less.
 const NEARNESS: u128 = 16;
 
-// So many turns a search makes: on generated instances of fifteen shipments four such searches met
-// the cheapest plan there is, in a tenth of a second.
-const TURNS: u32 = 2_000;
+// At most so many shipments are few.
+const FEW: usize = 100;
 
-// How much dearer than the best the state of each search may get, in parts of 1024. A plan that is
-// near needs a small allowance, and one behind a dearer one a larger.
-const LOOSENESS: [u32; 2] = [10, 20];
+// The searches from a plan: how many turns each makes, and how much dearer than the best the state of
+// each may get, in parts of 1024. A plan that is near needs a small allowance, and one behind a
+// dearer one a larger.
+#[derive(Clone, Copy)]
+struct Searches {
+    turns: u32,
+    looseness: [u32; 2],
+}
+
+// Among few shipments one that moves weighs more, and a turn costs little.
+const AMONG_FEW: Searches = Searches {
+    turns: 4_000,
+    looseness: [30, 60],
+};
+
+const AMONG_MANY: Searches = Searches {
+    turns: 2_000,
+    looseness: [10, 20],
+};
+
+// The searches from a plan of an instance.
+fn searches_for(instance: &Instance) -> Searches {
+    if instance.shipments().len() <= FEW {
+        AMONG_FEW
+    } else {
+        AMONG_MANY
+    }
+}
 
 // The cheapest of a candidate and what searches from a plan find.
 fn cheapest_found(
@@ -40,10 +64,11 @@ fn cheapest_found(
     ensures cheaper { IfOk result (λ c. c.cost ≤ in_hand.cost) }
 {
     let mut best = in_hand;
-    for (number, loose) in LOOSENESS.iter().enumerate() {
+    let Searches { turns, looseness } = searches_for(instance);
+    for (number, loose) in looseness.iter().enumerate() {
         let search = Search {
             seed: seed.wrapping_add(number as u64),
-            turns: TURNS,
+            turns,
             loose: *loose,
         };
         let found = local_search(alloc, instance, windows, start, search)?;

@@ -58,3 +58,36 @@ pub fn with(alloc: Global, text: &str, old: &str, new: &str) -> Result<String, A
         None => String::from_str(alloc, text),
     }
 }
+
+/// The number of the status with which `check` ends on an input that a text follows, and the bytes
+/// that it writes.
+pub fn check_on(alloc: Global, input: &str, text: &[u8]) -> Result<(u8, Vec<u8>), AllocError> {
+    let mut bytes = input.as_bytes().to_vec(alloc)?;
+    bytes.extend_from_slice(text)?;
+    let source = source_of(alloc, &bytes, 4096, &[])?;
+    let sink = sink_of(alloc, 20_000, 7, &[])?;
+    run_over(alloc, "check", source, sink)
+}
+
+/// How many lines of a text begin so.
+pub fn lines_with(text: &[u8], front: &str) -> usize {
+    text.split(|&byte| byte == b'\n')
+        .filter(|line| !line.is_empty() && line.starts_with(front.as_bytes()))
+        .count()
+}
+
+/// How many trucks leave a terminal, by the lines of a text.
+pub fn trucks_from(text: &[u8], terminal: &str) -> u32 {
+    let Ok(text) = str::from_utf8(text) else {
+        return 0;
+    };
+    let mut trucks: u32 = 0;
+    for line in text.lines() {
+        let mut fields = line.split(',');
+        if fields.next() == Some("truck") && fields.next() == Some(terminal) {
+            let count = fields.nth(2).map_or(0, |count| count.parse().unwrap_or(0));
+            trucks = trucks.saturating_add(count);
+        }
+    }
+    trucks
+}

@@ -1,14 +1,12 @@
 -- What a search knows after a step's parts: of an open leaf something is kept, and it is closed,
 -- divided, or left.
-use Rattle.std.proofs.Common.{◌≡◌, ℕ, zero, suc, ◌+◌, ◌<◌, ◌≤◌, Bool, true, false, List, [], ◌∷◌, ◌++◌, length, Result, Ok, Err, refl, sym, ap, ap₂, ◌∙◌, subst, arith}
-use Rattle.std.specs.Prelude.{All, IsSomeAnd, None, OnErr, OnOk, Option, Some, slice_get}
+use Rattle.std.proofs.Common.{◌≡◌, ℕ, zero, suc, ◌+◌, ◌<◌, false, List, [], ◌∷◌, Result, Ok, Err, refl, sym, ap, ◌∙◌, subst, arith}
+use Rattle.std.specs.Prelude.{IsSomeAnd, None, OnErr, OnOk, Option, Some, slice_get}
 use Rattle.std.specs.Int.{div_ceil}
 use Rattle.std.proofs.lemmas.Option.{none-some, same_Some}
-use Rattle.fp_tree.specs.declared.sides.Side.{Side}
-use Rattle.fp_tree.specs.Nodes.{Node, close_leaf, closed_of, divide_leaf, fork_of, leaf_at, open_leaf, put_leaf, split_count, value_of}
+use Rattle.fp_tree.specs.Nodes.{Node, close_leaf, closed_of, divide_leaf, fork_of, leaf_at, open_leaf, put_leaf, split_count}
 use Rattle.fp_tree.specs.Trees.{Leaf, tree_leaves, with_leaf}
 use Rattle.fp_tree.proofs.LeafChange.{leaves_of-with_leaf, with_element}
-use Rattle.fp_tree.proofs.TwoChanges.{with_leaf-put_back}
 use Rattle.fp_prices.specs.Shares.{ClassShare}
 use Rattle.fp_history.specs.declared.endings.Left.{Left}
 use Rattle.fp_history.specs.declared.endings.Left.TheVariants.{Nothing, Several, Timing}
@@ -19,7 +17,7 @@ use Rattle.fp_session.specs.declared.moves.Division.{Division}
 use Rattle.fp_session.specs.declared.payloads.Payload.{Payload}
 use Rattle.fp_session.specs.declared.searches.Search.{Search}
 use Rattle.fp_session.specs.Moves.{AtOpenLeaf, IsDivision, IsLeftAt, IsUnsettled, fork_in, points_now}
-use Rattle.fp_session.specs.Nodes.{IsEarnedAs, IsKept, IsSettled, split_note}
+use Rattle.fp_session.specs.Nodes.{IsEarnedAs, IsKept, IsSettled}
 use Rattle.fp_session.specs.Searches.{IsLeft, IsSearch, history}
 use Rattle.fp_session.proofs.EarnedSplits.{IsEarnedAs-kept, IsEarnedSplit-kept, IsKept-noted}
 use Rattle.fp_session.proofs.SearchChanges.{IsSearch-close, IsSearch-divide, IsSearch-put, IsSearch-stop}

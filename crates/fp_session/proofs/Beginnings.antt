@@ -1,6 +1,6 @@
 -- What a search knows before its first step.
-use Rattle.std.proofs.Common.{◌≡◌, ℕ, zero, suc, ◌+◌, ◌*◌, ◌<◌, ◌≤◌, Bool, true, false, List, [], ◌∷◌, ◌++◌, length, refl, sym, ap, ap₂, ◌∙◌, subst, arith}
-use Rattle.std.specs.Prelude.{All, IfSome, None, Option, Some}
+use Rattle.std.proofs.Common.{◌≡◌, ℕ, ◌+◌, ◌*◌, ◌≤◌, List, [], ◌∷◌, ◌++◌, length, sym, ap, ◌∙◌, subst, arith}
+use Rattle.std.specs.Prelude.{All, IfSome, None, Option}
 use Rattle.std.proofs.lemmas.Bool.{false≢true}
 use Rattle.std.proofs.lemmas.List.Elements.{All-cons, All-nil}
 use Rattle.fp_model.specs.declared.parts.Leg.{Leg}
@@ -10,32 +10,30 @@ use Rattle.fp_timenodes.specs.Points.{TimePoints, added_at, times_at}
 use Rattle.fp_timenodes.specs.declared.places.AddedPoint.{AddedPoint}
 use Rattle.fp_flatnet.specs.Belonging.{BelongsTo}
 use Rattle.fp_flatnet.specs.Initial.{BeginAt, initial_points}
-use Rattle.fp_flatnet.specs.Tables.{WindowTable, windows_in}
+use Rattle.fp_flatnet.specs.Tables.{WindowTable}
 use Rattle.fp_longestarcs.specs.Networks.{TimedNetwork, points_in}
 use Rattle.fp_longestarcs.specs.Whole.{IsNetworkOf}
 use Rattle.fp_tree.specs.Nodes.{Node, closed_of, fork_of, open_leaf, value_of}
-use Rattle.fp_tree.specs.Trees.{Branch, Leaf, HaveTails, tree_branches, tree_leaves}
+use Rattle.fp_tree.specs.Trees.{Leaf, HaveTails, tree_branches, tree_leaves}
 use Rattle.fp_allowed.specs.Allowed.{tails_of}
 use Rattle.fp_allowed.specs.SamePoints.{AgreeOnPoints}
 use Rattle.fp_allowed.specs.Settings.{Setting}
 use Rattle.fp_prices.specs.declared.leaf_prices.Kind.TheVariants.{Linear}
 use Rattle.fp_prices.specs.declared.leaf_prices.LeafPrice.{LeafPrice}
-use Rattle.fp_prices.specs.Leaves.{IsFirstWithout}
 use Rattle.fp_prices.specs.Shares.{ClassShare}
 use Rattle.fp_duals.specs.declared.improvements.Improved.{Improved}
 use Rattle.fp_duals.specs.declared.improvements.Improved.TheVariants as improved
-use Rattle.fp_duals.specs.Improvements.{IsPriced}
 use Rattle.fp_duals.specs.PriceTables.{ArePriceTables}
 use Rattle.fp_history.specs.Notes.{History, Refinement, last_round, points_of}
 use Rattle.fp_history.specs.Points.{BeginWith}
 use Rattle.fp_history.specs.Traces.{IsEarnedTrace}
 use Rattle.fp_history.proofs.HistoryPoints.{AgreeOnPoints-history}
-use Rattle.fp_session.specs.declared.kept.Kept.{Kept}
 use Rattle.fp_session.specs.declared.payloads.Payload.{Payload}
 use Rattle.fp_session.specs.declared.searches.Search.{Search}
 use Rattle.fp_session.specs.Nodes.{IsKept, IsLeafOf, IsSplitOf}
 use Rattle.fp_session.specs.Outcomes.{empty_kept, priced_kept}
-use Rattle.fp_session.specs.Searches.{IsBudget, IsIncumbent, IsLeft, IsSearch, history}
+use Rattle.fp_history.specs.Budgets.{IsBudget}
+use Rattle.fp_session.specs.Searches.{IsIncumbent, IsLeft, IsSearch, history}
 use Rattle.fp_session.specs.Starts.{start_of}
 use Rattle.fp_session.proofs.ImprovedLeaves.{kept-empty, kept-priced}
 use Rattle.fp_session.proofs.Improvements.{ImprovedIn}

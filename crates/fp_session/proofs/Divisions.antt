@@ -1,13 +1,20 @@
 -- A split that was chosen divides a leaf.
-use Rattle.std.proofs.Common.{◌≡◌, ℕ, ◌<◌, ◌≤◌, List, [], ◌∷◌, ◌++◌, length, refl, sym, ap, ◌∙◌, subst, arith}
+use Rattle.std.proofs.Common.{◌≡◌, ℕ, ◌<◌, List, length, refl, sym, subst, arith}
 use Rattle.std.specs.Prelude.{None, Option}
 use Rattle.fp_model.specs.Problem.{Problem}
+use Rattle.fp_relaxmodel.proofs.MetTerminals.{arc-within}
 use Rattle.fp_flatnet.specs.declared.window_tables.Window.{Window}
+use Rattle.fp_flatnet.specs.Tables.{windows_in}
+use Rattle.fp_longestarcs.specs.Networks.{points_in}
 use Rattle.fp_tree.specs.declared.sides.Side.{Side}
 use Rattle.fp_tree.specs.declared.sides.Split.{Split}
 use Rattle.fp_tree.specs.declared.sides.Split.TheVariants.{ByArc, ByTime}
 use Rattle.fp_tree.specs.Sides.{HasTail}
 use Rattle.fp_allowed.specs.Allowed.{tails_of}
+use Rattle.fp_allowed.specs.Bits.{allowed_in}
+use Rattle.fp_allowed.specs.Chains.{SeveralLeave}
+use Rattle.fp_allowed.proofs.ClassTimes.{allowed_exists}
+use Rattle.fp_branching.specs.Candidates.{EndsInSeveral}
 use Rattle.fp_allowed.specs.Departures.{DividesDepartures, IsSplitAt}
 use Rattle.fp_allowed.specs.Slack.{DividesSome}
 use Rattle.fp_lines.specs.Ranges.{IsSplitInRange}
@@ -19,6 +26,7 @@ use Rattle.fp_duals.specs.PriceTables.{ArePriceTables}
 use Rattle.fp_session.specs.declared.searches.Search.{Search}
 use Rattle.fp_session.specs.Outcomes.{HaveGrown}
 use Rattle.fp_session.specs.Searches.{IsSearch}
+use Rattle.fp_session.proofs.Improvements.{setting_of}
 use Rattle.fp_session.proofs.SearchChanges.{IsSearch-with_tables}
 
 module _ (p : Problem) (k terminal : ℕ) where
@@ -45,3 +53,12 @@ IsSearch-grown s before after is going grown =
 -- and the kinds that it had
 pub HasKind-grown : (p : Problem) (before after : List (List ClassShare)) (kind : Kind) → HaveGrown p before after → HasKind before kind → HasKind after kind
 HasKind-grown p before after kind grown has = subst (λ (ts : List (List ClassShare)). HasKind ts kind) (sym grown.is) (HasKind-append before grown.more kind has)
+
+-- a terminal where a forced chain of a leaf ends with several ways to go exists
+pub terminal-exists : (s : Search) (tables : List (List ClassShare)) (sides : List Side) (k terminal : ℕ) → IsSearch s tables → EndsInSeveral (record { setting = setting_of s; sides = sides }) k terminal →
+    terminal < length s.instance.terminals
+terminal-exists s tables sides k terminal is ends =
+    let leave : SeveralLeave s.instance (allowed_in (setting_of s) sides k) terminal = ends.ends.3 in
+    let exists : leave.one.arc < length s.instance.arcs =
+    allowed_exists s.instance (windows_in s.windows) (points_in s.network) sides k leave.one leave.one_allowed in
+    subst (λ (t : ℕ). t < length s.instance.terminals) leave.one_leaves (arc-within s.instance leave.one.arc is.belongs.valid exists).0

@@ -1,12 +1,12 @@
 -- What is kept of a leaf whose price was improved.
-use Rattle.std.proofs.Common.{◌≡◌, ℕ, zero, suc, ◌+◌, ◌*◌, ◌<◌, ◌≤◌, Bool, true, false, List, [], ◌∷◌, ◌++◌, length, refl, sym, ap, ◌∙◌, subst, arith}
-use Rattle.std.specs.Prelude.{MatchBool, Option}
+use Rattle.std.proofs.Common.{◌≡◌, ℕ, ◌*◌, ◌≤◌, Bool, true, false, List, [], refl, sym, subst, arith}
+use Rattle.std.specs.Prelude.{MatchBool, None}
 use Rattle.fp_lists.specs.Numbered.{AllZipFrom}
 use Rattle.fp_lists.proofs.Numbered.{AllZipFrom-weaker}
 use Rattle.fp_model.specs.declared.parts.Leg.{Leg}
 use Rattle.fp_model.specs.declared.parts.Shipment.{Shipment}
 use Rattle.fp_model.specs.Costs.{cost}
-use Rattle.fp_model.specs.Problem.{IsValid, Problem}
+use Rattle.fp_model.specs.Problem.{IsValid}
 use Rattle.fp_flatnet.specs.Tables.{windows_in}
 use Rattle.fp_longestarcs.specs.Networks.{TimedNetwork, points_in}
 use Rattle.fp_tree.specs.declared.sides.Side.{Side}
@@ -19,7 +19,6 @@ use Rattle.fp_prices.specs.declared.leaf_prices.LeafPrice.{LeafPrice}
 use Rattle.fp_prices.specs.Leaves.{IsFirstWithout, IsLeafValue, leaf_price}
 use Rattle.fp_prices.specs.LeastWalks.{IsLeastWalk}
 use Rattle.fp_prices.specs.Shares.{ClassShare}
-use Rattle.fp_prices.specs.Tables.{HasKind}
 use Rattle.fp_prices.proofs.TableAppends.{HasKind-append, IsLeafValue-append}
 use Rattle.fp_duals.specs.Improvements.{IsPriced, IsReachedChain}
 use Rattle.fp_history.specs.Notes.{History, last_round, points_of, with_tables}
@@ -28,7 +27,7 @@ use Rattle.fp_history.proofs.SamePoints.{EachValue_same, IsLeafEmpty_same, IsLea
 use Rattle.fp_history.proofs.Stays.{IsEarnedAt-with_tables}
 use Rattle.fp_session.specs.declared.kept.Kept.{Kept}
 use Rattle.fp_session.specs.declared.payloads.Payload.{Payload}
-use Rattle.fp_session.specs.Nodes.{IsEarnedAs, IsKept, IsPriceOf}
+use Rattle.fp_session.specs.Nodes.{IsEarnedAs, IsKept}
 use Rattle.fp_session.specs.Outcomes.{IsAtLeastStarts, IsFound}
 
 -- what is kept of a leaf stays true with more tables
@@ -49,7 +48,7 @@ module _ (h : History) (net : TimedNetwork) (sides : List Side) (valid : IsValid
   empty_price = record { kind = Linear; round = last_round h; forced = false }
 
   -- an empty leaf is kept as one
-  pub kept-empty : (shipment incumbent value : ℕ) → IsFirstWithout h.problem (windows_in h.windows) (points_in net) sides shipment → IsKept h sides (record { price = empty_price; empty = true; incumbent = incumbent }) value
+  pub kept-empty : (shipment incumbent value : ℕ) → IsFirstWithout h.problem (windows_in h.windows) (points_in net) sides shipment → IsKept h sides (record { price = empty_price; empty = true; incumbent = incumbent; improved = None }) value
   kept-empty shipment incumbent value first = record {
     price = record { round = omega arith; kind = tt };
     worth = record {
@@ -71,7 +70,7 @@ module _ (h : History) (net : TimedNetwork) (sides : List Side) (valid : IsValid
     }
 
     -- the leaf is earned by the price
-    pub kept-priced : (incumbent : ℕ) → IsKept h sides (record { price = price; empty = false; incumbent = incumbent }) value
+    pub kept-priced : (incumbent : ℕ) → IsKept h sides (record { price = price; empty = false; incumbent = incumbent; improved = None }) value
     kept-priced incumbent = record {
       price = record { round = omega (arith, is.of_round); kind = is.kind };
       worth = record {

@@ -1,11 +1,11 @@
 -- What comes of improving an open leaf.
-use Rattle.std.proofs.Common.{◌≡◌, ℕ, zero, suc, ◌+◌, ◌<◌, ◌≤◌, ◌⊎◌, ⊎_elim, Bool, true, false, List, [], ◌∷◌, ◌++◌, refl, sym, ap, ◌∙◌, subst, arith, append-nil, append_assoc}
+use Rattle.std.proofs.Common.{◌≡◌, ℕ, ◌<◌, ◌≤◌, ⊎_elim, false, List, [], ◌∷◌, ◌++◌, refl, sym, ap, ◌∙◌, subst, arith, append-nil, append_assoc}
 use Rattle.std.specs.declared.alloc.Global.{Global}
 use Rattle.std.specs.declared.vec.Vec.{Vec}
 use Rattle.fp_model.specs.declared.parts.Leg.{Leg}
 use Rattle.fp_model.specs.Problem.{Problem}
-use Rattle.fp_flatnet.specs.Tables.{WindowTable, windows_in}
-use Rattle.fp_longestarcs.specs.Networks.{TimedNetwork, points_in}
+use Rattle.fp_flatnet.specs.Tables.{windows_in}
+use Rattle.fp_longestarcs.specs.Networks.{points_in}
 use Rattle.fp_tree.specs.declared.sides.Side.{Side}
 use Rattle.fp_allowed.specs.Settings.{Setting}
 use Rattle.fp_prices.specs.declared.leaf_prices.Kind.{Kind}
@@ -16,11 +16,13 @@ use Rattle.fp_duals.specs.declared.improvements.Improved.{Improved}
 use Rattle.fp_duals.specs.declared.improvements.Improved.TheVariants as improved
 use Rattle.fp_duals.specs.Improvements.{AddsTable, IsImproved, IsPriced}
 use Rattle.fp_duals.specs.PriceTables.{ArePriceTables}
-use Rattle.fp_history.specs.Notes.{last_round}
+use Rattle.fp_history.specs.Notes.{History, last_round}
 use Rattle.fp_session.specs.declared.kept.Kept.{Kept}
+use Rattle.fp_session.specs.declared.outcomes.Outcome.{Outcome}
+use Rattle.fp_session.specs.declared.outcomes.Outcome.TheVariants as outcome
 use Rattle.fp_session.specs.declared.searches.Search.{Search}
 use Rattle.fp_session.specs.Nodes.{IsKept}
-use Rattle.fp_session.specs.Outcomes.{HaveGrown, IsFound, IsGreater, empty_kept, priced_kept}
+use Rattle.fp_session.specs.Outcomes.{HaveGrown, IsFound, IsGreater, IsOutcome, empty_kept, noted_kept, noted_outcome, priced_kept}
 use Rattle.fp_session.specs.Searches.{IsSearch, history}
 use Rattle.fp_session.proofs.ImprovedLeaves.{IsKept-with_tables, found-priced, kept-empty, kept-priced}
 use Rattle.fp_session.proofs.NextRounds.{agree-now}
@@ -42,6 +44,21 @@ pub IsKept-grown : (s : Search) (before after : List (List ClassShare)) (sides :
     IsKept (history s after) sides kept.payload kept.value
 IsKept-grown s before after sides kept grown is =
     subst (λ (ts : List (List ClassShare)). IsKept (history s ts) sides kept.payload kept.value) (sym grown.is) (IsKept-with_tables (history s before) grown.more sides kept.payload kept.value is)
+
+-- what is found of a leaf doesn't speak of the round as of which a step improved it
+pub IsFound-noted : (h : History) (sides : List Side) (kept : Kept) (walks : List (List Leg)) (round : ℕ) → IsFound h sides kept walks → IsFound h sides (noted_kept round kept) walks
+IsFound-noted h sides kept walks round found = record {
+  kept = record { price = found.kept.price; worth = found.kept.worth };
+  some = found.some;
+  starts = found.starts;
+  walks = found.walks;
+  reached = found.reached;
+}
+
+-- nor does what came of improving it
+pub IsOutcome-noted : (h : History) (sides : List Side) (old : Kept) (o : Outcome) (round : ℕ) → IsOutcome h sides old o → IsOutcome h sides old (noted_outcome round o)
+IsOutcome-noted h sides old (outcome.Empty kept) round came = came
+IsOutcome-noted h sides old (outcome.Open kept walks) round came = (IsFound-noted h sides kept walks.items round came.0, came.1)
 
 -- the setting of a leaf of a search
 abbrev pub setting_of : Search → Setting

@@ -1,12 +1,12 @@
 -- What the leaves of a search are worth, and the bound of an answer that is unfinished.
-use Rattle.std.proofs.Common.{◌≡◌, ℕ, ◌+◌, ◌<◌, ◌≤◌, Bool, true, false, List, [], ◌∷◌, ◌++◌, ◌⊎◌, inl, inr, length, ⊎_elim, refl, sym, ap, ◌∙◌, subst, arith}
-use Rattle.std.specs.Prelude.{All, IsSomeAnd, MatchBool, Option, Some, None, slice_get}
+use Rattle.std.proofs.Common.{◌≡◌, ℕ, ◌<◌, ◌≤◌, Bool, true, false, List, ◌⊎◌, inl, inr, ⊎_elim, refl, sym, ap, ◌∙◌, subst, arith}
+use Rattle.std.specs.Prelude.{All, IsSomeAnd, MatchBool, Option, Some}
 use Rattle.std.specs.Int.{div_ceil}
 use Rattle.std.proofs.lemmas.Bool.{false≢true}
 use Rattle.std.proofs.lemmas.Option.{slice_get_within}
 use Rattle.fp_flatnet.specs.Tables.{windows_in}
 use Rattle.fp_tree.specs.declared.sides.Side.{Side}
-use Rattle.fp_tree.specs.Nodes.{Node, closed_of, fork_of as fork_at, leaf_at, leaf_count, value_of}
+use Rattle.fp_tree.specs.Nodes.{Node, fork_of as fork_at, leaf_at, leaf_count, value_of}
 use Rattle.fp_tree.specs.Trees.{HaveTails, IsTree, Leaf, tree_leaves}
 use Rattle.fp_allowed.specs.Allowed.{tails_of}
 use Rattle.fp_prices.specs.declared.leaf_prices.LeafPrice.{LeafPrice}
@@ -14,15 +14,14 @@ use Rattle.fp_prices.specs.Leaves.{IsLeafEmpty, IsLeafValue}
 use Rattle.fp_prices.proofs.OneValue.{leaf-value-some, leaf-value-unique}
 use Rattle.fp_lines.specs.declared.certificates.Node.{Node as Line}
 use Rattle.fp_acceptance.specs.Leaves.{fork_of}
-use Rattle.fp_history.specs.Notes.{History, last_round, points_of}
+use Rattle.fp_history.specs.Notes.{History, points_of}
 use Rattle.fp_history.specs.PrintedLeaves.{IsEmptyAt, IsLeastWorth, IsOpenBelow, IsPrintedLeaf, IsWorth, OfLeaf}
 use Rattle.fp_history.specs.Solutions.{AtLeaf}
 use Rattle.fp_history.specs.Splits.{IsEarnedAt, IsValueAt}
 use Rattle.fp_session.specs.declared.payloads.Payload.{Payload}
 use Rattle.fp_session.specs.Nodes.{IsEarnedAs, IsKept, IsLeafOf, IsSettled}
-use Rattle.fp_session.specs.Searches.{IsLeftOpen}
 use Rattle.fp_session.specs.TreeLines.{IsLeastBelow, lines_of, worth_of}
-use Rattle.fp_session.proofs.PrintedTree.{leaf-line, leaf-printed, leaf_line, leaves-printed}
+use Rattle.fp_session.proofs.PrintedTree.{leaf-line, leaf-printed, leaves-printed}
 use Rattle.fp_session.proofs.TreeLines.{some_and}
 use Rattle.fp_session.proofs.TreeRanges.{all-at}
 

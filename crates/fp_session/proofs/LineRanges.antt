@@ -1,25 +1,23 @@
 -- The numbers of the lines of a plan are in range.
-use Rattle.std.proofs.Common.{◌≡◌, ℕ, zero, suc, ◌+◌, ◌*◌, ◌<◌, ◌≤◌, Bool, true, false, List, [], ◌∷◌, ◌++◌, length, get_or, map, ⊎_elim, refl, sym, ap, ◌∙◌, subst, arith}
-use Rattle.std.specs.Prelude.{All, if◌then◌else◌}
+use Rattle.std.proofs.Common.{◌≡◌, ℕ, zero, suc, ◌+◌, ◌*◌, ◌<◌, ◌≤◌, true, false, List, [], ◌∷◌, length, get_or, map, ⊎_elim, sym, ◌∙◌, arith}
+use Rattle.std.specs.Prelude.{All}
 use Rattle.std.specs.List.{AllByRecursion, AllZip}
 use Rattle.std.specs.Int.{div_ceil}
 use Rattle.std.proofs.Math.Nat.{mul-le-mul_left}
 use Rattle.std.proofs.lemmas.Bool.{cases_Bool, cond-false, cond-true, or_left, or_right}
 use Rattle.std.proofs.lemmas.List.Elements.{All-get_or, All-head, All-tail}
-use Rattle.std.proofs.lemmas.Slice.Zip.{AllZip-long}
 use Rattle.fp_lists.proofs.Ceilings.{div_ceil-least}
 use Rattle.fp_lists.proofs.Elements.{AllByRecursion-append, AllByRecursion-weaker}
-use Rattle.fp_lists.proofs.Numbered.{AllZip-get_or}
 use Rattle.fp_model.specs.declared.limits.TheConstants.{GREATEST_AMOUNT, LATEST}
 use Rattle.fp_model.specs.declared.parts.Leg.{Leg}
 use Rattle.fp_model.specs.declared.parts.Shipment.{Shipment}
 use Rattle.fp_model.specs.Costs.{all_legs, has_leg, load, same_leg}
-use Rattle.fp_model.specs.Numbered.{no_shipment, route_at, shipment_at}
+use Rattle.fp_model.specs.Numbered.{route_at}
 use Rattle.fp_model.specs.Plans.{IsPlan}
 use Rattle.fp_model.specs.Problem.{IsArc, IsShipment, IsValid, Problem, arc_at, no_arc}
 use Rattle.fp_model.specs.Routes.{ArrivesBy, Carries, LeavesReady, step}
 use Rattle.fp_model.proofs.Distinct.{same_leg-refl}
-use Rattle.fp_lines.specs.Ranges.{IsLegInRange, IsTruckInRange, largest_figure}
+use Rattle.fp_lines.specs.Ranges.{IsLegInRange, IsTruckInRange}
 use Rattle.fp_timetable.specs.declared.lines.LegLine.{LegLine}
 use Rattle.fp_timetable.specs.declared.lines.TruckLine.{TruckLine}
 use Rattle.fp_timetable.specs.Lines.{AreLegLines, AreTruckLines, IsLegLine, LegExists, TruckExists, departure, line_leg}

@@ -1,16 +1,13 @@
 -- One more round is earned by a relaxed plan that calls for it.
-use Rattle.std.proofs.Common.{◌≡◌, ◌≢◌, ℕ, zero, suc, ◌+◌, ◌<◌, ◌≤◌, Bool, true, false, List, [], ◌∷◌, ◌++◌, length, get_or, refl, sym, ap, ◌∙◌, subst, arith}
-use Rattle.std.specs.Prelude.{All, Contains}
+use Rattle.std.proofs.Common.{◌≡◌, ℕ, ◌+◌, ◌≤◌, false, List, length, sym, ap, ◌∙◌, subst, arith}
+use Rattle.std.specs.Prelude.{All}
 use Rattle.std.proofs.lemmas.Bool.{or_left}
 use Rattle.std.proofs.lemmas.List.Elements.{All-contains, All-weaker}
 use Rattle.fp_lists.specs.Membership.{list_has}
 use Rattle.fp_lists.proofs.Membership.{list_has-append}
-use Rattle.fp_model.specs.declared.limits.TheConstants as limit
 use Rattle.fp_model.specs.declared.parts.Leg.{Leg}
-use Rattle.fp_model.specs.declared.parts.Member.{Member}
-use Rattle.fp_model.specs.Members.{named_from}
 use Rattle.fp_timenodes.specs.declared.places.Place.{Place}
-use Rattle.fp_timenodes.specs.Points.{added_at, greatest_round, points_at}
+use Rattle.fp_timenodes.specs.Points.{added_at, greatest_round}
 use Rattle.fp_timenodes.proofs.Rounds.{points_at_from_greatest}
 use Rattle.fp_flatnet.specs.Initial.{initial_points}
 use Rattle.fp_flatnet.specs.Tables.{windows_in}
@@ -21,8 +18,7 @@ use Rattle.fp_allowed.specs.InitialPoints.{HasInitialPoints}
 use Rattle.fp_allowed.specs.SamePoints.{AgreeOnPoints}
 use Rattle.fp_allowed.proofs.InitialPoints.{HasInitialPoints_same}
 use Rattle.fp_allowed.proofs.SamePoints.{AgreeOnPoints_sym}
-use Rattle.fp_relaxmodel.specs.Groups.{AreGroups}
-use Rattle.fp_relaxmodel.specs.Relaxed.{HasRoutes, IsRelaxedPlan}
+use Rattle.fp_relaxmodel.specs.Relaxed.{IsRelaxedPlan}
 use Rattle.fp_relaxmodel.proofs.PlansCoarsen.{HasRoutes-relaxed}
 use Rattle.fp_relaxmodel.proofs.RelaxedWalks.{IsRelaxedPlan_same}
 use Rattle.fp_prices.specs.Shares.{ClassShare}

@@ -1,5 +1,5 @@
 -- What a step may do at an open leaf.
-use Rattle.std.proofs.Common.{◌≡◌, ℕ, zero, suc, ◌+◌, ◌<◌, ◌≤◌, inl, inr, Bool, true, false, List, [], ◌∷◌, length, get_or, refl, sym, ap, ap₂, ◌∙◌, subst, arith}
+use Rattle.std.proofs.Common.{◌≡◌, ℕ, ◌+◌, ◌<◌, ◌≤◌, inl, inr, Bool, true, false, List, [], ◌∷◌, length, refl, sym, ap, ◌∙◌, subst, arith}
 use Rattle.std.specs.Prelude.{All, IsSomeAnd, None, Option, Some}
 use Rattle.std.specs.Int.{div_ceil}
 use Rattle.std.proofs.lemmas.Bool.{false≢true}
@@ -31,7 +31,6 @@ use Rattle.fp_relaxmodel.specs.Terminals.{terminals_on}
 use Rattle.fp_relaxmodel.proofs.RelaxedWalks.{IsRelaxedPlan-timed}
 use Rattle.fp_prices.specs.Rounds.{LeafModel, RoundModel}
 use Rattle.fp_prices.specs.Shares.{ClassShare}
-use Rattle.fp_history.specs.Notes.{last_round, points_of}
 use Rattle.fp_history.specs.Solutions.{AreWalksUnder, HasSeveral}
 use Rattle.fp_session.specs.declared.dividing.Several.{Several}
 use Rattle.fp_session.specs.declared.kept.Kept.{Kept}

@@ -1,5 +1,5 @@
 -- The network of a search has few points.
-use Rattle.std.proofs.Common.{ℕ, ◌+◌, ◌≤◌, List, length, arith}
+use Rattle.std.proofs.Common.{◌≤◌, List, arith}
 use Rattle.fp_timenodes.specs.declared.places.TheConstants.{MOST_POINTS}
 use Rattle.fp_longestarcs.specs.Networks.{point_count}
 use Rattle.fp_longestarcs.proofs.PointCounts.{count-made}

@@ -1,11 +1,11 @@
 -- The points that rounds added are in range.
-use Rattle.std.proofs.Common.{◌≡◌, ℕ, ◌+◌, ◌<◌, ◌≤◌, List, [], ◌∷◌, ◌++◌, length, get_or, map, arith}
-use Rattle.std.specs.Prelude.{All, max}
+use Rattle.std.proofs.Common.{◌≡◌, ℕ, ◌+◌, ◌<◌, ◌≤◌, List, [], ◌∷◌, length, arith}
+use Rattle.std.specs.Prelude.{All}
 use Rattle.std.proofs.lemmas.List.Elements.{All-append, All-head, All-map, All-nil, All-tail, All-weaker}
 use Rattle.fp_lists.specs.Numbered.{AllFrom}
 use Rattle.fp_model.specs.declared.limits.TheConstants.{LAST_ROUND, LATEST}
 use Rattle.fp_model.specs.declared.parts.Shipment.{Shipment}
-use Rattle.fp_model.specs.Problem.{IsShipment, IsValid, Problem, horizon}
+use Rattle.fp_model.specs.Problem.{IsShipment, horizon}
 use Rattle.fp_timenodes.specs.declared.places.AddedPoint.{AddedPoint}
 use Rattle.fp_timenodes.specs.declared.places.Place.{Place}
 use Rattle.fp_flatnet.specs.Belonging.{BelongsTo}

@@ -1,20 +1,19 @@
 -- The leaves and the splits of a tree as its lines show them.
-use Rattle.std.proofs.Common.{◌≡◌, ℕ, zero, suc, ◌+◌, ◌<◌, ◌≤◌, List, [], ◌∷◌, ◌++◌, ◌⊎◌, inl, inr, length, get_or, map, refl, sym, ap, ◌∙◌, subst, arith}
-use Rattle.std.specs.Prelude.{All, IfSome, IsSomeAnd, Option, Some, None, is_some, option_map, slice_get}
+use Rattle.std.proofs.Common.{◌≡◌, ℕ, zero, suc, List, [], ◌∷◌, inl, inr, length, map, refl, sym, ap, ◌∙◌, subst}
+use Rattle.std.specs.Prelude.{All, IfSome, Option, Some, None, is_some, option_map, slice_get}
 use Rattle.std.specs.List.{AllByRecursion, AllZip}
 use Rattle.std.proofs.lemmas.List.{length-map}
 use Rattle.std.proofs.lemmas.List.Elements.{All-filter, All-from_recursion, All-head, All-tail, recursion_from_All}
 use Rattle.std.proofs.lemmas.Option.{none-some, slice_get-map}
 use Rattle.fp_lists.specs.Elements.{AnyByRecursion}
 use Rattle.fp_lists.proofs.Elements.{AllByRecursion-always, AllByRecursion-both, AllByRecursion-from_map, AllByRecursion-map, AllByRecursion-weaker}
-use Rattle.fp_model.specs.Problem.{Problem, arc_at}
+use Rattle.fp_model.specs.Problem.{Problem}
 use Rattle.fp_flatnet.specs.declared.window_tables.Window.{Window}
-use Rattle.fp_tree.specs.declared.layout.TheConstants.{MOST_SPLITS}
 use Rattle.fp_tree.specs.declared.sides.Side.{Side}
 use Rattle.fp_tree.specs.declared.sides.Split.{Split}
 use Rattle.fp_tree.specs.declared.sides.Split.TheVariants.{ByArc, ByTime}
 use Rattle.fp_tree.specs.Nodes.{Divided, Node, Role, Undivided, fork_of as fork_at, leaf_at, split_count}
-use Rattle.fp_tree.specs.Sides.{Fork, HasTail, IsTailOfSplit, first, second}
+use Rattle.fp_tree.specs.Sides.{Fork, IsTailOfSplit}
 use Rattle.fp_tree.specs.Trees.{Branch, HaveTails, IsTree, Leaf, SplitAlike, tree_branches, tree_leaves, tree_splits}
 use Rattle.fp_tree.proofs.Branches.{fork_of-leaf, length-branches_of, map-branches_of}
 use Rattle.fp_tree.proofs.NodeMaps.{AreAlike, AreAlike_tails, AreTrees-map, branches_of-map, leaves_of-map, tree_splits-map}

@@ -1,16 +1,15 @@
 -- A round's places become points one by one, of the network too.
-use Rattle.std.proofs.Common.{◌≡◌, ◌≢◌, ℕ, zero, suc, ◌+◌, ◌<◌, ◌≤◌, Bool, true, false, ◌||◌, ◌&&◌, List, [], ◌∷◌, ◌++◌, length, get_or, map, take, ⊎_elim, refl, sym, ap, ap₂, ◌∙◌, subst, arith, append_assoc, append-nil, eqb-true, eq-eqb}
-use Rattle.std.specs.Prelude.{All, ◌==◌, nat_le}
-use Rattle.std.proofs.Math.Bool.{or-false}
-use Rattle.std.proofs.lemmas.Bool.{and_parts, cases_Bool, false≢true, false_from_ne_true, le-leb, or_cases}
+use Rattle.std.proofs.Common.{◌≡◌, ◌≢◌, ℕ, ◌+◌, ◌<◌, ◌≤◌, Bool, false, ◌||◌, ◌&&◌, List, [], ◌∷◌, ◌++◌, length, get_or, take, refl, sym, ap, ap₂, ◌∙◌, subst, arith, append_assoc, eqb-true}
+use Rattle.std.specs.Prelude.{◌==◌, nat_le}
+use Rattle.std.proofs.lemmas.Bool.{and_parts, false_from_ne_true}
 use Rattle.std.proofs.lemmas.List.{get_or_default, map-append, take_more}
 use Rattle.fp_lists.specs.Distinct.{AreDistinct}
 use Rattle.fp_lists.specs.Membership.{list_has}
-use Rattle.fp_model.specs.Problem.{IsValid, Problem}
+use Rattle.fp_model.specs.Problem.{Problem}
 use Rattle.fp_timenodes.specs.declared.places.AddedPoint.{AddedPoint}
 use Rattle.fp_timenodes.specs.declared.places.Place.{Place}
-use Rattle.fp_timenodes.specs.Points.{TimePoints, greatest_round, points_at, with_added}
-use Rattle.fp_timenodes.proofs.Rounds.{greatest_round_push, list_has-with_added}
+use Rattle.fp_timenodes.specs.Points.{TimePoints, greatest_round, with_added}
+use Rattle.fp_timenodes.proofs.Rounds.{list_has-with_added}
 use Rattle.fp_longestarcs.specs.Changes.{refined, restored}
 use Rattle.fp_longestarcs.specs.Networks.{TimedNetwork, points_in}
 use Rattle.fp_longestarcs.specs.Whole.{IsNetworkOf}

@@ -1,5 +1,5 @@
 -- What a search knows stays true with each of its changes.
-use Rattle.std.proofs.Common.{◌≡◌, ℕ, zero, suc, ◌+◌, ◌<◌, ◌≤◌, ◌⊎◌, ⊎_elim, inl, inr, Bool, true, false, List, [], ◌∷◌, ◌++◌, length, refl, sym, ap, ◌∙◌, subst, arith}
+use Rattle.std.proofs.Common.{◌≡◌, ℕ, ◌+◌, ◌<◌, ◌≤◌, ⊎_elim, inl, inr, Bool, true, false, List, [], ◌∷◌, ◌++◌, length, sym, ap, ◌∙◌, subst, arith}
 use Rattle.std.specs.Prelude.{All, IfSome, MatchBool, None, Option, Some}
 use Rattle.std.specs.Int.{div_ceil}
 use Rattle.std.specs.declared.alloc.Global.{Global}
@@ -14,9 +14,7 @@ use Rattle.fp_timenodes.specs.Floor.{HaveSamePoints}
 use Rattle.fp_timenodes.specs.Points.{TimePoints, times_at}
 use Rattle.fp_flatnet.specs.Initial.{initial_points}
 use Rattle.fp_longestarcs.specs.Whole.{IsNetworkOf}
-use Rattle.fp_tree.specs.declared.sides.Side.{Side}
 use Rattle.fp_tree.specs.Nodes.{Node, close_leaf, closed_of, divide_leaf, fork_of, leaf_at, open_leaf, put_leaf, split_count, value_of}
-use Rattle.fp_tree.specs.Sides.{Fork}
 use Rattle.fp_tree.specs.Trees.{Branch, Leaf, tree_branches, tree_leaves, with_leaf}
 use Rattle.fp_allowed.specs.Allowed.{tails_of}
 use Rattle.fp_prices.specs.Shares.{ClassShare}
@@ -29,7 +27,6 @@ use Rattle.fp_history.specs.Splits.{IsEarnedSplit}
 use Rattle.fp_history.specs.Traces.{IsEarnedTrace}
 use Rattle.fp_history.proofs.PointsKept.{added_of_push}
 use Rattle.fp_history.proofs.Stays.{IsEarnedAt-with_note, IsEarnedSplit-cheaper, IsEarnedSplit-with_note, IsEarnedSplit-with_tables, IsEarnedTrace-cheaper, IsEarnedTrace-with_note, IsEarnedTrace-with_tables, IsEmptyAt-with_note}
-use Rattle.fp_session.specs.declared.kept.Kept.{Kept}
 use Rattle.fp_session.specs.declared.moves.Cheaper.{Cheaper}
 use Rattle.fp_session.specs.declared.moves.Division.{Division}
 use Rattle.fp_session.specs.declared.moves.Refined.{Refined}

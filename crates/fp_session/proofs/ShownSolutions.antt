@@ -1,6 +1,6 @@
 -- All that is shown of a search that has ended.
-use Rattle.std.proofs.Common.{◌≡◌, ℕ, ◌+◌, ◌<◌, ◌≤◌, Bool, true, false, cond, List, [], ◌∷◌, ◌++◌, length, refl, sym, ap, ◌∙◌, subst, arith}
-use Rattle.std.specs.Prelude.{◌==◌, All, IfSome, IsSomeAnd, Option, Some, None}
+use Rattle.std.proofs.Common.{◌≡◌, ℕ, ◌<◌, ◌≤◌, Bool, true, false, cond, List, refl, sym, ap, ◌∙◌, subst, arith}
+use Rattle.std.specs.Prelude.{◌==◌, All, IfSome, Option, Some, None}
 use Rattle.std.proofs.lemmas.List.Elements.{All-weaker}
 use Rattle.fp_model.specs.declared.limits.TheConstants.{LAST_ROUND, SCALE}
 use Rattle.fp_model.specs.declared.parts.Leg.{Leg}
@@ -10,7 +10,6 @@ use Rattle.fp_model.specs.Problem.{IsValid, Problem}
 use Rattle.fp_flatnet.specs.Tables.{windows_in}
 use Rattle.fp_flatnet.specs.Windows.{PlanLiesWithin}
 use Rattle.fp_timenodes.specs.declared.places.AddedPoint.{AddedPoint}
-use Rattle.fp_tree.specs.declared.sides.Side.{Side}
 use Rattle.fp_tree.specs.Nodes.{Node, fork_of as fork_at, leaf_at, value_of}
 use Rattle.fp_tree.specs.Sides.{Fork}
 use Rattle.fp_tree.specs.Trees.{Branch, IsTree, Leaf, tree_branches, tree_leaves}
@@ -25,9 +24,9 @@ use Rattle.fp_lines.specs.declared.certificates.Node.{Node as Line}
 use Rattle.fp_lines.specs.declared.certificates.Spent.TheVariants.{Branches, Rounds}
 use Rattle.fp_lines.specs.Ranges.{IsAnswerInRange, IsInRange, IsLeafInRange, IsScaleInRange, IsSplitInRange, largest_figure}
 use Rattle.fp_lines.specs.Statements.{Statement}
-use Rattle.fp_acceptance.specs.Accepted.{Applies, Holds, IsAccepted, Part, claim_of}
-use Rattle.fp_acceptance.specs.Leaves.{AreLeavesWorth, IsLeafWorth, fork_of}
-use Rattle.fp_acceptance.specs.Plans.{routes_of, stated_cost}
+use Rattle.fp_acceptance.specs.Accepted.{Applies, Holds, Part, claim_of}
+use Rattle.fp_acceptance.specs.Leaves.{AreLeavesWorth, IsLeafWorth}
+use Rattle.fp_acceptance.specs.Plans.{stated_cost}
 use Rattle.fp_duals.specs.PriceLines.{AreWithinLimits}
 use Rattle.fp_history.specs.declared.endings.Left.{Left}
 use Rattle.fp_history.specs.declared.endings.Left.TheVariants.{Nothing, Several, Timing}

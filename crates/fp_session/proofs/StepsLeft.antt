@@ -9,7 +9,7 @@ use Rattle.fp_history.specs.Notes.{Refinement}
 use Rattle.fp_session.specs.declared.steps.Step.{Step}
 use Rattle.fp_session.specs.declared.steps.Step.TheVariants as step
 use Rattle.fp_session.specs.Searches.{InHand}
-use Rattle.fp_session.specs.StepCauses.{ending_of, open_count}
+use Rattle.fp_session.specs.StepCauses.{ending_of}
 use Rattle.fp_session.specs.Steps.{IsStep, StayFixed, last_step, steps_left}
 
 -- no step is left of a search that has ended

@@ -1,13 +1,11 @@
 -- What a step did, from what its parts did.
-use Rattle.std.proofs.Common.{◌≡◌, ℕ, ◌+◌, ◌<◌, Bool, true, false, List, [], ◌∷◌, ◌++◌, refl, sym, ap, ◌∙◌, subst, arith}
-use Rattle.std.specs.Prelude.{IfSome, IsSomeAnd, None, Option, Some}
-use Rattle.std.specs.Int.{div_ceil}
+use Rattle.std.proofs.Common.{◌≡◌, ℕ, ◌+◌, ◌<◌, false, List, refl, sym, ap, ◌∙◌, subst}
+use Rattle.std.specs.Prelude.{IsSomeAnd, None, Option, Some}
 use Rattle.fp_tree.specs.declared.sides.Side.{Side}
-use Rattle.fp_tree.specs.Nodes.{Node, Undivided, closed_of, leaf_at, split_count, value_of}
+use Rattle.fp_tree.specs.Nodes.{Node, closed_of, leaf_at, split_count}
 use Rattle.fp_tree.specs.Trees.{Leaf}
 use Rattle.fp_prices.specs.Shares.{ClassShare}
 use Rattle.fp_history.specs.declared.endings.Left.{Left}
-use Rattle.fp_history.specs.declared.endings.Left.TheVariants.{Nothing, Several, Timing}
 use Rattle.fp_history.specs.Notes.{History, Refinement, last_round, with_note}
 use Rattle.fp_session.specs.declared.kept.Kept.{Kept}
 use Rattle.fp_session.specs.declared.moves.Cheaper.{Cheaper}
@@ -19,7 +17,7 @@ use Rattle.fp_session.specs.declared.payloads.Payload.{Payload}
 use Rattle.fp_session.specs.declared.searches.Search.{Search}
 use Rattle.fp_session.specs.Moves.{AtOpenLeaf, IsCheaper, IsDivision, IsLeftAt, IsMove, IsMoveAt, IsNextRound, IsUnsettled}
 use Rattle.fp_session.specs.Nodes.{IsKept, IsLeafOf, IsSettled}
-use Rattle.fp_session.specs.Searches.{InHand, IsSearch, history, in_hand}
+use Rattle.fp_session.specs.Searches.{InHand, history, in_hand}
 use Rattle.fp_session.specs.StepCauses.{open_count, with_incumbent, with_round, with_tree}
 use Rattle.fp_session.specs.Steps.{HasRefined, IsCheaperNow, StayFixed}
 use Rattle.fp_session.proofs.Applied.{some-value}

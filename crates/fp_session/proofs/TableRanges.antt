@@ -1,8 +1,8 @@
 -- Tables of prices of a run are in range and countable.
-use Rattle.std.proofs.Common.{◌≡◌, ℕ, ◌+◌, ◌*◌, ◌^◌, ◌<◌, ◌≤◌, List, [], ◌∷◌, length, get_or, refl, sym, ap, arith}
+use Rattle.std.proofs.Common.{ℕ, ◌+◌, ◌*◌, ◌≤◌, List, [], ◌∷◌, length, get_or, arith}
 use Rattle.std.specs.Prelude.{All, sum_by}
 use Rattle.std.specs.List.{AllByRecursion}
-use Rattle.std.proofs.Math.Nat.{mul-le-mul_left, mul-le-mul}
+use Rattle.std.proofs.Math.Nat.{mul-le-mul_left}
 use Rattle.std.proofs.lemmas.List.Elements.{All-from_recursion, All-get_or, All-head, All-tail}
 use Rattle.std.proofs.lemmas.List.Sums.{sum_by-cons}
 use Rattle.fp_lists.proofs.Elements.{AllByRecursion-weaker}
@@ -12,7 +12,7 @@ use Rattle.fp_prices.specs.declared.tables.Weight.{Weight}
 use Rattle.fp_prices.specs.Prices.{KeepsRule}
 use Rattle.fp_prices.specs.Shares.{ClassShare}
 use Rattle.fp_prices.specs.Tables.{AreCountable}
-use Rattle.fp_lines.specs.Ranges.{IsShareInRange, IsWeightInRange, largest_figure}
+use Rattle.fp_lines.specs.Ranges.{IsShareInRange}
 use Rattle.fp_duals.specs.PriceLines.{AreWithinLimits, IsShortTable, line_count, line_total}
 use Rattle.fp_duals.specs.PriceTables.{ArePriceTables, IsShareOf}
 

@@ -1,18 +1,17 @@
 -- The lines of a search's tree are in range.
-use Rattle.std.proofs.Common.{◌≡◌, ℕ, ◌+◌, ◌<◌, ◌≤◌, Bool, true, false, cond, List, [], ◌∷◌, ◌++◌, length, get_or, map, ⊎_elim, refl, sym, ap, ◌∙◌, subst, arith}
-use Rattle.std.specs.Prelude.{All, IfSome, Option, Some, None, filter, is_some, slice_get}
+use Rattle.std.proofs.Common.{◌≡◌, ℕ, Bool, true, false, cond, List, [], ◌∷◌, get_or, ⊎_elim, refl, sym, ◌∙◌, subst}
+use Rattle.std.specs.Prelude.{All, IfSome, Some, None, filter, is_some, slice_get}
 use Rattle.std.specs.List.{AllByRecursion}
 use Rattle.std.proofs.lemmas.Bool.{cases_Bool, false≢true}
 use Rattle.std.proofs.lemmas.List.Elements.{All-head, All-map, All-tail}
-use Rattle.std.proofs.lemmas.Option.{get_or_from_slice_get, none-some, slice_get-get_or, slice_get_within}
+use Rattle.std.proofs.lemmas.Option.{get_or_from_slice_get, slice_get-get_or, slice_get_within}
 use Rattle.fp_lists.proofs.Elements.{AllByRecursion-get_or}
 use Rattle.fp_model.specs.Problem.{Problem}
-use Rattle.fp_tree.specs.Nodes.{Divided, Node, Role, Undivided, fork_of, leaf_at}
+use Rattle.fp_tree.specs.Nodes.{Divided, Node, Role, Undivided, fork_of}
 use Rattle.fp_tree.specs.Sides.{Fork}
-use Rattle.fp_tree.specs.Trees.{Branch, IsTree, Leaf, tree_branches, tree_leaves, tree_splits}
+use Rattle.fp_tree.specs.Trees.{Branch, IsTree, Leaf, tree_branches, tree_leaves}
 use Rattle.fp_tree.proofs.Branches.{map-branches_of}
 use Rattle.fp_prices.specs.Shares.{ClassShare}
-use Rattle.fp_lines.specs.declared.certificates.Node.{Node as Line}
 use Rattle.fp_lines.specs.Ranges.{IsLeafInRange, IsNodeInRange, IsSplitInRange}
 use Rattle.fp_session.specs.declared.payloads.Payload.{Payload}
 use Rattle.fp_session.specs.TreeLines.{line_of, lines_of}

@@ -1,5 +1,5 @@
 -- What a search knows of the nodes of its tree.
-use Rattle.std.specs.Prelude.{ℕ, ◌<◌, ◌≤◌, ◌≡◌, ◌⊎◌, List, [], Bool, true, false, MatchBool, IfSome}
+use Rattle.std.specs.Prelude.{ℕ, ◌≤◌, ◌≡◌, ◌⊎◌, List, true, MatchBool, IfSome}
 use Rattle.std.specs.Int.{div_ceil}
 use Rattle.fp_flatnet.specs.Tables.{windows_in}
 use Rattle.fp_tree.specs.declared.sides.Side.{Side}

@@ -1,5 +1,5 @@
 -- What comes of improving a leaf that is open.
-use Rattle.std.specs.Prelude.{ℕ, ◌*◌, ◌<◌, ◌≤◌, ◌≡◌, List, [], ◌∷◌, ◌++◌, Bool, true, false, Option, ◌⊎◌}
+use Rattle.std.specs.Prelude.{ℕ, ◌*◌, ◌<◌, ◌≤◌, ◌≡◌, List, [], ◌++◌, Bool, true, false, None, Some, ◌⊎◌}
 use Rattle.fp_lists.specs.Numbered.{AllZipFrom}
 use Rattle.fp_model.specs.declared.parts.Leg.{Leg}
 use Rattle.fp_model.specs.Costs.{cost}
@@ -45,11 +45,15 @@ pub record IsFound (h : History) (sides : List Side) (now : Kept) (chosen : List
 
 -- what is kept of a leaf that is empty as of a round
 abbrev pub empty_kept : ℕ → Kept
-empty_kept round = record { payload = record { price = record { kind = Linear; round = round; forced = false }; empty = true; incumbent = 0 }; value = 0 }
+empty_kept round = record { payload = record { price = record { kind = Linear; round = round; forced = false }; empty = true; incumbent = 0; improved = None }; value = 0 }
 
 -- what is kept of a leaf that has a value by a price
 abbrev pub priced_kept : LeafPrice → ℕ → Kept
-priced_kept price value = record { payload = record { price = price; empty = false; incumbent = 0 }; value = value }
+priced_kept price value = record { payload = record { price = price; empty = false; incumbent = 0; improved = None }; value = value }
+
+-- what was kept of a leaf, with a note that a step improved it as of a round
+abbrev pub noted_kept : ℕ → Kept → Kept
+noted_kept round kept = record { payload = record kept.payload { improved = Some round }; value = kept.value }
 
 -- of what was kept and of another price with its value, the other where its value is greater
 abbrev pub IsGreater : Kept → LeafPrice → ℕ → Kept → Type 0
@@ -59,3 +63,8 @@ IsGreater old price value kept = ((kept ≡ priced_kept price value) × (old.val
 abbrev pub IsOutcome : History → List Side → Kept → Outcome → Type 0
 IsOutcome h sides old (Empty kept) = IsKept h sides kept.payload kept.value × (kept.payload.empty ≡ true)
 IsOutcome h sides old (Open kept walks) = IsFound h sides kept walks.items × (old.value ≤ kept.value)
+
+-- what came of improving a leaf, with a note that a step did so as of a round
+abbrev pub noted_outcome : ℕ → Outcome → Outcome
+noted_outcome round (Empty kept) = Empty kept
+noted_outcome round (Open kept walks) = Open (noted_kept round kept) walks

@@ -1,6 +1,5 @@
 -- What a search knows of what it has in hand.
-use Rattle.std.specs.Prelude.{ℕ, ◌+◌, ◌*◌, ◌<◌, ◌≤◌, ◌≡◌, List, [], ◌∷◌, ◌++◌, length, true, All, IfSome, IsSomeAnd, Option}
-use Rattle.fp_model.specs.declared.limits.TheConstants.{LAST_ROUND}
+use Rattle.std.specs.Prelude.{ℕ, ◌≤◌, ◌≡◌, List, true, All, IfSome, IsSomeAnd, Option}
 use Rattle.fp_model.specs.declared.parts.Leg.{Leg}
 use Rattle.fp_model.specs.Costs.{cost}
 use Rattle.fp_model.specs.Plans.{IsPlan}
@@ -11,7 +10,6 @@ use Rattle.fp_flatnet.specs.Tables.{WindowTable, windows_in}
 use Rattle.fp_flatnet.specs.Windows.{PlanLiesWithin}
 use Rattle.fp_longestarcs.specs.Networks.{TimedNetwork}
 use Rattle.fp_longestarcs.specs.Whole.{IsNetworkOf}
-use Rattle.fp_tree.specs.declared.layout.TheConstants.{MOST_SPLITS}
 use Rattle.fp_tree.specs.declared.sides.Side.{Side}
 use Rattle.fp_tree.specs.Nodes.{Node, closed_of, fork_of, leaf_at, split_count}
 use Rattle.fp_tree.specs.Trees.{HaveTails, Leaf, tree_branches, tree_leaves}
@@ -21,6 +19,7 @@ use Rattle.fp_duals.specs.PriceTables.{ArePriceTables}
 use Rattle.fp_history.specs.declared.budgets.Budget.{Budget}
 use Rattle.fp_history.specs.declared.endings.Left.{Left}
 use Rattle.fp_history.specs.declared.endings.Left.TheVariants.{Nothing, Several, Timing}
+use Rattle.fp_history.specs.Budgets.{IsBudget}
 use Rattle.fp_history.specs.Clashes.{ClashesBelow}
 use Rattle.fp_history.specs.Notes.{History, Refinement, added_of, last_round, points_of}
 use Rattle.fp_history.specs.Points.{BeginWith}
@@ -36,11 +35,6 @@ pub record IsIncumbent (p : Problem) (table : WindowTable) (legs : List (List Le
   pub plan : IsPlan p 1 legs
   pub within : PlanLiesWithin (windows_in table) 1 legs
   pub costs : n ≡ cost p legs
-
--- a budget within the limits
-pub record IsBudget (budget : Budget) : Type 0 where
-  pub rounds : budget.rounds ≤ LAST_ROUND
-  pub branches : budget.branches ≤ MOST_SPLITS
 
 -- the history of a search with these tables
 abbrev pub history : Search → List (List ClassShare) → History

@@ -1,5 +1,5 @@
 -- What a step of a search did, and how far a search is from its end.
-use Rattle.std.specs.Prelude.{ℕ, ◌+◌, ◌*◌, ◌-◌, ◌<◌, ◌≡◌, List, [], ◌∷◌, ◌++◌, length, Option, Some, None, IsSomeAnd}
+use Rattle.std.specs.Prelude.{ℕ, ◌+◌, ◌*◌, ◌-◌, ◌<◌, ◌≡◌, [], ◌∷◌, ◌++◌, length, Option, Some, None, IsSomeAnd}
 use Rattle.fp_tree.specs.Nodes.{split_count}
 use Rattle.fp_history.specs.declared.endings.Ending.{Ending}
 use Rattle.fp_history.specs.declared.endings.Left.{Left}

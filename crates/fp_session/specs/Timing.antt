@@ -1,5 +1,5 @@
 -- What comes of a relaxed plan that costs less than the incumbent.
-use Rattle.std.specs.Prelude.{ℕ, ◌≡◌, List, []}
+use Rattle.std.specs.Prelude.{◌≡◌, List, []}
 use Rattle.fp_model.specs.declared.parts.Leg.{Leg}
 use Rattle.fp_history.specs.Clashes.{ClashesBelow}
 use Rattle.fp_history.specs.Notes.{last_round}

@@ -1,20 +1,21 @@
 //! A leaf is divided where a shipment has several ways to go.
-ghost use Rattle.std.specs.Prelude.{None, ℕ, [], ◌∷◌, ◌++◌, ◌≡◌, ◌<◌, ◌≤◌, IfOk, MatchOption, OnErr, length, false};
+ghost use Rattle.std.specs.Prelude.{None, ◌≡◌, IfOk, MatchOption, length};
+ghost use Rattle.fp_branching.specs.Candidates.{IsCandidate};
 ghost use Rattle.fp_prices.specs.Tables.{HasKind};
 ghost use Rattle.fp_session.specs.Dividing.{IsSeveral, NoneSeveral, several_terminal};
 ghost use Rattle.fp_session.specs.Moves.{IsDivision};
-ghost use Rattle.fp_session.specs.Nodes.{IsKept};
 ghost use Rattle.fp_session.specs.Outcomes.{HaveGrown};
 ghost use Rattle.fp_session.specs.Searches.{IsSearch, history};
 
 use crate::NoMemory;
-use crate::improving::{emptied, priced};
+use crate::children::child;
 use crate::kept::Kept;
 use crate::moves::Division;
 use crate::searches::Search;
-use fp_allowed::{Allowed, ChainEnd};
-use fp_duals::{Effort, Improved, Tables, improve_leaf};
-use fp_prices::{Leaf, LeafPrice, RoundNetwork};
+use fp_allowed::ChainEnd;
+use fp_branching::Candidate;
+use fp_duals::Tables;
+use fp_prices::{Leaf, RoundNetwork};
 use fp_tree::Side;
 use std::alloc::Global;
 
@@ -56,45 +57,16 @@ pub(crate) fn first_several(
     Ok(None)
 }
 
-// What is kept of the leaf below a leaf on one side of a split.
-fn child(
-    alloc: Global,
-    search: &Search,
-    round: &RoundNetwork,
-    sides: &[Side],
-    side: Side,
-    inherited: LeafPrice,
-    tables: &mut Tables,
-) -> Result<Kept, NoMemory>
-    requires problem { round.now.problem ≡ search.now.instance }
-    requires network { round.now.network ≡ search.now.network }
-    requires search { IsSearch search.now tables.old }
-    requires kind { HasKind tables.old inherited.kind }
-    ensures grown { HaveGrown search.now.instance tables.old tables.new }
-    ensures kept { IfOk result (λ kept.
-        IsKept (history search.now tables.new) (sides.now ++ (side ∷ [])) kept.payload kept.value) }
-    ensures err { OnErr result (tables.new ≡ tables.old) }
-{
-    let mut below = sides.to_vec(alloc)?;
-    below.push(side)?;
-    let leaf = Leaf::of(alloc, round, &search.windows, &below)?;
-    let number = search.trace.len() as u32;
-    match improve_leaf(alloc, &leaf, number, inherited, &Effort::CHILD, tables)? {
-        Improved::Empty { .. } => Ok(emptied(number)),
-        Improved::Priced { price, value, .. } => Ok(priced(price, value)),
-    }
-}
-
-// A leaf is divided at a shipment that has several ways to go, with what is known of the two leaves
-// below.
+// A leaf of which this is kept is divided by a candidate, with what is known of the two leaves below.
+// The leaf serves the contract alone.
 pub(crate) fn division(
     alloc: Global,
     search: &Search,
     round: &RoundNetwork,
     leaf: &Leaf,
     sides: &[Side],
-    several: Several,
-    inherited: LeafPrice,
+    candidate: Candidate,
+    above: Kept,
     tables: &mut Tables,
 ) -> Result<Division, NoMemory>
     requires search { IsSearch search.now tables.old }
@@ -103,41 +75,27 @@ pub(crate) fn division(
     requires network { round.now.network ≡ search.now.network }
     requires setting { leaf.now.setting ≡ record { problem = search.now.instance; windows = search.now.windows; network = search.now.network } }
     requires sides { leaf.now.sides ≡ sides.now }
-    requires several { IsSeveral leaf.now several }
-    requires kind { HasKind tables.old inherited.kind }
+    requires candidate { IsCandidate leaf.now candidate }
+    requires kind { HasKind tables.old above.payload.price.kind }
     ensures grown { HaveGrown search.now.instance tables.old tables.new }
     ensures division { IfOk result (IsDivision (history search.now tables.new) sides.now) }
 {
-    let allowed = Allowed::new(&search.instance, &search.windows, round.network());
-    let row = leaf.row(several.shipment);
-    match allowed.choice(several.shipment, row, several.terminal) {
-        None => unreachable!(),
-        Some(split) => {
-            let tail = several.terminal;
-            let first = child(
-                alloc,
-                search,
-                round,
-                sides,
-                split.first(),
-                inherited,
-                tables,
-            )?;
-            let second = child(
-                alloc,
-                search,
-                round,
-                sides,
-                split.second(tail),
-                inherited,
-                tables,
-            )?;
-            Ok(Division {
-                split,
-                tail,
-                first,
-                second,
-            })
-        }
-    }
+    let split = candidate.split;
+    let tail = candidate.terminal;
+    let first = child(alloc, search, round, sides, split.first(), above, tables)?;
+    let second = child(
+        alloc,
+        search,
+        round,
+        sides,
+        split.second(tail),
+        above,
+        tables,
+    )?;
+    Ok(Division {
+        split,
+        tail,
+        first,
+        second,
+    })
 }

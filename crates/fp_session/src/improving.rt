@@ -2,7 +2,7 @@
 ghost use Rattle.std.specs.Prelude.{◌≡◌, ◌≤◌, IfOk, OnErr, false};
 ghost use Rattle.fp_prices.specs.Tables.{HasKind};
 ghost use Rattle.fp_session.specs.Nodes.{IsKept};
-ghost use Rattle.fp_session.specs.Outcomes.{HaveGrown, IsGreater, IsOutcome, empty_kept, priced_kept};
+ghost use Rattle.fp_session.specs.Outcomes.{HaveGrown, IsGreater, IsOutcome, empty_kept, noted_outcome, priced_kept};
 ghost use Rattle.fp_session.specs.Searches.{IsSearch, history};
 
 use crate::NoMemory;
@@ -12,6 +12,7 @@ use crate::payloads::Payload;
 use crate::searches::Search;
 use fp_duals::{Effort, Improved, Tables, improve_leaf};
 use fp_prices::{Kind, Leaf, LeafPrice};
+use fp_tree::Side;
 use std::alloc::Global;
 
 // What is kept of a leaf that is empty as of a round.
@@ -27,6 +28,7 @@ pub(crate) fn emptied(round: u32) -> Kept
             },
             empty: true,
             incumbent: 0,
+            improved: None,
         },
         value: 0,
     }
@@ -41,6 +43,7 @@ pub(crate) fn priced(price: LeafPrice, value: u128) -> Kept
             price,
             empty: false,
             incumbent: 0,
+            improved: None,
         },
         value,
     }
@@ -91,4 +94,64 @@ pub(crate) fn improved(
             walks,
         }),
     }
+}
+
+// The effort at a leaf that a step has chosen: more at the root. One that was improved before over
+// the same points keeps its price, and its walks alone are found again.
+fn effort_at(sides: &[Side], again: bool) -> Effort {
+    let effort = if sides.is_empty() {
+        Effort::ROOT
+    } else {
+        Effort::CHOSEN
+    };
+    if again {
+        Effort {
+            turns: 0,
+            settle_passes: 0,
+            ..effort
+        }
+    } else {
+        effort
+    }
+}
+
+// What came of improving a leaf, with a note that a step did so as of a round.
+fn noted(outcome: Outcome, round: u32) -> Outcome
+    ensures { result ≡ noted_outcome round outcome }
+{
+    match outcome {
+        Outcome::Empty { kept } => Outcome::Empty { kept },
+        Outcome::Open { kept, walks } => {
+            let payload = Payload {
+                improved: Some(round),
+                ..kept.payload
+            };
+            Outcome::Open {
+                kept: Kept { payload, ..kept },
+                walks,
+            }
+        }
+    }
+}
+
+// What comes of improving a leaf that a step has chosen, of which this was kept before.
+pub(crate) fn improved_by_step(
+    alloc: Global,
+    search: &Search,
+    leaf: &Leaf,
+    old: Kept,
+    tables: &mut Tables,
+) -> Result<Outcome, NoMemory>
+    requires search { IsSearch search.now tables.old }
+    requires setting { leaf.now.setting ≡ record { problem = search.now.instance; windows = search.now.windows; network = search.now.network } }
+    requires kept { IsKept (history search.now tables.old) leaf.now.sides old.payload old.value }
+    requires some { old.payload.empty ≡ false }
+    ensures grown { HaveGrown search.now.instance tables.old tables.new }
+    ensures outcome { IfOk result
+        (IsOutcome (history search.now tables.new) leaf.now.sides old) }
+{
+    let round = search.trace.len() as u32;
+    let effort = effort_at(leaf.sides(), old.payload.improved == Some(round));
+    let outcome = improved(alloc, search, leaf, old, &effort, tables)?;
+    Ok(noted(outcome, round))
 }

@@ -10,6 +10,8 @@ mod advances;
 mod answers;
 mod applying;
 mod certificates;
+mod children;
+mod choices;
 mod dividing;
 mod improving;
 mod kept;

@@ -17,17 +17,18 @@ ghost use Rattle.fp_session.specs.Outcomes.{HaveGrown, IsFound};
 ghost use Rattle.fp_session.specs.Searches.{IsSearch, history};
 
 use crate::NoMemory;
+use crate::choices::choice;
 use crate::dividing::{Several, division, first_several};
-use crate::improving::improved;
+use crate::improving::improved_by_step;
 use crate::kept::Kept;
 use crate::moves::Move;
 use crate::outcomes::Outcome;
 use crate::searches::Search;
 use crate::timing::{Timing, timed};
-use fp_duals::{Effort, Tables};
+use fp_duals::Tables;
 use fp_history::Left;
 use fp_model::Instance;
-use fp_prices::{Leaf, LeafPrice, RoundNetwork};
+use fp_prices::{Leaf, RoundNetwork};
 use fp_relaxmodel::{RelaxedPlan, TimedWalk, is_route, relaxed_cost};
 use fp_tree::Side;
 use std::alloc::Global;
@@ -118,7 +119,8 @@ fn several_move(
     sides: &[Side],
     number: u32,
     several: Several,
-    inherited: LeafPrice,
+    kept: Kept,
+    walks: &[TimedWalk],
     tables: &mut Tables,
 ) -> Result<Move, NoMemory>
     requires search { IsSearch search.now tables.old }
@@ -128,7 +130,7 @@ fn several_move(
     requires setting { leaf.now.setting ≡ record { problem = search.now.instance; windows = search.now.windows; network = search.now.network } }
     requires sides { leaf.now.sides ≡ sides.now }
     requires several { IsSeveral leaf.now several }
-    requires kind { HasKind tables.old inherited.kind }
+    requires kind { HasKind tables.old kept.payload.price.kind }
     ensures grown { HaveGrown search.now.instance tables.old tables.new }
     ensures planned { IfOk result (IsOpenMove search.now tables.new number sides.now) }
 {
@@ -140,9 +142,11 @@ fn several_move(
             },
         });
     }
-    let division = division(
-        alloc, search, round, leaf, sides, several, inherited, tables,
+    let price = kept.payload.price;
+    let candidate = choice(
+        alloc, search, round, leaf, sides, several, price, walks, tables,
     )?;
+    let division = division(alloc, search, round, leaf, sides, candidate, kept, tables)?;
     Ok(Move::Divide { division })
 }
 
@@ -178,9 +182,9 @@ fn move_at(
         // Where no shipment has several ways to go, the walks are routes and cost less.
         None => unreachable!(),
         Some(several) => {
-            let price = kept.payload.price;
+            let walks = &relaxed.walks;
             several_move(
-                alloc, search, round, leaf, sides, number, several, price, tables,
+                alloc, search, round, leaf, sides, number, several, kept, walks, tables,
             )
         }
     }
@@ -194,15 +198,6 @@ fn kept_at(search: &Search, number: u32) -> Kept
     Kept {
         payload: *search.tree.payload(number),
         value: search.tree.value(number),
-    }
-}
-
-// The effort at a leaf that a step has chosen: more at the root.
-fn effort_at(sides: &[Side]) -> Effort {
-    if sides.is_empty() {
-        Effort::ROOT
-    } else {
-        Effort::CHOSEN
     }
 }
 
@@ -228,8 +223,7 @@ fn open_move(
     let round = RoundNetwork::over(alloc, &search.instance, network)?;
     let sides = search.tree.leaf_sides(alloc, number)?;
     let leaf = Leaf::of(alloc, &round, &search.windows, &sides)?;
-    let effort = effort_at(&sides);
-    match improved(alloc, search, &leaf, old, &effort, tables)? {
+    match improved_by_step(alloc, search, &leaf, old, tables)? {
         Outcome::Empty { kept } => Ok(Planned {
             kept,
             planned: Move::Close,

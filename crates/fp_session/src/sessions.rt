@@ -6,7 +6,7 @@ ghost use Rattle.fp_flatnet.specs.Belonging.{BelongsTo};
 ghost use Rattle.fp_flatnet.specs.Tables.{windows_in};
 ghost use Rattle.fp_flatnet.specs.Windows.{PlanLiesWithin};
 ghost use Rattle.fp_session.specs.declared.steps.Step.TheVariants.{Done};
-ghost use Rattle.fp_session.specs.Searches.{IsBudget};
+ghost use Rattle.fp_history.specs.Budgets.{IsBudget};
 ghost use Rattle.fp_session.specs.Sessions.{IsSound, hand_of};
 ghost use Rattle.fp_session.specs.Solved.{IsSolved};
 ghost use Rattle.fp_session.specs.StepCauses.{ending_of};

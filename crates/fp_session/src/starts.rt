@@ -12,7 +12,8 @@ ghost use Rattle.fp_allowed.specs.SamePoints.{AgreeOnPoints};
 ghost use Rattle.fp_duals.specs.PriceTables.{ArePriceTables};
 ghost use Rattle.fp_history.specs.Notes.{points_of};
 ghost use Rattle.fp_session.specs.Nodes.{IsKept};
-ghost use Rattle.fp_session.specs.Searches.{IsBudget, IsSearch};
+ghost use Rattle.fp_history.specs.Budgets.{IsBudget};
+ghost use Rattle.fp_session.specs.Searches.{IsSearch};
 ghost use Rattle.fp_session.specs.Starts.{start_of};
 
 use crate::NoMemory;

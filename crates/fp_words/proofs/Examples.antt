@@ -1,7 +1,8 @@
 -- The forms at words that are written out.
 use Rattle.std.proofs.Common.{◌≡◌, [], ◌∷◌, refl}
 use Rattle.std.specs.Prelude.{Some, None, codes}
-use Rattle.fp_words.specs.declared.orders.Order.TheVariants.{Direct, Check, Bound}
+use Rattle.clap.proofs.OnLiterals.{clap_on_literals}
+use Rattle.fp_words.specs.declared.orders.Order.TheVariants.{Direct, Check, Bound, Plan, Trial, Yard, Fleet, Replan, Quote}
 use Rattle.fp_words.specs.Words.{order_of}
 
 the-direct : order_of (codes "direct" ∷ []) ≡ Some Direct
@@ -19,7 +20,7 @@ no-word = refl
 unknown : order_of (codes "fly" ∷ []) ≡ None
 unknown = refl
 
-one-more : order_of (codes "bound" ∷ codes "now" ∷ []) ≡ None
+one-more : order_of (codes "direct" ∷ codes "now" ∷ []) ≡ None
 one-more = refl
 
 dashes : order_of (codes "direct" ∷ codes "--" ∷ []) ≡ None
@@ -27,3 +28,97 @@ dashes = refl
 
 help : order_of (codes "direct" ∷ codes "--help" ∷ []) ≡ None
 help = refl
+
+usual : order_of (codes "plan" ∷ []) ≡ Some (Plan (record { rounds = 400; branches = 4000 }) 1000000)
+usual = refl
+
+-- in any order, as two words or as one
+all-options : order_of (codes "plan" ∷ codes "--scale" ∷ codes "7" ∷ codes "--rounds=0" ∷ codes "--branches" ∷ codes "0000000005" ∷ []) ≡ Some (Plan (record { rounds = 0; branches = 5 }) 7)
+unfolding clap_on_literals
+all-options = refl
+
+too-many-rounds : order_of (codes "plan" ∷ codes "--rounds" ∷ codes "4001" ∷ []) ≡ None
+unfolding clap_on_literals
+too-many-rounds = refl
+
+most-branches : order_of (codes "plan" ∷ codes "--branches=100000" ∷ []) ≡ Some (Plan (record { rounds = 400; branches = 100000 }) 1000000)
+unfolding clap_on_literals
+most-branches = refl
+
+no-scale : order_of (codes "plan" ∷ codes "--scale" ∷ codes "0" ∷ []) ≡ None
+unfolding clap_on_literals
+no-scale = refl
+
+eleven-digits : order_of (codes "plan" ∷ codes "--rounds" ∷ codes "00000000005" ∷ []) ≡ None
+unfolding clap_on_literals
+eleven-digits = refl
+
+twice : order_of (codes "plan" ∷ codes "--rounds" ∷ codes "5" ∷ codes "--rounds=5" ∷ []) ≡ None
+unfolding clap_on_literals
+twice = refl
+
+no-value : order_of (codes "plan" ∷ codes "--rounds" ∷ []) ≡ None
+unfolding clap_on_literals
+no-value = refl
+
+option-first : order_of (codes "--rounds=5" ∷ codes "plan" ∷ []) ≡ None
+option-first = refl
+
+dashes-last : order_of (codes "plan" ∷ codes "--" ∷ []) ≡ None
+dashes-last = refl
+
+the-trial : order_of (codes "trial" ∷ codes "1" ∷ codes "2" ∷ codes "1" ∷ []) ≡ Some (Trial 1 2 1)
+the-trial = refl
+
+-- the ends of the ranges
+greatest : order_of (codes "trial" ∷ codes "2147483647" ∷ codes "100" ∷ codes "500" ∷ []) ≡ Some (Trial 2147483647 100 500)
+greatest = refl
+
+seed-above : order_of (codes "trial" ∷ codes "2147483648" ∷ codes "2" ∷ codes "1" ∷ []) ≡ None
+seed-above = refl
+
+one-terminal : order_of (codes "trial" ∷ codes "1" ∷ codes "1" ∷ codes "1" ∷ []) ≡ None
+one-terminal = refl
+
+too-many-terminals : order_of (codes "trial" ∷ codes "1" ∷ codes "101" ∷ codes "1" ∷ []) ≡ None
+too-many-terminals = refl
+
+too-many-shipments : order_of (codes "trial" ∷ codes "1" ∷ codes "2" ∷ codes "501" ∷ []) ≡ None
+too-many-shipments = refl
+
+place-missing : order_of (codes "trial" ∷ codes "1" ∷ codes "2" ∷ []) ≡ None
+place-missing = refl
+
+word-too-many : order_of (codes "trial" ∷ codes "1" ∷ codes "2" ∷ codes "1" ∷ codes "1" ∷ []) ≡ None
+word-too-many = refl
+
+negative : order_of (codes "trial" ∷ codes "1" ∷ codes "-2" ∷ codes "1" ∷ []) ≡ None
+negative = refl
+
+hyphen : order_of (codes "yard" ∷ codes "-" ∷ []) ≡ None
+hyphen = refl
+
+long-seed : order_of (codes "yard" ∷ codes "00000000001" ∷ []) ≡ None
+long-seed = refl
+
+the-yard : order_of (codes "yard" ∷ codes "1" ∷ []) ≡ Some (Yard 1)
+the-yard = refl
+
+option-in-place : order_of (codes "yard" ∷ codes "--rounds=1" ∷ codes "1" ∷ []) ≡ None
+option-in-place = refl
+
+the-fleet : order_of (codes "fleet" ∷ []) ≡ Some Fleet
+the-fleet = refl
+
+the-replan : order_of (codes "replan" ∷ codes "--branches" ∷ codes "3" ∷ []) ≡ Some (Replan (record { rounds = 400; branches = 3 }))
+unfolding clap_on_literals
+the-replan = refl
+
+the-quote : order_of (codes "quote" ∷ codes "--branches=3" ∷ codes "--rounds" ∷ codes "0" ∷ []) ≡ Some (Quote (record { rounds = 0; branches = 3 }))
+unfolding clap_on_literals
+the-quote = refl
+
+-- a scale is `plan`'s alone
+scaled-quote : order_of (codes "quote" ∷ codes "--scale=7" ∷ []) ≡ None
+unfolding clap_on_literals
+scaled-quote = refl

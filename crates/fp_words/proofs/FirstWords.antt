@@ -1,9 +1,10 @@
 -- What clap makes of a first word: the subcommand of that name reads the words after it, and where
 -- there is none the parse fails.
-use Rattle.std.proofs.Common.{◌≡◌, ◌∙◌, ℕ, Bool, true, false, List, [], ◌∷◌, ◌++◌, map, refl, ap, ap₂, append_assoc, inl, inr}
+use Rattle.std.proofs.Common.{◌≡◌, ◌∙◌, ℕ, false, List, [], ◌∷◌, ◌++◌, map, refl, ap, ap₂, append_assoc, inl, inr}
 use Rattle.std.proofs.lemmas.List.{append-nil}
 use Rattle.std.proofs.lemmas.Bool.{cases_Bool}
-use Rattle.std.specs.Prelude.{Option, Some, None, codes, fold, slice_get, find, is_some, option_map, ◌&&◌}
+use Rattle.std.proofs.Math.Bool.{and-false}
+use Rattle.std.specs.Prelude.{Option, Some, None, codes, fold, slice_get, find, is_some, option_map}
 use Rattle.std.specs.Str.{bytes_eq, chars}
 use Rattle.clap.specs.Lexer.{long_of, short_of}
 use Rattle.clap.specs.Kinds.{Kinds, or_else}
@@ -51,10 +52,6 @@ walk-stopped c ns w name xs (x ∷ words) = walk-stopped c ns w name (xs ++ (x �
 or_else-nil : (a : Kinds) → or_else a [] ≡ a
 or_else-nil [] = refl
 or_else-nil (k ∷ ks) = refl
-
-and-false : (b : Bool) → (b && false) ≡ false
-and-false true = refl
-and-false false = refl
 
 -- where the word names a subcommand, the walk stops there
 module _ (subs : List Shape) (s : Shape) (word : List ℕ) (found : named word subs ≡ Some s) (same : s.name ≡ word) where

@@ -1,18 +1,16 @@
--- What a parse of the words says of their order.
-use Rattle.std.proofs.Common.{◌≡◌, ◌∙◌, ℕ, Bool, true, false, List, [], ◌∷◌, refl, sym, ap, inl, inr, String, Global}
-use Rattle.std.specs.Prelude.{Some, None, codes, option_and_then, string_bytes, ◌||◌}
+-- Any forms, and subcommands that read them.
+use Rattle.std.proofs.Common.{◌≡◌, ◌∙◌, ℕ, true, false, List, [], ◌∷◌, refl, sym, ap, inl, inr}
+use Rattle.std.specs.Prelude.{Some, None, option_and_then, ◌||◌}
 use Rattle.std.specs.List.{list_any}
 use Rattle.std.specs.Str.{bytes_eq}
-use Rattle.std.proofs.lemmas.Bool.{cases_Bool}
+use Rattle.std.proofs.lemmas.Bool.{cases_Bool, or_parts}
 use Rattle.std.proofs.lemmas.Slice.Eq.{bytes_eq-Decides}
 use Rattle.clap.specs.Walk.{answers_to}
-use Rattle.clap.specs.Simple.{Shape, label_of, rows_at, subcommand_of}
-use Rattle.clap.specs.Faults.{fault_of}
+use Rattle.clap.specs.Simple.{Shape, label_of, rows_at}
 use Rattle.fp_words.specs.declared.orders.Order.{Order}
-use Rattle.fp_words.specs.declared.orders.Order.TheVariants.{Direct, Check, Bound}
-use Rattle.fp_words.specs.Words.{Form, alone, forms, order_by, order_of, texts}
-use Rattle.fp_words.specs.Commands.{app, bare, entered_order, is_dashes}
-use Rattle.fp_words.proofs.FirstWords.{entry, entry-named, faults, faults-named, faults-none, faults-unnamed, named, rest_faults}
+use Rattle.fp_words.specs.Words.{Form, alone, order_by}
+use Rattle.fp_words.specs.Commands.{bare, entered_order, is_dashes}
+use Rattle.fp_words.proofs.FirstWords.{entry, entry-named, faults, faults-named, faults-unnamed, named, rest_faults}
 use Rattle.fp_words.proofs.BareWords.{leaf, rest_faults-none, rest_faults-some}
 
 -- A subcommand reads the words of a form. Words of which one is `--` never come to the parse.
@@ -31,7 +29,7 @@ AllRead (form ∷ forms) (s ∷ subs) = Reads form s × AllRead forms subs
 AllRead _ _ = ⊥
 
 -- What a first word chooses: a form and its subcommand, or neither.
-data Choice (forms : List Form) (subs : List Shape) (word : List ℕ) : Type 0 where
+pub data Choice (forms : List Form) (subs : List Shape) (word : List ℕ) : Type 0 where
   neither : named word subs ≡ None → ((words : List (List ℕ)) → order_by forms word words ≡ None) → Choice forms subs word
   both : (form : Form) (s : Shape) → named word subs ≡ Some s → s.name ≡ word → Reads form s → ((words : List (List ℕ)) → order_by forms word words ≡ form.order words) → Choice forms subs word
 
@@ -40,7 +38,7 @@ choice-more : (form : Form) (forms : List Form) (s : Shape) (subs : List Shape) 
 choice-more form forms s subs word other mute (neither unnamed unread) = neither (rw mute unnamed) (λ words. rw other (unread words))
 choice-more form forms s subs word other mute (both f t found same reads first) = both f t (rw mute found) same reads (λ words. rw other (first words))
 
-choice : (forms : List Form) (subs : List Shape) (word : List ℕ) → AllRead forms subs → Choice forms subs word
+pub choice : (forms : List Form) (subs : List Shape) (word : List ℕ) → AllRead forms subs → Choice forms subs word
 choice [] [] word all = neither refl (λ words. refl)
 choice [] (s ∷ subs) word all = absurd all
 choice (form ∷ forms) [] word all = absurd all
@@ -54,25 +52,21 @@ choice (form ∷ forms) (s ∷ subs) word all =
           choice-more form forms s subs word f mute (choice forms subs word all.1)
     ]
 
-or-false : (a b : Bool) → (a || b) ≡ false → (a ≡ false) × (b ≡ false)
-or-false true b e = cc e
-or-false false b e = (refl, e)
-
 -- the words from the first on, by what the first chooses
-passed-choice : (some : List Form) (subs : List Shape) (word : List ℕ) (words : List (List ℕ)) → Choice some subs word → is_dashes word ≡ false → list_any is_dashes words ≡ false
+pub passed-choice : (some : List Form) (subs : List Shape) (word : List ℕ) (words : List (List ℕ)) → Choice some subs word → is_dashes word ≡ false → list_any is_dashes words ≡ false
     → faults subs (word ∷ words) ≡ [] → order_by some word words ≡ option_and_then entered_order (entry subs (word ∷ words))
 passed-choice some subs word words (neither unnamed unread) plain clean none = absurd (faults-unnamed subs word words unnamed plain none)
 passed-choice some subs word words (both form s found same reads first) plain clean none =
     first words ∙ reads.passed words clean (sym (faults-named subs s word found same words) ∙ none) ∙ ap (option_and_then entered_order) (sym (entry-named subs s word found same words))
 
-failed-choice : (some : List Form) (subs : List Shape) (word : List ℕ) (words : List (List ℕ)) → Choice some subs word → list_any is_dashes words ≡ false
+pub failed-choice : (some : List Form) (subs : List Shape) (word : List ℕ) (words : List (List ℕ)) → Choice some subs word → list_any is_dashes words ≡ false
     → (faults subs (word ∷ words) ≡ [] → ⊥) → order_by some word words ≡ None
 failed-choice some subs word words (neither unnamed unread) clean fails = unread words
 failed-choice some subs word words (both form s found same reads first) clean fails =
     first words ∙ reads.failed words clean (λ none. fails (faults-named subs s word found same words ∙ none))
 
 -- words of which one is `--`
-dashes-by : (forms : List Form) (subs : List Shape) (word : List ℕ) (words : List (List ℕ)) → AllRead forms subs → (is_dashes word || list_any is_dashes words) ≡ true → order_by forms word words ≡ None
+pub dashes-by : (forms : List Form) (subs : List Shape) (word : List ℕ) (words : List (List ℕ)) → AllRead forms subs → (is_dashes word || list_any is_dashes words) ≡ true → order_by forms word words ≡ None
 dashes-by [] [] word words all e = refl
 dashes-by [] (s ∷ subs) word words all e = absurd all
 dashes-by (form ∷ forms) [] word words all e = absurd all
@@ -85,7 +79,7 @@ dashes-by (form ∷ forms) (s ∷ subs) word words all e =
     ]
 
 -- a command that takes no words, whose subcommand orders it whatever was found
-alone-reads : (name : List ℕ) (order : Order) → is_dashes name ≡ false → entered_order (rows_at (leaf (bare name)) []) ≡ Some order → Reads (record { name = name; order = alone order }) (leaf (bare name))
+pub alone-reads : (name : List ℕ) (order : Order) → is_dashes name ≡ false → entered_order (rows_at (leaf (bare name)) []) ≡ Some order → Reads (record { name = name; order = alone order }) (leaf (bare name))
 alone-reads name order plain gives = record {
   name = refl;
   aliases = refl;
@@ -97,7 +91,7 @@ alone-reads name order plain gives = record {
   where
     passes : (words : List (List ℕ)) → list_any is_dashes words ≡ false → rest_faults (leaf (bare name)) words ≡ [] → alone order words ≡ entered_order (rows_at (leaf (bare name)) words)
     passes [] clean none = sym gives
-    passes (word ∷ words) clean none = absurd (rest_faults-some name word words (or-false (is_dashes word) (list_any is_dashes words) clean).0 none)
+    passes (word ∷ words) clean none = absurd (rest_faults-some name word words (or_parts (is_dashes word) (list_any is_dashes words) clean).0 none)
 
     fails : (words : List (List ℕ)) → list_any is_dashes words ≡ false → (rest_faults (leaf (bare name)) words ≡ [] → ⊥) → alone order words ≡ None
     fails [] clean some = absurd (some (rest_faults-none name))
@@ -106,36 +100,3 @@ alone-reads name order plain gives = record {
     refuses : (words : List (List ℕ)) → list_any is_dashes words ≡ true → alone order words ≡ None
     refuses [] e = cc e
     refuses (word ∷ words) e = refl
-
--- the subcommands as they are built
-abbrev leaves : List Shape
-leaves = leaf (bare (codes "direct")) ∷ leaf (bare (codes "check")) ∷ leaf (bare (codes "bound")) ∷ []
-
--- each form has its subcommand
-all-read : AllRead forms leaves
-all-read = (alone-reads (codes "direct") Direct refl refl, (alone-reads (codes "check") Check refl refl, (alone-reads (codes "bound") Bound refl refl, tt)))
-
--- a test of each word, by its bytes
-list_any-texts : (words : List (String Global)) → list_any (λ word. is_dashes (string_bytes word)) words ≡ list_any is_dashes (texts words)
-list_any-texts [] = refl
-list_any-texts (word ∷ words) = ap (λ (b : Bool). is_dashes (string_bytes word) || b) (list_any-texts words)
-
--- after a parse that succeeds
-pub order_of-passed : (words : List (String Global)) → list_any (λ word. is_dashes (string_bytes word)) words ≡ false → fault_of app (texts words) ≡ []
-    → order_of (texts words) ≡ option_and_then entered_order (subcommand_of app (texts words))
-order_of-passed [] clean none = absurd (faults-none leaves none)
-order_of-passed (word ∷ words) clean none =
-    let parts = or-false (is_dashes (string_bytes word)) (list_any is_dashes (texts words)) (sym (list_any-texts (word ∷ words)) ∙ clean) in
-    passed-choice forms leaves (string_bytes word) (texts words) (choice forms leaves (string_bytes word) all-read) parts.0 parts.1 none
-
--- after one that fails, and not for want of memory
-pub order_of-failed : (words : List (String Global)) → list_any (λ word. is_dashes (string_bytes word)) words ≡ false → (fault_of app (texts words) ≡ [] → ⊥) → order_of (texts words) ≡ None
-order_of-failed [] clean fails = refl
-order_of-failed (word ∷ words) clean fails =
-    let parts = or-false (is_dashes (string_bytes word)) (list_any is_dashes (texts words)) (sym (list_any-texts (word ∷ words)) ∙ clean) in
-    failed-choice forms leaves (string_bytes word) (texts words) (choice forms leaves (string_bytes word) all-read) parts.1 fails
-
--- where a word is `--`
-pub order_of-dashes : (words : List (String Global)) → list_any (λ word. is_dashes (string_bytes word)) words ≡ true → order_of (texts words) ≡ None
-order_of-dashes [] e = refl
-order_of-dashes (word ∷ words) e = dashes-by forms leaves (string_bytes word) (texts words) all-read (sym (list_any-texts (word ∷ words)) ∙ e)

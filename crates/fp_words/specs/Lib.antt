@@ -1,2 +1,5 @@
-pub mod Words
+pub mod Settings
 pub mod Commands
+pub mod Options
+pub mod Places
+pub mod Words

@@ -1,11 +1,70 @@
 //! The command line as clap reads it: one command with a subcommand for each form.
-ghost use Rattle.std.specs.Prelude.{◌≡◌, IfOk, option_and_then};
-ghost use Rattle.clap.specs.Words.{app_of, subcommand_rows_of};
-ghost use Rattle.fp_words.specs.Commands.{app, entered_order};
+ghost use Rattle.std.specs.Prelude.{◌≡◌, codes, false, IfOk, IfSome, option_and_then};
+ghost use Rattle.clap.specs.Words.{app_of, found_of, new_app, rows_of, rule_of, subcommand_rows_of};
+ghost use Rattle.fp_words.specs.Commands.{IsLocal, app, entered_order, option_rule, place_rule, with_options, with_places};
+ghost use Rattle.fp_words.specs.Settings.{IsWithinLimits, budget_settings, names_of, plan_settings, trial_settings, yard_settings};
 
+use crate::settings::{plan_by, quote_by, replan_by, trial_by, yard_by};
 use crate::{NoMemory, Order};
-use clap::{ArgMatches, Command};
+use clap::{Arg, ArgAction, ArgMatches, Command};
 use std::alloc::Global;
+
+// An option with a value.
+fn option<'a>(alloc: Global, name: &'a str) -> Arg<'a>
+    ensures rule { rule_of result ≡ option_rule name.entry.now }
+    ensures local { result.global ≡ false }
+{
+    Arg::new(alloc, name).long(name).action(ArgAction::Set)
+}
+
+// A place that a word must fill.
+fn place<'a>(alloc: Global, name: &'a str) -> Arg<'a>
+    ensures rule { rule_of result ≡ place_rule name.entry.now }
+    ensures local { result.global ≡ false }
+{
+    Arg::new(alloc, name).required(true).action(ArgAction::Set)
+}
+
+// A subcommand with the options of a budget.
+fn budget_command<'a>(alloc: Global, name: &'a str) -> Result<Command<'a>, NoMemory>
+    ensures shape { IfOk result (λ command. app_of command ≡ record (new_app name.entry.now) { top = with_options name.entry.now (names_of budget_settings) }) }
+    ensures local { IfOk result IsLocal }
+{
+    let command = Command::new(alloc, name)
+        .arg(option(alloc, "rounds"))?
+        .arg(option(alloc, "branches"))?;
+    Ok(command)
+}
+
+// The subcommand `plan`, with its options.
+fn plan_command<'a>(alloc: Global) -> Result<Command<'a>, NoMemory>
+    ensures shape { IfOk result (λ command. (app_of command).top ≡ with_options (codes "plan") (names_of plan_settings)) }
+    ensures local { IfOk result IsLocal }
+{
+    let command = budget_command(alloc, "plan")?.arg(option(alloc, "scale"))?;
+    Ok(command)
+}
+
+// The subcommand `trial`, with its places.
+fn trial_command<'a>(alloc: Global) -> Result<Command<'a>, NoMemory>
+    ensures shape { IfOk result (λ command. (app_of command).top ≡ with_places (codes "trial") (names_of trial_settings)) }
+    ensures local { IfOk result IsLocal }
+{
+    let command = Command::new(alloc, "trial")
+        .arg(place(alloc, "seed"))?
+        .arg(place(alloc, "terminals"))?
+        .arg(place(alloc, "shipments"))?;
+    Ok(command)
+}
+
+// The subcommand `yard`, with its place.
+fn yard_command<'a>(alloc: Global) -> Result<Command<'a>, NoMemory>
+    ensures shape { IfOk result (λ command. (app_of command).top ≡ with_places (codes "yard") (names_of yard_settings)) }
+    ensures local { IfOk result IsLocal }
+{
+    let command = Command::new(alloc, "yard").arg(place(alloc, "seed"))?;
+    Ok(command)
+}
 
 /// The command whose parse reads the words. It has no help and no version of its own.
 pub fn command<'a>(alloc: Global) -> Result<Command<'a>, NoMemory>
@@ -19,22 +78,51 @@ pub fn command<'a>(alloc: Global) -> Result<Command<'a>, NoMemory>
         .subcommand_required(true)
         .subcommand(Command::new(alloc, "direct"))?
         .subcommand(Command::new(alloc, "check"))?
-        .subcommand(Command::new(alloc, "bound"))?;
+        .subcommand(Command::new(alloc, "bound"))?
+        .subcommand(plan_command(alloc)?)?
+        .subcommand(trial_command(alloc)?)?
+        .subcommand(yard_command(alloc)?)?
+        .subcommand(Command::new(alloc, "fleet"))?
+        .subcommand(budget_command(alloc, "replan")?)?
+        .subcommand(budget_command(alloc, "quote")?)?;
     Ok(command)
 }
 
-/// What the subcommand orders that a parse entered.
-pub fn order_in(matches: &ArgMatches) -> Option<Order>
-    ensures { result ≡ option_and_then entered_order (subcommand_rows_of matches.now) }
+// What the subcommand of this name orders, by what a parse found in it.
+fn order_by(name: &str, matches: &ArgMatches) -> Option<Order>
+    ensures order { result ≡ entered_order (name.now, rows_of (found_of matches.now)) }
+    ensures range { IfSome result IsWithinLimits }
 {
-    let (name, _) = matches.subcommand()?;
     if name == "direct" {
         Some(Order::Direct)
     } else if name == "check" {
         Some(Order::Check)
     } else if name == "bound" {
         Some(Order::Bound)
+    } else if name == "plan" {
+        plan_by(matches)
+    } else if name == "trial" {
+        trial_by(matches)
+    } else if name == "yard" {
+        yard_by(matches)
+    } else if name == "fleet" {
+        Some(Order::Fleet)
+    } else if name == "replan" {
+        replan_by(matches)
+    } else if name == "quote" {
+        quote_by(matches)
     } else {
         None
+    }
+}
+
+/// What the subcommand orders that a parse entered.
+pub fn order_in(matches: &ArgMatches) -> Option<Order>
+    ensures order { result ≡ option_and_then entered_order (subcommand_rows_of matches.now) }
+    ensures range { IfSome result IsWithinLimits }
+{
+    match matches.subcommand() {
+        Some((name, entered)) => order_by(name, entered),
+        None => None,
     }
 }

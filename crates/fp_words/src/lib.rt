@@ -4,9 +4,11 @@
 mod commands;
 mod orders;
 mod reading;
+mod settings;
 
-pub use orders::{Order, WordFault};
+pub use orders::{FEWEST_TERMINALS, GREATEST_SEED, Order, WordFault};
 pub use reading::read_words;
+pub use settings::{LONGEST_NUMBER, USUAL_BRANCHES, USUAL_ROUNDS};
 
 /// The error of a call that finds no memory.
 pub type NoMemory = std::alloc::AllocError;

@@ -1,7 +1,8 @@
 //! The order that words give.
-ghost use Rattle.std.specs.Prelude.{◌≡◌, string_bytes};
+ghost use Rattle.std.specs.Prelude.{◌≡◌, IfOk, string_bytes};
 ghost use Rattle.std.specs.List.{list_any};
 ghost use Rattle.fp_words.specs.Commands.{is_dashes};
+ghost use Rattle.fp_words.specs.Settings.{IsWithinLimits};
 ghost use Rattle.fp_words.specs.Words.{Orders, order_of, texts};
 
 use crate::commands::{command, order_in};
@@ -20,10 +21,17 @@ fn has_dashes(words: &[String]) -> bool
 /// The order that the words after the program's name give.
 ///
 /// `BadWords` comes exactly where they have none of the forms: a command's name and the words that
-/// it takes, which are none for `direct`, `check` and `bound`. `NoMemory` only where no memory is
-/// found.
+/// it takes. These are none for `direct`, `check`, `bound` and `fleet`. For `plan` they are the
+/// options `--rounds N`, `--branches N` and `--scale N`, in any order, each at most once, as two
+/// words or as one, `--rounds=N`; for `replan` and `quote` the first two of these. For `trial` they
+/// are three numbers, SEED TERMINALS SHIPMENTS, and for `yard` one, SEED. A number is 1 to 10 ASCII
+/// digits with a value in its range: at most [`LAST_ROUND`](fp_model::LAST_ROUND) rounds, at most
+/// [`MOST_SPLITS`](fp_tree::MOST_SPLITS) branches, a scale from 1 to
+/// [`GREATEST_SCALE`](fp_model::GREATEST_SCALE), and what [`Order`] says of the others. `NoMemory`
+/// only where no memory is found.
 pub fn read_words(alloc: Global, words: &[String]) -> Result<Order, WordFault>
-    ensures { Orders (order_of (texts words.now)) result }
+    ensures order { Orders (order_of (texts words.now)) result }
+    ensures range { IfOk result IsWithinLimits }
 {
     if has_dashes(words) {
         return Err(WordFault::BadWords);

@@ -1,8 +1,12 @@
-use Rattle.std.proofs.Common.{inr, subst, sym, ◌∙◌}
+use Rattle.std.proofs.Common.{inr, rules, subst, sym, ◌∙◌}
 use Rattle.fp_words.specs.Words.{order_of, texts}
 use Rattle.fp_app.specs.Causes.{StatusOf}
+use Rattle.fp_app.specs.Runs.{Writes, reach_of}
+use Rattle.fp_app.specs.declared.shown.Status.{Status}
 use Rattle.fp_app.proofs.InputStatuses.{Answers-StatusOf}
-use Rattle.fp_app.proofs.StatusCauses.{BadInput-ShowsFault, Done-ShowsDone, Infeasible-ShowsNone}
+use Rattle.fp_app.proofs.Reaches.{BadWords-None, Writes-Answers}
+use Rattle.fp_app.proofs.Rejections.{Rejected-ShowsRejection}
+use Rattle.fp_app.proofs.StatusCauses.{BadInput-ShowsFault, Done-ShowsDone, Infeasible-ShowsInfeasible, Unfinished-ShowsOpen}
 use Rattle.fp_app.proofs.top.run.Goals as goal
 
 -- src/top.rt:63:1
@@ -23,4 +27,24 @@ returns-in-Ok-write_all-clause-completes g c = λ input told reads writes.
 -- src/top.rt:63:1
 pub returns-in-Ok-write_all-clause-infeasible : goal.returns-in-Ok-write_all-clause-infeasible
 returns-in-Ok-write_all-clause-infeasible g c = λ input told same.
-    Infeasible-ShowsNone (order_of (texts c.args.words.now)) input _ _ c.in-Ok.shown told c.in-Ok.ensures.shown (sym c.status.ensures ∙ same)
+    Infeasible-ShowsInfeasible (order_of (texts c.args.words.now)) input _ _ c.in-Ok.shown told c.in-Ok.ensures.shown (sym c.status.ensures ∙ same)
+
+-- src/top.rt:63:1
+pub returns-in-Ok-write_all-clause-unfinished : goal.returns-in-Ok-write_all-clause-unfinished
+returns-in-Ok-write_all-clause-unfinished g c = λ input told same.
+    Unfinished-ShowsOpen (order_of (texts c.args.words.now)) input _ _ c.in-Ok.shown told c.in-Ok.ensures.shown (sym c.status.ensures ∙ same)
+
+-- src/top.rt:77:1
+pub returns-in-Ok-write_all-clause-bad_words : goal.returns-in-Ok-write_all-clause-bad_words
+returns-in-Ok-write_all-clause-bad_words g c = λ same. BadWords-None (order_of (texts c.args.words.now)) _ _ c.in-Ok.shown c.in-Ok.ensures.shown (sym c.status.ensures ∙ same)
+
+-- src/top.rt:77:1
+pub returns-in-Ok-write_all-clause-rejected : goal.returns-in-Ok-write_all-clause-rejected
+returns-in-Ok-write_all-clause-rejected g c = λ input told same.
+    Rejected-ShowsRejection (order_of (texts c.args.words.now)) input _ _ c.in-Ok.shown told c.in-Ok.ensures.shown (sym c.status.ensures ∙ same)
+
+-- src/top.rt:77:1
+pub returns-in-Ok-write_all-clause-writes : goal.returns-in-Ok-write_all-clause-writes
+returns-in-Ok-write_all-clause-writes g c =
+    subst (λ (t : Status). Writes g.K.Sink.taken (reach_of t) c.args.sink.now c.write_all.new.sink c.in-Ok.shown) (sym c.status.ensures)
+    (Writes-Answers g.K.Sink.taken (order_of (texts c.args.words.now)) _ _ c.args.sink.now c.write_all.new.sink c.in-Ok.shown c.in-Ok-text.text.items c.in-Ok.ensures.shown (search rules) (search rules))

@@ -1,4 +1,3 @@
-use Rattle.std.specs.Prelude.{◌≡◌}
 use Rattle.fp_session.specs.Searches.{IsSearch, in_hand}
 use Rattle.fp_session.specs.Steps.{StayFixed, steps_left}
 use Rattle.fp_session.proofs.advances.finish.Given as goal

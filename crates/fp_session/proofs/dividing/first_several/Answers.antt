@@ -1,8 +1,7 @@
 -- A chain that doesn't end with several ways to go ends elsewhere.
-use Rattle.std.proofs.Common.{◌≡◌, ℕ, ◌+◌, ◌<◌, ◌≤◌, ◌⊎◌, inl, inr, List, below_more, refl, sym, ap, ◌∙◌, subst}
-use Rattle.std.specs.Prelude.{None, Option, Some}
+use Rattle.std.proofs.Common.{◌≡◌, ℕ, ◌⊎◌, inl, inr, below_more, sym, ap, ◌∙◌}
+use Rattle.std.specs.Prelude.{None}
 use Rattle.std.proofs.lemmas.Option.{none-some}
-use Rattle.fp_model.specs.declared.parts.Leg.{Leg}
 use Rattle.fp_model.specs.Numbered.{shipment_at}
 use Rattle.fp_allowed.specs.declared.chain_ends.ChainEnd.{ChainEnd}
 use Rattle.fp_allowed.specs.declared.chain_ends.ChainEnd.TheVariants as end

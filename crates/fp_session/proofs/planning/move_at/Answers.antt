@@ -1,6 +1,6 @@
 -- Walks that are a relaxed plan and cost less are timed; where they aren't, a shipment has several
 -- ways to go.
-use Rattle.std.proofs.Common.{◌≡◌, ◌∙◌, List, ap, arith, length, subst, sym}
+use Rattle.std.proofs.Common.{◌∙◌, List, ap, arith, length, subst, sym}
 use Rattle.std.specs.Prelude.{MatchOption, Option}
 use Rattle.std.proofs.lemmas.Bool.{false≢true}
 use Rattle.fp_model.specs.declared.parts.Shipment.{Shipment}

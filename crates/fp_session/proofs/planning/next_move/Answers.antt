@@ -3,7 +3,7 @@ use Rattle.fp_tree.specs.Nodes.{Node}
 use Rattle.fp_tree.specs.Trees.{Leaf}
 use Rattle.fp_session.specs.declared.payloads.Payload.{Payload}
 use Rattle.fp_session.specs.Nodes.{IsKeptAs}
-use Rattle.fp_session.proofs.OpenMoves.{AtOpenLeaf-both, empty-stays}
+use Rattle.fp_session.proofs.OpenMoves.{AtOpenLeaf-both}
 use Rattle.fp_session.proofs.planning.next_move.Goals as goal
 
 pub open_move-requires-clause-old : goal.open_move-requires-clause-old

@@ -1,5 +1,5 @@
 -- A relaxed plan whose timing is spent is left under the sides.
-use Rattle.std.proofs.Common.{◌≡◌, List, refl, sym, subst}
+use Rattle.std.proofs.Common.{List, refl, sym, subst}
 use Rattle.fp_model.specs.declared.parts.Leg.{Leg}
 use Rattle.fp_history.specs.Clashes.{ClashesBelow}
 use Rattle.fp_history.specs.Solutions.{AreWalksUnder}

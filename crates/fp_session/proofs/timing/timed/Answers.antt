@@ -1,5 +1,5 @@
 -- A plan that the repair found, or one more round, or the relaxed plan.
-use Rattle.std.proofs.Common.{◌≡◌, ℕ, ◌<◌, ◌≤◌, List, refl, sym, subst, arith}
+use Rattle.std.proofs.Common.{refl, arith}
 use Rattle.fp_flatnet.specs.Tables.{windows_in}
 use Rattle.fp_relaxmodel.proofs.PlansCoarsen.{HasRoutes-relaxed}
 use Rattle.fp_session.specs.Moves.{points_now}

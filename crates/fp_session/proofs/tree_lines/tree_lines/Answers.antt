@@ -1,5 +1,5 @@
-use Rattle.std.proofs.Common.{◌≡◌, ◌∙◌, ◌+◌, ◌<◌, ℕ, ap, sym, arith}
-use Rattle.fp_session.proofs.TreeLines.{IsLeafHere, leaf-here, leaf-line, split-line}
+use Rattle.std.proofs.Common.{◌∙◌, ap, sym, arith}
+use Rattle.fp_session.proofs.TreeLines.{leaf-here, leaf-line, split-line}
 use Rattle.fp_session.proofs.tree_lines.tree_lines.Goals as goal
 use Rattle.fp_session.proofs.tree_lines.tree_lines.Goals.{in-Some+in_ok-push-in-Some, in-None+in_ok-push-in-None}
 

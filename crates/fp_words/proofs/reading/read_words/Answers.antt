@@ -5,7 +5,7 @@ use Rattle.clap.specs.Words.{App, fault_of, is_simple, is_simple_and_free, subco
 use Rattle.clap.specs.declared.error.kind.ErrorKind.{ErrorKind}
 use Rattle.fp_words.specs.Commands.{app, entered_order}
 use Rattle.fp_words.specs.Words.{texts}
-use Rattle.fp_words.proofs.Parses.{order_of-dashes, order_of-failed, order_of-passed}
+use Rattle.fp_words.proofs.Forms.{order_of-dashes, order_of-failed, order_of-passed}
 use Rattle.fp_words.proofs.reading.read_words.Goals as goal
 
 app-simple : is_simple app ≡ true
@@ -18,31 +18,28 @@ among-none : (k : ErrorKind) (ks : Kinds) → IsAmong k ks → ks ≡ [] → ⊥
 among-none k [] among e = among
 among-none k (x ∷ xs) among e = cc e
 
--- src/reading.rt:28:1
-pub returns-in-Some : goal.returns-in-Some
-returns-in-Some c =
+pub returns-in-Some-clause-order : goal.returns-in-Some-clause-order
+returns-in-Some-clause-order c =
     let words = texts c.args.words.now in
     let clean = sym c.has_dashes.ensures ∙ c.if-has_dashes.false in
     let same = c.in-Ok.ensures in
     let passed : fault_of app words ≡ [] = sym (ap (λ (a : App). fault_of a words) same) ∙ c.in-Ok-try_get_matches_from.ensures.kinds (ap is_simple_and_free same ∙ app-free) in
     let entered : subcommand_rows_of c.in-Ok-try_get_matches_from.matches ≡ subcommand_of app words =
     (c.in-Ok-try_get_matches_from.ensures.matches (ap is_simple same ∙ app-simple)).1 ∙ ap (λ (a : App). subcommand_of a words) same in
-    order_of-passed c.args.words.now clean passed ∙ ap (option_and_then entered_order) (sym entered) ∙ sym c.order_in.ensures ∙ c.in-Some.is
+    order_of-passed c.args.words.now clean passed ∙ ap (option_and_then entered_order) (sym entered) ∙ sym c.order_in.ensures.order ∙ c.in-Some.is
 
--- src/reading.rt:28:1
-pub returns-in-Ok-try_get_matches_from : goal.returns-in-Ok-try_get_matches_from
-returns-in-Ok-try_get_matches_from c =
+pub returns-in-Ok-try_get_matches_from-clause-order : goal.returns-in-Ok-try_get_matches_from-clause-order
+returns-in-Ok-try_get_matches_from-clause-order c =
     let words = texts c.args.words.now in
     let clean = sym c.has_dashes.ensures ∙ c.if-has_dashes.false in
     let same = c.in-Ok.ensures in
     let passed : fault_of app words ≡ [] = sym (ap (λ (a : App). fault_of a words) same) ∙ c.in-Ok-try_get_matches_from.ensures.kinds (ap is_simple_and_free same ∙ app-free) in
     let entered : subcommand_rows_of c.in-Ok-try_get_matches_from.matches ≡ subcommand_of app words =
     (c.in-Ok-try_get_matches_from.ensures.matches (ap is_simple same ∙ app-simple)).1 ∙ ap (λ (a : App). subcommand_of a words) same in
-    order_of-passed c.args.words.now clean passed ∙ ap (option_and_then entered_order) (sym entered) ∙ sym c.order_in.ensures ∙ c.in-None.is
+    order_of-passed c.args.words.now clean passed ∙ ap (option_and_then entered_order) (sym entered) ∙ sym c.order_in.ensures.order ∙ c.in-None.is
 
--- src/reading.rt:28:1
-pub returns : goal.returns
-returns c =
+pub returns-clause-order : goal.returns-clause-order
+returns-clause-order c =
     let words = texts c.args.words.now in
     let clean = sym c.has_dashes.ensures ∙ c.if-has_dashes.false in
     let same = c.in-Ok.ensures in
@@ -54,6 +51,5 @@ returns c =
     ] in
     order_of-failed c.args.words.now clean fails
 
--- src/reading.rt:28:1
-pub returns-then-has_dashes : goal.returns-then-has_dashes
-returns-then-has_dashes c = order_of-dashes c.args.words.now (sym c.has_dashes.ensures ∙ c.if-has_dashes.true)
+pub returns-then-has_dashes-clause-order : goal.returns-then-has_dashes-clause-order
+returns-then-has_dashes-clause-order c = order_of-dashes c.args.words.now (sym c.has_dashes.ensures ∙ c.if-has_dashes.true)

@@ -1,10 +1,5 @@
 -- What was planned may be done, and it is what the answer says.
-use Rattle.std.proofs.Common.{◌≡◌, refl, sym, subst}
-use Rattle.std.specs.Prelude.{IsSomeAnd, Some}
-use Rattle.fp_history.specs.declared.endings.Ending.{Ending}
-use Rattle.fp_session.specs.Searches.{in_hand}
-use Rattle.fp_session.specs.Steps.{HasEnded}
-use Rattle.fp_session.proofs.StepsTaken.{better-cheaper, better-fixed, better-taken, close-settled, divide-division, divide-left, divide-unsettled, kept-cheaper, kept-going, refine-next, round-fixed, round-going, round-kept, round-taken, stop-left, stop-unsettled}
+use Rattle.fp_session.proofs.StepsTaken.{better-cheaper, close-settled, divide-division, divide-left, divide-unsettled, kept-cheaper, kept-going, refine-next, round-kept, stop-left, stop-unsettled}
 use Rattle.fp_session.proofs.searches.Search.apply.Goals as goal
 
 pub close-requires-clause-settled : goal.close-requires-clause-settled

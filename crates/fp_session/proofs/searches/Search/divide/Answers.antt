@@ -1,6 +1,6 @@
 -- A leaf that is divided, or has again what it had.
-use Rattle.std.proofs.Common.{◌≡◌, ℕ, ◌+◌, List, refl, sym, ap, ap₂, ◌∙◌, subst}
-use Rattle.std.specs.Prelude.{IsSomeAnd, Option, Some}
+use Rattle.std.proofs.Common.{◌≡◌, ℕ, ◌+◌, List, refl, sym, ap, ap₂, ◌∙◌}
+use Rattle.std.specs.Prelude.{IsSomeAnd}
 use Rattle.fp_tree.specs.Nodes.{Node, divide_leaf, fork_of, leaf_at, open_leaf, put_leaf, split_count, value_of}
 use Rattle.fp_tree.specs.Trees.{Leaf, with_leaf}
 use Rattle.fp_tree.proofs.TwoChanges.{with_leaf-put_back}

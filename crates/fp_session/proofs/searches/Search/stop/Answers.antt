@@ -1,4 +1,4 @@
-use Rattle.std.proofs.Common.{◌≡◌, refl}
+use Rattle.std.proofs.Common.{refl}
 use Rattle.fp_tree.specs.Nodes.{Node}
 use Rattle.fp_tree.specs.Trees.{Leaf}
 use Rattle.fp_session.specs.declared.payloads.Payload.{Payload}

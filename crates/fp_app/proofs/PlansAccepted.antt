@@ -1,0 +1,104 @@
+-- `check` accepts what `plan` prints.
+use Rattle.std.proofs.Common.{◌≡◌, ◌∙◌, ℕ, ◌+◌, ◌^◌, List, ◌++◌, length, drop, refl, sym, ap, subst, inl, inr}
+use Rattle.std.specs.Prelude.{MatchResult, Result, Ok, Err, nat_lt, not, take_while}
+use Rattle.std.proofs.Math.Seq.{drop-append_seam}
+use Rattle.std.proofs.lemmas.Bool.{cases_Bool}
+use Rattle.fp_model.specs.Problem.{Problem, weight_at}
+use Rattle.fp_records.specs.Fields.{records_of}
+use Rattle.fp_fields.specs.Faults.{Fault}
+use Rattle.fp_reader.specs.Input.{is_answer, parts_from, weighed_parts}
+use Rattle.fp_reader.specs.Parts.{nothing_read as no_parts}
+use Rattle.fp_certificate.specs.Reading.{certificate_of, nothing_read}
+use Rattle.fp_lines.specs.Statements.{Statement}
+use Rattle.fp_words.specs.declared.orders.Order.TheVariants as order
+use Rattle.fp_app.specs.declared.shown.Status.{Status}
+use Rattle.fp_app.specs.declared.shown.Status.TheVariants as status
+use Rattle.fp_app.specs.Causes.{CheckStatus, InputStatus}
+use Rattle.fp_app.specs.Checks.{IsAcceptedFor, scale_of, scaled}
+use Rattle.fp_app.specs.Inputs.{at_scale, certificate_in, instance_in, leading_instance_in, read_at_scale}
+use Rattle.fp_app.specs.Laws.{CheckAcceptsPlans}
+use Rattle.fp_app.specs.Texts.{certificate_text}
+use Rattle.fp_app.proofs.AnswerRecords.{BeginsWithAnswer, certificate-begins, instance-before_answer}
+use Rattle.fp_app.proofs.CertificateScales.{certificate-scale, scale_of-named}
+
+abbrev Records : Type 0
+Records = List (List (List ℕ))
+
+-- the records before the first `answer`
+abbrev before_answer : Records → Records
+before_answer lines = take_while (λ (r : List (List ℕ)). not (is_answer r)) lines
+
+-- an instance at a scale is one that was read, with that scale
+record IsRead (scale : ℕ) (r : Result Problem Fault) (p : Problem) : Type 0 where
+  pub instance : Problem
+  pub read : r ≡ Ok instance
+  pub at : p ≡ record instance { scale = scale }
+
+fitting : (scale : ℕ) (p q : Problem) → at_scale scale q ≡ Ok p → p ≡ record q { scale = scale }
+fitting scale p q is =
+    elim (cases_Bool (nat_lt (weight_at scale q.arcs q.shipments) (2 ^ 127))) [
+      | inl fits ↦ let same : Ok (record q { scale = scale }) ≡ Ok p = rw fits at is in cc same
+      | inr large ↦ let none = rw large at is in cc none
+    ]
+
+instance-read : (scale : ℕ) (r : Result Problem Fault) (p : Problem) → read_at_scale scale r ≡ Ok p → IsRead scale r p
+instance-read scale (Ok q) p is = record { instance = q; read = refl; at = fitting scale p q is }
+instance-read scale (Err f) p is = cc is
+
+-- the parts were read of an instance that was
+record HasParts (r : Result Problem Fault) : Type 0 where
+  pub parts : Problem
+  pub read : r ≡ Ok parts
+
+weighed-parts : (r : Result Problem Fault) (p : Problem) → weighed_parts r ≡ Ok p → HasParts r
+weighed-parts (Ok q) p is = record { parts = q; read = refl }
+weighed-parts (Err f) p is = cc is
+
+-- what was accepted is done
+accepted-done : (p : Problem) (c : Statement) (result : Status) → IsAcceptedFor p c → CheckStatus p c result → result ≡ status.Done
+accepted-done p c result accepted (inl done) = done.0
+accepted-done p c result accepted (inr rejected) = absurd (rejected.1 accepted)
+
+-- an instance and the records of a certificate that begin with an answer
+module _ (q : Problem) (input longer : List ℕ) (more : Records) (c : Statement) (read : instance_in input ≡ Ok q) (joined : records_of longer ≡ records_of input ++ more)
+    (given : (ordinal : ℕ) → certificate_of q ordinal more ≡ Ok c) where
+  leading : before_answer (records_of input ++ more) ≡ records_of input
+  leading =
+      let parts : HasParts (parts_from no_parts 1 (records_of input)) = weighed-parts (parts_from no_parts 1 (records_of input)) q read in
+      let begins : BeginsWithAnswer more = certificate-begins q 1 more c (given 1) in
+      subst (λ (lines : Records). before_answer (records_of input ++ lines) ≡ records_of input) (sym begins.is)
+      (instance-before_answer no_parts 1 (records_of input) parts.parts parts.read begins.first begins.rest begins.answer)
+
+  same-instance : leading_instance_in longer ≡ Ok q
+  same-instance =
+      ap (λ (lines : Records). weighed_parts (parts_from no_parts 1 (before_answer lines))) joined
+      ∙ ap (λ (lines : Records). weighed_parts (parts_from no_parts 1 lines)) leading
+      ∙ read
+
+  same-certificate : certificate_in q longer ≡ Ok c
+  same-certificate =
+      ap (λ (lines : Records). certificate_of q (length (before_answer lines) + 1) (drop (length (before_answer lines)) lines)) joined
+      ∙ ap (λ (lines : Records). certificate_of q (length lines + 1) (drop (length lines) (records_of input ++ more))) leading
+      ∙ ap (λ (lines : Records). certificate_of q (length (records_of input) + 1) lines) (drop-append_seam (records_of input) more)
+      ∙ given (length (records_of input) + 1)
+
+  status-check : (result : Status) → InputStatus order.Check longer result → CheckStatus (scaled q c) c result
+  status-check result is =
+      let first = subst
+      (λ (r : Result Problem Fault). MatchResult r (λ p. MatchResult (certificate_in p longer) (λ d. CheckStatus (scaled p d) d result) (λ (f : Fault). result ≡ status.BadInput)) (λ (f : Fault). result ≡ status.BadInput))
+      same-instance is in
+      subst (λ (r : Result Statement Fault). MatchResult r (λ d. CheckStatus (scaled q d) d result) (λ (f : Fault). result ≡ status.BadInput)) same-certificate first
+
+pub CheckAcceptsPlans_hold : CheckAcceptsPlans
+CheckAcceptsPlans_hold budget scale input longer p s read searched joined result is =
+    let source : IsRead scale (instance_in input) p = instance-read scale (instance_in input) p read in
+    let q : Problem = source.instance in
+    let given : (ordinal : ℕ) → certificate_of q ordinal (records_of (certificate_text p s.certificate)) ≡ Ok s.certificate =
+    λ ordinal. sym (certificate-scale q scale nothing_read ordinal (records_of (certificate_text p s.certificate)))
+    ∙ ap (λ (x : Problem). certificate_of x ordinal (records_of (certificate_text p s.certificate))) (sym source.at)
+    ∙ searched.back ordinal in
+    let own : scale_of s.certificate.scale ≡ scale = ap scale_of searched.scale ∙ scale_of-named p.scale ∙ ap (λ (x : Problem). x.scale) source.at in
+    let same : p ≡ scaled q s.certificate = source.at ∙ ap (λ (n : ℕ). record q { scale = n }) (sym own) in
+    accepted-done (scaled q s.certificate) s.certificate result
+    (subst (λ (x : Problem). IsAcceptedFor x s.certificate) same (record { table = searched.table; windows = searched.windows; accepted = searched.accepted }))
+    (status-check q input longer (records_of (certificate_text p s.certificate)) s.certificate source.read joined given result is)

@@ -1,0 +1,116 @@
+-- How far a run came that shows an answer, and when its words have no form.
+use Rattle.std.proofs.Common.{◌≡◌, ℕ, Bool, true, false, List, length, nat_lt, refl, sym, subst}
+use Rattle.std.specs.Prelude.{Option, Some, None, Result, Ok, Err, MatchBool, MatchResult}
+use Rattle.std.specs.Io.KnownBytes.{Appends, IsAtEnd}
+use Rattle.fp_model.specs.Problem.{Problem}
+use Rattle.fp_fields.specs.Faults.{Fault}
+use Rattle.fp_lines.specs.declared.certificates.Answer.{Answer}
+use Rattle.fp_lines.specs.declared.certificates.Answer.TheVariants as answer
+use Rattle.fp_lines.specs.Statements.{Statement}
+use Rattle.fp_history.specs.declared.budgets.Budget.{Budget}
+use Rattle.fp_words.specs.declared.orders.Order.{Order}
+use Rattle.fp_words.specs.declared.orders.Order.TheVariants.{Direct, Check, Bound, Plan, Trial, Fleet, Replan, Quote, Yard}
+use Rattle.fp_app.specs.declared.shown.Shown.{Shown}
+use Rattle.fp_app.specs.declared.shown.Shown.TheVariants as shown
+use Rattle.fp_app.specs.declared.shown.Status.TheVariants as status
+use Rattle.fp_app.specs.Checks.{ShowsCheck, scaled}
+use Rattle.fp_app.specs.Fleets.{ShowsFleet}
+use Rattle.fp_app.specs.Inputs.{OfCertificate, certificate_in, instance_at, instance_in, leading_instance_in, limit_of, reads_source, KeptInstance, kept_in, quoted_in}
+use Rattle.fp_app.specs.Runs.{Answers, OfInput, Reach, ShowsAlone, ShowsBound, ShowsDirect, ShowsInput, ShowsSearch, ShowsTrial, Writes, reach_of, whole, ShowsQuote, ShowsReplan}
+use Rattle.fp_app.specs.Shown.{search_status, status_of, both_status}
+use Rattle.fp_app.specs.Yards.{ShowsYard}
+use Rattle.fp_app.specs.Texts.{IsText}
+use Rattle.fp_app.proofs.SearchEnds.{both-no_other, search-no_other}
+
+-- neither of two holds
+MatchBool_neither : (b : Bool) (X Y : Type 0) → (X → ⊥) → (Y → ⊥) → MatchBool b X Y → ⊥
+MatchBool_neither true X Y first second x = first x
+MatchBool_neither false X Y first second y = second y
+
+MatchResult_neither : {A B : Type 0} (r : Result A B) (P : A → Type 0) (Q : B → Type 0) → ((x : A) → P x → ⊥) → ((y : B) → Q y → ⊥) → MatchResult r P Q → ⊥
+MatchResult_neither (Ok x) P Q first second told = first x told
+MatchResult_neither (Err y) P Q first second told = second y told
+
+-- what no command shows answers no order
+module _ (s : Shown) (fault : (f : Fault) → s ≡ shown.BadInput f.ordinal f.code → ⊥) (long : s ≡ shown.TooLong → ⊥) (direct : (p : Problem) → ShowsDirect p s → ⊥)
+    (bound : (p : Problem) → ShowsBound p s → ⊥) (search_none : (budget : Budget) (p : Problem) → ShowsSearch budget p s → ⊥) (check : (p : Problem) (c : Statement) → ShowsCheck p c s → ⊥)
+    (replan : (budget : Budget) (x : KeptInstance) → ShowsReplan budget x s → ⊥) (quote : (budget : Budget) (p : Problem) → ShowsQuote budget p s → ⊥)
+    (alone : (o : Order) → ShowsAlone o s → ⊥) (yard : (seed : ℕ) (p : Problem) (c : Statement) → ShowsYard seed p c s → ⊥)
+    (fleet : (p : Problem) (c : Statement) → ShowsFleet p c s → ⊥) where
+  no-certificate : (input : List ℕ) (P : Problem → Statement → Type 0) → ((p : Problem) (c : Statement) → P p c → ⊥) → OfCertificate input s P → ⊥
+  no-certificate input P none told =
+      MatchResult_neither (leading_instance_in input) (λ p. MatchResult (certificate_in p input) (P p) (λ (f : Fault). s ≡ shown.BadInput f.ordinal f.code)) (λ (f : Fault). s ≡ shown.BadInput f.ordinal f.code)
+      (λ p. MatchResult_neither (certificate_in p input) (P p) (λ (f : Fault). s ≡ shown.BadInput f.ordinal f.code) (none p) fault) fault told
+
+  no-input : (o : Order) (input : List ℕ) → ShowsInput o input s → ⊥
+  no-input Direct input told = MatchResult_neither (instance_in input) (λ p. ShowsDirect p s) (λ (f : Fault). s ≡ shown.BadInput f.ordinal f.code) direct fault told
+  no-input Bound input told = MatchResult_neither (instance_in input) (λ p. ShowsBound p s) (λ (f : Fault). s ≡ shown.BadInput f.ordinal f.code) bound fault told
+  no-input (Plan budget scale) input told =
+      MatchResult_neither (instance_at scale input) (λ p. ShowsSearch budget p s) (λ (f : Fault). s ≡ shown.BadInput f.ordinal f.code) (search_none budget) fault told
+  no-input (Trial seed terminals shipments) input told = told
+  no-input (Replan budget) input told =
+      MatchResult_neither (kept_in input) (λ (x : KeptInstance). ShowsReplan budget x s) (λ (f : Fault). s ≡ shown.BadInput f.ordinal f.code) (replan budget) fault told
+  no-input (Quote budget) input told = MatchResult_neither (quoted_in input) (λ p. ShowsQuote budget p s) (λ (f : Fault). s ≡ shown.BadInput f.ordinal f.code) (quote budget) fault told
+  no-input (Yard seed) input told = no-certificate input (λ p c. ShowsYard seed p c s) (yard seed) told
+  no-input Fleet input told = no-certificate input (λ p c. ShowsFleet p c s) fleet told
+  no-input Check input told = no-certificate input (λ p c. ShowsCheck (scaled p c) c s) (λ p c. check (scaled p c) c) told
+
+  no-whole : (o : Order) (old new : Option (List ℕ)) → OfInput (limit_of (Some o)) old new s (λ input. ShowsInput o input s) → ⊥
+  no-whole o old new told =
+      MatchBool_neither (nat_lt (limit_of (Some o)) (length told.0)) (s ≡ shown.TooLong) (IsAtEnd new × ShowsInput o told.0 s) long (λ part. no-input o told.0 part.1) told.2
+
+  no-answer : (o : Order) (old new : Option (List ℕ)) → Answers (Some o) old new s → ⊥
+  no-answer o old new told =
+      MatchBool_neither (reads_source o) (OfInput (limit_of (Some o)) old new s (λ input. ShowsInput o input s)) (ShowsAlone o s) (no-whole o old new) (alone o) told
+
+alone-shows_trial : (s : Shown) → ((seed terminals shipments : ℕ) → ShowsTrial seed terminals shipments s → ⊥) → (o : Order) → ShowsAlone o s → ⊥
+alone-shows_trial s none (Trial seed terminals shipments) told = none seed terminals shipments told
+alone-shows_trial s none _ told = told
+
+nothing-no_order : (o : Order) (old new : Option (List ℕ)) → Answers (Some o) old new shown.Nothing → ⊥
+nothing-no_order o old new told =
+    no-answer shown.Nothing (λ f e. cc e) (λ e. cc e) (λ p none. none) (λ p none. none) (λ budget p none. none) (λ p c none. none) (λ budget x none. none) (λ budget p none. none) (alone-shows_trial shown.Nothing (λ seed terminals shipments none. none)) (λ seed p c none. none) (λ p c none. none) o old new told
+
+words-no_order : (o : Order) (old new : Option (List ℕ)) → Answers (Some o) old new shown.BadWords → ⊥
+words-no_order o old new told =
+    no-answer shown.BadWords (λ f e. cc e) (λ e. cc e) (λ p none. none) (λ p none. none) (λ budget p none. none) (λ p c none. none) (λ budget x none. none) (λ budget p none. none) (alone-shows_trial shown.BadWords (λ seed terminals shipments none. none)) (λ seed p c none. none) (λ p c none. none) o old new told
+
+nothing-no_answer : (o : Option Order) (old new : Option (List ℕ)) → Answers o old new shown.Nothing → ⊥
+nothing-no_answer None old new told = cc told
+nothing-no_answer (Some o) old new told = nothing-no_order o old new told
+
+-- a run of an answer came through all of its text
+search-whole : (a : Answer) → reach_of (search_status a) ≡ whole
+search-whole (answer.Unfinished cost bound spent) = refl
+search-whole _ = refl
+
+both-whole : (a b : Answer) → reach_of (both_status a b) ≡ whole
+both-whole (answer.Unfinished cost bound spent) b = refl
+both-whole _ b = search-whole b
+
+shown-whole : (s : Shown) → (s ≡ shown.Nothing → ⊥) → reach_of (status_of s) ≡ whole
+shown-whole (shown.Planned p x) some = search-whole x.certificate.answer
+shown-whole (shown.Trial seed p x) some = search-whole x.certificate.answer
+shown-whole (shown.Replanned p kept x) some = search-whole x.certificate.answer
+shown-whole (shown.Quoted p x y) some = both-whole x.certificate.answer y.certificate.answer
+shown-whole shown.Nothing some = absurd (some refl)
+shown-whole _ some = refl
+
+pub Writes-Answers : {K : Type 0} (taken : K → Option (List ℕ)) (o : Option Order) (before after : Option (List ℕ)) (old new : K) (s : Shown) (text : List ℕ) → Answers o before after s → IsText s text →
+    Appends (taken old) (taken new) text → Writes taken (reach_of (status_of s)) old new s
+Writes-Answers taken o before after old new s text told is appends =
+    let reach : reach_of (status_of s) ≡ whole = shown-whole s (λ none. nothing-no_answer o before after (subst (λ (x : Shown). Answers o before after x) none told)) in
+    subst (λ (r : Reach). Writes taken r old new s) (sym reach) (text, is, appends)
+
+-- words with the status of none of the forms have none
+status_of_words : (s : Shown) → status_of s ≡ status.BadWords → s ≡ shown.BadWords
+status_of_words shown.BadWords same = refl
+status_of_words (shown.Planned p x) same = absurd (search-no_other x.certificate.answer status.BadWords (λ e. cc e) (λ e. cc e) same)
+status_of_words (shown.Trial seed p x) same = absurd (search-no_other x.certificate.answer status.BadWords (λ e. cc e) (λ e. cc e) same)
+status_of_words (shown.Replanned p kept x) same = absurd (search-no_other x.certificate.answer status.BadWords (λ e. cc e) (λ e. cc e) same)
+status_of_words (shown.Quoted p x y) same = absurd (both-no_other x.certificate.answer y.certificate.answer status.BadWords (λ e. cc e) (λ e. cc e) same)
+status_of_words _ same = let g = same in cc
+
+pub BadWords-None : (o : Option Order) (old new : Option (List ℕ)) (s : Shown) → Answers o old new s → status_of s ≡ status.BadWords → o ≡ None
+BadWords-None None old new s told same = refl
+BadWords-None (Some o) old new s told same = absurd (words-no_order o old new (subst (λ (x : Shown). Answers (Some o) old new x) (status_of_words s same) told))

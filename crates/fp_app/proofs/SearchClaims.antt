@@ -1,0 +1,174 @@
+-- What a search says of all plans, from what it has earned.
+use Rattle.std.proofs.Common.{◌≡◌, ℕ, ◌≤◌, ◌^◌, Bool, List, [], ◌∷◌, length, refl, sym, subst, inl, inr, arith}
+use Rattle.std.specs.Prelude.{◌⊎◌}
+use Rattle.std.specs.Int.{div_ceil}
+use Rattle.std.specs.List.{AllByRecursion}
+use Rattle.fp_lists.specs.Elements.{AnyByRecursion}
+use Rattle.fp_lists.proofs.Ceilings.{div_ceil_mono}
+use Rattle.fp_model.specs.declared.parts.Leg.{Leg}
+use Rattle.fp_model.specs.Costs.{cost}
+use Rattle.fp_model.specs.Problem.{Problem, horizon}
+use Rattle.fp_timenodes.specs.declared.places.AddedPoint.{AddedPoint}
+use Rattle.fp_timenodes.proofs.PointLimit.{length_distinct_new}
+use Rattle.fp_flatnet.specs.Belonging.{BelongsTo}
+use Rattle.fp_flatnet.proofs.PlansInWindows.{CoverPlans-from_windows}
+use Rattle.fp_flatnet.specs.Tables.{WindowTable, windows_in}
+use Rattle.fp_tree.specs.declared.sides.Side.{Side}
+use Rattle.fp_tree.specs.Trees.{Leaf}
+use Rattle.fp_allowed.specs.Slack.{slack}
+use Rattle.fp_prices.specs.declared.leaf_prices.Kind.{Kind}
+use Rattle.fp_prices.specs.declared.leaf_prices.Kind.TheVariants.{Linear}
+use Rattle.fp_prices.specs.declared.leaf_prices.LeafPrice.{LeafPrice}
+use Rattle.fp_prices.specs.FlatBounds.{IsFlatBound}
+use Rattle.fp_prices.specs.Leaves.{IsLeafValue}
+use Rattle.fp_prices.proofs.FlatBounds.{flat-le}
+use Rattle.fp_prices.proofs.OneValue.{leaf-value-unique}
+use Rattle.fp_lines.specs.declared.certificates.Answer.{Answer}
+use Rattle.fp_lines.specs.declared.certificates.Answer.TheVariants.{Optimal, Unfinished}
+use Rattle.fp_lines.specs.declared.certificates.Node.{Node}
+use Rattle.fp_lines.specs.declared.certificates.Node.TheVariants as node
+use Rattle.fp_lines.specs.declared.certificates.Spent.TheVariants.{Branches, Rounds}
+use Rattle.fp_lines.specs.Statements.{Statement}
+use Rattle.fp_acceptance.specs.Accepted.{Applies, Part}
+use Rattle.fp_acceptance.specs.Claims.{ClaimsWithin, NoPlanWithinCheaper}
+use Rattle.fp_acceptance.specs.Plans.{HasPlan, routes_of, stated_cost}
+use Rattle.fp_acceptance.proofs.Claims.{AcceptedClaims_hold}
+use Rattle.fp_certificate.specs.Readable.{Allows, WrittenReadsBack}
+use Rattle.fp_history.specs.declared.budgets.Budget.{Budget}
+use Rattle.fp_history.specs.declared.endings.Left.{Left}
+use Rattle.fp_history.specs.declared.endings.Left.TheVariants.{Nothing, Several, Timing}
+use Rattle.fp_history.specs.Notes.{History, added_of, points_of}
+use Rattle.fp_history.specs.PrintedLeaves.{IsEmptyAt, IsPrintedLeaf, IsWorth, OfLeaf}
+use Rattle.fp_history.specs.Solutions.{HasCause, IsEarnedSolution, Solution, branches_shown, history_of, leaves_shown}
+use Rattle.fp_history.specs.Splits.{IsEarnedAt}
+use Rattle.fp_history.proofs.AddedPoints.{AreAddedPoints-IsEarnedTrace, points-in_time}
+use Rattle.fp_history.proofs.Enough.{EnoughBranches_hold, EnoughRounds_hold}
+use Rattle.fp_session.specs.Solved.{IsSolved}
+use Rattle.fp_app.specs.Searches.{AreInTime, IsSearched, SaysOfPlans}
+use Rattle.fp_app.specs.Wanted.{AreWindowsFor, IsFirstPlan, IsWanted, NoneWantedCheaper, Wanted, WantedExists, every, keeping}
+use Rattle.fp_app.proofs.OneKeptTable.{AreKeptWindowsOf-unique}
+use Rattle.fp_app.proofs.OneTable.{AreWindowsOf_unique}
+use Rattle.fp_app.proofs.PlainValues.{flat-le_leaf}
+
+-- a printed leaf with a value is worth the flat bound
+flat-price : (h : History) (sides : List Side) (price : LeafPrice) (flat value : ℕ) → IsFlatBound h.problem flat → IsEmptyAt h sides price ⊎ IsEarnedAt h sides price →
+    IsLeafValue h.problem (windows_in h.windows) (points_of h price.round) sides h.tables price.kind price.forced value → flat ≤ value
+flat-price h sides price flat value least (inl empty) is =
+    let linear = subst (λ (k : Kind). IsLeafValue h.problem (windows_in h.windows) (points_of h price.round) sides h.tables k price.forced value) empty.linear is in
+    let plain = subst (λ (f : Bool). IsLeafValue h.problem (windows_in h.windows) (points_of h price.round) sides h.tables Linear f value) empty.plain linear in
+    flat-le h.problem (windows_in h.windows) (points_of h price.round) sides h.tables flat value least plain
+flat-price h sides price flat value least (inr earned) is =
+    let same : earned.value ≡ value = leaf-value-unique h.problem (windows_in h.windows) (points_of h price.round) sides h.tables price.kind price.forced earned.value value earned.is is in
+    subst (λ (n : ℕ). flat ≤ n) same (flat-le_leaf h.problem (windows_in h.windows) (points_of h price.round) sides h.tables price.kind price.forced flat least earned)
+
+flat-node : (h : History) (n : Node) (sides : List Side) (flat bound : ℕ) → IsFlatBound h.problem flat → IsPrintedLeaf h (record { node = n; sides = sides }) →
+    OfLeaf (λ price under. IsWorth h under price bound) (record { node = n; sides = sides }) → div_ceil flat h.problem.scale ≤ bound
+flat-node h (node.Branch split) sides flat bound least printed worth = absurd worth
+flat-node h (node.Leaf price) sides flat bound least printed worth =
+    subst (λ (n : ℕ). div_ceil flat h.problem.scale ≤ n) (sym worth.rounded) (div_ceil_mono flat worth.value h.problem.scale (flat-price h sides price flat worth.value least printed worth.is))
+
+-- so the worth of a printed leaf is at least the flat bound in whole units
+flat-leaves : (h : History) (leaves : List (Leaf Node)) (flat bound : ℕ) → IsFlatBound h.problem flat → AllByRecursion (IsPrintedLeaf h) leaves →
+    AnyByRecursion (OfLeaf (λ price sides. IsWorth h sides price bound)) leaves → div_ceil flat h.problem.scale ≤ bound
+flat-leaves h [] flat bound least all any = absurd any
+flat-leaves h (l ∷ leaves) flat bound least all (inl here) = flat-node h l.node l.sides flat bound least all.0 here
+flat-leaves h (l ∷ leaves) flat bound least all (inr later) = flat-leaves h leaves flat bound least all.1 later
+
+-- the windows of the wanted plans belong to the instance
+windows-belong : (p : Problem) (wanted : Wanted) (table : WindowTable) → AreWindowsFor p wanted table → BelongsTo p table
+windows-belong p every table windows = windows.belongs
+windows-belong p (keeping kept) table windows = windows.belongs
+
+-- there is one table of them
+windows-one : (p : Problem) (wanted : Wanted) (one two : WindowTable) → AreWindowsFor p wanted one → AreWindowsFor p wanted two → one ≡ two
+windows-one p every one two first second = AreWindowsOf_unique p one two first second
+windows-one p (keeping kept) one two first second = AreKeptWindowsOf-unique p kept one two first second
+
+-- what no plan within them costs less than, no wanted plan does
+wanted-cheaper : (p : Problem) (wanted : Wanted) (table : WindowTable) (c : ℕ) → AreWindowsFor p wanted table → NoPlanWithinCheaper p (windows_in table) c → NoneWantedCheaper p wanted c
+wanted-cheaper p every table c windows within = λ d routes some is. within d routes some is (CoverPlans-from_windows p (windows_in table) windows.exact d routes some is)
+wanted-cheaper p (keeping kept) table c windows within = λ d routes some is keeps. within d routes some is ((windows.tell d routes some is).1 keeps)
+
+-- what the answer of a search says, by what it left
+module _ (p : Problem) (wanted : Wanted) (table : WindowTable) (budget : Budget) (started : ℕ) (s : Solution) (windows : AreWindowsFor p wanted table) (earned : IsEarnedSolution p table budget started s) where
+  abbrev Caused : Left → Answer → Type 0
+  Caused = HasCause (history_of p table s) budget (leaves_shown p s) (branches_shown p s)
+
+  says-by : (left : Left) (a : Answer) → s.certificate.answer ≡ a → Caused left a → ClaimsWithin p (windows_in table) a → SaysOfPlans p wanted budget a
+  says-by Nothing (Optimal cost) same cause claims = wanted-cheaper p wanted table cost windows claims
+  says-by (Timing leaf relaxed) (Unfinished cost bound Rounds) same cause claims = record {
+    plans = wanted-cheaper p wanted table bound windows claims;
+    below = cause.2;
+    flat = λ flat least. flat-leaves (history_of p table s) (leaves_shown p s) flat bound least earned.leaves cause.1.some;
+    scarce = λ enough. EnoughRounds_hold p table budget started s (windows-belong p wanted table windows) earned enough cost bound same;
+  }
+  says-by (Several leaf shipment) (Unfinished cost bound Branches) same cause claims = record {
+    plans = wanted-cheaper p wanted table bound windows claims;
+    below = cause.2;
+    flat = λ flat least. flat-leaves (history_of p table s) (leaves_shown p s) flat bound least earned.leaves cause.1.some;
+    scarce = λ enough. EnoughBranches_hold p table budget started s (windows-belong p wanted table windows).valid earned
+        (subst (λ (t : WindowTable). 2 ^ slack p (windows_in t) [] ≤ budget.branches) (windows-one p wanted enough.0 table enough.1 windows) enough.2) cost bound same;
+  }
+  says-by _ _ same cause claims = absurd cause
+
+-- an answer of a search has a timetable, and any lines may stand under it
+has-timetable : (p : Problem) (wanted : Wanted) (budget : Budget) (a : Answer) → SaysOfPlans p wanted budget a → Applies a Part.Plan × Applies a Part.Cost × Applies a Part.Trucks
+has-timetable p wanted budget (Optimal cost) says = (tt, tt, tt)
+has-timetable p wanted budget (Unfinished cost bound spent) says = (tt, tt, tt)
+has-timetable p wanted budget _ says = absurd says
+
+allows : (p : Problem) (wanted : Wanted) (budget : Budget) (a : Answer) (c : Statement) → SaysOfPlans p wanted budget a → Allows a c
+allows p wanted budget (Optimal cost) c says = tt
+allows p wanted budget (Unfinished cost bound spent) c says = tt
+allows p wanted budget _ c says = absurd says
+
+-- the points that a search has added are in time
+earned-in_time : (p : Problem) (table : WindowTable) (budget : Budget) (started : ℕ) (s : Solution) → BelongsTo p table → IsEarnedSolution p table budget started s → AreInTime p s.certificate.points
+earned-in_time p table budget started s belongs earned =
+    let h : History = history_of p table s in
+    let ended : ℕ = stated_cost s.certificate.answer in
+    let each = points-in_time h started ended belongs earned.trace in
+    let few = length_distinct_new (length p.terminals) (horizon p.shipments) (added_of s.trace) (AreAddedPoints-IsEarnedTrace h started ended earned.trace).once each in
+    subst (λ (points : List AddedPoint). AreInTime p points) (sym earned.points) (record { each = each; few = few })
+
+-- the plan of the certificate is wanted
+is-wanted : (p : Problem) (wanted : Wanted) (table : WindowTable) (c : Statement) → AreWindowsFor p wanted table → HasPlan p (windows_in table) c → IsWanted wanted (routes_of p c)
+is-wanted p every table c windows has = tt
+is-wanted p (keeping kept) table c windows has = let some : 1 ≤ 1 = omega arith in (windows.tell 1 (routes_of p c) some has.plan).0 has.within
+
+-- what a search shows that began with the first plan
+solved-searched : (p : Problem) (wanted : Wanted) (table : WindowTable) (budget : Budget) (first : List (List Leg)) (s : Solution) → AreWindowsFor p wanted table → IsFirstPlan p wanted first → WrittenReadsBack p →
+    IsSolved p table budget (cost p first) s → IsSearched p wanted budget s
+solved-searched p wanted table budget first s windows begins back solved =
+    let belongs : BelongsTo p table = windows-belong p wanted table windows in
+    let claims : ClaimsWithin p (windows_in table) s.certificate.answer = AcceptedClaims_hold.within p table s.certificate belongs.valid solved.range solved.accepted in
+    let says : SaysOfPlans p wanted budget s.certificate.answer = says-by p wanted table budget (cost p first) s windows solved.earned s.left s.certificate.answer refl solved.earned.cause claims in
+    let parts = has-timetable p wanted budget s.certificate.answer says in
+    record {
+      table = table;
+      windows = windows;
+      timetable = record { plan = solved.accepted Part.Plan parts.0; cost = solved.accepted Part.Cost parts.1; trucks = solved.accepted Part.Trucks parts.2 };
+      is_wanted = is-wanted p wanted table s.certificate windows (solved.accepted Part.Plan parts.0);
+      accepted = solved.accepted;
+      back = back s.certificate solved.range solved.countable (allows p wanted budget s.certificate.answer s.certificate says);
+      scale = solved.scale;
+      first = first;
+      begins = begins;
+      earned = solved.earned;
+      points = earned-in_time p table budget (cost p first) s belongs solved.earned;
+      says = says;
+    }
+
+-- the same of a session of the instance, its windows and the budget
+pub session-searched : (p q : Problem) (wanted : Wanted) (table t : WindowTable) (budget b : Budget) (started : ℕ) (first : List (List Leg)) (s : Solution) → AreWindowsFor p wanted table → IsFirstPlan p wanted first →
+    WrittenReadsBack p → q ≡ p → t ≡ table → b ≡ budget → started ≡ cost p first → IsSolved q t b started s → IsSearched p wanted budget s
+session-searched p q wanted table t budget b started first s windows begins back instance whole same cheap solved =
+    let one : IsSolved p t b started s = subst (λ (x : Problem). IsSolved x t b started s) instance solved in
+    let two : IsSolved p table b started s = subst (λ (x : WindowTable). IsSolved p x b started s) whole one in
+    let three : IsSolved p table budget started s = subst (λ (x : Budget). IsSolved p table x started s) same two in
+    solved-searched p wanted table budget first s windows begins back (subst (λ (n : ℕ). IsSolved p table budget n s) cheap three)
+
+-- a wanted plan exists where a search shows one
+pub searched-exists : (p : Problem) (wanted : Wanted) (budget : Budget) (s : Solution) → IsSearched p wanted budget s → WantedExists p wanted
+searched-exists p every budget s told = let some : 1 ≤ 1 = omega arith in (1, _, some, told.timetable.plan.plan)
+searched-exists p (keeping kept) budget s told = let some : 1 ≤ 1 = omega arith in (1, _, some, told.timetable.plan.plan, told.is_wanted)

@@ -1,0 +1,27 @@
+-- What `quote` shows: what the last shipment of an instance adds to the cost.
+use Rattle.std.specs.Prelude.{ℕ, ◌-◌, ◌≡◌}
+use Rattle.fp_model.specs.Problem.{Problem}
+use Rattle.fp_lines.specs.declared.certificates.Answer.{Answer}
+use Rattle.fp_lines.specs.declared.certificates.Answer.TheVariants.{Optimal}
+use Rattle.fp_acceptance.specs.Accepted.{claim_of}
+use Rattle.fp_acceptance.specs.Plans.{stated_cost}
+use Rattle.fp_history.specs.declared.budgets.Budget.{Budget}
+use Rattle.fp_history.specs.Solutions.{Solution}
+use Rattle.fp_replan.specs.declared.ranges.Bracket.{Bracket}
+use Rattle.fp_replan.specs.Quotes.{IsBetween, IsExtraCost, without_last}
+use Rattle.fp_app.specs.Searches.{IsSearched}
+use Rattle.fp_app.specs.Wanted.{every}
+
+-- the least and the greatest that the last shipment can add, by the answers of the searches without
+-- it and with it
+abbrev pub extra_of : Answer → Answer → Bracket
+extra_of before after = record { low = claim_of after - stated_cost before; high = stated_cost after - claim_of before }
+
+-- two searches without the last shipment and with it, each with the whole budget. The extra cost of
+-- the shipment lies between their two figures, and where both answers are optimal it is both of them.
+pub record IsQuoted (p : Problem) (budget : Budget) (before after : Solution) : Type 0 where
+  pub without : IsSearched (without_last p) every budget before
+  pub with_it : IsSearched p every budget after
+  pub between : (extra : ℕ) → IsExtraCost p extra → IsBetween (extra_of before.certificate.answer after.certificate.answer) extra
+  pub exact : (least most : ℕ) → before.certificate.answer ≡ Optimal least → after.certificate.answer ≡ Optimal most →
+      IsExtraCost p (most - least) × (extra_of before.certificate.answer after.certificate.answer ≡ record { low = most - least; high = most - least })

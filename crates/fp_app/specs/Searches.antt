@@ -1,0 +1,73 @@
+-- What a search shows of an instance of which there is a plan that it looks for.
+-- The problem and its network: Boland, Hewitt, Marshall and Savelsbergh, "The Continuous-Time
+-- Service Network Design Problem", Operations Research 65, 2017.
+use Rattle.std.specs.Prelude.{ℕ, ◌+◌, ◌*◌, ◌^◌, ◌<◌, ◌≤◌, ◌≡◌, List, [], All, length}
+use Rattle.fp_model.specs.declared.parts.Leg.{Leg}
+use Rattle.fp_model.specs.Costs.{cost}
+use Rattle.fp_model.specs.Problem.{Problem, horizon}
+use Rattle.fp_timenodes.specs.declared.places.AddedPoint.{AddedPoint}
+use Rattle.fp_flatnet.specs.Tables.{WindowTable, windows_in}
+use Rattle.fp_allowed.specs.Slack.{slack}
+use Rattle.fp_prices.specs.FlatBounds.{IsFlatBound}
+use Rattle.fp_lines.specs.declared.certificates.Answer.{Answer}
+use Rattle.fp_lines.specs.declared.certificates.Answer.TheVariants.{Optimal, Unfinished}
+use Rattle.fp_lines.specs.declared.certificates.Spent.{Spent}
+use Rattle.fp_lines.specs.declared.certificates.Spent.TheVariants.{Branches, Rounds}
+use Rattle.fp_acceptance.specs.Accepted.{IsAccepted}
+use Rattle.fp_acceptance.specs.Plans.{HasTimetable, routes_of}
+use Rattle.fp_certificate.specs.Readable.{ReadsBack}
+use Rattle.fp_history.specs.declared.budgets.Budget.{Budget}
+use Rattle.fp_history.specs.Solutions.{IsEarnedSolution, Solution}
+use Rattle.fp_session.specs.Certificates.{named_scale}
+use Rattle.fp_app.specs.Bounds.{whole_units}
+use Rattle.fp_app.specs.Wanted.{AreWindowsFor, IsFirstPlan, IsWanted, NoneWantedCheaper, Wanted}
+
+-- a budget that a search of the instance can't use up: as many rounds as the terminals times one
+-- more than the latest due time, or as many branches as 2 to the power of the slack
+abbrev pub IsEnough : Problem → Wanted → Budget → Spent → Type 0
+IsEnough p wanted budget Rounds = length p.terminals * (horizon p.shipments + 1) ≤ budget.rounds
+IsEnough p wanted budget Branches = (table : WindowTable) × AreWindowsFor p wanted table × (2 ^ slack p (windows_in table) [] ≤ budget.branches)
+
+-- the budget of a trial: 40 rounds and 100 branches
+abbrev pub trial_budget : Budget
+trial_budget = record { rounds = 40; branches = 100 }
+
+-- A number under which no wanted plan costs, over any denominator. It is below the cost of the plan that is
+-- shown, and at least the flat bound in whole units; what was spent was not enough.
+pub record IsBoundBelow (p : Problem) (wanted : Wanted) (budget : Budget) (cost bound : ℕ) (spent : Spent) : Type 0 where
+  pub plans : NoneWantedCheaper p wanted bound
+  pub below : bound < cost
+  pub flat : (flat : ℕ) → IsFlatBound p flat → whole_units p flat ≤ bound
+  pub scarce : IsEnough p wanted budget spent → ⊥
+
+-- what the answer of a search says of the wanted plans, over every denominator: none is cheaper, or none
+-- costs less than a bound
+abbrev pub SaysOfPlans : Problem → Wanted → Budget → Answer → Type 0
+SaysOfPlans p wanted budget (Optimal cost) = NoneWantedCheaper p wanted cost
+SaysOfPlans p wanted budget (Unfinished cost bound spent) = IsBoundBelow p wanted budget cost bound spent
+SaysOfPlans p wanted budget _ = ⊥
+
+-- each added point is at a terminal, after 0 and by the latest due time; so there are at most as many
+-- as the terminals times that time
+pub record AreInTime (p : Problem) (points : List AddedPoint) : Type 0 where
+  pub each : All (λ (q : AddedPoint). (q.terminal < length p.terminals) × (1 ≤ q.at) × (q.at ≤ horizon p.shipments)) points
+  pub few : length points ≤ length p.terminals * horizon p.shipments
+
+-- What a search shows of an instance. Its legs are a wanted plan in whole units, its cost is that
+-- plan's, and its trucks are that plan's departures. Its certificate is accepted under the windows of
+-- the wanted plans, and the records of its text give it back. The search began with the first plan,
+-- and has earned what it shows; its points are in time. What its answer says of the wanted plans is
+-- true.
+pub record IsSearched (p : Problem) (wanted : Wanted) (budget : Budget) (s : Solution) : Type 0 where
+  pub table : WindowTable
+  pub windows : AreWindowsFor p wanted table
+  pub timetable : HasTimetable p (windows_in table) s.certificate
+  pub is_wanted : IsWanted wanted (routes_of p s.certificate)
+  pub accepted : IsAccepted p table s.certificate
+  pub back : ReadsBack p s.certificate
+  pub scale : s.certificate.scale ≡ named_scale p.scale
+  pub first : List (List Leg)
+  pub begins : IsFirstPlan p wanted first
+  pub earned : IsEarnedSolution p table budget (cost p first) s
+  pub points : AreInTime p s.certificate.points
+  pub says : SaysOfPlans p wanted budget s.certificate.answer

@@ -1,0 +1,31 @@
+-- What `yard` shows.
+use Rattle.std.specs.Prelude.{ℕ, ◌<◌, ◌≡◌, List, length, true}
+use Rattle.fp_model.specs.declared.parts.Leg.{Leg}
+use Rattle.fp_model.specs.Problem.{Problem}
+use Rattle.fp_lines.specs.Statements.{Statement}
+use Rattle.fp_yard.specs.declared.events.Event.{Event}
+use Rattle.fp_yard.specs.Choices.{IsChosen}
+use Rattle.fp_yard.specs.Events.{IsLegal, arrived, departed}
+use Rattle.fp_yard.specs.Schedules.{HasEnds, IsPlanSchedule, IsSound, Schedule}
+use Rattle.fp_app.specs.declared.shown.Shown.{Shown}
+use Rattle.fp_app.specs.declared.shown.Shown.TheVariants as shown
+use Rattle.fp_app.specs.Plans.{IsToldPlan, ShowsUntold}
+
+-- The log of a plan that is run at its terminals to its end: a legal history of the plan's schedule,
+-- which the draws from a seed choose, in which each line departs and arrives. Since it is legal, each
+-- does so once.
+pub record IsDrawnLog (p : Problem) (plan : List (List Leg)) (seed : ℕ) (log : List Event) : Type 0 where
+  pub schedule : Schedule
+  pub is : IsPlanSchedule p plan schedule
+  pub sound : IsSound schedule
+  pub ends : HasEnds p schedule
+  pub legal : IsLegal schedule log
+  pub chosen : IsChosen schedule seed log
+  pub each : (line : ℕ) → line < length schedule.tails → (departed log line ≡ true) × (arrived log line ≡ true)
+
+-- what is shown of a certificate: the plan that it tells, with the log that draws from a seed choose,
+-- or why it tells none
+abbrev pub ShowsYard : ℕ → Problem → Statement → Shown → Type 0
+ShowsYard seed p c (shown.Yard instance plan log) = (instance ≡ p) × IsToldPlan p c plan × IsDrawnLog p plan seed log.items
+ShowsYard seed p c (shown.RejectedPart number) = ShowsUntold p c number
+ShowsYard seed p c _ = ⊥

@@ -1,0 +1,11 @@
+//! Laws on what runs answer, without a body.
+ghost use Rattle.fp_app.specs.Laws.{CheckAcceptsPlans};
+
+/// `check` accepts what `plan` prints: where the records of an input are those of an instance and
+/// after them those of the text that `plan` prints of it, the status that `check` has for the input
+/// is 0, with memory and without a fault of its source and its sink.
+///
+/// The instance may be at any scale that fits it: the text names it.
+pub fn check_accepts_plans()
+    ensures { CheckAcceptsPlans }
+{}

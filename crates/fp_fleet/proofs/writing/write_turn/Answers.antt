@@ -1,0 +1,24 @@
+use Rattle.std.proofs.Common.{[], ◌∷◌}
+use Rattle.std.specs.Prelude.{codes, decimal}
+use Rattle.fp_fleet.specs.Rows.{depart_text, from_name, to_name}
+use Rattle.fp_fleet.proofs.FleetTexts.{ended-line}
+use Rattle.fp_fleet.proofs.writing.write_turn.Goals as goal
+
+pub returns-clause-text : goal.returns-clause-text
+returns-clause-text c =
+    let p = c.args.instance.now in
+    let lines = c.args.lines.now in
+    let t = c.args.turn.now in
+    ended-line c.end.result c.args.line.now c.end.new.self (codes "turn")
+    (from_name p lines t.before ∷ to_name p lines t.before ∷ depart_text lines t.before ∷ to_name p lines t.after ∷ depart_text lines t.after ∷ decimal t.count ∷ []) c.requires.begun
+    (rw (
+      c.in_ok-number-3.ensures.ok,
+      c.in_ok-number-2.ensures.ok,
+      c.in_ok-write_to-2.ensures,
+      c.in_ok-number.ensures.ok,
+      c.in_ok-write_to.ensures,
+      c.in_ok-write_from.ensures,
+      c.in_ok-word.ensures.ok,
+      c.from-2.ensures,
+      c.from.ensures,
+    ) at c.end.ensures.ok)

@@ -1,0 +1,9 @@
+pub mod Rosters
+pub mod Deficits
+pub mod Counts
+pub mod Fleets
+pub mod Fits
+pub mod Rows
+pub mod Arrivals
+pub mod Sweeps
+pub mod NeedTables

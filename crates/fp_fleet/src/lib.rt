@@ -1,0 +1,25 @@
+//! The fewest trucks that run the truck lines of a plan, without empty moves.
+//!
+//! A truck that arrives at a terminal may leave it again at the same moment or later. The source of
+//! the problem is Dantzig and Fulkerson, "Minimizing the number of tankers to meet a fixed
+//! schedule", Naval Research Logistics Quarterly 1, 1954.
+#![tactic(auto)]
+
+mod acceptance;
+mod arrivals;
+mod deficits;
+mod fewest_trucks;
+mod fleets;
+mod needs;
+mod orders;
+mod rosters;
+mod sweeps;
+mod writing;
+
+pub use acceptance::accepts;
+pub use fewest_trucks::fewest;
+pub use fleets::{Begin, Fleet, Need, Turn};
+pub use writing::write;
+
+/// The error of a call that finds no memory.
+pub type NoMemory = std::alloc::AllocError;

@@ -1,0 +1,10 @@
+pub mod BegunPlans
+pub mod BegunRoutes
+pub mod ListParts
+pub mod KeptBeginnings
+pub mod KeptRecords
+pub mod KeptRoutes
+pub mod NarrowRows
+pub mod OnwardWalks
+pub mod PlansWithout
+pub mod RoutesOff

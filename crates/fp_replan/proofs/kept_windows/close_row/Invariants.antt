@@ -1,0 +1,15 @@
+use Rattle.std.proofs.Common.{◌≡◌, ◌≢◌, ◌<◌, ◌≤◌, ℕ, cond, length}
+use Rattle.std.specs.Prelude.{None}
+use Rattle.fp_flatnet.specs.Belonging.{BelongsTo}
+use Rattle.fp_flatnet.specs.Tables.{windows_in}
+use Rattle.fp_replan.specs.KeptWindows.{shut_off}
+use Rattle.fp_replan.proofs.kept_windows.close_row.Given as goal
+
+abbrev pub invariant-loop-number : goal.invariant-loop-number
+invariant-loop-number l = record {
+  belongs : BelongsTo l.instance l.windows;
+  anchors : l.windows.anchors ≡ l.fn.windows.anchors;
+  done : (a : ℕ) → a < l.number → windows_in l.windows l.shipment a ≡ cond (shut_off l.instance l.legs a) None (windows_in l.fn.windows l.shipment a);
+  left : (a : ℕ) → l.number ≤ a → windows_in l.windows l.shipment a ≡ windows_in l.fn.windows l.shipment a;
+  others : (k a : ℕ) → k ≢ l.shipment → windows_in l.windows k a ≡ windows_in l.fn.windows k a;
+}

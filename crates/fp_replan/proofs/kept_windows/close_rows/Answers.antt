@@ -1,0 +1,48 @@
+use Rattle.std.proofs.Common.{◌≡◌, ◌≢◌, ◌<◌, ◌≤◌, ◌∙◌, ◌+◌, ℕ, Bool, List, cond, length, sym, ap, subst, ⊎_elim, arith}
+use Rattle.std.specs.Prelude.{None, Option}
+use Rattle.std.specs.declared.alloc.Global.{Global}
+use Rattle.std.specs.declared.vec.Vec.{Vec}
+use Rattle.std.proofs.lemmas.Bool.{cases_lt}
+use Rattle.fp_lists.specs.Vectors.{lists_of}
+use Rattle.fp_lists.proofs.Maps.{lists_of-get_or}
+use Rattle.fp_model.specs.declared.parts.Leg.{Leg}
+use Rattle.fp_model.specs.Numbered.{route_at}
+use Rattle.fp_model.specs.Routes.{ArcsExist}
+use Rattle.fp_flatnet.specs.declared.window_tables.Window.{Window}
+use Rattle.fp_flatnet.specs.Tables.{windows_in}
+use Rattle.fp_replan.specs.KeptWindows.{shut_off}
+use Rattle.fp_replan.proofs.kept_windows.close_rows.Goals as goal
+
+pub close_row-requires-clause-legs : goal.close_row-requires-clause-legs
+close_row-requires-clause-legs c =
+    let vectors = c.args.beginnings.now in
+    let n = c.loop-number.number in
+    let same : c.deref.result.now ≡ route_at (lists_of vectors) n =
+    c.deref.ensures.value ∙ ap (λ (v : Vec Leg Global). v.items) c.index-beginnings-number.is ∙ sym (lists_of-get_or vectors n c.index-beginnings-number.result c.loop-number-test.true) in
+    subst (ArcsExist c.args.instance.now) (sym same) (c.requires.legs n c.loop-number-test.true)
+
+pub loop-number-preserved : goal.loop-number-preserved
+loop-number-preserved c =
+    let p = c.args.instance.now in
+    let vectors = c.args.beginnings.now in
+    let n = c.loop-number.number in
+    let new = windows_in c.close_row.new.windows in
+    let same : c.deref.result.now ≡ route_at (lists_of vectors) n =
+    c.deref.ensures.value ∙ ap (λ (v : Vec Leg Global). v.items) c.index-beginnings-number.is ∙ sym (lists_of-get_or vectors n c.index-beginnings-number.result c.loop-number-test.true) in
+    record {
+      belongs = c.close_row.ensures.belongs;
+      anchors = c.close_row.ensures.anchors ∙ c.loop-number.invariant.anchors;
+      done = λ k a lt exists.
+          ⊎_elim
+          (λ (before : k < n). c.close_row.ensures.others k a (let ne : k ≢ n = omega (arith, before) in ne) ∙ c.loop-number.invariant.done k a before exists)
+          (λ (after : n ≤ k).
+          let here : k ≡ n = omega (arith, after, lt) in
+          ap (λ m. new m a) here
+          ∙ c.close_row.ensures.row a exists
+          ∙ ap (λ (ls : List Leg). cond (shut_off p ls a) None (windows_in c.loop-number.windows n a)) same
+          ∙ ap (λ (o : Option Window). cond (shut_off p (route_at (lists_of vectors) n) a) None o) (c.loop-number.invariant.left n a (let le : n ≤ n = omega arith in le))
+          ∙ ap (λ m. cond (shut_off p (route_at (lists_of vectors) m) a) None (windows_in c.args.windows.now m a)) (sym here))
+          (cases_lt k n);
+      left = λ k a le.
+          c.close_row.ensures.others k a (let ne : k ≢ n = omega (arith, le) in ne) ∙ c.loop-number.invariant.left k a (omega (arith, le));
+    }

@@ -1,0 +1,24 @@
+use Rattle.std.proofs.Common.{◌≡◌, ◌<◌, ◌∙◌, length, sym, ap, subst, arith}
+use Rattle.std.specs.declared.alloc.Global.{Global}
+use Rattle.std.specs.declared.vec.Vec.{Vec}
+use Rattle.std.proofs.lemmas.List.{length-map}
+use Rattle.fp_lists.specs.Vectors.{lists_of}
+use Rattle.fp_lists.proofs.Maps.{lists_of-get_or}
+use Rattle.fp_model.specs.declared.parts.Leg.{Leg}
+use Rattle.fp_model.specs.Numbered.{route_at}
+use Rattle.fp_model.specs.Routes.{ArcsExist}
+use Rattle.fp_replan.proofs.KeptBeginnings.{beginning-arcs}
+use Rattle.fp_replan.proofs.KeptRecords.{shipment_in-lt}
+use Rattle.fp_replan.proofs.reading.read_leg.Goals as goal
+
+pub goes_on-requires-clause-legs : goal.goes_on-requires-clause-legs
+goes_on-requires-clause-legs c =
+    let p = c.args.instance.now in
+    let k = c.in-Some.shipment in
+    let vectors = c.args.beginnings.now in
+    let named = rw c.requires.lookup at c.in-Some.ensures in
+    let lt : k < length p.shipments = omega (arith, named.1, shipment_in-lt p c.args.line.now 1 named.0) in
+    let there : k < length vectors = omega (arith, lt, c.requires.beginnings.one_each, length-map vectors (λ (v : Vec Leg Global). v.items)) in
+    let same : c.deref.result.now ≡ route_at (lists_of vectors) k =
+    c.deref.ensures.value ∙ ap (λ (v : Vec Leg Global). v.items) c.index-beginnings-shipment.is ∙ sym (lists_of-get_or vectors k c.index-beginnings-shipment.result there) in
+    subst (ArcsExist p) (sym same) (beginning-arcs p c.args.kept.now (length p.shipments) k (lists_of vectors) c.requires.kept c.requires.beginnings lt)

@@ -1,0 +1,2 @@
+mod OrderedArrivals
+mod YardTexts

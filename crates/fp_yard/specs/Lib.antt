@@ -1,0 +1,11 @@
+pub mod Schedules
+pub mod Events
+pub mod Places
+pub mod Faults
+pub mod Freight
+pub mod Journeys
+pub mod Layout
+pub mod Models
+pub mod Yards
+pub mod Enabled
+pub mod Choices
