@@ -1,9 +1,8 @@
 -- What is known of a log that draws choose, once no event is allowed any more.
-use Rattle.std.proofs.Common.{◌≡◌, ◌∙◌, ℕ, ◌<◌, List, [], length, take, sym, ap, subst}
+use Rattle.std.proofs.Common.{◌≡◌, ◌∙◌, ℕ, ◌<◌, true, List, length, sym, ap, subst}
 use Rattle.std.specs.Prelude.{All}
 use Rattle.fp_model.specs.declared.parts.Leg.{Leg}
 use Rattle.std.proofs.lemmas.List.{length-map}
-use Rattle.std.proofs.lemmas.List.Elements.{All-from_get_or}
 use Rattle.fp_model.specs.Problem.{Problem, arc_at}
 use Rattle.fp_model.specs.Plans.{IsPlan}
 use Rattle.fp_lines.specs.Statements.{Statement}
@@ -11,26 +10,16 @@ use Rattle.fp_timetable.specs.declared.lines.TruckLine.{TruckLine}
 use Rattle.fp_timetable.specs.Lines.{AreTruckLines}
 use Rattle.fp_timetable.proofs.DepartureLines.{AreTruckLines-unique}
 use Rattle.fp_yard.specs.declared.events.Event.{Event}
-use Rattle.fp_yard.specs.declared.events.EventKind.{EventKind}
-use Rattle.fp_yard.specs.declared.events.EventKind.TheVariants.{Departs, Arrives}
+use Rattle.fp_yard.specs.declared.events.LineStage.TheVariants.{Done}
 use Rattle.fp_yard.specs.Choices.{IsChosen}
-use Rattle.fp_yard.specs.Events.{IsAllowed, IsLegal, MayHappen, event_at, no_event}
+use Rattle.fp_yard.specs.Events.{IsAllowed, IsLegal, arrived}
 use Rattle.fp_yard.specs.Schedules.{HasEnds, IsPlanSchedule, IsSound, Schedule}
+use Rattle.fp_yard.proofs.Departures.{stage-means}
 use Rattle.fp_yard.proofs.Histories.{arrived-departed}
-use Rattle.fp_yard.proofs.Progress.{all-done}
+use Rattle.fp_yard.proofs.WholeRuns.{all-done, all-exist}
 use Rattle.fp_sheets.specs.Rows.{EventsExist}
 use Rattle.fp_app.specs.Plans.{IsToldPlan}
 use Rattle.fp_app.specs.Yards.{IsDrawnLog}
-
--- an event that may happen is of a line that exists
-may-exists : (s : Schedule) (h : List Event) (line : ℕ) (kind : EventKind) → MayHappen s h line kind → line < length s.tails
-may-exists s h line Departs may = may.exists
-may-exists s h line Arrives may = may.exists
-
-legal-exist : (s : Schedule) (h : List Event) → IsLegal s h → All (λ (e : Event). e.line < length s.tails) h
-legal-exist s h legal =
-    All-from_get_or (λ (e : Event). e.line < length s.tails) h no_event
-    (λ i lt. may-exists s (take i h) (event_at h i).line (event_at h i).kind (legal i lt))
 
 -- the events of a legal history are of truck lines of the plan
 pub EventsExist-legal : (p : Problem) (plan : List (List Leg)) (s : Schedule) (h : List Event) → IsPlanSchedule p plan s → IsLegal s h →
@@ -40,7 +29,7 @@ EventsExist-legal p plan s h is legal lines are =
     let same : own ≡ lines = AreTruckLines-unique p plan own lines is.1 are in
     let long : length s.tails ≡ length lines =
     ap (λ (xs : List ℕ). length xs) is.2.tails ∙ length-map own (λ (t : TruckLine). (arc_at p t.arc).from) ∙ ap (λ (ls : List TruckLine). length ls) same in
-    subst (λ (n : ℕ). All (λ (e : Event). e.line < n) h) long (legal-exist s h legal)
+    subst (λ (n : ℕ). All (λ (e : Event). e.line < n) h) long (all-exist s h legal)
 
 -- a run to its end is the log that draws choose
 pub IsDrawnLog-run : (p : Problem) (plan : List (List Leg)) (seed : ℕ) (s : Schedule) (h : List Event) → IsPlanSchedule p plan s → IsSound s → HasEnds p s → IsLegal s h → IsChosen s seed h →
@@ -52,7 +41,7 @@ IsDrawnLog-run p plan seed s h is sound ends legal chosen ended = record {
   ends = ends;
   legal = legal;
   chosen = chosen;
-  each = λ line lt. let come = all-done s h sound ended line lt in (arrived-departed s h line legal come, come);
+  each = λ line lt. let come : arrived h line ≡ true = stage-means h line Done (all-done s h line sound ended lt) in (arrived-departed s h line legal come, come);
 }
 
 -- a plan that was told, with such a log, can be printed
