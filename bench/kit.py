@@ -14,6 +14,8 @@ TOP = os.path.dirname(os.path.dirname(os.path.abspath(__file__)))
 def built_program():
     """The program that is named on the command line, or else the proved one, built here or in dist/."""
     if len(sys.argv) > 1:
+        if not os.access(sys.argv[1], os.X_OK):
+            sys.exit(f"{sys.argv[1]} is no program: name one, or none for the one that is built here")
         return sys.argv[1]
     for place in ("crates/freight/out/freight", "dist/freight-x86_64-linux"):
         path = os.path.join(TOP, place)
