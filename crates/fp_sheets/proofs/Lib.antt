@@ -1,2 +1,4 @@
 mod OrderedArrivals
 mod YardTexts
+mod FreightRows
+mod PlanYards

@@ -81,14 +81,15 @@ enabled-all s h n events all are = record {
 }
 
 -- one more event that was chosen
-pub IsChosen-more : (s : Schedule) (seed : ℕ) (h events : List Event) (e : Event) → IsChosen s seed h → AreEnabled s h events →
+pub IsChosen-more : (s : Schedule) (seed : ℕ) (h events : List Event) (e : Event) → IsChosen s seed h → AreEnabled s h events → 0 < length events →
     e ≡ event_at events (drawn (number_after seed (length h)) (length events)) → IsChosen s seed (h ++ e ∷ [])
-IsChosen-more s seed h events e chosen are is i lt =
+IsChosen-more s seed h events e chosen are some is i lt =
     ⊎_elim
     (λ (last : i ≡ length h).
     let before : take i (h ++ e ∷ []) ≡ h = ap (λ (n : ℕ). take n (h ++ e ∷ [])) last ∙ take-append_seam h (e ∷ []) in (
       events,
       subst (λ (x : List Event). AreEnabled s x events) (sym before) are,
+      some,
       get_or_push h e no_event i (sym last) ∙ is ∙ ap (λ (n : ℕ). event_at events (drawn (number_after seed n) (length events))) (sym last),
     ))
     (λ (less : i < length h).
@@ -96,7 +97,8 @@ IsChosen-more s seed h events e chosen are is i lt =
     let before : take i (h ++ e ∷ []) ≡ take i h = take-append-le i h (e ∷ []) (omega (arith, less)) in (
       old.0,
       subst (λ (x : List Event). AreEnabled s x old.0) (sym before) old.1,
-      get_or-append h (e ∷ []) no_event i less ∙ old.2,
+      old.2,
+      get_or-append h (e ∷ []) no_event i less ∙ old.3,
     ))
     (eq-or-lt_of_le (omega (arith, lt, length_push h e)))
 
