@@ -1,2 +1,3 @@
 mod OrderedArrivals
-mod YardTexts
+mod FreightRows
+mod PlanYards

@@ -1,63 +1,43 @@
 //! Lines `out,TERMINAL,TO,DEPART,TRUCKS`, each followed by its freight.
-ghost use Rattle.std.specs.Prelude.{◌≡◌, ◌++◌, All, OnOk, false, length};
+ghost use Rattle.std.specs.Prelude.{◌≡◌, ◌<◌, ◌++◌, All, OnOk, false, length, map};
 ghost use Rattle.std.specs.List.{flat_map};
-ghost use Rattle.fp_lists.specs.Vectors.{lists_of};
-ghost use Rattle.fp_model.specs.Costs.{has_leg};
+ghost use Rattle.fp_model.specs.declared.parts.Member.{Member};
 ghost use Rattle.fp_records.specs.Text.{line_of, lines_of};
-ghost use Rattle.fp_timetable.specs.Lines.{TruckExists, departure};
-ghost use Rattle.fp_sheets.specs.Rows.{load_fields, load_row, load_rows, out_fields, out_rows};
+ghost use Rattle.fp_timetable.specs.Lines.{TruckExists};
+ghost use Rattle.fp_yard.specs.Schedules.{line_at};
+ghost use Rattle.fp_sheets.specs.Freight.{IsOver, member_fields, routes_of};
+ghost use Rattle.fp_sheets.specs.Rows.{out_fields, out_rows};
 
 use crate::NoMemory;
 use crate::names::{write_head, write_tail};
-use fp_model::{Instance, Leg, Shipment};
+use fp_model::{Instance, Member};
 use fp_records::Line;
 use fp_timetable::TruckLine;
+use fp_yard::Yard;
 
-// Whether a route has the leg.
-fn goes_by(route: &[Leg], leg: Leg) -> bool
-    ensures { result ≡ has_leg leg route.now }
-{
-    route.iter().any(|other| leg == *other)
-}
-
-// Adds the line of a shipment.
-fn write_shipment(line: &mut Line, shipment: &Shipment) -> Result<(), NoMemory>
+// Adds the line of a leg's shipment.
+fn write_load(line: &mut Line, instance: &Instance, leg: Member) -> Result<(), NoMemory>
     requires begun { line.old.begun ≡ false }
-    ensures text { OnOk result (line.new.text ≡ line.old.text ++ line_of (load_fields shipment.now)) }
+    requires exists { leg.shipment < length instance.now.shipments }
+    ensures text { OnOk result (line.new.text ≡ line.old.text ++ line_of (member_fields instance.now leg)) }
     ensures ended { OnOk result (line.new.begun ≡ false) }
 {
+    let shipment = &instance.shipments()[leg.shipment as usize];
     line.word(b"load")?;
     line.word(shipment.name.bytes())?;
     line.end()
 }
 
-// Adds the line of a shipment where its route has the leg.
-fn write_load(line: &mut Line, leg: Leg, shipment: &Shipment, route: &[Leg]) -> Result<(), NoMemory>
+// Adds the lines of the shipments of legs.
+fn write_loads(line: &mut Line, instance: &Instance, freight: &[Member]) -> Result<(), NoMemory>
     requires begun { line.old.begun ≡ false }
-    ensures text { OnOk result (line.new.text ≡ line.old.text ++ lines_of (load_row leg shipment.now route.now)) }
-    ensures ended { OnOk result (line.new.begun ≡ false) }
-{
-    if goes_by(route, leg) {
-        write_shipment(line, shipment)?;
-    }
-    Ok(())
-}
-
-// Adds the lines of the shipments that have the leg.
-fn write_loads(
-    line: &mut Line,
-    leg: Leg,
-    shipments: &[Shipment],
-    routes: &[Vec<Leg>],
-) -> Result<(), NoMemory>
-    requires begun { line.old.begun ≡ false }
-    requires routes { length routes.now ≡ length shipments.now }
+    requires exist { All (λ (m : Member). m.shipment < length instance.now.shipments) freight.now }
     ensures text { OnOk result (line.new.text
-        ≡ line.old.text ++ lines_of (load_rows leg shipments.now (lists_of routes.now))) }
+        ≡ line.old.text ++ lines_of (map (member_fields instance.now) freight.now)) }
     ensures ended { OnOk result (line.new.begun ≡ false) }
 {
-    for (at, shipment) in shipments.iter().enumerate() {
-        write_load(line, leg, shipment, &routes[at])?;
+    for leg in freight {
+        write_load(line, instance, *leg)?;
     }
     Ok(())
 }
@@ -78,28 +58,27 @@ fn write_departure(line: &mut Line, instance: &Instance, truck: &TruckLine) -> R
     Ok(())
 }
 
-// Adds the line of a truck line where it leaves the terminal, followed by its freight.
+// Adds the line of the truck line with a number where it leaves the terminal, followed by its freight.
 fn write_out(
     line: &mut Line,
     instance: &Instance,
-    routes: &[Vec<Leg>],
+    yard: &Yard,
+    trucks: &[TruckLine],
     terminal: u32,
-    truck: &TruckLine,
+    number: u32,
 ) -> Result<(), NoMemory>
     requires begun { line.old.begun ≡ false }
-    requires routes { length routes.now ≡ length instance.now.shipments }
-    requires exists { TruckExists instance.now truck.now }
-    ensures text { OnOk result (line.new.text
-        ≡ line.old.text ++ lines_of (out_rows instance.now (lists_of routes.now) terminal truck.now)) }
+    requires over { IsOver instance.now trucks.now yard.now.schedule }
+    requires exist { All (TruckExists instance.now) trucks.now }
+    requires exists { number < length trucks.now }
+    ensures text { OnOk result (line.new.text ≡ line.old.text ++ lines_of
+        (out_rows instance.now (routes_of trucks.now yard.now.schedule) terminal (line_at trucks.now number))) }
     ensures ended { OnOk result (line.new.begun ≡ false) }
 {
+    let truck = &trucks[number as usize];
     if instance.arc(truck.arc).from == terminal {
-        let leg = Leg {
-            arc: truck.arc,
-            depart: truck.depart,
-        };
         write_departure(line, instance, truck)?;
-        write_loads(line, leg, instance.shipments(), routes)?;
+        write_loads(line, instance, yard.freight(number))?;
     }
     Ok(())
 }
@@ -108,19 +87,19 @@ fn write_out(
 pub(crate) fn write_outs(
     line: &mut Line,
     instance: &Instance,
-    routes: &[Vec<Leg>],
-    terminal: u32,
+    yard: &Yard,
     trucks: &[TruckLine],
+    terminal: u32,
 ) -> Result<(), NoMemory>
     requires begun { line.old.begun ≡ false }
-    requires routes { length routes.now ≡ length instance.now.shipments }
+    requires over { IsOver instance.now trucks.now yard.now.schedule }
     requires exist { All (TruckExists instance.now) trucks.now }
-    ensures text { OnOk result (line.new.text ≡ line.old.text
-        ++ lines_of (flat_map (out_rows instance.now (lists_of routes.now) terminal) trucks.now)) }
+    ensures text { OnOk result (line.new.text ≡ line.old.text ++ lines_of
+        (flat_map (out_rows instance.now (routes_of trucks.now yard.now.schedule) terminal) trucks.now)) }
     ensures ended { OnOk result (line.new.begun ≡ false) }
 {
-    for truck in trucks {
-        write_out(line, instance, routes, terminal, truck)?;
+    for (number, _truck) in trucks.iter().enumerate() {
+        write_out(line, instance, yard, trucks, terminal, number as u32)?;
     }
     Ok(())
 }

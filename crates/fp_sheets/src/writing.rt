@@ -1,11 +1,11 @@
 //! The text of a yard.
-ghost use Rattle.std.specs.Prelude.{◌≡◌, ◌<◌, ◌^◌, ◌++◌, All, IfOk, List, OnOk, false, length};
-ghost use Rattle.fp_lists.specs.Vectors.{lists_of};
+ghost use Rattle.std.specs.Prelude.{◌≡◌, ◌<◌, ◌++◌, All, IfOk, List, OnOk, false, length};
 ghost use Rattle.fp_records.specs.Text.{line_of, lines_of};
 ghost use Rattle.fp_model.specs.Plans.{IsPlan};
 ghost use Rattle.fp_timetable.specs.declared.lines.TruckLine.{TruckLine};
 ghost use Rattle.fp_timetable.specs.Lines.{AreTruckLines, TruckExists};
 ghost use Rattle.fp_sheets.specs.declared.arrivals.Arrival.{Arrival};
+ghost use Rattle.fp_sheets.specs.Freight.{IsOver, routes_of};
 ghost use Rattle.fp_sheets.specs.Rows.{EventsExist, IsYardText, end_fields, sheet_rows, sheets_from, yard_fields, yard_rows};
 
 use crate::NoMemory;
@@ -13,10 +13,10 @@ use crate::arrivals::{Arrival, by_moment};
 use crate::events::write_events;
 use crate::incoming::write_ins;
 use crate::outgoing::write_outs;
-use fp_model::{Instance, Leg, Plan};
+use fp_model::{Instance, Plan};
 use fp_records::Line;
 use fp_timetable::{TruckLine, trucks};
-use fp_yard::Event;
+use fp_yard::{Event, Yard};
 use std::alloc::Global;
 
 // Adds `yard` and how many truck lines there are.
@@ -34,20 +34,20 @@ fn write_count(line: &mut Line, count: usize) -> Result<(), NoMemory>
 fn write_sheet(
     line: &mut Line,
     instance: &Instance,
-    routes: &[Vec<Leg>],
+    yard: &Yard,
     lines: &[TruckLine],
     arrivals: &[Arrival],
     terminal: u32,
 ) -> Result<(), NoMemory>
     requires begun { line.old.begun ≡ false }
-    requires routes { length routes.now ≡ length instance.now.shipments }
+    requires over { IsOver instance.now lines.now yard.now.schedule }
     requires exist { All (TruckExists instance.now) lines.now }
     requires arrivals { All (λ (a : Arrival). a.line < length lines.now) arrivals.now }
     ensures text { OnOk result (line.new.text ≡ line.old.text
-        ++ lines_of (sheet_rows instance.now (lists_of routes.now) lines.now arrivals.now terminal)) }
+        ++ lines_of (sheet_rows instance.now (routes_of lines.now yard.now.schedule) lines.now arrivals.now terminal)) }
     ensures ended { OnOk result (line.new.begun ≡ false) }
 {
-    write_outs(line, instance, routes, terminal, lines)?;
+    write_outs(line, instance, yard, lines, terminal)?;
     write_ins(line, instance, lines, terminal, arrivals)
 }
 
@@ -55,21 +55,21 @@ fn write_sheet(
 fn write_sheets(
     line: &mut Line,
     instance: &Instance,
-    routes: &[Vec<Leg>],
+    yard: &Yard,
     lines: &[TruckLine],
     arrivals: &[Arrival],
 ) -> Result<(), NoMemory>
     requires begun { line.old.begun ≡ false }
-    requires routes { length routes.now ≡ length instance.now.shipments }
+    requires over { IsOver instance.now lines.now yard.now.schedule }
     requires exist { All (TruckExists instance.now) lines.now }
     requires arrivals { All (λ (a : Arrival). a.line < length lines.now) arrivals.now }
     ensures text { OnOk result (line.new.text ≡ line.old.text
-        ++ lines_of (sheets_from instance.now (lists_of routes.now) lines.now arrivals.now 0 instance.now.terminals)) }
+        ++ lines_of (sheets_from instance.now (routes_of lines.now yard.now.schedule) lines.now arrivals.now 0 instance.now.terminals)) }
     ensures ended { OnOk result (line.new.begun ≡ false) }
 {
     let terminals = instance.terminals();
     for (terminal, _name) in terminals.iter().enumerate() {
-        write_sheet(line, instance, routes, lines, arrivals, terminal as u32)?;
+        write_sheet(line, instance, yard, lines, arrivals, terminal as u32)?;
     }
     Ok(())
 }
@@ -87,21 +87,21 @@ fn write_end(line: &mut Line) -> Result<(), NoMemory>
 fn write_rows(
     alloc: Global,
     instance: &Instance,
-    routes: &[Vec<Leg>],
+    yard: &Yard,
     lines: &[TruckLine],
     arrivals: &[Arrival],
     log: &[Event],
 ) -> Result<Vec<u8>, NoMemory>
-    requires routes { length routes.now ≡ length instance.now.shipments }
+    requires over { IsOver instance.now lines.now yard.now.schedule }
     requires exist { All (TruckExists instance.now) lines.now }
     requires arrivals { All (λ (a : Arrival). a.line < length lines.now) arrivals.now }
     requires log { EventsExist lines.now log.now }
     ensures { IfOk result (λ text. text.items
-        ≡ lines_of (yard_rows instance.now (lists_of routes.now) lines.now arrivals.now log.now)) }
+        ≡ lines_of (yard_rows instance.now (routes_of lines.now yard.now.schedule) lines.now arrivals.now log.now)) }
 {
     let mut line = Line::new(alloc)?;
     write_count(&mut line, lines.len())?;
-    write_sheets(&mut line, instance, routes, lines, arrivals)?;
+    write_sheets(&mut line, instance, yard, lines, arrivals)?;
     write_events(&mut line, instance, lines, log)?;
     write_end(&mut line)?;
     Ok(line.into_bytes())
@@ -111,19 +111,18 @@ fn write_rows(
 fn write_lines(
     alloc: Global,
     instance: &Instance,
-    routes: &[Vec<Leg>],
+    yard: &Yard,
     lines: &[TruckLine],
     log: &[Event],
 ) -> Result<Vec<u8>, NoMemory>
-    requires routes { length routes.now ≡ length instance.now.shipments }
+    requires over { IsOver instance.now lines.now yard.now.schedule }
     requires exist { All (TruckExists instance.now) lines.now }
-    requires few { length lines.now < 2 ^ 32 }
     requires log { EventsExist lines.now log.now }
     ensures { IfOk result
-        (λ text. IsYardText instance.now (lists_of routes.now) lines.now log.now text.items) }
+        (λ text. IsYardText instance.now (routes_of lines.now yard.now.schedule) lines.now log.now text.items) }
 {
     let arrivals = by_moment(alloc, instance, lines)?;
-    write_rows(alloc, instance, routes, lines, arrivals.as_slice(), log)
+    write_rows(alloc, instance, yard, lines, arrivals.as_slice(), log)
 }
 
 /// The text of a yard: the terminals' sheets of a plan, and a log of events.
@@ -138,7 +137,8 @@ fn write_lines(
 ///
 /// The events have to be of truck lines of the plan.
 ///
-/// It takes time that grows with the truck lines times the terminals and times the plan's legs.
+/// It takes time that grows with the text and with the truck lines times the terminals, but for two
+/// sorts of the plan's legs and one of the arrivals.
 ///
 /// # Errors
 /// `NoMemory` only where no memory is found.
@@ -158,11 +158,6 @@ pub fn write(
     // An instance that was read is known to be valid, so the lines are few.
     let _known = instance.arcs();
     let lines = trucks(alloc, instance, plan)?;
-    write_lines(
-        alloc,
-        instance,
-        plan.routes.as_slice(),
-        lines.as_slice(),
-        log,
-    )
+    let yard = Yard::new(alloc, instance, plan)?;
+    write_lines(alloc, instance, &yard, lines.as_slice(), log)
 }

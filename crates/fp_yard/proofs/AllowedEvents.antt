@@ -1,7 +1,7 @@
 -- The allowed events of a yard, line by line.
-use Rattle.std.proofs.Common.{◌≡◌, ◌∙◌, ℕ, zero, suc, ◌+◌, ◌-◌, ◌<◌, ◌≤◌, List, [], ◌∷◌, ◌++◌, length, take, get_or, ⊎_elim, inl, inr, refl, sym, ap, ap₂, subst, arith, add-one}
+use Rattle.std.proofs.Common.{◌≡◌, ◌∙◌, ℕ, zero, suc, ◌+◌, ◌-◌, ◌/◌, ◌<◌, ◌≤◌, List, [], ◌∷◌, ◌++◌, length, take, get_or, ⊎_elim, inl, inr, refl, sym, ap, ap₂, subst, arith, add-one}
 use Rattle.std.specs.Prelude.{◌⊎◌, All, Contains}
-use Rattle.std.proofs.Math.Nat.{eq-or-lt_of_le}
+use Rattle.std.proofs.Math.Nat.{eq-or-lt_of_le, mod-lt}
 use Rattle.std.proofs.Math.ListN.{get_or-append}
 use Rattle.std.proofs.Math.Seq.{take-append_seam}
 use Rattle.std.proofs.lemmas.List.{get_or_push, length_push, take-append-le}
@@ -81,14 +81,15 @@ enabled-all s h n events all are = record {
 }
 
 -- one more event that was chosen
-pub IsChosen-more : (s : Schedule) (seed : ℕ) (h events : List Event) (e : Event) → IsChosen s seed h → AreEnabled s h events →
+pub IsChosen-more : (s : Schedule) (seed : ℕ) (h events : List Event) (e : Event) → IsChosen s seed h → AreEnabled s h events → 0 < length events →
     e ≡ event_at events (drawn (number_after seed (length h)) (length events)) → IsChosen s seed (h ++ e ∷ [])
-IsChosen-more s seed h events e chosen are is i lt =
+IsChosen-more s seed h events e chosen are some is i lt =
     ⊎_elim
     (λ (last : i ≡ length h).
     let before : take i (h ++ e ∷ []) ≡ h = ap (λ (n : ℕ). take n (h ++ e ∷ [])) last ∙ take-append_seam h (e ∷ []) in (
       events,
       subst (λ (x : List Event). AreEnabled s x events) (sym before) are,
+      some,
       get_or_push h e no_event i (sym last) ∙ is ∙ ap (λ (n : ℕ). event_at events (drawn (number_after seed n) (length events))) (sym last),
     ))
     (λ (less : i < length h).
@@ -96,9 +97,17 @@ IsChosen-more s seed h events e chosen are is i lt =
     let before : take i (h ++ e ∷ []) ≡ take i h = take-append-le i h (e ∷ []) (omega (arith, less)) in (
       old.0,
       subst (λ (x : List Event). AreEnabled s x old.0) (sym before) old.1,
-      get_or-append h (e ∷ []) no_event i less ∙ old.2,
+      old.2,
+      get_or-append h (e ∷ []) no_event i less ∙ old.3,
     ))
     (eq-or-lt_of_le (omega (arith, lt, length_push h e)))
+
+-- events that were chosen are legal
+pub IsLegal-chosen : (s : Schedule) (seed : ℕ) (h : List Event) → IsChosen s seed h → IsLegal s h
+IsLegal-chosen s seed h chosen i lt =
+    let at = chosen i lt in
+    let below : drawn (number_after seed i) (length at.0) < length at.0 = mod-lt (next_number (number_after seed i) / 65536) at.2 in
+    subst (IsAllowed s (take i h)) (sym at.3) (at.1.allowed (drawn (number_after seed i) (length at.0)) no_event below)
 
 pub number-more : (seed n : ℕ) → number_after seed (n + 1) ≡ next_number (number_after seed n)
 number-more seed n = ap (number_after seed) (add-one n)

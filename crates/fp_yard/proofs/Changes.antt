@@ -13,8 +13,7 @@ use Rattle.fp_yard.specs.declared.events.EventKind.{EventKind}
 use Rattle.fp_yard.specs.declared.events.EventKind.TheVariants.{Departs, Arrives}
 use Rattle.fp_yard.specs.Enabled.{AreAllowed, AreEnabledBut, HasAdded, IsAfter, IsPlaceOf, next_kind}
 use Rattle.fp_yard.specs.Events.{AreEnabled, CanArrive, CanDepart, IsAllowed, IsLegal, MayHappen, arrived, arrives, departed, departs, event_at, is_arrival, is_departure, no_event, stage_of}
-use Rattle.fp_yard.specs.Freight.{IsFreightOf}
-use Rattle.fp_yard.specs.Schedules.{Schedule, journey_at}
+use Rattle.fp_yard.specs.Schedules.{IsFreightOf, Schedule, journey_at}
 use Rattle.fp_yard.proofs.AllowedEvents.{kind-next}
 use Rattle.fp_yard.proofs.Histories.{line-tested, not-arrived}
 use Rattle.fp_yard.proofs.Missing.{leg-by}

@@ -1,15 +1,16 @@
 -- The legs that are listed for a line are exactly those that go by it, by shipment.
 use Rattle.std.proofs.Common.{◌≡◌, ◌≢◌, ℕ, zero, suc, ◌+◌, ◌<◌, ◌≤◌, Bool, true, false, cond, List, [], ◌∷◌, ◌++◌, length, get_or, ⊎_elim, refl, sym, ap, ap₂, subst, arith, eqb-true, eq-eqb}
-use Rattle.std.specs.Prelude.{AllPairs, Contains, nat_eq}
+use Rattle.std.specs.Prelude.{◌↔◌, AllPairs, Any, Contains, nat_eq}
 use Rattle.std.specs.List.{AllByRecursion}
 use Rattle.std.proofs.lemmas.Bool.{cases_Bool}
 use Rattle.std.proofs.lemmas.List.Elements.{Contains-append_left, Contains-append_right}
 use Rattle.fp_lists.proofs.Elements.{AllByRecursion-append, AllByRecursion-get_or, AllByRecursion-weaker}
 use Rattle.fp_lists.proofs.Membership.{Contains-first}
-use Rattle.fp_lists.proofs.Pairs.{AllPairs-append, AllPairs-nil}
+use Rattle.fp_lists.proofs.Pairs.{AllPairs-append, AllPairs-nil, AllPairs-unique}
 use Rattle.fp_model.specs.declared.parts.Member.{Member}
-use Rattle.fp_yard.specs.Freight.{IsFreightOf, legs_by, members_by}
-use Rattle.fp_yard.specs.Schedules.{IsSound, Schedule}
+use Rattle.fp_yard.specs.Freight.{legs_by, members_by}
+use Rattle.fp_yard.specs.Schedules.{GoesBy, IsFreight, IsFreightOf, IsSound, Schedule}
+use Rattle.fp_yard.proofs.Departures.{HasLeg, HasLeg-freight, freight-leg, journey-exists}
 
 -- a leg of the shipment k that goes by a line among lines of which the first has the number i
 record StandsOn (line k i : ℕ) (lines : List ℕ) (m : Member) : Type 0 where
@@ -86,7 +87,7 @@ listed-in line k (suc n) leg (journey ∷ journeys) lt within is =
     (listed-in line (k + 1) n leg journeys (omega (arith, lt)) within is))
 
 -- a line that is none of some lines has no leg by them
-none-on : (line k i : ℕ) (lines : List ℕ) → ((n : ℕ) → n < length lines → get_or lines n 0 ≢ line) → legs_by line k i lines ≡ []
+pub none-on : (line k i : ℕ) (lines : List ℕ) → ((n : ℕ) → n < length lines → get_or lines n 0 ≢ line) → legs_by line k i lines ≡ []
 none-on line k i [] none = refl
 none-on line k i (l ∷ lines) none =
     ⊎_elim
@@ -150,3 +151,23 @@ IsFreightOf-members s line sound = record {
       subst (λ (n : Member). Contains (members_by line 0 s.journeys) n) (ap (λ (n : ℕ). record m { shipment = n }) (omega arith))
       (listed-in line 0 m.shipment m.leg s.journeys by.shipment by.leg by.goes);
 }
+
+-- a line has one list of such legs
+pub IsFreightOf-unique : (s : Schedule) (line : ℕ) (ms ns : List Member) → IsFreightOf s line ms → IsFreightOf s line ns → ms ≡ ns
+IsFreightOf-unique s line ms ns first second =
+    AllPairs-unique Comes (λ m n before after. omega (arith, before, after)) ms ns first.rising second.rising (λ i d lt. second.every (get_or ms i d) (first.own i d lt))
+    (λ i d lt. first.every (get_or ns i d) (second.own i d lt))
+
+-- their shipments are the freight of the line
+pub IsFreight-members : (s : Schedule) (line k : ℕ) (members : List Member) → IsFreightOf s line members → IsFreight s line k ↔ Any (λ (m : Member). m.shipment ≡ k) members
+IsFreight-members s line k members are = (
+  (λ is.
+      let leg : HasLeg s line k = HasLeg-freight s line k is in
+      let m : Member = record { shipment = k; leg = leg.leg } in
+      let by : GoesBy s line m = record { shipment = journey-exists s k leg.leg leg.within; leg = leg.within; goes = leg.is } in
+      let at : Contains members m = are.every m by in (at.0, m, at.1, at.2, refl)),
+  (λ any.
+      let m : Member = any.1 in
+      let by : GoesBy s line m = subst (GoesBy s line) any.3 (are.own any.0 m any.2) in
+      subst (IsFreight s line) any.4 (freight-leg s line m.shipment m.leg by.leg by.goes)),
+)

@@ -13,3 +13,4 @@ pub mod AllowedEvents
 pub mod EventLists
 pub mod Changes
 pub mod WholeRuns
+mod Examples

@@ -14,8 +14,7 @@ use Rattle.fp_yard.specs.declared.events.YardFault.{YardFault}
 use Rattle.fp_yard.specs.declared.events.YardFault.TheVariants.{NoLine, Left, Missing, NotRolling}
 use Rattle.fp_yard.specs.Events.{CanArrive, CanDepart, IsAllowed, IsLegal, MayHappen, arrived, departed, stage_of}
 use Rattle.fp_yard.specs.Faults.{IsAtTail, IsFault, IsMissing}
-use Rattle.fp_yard.specs.Freight.{GoesBy, IsFreightOf}
-use Rattle.fp_yard.specs.Schedules.{IsSound, Schedule, journey_at}
+use Rattle.fp_yard.specs.Schedules.{GoesBy, IsFreightOf, IsSound, Schedule, journey_at}
 use Rattle.fp_yard.specs.Yards.{HasCome, ends}
 use Rattle.fp_yard.proofs.Departures.{HasLeg-freight, IsReadied-can, at-tail, freight-leg, journey-exists, ready-from_last, ready-from_tail, stage-means, stage-rolling}
 

@@ -1,19 +1,6 @@
--- The freight of a line as the legs that go by it.
-use Rattle.std.specs.Prelude.{ℕ, ◌+◌, ◌<◌, ◌≡◌, List, [], ◌∷◌, ◌++◌, length, slice_index, slice_index_or, All, AllPairs, Contains, if◌then◌else◌, nat_eq}
+-- The legs that go by each line, as they are listed.
+use Rattle.std.specs.Prelude.{ℕ, ◌+◌, List, [], ◌∷◌, ◌++◌, slice_index_or, if◌then◌else◌, nat_eq}
 use Rattle.fp_model.specs.declared.parts.Member.{Member}
-use Rattle.fp_yard.specs.Schedules.{Schedule, journey_at}
-
--- a leg goes by a line
-pub record GoesBy (s : Schedule) (line : ℕ) (m : Member) : Type 0 where
-  pub shipment : m.shipment < length s.journeys
-  pub leg : m.leg < length (journey_at s m.shipment)
-  pub goes : slice_index (journey_at s m.shipment) m.leg ≡ line
-
--- legs are exactly those that go by a line, by shipment
-pub record IsFreightOf (s : Schedule) (line : ℕ) (members : List Member) : Type 0 where
-  pub rising : AllPairs (λ (m n : Member). m.shipment < n.shipment) members
-  pub own : All (GoesBy s line) members
-  pub every : (m : Member) → GoesBy s line m → Contains members m
 
 -- the freight of the line with a number
 abbrev pub freight_at : List (List Member) → ℕ → List Member

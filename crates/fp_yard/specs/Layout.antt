@@ -2,8 +2,8 @@
 use Rattle.std.specs.Prelude.{ℕ, ◌<◌, ◌≡◌, length}
 use Rattle.fp_lists.specs.Vectors.{lists_of}
 use Rattle.fp_yard.specs.declared.sheets.Sheets.TheInside.{Inside}
-use Rattle.fp_yard.specs.Freight.{IsFreightOf, freight_at}
-use Rattle.fp_yard.specs.Schedules.{IsSound, Schedule}
+use Rattle.fp_yard.specs.Freight.{freight_at}
+use Rattle.fp_yard.specs.Schedules.{IsFreightOf, IsSound, Schedule}
 
 -- the schedule that sheets hold
 abbrev pub schedule_in : Inside → Schedule

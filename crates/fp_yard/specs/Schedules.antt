@@ -1,7 +1,8 @@
 -- What a yard runs: the truck lines of a plan by their numbers, and for each shipment the lines of
 -- its legs in order, which are its journey.
-use Rattle.std.specs.Prelude.{ℕ, suc, ◌-◌, ◌<◌, ◌≡◌, ◌≢◌, List, [], length, map, slice_index, slice_index_or, All, Contains}
+use Rattle.std.specs.Prelude.{ℕ, suc, ◌-◌, ◌<◌, ◌≡◌, ◌≢◌, List, [], length, map, slice_index, slice_index_or, All, AllPairs, Contains}
 use Rattle.fp_model.specs.declared.parts.Leg.{Leg}
+use Rattle.fp_model.specs.declared.parts.Member.{Member}
 use Rattle.fp_model.specs.Numbered.{shipment_at}
 use Rattle.fp_model.specs.Problem.{Problem, arc_at}
 use Rattle.fp_timetable.specs.declared.lines.TruckLine.{TruckLine}
@@ -37,6 +38,18 @@ end_of s journey = head_at s (slice_index journey (length journey - 1))
 -- a shipment is of the freight of a line: one of its legs is the line's
 abbrev pub IsFreight : Schedule → (line shipment : ℕ) → Type 0
 IsFreight s line shipment = Contains (journey_at s shipment) line
+
+-- a leg goes by a line
+pub record GoesBy (s : Schedule) (line : ℕ) (m : Member) : Type 0 where
+  pub shipment : m.shipment < length s.journeys
+  pub leg : m.leg < length (journey_at s m.shipment)
+  pub goes : slice_index (journey_at s m.shipment) m.leg ≡ line
+
+-- legs are exactly those that go by a line, by shipment
+pub record IsFreightOf (s : Schedule) (line : ℕ) (members : List Member) : Type 0 where
+  pub rising : AllPairs (λ (m n : Member). m.shipment < n.shipment) members
+  pub own : All (GoesBy s line) members
+  pub every : (m : Member) → GoesBy s line m → Contains members m
 
 -- the truck line with a number
 abbrev pub line_at : List TruckLine → ℕ → TruckLine

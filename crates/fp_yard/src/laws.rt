@@ -4,6 +4,7 @@ ghost use Rattle.fp_yard.specs.declared.events.Event.{Event};
 ghost use Rattle.fp_yard.specs.declared.events.EventKind.TheVariants.{Arrives, Departs};
 ghost use Rattle.fp_yard.specs.declared.events.LineStage.TheVariants.{Done, Rolling};
 ghost use Rattle.fp_yard.specs.declared.events.YardPlace.TheVariants.{Aboard, At};
+ghost use Rattle.fp_yard.specs.Choices.{IsChosen};
 ghost use Rattle.fp_yard.specs.Events.{CanDepart, IsAllowed, IsLegal, LeadsTo, events_of, stage_of};
 ghost use Rattle.fp_yard.specs.Faults.{IsAtTail};
 ghost use Rattle.fp_yard.specs.Places.{place_of};
@@ -41,6 +42,11 @@ pub fn departures_depend_on_the_tail()
         → stage_of g line ≡ stage_of h line
         → ((k : ℕ) → IsAtTail s g line k ↔ IsAtTail s h line k)
         → CanDepart s g line ↔ CanDepart s h line }
+{}
+
+/// That events which the draws from a seed choose are a legal history. The call does nothing.
+pub fn chosen_runs_are_legal()
+    ensures { (s : Schedule) (seed : ℕ) (h : List Event) → IsChosen s seed h → IsLegal s h }
 {}
 
 /// That where no event is allowed any more, as `drive` leaves a yard, every line is done, and the

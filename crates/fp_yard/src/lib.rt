@@ -17,8 +17,8 @@ mod yards;
 pub use driving::drive;
 pub use events::{Event, EventKind, LineStage, YardFault, YardPlace};
 pub use laws::{
-    calls_lead_to_legal_histories, departures_depend_on_the_tail, lines_carry_their_freight,
-    runs_end_at_destinations, whole_runs_have_two_events_for_each_line,
+    calls_lead_to_legal_histories, chosen_runs_are_legal, departures_depend_on_the_tail,
+    lines_carry_their_freight, runs_end_at_destinations, whole_runs_have_two_events_for_each_line,
 };
 pub use yards::Yard;
 

@@ -1,9 +1,8 @@
 //! The sheets of the terminals: what leaves and enters, and who goes by it.
 ghost use Rattle.std.specs.Prelude.{◌≡◌, ◌<◌, ◌^◌, All, IfOk, length};
 ghost use Rattle.fp_model.specs.Plans.{IsPlan};
-ghost use Rattle.fp_yard.specs.Freight.{IsFreightOf};
 ghost use Rattle.fp_timetable.specs.Lines.{TruckExists};
-ghost use Rattle.fp_yard.specs.Schedules.{HasEnds, IsPlanSchedule, IsSound, head_at, heads_of, journey_at, tail_at, tails_of};
+ghost use Rattle.fp_yard.specs.Schedules.{HasEnds, IsFreightOf, IsPlanSchedule, IsSound, head_at, heads_of, journey_at, tail_at, tails_of};
 
 use crate::NoMemory;
 use crate::freight::freight_lists;

@@ -4,8 +4,7 @@ ghost use Rattle.fp_model.specs.declared.parts.Member.{Member};
 ghost use Rattle.fp_yard.specs.declared.events.Event.{Event};
 ghost use Rattle.fp_yard.specs.Enabled.{AreAllowed, AreEnabledBut, HasAdded, IsAfter, IsPlaceOf, WereEnabled};
 ghost use Rattle.fp_yard.specs.Events.{AreEnabled, IsLegal, event_at};
-ghost use Rattle.fp_yard.specs.Freight.{IsFreightOf};
-ghost use Rattle.fp_yard.specs.Schedules.{journey_at};
+ghost use Rattle.fp_yard.specs.Schedules.{IsFreightOf, journey_at};
 
 use crate::NoMemory;
 use crate::allowed_events::next_event;

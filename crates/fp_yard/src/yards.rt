@@ -1,14 +1,14 @@
 //! A plan that is run, event by event.
-ghost use Rattle.std.specs.Prelude.{ℕ, ◌≡◌, ◌*◌, ◌<◌, ◌≤◌, ◌^◌, ◌↔◌, ◌∷◌, ◌++◌, [], IfErr, IfOk, IsOk, IsTrue, MatchOption, OnErr, OnOk, length, vec_capacity};
+ghost use Rattle.std.specs.Prelude.{ℕ, ◌≡◌, ◌*◌, ◌<◌, ◌≤◌, ◌^◌, ◌↔◌, ◌∷◌, ◌++◌, [], Any, IfErr, IfOk, IsOk, IsTrue, MatchOption, OnErr, OnOk, length, vec_capacity};
+ghost use Rattle.fp_model.specs.declared.parts.Member.{Member};
 ghost use Rattle.fp_model.specs.Plans.{IsPlan};
 ghost use Rattle.fp_yard.specs.declared.events.EventKind.TheVariants.{Departs, Arrives};
 ghost use Rattle.fp_yard.specs.declared.events.LineStage.TheVariants.{Waiting};
 ghost use Rattle.fp_yard.specs.Events.{CanArrive, CanDepart, IsAllowed, IsLegal, arrived, stage_of};
 ghost use Rattle.fp_yard.specs.Enabled.{IsAfter};
 ghost use Rattle.fp_yard.specs.Faults.{IsFault, IsMissing};
-ghost use Rattle.fp_yard.specs.Freight.{IsFreightOf};
 ghost use Rattle.fp_yard.specs.Places.{place_of};
-ghost use Rattle.fp_yard.specs.Schedules.{HasEnds, IsPlanSchedule, IsSound, journey_at};
+ghost use Rattle.fp_yard.specs.Schedules.{HasEnds, IsFreight, IsFreightOf, IsPlanSchedule, IsSound, journey_at};
 ghost use Rattle.fp_yard.specs.Yards.{HasCome, ends, stage_by};
 
 use crate::NoMemory;
@@ -157,10 +157,14 @@ impl Yard {
         self.has_arrived(self.sheets.journey(leg.shipment)[leg.leg as usize - 1])
     }
 
-    // The legs that go by a line, by shipment.
-    pub(crate) fn freight(&self, line: u32) -> &[Member]
+    /// The legs that go by a line, by shipment: which shipments are its freight, and with which of
+    /// their legs. Takes no memory.
+    pub fn freight(&self, line: u32) -> &[Member]
         requires { line < length self.now.schedule.tails }
-        ensures { IsFreightOf self.now.schedule line result.now }
+        ensures legs { IsFreightOf self.now.schedule line result.now }
+        ensures shipments { (k : ℕ) → IsFreight self.now.schedule line k
+            ↔ Any (λ (m : Member). m.shipment ≡ k) result.now }
+        ensures sound { IsSound self.now.schedule }
     {
         self.sheets.freight(line)
     }

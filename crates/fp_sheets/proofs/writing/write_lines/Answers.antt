@@ -2,18 +2,18 @@ use Rattle.std.proofs.Common.{◌≡◌, List, ℕ, sym, subst}
 use Rattle.std.specs.declared.alloc.Global.{Global}
 use Rattle.std.specs.declared.vec.Vec.{Vec}
 use Rattle.std.proofs.lemmas.Result.{IfOk-weaker}
-use Rattle.fp_lists.specs.Vectors.{lists_of}
 use Rattle.fp_model.specs.declared.parts.Leg.{Leg}
 use Rattle.fp_records.specs.Text.{lines_of}
 use Rattle.fp_sheets.specs.declared.arrivals.Arrival.{Arrival}
 use Rattle.fp_sheets.specs.Arrivals.{AreByMoment}
+use Rattle.fp_sheets.specs.Freight.{routes_of}
 use Rattle.fp_sheets.specs.Rows.{IsYardText, yard_rows}
 use Rattle.fp_sheets.proofs.writing.write_lines.Goals as goal
 
 pub returns : goal.returns
 returns c =
     let p = c.args.instance.now in
-    let routes : List (List Leg) = lists_of c.args.routes.now in
+    let routes : List (List Leg) = routes_of c.args.lines.now c.args.yard.now.schedule in
     let lines = c.args.lines.now in
     let arrivals : List Arrival = c.as_slice.result.now in
     IfOk-weaker c.write_rows.result

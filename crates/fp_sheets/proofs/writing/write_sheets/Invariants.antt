@@ -1,5 +1,5 @@
 use Rattle.std.proofs.Common.{◌≡◌, ◌++◌, drop, false}
-use Rattle.fp_lists.specs.Vectors.{lists_of}
+use Rattle.fp_sheets.specs.Freight.{routes_of}
 use Rattle.fp_records.specs.Text.{lines_of}
 use Rattle.fp_sheets.specs.Rows.{sheets_from}
 use Rattle.fp_sheets.proofs.writing.write_sheets.Given as goal
@@ -8,6 +8,6 @@ use Rattle.fp_sheets.proofs.writing.write_sheets.Given as goal
 abbrev pub invariant-loop-terminal : goal.invariant-loop-terminal
 invariant-loop-terminal l = record {
   begun : l.line.begun ≡ false;
-  text : l.line.text ++ lines_of (sheets_from l.instance (lists_of l.routes) l.lines l.arrivals l.terminal (drop l.terminal l.instance.terminals))
-      ≡ l.initial.line.text ++ lines_of (sheets_from l.instance (lists_of l.routes) l.lines l.arrivals 0 l.instance.terminals);
+  text : l.line.text ++ lines_of (sheets_from l.instance (routes_of l.lines l.yard.schedule) l.lines l.arrivals l.terminal (drop l.terminal l.instance.terminals))
+      ≡ l.initial.line.text ++ lines_of (sheets_from l.instance (routes_of l.lines l.yard.schedule) l.lines l.arrivals 0 l.instance.terminals);
 }

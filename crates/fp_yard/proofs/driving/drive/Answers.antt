@@ -21,7 +21,7 @@ returns-in_err-advance-clause-chosen c =
     let is : e ≡ event_at events (drawn (number_after c.args.seed (length h)) (length events)) =
     c.index.ensures ∙ get_or_default events c.draw-place.result e no_event lt ∙ ap (event_at events) place in
     subst (λ (y : YardModel). IsChosen y.schedule c.args.seed y.history) (sym c.step.ensures.history)
-    (IsChosen-more s c.args.seed h events e c.turns.invariant.chosen c.turns.invariant.enabled is)
+    (IsChosen-more s c.args.seed h events e c.turns.invariant.chosen c.turns.invariant.enabled (omega (arith, lt)) is)
 
 pub turns-preserved : goal.turns-preserved
 turns-preserved c =
@@ -41,7 +41,7 @@ turns-preserved c =
       schedule = same ∙ c.turns.invariant.schedule;
       chosen =
           subst (λ (y : YardModel). IsChosen y.schedule c.args.seed y.history) (sym c.step.ensures.history)
-          (IsChosen-more s c.args.seed h events e c.turns.invariant.chosen c.turns.invariant.enabled is);
+          (IsChosen-more s c.args.seed h events e c.turns.invariant.chosen c.turns.invariant.enabled (omega (arith, lt)) is);
       number = c.draw-place.ensures.next ∙ ap next_number c.turns.invariant.number ∙ sym (number-more c.args.seed (length h)) ∙ ap (number_after c.args.seed) (sym long);
       within = c.step.ensures.within;
       legal = c.step.ensures.legal;

@@ -12,7 +12,7 @@ no_member = record { shipment = 0; leg = 0 }
 
 pub loop-leg-init : goal.loop-leg-init
 loop-leg-init c =
-    c.requires.but c.freight-leg-items.result.now (record { rising = c.freight-leg-items.ensures.rising; own = c.freight-leg-items.ensures.own; every = c.freight-leg-items.ensures.every })
+    c.requires.but c.freight-leg-items.result.now c.freight-leg-items.ensures.legs
 
 pub loop-leg-preserved : goal.loop-leg-preserved
 loop-leg-preserved c =

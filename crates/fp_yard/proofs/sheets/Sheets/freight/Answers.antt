@@ -3,9 +3,8 @@ use Rattle.std.specs.declared.alloc.Global.{Global}
 use Rattle.std.specs.declared.vec.Vec.{Vec}
 use Rattle.fp_lists.proofs.Maps.{lists_of-get_or}
 use Rattle.fp_model.specs.declared.parts.Member.{Member}
-use Rattle.fp_yard.specs.Freight.{IsFreightOf}
 use Rattle.fp_yard.specs.Layout.{schedule_in}
-use Rattle.fp_yard.specs.Schedules.{Schedule}
+use Rattle.fp_yard.specs.Schedules.{IsFreightOf, Schedule}
 use Rattle.fp_yard.proofs.sheets.Sheets.freight.Goals as goal
 
 pub returns-clause-freight : goal.returns-clause-freight

@@ -8,8 +8,8 @@ use Rattle.fp_model.specs.declared.parts.Member.{Member}
 use Rattle.fp_model.specs.Problem.{arc_at}
 use Rattle.fp_timetable.specs.declared.lines.TruckLine.{TruckLine}
 use Rattle.fp_timetable.specs.Lines.{AreTruckLines}
-use Rattle.fp_yard.specs.Freight.{IsFreightOf, members_by}
-use Rattle.fp_yard.specs.Schedules.{IsScheduleOf, IsSound, Schedule, heads_of, tails_of}
+use Rattle.fp_yard.specs.Freight.{members_by}
+use Rattle.fp_yard.specs.Schedules.{IsFreightOf, IsScheduleOf, IsSound, Schedule, heads_of, tails_of}
 use Rattle.fp_yard.proofs.FreightOf.{IsFreightOf-members}
 use Rattle.fp_yard.proofs.PlanSchedules.{HasEnds-plan, IsSound-plan, few-journeys, few-lines, few-tails, legs-among, made-schedule, many-journeys, short-journeys}
 use Rattle.fp_yard.proofs.sheets.Sheets.new.Goals as goal

@@ -4,9 +4,8 @@ use Rattle.std.proofs.lemmas.Bool.{false≢true}
 use Rattle.std.proofs.lemmas.List.{get_or_default}
 use Rattle.fp_model.specs.declared.parts.Member.{Member}
 use Rattle.fp_yard.specs.Events.{IsLegal}
-use Rattle.fp_yard.specs.Freight.{IsFreightOf}
 use Rattle.fp_yard.specs.Models.{YardModel}
-use Rattle.fp_yard.specs.Schedules.{IsSound}
+use Rattle.fp_yard.specs.Schedules.{IsFreightOf, IsSound}
 use Rattle.fp_yard.specs.Yards.{HasCome}
 use Rattle.fp_yard.proofs.Missing.{can-all_come, missing-first}
 use Rattle.fp_yard.proofs.yards.Yard.missing.Goals as goal
