@@ -4,7 +4,7 @@ use Rattle.std.specs.Int.{div_ceil}
 use Rattle.std.specs.List.Sorted.{IsStrictlyIncreasing}
 use Rattle.fp_lists.specs.Membership.{list_has}
 use Rattle.fp_knapsack.specs.declared.items.Item.{Item}
-use Rattle.fp_knapsack.specs.Sets.{sizes_of, HasSome, weight_of, grains_of}
+use Rattle.fp_knapsack.specs.Sets.{sizes_of, HasSome, weight_of, size_of, grains_of}
 use Rattle.fp_knapsack.specs.Grains.{grain_of}
 
 -- the trucks that carry a size: as many as hold it, and at least one
@@ -40,3 +40,9 @@ pub record IsDearest (items : List Item) (capacity money charge : ℕ) (places :
   pub ascend : IsStrictlyIncreasing places
   pub inside : All (λ place. place < length items) places
   pub weighs : weight_of items (list_has places) ≡ money * trucks_of items capacity (list_has places) + charge
+
+-- a charge that pays for the items pays for each of their sets by its true size, where no item has the size 0
+abbrev pub TrueSizesArePaid : Type 0
+TrueSizesArePaid =
+    (items : List Item) (capacity money charge : ℕ) → 0 < capacity → Pays items capacity money charge → All (λ (item : Item). 0 < item.size) items →
+    (set : ℕ → Bool) → HasSome items set → weight_of items set ≤ money * div_ceil (size_of items set) capacity + charge

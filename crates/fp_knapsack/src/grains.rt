@@ -1,6 +1,6 @@
 //! The grain in which the sizes of items are counted.
 
-ghost use Rattle.std.specs.Prelude.{◌≡◌, ◌<◌, ◌≤◌};
+ghost use Rattle.std.specs.Prelude.{◌≡◌, ◌/◌, ◌<◌, ◌≤◌, sum};
 ghost use Rattle.std.specs.Int.{IsGcd};
 ghost use Rattle.fp_knapsack.specs.Sets.{sizes_of};
 ghost use Rattle.fp_knapsack.specs.Grains.{common_divisor, grain_of};
@@ -43,6 +43,7 @@ pub fn grain(capacity: u64, items: &[Item]) -> u128
     requires { 0 < capacity }
     ensures same { result ≡ grain_of capacity (sizes_of items.now) }
     ensures some { 0 < result }
+    ensures few { sum (sizes_of items.now) / result ≤ MOST_GRAINS }
 {
     let total = total_size(items);
     let divisor = u128::from(divisor_of_all(capacity, items));

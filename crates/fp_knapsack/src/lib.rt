@@ -6,9 +6,12 @@
 
 mod grains;
 mod items;
+mod laws;
+mod loads;
 
 pub use grains::{MOST_GRAINS, grain};
 pub use items::Item;
+pub use laws::true_sizes_are_paid;
 
 /// The error of a call that finds no memory.
 pub type NoMemory = std::alloc::AllocError;
