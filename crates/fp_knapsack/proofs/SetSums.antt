@@ -28,7 +28,7 @@ cond-le true n = omega arith
 cond-le false n = omega arith
 
 -- larger numbers, for fewer places
-sum_over-le : (bound : ℕ) (set : ℕ → Bool) (f g : ℕ → ℕ) → ((k : ℕ) → f k ≤ g k) → sum_over bound set f ≤ sum_below bound g
+pub sum_over-le : (bound : ℕ) (set : ℕ → Bool) (f g : ℕ → ℕ) → ((k : ℕ) → f k ≤ g k) → sum_over bound set f ≤ sum_below bound g
 sum_over-le zero set f g le = omega arith
 sum_over-le (suc n) set f g le = omega (arith, sum_over-le n set f g le, cond-le (set n) (f n), le n)
 
@@ -53,15 +53,18 @@ sum_over-grains (suc n) grain set f = omega (arith, sum_over-grains n grain set 
 pub grains_of-le : (items : List Item) (grain : ℕ) (set : ℕ → Bool) → grain * grains_of items grain set ≤ size_of items set
 grains_of-le items grain set = sum_over-grains (length items) grain set (λ k. (item_at items k).size)
 
+-- the numbers below one, and this one, add no more than all below a bound
+pub sum_below-room : (bound k : ℕ) (f : ℕ → ℕ) → k < bound → sum_below k f + f k ≤ sum_below bound f
+sum_below-room bound k f inside =
+    let whole : suc k + (bound - suc k) ≡ bound = omega arith in
+    subst (λ (n : ℕ). sum_below k f + f k ≤ sum_below n f) whole (sum_below-has f k (bound - suc k))
+
 -- a set with an item is as large as this item at least
 sum_over-has : (bound k : ℕ) (set : ℕ → Bool) (f : ℕ → ℕ) → k < bound → set k ≡ true → f k ≤ sum_over bound set f
 sum_over-has bound k set f inside is =
     let added : ℕ → ℕ = λ place. cond (set place) (f place) 0 in
-    let whole : suc k + (bound - suc k) ≡ bound = omega arith in
     let here : added k ≡ f k = cond-true (set k) (f k) 0 is in
-    let has : sum_below k added + added k ≤ sum_below bound added =
-    subst (λ (n : ℕ). sum_below k added + added k ≤ sum_below n added) whole (sum_below-has added k (bound - suc k)) in
-    omega (arith, here, has)
+    omega (arith, here, sum_below-room bound k added inside)
 
 pub size_of-some : (items : List Item) (set : ℕ → Bool) → All (λ (item : Item). 0 < item.size) items → HasSome items set → 0 < size_of items set
 size_of-some items set sizes some =

@@ -1,7 +1,6 @@
 -- What each set of items may weigh: the money for its trucks, and a charge.
-use Rattle.std.specs.Prelude.{ℕ, ◌≡◌, ◌+◌, ◌*◌, ◌^◌, ◌<◌, ◌≤◌, Bool, List, All, length, max, sum_by}
+use Rattle.std.specs.Prelude.{ℕ, ◌≡◌, ◌+◌, ◌*◌, ◌^◌, ◌<◌, ◌≤◌, Bool, List, All, AllPairs, length, max, sum_by}
 use Rattle.std.specs.Int.{div_ceil}
-use Rattle.std.specs.List.Sorted.{IsStrictlyIncreasing}
 use Rattle.fp_lists.specs.Membership.{list_has}
 use Rattle.fp_knapsack.specs.declared.items.Item.{Item}
 use Rattle.fp_knapsack.specs.Sets.{sizes_of, HasSome, weight_of, size_of, grains_of}
@@ -37,7 +36,7 @@ NoChargePays items capacity money = (charge : ℕ) → Pays items capacity money
 
 -- the places of a set that weighs exactly the money for each of its trucks, and the charge once
 pub record IsDearest (items : List Item) (capacity money charge : ℕ) (places : List ℕ) : Type 0 where
-  pub ascend : IsStrictlyIncreasing places
+  pub ascend : AllPairs (λ earlier later. earlier < later) places
   pub inside : All (λ place. place < length items) places
   pub weighs : weight_of items (list_has places) ≡ money * trucks_of items capacity (list_has places) + charge
 
