@@ -5,4 +5,6 @@ pub mod TrueSizes
 pub mod BestWeights
 pub mod TakenRows
 pub mod Excesses
+pub mod LeastCharges
+pub mod BestPlaces
 pub mod Examples

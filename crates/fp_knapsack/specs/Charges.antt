@@ -1,5 +1,5 @@
 -- What each set of items may weigh: the money for its trucks, and a charge.
-use Rattle.std.specs.Prelude.{ℕ, ◌≡◌, ◌+◌, ◌*◌, ◌^◌, ◌<◌, ◌≤◌, Bool, List, All, AllPairs, length, max, sum_by}
+use Rattle.std.specs.Prelude.{ℕ, ◌≡◌, ◌+◌, ◌*◌, ◌^◌, ◌<◌, ◌≤◌, Bool, List, [], All, AllPairs, length, max, sum_by}
 use Rattle.std.specs.Int.{div_ceil}
 use Rattle.fp_lists.specs.Membership.{list_has}
 use Rattle.fp_knapsack.specs.declared.items.Item.{Item}
@@ -39,6 +39,12 @@ pub record IsDearest (items : List Item) (capacity money charge : ℕ) (places :
   pub ascend : AllPairs (λ earlier later. earlier < later) places
   pub inside : All (λ place. place < length items) places
   pub weighs : weight_of items (list_has places) ≡ money * trucks_of items capacity (list_has places) + charge
+
+-- the least charge, and where it isn't 0 the places of a set that needs it
+pub record IsLeastWithSet (items : List Item) (capacity money charge : ℕ) (places : List ℕ) : Type 0 where
+  pub least : IsLeastCharge items capacity money charge
+  pub free : charge ≡ 0 → places ≡ []
+  pub dearest : 0 < charge → IsDearest items capacity money charge places
 
 -- a charge that pays for the items pays for each of their sets by its true size, where no item has the size 0
 abbrev pub TrueSizesArePaid : Type 0

@@ -2,6 +2,8 @@
 use Rattle.std.specs.Prelude.{ℕ, zero, suc, ◌≡◌, ◌<◌, ◌≤◌, ◌+◌, ◌-◌, ◌*◌, ◌/◌, Bool, false, List, [], ◌∷◌, ◌++◌, length, sum, slice_index, slice_index_or, nat_lt, if◌then◌else◌}
 use Rattle.fp_knapsack.specs.declared.items.Item.{Item}
 use Rattle.fp_knapsack.specs.Sets.{sizes_of, item_at}
+use Rattle.fp_knapsack.specs.Grains.{grain_of}
+use Rattle.fp_knapsack.specs.Charges.{IsDearest}
 
 -- whether a load takes an item: it has room for the item's grains, and the best of what is left and the item weigh more
 -- than the best without the item
@@ -42,7 +44,13 @@ pub record AreTaken (items : List Item) (grain count loads : ℕ) (taken : List 
   pub are : (place load : ℕ) → place < count → load < loads →
       slice_index_or taken (place * loads + load) false ≡ takes_place items grain place load
 
--- no weight is above what is paid for its load by more, and one is by so much where this isn't 0
-pub record IsExcess (best : List ℕ) (paid : ℕ → ℕ) (excess : ℕ) : Type 0 where
-  pub most : (load : ℕ) → load < length best → slice_index best load ≤ paid load + excess
-  pub attained : 0 < excess → (load : ℕ) × (load < length best) × (slice_index best load ≡ paid load + excess)
+-- no weight is above what is paid for its load by more, and that of this load is by so much where this isn't 0
+pub record IsExcess (best : List ℕ) (paid : ℕ → ℕ) (amount load : ℕ) : Type 0 where
+  pub most : (other : ℕ) → other < length best → slice_index best other ≤ paid other + amount
+  pub attained : 0 < amount → (load < length best) × (slice_index best load ≡ paid load + amount)
+
+-- the rows of `taken` and a load tell a set that needs a charge
+pub record TellsDearest (items : List Item) (capacity money loads : ℕ) (taken : List Bool) (charge load : ℕ) : Type 0 where
+  pub inside : load < loads
+  pub are : AreTaken items (grain_of capacity (sizes_of items)) (length items) loads taken
+  pub dearest : IsDearest items capacity money charge (best_places items (grain_of capacity (sizes_of items)) (length items) load)

@@ -4,11 +4,13 @@
 //! It knows nothing of instances and plans: an item is a size and a weight.
 #![tactic(auto)]
 
+mod charges;
 mod grains;
 mod items;
 mod laws;
 mod loads;
 
+pub use charges::{DearestSet, Knapsack};
 pub use grains::{MOST_GRAINS, grain};
 pub use items::Item;
 pub use laws::true_sizes_are_paid;

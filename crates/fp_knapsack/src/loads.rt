@@ -1,13 +1,14 @@
 //! The greatest weights of sets by their loads, which are counted in grains.
 
-ghost use Rattle.std.specs.Prelude.{◌≡◌, ℕ, ◌+◌, ◌*◌, ◌/◌, ◌^◌, ◌<◌, ◌≤◌, false, length, slice_index, slice_index_or, sum, vec_len, OnOk};
+ghost use Rattle.std.specs.Prelude.{◌≡◌, ℕ, ◌+◌, ◌*◌, ◌/◌, ◌^◌, ◌<◌, ◌≤◌, false, length, slice_index, slice_index_or, sum, vec_len, IfOk, OnOk};
 ghost use Rattle.fp_knapsack.specs.Sets.{sizes_of};
 ghost use Rattle.fp_knapsack.specs.Charges.{total_weight, trucks_for as trucks_that_carry};
-ghost use Rattle.fp_knapsack.specs.Loads.{best_with, takes, AreBest, AreTaken, IsExcess};
+ghost use Rattle.fp_knapsack.specs.Loads.{best_with, takes, best_places, AreBest, AreTaken, IsExcess};
 
 use crate::NoMemory;
-use crate::items::{Item, total_size};
 use crate::grains::MOST_GRAINS;
+use crate::items::{Item, total_size};
+use std::alloc::Global;
 
 // Lets an item into the sets, at most once into each: the loads go down, so what a load takes over
 // from a smaller one has no such item yet. `taken` tells which loads take it.
@@ -43,6 +44,7 @@ pub(crate) fn fill(
     ensures best { OnOk result (AreBest items.now grain (length items.now) best.new.items) }
     ensures taken { OnOk result
         (AreTaken items.now grain (length items.now) (vec_len best.new) taken.new.items) }
+    ensures fits { OnOk result ((load : ℕ) → load < vec_len best.new → grain * load < 2 ^ 128) }
 {
     let loads = (total_size(items) / grain) as usize + 1;
     best.clear();
@@ -57,16 +59,27 @@ pub(crate) fn fill(
     Ok(())
 }
 
-// By how much a weight exceeds the money for the trucks of its load at most; 0 where none does.
-pub(crate) fn greatest_excess(best: &[u128], grain: u128, capacity: u64, money: u128) -> u128
+// By how much a weight is above the money for the trucks of its load, and a load where it is so.
+#[derive(Clone, Copy)]
+pub(crate) struct Excess {
+    pub(crate) amount: u128,
+    pub(crate) load: usize,
+}
+
+// The greatest excess of the weights; 0 where none is above its money.
+pub(crate) fn greatest_excess(best: &[u128], grain: u128, capacity: u64, money: u128) -> Excess
     requires positive { 0 < capacity }
     requires fits { (load : ℕ) → load < length best.now → grain * load < 2 ^ 128 }
-    ensures { IsExcess best.now (λ load. money * trucks_that_carry capacity (grain * load)) result }
+    ensures { IsExcess best.now (λ load. money * trucks_that_carry capacity (grain * load))
+        result.amount result.load }
 {
-    let mut most = 0;
+    let mut most = Excess { amount: 0, load: 0 };
     for (load, weight) in best.iter().enumerate() {
         let trucks = trucks_for(grain * load as u128, capacity);
-        most = most.max(weight.saturating_sub(money.saturating_mul(trucks)));
+        let amount = weight.saturating_sub(money.saturating_mul(trucks));
+        if most.amount < amount {
+            most = Excess { amount, load };
+        }
     }
     most
 }
@@ -77,4 +90,30 @@ fn trucks_for(size: u128, capacity: u64) -> u128
     ensures { result ≡ trucks_that_carry capacity size }
 {
     size.div_ceil(u128::from(capacity)).max(1)
+}
+
+// The places of the best set for a load, as the rows of `taken` tell it.
+pub(crate) fn trace(
+    alloc: Global,
+    taken: &[bool],
+    loads: usize,
+    items: &[Item],
+    grain: u128,
+    load: usize,
+) -> Result<Vec<usize>, NoMemory>
+    requires some { 0 < grain }
+    requires inside { load < loads }
+    requires are { AreTaken items.now grain (length items.now) loads taken.now }
+    ensures { IfOk result (λ places. places.items ≡ best_places items.now grain (length items.now) load) }
+{
+    let mut places = Vec::new(alloc);
+    let mut left = load;
+    for place in (0..items.len()).rev() {
+        if taken[place * loads + left] {
+            places.push(place)?;
+            left -= (u128::from(items[place].size) / grain) as usize;
+        }
+    }
+    places.reverse();
+    Ok(places)
 }
