@@ -1,12 +1,11 @@
 -- The greatest weights of sets by their loads: no set of a load weighs more, and the best places weigh so much.
-use Rattle.std.proofs.Common.{◌≡◌, ℕ, zero, suc, ◌+◌, ◌-◌, ◌*◌, ◌<◌, ◌≤◌, Bool, true, false, ◌||◌, cond, List, [], ◌∷◌, ◌++◌, length, ltb, ⊎_elim, refl, sym, ap, ◌∙◌, subst, arith}
+use Rattle.std.proofs.Common.{◌≡◌, ℕ, zero, suc, ◌+◌, ◌-◌, ◌<◌, ◌≤◌, Bool, true, false, ◌||◌, cond, List, [], ◌∷◌, ◌++◌, length, ltb, ⊎_elim, refl, sym, ap, ◌∙◌, subst, arith}
 use Rattle.std.specs.Prelude.{◌/◌, All, AllPairs, nat_eq}
 use Rattle.std.proofs.Math.Bool.{or-false}
-use Rattle.std.proofs.lemmas.Bool.{cases_Bool, cases_lt, cond-true, cond-false, cond_both, ltb-true, ltb-false, le-ltb, lt-ltb, false≢true, eq-eqb, ne_eqb, or_right, or_left, or_from}
+use Rattle.std.proofs.lemmas.Bool.{cases_Bool, cond-true, cond-false, cond_both, ltb-true, ltb-false, le-ltb, false≢true, ne_eqb, or_right}
 use Rattle.std.proofs.lemmas.List.Elements.{All-push, All-nil, All-weaker}
 use Rattle.std.proofs.lemmas.List.Folds.{list_any_none}
 use Rattle.std.proofs.lemmas.List.Quantifiers.{all_pairs_push}
-use Rattle.fp_lists.specs.Below.{sum_below}
 use Rattle.fp_lists.specs.Membership.{list_has}
 use Rattle.fp_lists.proofs.Membership.{list_has-append, list_has-first}
 use Rattle.fp_lists.proofs.Pairs.{AllPairs-nil}

@@ -1,10 +1,9 @@
 -- Greatest common divisors of many numbers.
-use Rattle.std.proofs.Common.{◌≡◌, ℕ, zero, suc, ◌<◌, ◌≤◌, Bool, true, false, ◌&&◌, List, [], ◌∷◌, ◌++◌, Some, ⊎_elim, refl, sym, subst, ◌∙◌, arith}
+use Rattle.std.proofs.Common.{◌≡◌, ℕ, zero, suc, ◌<◌, ◌≤◌, Bool, true, List, [], ◌∷◌, ◌++◌, Some, ⊎_elim, refl, sym, subst, ◌∙◌, arith}
 use Rattle.std.specs.Prelude.{◌%◌, ◌==◌, All}
-use Rattle.std.specs.List.{list_all}
 use Rattle.std.specs.Int.{IsGcd}
 use Prim.Native.Nat.{◌∣◌}
-use Rattle.std.proofs.lemmas.Bool.{cases_lt, cond-true, cond-false, false_from_ne_true, and_from, and_parts, eq-eqb, eqb-true}
+use Rattle.std.proofs.lemmas.Bool.{cases_lt, cond-true, cond-false, false_from_ne_true, eq-eqb, eqb-true}
 use Rattle.std.proofs.lemmas.List.Elements.{All-cons, All-head, All-tail, All-push, All-pop, All-nil, All-weaker}
 use Rattle.std.proofs.lemmas.List.Sums.{AllPass-from_list_all, list_all-from_AllPass}
 use Rattle.std.proofs.Math.Nat.{pos_of_dvd_of_pos}

@@ -1,7 +1,6 @@
 -- The least charge, by the greatest weights of sets.
-use Rattle.std.proofs.Common.{◌≡◌, ℕ, zero, suc, ◌+◌, ◌*◌, ◌^◌, ◌<◌, ◌≤◌, Bool, true, false, ◌||◌, cond, List, [], length, sum, slice_index, ⊎_elim, refl, sym, ap, ◌∙◌, subst, arith}
-use Rattle.std.specs.Prelude.{◌/◌, max, sum_by}
-use Rattle.std.specs.Int.{div_ceil}
+use Rattle.std.proofs.Common.{◌≡◌, ℕ, zero, suc, ◌+◌, ◌*◌, ◌^◌, ◌<◌, ◌≤◌, Bool, true, false, cond, List, length, sum, ⊎_elim, ap, arith}
+use Rattle.std.specs.Prelude.{◌/◌}
 use Rattle.std.proofs.Math.Nat.{mul-le-mul_left}
 use Rattle.std.proofs.lemmas.Nat.{le-div}
 use Rattle.std.proofs.lemmas.Bool.{cases_Bool, cases_lt, or_left, or_right}
@@ -12,8 +11,8 @@ use Rattle.fp_lists.proofs.Ceilings.{div_ceil_mono}
 use Rattle.fp_knapsack.specs.declared.items.Item.{Item}
 use Rattle.fp_knapsack.specs.Sets.{no_item, item_at, sizes_of, HasSome, sum_over, weight_of, size_of, grains_of}
 use Rattle.fp_knapsack.specs.Grains.{grain_of}
-use Rattle.fp_knapsack.specs.Charges.{trucks_for, trucks_of, total_weight, Pays, IsLeastCharge, NoChargePays, IsDearest, IsLeastWithSet}
-use Rattle.fp_knapsack.specs.Loads.{best_weight, best_places, AreBest, IsExcess}
+use Rattle.fp_knapsack.specs.Charges.{trucks_for, trucks_of, total_weight, Pays, IsLeastCharge, NoChargePays, IsDearest}
+use Rattle.fp_knapsack.specs.Loads.{best_places, AreBest, IsExcess}
 use Rattle.fp_knapsack.proofs.SetSums.{sum_over-le, sum_below-places, weight_of-le, grains_of-le}
 use Rattle.fp_knapsack.proofs.BestWeights.{best_weight-most, IsBest, best_places-best}
 

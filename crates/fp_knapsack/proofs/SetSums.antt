@@ -1,12 +1,12 @@
 -- Sums over sets of items.
-use Rattle.std.proofs.Common.{◌≡◌, ℕ, zero, suc, ◌+◌, ◌-◌, ◌*◌, ◌<◌, ◌≤◌, Bool, true, false, cond, List, [], ◌∷◌, length, get_or, refl, sym, ap, ◌∙◌, subst, arith}
+use Rattle.std.proofs.Common.{◌≡◌, ℕ, zero, suc, ◌+◌, ◌-◌, ◌*◌, ◌<◌, ◌≤◌, Bool, true, false, cond, List, [], ◌∷◌, length, get_or, refl, subst, arith}
 use Rattle.std.specs.Prelude.{◌/◌, All, sum_by}
 use Rattle.std.proofs.Math.Nat.{div-mul-le_self, mul-zero}
 use Rattle.std.proofs.lemmas.Bool.{cond-true}
 use Rattle.std.proofs.lemmas.List.Sums.{sum_by-cons}
-use Rattle.fp_lists.specs.Below.{some_below, sum_below}
+use Rattle.fp_lists.specs.Below.{sum_below}
 use Rattle.fp_lists.proofs.CountsBelow.{some_below-witness}
-use Rattle.fp_lists.proofs.SumsBelow.{sum_below-same, sum_below-has}
+use Rattle.fp_lists.proofs.SumsBelow.{sum_below-has}
 use Rattle.fp_knapsack.specs.declared.items.Item.{Item}
 use Rattle.fp_knapsack.specs.Sets.{no_item, item_at, HasSome, sum_over, weight_of, size_of, grains_of}
 use Rattle.fp_knapsack.specs.Charges.{total_weight}

@@ -1,5 +1,5 @@
 -- Tables with one item more.
-use Rattle.std.proofs.Common.{◌≡◌, ℕ, suc, ◌+◌, ◌-◌, ◌*◌, ◌<◌, ◌≤◌, Bool, false, List, [], ◌∷◌, ◌++◌, length, take, drop, slice_index, get_or, ⊎_elim, refl, sym, ap, ◌∙◌, subst, arith}
+use Rattle.std.proofs.Common.{◌≡◌, ℕ, suc, ◌+◌, ◌-◌, ◌*◌, ◌<◌, ◌≤◌, Bool, false, List, [], ◌++◌, length, take, drop, slice_index, get_or, ⊎_elim, sym, ap, ◌∙◌, subst, arith}
 use Rattle.std.specs.Prelude.{◌/◌, replicate}
 use borrow.Rule.Slice.PartMut.{put_mid, post_of}
 use Rattle.std.proofs.Math.Nat.{mul-le-mul_right}
@@ -16,13 +16,13 @@ pub AreBest-more : (items : List Item) (grain n grains : ℕ) (old new : List �
 AreBest-more items grain n grains old new best len grains_is made =
     let next : suc n ≡ n + 1 = omega arith in
     subst (λ (count : ℕ). AreBest items grain count new) next (record {
-        len = len ∙ best.len;
-        are = λ load h.
-            (let inside : load < length old = omega (arith, len) in
-            made load inside
-            ∙ ap (λ (g : ℕ). best_with (λ l. slice_index old l) g (item_at items n).weight load) grains_is
-            ∙ best_with-same (λ l. slice_index old l) (best_weight items grain n) ((item_at items n).size / grain) (item_at items n).weight load (λ l below. best.are l (omega arith)));
-      })
+      len = len ∙ best.len;
+      are = λ load h.
+          (let inside : load < length old = omega (arith, len) in
+          made load inside
+          ∙ ap (λ (g : ℕ). best_with (λ l. slice_index old l) g (item_at items n).weight load) grains_is
+          ∙ best_with-same (λ l. slice_index old l) (best_weight items grain n) ((item_at items n).size / grain) (item_at items n).weight load (λ l below. best.are l (omega arith)));
+    })
 
 -- a row for one item more
 pub AreTaken-more : (items : List Item) (grain n grains loads : ℕ) (best : List ℕ) (old row : List Bool) → AreBest items grain n best → length best ≡ loads → AreTaken items grain n loads old →

@@ -1,13 +1,13 @@
 -- A charge that pays for sizes in grains pays for true sizes.
-use Rattle.std.proofs.Common.{◌≡◌, ℕ, ◌+◌, ◌*◌, ◌<◌, ◌≤◌, Bool, List, length, arith}
-use Rattle.std.specs.Prelude.{All, max}
+use Rattle.std.proofs.Common.{ℕ, ◌*◌, ◌<◌, ◌≤◌, Bool, List, arith}
+use Rattle.std.specs.Prelude.{All}
 use Rattle.std.specs.Int.{div_ceil}
 use Rattle.std.proofs.Math.Nat.{mul-le-mul_left}
 use Rattle.fp_lists.proofs.Ceilings.{div_ceil_mono, div_ceil-some}
 use Rattle.fp_knapsack.specs.declared.items.Item.{Item}
 use Rattle.fp_knapsack.specs.Sets.{sizes_of, HasSome, size_of, grains_of}
 use Rattle.fp_knapsack.specs.Grains.{grain_of}
-use Rattle.fp_knapsack.specs.Charges.{trucks_for, trucks_of, TrueSizesArePaid}
+use Rattle.fp_knapsack.specs.Charges.{trucks_of, TrueSizesArePaid}
 use Rattle.fp_knapsack.proofs.SetSums.{grains_of-le, size_of-some}
 
 -- the trucks of a set by grains are no more than those of its size

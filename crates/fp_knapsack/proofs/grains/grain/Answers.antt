@@ -1,4 +1,4 @@
-use Rattle.std.proofs.Common.{◌≡◌, ℕ, ◌≤◌, ◌<◌, List, sym, ap, ◌∙◌, subst, arith, rules}
+use Rattle.std.proofs.Common.{◌≡◌, ℕ, ◌≤◌, ◌<◌, List, sym, ap, ◌∙◌, subst}
 use Rattle.std.specs.Prelude.{◌/◌, sum}
 use Rattle.std.specs.Int.{div_ceil}
 use Rattle.fp_knapsack.specs.declared.grains.TheConstants.{MOST_GRAINS}

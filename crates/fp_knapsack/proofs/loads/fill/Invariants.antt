@@ -1,5 +1,3 @@
-use Rattle.std.proofs.Common.{length}
-use Rattle.std.specs.Prelude.{vec_len}
 use Rattle.fp_knapsack.specs.Loads.{AreBest, AreTaken}
 use Rattle.fp_knapsack.proofs.loads.fill.Given as goal
 

@@ -1,4 +1,4 @@
-use Rattle.std.proofs.Common.{◌≡◌, ℕ, ◌+◌, ◌-◌, ◌*◌, ◌<◌, ◌≤◌, ◌^◌, List, slice_index, take, sym, ap, ◌∙◌, subst, arith}
+use Rattle.std.proofs.Common.{◌≡◌, ℕ, ◌+◌, ◌-◌, ◌*◌, ◌<◌, ◌^◌, List, slice_index, take, sym, ap, subst, arith}
 use Rattle.fp_knapsack.specs.Charges.{trucks_for}
 use Rattle.fp_knapsack.specs.Loads.{IsExcess}
 use Rattle.fp_knapsack.proofs.Excesses.{IsExcess-kept, IsExcess-more}
@@ -17,11 +17,11 @@ loop-load-preserved c =
     let inside = c.loop-load-test.true in
     let before = c.loop-load.invariant in
     elim c.if-most-amount.branch [
-      then-most-amount w ↦
+      | then-most-amount w ↦
           subst (λ (e : Excess). IsExcess (take (load + 1) best) paid e.amount e.load) (sym w.most-is)
           (subst (λ (amount : ℕ). IsExcess (take (load + 1) best) paid amount load) (sym excess)
           (IsExcess-more best paid _ _ load inside before (omega (arith, w.if-most-amount.true, excess))))
-    | else-most-amount w ↦
+      | else-most-amount w ↦
           subst (λ (e : Excess). IsExcess (take (load + 1) best) paid e.amount e.load) (sym w.most-is)
           (IsExcess-kept best paid _ _ load inside before (omega (arith, w.if-most-amount.false, excess)))
     ]

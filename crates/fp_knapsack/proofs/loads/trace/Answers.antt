@@ -1,8 +1,8 @@
-use Rattle.std.proofs.Common.{◌≡◌, ℕ, ◌-◌, ◌++◌, List, true, false, reverse, sym, ap, ◌∙◌, arith, rules}
+use Rattle.std.proofs.Common.{◌≡◌, ℕ, ◌-◌, ◌++◌, List, true, false, reverse, sym, ap, ◌∙◌, arith}
 use Rattle.std.specs.Prelude.{◌/◌}
 use Rattle.fp_knapsack.specs.declared.items.Item.{Item}
 use Rattle.fp_knapsack.specs.Sets.{item_at}
-use Rattle.fp_knapsack.specs.Loads.{takes_place, best_places}
+use Rattle.fp_knapsack.specs.Loads.{takes_place}
 use Rattle.fp_knapsack.proofs.BestPlaces.{best_places-taken, best_places-left}
 use Rattle.fp_knapsack.proofs.loads.trace.Goals as goal
 

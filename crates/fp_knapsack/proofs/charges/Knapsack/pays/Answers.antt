@@ -14,6 +14,7 @@ returns-in-None c =
 pub returns-in-Some : goal.returns-in-Some
 returns-in-Some c =
     let least : IsLeastCharge c.args.items.now c.args.capacity c.args.money c.in-Some.least =
-    MatchOption-at_some (NoChargePays c.args.items.now c.args.capacity c.args.money) (λ (least : ℕ). IsLeastCharge c.args.items.now c.args.capacity c.args.money least) c.in-Some.least c.in-Some.is c.in_ok-least_charge.ensures in
-    (λ is. Pays_mono c.args.items.now c.args.capacity c.args.money c.in-Some.least c.args.charge (leb-true c.in-Some.least c.args.charge is) least.pays,
-     λ pays. le-leb c.in-Some.least c.args.charge (least.least c.args.charge pays))
+    MatchOption-at_some (NoChargePays c.args.items.now c.args.capacity c.args.money) (λ (least : ℕ). IsLeastCharge c.args.items.now c.args.capacity c.args.money least) c.in-Some.least c.in-Some.is c.in_ok-least_charge.ensures in (
+      λ is. Pays_mono c.args.items.now c.args.capacity c.args.money c.in-Some.least c.args.charge (leb-true c.in-Some.least c.args.charge is) least.pays,
+      λ pays. le-leb c.in-Some.least c.args.charge (least.least c.args.charge pays),
+    )
