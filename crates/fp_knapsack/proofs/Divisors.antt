@@ -17,15 +17,6 @@ pub record IsGreatestDivisor (number : ℕ) (others : List ℕ) (divisor : ℕ) 
   pub rest : All (λ n. divisor ∣ n) others
   pub greatest : (other : ℕ) → other ∣ number → All (λ n. other ∣ n) others → other ∣ divisor
 
--- a number alone
-pub IsGreatestDivisor-alone : (number : ℕ) → 0 < number → IsGreatestDivisor number [] number
-IsGreatestDivisor-alone number some = record {
-  some = some;
-  first = dvd_refl number;
-  rest = All-nil (λ n. number ∣ n);
-  greatest = λ other divides all. divides;
-}
-
 -- one number more
 pub IsGreatestDivisor-push : (number : ℕ) (others : List ℕ) (divisor n next : ℕ) → IsGreatestDivisor number others divisor → IsGcd divisor n next → IsGreatestDivisor number (others ++ n ∷ []) next
 IsGreatestDivisor-push number others divisor n next is gcd = record {

@@ -23,13 +23,3 @@ grain_of-quotient capacity sizes many =
     cond-false (leb (sum sizes / common_divisor capacity sizes) MOST_GRAINS) (common_divisor capacity sizes) (div_ceil (sum sizes) MOST_GRAINS)
     (lt-leb (sum sizes / common_divisor capacity sizes) MOST_GRAINS many)
 
--- what is over a limit many times isn't nothing, so its quotient isn't either
-pub quotient-some : (total divisor limit : ℕ) → 0 < limit → limit < total / divisor → 0 < div_ceil total limit
-quotient-some total divisor limit positive many = div_ceil-some total limit positive (omega (arith, div-le_self total divisor, many))
-
--- and it has at most so many of its quotient
-pub quotient-few : (total limit : ℕ) → 0 < limit → 0 < div_ceil total limit → total / div_ceil total limit ≤ limit
-quotient-few total limit positive some =
-    let quotient : ℕ = div_ceil total limit in
-    let below : total < (limit + 1) * quotient = omega (arith, div_ceil-holds total limit positive, some) in
-    omega (arith, div_below total quotient (limit + 1) some below)

@@ -20,10 +20,6 @@ use Rattle.fp_knapsack.proofs.BestWeights.{best_weight-most, IsBest, best_places
 pub Pays_mono : (items : List Item) (capacity money charge more : ℕ) → charge ≤ more → Pays items capacity money charge → Pays items capacity money more
 Pays_mono items capacity money charge more le pays = record { small = pays.small; sets = λ set some. omega (arith, pays.sets set some) }
 
--- weights past 128 bits are paid by no charge
-pub NoChargePays-past : (items : List Item) (capacity money : ℕ) → 2 ^ 128 ≤ total_weight items → NoChargePays items capacity money
-NoChargePays-past items capacity money past charge pays = omega (arith, past, pays.small)
-
 -- one truck's money is within the money of at least one
 one_truck-le : (capacity size money : ℕ) → money ≤ money * trucks_for capacity size
 one_truck-le capacity size money =
