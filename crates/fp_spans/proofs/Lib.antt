@@ -1,0 +1,11 @@
+pub mod PaidSums
+pub mod PassingUsers
+pub mod MoneySums
+pub mod WeightSets
+pub mod CountedParts
+pub mod SpanPays
+pub mod ClassSums
+pub mod SpanBounds
+pub mod OneSpanValue
+pub mod SpanlessValues
+mod Examples

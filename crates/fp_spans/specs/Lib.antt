@@ -1,0 +1,4 @@
+pub mod Spans
+pub mod SpanPrices
+pub mod SpanRules
+pub mod SpanLeaves
