@@ -27,8 +27,8 @@ use Rattle.fp_spans.specs.Spans.{ClassSpan}
 use Rattle.fp_spans.specs.SpanLeaves.{IsChargeOf}
 use Rattle.fp_spans.specs.SpanPrices.{is_held, leaf_span_price, money_at}
 use Rattle.fp_spans.specs.SpanRules.{KeepSpanRules, KeepsMoneyRule}
-use Rattle.fp_spans.proofs.CountedParts.{counted, counted-free, counted-held, counts, held-none, price-parts, single-le, single_price}
-use Rattle.fp_spans.proofs.MoneySums.{money-fits}
+use Rattle.fp_spans.proofs.CountedParts.{counted, counted-free, counted-held, counts, price-parts, single-le, single_price}
+use Rattle.fp_spans.proofs.MoneySums.{held-none, money-fits}
 use Rattle.fp_spans.proofs.PaidSums.{paid-both, paid-same, paid-sum_by}
 use Rattle.fp_spans.proofs.SpanPays.{ArePlanWalks, counted_trucks, spans-pay}
 

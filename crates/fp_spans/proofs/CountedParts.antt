@@ -1,8 +1,7 @@
 -- What shipments pay at a leaf under prices by spans, in two parts: by single classes, and by the spans that count.
-use Rattle.std.proofs.Common.{◌≡◌, ℕ, ◌+◌, ◌≤◌, Bool, true, false, cond, List, [], ◌∷◌, ⊎_elim, refl, ap, ◌∙◌, arith}
+use Rattle.std.proofs.Common.{◌≡◌, ℕ, ◌+◌, ◌≤◌, Bool, true, false, cond, List, ⊎_elim, refl, ap, ◌∙◌, arith}
 use Rattle.std.specs.Prelude.{sum_by, ◌&&◌, not, if◌then◌else◌}
-use Rattle.std.proofs.lemmas.Bool.{cases_Bool, cond-true, cond-false, or_parts}
-use Rattle.std.proofs.lemmas.List.Sums.{sum_by-cons}
+use Rattle.std.proofs.lemmas.Bool.{cases_Bool, cond-true, cond-false}
 use Rattle.fp_lists.proofs.Sums.{sum_by-const, sum_by-same}
 use Rattle.fp_model.specs.declared.parts.Leg.{Leg}
 use Rattle.fp_model.specs.Costs.{all_legs, has_leg}
@@ -13,6 +12,7 @@ use Rattle.fp_prices.specs.Prices.{truck_price, weight_in}
 use Rattle.fp_prices.specs.Shares.{ClassShare}
 use Rattle.fp_spans.specs.Spans.{ClassSpan}
 use Rattle.fp_spans.specs.SpanPrices.{holds, is_held, leaf_span_price, span_price}
+use Rattle.fp_spans.proofs.MoneySums.{held-none}
 
 -- whether a span counts at a class: it holds for it, and no chain has the class
 abbrev pub counts : List (List Leg) → ClassSpan → Leg → Bool
@@ -37,13 +37,6 @@ pub counted-held : (chains : List (List Leg)) (f : ClassSpan → ℕ) (spans : L
     counted chains f spans c ≡ sum_by (λ span. if holds span c then f span else 0) spans
 counted-held chains f spans c not_free =
     sum_by-same (λ span. if counts chains span c then f span else 0) (λ span. if holds span c then f span else 0) (λ span. ap (λ (b : Bool). cond (not b && holds span c) (f span) 0) not_free) spans
-
--- where none holds none counts
-pub held-none : (f : ClassSpan → ℕ) (spans : List ClassSpan) (c : Leg) → is_held spans c ≡ false → sum_by (λ span. if holds span c then f span else 0) spans ≡ 0
-held-none f [] c none = refl
-held-none f (span ∷ spans) c none =
-    let parts = or_parts (holds span c) (is_held spans c) none in
-    omega (arith, sum_by-cons (λ (s : ClassSpan). if holds s c then f s else 0) span spans, cond-false (holds span c) (f span) 0 parts.0, held-none f spans c parts.1)
 
 -- the price at a leaf is in these two parts
 pub price-parts : (p : Problem) (shares : List (List ClassShare)) (spans : List ClassSpan) (allowed : ℕ → Leg → Bool) (kind : Kind) (chains : List (List Leg)) (k size : ℕ) (c : Leg) →

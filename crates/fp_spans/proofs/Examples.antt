@@ -1,21 +1,15 @@
 -- Leaves of a small instance under prices by spans: an arc from A to B of time 5 with trucks of capacity 10 that cost 60, and two
 -- shipments of 5 from A to B, from 0 to 6. They may leave at any time from 0 to 1, and a truck holds both.
-use Rattle.std.proofs.Common.{◌≡◌, ◌≢◌, ℕ, ◌+◌, ◌-◌, ◌*◌, zero, suc, ◌<◌, ◌≤◌, Bool, true, false, List, [], ◌∷◌, length, ◌⊎◌, ⊎_elim, inl, inr, refl, sym, ap, ap₂, ◌∙◌, subst, arith, lit<, lit≤, rules}
+use Rattle.std.proofs.Common.{◌≡◌, ℕ, ◌+◌, ◌-◌, ◌*◌, zero, suc, ◌<◌, ◌≤◌, Bool, true, false, List, [], ◌∷◌, length, ◌⊎◌, ⊎_elim, inl, inr, refl, sym, ap, ap₂, subst, arith, lit<, lit≤, rules}
 use Rattle.std.specs.Prelude.{Option, Some, None, IsSomeAnd, sum_by}
-use Rattle.std.specs.List.{AllByRecursion, AllZip}
+use Rattle.std.specs.List.{AllZip}
 use Rattle.std.specs.Int.{div_ceil}
 use Rattle.std.proofs.lemmas.Bool.{false≢true}
 use Rattle.std.proofs.lemmas.List.Sums.{sum_by-cons}
-use Rattle.fp_lists.specs.Membership.{list_has}
 use Rattle.fp_lists.proofs.Distinct.{AreDistinct-cons, AreDistinct-nil}
-use Rattle.fp_lists.proofs.DistinctSums.{length-distinct-le}
-use Rattle.fp_lists.proofs.Elements.{AllByRecursion-weaker}
-use Rattle.fp_lists.proofs.Membership.{list_has-cons_cases}
-use Rattle.fp_lists.proofs.Sums.{sum_by-const, sum_by-same_each}
 use Rattle.fp_model.specs.declared.parts.Leg.{Leg}
 use Rattle.fp_model.specs.declared.parts.Shipment.{Shipment}
 use Rattle.fp_model.specs.Costs.{all_legs, cost, has_leg}
-use Rattle.fp_model.specs.Numbered.{shipment_at}
 use Rattle.fp_model.specs.Problem.{Problem, IsValid, arc_at}
 use Rattle.fp_timenodes.specs.Floor.{floor_point}
 use Rattle.fp_flatnet.specs.declared.window_tables.Window.{Window}
@@ -24,11 +18,11 @@ use Rattle.fp_allowed.specs.Walks.{IsTimedWalk}
 use Rattle.fp_allowed.proofs.AllowedClasses.{HasMoment, is_allowed_parts}
 use Rattle.fp_prices.specs.declared.leaf_prices.Kind.TheVariants.{Table}
 use Rattle.fp_prices.specs.Leaves.{IsLeastCost, IsPlanOfLeaf}
-use Rattle.fp_prices.specs.Prices.{weight_in}
 use Rattle.fp_spans.specs.Spans.{ClassSpan, PriceTable}
 use Rattle.fp_spans.specs.SpanLeaves.{IsCharged, IsChargeOf, IsSpanLeafValue}
 use Rattle.fp_spans.specs.SpanPrices.{holds, leaf_span_price, money_at, shares_of, span_price}
-use Rattle.fp_spans.specs.SpanRules.{IsSetOf, KeepSpanRules, KeepsMoneyRule, KeepsSetRule, shipments_of, size_of}
+use Rattle.fp_spans.specs.SpanRules.{IsSetOf, KeepSpanRules, KeepsMoneyRule, KeepsSetRule}
+use Rattle.fp_spans.proofs.EqualWeights.{by_count}
 use Rattle.fp_spans.proofs.SpanBounds.{span_leaf-bounds}
 
 abbrev parcel : ℕ → Shipment
@@ -150,39 +144,6 @@ one_truck = plain alone (whole 60000000 ∷ []) 0 0 (60000000 ∷ []) refl refl 
 -- each of them may use two classes of the span: it pays for the one that it uses, and the charge is taken off once
 once : IsSpanLeafValue road windows (points both) [] (by (whole 60000000 ∷ [])) (Table 1) false 60000000
 once = plain both (whole 60000000 ∷ []) 0 1 (60000000 ∷ []) refl refl (lit≤ tt) (lit≤ tt) (lit≤ tt) (lit≤ tt) (whole_charged both 60000000 refl, tt)
-
--- what is told of each number of a list holds of one that the list has
-each_of : (P : ℕ → Type 0) (numbers : List ℕ) (k : ℕ) → AllByRecursion P numbers → list_has numbers k ≡ true → P k
-each_of P [] k all has = absurd (false≢true has)
-each_of P (n ∷ numbers) k all has =
-    ⊎_elim (λ (e : n ≡ k). subst P e all.0) (λ (later : list_has numbers k ≡ true). each_of P numbers k all.1 later) (list_has-cons_cases n numbers k has)
-
-some_long : (set : List ℕ) → set ≢ [] → 1 ≤ length set
-some_long [] some = absurd (some refl)
-some_long (k ∷ set) some = omega arith
-
--- the set rule where all weights are the same, of so many shipments of the same size: so it is enough to count
-by_count : (p : Problem) (span : ClassSpan) (weight size count : ℕ) →
-    AllByRecursion (λ k. (weight_in span.weights k ≡ weight) × ((shipment_at p k).size ≡ size) × (k < count)) (shipments_of span.weights) →
-    ((m : ℕ) → 1 ≤ m → m ≤ count → m * weight ≤ span.money * div_ceil (m * size) (arc_at p span.arc).capacity + span.charge) → KeepsSetRule p span
-by_count p span weight size count each fits set is =
-    let all : AllByRecursion (λ k. (weight_in span.weights k ≡ weight) × ((shipment_at p k).size ≡ size) × (k < count)) set =
-    AllByRecursion-weaker (λ k. list_has (shipments_of span.weights) k ≡ true) (λ k. (weight_in span.weights k ≡ weight) × ((shipment_at p k).size ≡ size) × (k < count))
-    (λ k has. each_of (λ j. (weight_in span.weights j ≡ weight) × ((shipment_at p j).size ≡ size) × (j < count)) (shipments_of span.weights) k each has) set is.among in
-    let weights : sum_by (weight_in span.weights) set ≡ length set * weight =
-    sum_by-same_each (weight_in span.weights) (λ (k : ℕ). weight) set
-    (AllByRecursion-weaker (λ k. (weight_in span.weights k ≡ weight) × ((shipment_at p k).size ≡ size) × (k < count)) (λ k. weight_in span.weights k ≡ weight) (λ k h. h.0) set all)
-    ∙ sum_by-const weight set in
-    let sizes : size_of p set ≡ length set * size =
-    sum_by-same_each (λ k. (shipment_at p k).size) (λ (k : ℕ). size) set
-    (AllByRecursion-weaker (λ k. (weight_in span.weights k ≡ weight) × ((shipment_at p k).size ≡ size) × (k < count)) (λ k. (shipment_at p k).size ≡ size) (λ k h. h.1) set all)
-    ∙ sum_by-const size set in
-    let few : length set ≤ count =
-    length-distinct-le count set
-    (AllByRecursion-weaker (λ k. (weight_in span.weights k ≡ weight) × ((shipment_at p k).size ≡ size) × (k < count)) (λ k. k < count) (λ k h. h.2) set all) is.apart in
-    let held : length set * weight ≤ span.money * div_ceil (size_of p set) (arc_at p span.arc).capacity + span.charge =
-    subst (λ (n : ℕ). length set * weight ≤ span.money * div_ceil n (arc_at p span.arc).capacity + span.charge) (sym sizes) (fits (length set) (some_long set is.some) few) in
-    omega (arith, weights, held)
 
 -- a charge of 60 keeps the rules, and a part less doesn't
 whole_keeps : KeepSpanRules road (whole 60000000 ∷ [])

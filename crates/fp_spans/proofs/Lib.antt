@@ -8,4 +8,6 @@ pub mod ClassSums
 pub mod SpanBounds
 pub mod OneSpanValue
 pub mod SpanlessValues
+mod EqualWeights
 mod Examples
+mod DetourExamples

@@ -1,6 +1,6 @@
 -- The spans that hold for a class have together at most the cost of a truck.
 use Rattle.std.proofs.Common.{◌≡◌, ℕ, ◌+◌, ◌*◌, ◌<◌, ◌≤◌, Bool, true, false, ◌||◌, List, [], ◌∷◌, ⊎_elim, refl, sym, ◌∙◌, subst, arith}
-use Rattle.std.specs.Prelude.{◌&&◌, nat_eq, nat_le, nat_lt, if◌then◌else◌}
+use Rattle.std.specs.Prelude.{sum_by, ◌&&◌, nat_eq, nat_le, nat_lt, if◌then◌else◌}
 use Rattle.std.specs.List.{AllByRecursion}
 use Rattle.std.proofs.lemmas.Bool.{and_from, and_parts, cases_Bool, cases_lt, cond-true, cond-false, eq-eqb, eqb-true, le-leb, leb-true, lt-ltb, ltb-true, false≢true, or_cases, or_parts}
 use Rattle.std.proofs.lemmas.List.Sums.{sum_by-cons}
@@ -23,7 +23,7 @@ holds-true span c h =
     let points = and_parts (nat_le span.point c.depart) (nat_lt c.depart span.until) parts.1 in
     record { arc = eqb-true span.arc c.arc parts.0; from = leb-true span.point c.depart points.0; before = ltb-true c.depart span.until points.1 }
 
-pub holds-from : (span : ClassSpan) (c : Leg) → IsHeldBy span c → holds span c ≡ true
+holds-from : (span : ClassSpan) (c : Leg) → IsHeldBy span c → holds span c ≡ true
 holds-from span c is =
     and_from (nat_eq span.arc c.arc) (nat_le span.point c.depart && nat_lt c.depart span.until) (eq-eqb span.arc c.arc is.arc)
     (and_from (nat_le span.point c.depart) (nat_lt c.depart span.until) (le-leb span.point c.depart is.from) (lt-ltb c.depart span.until is.before))
@@ -100,12 +100,12 @@ money-le (span ∷ spans) c e arc earlier last =
     (λ (not_held : holds span c ≡ false). omega (arith, rest, at_c, at_e, cond-false (holds span c) span.money 0 not_held))
     (cases_Bool (holds span c))
 
--- where no span holds there is no money
-pub money-none : (spans : List ClassSpan) (c : Leg) → is_held spans c ≡ false → money_at spans c ≡ 0
-money-none [] c none = refl
-money-none (span ∷ spans) c none =
+-- a sum over the spans that hold, where none holds
+pub held-none : (f : ClassSpan → ℕ) (spans : List ClassSpan) (c : Leg) → is_held spans c ≡ false → sum_by (λ span. if holds span c then f span else 0) spans ≡ 0
+held-none f [] c none = refl
+held-none f (span ∷ spans) c none =
     let parts = or_parts (holds span c) (is_held spans c) none in
-    omega (arith, sum_by-cons (λ (s : ClassSpan). if holds s c then s.money else 0) span spans, cond-false (holds span c) span.money 0 parts.0, money-none spans c parts.1)
+    omega (arith, sum_by-cons (λ (s : ClassSpan). if holds s c then f s else 0) span spans, cond-false (holds span c) (f span) 0 parts.0, held-none f spans c parts.1)
 
 -- the money rule at the points of all spans holds at every class
 pub money-fits : (p : Problem) (spans : List ClassSpan) (c : Leg) → AllByRecursion (KeepsMoneyRule p spans) spans → money_at spans c ≤ p.scale * (arc_at p c.arc).truck
@@ -118,5 +118,5 @@ money-fits p spans c rule =
     (λ span keeps same. subst (λ (a : ℕ). money_at spans (record { arc = a; depart = span.point }) ≤ p.scale * (arc_at p a).truck) same keeps) spans rule in
     let at : IsLastPoint Fits spans c = last-point Fits spans c knows held in
     omega (arith, at.known, money-le spans c (record { arc = c.arc; depart = at.point }) refl at.before at.last))
-    (λ (none : is_held spans c ≡ false). omega (arith, money-none spans c none))
+    (λ (none : is_held spans c ≡ false). omega (arith, held-none (λ (span : ClassSpan). span.money) spans c none))
     (cases_Bool (is_held spans c))

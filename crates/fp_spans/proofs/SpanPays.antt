@@ -104,7 +104,7 @@ charged p allowed chains span has =
     }
 
 -- what all shipments pay by a span
-pub span-pays : (p : Problem) (allowed : ℕ → Leg → Bool) (chains walks : List (List Leg)) (span : ClassSpan) (n : ℕ) → ArePlanWalks p allowed walks → KeepsSetRule p span → IsChargeOf p allowed chains span n →
+span-pays : (p : Problem) (allowed : ℕ → Leg → Bool) (chains walks : List (List Leg)) (span : ClassSpan) (n : ℕ) → ArePlanWalks p allowed walks → KeepsSetRule p span → IsChargeOf p allowed chains span n →
     paid (λ c k. if counts chains span c then weight_in span.weights k else 0) 0 walks ≤ span.money * distinct_sum (counted_trucks p chains walks span) (all_legs walks) + n
 span-pays p allowed chains walks span n are rule charge =
     let test : Leg → Bool = counts chains span in
