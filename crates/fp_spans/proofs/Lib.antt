@@ -5,6 +5,7 @@ pub mod WeightSets
 pub mod CountedParts
 pub mod SpanPays
 pub mod ClassSums
+pub mod SpanOrders
 pub mod SpanBounds
 pub mod OneSpanValue
 pub mod SpanlessValues

@@ -2,3 +2,4 @@ pub mod Spans
 pub mod SpanPrices
 pub mod SpanRules
 pub mod SpanLeaves
+pub mod SpanTables
