@@ -6,6 +6,7 @@ pub mod CountedParts
 pub mod SpanPays
 pub mod ClassSums
 pub mod SpanOrders
+pub mod ArcRuns
 pub mod SpanBounds
 pub mod OneSpanValue
 pub mod SpanlessValues

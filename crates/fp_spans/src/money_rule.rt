@@ -1,5 +1,7 @@
 //! Tests tables with spans: their order, and the money rule.
 ghost use Rattle.std.specs.Prelude.{◌≡◌, ◌-◌, ◌<◌, ◌≤◌, ◌^◌, ◌↔◌, All, IfErr, IfNone, IfSome, IsTrue, OnOk, length};
+ghost use Rattle.std.specs.List.Sorted.{IsNonDecreasingBy};
+ghost use Rattle.fp_model.specs.declared.parts.Leg.{Leg};
 ghost use Rattle.fp_spans.specs.Spans.{ClassSpan};
 ghost use Rattle.fp_spans.specs.SpanPrices.{holds, money_at};
 ghost use Rattle.fp_spans.specs.SpanRules.{KeepsMoneyRule};
@@ -34,9 +36,21 @@ fn is_within(limit: u128, spans: &[Span], class: Leg) -> bool
     true
 }
 
-// Whether one of the spans, of an arc that exists, keeps the money rule.
+// Those of the spans, in order, that are of an arc.
+fn of_arc(spans: &[Span], arc: u32) -> &[Span]
+    requires { IsNonDecreasingBy (λ (s : ClassSpan). s.arc) spans.now }
+    ensures { (c : Leg) → c.arc ≡ arc → money_at result.now c ≡ money_at spans.now c }
+{
+    let from = spans.partition_point(|span| span.arc < arc);
+    let rest = &spans[from..];
+    let count = rest.partition_point(|span| span.arc <= arc);
+    &rest[..count]
+}
+
+// Whether one of the spans, in order and of an arc that exists, keeps the money rule.
 fn keeps_money(instance: &Instance, spans: &[Span], span: &Span) -> bool
-    requires { span.now.arc < length instance.now.arcs }
+    requires arc { span.now.arc < length instance.now.arcs }
+    requires ordered { IsNonDecreasingBy (λ (s : ClassSpan). s.arc) spans.now }
     ensures { IsTrue result ↔ KeepsMoneyRule instance.now spans.now span.now }
 {
     let limit = u128::from(instance.scale()) * u128::from(instance.arc(span.arc).truck);
@@ -44,11 +58,12 @@ fn keeps_money(instance: &Instance, spans: &[Span], span: &Span) -> bool
         arc: span.arc,
         depart: span.point,
     };
-    is_within(limit, spans, class)
+    is_within(limit, of_arc(spans, span.arc), class)
 }
 
-// The number of the first span that breaks the money rule.
+// The number of the first span, of spans in order, that breaks the money rule.
 fn first_over(instance: &Instance, spans: &[Span]) -> Option<u32>
+    requires ordered { IsNonDecreasingBy (λ (s : ClassSpan). s.arc) spans.now }
     requires few { length spans.now < 2 ^ 32 - 1 }
     requires arcs { All (λ (s : ClassSpan). s.arc < length instance.now.arcs) spans.now }
     ensures over { IfSome result (IsFirstOver instance.now spans.now) }
@@ -70,8 +85,8 @@ fn first_over(instance: &Instance, spans: &[Span]) -> Option<u32>
 /// until, and the weights of each strictly by shipment. The spans are of arcs that exist, and fewer
 /// than 2^32 - 1. `Err` exactly where the table isn't so, with the first rule that fails: the order
 /// comes before the money, and of the spans the first one is told that breaks the money rule. Money
-/// may be any numbers: no sum of it is made. Takes no memory, and time that grows with the square
-/// of the number of spans, and with the weights.
+/// may be any numbers: no sum of it is made. Takes no memory, and time that grows with the shares
+/// and the weights, and for each arc with the square of the number of its spans.
 pub fn check_spans(instance: &Instance, table: &SpanTable) -> Result<(), SpanFault>
     requires { AreCountableSpans instance.now table.now.spans }
     ensures ok { OnOk result (IsSpanTable instance.now table.now) }
