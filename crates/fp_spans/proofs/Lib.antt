@@ -8,6 +8,7 @@ pub mod ClassSums
 pub mod SpanOrders
 pub mod ArcRuns
 pub mod SpanBounds
+pub mod PlaceSets
 pub mod OneSpanValue
 pub mod SpanlessValues
 mod EqualWeights

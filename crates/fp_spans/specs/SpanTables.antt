@@ -1,21 +1,17 @@
 -- What is asked of a table with spans, and the first rule that it breaks.
 use Rattle.std.specs.Prelude.{ℕ, ◌<◌, ◌-◌, ◌^◌, ◌≡◌, ◌⊎◌, List, [], length, take, All, AllPairs, slice_index_or}
+use Rattle.std.specs.List.{AllByRecursion}
 use Rattle.fp_lists.specs.Order.{Precedes}
 use Rattle.fp_model.specs.Problem.{Problem}
-use Rattle.fp_prices.specs.declared.tables.Weight.{Weight}
 use Rattle.fp_prices.specs.Tables.{IsAscendingTable}
 use Rattle.fp_spans.specs.declared.span_faults.SpanFault.{SpanFault}
 use Rattle.fp_spans.specs.declared.span_faults.SpanFault.TheVariants.{Order, Money}
 use Rattle.fp_spans.specs.Spans.{ClassSpan, PriceTable}
-use Rattle.fp_spans.specs.SpanRules.{KeepsMoneyRule}
+use Rattle.fp_spans.specs.SpanRules.{KeepsMoneyRule, WeightsAscend}
 
 -- one span stands before another: by arc, then by point, then by where it ends
 abbrev pub StandsBefore : ClassSpan → ClassSpan → Type 0
 StandsBefore s t = (s.arc < t.arc) ⊎ ((s.arc ≡ t.arc) × Precedes s.point s.until t.point t.until)
-
--- weights ascend strictly by shipment
-abbrev pub WeightsAscend : List Weight → Type 0
-WeightsAscend weights = AllPairs (λ (v w : Weight). v.shipment < w.shipment) weights
 
 -- a table in order: the shares and their weights ascend, the spans ascend strictly, and in each span the weights ascend strictly
 pub record IsOrderedTable (table : PriceTable) : Type 0 where
@@ -26,7 +22,7 @@ pub record IsOrderedTable (table : PriceTable) : Type 0 where
 -- a table in order all of whose spans keep the money rule
 pub record IsSpanTable (p : Problem) (table : PriceTable) : Type 0 where
   pub ordered : IsOrderedTable table
-  pub money : All (KeepsMoneyRule p table.spans) table.spans
+  pub money : AllByRecursion (KeepsMoneyRule p table.spans) table.spans
 
 -- the spans are of arcs that exist, and fewer than can be counted in 32 bits
 pub record AreCountableSpans (p : Problem) (spans : List ClassSpan) : Type 0 where

@@ -1,4 +1,5 @@
 //! The theory of leaves under prices by spans, as contracts without a body.
+ghost use Rattle.fp_spans.specs.SpanRules.{SetRuleByPlaces};
 ghost use Rattle.fp_spans.specs.SpanLeaves.{SpanLeavesHaveOneValue, SpanValuesBoundPlans, ValuesWithoutSpans};
 
 /// No plan of a leaf costs less than the leaf is worth under prices by spans, whoever finds the
@@ -26,4 +27,13 @@ pub fn span_leaves_have_one_value()
 /// exactly where it is the leaf's value by the shares of the tables.
 pub fn values_without_spans()
     ensures { ValuesWithoutSpans }
+{}
+
+/// Where the weights of a span ascend by shipment, it keeps the set rule if it keeps it over the
+/// places of its weights, whichever of these are chosen, but at least one.
+///
+/// So a test of the rule may go over the weights by their places, each with the size of its
+/// shipment.
+pub fn set_rule_by_places()
+    ensures { SetRuleByPlaces }
 {}

@@ -14,7 +14,9 @@ mod span_faults;
 mod span_order;
 mod spans;
 
-pub use laws::{span_leaves_have_one_value, span_values_bound_plans, values_without_spans};
+pub use laws::{
+    set_rule_by_places, span_leaves_have_one_value, span_values_bound_plans, values_without_spans,
+};
 pub use money_rule::check_spans;
 pub use span_faults::SpanFault;
 pub use spans::{Span, SpanTable};

@@ -4,7 +4,8 @@ ghost use Rattle.fp_lists.specs.Order.{Precedes};
 ghost use Rattle.fp_prices.specs.Shares.{ClassShare};
 ghost use Rattle.fp_prices.specs.Tables.{IsAscendingTable};
 ghost use Rattle.fp_spans.specs.Spans.{ClassSpan};
-ghost use Rattle.fp_spans.specs.SpanTables.{IsOrderedTable, StandsBefore, WeightsAscend};
+ghost use Rattle.fp_spans.specs.SpanRules.{WeightsAscend};
+ghost use Rattle.fp_spans.specs.SpanTables.{IsOrderedTable, StandsBefore};
 
 use crate::spans::{Span, SpanTable};
 use fp_prices::{Share, Weight};

@@ -3,7 +3,8 @@ use Rattle.std.specs.Prelude.{All, AllPairs}
 use Rattle.std.proofs.lemmas.Bool.{false≢true}
 use Rattle.fp_prices.specs.Tables.{IsAscendingTable}
 use Rattle.fp_spans.specs.Spans.{ClassSpan, PriceTable}
-use Rattle.fp_spans.specs.SpanTables.{IsOrderedTable, StandsBefore, WeightsAscend}
+use Rattle.fp_spans.specs.SpanRules.{WeightsAscend}
+use Rattle.fp_spans.specs.SpanTables.{IsOrderedTable, StandsBefore}
 use Rattle.fp_spans.proofs.span_order.is_ordered.Goals as goal
 
 pub returns-then-not-shares_ascend : goal.returns-then-not-shares_ascend
