@@ -1,0 +1,5 @@
+pub mod Spans
+pub mod SpanPrices
+pub mod SpanRules
+pub mod SpanLeaves
+pub mod SpanTables

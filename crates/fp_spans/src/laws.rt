@@ -1,0 +1,39 @@
+//! The theory of leaves under prices by spans, as contracts without a body.
+ghost use Rattle.fp_spans.specs.SpanRules.{SetRuleByPlaces};
+ghost use Rattle.fp_spans.specs.SpanLeaves.{SpanLeavesHaveOneValue, SpanValuesBoundPlans, ValuesWithoutSpans};
+
+/// No plan of a leaf costs less than the leaf is worth under prices by spans, whoever finds the
+/// value, and whatever the windows, the points, the sides, the kind of prices and the tables, plain
+/// or with forced classes paid whole.
+///
+/// A plan of a leaf lies within the windows and obeys the leaf's sides. Its departures may be any
+/// fractions of the unit of time. The value counts parts of a unit of money, so it is compared with
+/// the scale times the plan's cost. The instance is valid, the shares of all tables keep the price
+/// rule, and the spans of the table that the kind names keep the money rule and the set rule. An
+/// empty leaf has no plan, which is a law of fp_prices.
+pub fn span_values_bound_plans()
+    ensures { SpanValuesBoundPlans }
+{}
+
+/// Two values of one leaf under prices by spans are the same number, and an empty leaf has none.
+///
+/// So the value is decided by the instance, the windows, the points, the sides, the tables, the
+/// kind of prices and whether forced classes are paid whole.
+pub fn span_leaves_have_one_value()
+    ensures { SpanLeavesHaveOneValue }
+{}
+
+/// Where the kind names a table without spans, or no table, a number is the leaf's value here
+/// exactly where it is the leaf's value by the shares of the tables.
+pub fn values_without_spans()
+    ensures { ValuesWithoutSpans }
+{}
+
+/// Where the weights of a span ascend by shipment, it keeps the set rule if it keeps it over the
+/// places of its weights, whichever of these are chosen, but at least one.
+///
+/// So a test of the rule may go over the weights by their places, each with the size of its
+/// shipment.
+pub fn set_rule_by_places()
+    ensures { SetRuleByPlaces }
+{}
