@@ -14,7 +14,7 @@ use std::alloc::Global;
 // The search begins once the plan in hand is at most this part of the relaxed cost above it. Before
 // that more points of time raise the relaxed cost at little expense, and a cheap plan that comes
 // too early ends that, since points are added only while the relaxed plan costs less.
-const NEARNESS: u128 = 16;
+const NEARNESS: u128 = 32;
 
 // At most so many shipments are few.
 const FEW: usize = 100;
