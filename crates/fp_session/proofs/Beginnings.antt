@@ -13,7 +13,7 @@ use Rattle.fp_flatnet.specs.Initial.{BeginAt, initial_points}
 use Rattle.fp_flatnet.specs.Tables.{WindowTable}
 use Rattle.fp_longestarcs.specs.Networks.{TimedNetwork, points_in}
 use Rattle.fp_longestarcs.specs.Whole.{IsNetworkOf}
-use Rattle.fp_tree.specs.Nodes.{Node, closed_of, fork_of, open_leaf, value_of}
+use Rattle.fp_tree.specs.Nodes.{Node, closed_of, fork_of, open_leaf, split_count, value_of}
 use Rattle.fp_tree.specs.Trees.{Leaf, HaveTails, tree_branches, tree_leaves}
 use Rattle.fp_allowed.specs.Allowed.{tails_of}
 use Rattle.fp_allowed.specs.SamePoints.{AgreeOnPoints}
@@ -33,8 +33,9 @@ use Rattle.fp_session.specs.declared.searches.Search.{Search}
 use Rattle.fp_session.specs.Nodes.{IsKept, IsLeafOf, IsSplitOf}
 use Rattle.fp_session.specs.Outcomes.{empty_kept, priced_kept}
 use Rattle.fp_history.specs.Budgets.{IsBudget}
-use Rattle.fp_session.specs.Searches.{IsIncumbent, IsLeft, IsSearch, history}
-use Rattle.fp_session.specs.Starts.{start_of}
+use Rattle.fp_session.specs.Searches.{IsIncumbent, IsLeft, IsSearch, history, in_hand}
+use Rattle.fp_session.specs.Starts.{HasBegun, start_of}
+use Rattle.fp_session.specs.StepCauses.{open_count}
 use Rattle.fp_session.proofs.ImprovedLeaves.{kept-empty, kept-priced}
 use Rattle.fp_session.proofs.Improvements.{ImprovedIn}
 
@@ -114,3 +115,13 @@ IsSearch-start s tables payload value belongs budget incumbent cheaper points ad
 
     at : (P : History → Type 0) → P (start_of s.instance s.windows tables) → P (history s tables)
     at P = subst (λ (ns : List Refinement). P (record { problem = s.instance; windows = s.windows; trace = ns; tables = tables })) (sym trace)
+
+-- and it has made no step
+pub HasBegun-start : (s : Search) (start : List (List Leg)) (payload : Payload) (value : ℕ) → s.incumbent ≡ start → s.tree ≡ open_leaf payload value ∷ [] → s.trace.items ≡ [] → s.left ≡ None → HasBegun start (in_hand s)
+HasBegun-start s start payload value incumbent tree trace going = record {
+  incumbent = incumbent;
+  leaves = ap (λ (ns : List (Node Payload)). open_count ns) tree;
+  splits = ap (λ (ns : List (Node Payload)). split_count ns) tree;
+  trace = trace;
+  going = going;
+}

@@ -22,6 +22,7 @@ pub mod RepairedPlans
 pub mod Beginnings
 pub mod SameHands
 pub mod StepsLeft
+pub mod LaterSearches
 pub mod OpenMoves
 pub mod OpenCounts
 pub mod StepsTaken

@@ -1,17 +1,19 @@
--- How many leaves of a tree are open, where one leaf is changed.
+-- How many leaves of a tree are open, and which splits it has, where one leaf is changed.
 use Rattle.std.proofs.Common.{◌≡◌, ℕ, zero, suc, ◌+◌, Bool, true, false, List, [], ◌∷◌, ◌++◌, refl, ap, ◌∙◌, subst, arith}
+use Rattle.std.specs.List.{insert}
 use Rattle.std.specs.Prelude.{Some, cond, count_by, not, slice_get}
 use Rattle.std.proofs.lemmas.List.Sums.{sum_by-append, sum_by-cons}
 use Rattle.std.proofs.lemmas.Option.{none-some, same_Some}
-use Rattle.fp_tree.specs.Nodes.{Node, close_leaf, closed_of, divide_leaf, fork_of, leaf_at, open_leaf, put_leaf}
+use Rattle.fp_tree.specs.Nodes.{Divided, Node, close_leaf, closed_of, divide_leaf, fork_of, leaf_at, open_leaf, put_leaf}
 use Rattle.fp_tree.specs.Sides.{Fork, first, second}
-use Rattle.fp_tree.specs.Trees.{Leaf, tree_leaves, with_leaf}
+use Rattle.fp_tree.specs.Trees.{Branch, Leaf, splits_before, tree_branches, tree_leaves, with_leaf}
+use Rattle.fp_tree.proofs.Branches.{tree_branches-divide_leaf}
 use Rattle.fp_tree.proofs.LeafChange.{leaves_of-with_leaf, with_element}
 use Rattle.fp_session.specs.declared.payloads.Payload.{Payload}
 use Rattle.fp_session.specs.Moves.{AtOpenLeaf}
 use Rattle.fp_session.specs.StepCauses.{open_count}
 use Rattle.fp_session.proofs.Applied.{leaf_at-put, some-value}
-use Rattle.fp_session.proofs.TreeChanges.{leaf_put}
+use Rattle.fp_session.proofs.TreeChanges.{branches-close, branches-put, leaf_put}
 
 -- elements that are counted, where one is replaced by others
 count-with_element : {X : Type 0} (P : X → Bool) (change : X → List X) (k : ℕ) (xs : List X) (x : X) → slice_get xs k ≡ Some x →
@@ -84,3 +86,26 @@ module _ (nodes put : List (Node Payload)) (k : ℕ) (payload : Payload) (value 
       open_count divided ≡ open_count nodes + 1
   leaves-divided f one two v w divided parted =
       omega (arith, leaves-kept, open_count-divide put k (leaf_put payload value (closed_of chosen.0.node) chosen.0.sides) now f one two v w divided chosen.2.0 parted)
+
+  -- the splits stay where something is kept of an open leaf
+  pub branches-kept : tree_branches fork_of put ≡ tree_branches fork_of nodes
+  branches-kept = ap (λ (ns : List (Node Payload)). tree_branches fork_of ns) changed ∙ branches-put nodes k chosen.0 chosen.1 payload value
+
+  -- and where it is closed
+  pub branches-closed : (shut : List (Node Payload)) → shut ≡ with_leaf fork_of close_leaf k put → tree_branches fork_of shut ≡ tree_branches fork_of nodes
+  branches-closed shut closed =
+      ap (λ (ns : List (Node Payload)). tree_branches fork_of ns) closed
+      ∙ branches-close put k (leaf_put payload value (closed_of chosen.0.node) chosen.0.sides) now
+      ∙ branches-kept
+
+  -- and there is one more, with what was kept, where it is divided
+  pub branches-divided : (f : Fork) (one two : Payload) (v w : ℕ) (divided : List (Node Payload)) → divided ≡ with_leaf fork_of (divide_leaf f (open_leaf one v) (open_leaf two w)) k put →
+      (b : Branch (Node Payload)) × (tree_branches fork_of divided ≡ insert (tree_branches fork_of nodes) (splits_before fork_of k put) b) × (b.node.payload ≡ payload)
+  branches-divided f one two v w divided parted =
+      let b : Branch (Node Payload) = record { node = record { payload = payload; role = Divided f }; sides = chosen.0.sides } in (
+        b,
+        ap (λ (ns : List (Node Payload)). tree_branches fork_of ns) parted
+            ∙ tree_branches-divide_leaf f (open_leaf one v) (open_leaf two w) refl refl put k (leaf_put payload value (closed_of chosen.0.node) chosen.0.sides) now
+            ∙ ap (λ (bs : List (Branch (Node Payload))). insert bs (splits_before fork_of k put) b) branches-kept,
+        refl,
+      )

@@ -153,6 +153,8 @@ module _ (s : Search) (prices : List (List ClassShare)) (search : IsSearch s pri
     plan = routes;
     cost = costs;
     earned = solution-earned stated kept costs cause;
+    trace = refl;
+    splits = refl;
     left = refl;
   }
 

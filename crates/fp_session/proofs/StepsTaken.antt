@@ -2,8 +2,8 @@
 use Rattle.std.proofs.Common.{◌≡◌, ℕ, ◌+◌, ◌<◌, false, List, refl, sym, ap, ◌∙◌, subst}
 use Rattle.std.specs.Prelude.{IsSomeAnd, None, Option, Some}
 use Rattle.fp_tree.specs.declared.sides.Side.{Side}
-use Rattle.fp_tree.specs.Nodes.{Node, closed_of, leaf_at, split_count}
-use Rattle.fp_tree.specs.Trees.{Leaf}
+use Rattle.fp_tree.specs.Nodes.{Node, closed_of, fork_of, leaf_at, split_count}
+use Rattle.fp_tree.specs.Trees.{Leaf, tree_branches}
 use Rattle.fp_prices.specs.Shares.{ClassShare}
 use Rattle.fp_history.specs.declared.endings.Left.{Left}
 use Rattle.fp_history.specs.Notes.{History, Refinement, last_round, with_note}
@@ -116,11 +116,13 @@ module _ (s t : Search) (tables : List (List ClassShare)) (note : Refinement) (r
       started = of_both (λ (h : InHand). h.started) refl refl;
     }
 
-    pub round-taken : s.left ≡ None → open_count u.tree ≡ open_count t.tree → split_count u.tree ≡ split_count t.tree → HasRefined (in_hand s) (in_hand u)
-    round-taken going leaves splits = record {
+    pub round-taken : s.left ≡ None → open_count u.tree ≡ open_count t.tree → split_count u.tree ≡ split_count t.tree →
+        tree_branches fork_of u.tree ≡ tree_branches fork_of t.tree → HasRefined (in_hand s) (in_hand u)
+    round-taken going leaves splits branches = record {
       going = of_both (λ (h : InHand). h.left) refl refl ∙ going;
       leaves = leaves ∙ ap (λ (h : InHand). open_count h.tree) with;
       splits = splits ∙ ap (λ (h : InHand). split_count h.tree) with;
+      branches = branches ∙ ap (λ (h : InHand). tree_branches fork_of h.tree) with;
       cost = of_both (λ (h : InHand). h.cost) refl refl;
       note = note;
       trace = ap (λ (x : Search). x.trace.items) others ∙ ap (λ (h : InHand). h.trace) with;
@@ -144,11 +146,13 @@ module _ (s t u : Search) (c : Cheaper) (cheaper : IsCheaper s c) (others : t �
       started = ap (λ (x : Search). x.started) taken ∙ ap (λ (x : Search). x.started) others;
     }
 
-    pub better-taken : s.left ≡ None → open_count t.tree ≡ open_count s.tree → split_count t.tree ≡ split_count s.tree → IsCheaperNow (in_hand s) (in_hand u)
-    better-taken going leaves splits = record {
+    pub better-taken : s.left ≡ None → open_count t.tree ≡ open_count s.tree → split_count t.tree ≡ split_count s.tree →
+        tree_branches fork_of t.tree ≡ tree_branches fork_of s.tree → IsCheaperNow (in_hand s) (in_hand u)
+    better-taken going leaves splits branches = record {
       going = ap (λ (x : Search). x.left) taken ∙ kept-going going;
       leaves = ap (λ (x : Search). open_count x.tree) taken ∙ leaves;
       splits = ap (λ (x : Search). split_count x.tree) taken ∙ splits;
+      branches = ap (λ (x : Search). tree_branches fork_of x.tree) taken ∙ branches;
       cost = subst (λ (n : ℕ). n < s.cost) (sym (ap (λ (x : Search). x.cost) taken)) cheaper.less;
       trace = ap (λ (x : Search). x.trace.items) taken ∙ ap (λ (x : Search). x.trace.items) others;
     }

@@ -17,7 +17,7 @@ use Rattle.fp_history.specs.declared.endings.Left.{Left}
 use Rattle.fp_history.specs.declared.endings.Left.TheVariants.{Nothing, Several, Timing}
 use Rattle.fp_history.specs.Solutions.{IsEarnedSolution, Solution}
 use Rattle.fp_session.specs.declared.searches.Search.{Search}
-use Rattle.fp_session.specs.TreeLines.{IsLeastBelow, lines_of}
+use Rattle.fp_session.specs.TreeLines.{IsLeastBelow, lines_of, notes_of}
 
 -- the least that a leaf of the search is worth which isn't empty, where that is below the cost
 abbrev pub IsBound : Search → ℕ → Type 0
@@ -51,7 +51,7 @@ pub record IsCertificate (s : Search) (prices : List (List ClassShare)) (stated 
 
 -- all that is shown of a search that has ended: its certificate is accepted, and in range and
 -- countable, so that it can be written and read again; it tells the incumbent and what that costs; and
--- what it shows is earned
+-- what it shows is earned, with the notes of the search
 pub record IsShown (s : Search) (kept : Left) (x : Solution) : Type 0 where
   pub accepted : IsAccepted s.instance s.windows x.certificate
   pub range : IsInRange s.instance x.certificate
@@ -60,4 +60,6 @@ pub record IsShown (s : Search) (kept : Left) (x : Solution) : Type 0 where
   pub plan : routes_of s.instance x.certificate ≡ s.incumbent
   pub cost : stated_cost x.certificate.answer ≡ s.cost
   pub earned : IsEarnedSolution s.instance s.windows s.budget s.started x
+  pub trace : x.trace ≡ s.trace.items
+  pub splits : x.splits ≡ notes_of s.tree
   pub left : x.left ≡ kept

@@ -1,13 +1,18 @@
 -- All that is shown of a search that has ended.
-use Rattle.std.specs.Prelude.{ℕ, ◌≡◌}
+use Rattle.std.specs.Prelude.{ℕ, ◌≤◌, ◌≡◌, List, ◌++◌, IfSome}
 use Rattle.fp_model.specs.Problem.{Problem}
 use Rattle.fp_flatnet.specs.Tables.{WindowTable}
 use Rattle.fp_prices.specs.Tables.{AreCountable}
 use Rattle.fp_lines.specs.Ranges.{IsInRange}
 use Rattle.fp_acceptance.specs.Accepted.{IsAccepted}
+use Rattle.fp_acceptance.specs.Plans.{stated_cost}
 use Rattle.fp_history.specs.declared.budgets.Budget.{Budget}
+use Rattle.fp_history.specs.declared.endings.Left.{Left}
+use Rattle.fp_history.specs.Notes.{Refinement}
 use Rattle.fp_history.specs.Solutions.{IsEarnedSolution, Solution}
 use Rattle.fp_session.specs.Certificates.{named_scale}
+use Rattle.fp_session.specs.Searches.{InHand}
+use Rattle.fp_session.specs.TreeLines.{notes_of}
 
 -- its certificate is accepted, and in range and countable, so that it can be written and read again;
 -- and what it shows is earned
@@ -17,3 +22,18 @@ pub record IsSolved (p : Problem) (table : WindowTable) (budget : Budget) (start
   pub countable : AreCountable p x.certificate.tables
   pub scale : x.certificate.scale ≡ named_scale p.scale
   pub earned : IsEarnedSolution p table budget started x
+
+-- what is shown of a search that had ended: what it had in hand
+pub record ShowsInHand (s : InHand) (kept : Left) (x : Solution) : Type 0 where
+  pub cost : stated_cost x.certificate.answer ≡ s.cost
+  pub trace : x.trace ≡ s.trace
+  pub splits : x.splits ≡ notes_of s.tree
+  pub left : x.left ≡ kept
+
+-- what is shown of a search that goes on from what it had in hand: its plan costs no more, and its
+-- notes on rounds begin with those that there were
+pub record GoesOnFrom (s : InHand) (x : Solution) : Type 0 where
+  pub cost : stated_cost x.certificate.answer ≤ s.cost
+  pub more : List Refinement
+  pub trace : x.trace ≡ s.trace ++ more
+  pub ended : IfSome s.left (λ left. ShowsInHand s left x)

@@ -5,7 +5,7 @@ ghost use Rattle.fp_session.specs.declared.steps.Step.TheVariants.{Done};
 ghost use Rattle.fp_session.specs.Outcomes.{HaveGrown};
 ghost use Rattle.fp_session.specs.Searches.{IsSearch, in_hand};
 ghost use Rattle.fp_session.specs.StepCauses.{ending_of as ending_in};
-ghost use Rattle.fp_session.specs.Steps.{IsStep, StayFixed};
+ghost use Rattle.fp_session.specs.Steps.{HasGoneOn, IsStep, StayFixed};
 
 use crate::NoMemory;
 use crate::applying::ending_of;
@@ -118,6 +118,7 @@ pub(crate) fn finish(
     requires search { IsSearch search.old tables.old }
     ensures search { IsSearch search.new tables.new }
     ensures fixed { StayFixed (in_hand search.old) (in_hand search.new) }
+    ensures onward { OnOk result (HasGoneOn (in_hand search.old) (in_hand search.new)) }
     ensures ended { OnOk result (IsSomeAnd search.new.left (λ left. ⊤)) }
 {
     while search.left.is_none() {

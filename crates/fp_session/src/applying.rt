@@ -1,6 +1,7 @@
 //! A step does what was planned.
 ghost use Rattle.std.specs.Prelude.{◌≡◌, ◌<◌, None, IfOk, OnErr, OnOk};
-ghost use Rattle.fp_tree.specs.Nodes.{split_count};
+ghost use Rattle.fp_tree.specs.Nodes.{fork_of, split_count};
+ghost use Rattle.fp_tree.specs.Trees.{tree_branches};
 ghost use Rattle.fp_session.specs.Moves.{AtOpenLeaf, IsCheaper, IsDivision, IsLeftAt, IsMove, IsNextRound, IsUnsettled};
 ghost use Rattle.fp_session.specs.Nodes.{IsKept, IsSettled};
 ghost use Rattle.fp_session.specs.Searches.{IsSearch, history, in_hand};
@@ -60,6 +61,7 @@ impl Search {
         ensures others { self.new ≡ with_tree self.old self.new.tree }
         ensures open_leaves { open_count self.new.tree ≡ open_count self.old.tree }
         ensures splits { split_count self.new.tree ≡ split_count self.old.tree }
+        ensures branches { tree_branches fork_of self.new.tree ≡ tree_branches fork_of self.old.tree }
     {
         self.tree.put(leaf, kept.payload, kept.value);
     }

@@ -8,7 +8,8 @@ ghost use Rattle.fp_flatnet.specs.Windows.{PlanLiesWithin};
 ghost use Rattle.fp_session.specs.declared.steps.Step.TheVariants.{Done};
 ghost use Rattle.fp_history.specs.Budgets.{IsBudget};
 ghost use Rattle.fp_session.specs.Sessions.{IsSound, hand_of};
-ghost use Rattle.fp_session.specs.Solved.{IsSolved};
+ghost use Rattle.fp_session.specs.Solved.{GoesOnFrom, IsSolved};
+ghost use Rattle.fp_session.specs.Starts.{HasBegun};
 ghost use Rattle.fp_session.specs.StepCauses.{ending_of};
 ghost use Rattle.fp_session.specs.Steps.{IsStep, StayFixed};
 
@@ -50,8 +51,8 @@ impl Model for Session {
 
 impl Session {
     /// A search that starts with a plan within the windows, which belong to the instance, and may
-    /// spend so much: at most 4,000 rounds and 100,000 branches. Its tree is one leaf. `NoMemory`
-    /// only where no memory is found.
+    /// spend so much: at most 4,000 rounds and 100,000 branches. Its plan in hand is that one, its
+    /// tree is one open leaf, and there was no round. `NoMemory` only where no memory is found.
     pub fn new(
         alloc: Global,
         instance: Instance,
@@ -67,6 +68,7 @@ impl Session {
         ensures windows { IfOk result (λ s. s.windows ≡ windows) }
         ensures budget { IfOk result (λ s. s.budget ≡ budget) }
         ensures started { IfOk result (λ s. s.started ≡ cost_of instance start) }
+        ensures begun { IfOk result (λ s. HasBegun start (hand_of s)) }
         ensures sound { IfOk result IsSound }
     {
         let mut tables = Tables::new(alloc);
@@ -87,10 +89,12 @@ impl Session {
         advance(alloc, &mut self.search, &mut self.tables)
     }
 
-    /// Steps until the search has ended, and what it shows then. `NoMemory` only where no memory is
-    /// found.
+    /// Steps until the search has ended, and what it shows then: the plan costs no more than the one
+    /// in hand, and the notes on rounds begin with those that there were. `NoMemory` only where no
+    /// memory is found.
     pub fn solve(self, alloc: Global) -> Result<Solved, NoMemory>
-        ensures { IfOk result (IsSolved self.instance self.windows self.budget self.started) }
+        ensures solved { IfOk result (IsSolved self.instance self.windows self.budget self.started) }
+        ensures onward { IfOk result (GoesOnFrom (hand_of self)) }
     {
         let mut search = self.search;
         let mut tables = self.tables;

@@ -1,5 +1,5 @@
 //! A search begins with a plan, the initial points and one leaf.
-ghost use Rattle.std.specs.Prelude.{◌≡◌, ◌≤◌, [], None, IfOk, OnOk};
+ghost use Rattle.std.specs.Prelude.{◌≡◌, ◌≤◌, [], IfOk, OnOk};
 ghost use Rattle.fp_model.specs.Costs.{cost as cost_of};
 ghost use Rattle.fp_model.specs.Plans.{IsPlan};
 ghost use Rattle.fp_timenodes.specs.declared.places.TheConstants.{MOST_POINTS};
@@ -13,8 +13,8 @@ ghost use Rattle.fp_duals.specs.PriceTables.{ArePriceTables};
 ghost use Rattle.fp_history.specs.Notes.{points_of};
 ghost use Rattle.fp_session.specs.Nodes.{IsKept};
 ghost use Rattle.fp_history.specs.Budgets.{IsBudget};
-ghost use Rattle.fp_session.specs.Searches.{IsSearch};
-ghost use Rattle.fp_session.specs.Starts.{start_of};
+ghost use Rattle.fp_session.specs.Searches.{IsSearch, in_hand};
+ghost use Rattle.fp_session.specs.Starts.{HasBegun, start_of};
 
 use crate::NoMemory;
 use crate::improving::{emptied, priced};
@@ -78,7 +78,7 @@ pub(crate) fn started(
     ensures windows { IfOk result (λ s. s.windows ≡ windows) }
     ensures budget { IfOk result (λ s. s.budget ≡ budget) }
     ensures started { IfOk result (λ s. s.started ≡ cost_of instance start) }
-    ensures going { IfOk result (λ s. s.left ≡ None) }
+    ensures begun { IfOk result (λ s. HasBegun start (in_hand s)) }
 {
     let cost = cost(alloc, &instance, &start)?;
     let points = initial(alloc, &instance, &windows)?;

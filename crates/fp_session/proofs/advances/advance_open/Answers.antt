@@ -14,4 +14,4 @@ pub returns-in-None-clause-search : goal.returns-in-None-clause-search
 returns-in-None-clause-search c = IsSearch-stop c.args.search.now c.args.tables.now c.requires.search c.requires.going Nothing (c.in-None.ensures.none.0 refl)
 
 pub returns-in-None-clause-step : goal.returns-in-None-clause-step
-returns-in-None-clause-step c = record { left = refl; leaves = refl; splits = refl; cost = refl; trace = refl }
+returns-in-None-clause-step c = record { left = refl; leaves = refl; splits = refl; branches = refl; cost = refl; trace = refl }

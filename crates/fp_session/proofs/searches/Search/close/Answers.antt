@@ -5,7 +5,7 @@ use Rattle.fp_session.specs.declared.payloads.Payload.{Payload}
 use Rattle.fp_session.specs.Nodes.{IsKept}
 use Rattle.fp_session.specs.Searches.{history}
 use Rattle.fp_session.proofs.Applied.{close-applied}
-use Rattle.fp_session.proofs.OpenCounts.{leaves-closed}
+use Rattle.fp_session.proofs.OpenCounts.{branches-closed, leaves-closed}
 use Rattle.fp_session.proofs.searches.Search.close.Goals as goal
 
 pub returns-clause-search : goal.returns-clause-search
@@ -19,6 +19,8 @@ returns-clause-closed c = record {
   leaves = leaves-closed c.args.self.now.tree c.put.new.self c.args.leaf c.args.kept.payload c.args.kept.value
       (λ (l : Leaf (Node Payload)). IsKept (history c.args.self.now c.args.tables.now) l.sides c.args.kept.payload c.args.kept.value) c.requires.kept c.put.ensures.changed c.close.new.self c.close.ensures.changed;
   splits = c.close.ensures.splits ∙ c.put.ensures.splits;
+  branches = branches-closed c.args.self.now.tree c.put.new.self c.args.leaf c.args.kept.payload c.args.kept.value
+      (λ (l : Leaf (Node Payload)). IsKept (history c.args.self.now c.args.tables.now) l.sides c.args.kept.payload c.args.kept.value) c.requires.kept c.put.ensures.changed c.close.new.self c.close.ensures.changed;
   cost = refl;
   trace = refl;
 }

@@ -2,7 +2,7 @@
 use Rattle.std.proofs.Common.{◌≡◌, ℕ, ◌+◌, List, refl, sym, ap, ap₂, ◌∙◌}
 use Rattle.std.specs.Prelude.{IsSomeAnd}
 use Rattle.fp_tree.specs.Nodes.{Node, divide_leaf, fork_of, leaf_at, open_leaf, put_leaf, split_count, value_of}
-use Rattle.fp_tree.specs.Trees.{Leaf, with_leaf}
+use Rattle.fp_tree.specs.Trees.{Leaf, splits_before, with_leaf}
 use Rattle.fp_tree.proofs.TwoChanges.{with_leaf-put_back}
 use Rattle.fp_session.specs.declared.moves.Division.{Division}
 use Rattle.fp_session.specs.declared.payloads.Payload.{Payload}
@@ -12,7 +12,7 @@ use Rattle.fp_session.specs.Nodes.{IsKept}
 use Rattle.fp_session.specs.Searches.{IsSearch, history, in_hand}
 use Rattle.fp_session.specs.Steps.{HasBranched}
 use Rattle.fp_session.proofs.Applied.{OnErr-map, OnOk-two, divide-applied, of-value, some-value}
-use Rattle.fp_session.proofs.OpenCounts.{leaves-divided}
+use Rattle.fp_session.proofs.OpenCounts.{branches-divided, leaves-divided}
 use Rattle.fp_session.proofs.searches.Search.divide.Goals as goal
 
 -- what was put in a leaf's place and put back
@@ -58,7 +58,11 @@ returns-else-is_err-clause-branched c =
     OnOk-two c.split_leaf-divided.result
     (divided ≡ with_leaf fork_of (divide_leaf (fork_in d) (open_leaf d.first.payload d.first.value) (open_leaf d.second.payload d.second.value)) c.args.leaf c.put.new.self)
     (split_count divided ≡ split_count c.put.new.self + 1) (HasBranched (in_hand s) (in_hand (record s { tree = divided })))
-    (λ parted more. record {
+    (λ parted more.
+    let noted : Payload = record c.args.kept.payload { incumbent = s.cost } in
+    let split =
+    branches-divided s.tree c.put.new.self c.args.leaf noted c.args.kept.value (λ (l : Leaf (Node Payload)). IsKept (history s c.args.tables.now) l.sides c.args.kept.payload c.args.kept.value) c.requires.kept
+    c.put.ensures.changed (fork_in d) d.first.payload d.second.payload d.first.value d.second.value divided parted in record {
       going = c.requires.going;
       leaves = leaves-divided s.tree c.put.new.self c.args.leaf (record c.args.kept.payload { incumbent = s.cost }) c.args.kept.value
           (λ (l : Leaf (Node Payload)). IsKept (history s c.args.tables.now) l.sides c.args.kept.payload c.args.kept.value) c.requires.kept c.put.ensures.changed (fork_in d) d.first.payload d.second.payload
@@ -66,4 +70,8 @@ returns-else-is_err-clause-branched c =
       splits = more ∙ ap (λ (n : ℕ). n + 1) c.put.ensures.splits;
       cost = refl;
       trace = refl;
+      place = splits_before fork_of c.args.leaf c.put.new.self;
+      branch = split.0;
+      branches = split.1;
+      incumbent = ap (λ (x : Payload). x.incumbent) split.2;
     }) c.split_leaf-divided.ensures.ok c.split_leaf-divided.ensures.splits

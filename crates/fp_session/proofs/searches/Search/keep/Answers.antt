@@ -4,7 +4,7 @@ use Rattle.fp_session.specs.declared.payloads.Payload.{Payload}
 use Rattle.fp_session.specs.Nodes.{IsKept}
 use Rattle.fp_session.specs.Searches.{history}
 use Rattle.fp_session.proofs.Applied.{put-applied}
-use Rattle.fp_session.proofs.OpenCounts.{leaves-kept}
+use Rattle.fp_session.proofs.OpenCounts.{branches-kept, leaves-kept}
 use Rattle.fp_session.proofs.searches.Search.keep.Goals as goal
 
 pub returns-clause-search : goal.returns-clause-search
@@ -14,4 +14,9 @@ returns-clause-search c =
 pub returns-clause-open_leaves : goal.returns-clause-open_leaves
 returns-clause-open_leaves c =
     leaves-kept c.args.self.now.tree c.put.new.self c.args.leaf c.args.kept.payload c.args.kept.value
+    (λ (l : Leaf (Node Payload)). IsKept (history c.args.self.now c.args.tables.now) l.sides c.args.kept.payload c.args.kept.value) c.requires.kept c.put.ensures.changed
+
+pub returns-clause-branches : goal.returns-clause-branches
+returns-clause-branches c =
+    branches-kept c.args.self.now.tree c.put.new.self c.args.leaf c.args.kept.payload c.args.kept.value
     (λ (l : Leaf (Node Payload)). IsKept (history c.args.self.now c.args.tables.now) l.sides c.args.kept.payload c.args.kept.value) c.requires.kept c.put.ensures.changed

@@ -5,7 +5,7 @@ use Rattle.fp_session.specs.declared.payloads.Payload.{Payload}
 use Rattle.fp_session.specs.Nodes.{IsKept}
 use Rattle.fp_session.specs.Searches.{history}
 use Rattle.fp_session.proofs.Applied.{stop-applied}
-use Rattle.fp_session.proofs.OpenCounts.{leaves-kept}
+use Rattle.fp_session.proofs.OpenCounts.{branches-kept, leaves-kept}
 use Rattle.fp_session.proofs.searches.Search.stop.Goals as goal
 
 pub returns-clause-search : goal.returns-clause-search
@@ -19,6 +19,8 @@ returns-clause-ended c = record {
   leaves = leaves-kept c.args.self.now.tree c.put.new.self c.args.leaf c.args.kept.payload c.args.kept.value
       (λ (l : Leaf (Node Payload)). IsKept (history c.args.self.now c.args.tables.now) l.sides c.args.kept.payload c.args.kept.value) c.requires.kept c.put.ensures.changed;
   splits = c.put.ensures.splits;
+  branches = branches-kept c.args.self.now.tree c.put.new.self c.args.leaf c.args.kept.payload c.args.kept.value
+      (λ (l : Leaf (Node Payload)). IsKept (history c.args.self.now c.args.tables.now) l.sides c.args.kept.payload c.args.kept.value) c.requires.kept c.put.ensures.changed;
   cost = refl;
   trace = refl;
 }
