@@ -28,3 +28,14 @@ fn a_trial_is_the_same_at_each_run(rt: HostRuntime) -> Result<(), Fail> {
     assert_eq!(rt; same.as_slice(), text.as_slice());
     Ok(())
 }
+
+// Two terminals and twelve shipments. A search with some thousand branches finds that the cheapest plan
+// costs 955, and a trial has 100.
+#[test]
+fn a_trial_ends_with_a_bound_once_its_branches_are_used(rt: HostRuntime) -> Result<(), Fail> {
+    let (status, text) = run_on(rt.alloc(), "trial 59 2 12", "")?;
+    assert_eq!(rt; status, 10);
+    assert!(rt; text.starts_with(b"trial,59,2,2,12\nanswer,unfinished,955,"));
+    assert!(rt; text.ends_with(b",branches\nchecked\n"));
+    Ok(())
+}
