@@ -1,0 +1,4 @@
+pub mod Sets
+pub mod Grains
+pub mod Charges
+pub mod Loads
