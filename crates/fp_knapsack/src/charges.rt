@@ -10,7 +10,8 @@ use crate::items::{Item, small_weight};
 use crate::loads::{Excess, fill, greatest_excess, trace};
 use std::alloc::Global;
 
-/// The memory of a knapsack's tables, kept from call to call.
+/// The memory of a knapsack's tables, kept from call to call. What stands in it means nothing between
+/// calls, also after `NoMemory`.
 #[derive(Drop)]
 pub struct Knapsack {
     best: Vec<u128>,

@@ -2,7 +2,7 @@
 
 ghost use Rattle.std.specs.Prelude.{◌≡◌, ℕ, ◌+◌, ◌*◌, ◌/◌, ◌^◌, ◌<◌, ◌≤◌, false, length, slice_index, slice_index_or, sum, vec_len, IfOk, OnOk};
 ghost use Rattle.fp_knapsack.specs.Sets.{sizes_of};
-ghost use Rattle.fp_knapsack.specs.Charges.{total_weight, trucks_for as trucks_that_carry};
+ghost use Rattle.fp_knapsack.specs.Charges.{total_weight, trucks_for};
 ghost use Rattle.fp_knapsack.specs.Loads.{best_with, takes, best_places, AreBest, AreTaken, IsExcess};
 
 use crate::NoMemory;
@@ -70,12 +70,12 @@ pub(crate) struct Excess {
 pub(crate) fn greatest_excess(best: &[u128], grain: u128, capacity: u64, money: u128) -> Excess
     requires positive { 0 < capacity }
     requires fits { (load : ℕ) → load < length best.now → grain * load < 2 ^ 128 }
-    ensures { IsExcess best.now (λ load. money * trucks_that_carry capacity (grain * load))
+    ensures { IsExcess best.now (λ load. money * trucks_for capacity (grain * load))
         result.amount result.load }
 {
     let mut most = Excess { amount: 0, load: 0 };
     for (load, weight) in best.iter().enumerate() {
-        let trucks = trucks_for(grain * load as u128, capacity);
+        let trucks = fewest_trucks(grain * load as u128, capacity);
         let amount = weight.saturating_sub(money.saturating_mul(trucks));
         if most.amount < amount {
             most = Excess { amount, load };
@@ -84,10 +84,10 @@ pub(crate) fn greatest_excess(best: &[u128], grain: u128, capacity: u64, money: 
     most
 }
 
-// The trucks that carry a size, and at least one.
-fn trucks_for(size: u128, capacity: u64) -> u128
+// The fewest trucks that carry a size, and at least one.
+fn fewest_trucks(size: u128, capacity: u64) -> u128
     requires { 0 < capacity }
-    ensures { result ≡ trucks_that_carry capacity size }
+    ensures { result ≡ trucks_for capacity size }
 {
     size.div_ceil(u128::from(capacity)).max(1)
 }

@@ -18,7 +18,7 @@ use Rattle.fp_spans.specs.SpanRules.{KeepsSetRule, WeightsAscend}
 use Rattle.fp_spans.proofs.PlaceSets.{KeepsPlaceRule, no_weight, set_rule-by_places, weight_at}
 
 -- the capacity of an arc that exists
-pub capacity-some : (p : Problem) (a : ℕ) → IsValid p → a < length p.arcs → 0 < (arc_at p a).capacity
+capacity-some : (p : Problem) (a : ℕ) → IsValid p → a < length p.arcs → 0 < (arc_at p a).capacity
 capacity-some p a valid exists = (All-get_or (IsArc (length p.terminals)) p.arcs a no_arc exists valid.parts.arcs).within.capacity.0
 
 -- the sizes of shipments that exist
