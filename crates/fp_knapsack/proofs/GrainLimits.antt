@@ -22,4 +22,3 @@ unfolding grain_of
 grain_of-quotient capacity sizes many =
     cond-false (leb (sum sizes / common_divisor capacity sizes) MOST_GRAINS) (common_divisor capacity sizes) (div_ceil (sum sizes) MOST_GRAINS)
     (lt-leb (sum sizes / common_divisor capacity sizes) MOST_GRAINS many)
-

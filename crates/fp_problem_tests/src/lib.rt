@@ -13,8 +13,6 @@ mod generator;
 #[cfg(test)]
 mod kept;
 #[cfg(test)]
-mod knapsack;
-#[cfg(test)]
 mod labels;
 #[cfg(test)]
 mod longestarcs;
