@@ -1,6 +1,6 @@
 -- A leaf that is worth what the cheapest plan costs: an arc from A to B with trucks of capacity 6 that cost 60, beside a way over C by two
 -- arcs with trucks of 6 that cost 30, and three shipments of 5 from A to B. No two fit into a truck, so each pays for trucks of its own,
--- whichever way it goes. By their parts of full trucks they pay 150; by spans without a charge 180.
+-- whichever way it goes. By linear prices they pay 150, by spans without a charge 180.
 use Rattle.std.proofs.Common.{◌≡◌, ℕ, ◌+◌, ◌*◌, zero, suc, ◌<◌, ◌≤◌, Bool, true, false, List, [], ◌∷◌, ◌⊎◌, ⊎_elim, inl, inr, refl, sym, ap, ◌∙◌, arith, lit<, lit≤, rules}
 use Rattle.std.specs.Prelude.{Option, Some, None, IsSomeAnd, sum_by, nat_eq, ◌&&◌}
 use Rattle.std.specs.Int.{div_ceil}
@@ -18,11 +18,12 @@ use Rattle.fp_flatnet.specs.declared.window_tables.Window.{Window}
 use Rattle.fp_allowed.specs.Allowed.{is_allowed}
 use Rattle.fp_allowed.specs.Walks.{IsTimedWalk}
 use Rattle.fp_allowed.proofs.AllowedClasses.{HasMoment, is_allowed_parts}
-use Rattle.fp_prices.specs.declared.leaf_prices.Kind.TheVariants.{Table}
+use Rattle.fp_prices.specs.declared.leaf_prices.Kind.{Kind}
+use Rattle.fp_prices.specs.declared.leaf_prices.Kind.TheVariants.{Linear, Table}
 use Rattle.fp_prices.specs.Leaves.{IsLeastCost, IsPlanOfLeaf}
 use Rattle.fp_spans.specs.Spans.{ClassSpan, PriceTable}
 use Rattle.fp_spans.specs.SpanLeaves.{IsChargeOf, IsSpanLeafValue}
-use Rattle.fp_spans.specs.SpanPrices.{leaf_span_price, shares_of}
+use Rattle.fp_spans.specs.SpanPrices.{leaf_span_price, shares_of, spans_of}
 use Rattle.fp_spans.specs.SpanRules.{KeepSpanRules}
 use Rattle.fp_spans.proofs.EqualWeights.{by_count}
 use Rattle.fp_spans.proofs.SpanBounds.{span_leaf-bounds}
@@ -116,8 +117,8 @@ each a w = record {
 abbrev three : List ClassSpan
 three = each 0 60000000 ∷ each 1 30000000 ∷ each 2 30000000 ∷ []
 
-abbrev tables : List PriceTable
-tables = (record { shares = []; spans = three }) ∷ []
+abbrev prices : List PriceTable
+prices = (record { shares = []; spans = three }) ∷ []
 
 keep : KeepSpanRules detour three
 keep = record {
@@ -145,29 +146,44 @@ keep = record {
     half (suc (suc (suc zero))) some few = lit≤ tt
     half (suc (suc (suc (suc m)))) some few = absurd (omega (arith, few))
 
--- what a shipment pays for a class
-abbrev pays : ℕ → Leg → ℕ
-pays k c = leaf_span_price detour (shares_of tables) three allows (Table 1) ([] ∷ [] ∷ [] ∷ []) k 5 c + detour.scale * (arc_at detour c.arc).freight * 5
+-- what a shipment pays for a class by tables and a kind
+abbrev pays : List PriceTable → Kind → ℕ → Leg → ℕ
+pays tables kind k c = leaf_span_price detour (shares_of tables) (spans_of tables kind) allows kind ([] ∷ [] ∷ [] ∷ []) k 5 c + detour.scale * (arc_at detour c.arc).freight * 5
 
-least : (k name : ℕ) → allows k (leg 0) ≡ true → pays k (leg 0) ≡ 60000000 → pays k (leg 1) ≡ 30000000 → pays k (leg 2) ≡ 30000000 →
-    IsLeastCost detour points (allows k) (load name) (leaf_span_price detour (shares_of tables) three allows (Table 1) ([] ∷ [] ∷ [] ∷ []) k 5) 60000000
-least k name allowed straight first second = record {
+least : (tables : List PriceTable) (kind : Kind) (k name n : ℕ) → allows k (leg 0) ≡ true → pays tables kind k (leg 0) ≡ n → n ≤ pays tables kind k (leg 1) + pays tables kind k (leg 2) →
+    IsLeastCost detour points (allows k) (load name) (leaf_span_price detour (shares_of tables) (spans_of tables kind) allows kind ([] ∷ [] ∷ [] ∷ []) k 5) n
+least tables kind k name n allowed straight round = record {
   walk = leg 0 ∷ [];
   timed = record { leads = (lit< tt, refl, refl); allowed_all = (allowed, tt); follows = (omega arith, tt) };
   cost = omega (arith, straight);
-  least = walk_pays k name 60000000 (pays k) (omega (arith, straight)) (omega (arith, first, second));
+  least = walk_pays k name n (pays tables kind k) (omega (arith, straight)) round;
+}
+
+-- by linear prices each pays 50, either way
+linear_value : IsSpanLeafValue detour windows points [] [] Linear false 150000000
+linear_value = record {
+  chains = [] ∷ [] ∷ [] ∷ [];
+  costs = 50000000 ∷ 50000000 ∷ 50000000 ∷ [];
+  charges = [];
+  are_chains = (refl, (refl, (refl, tt)));
+  are_least = (least [] Linear 0 49 50000000 refl refl (lit≤ tt), (least [] Linear 1 50 50000000 refl refl (lit≤ tt), (least [] Linear 2 51 50000000 refl refl (lit≤ tt), tt)));
+  are_charges = tt;
+  value_is = refl;
 }
 
 charged : (a w : ℕ) → allows 0 (leg a) ≡ true → nat_eq a a ≡ true → IsChargeOf detour allows ([] ∷ [] ∷ [] ∷ []) (each a w) 0
 charged a w allowed same = inl (record { class = leg a; shipment = 0; exists = lit< tt; allowed_for_it = allowed; held = ap (λ (b : Bool). b && true) same; not_free = refl }, refl)
 
-value : IsSpanLeafValue detour windows points [] tables (Table 1) false 180000000
+value : IsSpanLeafValue detour windows points [] prices (Table 1) false 180000000
 value = record {
   chains = [] ∷ [] ∷ [] ∷ [];
   costs = 60000000 ∷ 60000000 ∷ 60000000 ∷ [];
   charges = 0 ∷ 0 ∷ 0 ∷ [];
   are_chains = (refl, (refl, (refl, tt)));
-  are_least = (least 0 49 refl refl refl refl, (least 1 50 refl refl refl refl, (least 2 51 refl refl refl refl, tt)));
+  are_least = (
+    least prices (Table 1) 0 49 60000000 refl refl (lit≤ tt),
+    (least prices (Table 1) 1 50 60000000 refl refl (lit≤ tt), (least prices (Table 1) 2 51 60000000 refl refl (lit≤ tt), tt)),
+  );
   are_charges = (charged 0 60000000 refl refl, (charged 1 30000000 refl refl, (charged 2 30000000 refl refl, tt)));
   value_is = refl;
 }
@@ -194,4 +210,4 @@ valid = record {
 
 -- so no plan costs less than 180
 no_cheaper : (d : ℕ) (plan : List (List Leg)) → IsPlanOfLeaf detour windows [] d plan → 180 ≤ cost detour plan
-no_cheaper d plan of_leaf = omega (arith, span_leaf-bounds detour windows points [] tables (Table 1) false 180000000 valid (tt, tt) keep value d plan of_leaf)
+no_cheaper d plan of_leaf = omega (arith, span_leaf-bounds detour windows points [] prices (Table 1) false 180000000 valid (tt, tt) keep value d plan of_leaf)

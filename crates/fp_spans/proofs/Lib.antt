@@ -9,6 +9,7 @@ pub mod SpanOrders
 pub mod ArcRuns
 pub mod SpanBounds
 pub mod PlaceSets
+pub mod SoundTables
 pub mod OneSpanValue
 pub mod SpanlessValues
 mod EqualWeights

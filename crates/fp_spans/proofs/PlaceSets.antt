@@ -15,10 +15,28 @@ use Rattle.fp_lists.proofs.DistinctSums.{sum_by-one-le}
 use Rattle.fp_lists.proofs.Membership.{StandsAt, StandsAt-from_list_has, list_has-first}
 use Rattle.fp_lists.proofs.Sums.{sum_by-both, sum_by-const, sum_by-map}
 use Rattle.fp_model.specs.Numbered.{shipment_at}
-use Rattle.fp_model.specs.Problem.{arc_at}
+use Rattle.fp_model.specs.Problem.{Problem, arc_at}
 use Rattle.fp_prices.specs.declared.tables.Weight.{Weight}
 use Rattle.fp_prices.specs.Prices.{weight_in}
-use Rattle.fp_spans.specs.SpanRules.{IsSetOf, SetRuleByPlaces, WeightsAscend, no_weight, shipments_of, size_of, weight_at}
+use Rattle.fp_spans.specs.Spans.{ClassSpan}
+use Rattle.fp_spans.specs.SpanRules.{IsSetOf, KeepsSetRule, WeightsAscend, shipments_of, size_of}
+
+-- stands for the weight of a place that no weight has
+abbrev pub no_weight : Weight
+no_weight = record { shipment = 0; w = 0 }
+
+-- the weight at a place
+abbrev pub weight_at : List Weight → ℕ → Weight
+weight_at weights place = get_or weights place no_weight
+
+-- the set rule where a set is told by a test on the places of the span's weights, which some place passes
+abbrev pub KeepsPlaceRule : Problem → ClassSpan → Type 0
+KeepsPlaceRule p span =
+    (chosen : ℕ → Bool) → some_below (length span.weights) chosen ≡ true →
+    sum_below (length span.weights) (λ place. if chosen place then (weight_at span.weights place).w else 0)
+    ≤ span.money
+    * div_ceil (sum_below (length span.weights) (λ place. if chosen place then (shipment_at p (weight_at span.weights place).shipment).size else 0)) (arc_at p span.arc).capacity
+    + span.charge
 
 -- the sum below a bound, the first term apart
 sum_below-front : (n : ℕ) (f : ℕ → ℕ) → sum_below (suc n) f ≡ f 0 + sum_below n (λ i. f (suc i))
@@ -112,7 +130,7 @@ some-place weights (k ∷ set) is =
     some_below-true (length weights) at.place (λ place. list_has (k ∷ set) (weight_at weights place).shipment) inside (subst (λ (n : ℕ). list_has (k ∷ set) n ≡ true) here (list_has-first k set))
 
 -- so the rule over places gives the rule over sets
-pub set_rule-by_places : SetRuleByPlaces
+pub set_rule-by_places : (p : Problem) (span : ClassSpan) → WeightsAscend span.weights → KeepsPlaceRule p span → KeepsSetRule p span
 set_rule-by_places p span ascend rule set is =
     let weights : List Weight = span.weights in
     let capacity : ℕ = (arc_at p span.arc).capacity in

@@ -3,3 +3,4 @@ pub mod SpanPrices
 pub mod SpanRules
 pub mod SpanLeaves
 pub mod SpanTables
+pub mod SpanCharges

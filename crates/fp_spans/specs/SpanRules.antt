@@ -1,8 +1,7 @@
 -- What is asked of spans, so that what shipments pay by them is within what trucks cost.
-use Rattle.std.specs.Prelude.{ℕ, ◌+◌, ◌*◌, ◌≡◌, ◌≢◌, ◌≤◌, ◌<◌, List, [], length, map, Bool, true, sum_by, AllPairs, slice_index_or, if◌then◌else◌}
+use Rattle.std.specs.Prelude.{ℕ, ◌+◌, ◌*◌, ◌≡◌, ◌≢◌, ◌≤◌, ◌<◌, List, [], map, true, sum_by, AllPairs}
 use Rattle.std.specs.List.{AllByRecursion}
 use Rattle.std.specs.Int.{div_ceil}
-use Rattle.fp_lists.specs.Below.{some_below, sum_below}
 use Rattle.fp_lists.specs.Distinct.{AreDistinct}
 use Rattle.fp_lists.specs.Membership.{list_has}
 use Rattle.fp_model.specs.Numbered.{shipment_at}
@@ -42,27 +41,6 @@ KeepsSetRule p span = (set : List ℕ) → IsSetOf span.weights set → sum_by (
 -- weights ascend strictly by shipment
 abbrev pub WeightsAscend : List Weight → Type 0
 WeightsAscend weights = AllPairs (λ (v w : Weight). v.shipment < w.shipment) weights
-
--- stands for the weight of a place that no weight has
-abbrev pub no_weight : Weight
-no_weight = record { shipment = 0; w = 0 }
-
--- the weight at a place
-abbrev pub weight_at : List Weight → ℕ → Weight
-weight_at weights place = slice_index_or weights place no_weight
-
--- the set rule where a set is told by a test on the places of the span's weights, which some place passes
-abbrev pub KeepsPlaceRule : Problem → ClassSpan → Type 0
-KeepsPlaceRule p span =
-    (chosen : ℕ → Bool) → some_below (length span.weights) chosen ≡ true →
-    sum_below (length span.weights) (λ place. if chosen place then (weight_at span.weights place).w else 0)
-    ≤ span.money
-    * div_ceil (sum_below (length span.weights) (λ place. if chosen place then (shipment_at p (weight_at span.weights place).shipment).size else 0)) (arc_at p span.arc).capacity
-    + span.charge
-
--- where its weights ascend, a span keeps the set rule if it keeps it over the places of its weights
-abbrev pub SetRuleByPlaces : Type 0
-SetRuleByPlaces = (p : Problem) (span : ClassSpan) → WeightsAscend span.weights → KeepsPlaceRule p span → KeepsSetRule p span
 
 -- all spans keep both rules
 pub record KeepSpanRules (p : Problem) (spans : List ClassSpan) : Type 0 where

@@ -1,5 +1,5 @@
 //! The theory of leaves under prices by spans, as contracts without a body.
-ghost use Rattle.fp_spans.specs.SpanRules.{SetRuleByPlaces};
+ghost use Rattle.fp_spans.specs.SpanCharges.{SoundTablesKeepRules};
 ghost use Rattle.fp_spans.specs.SpanLeaves.{SpanLeavesHaveOneValue, SpanValuesBoundPlans, ValuesWithoutSpans};
 
 /// No plan of a leaf costs less than the leaf is worth under prices by spans, whoever finds the
@@ -29,11 +29,13 @@ pub fn values_without_spans()
     ensures { ValuesWithoutSpans }
 {}
 
-/// Where the weights of a span ascend by shipment, it keeps the set rule if it keeps it over the
-/// places of its weights, whichever of these are chosen, but at least one.
+/// A table whose shares, spans and weights are in order, whose spans keep the money rule, and whose
+/// charges pay, keeps both rules of spans. The instance is valid, and the spans are of arcs, and
+/// their weights of shipments, that exist.
 ///
-/// So a test of the rule may go over the weights by their places, each with the size of its
-/// shipment.
-pub fn set_rule_by_places()
-    ensures { SetRuleByPlaces }
+/// So what [`crate::check_spans`] and [`crate::check_charges`] find is what the bound asks. They ask
+/// more: a charge pays where the sizes of a set are counted in grains, rounded down, and the rule
+/// asks for the true size of the set.
+pub fn sound_tables_keep_rules()
+    ensures { SoundTablesKeepRules }
 {}

@@ -8,15 +8,21 @@
 //! and charges count parts of a unit of money, of which the instance's scale makes one.
 #![tactic(auto)]
 
+mod charge_rule;
 mod laws;
 mod money_rule;
 mod span_faults;
 mod span_order;
 mod spans;
 
+pub use charge_rule::check_charges;
 pub use laws::{
-    set_rule_by_places, span_leaves_have_one_value, span_values_bound_plans, values_without_spans,
+    sound_tables_keep_rules, span_leaves_have_one_value, span_values_bound_plans,
+    values_without_spans,
 };
 pub use money_rule::check_spans;
 pub use span_faults::SpanFault;
 pub use spans::{Span, SpanTable};
+
+/// The error of a call that finds no memory.
+pub type NoMemory = std::alloc::AllocError;

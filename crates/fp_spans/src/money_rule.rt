@@ -36,15 +36,21 @@ fn is_within(limit: u128, spans: &[Span], class: Leg) -> bool
     true
 }
 
-// Those of the spans, in order, that are of an arc.
-fn of_arc(spans: &[Span], arc: u32) -> &[Span]
+// Those of the spans, in order, that aren't of arcs before an arc.
+fn from_arc(spans: &[Span], arc: u32) -> &[Span]
+    requires { IsNonDecreasingBy (λ (s : ClassSpan). s.arc) spans.now }
+    ensures ordered { IsNonDecreasingBy (λ (s : ClassSpan). s.arc) result.now }
+    ensures money { (c : Leg) → c.arc ≡ arc → money_at result.now c ≡ money_at spans.now c }
+{
+    &spans[spans.partition_point(|span| span.arc < arc)..]
+}
+
+// Those of the spans, in order, that aren't of arcs after an arc.
+fn until_arc(spans: &[Span], arc: u32) -> &[Span]
     requires { IsNonDecreasingBy (λ (s : ClassSpan). s.arc) spans.now }
     ensures { (c : Leg) → c.arc ≡ arc → money_at result.now c ≡ money_at spans.now c }
 {
-    let from = spans.partition_point(|span| span.arc < arc);
-    let rest = &spans[from..];
-    let count = rest.partition_point(|span| span.arc <= arc);
-    &rest[..count]
+    &spans[..spans.partition_point(|span| span.arc <= arc)]
 }
 
 // Whether one of the spans, in order and of an arc that exists, keeps the money rule.
@@ -58,7 +64,8 @@ fn keeps_money(instance: &Instance, spans: &[Span], span: &Span) -> bool
         arc: span.arc,
         depart: span.point,
     };
-    is_within(limit, of_arc(spans, span.arc), class)
+    let of_arc = until_arc(from_arc(spans, span.arc), span.arc);
+    is_within(limit, of_arc, class)
 }
 
 // The number of the first span, of spans in order, that breaks the money rule.
