@@ -13,3 +13,5 @@ mod checker;
 mod prices;
 #[cfg(test)]
 mod relaxmodel;
+#[cfg(test)]
+mod spans;

@@ -9,7 +9,7 @@ use Rattle.fp_lists.proofs.Sums.{sum_by-const, sum_by-same_each}
 use Rattle.fp_model.specs.declared.parts.Leg.{Leg}
 use Rattle.fp_spans.specs.Spans.{ClassSpan}
 use Rattle.fp_spans.specs.SpanPrices.{holds, money_at}
-use Rattle.fp_spans.specs.SpanTables.{no_span}
+use Rattle.fp_spans.specs.SpanLists.{no_span}
 
 -- spans of other arcs have no money at a class
 money-elsewhere : (spans : List ClassSpan) (c : Leg) → AllByRecursion (λ (s : ClassSpan). s.arc ≢ c.arc) spans → money_at spans c ≡ 0

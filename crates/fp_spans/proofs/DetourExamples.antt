@@ -18,12 +18,11 @@ use Rattle.fp_flatnet.specs.declared.window_tables.Window.{Window}
 use Rattle.fp_allowed.specs.Allowed.{is_allowed}
 use Rattle.fp_allowed.specs.Walks.{IsTimedWalk}
 use Rattle.fp_allowed.proofs.AllowedClasses.{HasMoment, is_allowed_parts}
-use Rattle.fp_prices.specs.declared.leaf_prices.Kind.{Kind}
-use Rattle.fp_prices.specs.declared.leaf_prices.Kind.TheVariants.{Linear, Table}
+use Rattle.fp_prices.specs.declared.leaf_prices.Kind.TheVariants.{Linear}
 use Rattle.fp_prices.specs.Leaves.{IsLeastCost, IsPlanOfLeaf}
-use Rattle.fp_spans.specs.Spans.{ClassSpan, PriceTable}
+use Rattle.fp_spans.specs.Spans.{ClassSpan}
 use Rattle.fp_spans.specs.SpanLeaves.{IsChargeOf, IsSpanLeafValue}
-use Rattle.fp_spans.specs.SpanPrices.{leaf_span_price, shares_of, spans_of}
+use Rattle.fp_spans.specs.SpanPrices.{leaf_span_price}
 use Rattle.fp_spans.specs.SpanRules.{KeepSpanRules}
 use Rattle.fp_spans.proofs.EqualWeights.{by_count}
 use Rattle.fp_spans.proofs.SpanBounds.{span_leaf-bounds}
@@ -117,9 +116,6 @@ each a w = record {
 abbrev three : List ClassSpan
 three = each 0 60000000 ∷ each 1 30000000 ∷ each 2 30000000 ∷ []
 
-abbrev prices : List PriceTable
-prices = (record { shares = []; spans = three }) ∷ []
-
 keep : KeepSpanRules detour three
 keep = record {
   money = (lit≤ tt, (lit≤ tt, (lit≤ tt, tt)));
@@ -146,27 +142,27 @@ keep = record {
     half (suc (suc (suc zero))) some few = lit≤ tt
     half (suc (suc (suc (suc m)))) some few = absurd (omega (arith, few))
 
--- what a shipment pays for a class by tables and a kind
-abbrev pays : List PriceTable → Kind → ℕ → Leg → ℕ
-pays tables kind k c = leaf_span_price detour (shares_of tables) (spans_of tables kind) allows kind ([] ∷ [] ∷ [] ∷ []) k 5 c + detour.scale * (arc_at detour c.arc).freight * 5
+-- what a shipment pays for a class by spans, and by linear prices beside them
+abbrev pays : List ClassSpan → ℕ → Leg → ℕ
+pays spans k c = leaf_span_price detour [] spans allows Linear ([] ∷ [] ∷ [] ∷ []) k 5 c + detour.scale * (arc_at detour c.arc).freight * 5
 
-least : (tables : List PriceTable) (kind : Kind) (k name n : ℕ) → allows k (leg 0) ≡ true → pays tables kind k (leg 0) ≡ n → n ≤ pays tables kind k (leg 1) + pays tables kind k (leg 2) →
-    IsLeastCost detour points (allows k) (load name) (leaf_span_price detour (shares_of tables) (spans_of tables kind) allows kind ([] ∷ [] ∷ [] ∷ []) k 5) n
-least tables kind k name n allowed straight round = record {
+least : (spans : List ClassSpan) (k name n : ℕ) → allows k (leg 0) ≡ true → pays spans k (leg 0) ≡ n → n ≤ pays spans k (leg 1) + pays spans k (leg 2) →
+    IsLeastCost detour points (allows k) (load name) (leaf_span_price detour [] spans allows Linear ([] ∷ [] ∷ [] ∷ []) k 5) n
+least spans k name n allowed straight round = record {
   walk = leg 0 ∷ [];
   timed = record { leads = (lit< tt, refl, refl); allowed_all = (allowed, tt); follows = (omega arith, tt) };
   cost = omega (arith, straight);
-  least = walk_pays k name n (pays tables kind k) (omega (arith, straight)) round;
+  least = walk_pays k name n (pays spans k) (omega (arith, straight)) round;
 }
 
 -- by linear prices each pays 50, either way
-linear_value : IsSpanLeafValue detour windows points [] [] Linear false 150000000
+linear_value : IsSpanLeafValue detour windows points [] [] [] Linear false 150000000
 linear_value = record {
   chains = [] ∷ [] ∷ [] ∷ [];
   costs = 50000000 ∷ 50000000 ∷ 50000000 ∷ [];
   charges = [];
   are_chains = (refl, (refl, (refl, tt)));
-  are_least = (least [] Linear 0 49 50000000 refl refl (lit≤ tt), (least [] Linear 1 50 50000000 refl refl (lit≤ tt), (least [] Linear 2 51 50000000 refl refl (lit≤ tt), tt)));
+  are_least = (least [] 0 49 50000000 refl refl (lit≤ tt), (least [] 1 50 50000000 refl refl (lit≤ tt), (least [] 2 51 50000000 refl refl (lit≤ tt), tt)));
   are_charges = tt;
   value_is = refl;
 }
@@ -174,15 +170,15 @@ linear_value = record {
 charged : (a w : ℕ) → allows 0 (leg a) ≡ true → nat_eq a a ≡ true → IsChargeOf detour allows ([] ∷ [] ∷ [] ∷ []) (each a w) 0
 charged a w allowed same = inl (record { class = leg a; shipment = 0; exists = lit< tt; allowed_for_it = allowed; held = ap (λ (b : Bool). b && true) same; not_free = refl }, refl)
 
-value : IsSpanLeafValue detour windows points [] prices (Table 1) false 180000000
+value : IsSpanLeafValue detour windows points [] [] three Linear false 180000000
 value = record {
   chains = [] ∷ [] ∷ [] ∷ [];
   costs = 60000000 ∷ 60000000 ∷ 60000000 ∷ [];
   charges = 0 ∷ 0 ∷ 0 ∷ [];
   are_chains = (refl, (refl, (refl, tt)));
   are_least = (
-    least prices (Table 1) 0 49 60000000 refl refl (lit≤ tt),
-    (least prices (Table 1) 1 50 60000000 refl refl (lit≤ tt), (least prices (Table 1) 2 51 60000000 refl refl (lit≤ tt), tt)),
+    least three 0 49 60000000 refl refl (lit≤ tt),
+    (least three 1 50 60000000 refl refl (lit≤ tt), (least three 2 51 60000000 refl refl (lit≤ tt), tt)),
   );
   are_charges = (charged 0 60000000 refl refl, (charged 1 30000000 refl refl, (charged 2 30000000 refl refl, tt)));
   value_is = refl;
@@ -210,4 +206,4 @@ valid = record {
 
 -- so no plan costs less than 180
 no_cheaper : (d : ℕ) (plan : List (List Leg)) → IsPlanOfLeaf detour windows [] d plan → 180 ≤ cost detour plan
-no_cheaper d plan of_leaf = omega (arith, span_leaf-bounds detour windows points [] prices (Table 1) false 180000000 valid (tt, tt) keep value d plan of_leaf)
+no_cheaper d plan of_leaf = omega (arith, span_leaf-bounds detour windows points [] [] three Linear false 180000000 valid tt keep value d plan of_leaf)

@@ -16,11 +16,11 @@ use Rattle.fp_flatnet.specs.declared.window_tables.Window.{Window}
 use Rattle.fp_allowed.specs.Allowed.{IsForcedChain, is_allowed}
 use Rattle.fp_allowed.specs.Walks.{IsTimedWalk}
 use Rattle.fp_allowed.proofs.AllowedClasses.{HasMoment, is_allowed_parts}
-use Rattle.fp_prices.specs.declared.leaf_prices.Kind.TheVariants.{Table}
+use Rattle.fp_prices.specs.declared.leaf_prices.Kind.TheVariants.{Linear}
 use Rattle.fp_prices.specs.Leaves.{IsLeastCost, IsPlanOfLeaf}
-use Rattle.fp_spans.specs.Spans.{ClassSpan, PriceTable}
+use Rattle.fp_spans.specs.Spans.{ClassSpan}
 use Rattle.fp_spans.specs.SpanLeaves.{IsCharged, IsChargeOf, IsSpanLeafValue}
-use Rattle.fp_spans.specs.SpanPrices.{holds, leaf_span_price, money_at, shares_of, span_price}
+use Rattle.fp_spans.specs.SpanPrices.{holds, leaf_span_price, money_at, span_price}
 use Rattle.fp_spans.specs.SpanRules.{IsSetOf, KeepSpanRules, KeepsMoneyRule, KeepsSetRule}
 use Rattle.fp_spans.proofs.EqualWeights.{by_count}
 use Rattle.fp_spans.proofs.SpanBounds.{span_leaf-bounds}
@@ -87,18 +87,14 @@ walk_pays qs k name n pay first second (c ∷ walk) timed =
     (λ (e : c ≡ leg (floor_point qs 1 1)). omega (arith, ap pay e, second, sum_by-cons pay c walk))
     (of_two qs k c timed.allowed_all.0)
 
--- a table with these spans alone
-abbrev by : List ClassSpan → List PriceTable
-by spans = (record { shares = []; spans = spans }) ∷ []
-
 -- what a shipment pays for a class where nothing is forced
 abbrev pays : List ℕ → List ClassSpan → ℕ → Leg → ℕ
-pays qs spans k c = leaf_span_price road (shares_of (by spans)) spans (allows qs) (Table 1) ([] ∷ [] ∷ []) k 5 c + road.scale * (arc_at road c.arc).freight * 5
+pays qs spans k c = leaf_span_price road [] spans (allows qs) Linear ([] ∷ [] ∷ []) k 5 c + road.scale * (arc_at road c.arc).freight * 5
 
 -- a shipment goes by the class of a point that is no dearer than the other
 least_by : (qs : List ℕ) (spans : List ClassSpan) (k name q : ℕ) → allows qs k (leg q) ≡ true → pays qs spans k (leg q) ≤ pays qs spans k (leg (floor_point qs 1 0)) →
     pays qs spans k (leg q) ≤ pays qs spans k (leg (floor_point qs 1 1)) →
-    IsLeastCost road (points qs) (allows qs k) (parcel name) (leaf_span_price road (shares_of (by spans)) spans (allows qs) (Table 1) ([] ∷ [] ∷ []) k 5) (pays qs spans k (leg q))
+    IsLeastCost road (points qs) (allows qs k) (parcel name) (leaf_span_price road [] spans (allows qs) Linear ([] ∷ [] ∷ []) k 5) (pays qs spans k (leg q))
 least_by qs spans k name q allowed first second = record {
   walk = leg q ∷ [];
   timed = record { leads = (lit< tt, refl, refl); allowed_all = (allowed, tt); follows = (omega arith, tt) };
@@ -111,7 +107,7 @@ plain : (qs : List ℕ) (spans : List ClassSpan) (q r : ℕ) (charges : List ℕ
     pays qs spans 0 (leg q) ≤ pays qs spans 0 (leg (floor_point qs 1 0)) → pays qs spans 0 (leg q) ≤ pays qs spans 0 (leg (floor_point qs 1 1)) →
     pays qs spans 1 (leg r) ≤ pays qs spans 1 (leg (floor_point qs 1 0)) → pays qs spans 1 (leg r) ≤ pays qs spans 1 (leg (floor_point qs 1 1)) →
     AllZip (IsChargeOf road (allows qs) ([] ∷ [] ∷ [])) spans charges →
-    IsSpanLeafValue road windows (points qs) [] (by spans) (Table 1) false (pays qs spans 0 (leg q) + pays qs spans 1 (leg r) - sum_by (λ (n : ℕ). n) charges)
+    IsSpanLeafValue road windows (points qs) [] [] spans Linear false (pays qs spans 0 (leg q) + pays qs spans 1 (leg r) - sum_by (λ (n : ℕ). n) charges)
 plain qs spans q r charges q_allowed r_allowed q_first q_second r_first r_second are = record {
   chains = [] ∷ [] ∷ [];
   costs = pays qs spans 0 (leg q) ∷ pays qs spans 1 (leg r) ∷ [];
@@ -138,11 +134,11 @@ whole_charged : (qs : List ℕ) (charge : ℕ) → allows qs 0 (leg 0) ≡ true 
 whole_charged qs charge allowed = inl (record { class = leg 0; shipment = 0; exists = lit< tt; allowed_for_it = allowed; held = refl; not_free = refl }, refl)
 
 -- two shipments that pay 60 each, less the charge of 60: the one truck that they need
-one_truck : IsSpanLeafValue road windows (points alone) [] (by (whole 60000000 ∷ [])) (Table 1) false 60000000
+one_truck : IsSpanLeafValue road windows (points alone) [] [] (whole 60000000 ∷ []) Linear false 60000000
 one_truck = plain alone (whole 60000000 ∷ []) 0 0 (60000000 ∷ []) refl refl (lit≤ tt) (lit≤ tt) (lit≤ tt) (lit≤ tt) (whole_charged alone 60000000 refl, tt)
 
 -- each of them may use two classes of the span: it pays for the one that it uses, and the charge is taken off once
-once : IsSpanLeafValue road windows (points both) [] (by (whole 60000000 ∷ [])) (Table 1) false 60000000
+once : IsSpanLeafValue road windows (points both) [] [] (whole 60000000 ∷ []) Linear false 60000000
 once = plain both (whole 60000000 ∷ []) 0 1 (60000000 ∷ []) refl refl (lit≤ tt) (lit≤ tt) (lit≤ tt) (lit≤ tt) (whole_charged both 60000000 refl, tt)
 
 -- a charge of 60 keeps the rules, and a part less doesn't
@@ -164,7 +160,7 @@ whole_breaks rule = absurd (omega (arith, rule (0 ∷ 1 ∷ []) two))
 -- so no plan costs less than 60
 no_cheaper : (d : ℕ) (plan : List (List Leg)) → IsPlanOfLeaf road windows [] d plan → 60 ≤ cost road plan
 no_cheaper d plan of_leaf =
-    omega (arith, span_leaf-bounds road windows (points both) [] (by (whole 60000000 ∷ [])) (Table 1) false 60000000 valid (tt, tt) whole_keeps once d plan of_leaf)
+    omega (arith, span_leaf-bounds road windows (points both) [] [] (whole 60000000 ∷ []) Linear false 60000000 valid tt whole_keeps once d plan of_leaf)
   where
     valid : IsValid road
     valid = record {
@@ -242,7 +238,7 @@ over_breaks : KeepsMoneyRule road (short 20000001 ∷ long ∷ []) (short 200000
 over_breaks rule = absurd (omega (arith, rule))
 
 -- the first shipment goes by the class of 1, where it pays 40, and the second pays 40 by either; both charges are taken off
-over_value : IsSpanLeafValue road windows (points both) [] (by over) (Table 1) false 40000000
+over_value : IsSpanLeafValue road windows (points both) [] [] over Linear false 40000000
 over_value =
     plain both over 1 0 (0 ∷ 40000000 ∷ []) refl refl (lit≤ tt) (lit≤ tt) (lit≤ tt) (lit≤ tt) (
       inl (record { class = leg 0; shipment = 0; exists = lit< tt; allowed_for_it = refl; held = refl; not_free = refl }, refl),
@@ -260,7 +256,7 @@ far_uncharged is =
     (λ (e : is.class ≡ leg 1). false≢true (subst (λ (c : Leg). holds far c ≡ true) e is.held))
     (of_two both is.shipment is.class is.allowed_for_it)
 
-far_value : IsSpanLeafValue road windows (points both) [] (by (whole 60000000 ∷ far ∷ [])) (Table 1) false 60000000
+far_value : IsSpanLeafValue road windows (points both) [] [] (whole 60000000 ∷ far ∷ []) Linear false 60000000
 far_value =
     plain both (whole 60000000 ∷ far ∷ []) 0 1 (60000000 ∷ 0 ∷ []) refl refl (lit≤ tt) (lit≤ tt) (lit≤ tt) (lit≤ tt)
     (whole_charged both 60000000 refl, (inr (far_uncharged, refl), tt))
@@ -281,7 +277,7 @@ abbrev chains : List (List Leg)
 chains = (leg 0 ∷ []) ∷ (leg 0 ∷ []) ∷ []
 
 free_by : (k name : ℕ) → allows alone k (leg 0) ≡ true →
-    IsLeastCost road (points alone) (allows alone k) (parcel name) (leaf_span_price road (shares_of (by (whole 60000000 ∷ []))) (whole 60000000 ∷ []) (allows alone) (Table 1) chains k 5) 0
+    IsLeastCost road (points alone) (allows alone k) (parcel name) (leaf_span_price road [] (whole 60000000 ∷ []) (allows alone) Linear chains k 5) 0
 free_by k name allowed = record {
   walk = leg 0 ∷ [];
   timed = record { leads = (lit< tt, refl, refl); allowed_all = (allowed, tt); follows = (omega arith, tt) };
@@ -294,7 +290,7 @@ whole_free is =
     let at : is.class ≡ leg 0 = ⊎_elim (λ (e : is.class ≡ leg 0). e) (λ (e : is.class ≡ leg 0). e) (of_two alone is.shipment is.class is.allowed_for_it) in
     false≢true (sym (subst (λ (c : Leg). has_leg c (all_legs chains) ≡ false) at is.not_free))
 
-forced_value : IsSpanLeafValue road windows (points alone) [] (by (whole 60000000 ∷ [])) (Table 1) true 60000000
+forced_value : IsSpanLeafValue road windows (points alone) [] [] (whole 60000000 ∷ []) Linear true 60000000
 forced_value = record {
   chains = chains;
   costs = 0 ∷ 0 ∷ [];

@@ -9,9 +9,21 @@ pub mod SpanOrders
 pub mod ArcRuns
 pub mod SpanBounds
 pub mod PlaceSets
-pub mod SoundTables
+pub mod SoundSpans
 pub mod OneSpanValue
 pub mod SpanlessValues
+pub mod Between
+pub mod RangeClasses
+pub mod MarkedBits
+pub mod SpannedRows
+pub mod WeightTotals
+pub mod PricesSoFar
+pub mod AllowedInNetwork
+pub mod SpanCosts
+pub mod SpanCharges
+pub mod LeafBases
+pub mod SpanValues
+pub mod SpanBoundsFound
 mod EqualWeights
 mod Examples
 mod DetourExamples

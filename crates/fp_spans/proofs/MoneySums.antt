@@ -23,7 +23,7 @@ holds-true span c h =
     let points = and_parts (nat_le span.point c.depart) (nat_lt c.depart span.until) parts.1 in
     record { arc = eqb-true span.arc c.arc parts.0; from = leb-true span.point c.depart points.0; before = ltb-true c.depart span.until points.1 }
 
-holds-from : (span : ClassSpan) (c : Leg) → IsHeldBy span c → holds span c ≡ true
+pub holds-from : (span : ClassSpan) (c : Leg) → IsHeldBy span c → holds span c ≡ true
 holds-from span c is =
     and_from (nat_eq span.arc c.arc) (nat_le span.point c.depart && nat_lt c.depart span.until) (eq-eqb span.arc c.arc is.arc)
     (and_from (nat_le span.point c.depart) (nat_lt c.depart span.until) (le-leb span.point c.depart is.from) (lt-ltb c.depart span.until is.before))

@@ -15,10 +15,11 @@ use Rattle.fp_allowed.specs.Allowed.{is_allowed}
 use Rattle.fp_allowed.specs.Walks.{IsTimedWalk}
 use Rattle.fp_prices.specs.declared.leaf_prices.Kind.{Kind}
 use Rattle.fp_prices.specs.Leaves.{IsLeafEmpty, IsLeastCost}
+use Rattle.fp_prices.specs.Shares.{ClassShare}
 use Rattle.fp_prices.proofs.OneValue.{chains-unique}
-use Rattle.fp_spans.specs.Spans.{ClassSpan, PriceTable}
+use Rattle.fp_spans.specs.Spans.{ClassSpan}
 use Rattle.fp_spans.specs.SpanLeaves.{IsCharged, IsChargeOf, IsSpanLeafValue, SpanLeavesHaveOneValue}
-use Rattle.fp_spans.specs.SpanPrices.{leaf_span_price, shares_of, spans_of}
+use Rattle.fp_spans.specs.SpanPrices.{leaf_span_price}
 
 -- where each element and its number decide the other one, they decide the other list
 AllZipFrom-unique : {X Y : Type 0} (Q : ℕ → X → Y → Type 0) → ((k : ℕ) (x : X) (y z : Y) → Q k x y → Q k x z → y ≡ z) → (i : ℕ) (xs : List X) (ys zs : List Y) →
@@ -63,32 +64,32 @@ charges-unique p allowed chains (span ∷ spans) (a ∷ A) (b ∷ B) is_a is_b =
         is_a.0
 
 -- a leaf has one value
-span_value-unique : (p : Problem) (windows : ℕ → ℕ → Option Window) (points : ℕ → List ℕ) (sides : List Side) (tables : List PriceTable) (kind : Kind) (forced : Bool) (v w : ℕ) →
-    IsSpanLeafValue p windows points sides tables kind forced v → IsSpanLeafValue p windows points sides tables kind forced w → v ≡ w
-span_value-unique p windows points sides tables kind forced v w is_v is_w =
+span_value-unique : (p : Problem) (windows : ℕ → ℕ → Option Window) (points : ℕ → List ℕ) (sides : List Side) (tables : List (List ClassShare)) (spans : List ClassSpan) (kind : Kind) (forced : Bool) (v w : ℕ) →
+    IsSpanLeafValue p windows points sides tables spans kind forced v → IsSpanLeafValue p windows points sides tables spans kind forced w → v ≡ w
+span_value-unique p windows points sides tables spans kind forced v w is_v is_w =
     let allowed : ℕ → Leg → Bool = is_allowed p windows points sides in
     let IsLeast : List (List Leg) → ℕ → Shipment → ℕ → Type 0 = λ chains k s n.
-    IsLeastCost p points (allowed k) s (leaf_span_price p (shares_of tables) (spans_of tables kind) allowed kind chains k s.size) n in
+    IsLeastCost p points (allowed k) s (leaf_span_price p tables spans allowed kind chains k s.size) n in
     let chains : is_v.chains ≡ is_w.chains = chains-unique p allowed forced 0 p.shipments is_v.chains is_w.chains is_v.are_chains is_w.are_chains in
     let costs : is_v.costs ≡ is_w.costs =
     AllZipFrom-unique (IsLeast is_v.chains)
-    (λ k s a b. cost-unique p points (allowed k) s (leaf_span_price p (shares_of tables) (spans_of tables kind) allowed kind is_v.chains k s.size) a b) 0 p.shipments is_v.costs is_w.costs is_v.are_least
+    (λ k s a b. cost-unique p points (allowed k) s (leaf_span_price p tables spans allowed kind is_v.chains k s.size) a b) 0 p.shipments is_v.costs is_w.costs is_v.are_least
     (subst (λ (R : List (List Leg)). AllZipFrom (IsLeast R) 0 p.shipments is_w.costs) (sym chains) is_w.are_least) in
     let charges : is_v.charges ≡ is_w.charges =
-    charges-unique p allowed is_v.chains (spans_of tables kind) is_v.charges is_w.charges is_v.are_charges
-    (subst (λ (R : List (List Leg)). AllZip (IsChargeOf p allowed R) (spans_of tables kind) is_w.charges) (sym chains) is_w.are_charges) in
+    charges-unique p allowed is_v.chains spans is_v.charges is_w.charges is_v.are_charges
+    (subst (λ (R : List (List Leg)). AllZip (IsChargeOf p allowed R) spans is_w.charges) (sym chains) is_w.are_charges) in
     let whole : List (List Leg) → List ℕ → ℕ = λ R ns. p.scale * departures_cost p R (all_legs R) + sum_by (λ (n : ℕ). n) ns in
     let before : whole is_v.chains is_v.costs ≡ whole is_w.chains is_w.costs = ap₂ whole chains costs in
     let off : sum_by (λ (n : ℕ). n) is_v.charges ≡ sum_by (λ (n : ℕ). n) is_w.charges = ap (sum_by (λ (n : ℕ). n)) charges in
     omega (arith, is_v.value_is, is_w.value_is, before, off)
 
 -- an empty leaf has no value
-span_value-some : (p : Problem) (windows : ℕ → ℕ → Option Window) (points : ℕ → List ℕ) (sides : List Side) (tables : List PriceTable) (kind : Kind) (forced : Bool) (v : ℕ) →
-    IsSpanLeafValue p windows points sides tables kind forced v → IsLeafEmpty p windows points sides → ⊥
-span_value-some p windows points sides tables kind forced v is empty =
+span_value-some : (p : Problem) (windows : ℕ → ℕ → Option Window) (points : ℕ → List ℕ) (sides : List Side) (tables : List (List ClassShare)) (spans : List ClassSpan) (kind : Kind) (forced : Bool) (v : ℕ) →
+    IsSpanLeafValue p windows points sides tables spans kind forced v → IsLeafEmpty p windows points sides → ⊥
+span_value-some p windows points sides tables spans kind forced v is empty =
     let allowed : ℕ → Leg → Bool = is_allowed p windows points sides in
     let k : ℕ = empty.shipment in
-    let IsLeast : ℕ → Shipment → ℕ → Type 0 = λ j s n. IsLeastCost p points (allowed j) s (leaf_span_price p (shares_of tables) (spans_of tables kind) allowed kind is.chains j s.size) n in
+    let IsLeast : ℕ → Shipment → ℕ → Type 0 = λ j s n. IsLeastCost p points (allowed j) s (leaf_span_price p tables spans allowed kind is.chains j s.size) n in
     let there : IsLeast (0 + k) (shipment_at p k) (slice_index_or is.costs k 0) = AllZipFrom-get_or IsLeast p.shipments is.costs no_shipment 0 0 k is.are_least empty.exists in
     let same : 0 + k ≡ k = omega arith in
     empty.none there.walk (subst (λ (j : ℕ). IsTimedWalk p points (allowed j) (shipment_at p k) there.walk) same there.timed)

@@ -27,7 +27,7 @@ use Rattle.fp_prices.proofs.TakenByClasses.{paid}
 use Rattle.fp_prices.proofs.Users.{AgreesFrom, users-few}
 use Rattle.fp_prices.proofs.WalkClasses.{AreTimedWalks, chains-among, classes-once, used-allowed, used-exist}
 use Rattle.fp_spans.specs.SpanLeaves.{SpanValuesBoundPlans}
-use Rattle.fp_spans.specs.SpanPrices.{leaf_span_price, shares_of, spans_of}
+use Rattle.fp_spans.specs.SpanPrices.{leaf_span_price}
 use Rattle.fp_spans.proofs.ClassSums.{bases-and-span_prices}
 use Rattle.fp_spans.proofs.SpanPays.{ArePlanWalks}
 
@@ -60,10 +60,10 @@ walks-allowed p points allowed i (s ∷ shipments) (walk ∷ walks) timed = (tim
 
 -- the value of a leaf is at most the scaled cost of each of its plans
 pub span_leaf-bounds : SpanValuesBoundPlans
-span_leaf-bounds p windows points sides tables kind forced value valid keep rules leaf d plan of_leaf =
+span_leaf-bounds p windows points sides tables spans kind forced value valid keep rules leaf d plan of_leaf =
     let walks : List (List Leg) = map (map (class_of p points d)) plan in
     let allowed : ℕ → Leg → Bool = is_allowed p windows points sides in
-    let price : ℕ → ℕ → Leg → ℕ = λ k size. leaf_span_price p (shares_of tables) (spans_of tables kind) allowed kind leaf.chains k size in
+    let price : ℕ → ℕ → Leg → ℕ = λ k size. leaf_span_price p tables spans allowed kind leaf.chains k size in
     let timed : AreTimedWalks p points allowed 0 p.shipments walks = plan_timed p windows points sides d plan of_leaf.denominator of_leaf.plan of_leaf.within of_leaf.obeys in
     let long : length walks ≡ length p.shipments = length-map plan (map (class_of p points d)) ∙ AllZip-long (Carries p d) p.shipments plan of_leaf.plan in
     let are : AreWalks p allowed (size_at p) leaf.chains walks = record {
@@ -83,7 +83,7 @@ span_leaf-bounds p windows points sides tables kind forced value valid keep rule
     } in
     let bases : p.scale * departures_cost p leaf.chains (all_legs leaf.chains) + paid (λ c k. price k (size_at p k) c) 0 walks
     ≤ p.scale * departures_cost p walks (all_legs walks) + sum_by (λ (n : ℕ). n) leaf.charges =
-    bases-and-span_prices p (shares_of tables) (spans_of tables kind) allowed kind leaf.chains walks leaf.charges keep rules are plan_walks leaf.are_charges in
+    bases-and-span_prices p tables spans allowed kind leaf.chains walks leaf.charges keep rules are plan_walks leaf.are_charges in
     let least : sum_by (λ (n : ℕ). n) leaf.costs ≤ paid (λ c k. price k (size_at p k) c) 0 walks + p.scale * flow_total p p.shipments walks =
     costs-le p points allowed price (size_at p) 0 p.shipments leaf.costs walks (all-sizes p) leaf.are_least timed in
     let joined : p.scale * cost p walks ≤ p.scale * cost p plan = mul-le-mul_left p.scale (cost-classes p points d plan) in

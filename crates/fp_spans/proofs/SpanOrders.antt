@@ -3,7 +3,7 @@ use Rattle.std.proofs.Common.{◌≡◌, ◌<◌, ⊎_elim, inl, inr, ◌∙◌,
 use Rattle.fp_lists.specs.Order.{Precedes}
 use Rattle.fp_lists.proofs.Order.{Precedes-trans}
 use Rattle.fp_spans.specs.Spans.{ClassSpan}
-use Rattle.fp_spans.specs.SpanTables.{StandsBefore}
+use Rattle.fp_spans.specs.SpanLists.{StandsBefore}
 
 -- it goes from span to span
 pub StandsBefore-trans : (s t u : ClassSpan) → StandsBefore s t → StandsBefore t u → StandsBefore s u

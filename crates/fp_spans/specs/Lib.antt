@@ -2,5 +2,7 @@ pub mod Spans
 pub mod SpanPrices
 pub mod SpanRules
 pub mod SpanLeaves
-pub mod SpanTables
+pub mod SpanLists
 pub mod SpanCharges
+pub mod ClassRanges
+pub mod SpanCosts

@@ -5,9 +5,9 @@ use Rattle.fp_knapsack.specs.Charges.{Pays}
 use Rattle.fp_model.specs.Numbered.{shipment_at}
 use Rattle.fp_model.specs.Problem.{Problem, IsValid, arc_at}
 use Rattle.fp_prices.specs.declared.tables.Weight.{Weight}
-use Rattle.fp_spans.specs.Spans.{ClassSpan, PriceTable}
+use Rattle.fp_spans.specs.Spans.{ClassSpan}
 use Rattle.fp_spans.specs.SpanRules.{KeepSpanRules}
-use Rattle.fp_spans.specs.SpanTables.{IsSpanTable, span_at}
+use Rattle.fp_spans.specs.SpanLists.{IsSpanList, IsSpanOf, span_at}
 
 -- a weight as an item: it has the size of its shipment
 abbrev pub item_of : Problem → Weight → Item
@@ -21,17 +21,12 @@ items_of p weights = map (item_of p) weights
 abbrev pub ChargePays : Problem → ClassSpan → Type 0
 ChargePays p span = Pays (items_of p span.weights) (arc_at p span.arc).capacity span.money span.charge
 
--- a span is of an arc, and its weights are of shipments, that exist
-pub record IsSpanOf (p : Problem) (span : ClassSpan) : Type 0 where
-  pub arc : span.arc < length p.arcs
-  pub shipments : All (λ (w : Weight). w.shipment < length p.shipments) span.weights
-
 -- the span with the number is the first whose charge doesn't pay
 pub record IsFirstUnpaid (p : Problem) (spans : List ClassSpan) (n : ℕ) : Type 0 where
   pub exists : n < length spans
   pub unpaid : ChargePays p (span_at spans n) → ⊥
   pub before : All (ChargePays p) (take n spans)
 
--- the spans of a table in order keep both rules, where they keep the money rule and their charges pay
-abbrev pub SoundTablesKeepRules : Type 0
-SoundTablesKeepRules = (p : Problem) (table : PriceTable) → IsValid p → All (IsSpanOf p) table.spans → IsSpanTable p table → All (ChargePays p) table.spans → KeepSpanRules p table.spans
+-- spans in order keep both rules, where they keep the money rule and their charges pay
+abbrev pub SoundSpansKeepRules : Type 0
+SoundSpansKeepRules = (p : Problem) (spans : List ClassSpan) → IsValid p → All (IsSpanOf p) spans → IsSpanList p spans → All (ChargePays p) spans → KeepSpanRules p spans

@@ -1,14 +1,13 @@
 -- For which classes a span holds, and what shipments pay by spans, in parts of a unit of money, of which the scale makes one.
-use Rattle.std.specs.Prelude.{ℕ, ◌-◌, List, [], Bool, ◌&&◌, nat_eq, nat_le, nat_lt, map, sum_by, slice_index_or, if◌then◌else◌}
+use Rattle.std.specs.Prelude.{ℕ, List, Bool, ◌&&◌, nat_eq, nat_le, nat_lt, sum_by, if◌then◌else◌}
 use Rattle.std.specs.List.{list_any}
 use Rattle.fp_model.specs.declared.parts.Leg.{Leg}
 use Rattle.fp_model.specs.Costs.{all_legs, has_leg}
 use Rattle.fp_model.specs.Problem.{Problem}
 use Rattle.fp_prices.specs.declared.leaf_prices.Kind.{Kind}
-use Rattle.fp_prices.specs.declared.leaf_prices.Kind.TheVariants.{Linear, Even, Table}
 use Rattle.fp_prices.specs.Prices.{truck_price, weight_in}
 use Rattle.fp_prices.specs.Shares.{ClassShare}
-use Rattle.fp_spans.specs.Spans.{ClassSpan, PriceTable}
+use Rattle.fp_spans.specs.Spans.{ClassSpan}
 
 -- whether a span holds for a class: the class is of the span's arc, and its point lies from `point` up to and without `until`
 abbrev pub holds : ClassSpan → Leg → Bool
@@ -26,22 +25,8 @@ money_at spans c = sum_by (λ (span : ClassSpan). if holds span c then span.mone
 abbrev pub span_price : List ClassSpan → (k : ℕ) → Leg → ℕ
 span_price spans k c = sum_by (λ (span : ClassSpan). if holds span c then weight_in span.weights k else 0) spans
 
--- the shares of tables, without their spans
-abbrev pub shares_of : List PriceTable → List (List ClassShare)
-shares_of tables = map (λ (table : PriceTable). table.shares) tables
-
--- stands for the table of a number that no table has
-abbrev pub no_table : PriceTable
-no_table = record { shares = []; spans = [] }
-
--- the spans of the table that a kind names, and none where it names none
-abbrev pub spans_of : List PriceTable → Kind → List ClassSpan
-spans_of tables Linear = []
-spans_of tables Even = []
-spans_of tables (Table id) = (slice_index_or tables (id - 1) no_table).spans
-
 -- the price of a class for the shipment with the number k and a size: nothing for a class of the forced chains, what it pays by the
 -- spans alone where some span holds for the class, and otherwise the truck price
-abbrev pub leaf_span_price : Problem → (shares : List (List ClassShare)) → List ClassSpan → (ℕ → Leg → Bool) → Kind → (chains : List (List Leg)) → (k size : ℕ) → Leg → ℕ
-leaf_span_price p shares spans allowed kind chains k size c =
-    if has_leg c (all_legs chains) then 0 else (if is_held spans c then span_price spans k c else truck_price p shares allowed kind c k size)
+abbrev pub leaf_span_price : Problem → List (List ClassShare) → List ClassSpan → (ℕ → Leg → Bool) → Kind → (chains : List (List Leg)) → (k size : ℕ) → Leg → ℕ
+leaf_span_price p tables spans allowed kind chains k size c =
+    if has_leg c (all_legs chains) then 0 else (if is_held spans c then span_price spans k c else truck_price p tables allowed kind c k size)

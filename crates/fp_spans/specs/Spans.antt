@@ -1,7 +1,6 @@
--- Spans of prices, and tables with spans, as contracts see them. Prices by spans are this project's own.
+-- Spans of prices, as contracts see them. Prices by spans are this project's own.
 use Rattle.std.specs.Prelude.{ℕ, List}
 use Rattle.fp_prices.specs.declared.tables.Weight.{Weight}
-use Rattle.fp_prices.specs.Shares.{ClassShare}
 
 -- a run of the classes of an arc, from a point up to and without another, with a part of the truck's money, what is charged once, and
 -- a weight for each of some shipments
@@ -12,8 +11,3 @@ pub record ClassSpan : Type 0 where
   pub money : ℕ
   pub charge : ℕ
   pub weights : List Weight
-
--- a table of prices: shares of single classes, and spans
-pub record PriceTable : Type 0 where
-  pub shares : List ClassShare
-  pub spans : List ClassSpan

@@ -1,7 +1,8 @@
 //! Tests whether the charges of spans pay for their weights.
 ghost use Rattle.std.specs.Prelude.{◌≡◌, ◌-◌, ◌<◌, ◌^◌, ◌↔◌, All, IfOk, IsTrue, MatchOption, OnOk, length};
 ghost use Rattle.fp_prices.specs.declared.tables.Weight.{Weight};
-ghost use Rattle.fp_spans.specs.SpanCharges.{ChargePays, IsFirstUnpaid, IsSpanOf, items_of};
+ghost use Rattle.fp_spans.specs.SpanCharges.{ChargePays, IsFirstUnpaid, items_of};
+ghost use Rattle.fp_spans.specs.SpanLists.{IsSpanOf};
 
 use crate::NoMemory;
 use crate::spans::Span;

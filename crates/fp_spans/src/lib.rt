@@ -9,20 +9,29 @@
 #![tactic(auto)]
 
 mod charge_rule;
+mod class_ranges;
 mod laws;
+mod leaf_bases;
+mod leaf_charges;
 mod money_rule;
+mod span_bounds;
+mod span_costs;
 mod span_faults;
 mod span_order;
+mod span_prices;
+mod spanned_rows;
 mod spans;
+mod weight_rule;
 
 pub use charge_rule::check_charges;
 pub use laws::{
-    sound_tables_keep_rules, span_leaves_have_one_value, span_values_bound_plans,
+    sound_spans_keep_rules, span_leaves_have_one_value, span_values_bound_plans,
     values_without_spans,
 };
 pub use money_rule::check_spans;
+pub use span_bounds::span_bound;
 pub use span_faults::SpanFault;
-pub use spans::{Span, SpanTable};
+pub use spans::{MOST_SPAN_WEIGHT, Span};
 
 /// The error of a call that finds no memory.
 pub type NoMemory = std::alloc::AllocError;

@@ -1,15 +1,16 @@
-//! Tests tables with spans: their order, and the money rule.
+//! Tests spans: their order, their weights, and the money rule.
 ghost use Rattle.std.specs.Prelude.{◌≡◌, ◌-◌, ◌<◌, ◌≤◌, ◌^◌, ◌↔◌, All, IfErr, IfNone, IfSome, IsTrue, OnOk, length};
 ghost use Rattle.std.specs.List.Sorted.{IsNonDecreasingBy};
 ghost use Rattle.fp_model.specs.declared.parts.Leg.{Leg};
 ghost use Rattle.fp_spans.specs.Spans.{ClassSpan};
 ghost use Rattle.fp_spans.specs.SpanPrices.{holds, money_at};
 ghost use Rattle.fp_spans.specs.SpanRules.{KeepsMoneyRule};
-ghost use Rattle.fp_spans.specs.SpanTables.{AreCountableSpans, IsFirstOver, IsSpanFault, IsSpanTable};
+ghost use Rattle.fp_spans.specs.SpanLists.{AreCountableSpans, IsFirstOver, IsSpanFault, IsSpanList};
 
 use crate::span_faults::SpanFault;
-use crate::span_order::is_ordered;
-use crate::spans::{Span, SpanTable};
+use crate::span_order::are_in_order;
+use crate::spans::Span;
+use crate::weight_rule::are_light;
 use fp_model::{Instance, Leg};
 
 // Whether a span holds for a class.
@@ -84,25 +85,30 @@ fn first_over(instance: &Instance, spans: &[Span]) -> Option<u32>
     None
 }
 
-/// Whether a table with spans is in order, and its spans keep the money rule: at the point of each
-/// span, the spans of its arc that hold there have together at most the scale times the cost of the
-/// arc's truck. Then they have no more at any class of the arc.
+/// Whether spans are in order and light, and keep the money rule: at the point of each span, the
+/// spans of its arc that hold there have together at most the scale times the cost of the arc's
+/// truck. Then they have no more at any class of the arc.
 ///
-/// In order: the shares ascend strictly by arc and point, the spans strictly by arc, point and
-/// until, and the weights of each strictly by shipment. The spans are of arcs that exist, and fewer
-/// than 2^32 - 1. `Err` exactly where the table isn't so, with the first rule that fails: the order
-/// comes before the money, and of the spans the first one is told that breaks the money rule. Money
-/// may be any numbers: no sum of it is made. Takes no memory, and time that grows with the shares
-/// and the weights, and for each arc with the square of the number of its spans.
-pub fn check_spans(instance: &Instance, table: &SpanTable) -> Result<(), SpanFault>
-    requires { AreCountableSpans instance.now table.now.spans }
-    ensures ok { OnOk result (IsSpanTable instance.now table.now) }
-    ensures err { IfErr result (IsSpanFault instance.now table.now) }
+/// In order: the spans ascend strictly by arc, point and until, and the weights of each strictly by
+/// shipment. Light: the weights of all spans come together to less than
+/// [`MOST_SPAN_WEIGHT`](crate::MOST_SPAN_WEIGHT). The spans are of arcs that exist, and fewer than
+/// 2^32 - 1. `Err` exactly where they aren't so, with the first rule that fails: the order comes
+/// before the weights, these before the money, and of the spans the first one is told that breaks
+/// the money rule. Weights and money may be any numbers: no sum of them is made. Takes no memory,
+/// and time that grows with the weights, and for each arc with the square of the number of its
+/// spans.
+pub fn check_spans(instance: &Instance, spans: &[Span]) -> Result<(), SpanFault>
+    requires { AreCountableSpans instance.now spans.now }
+    ensures ok { OnOk result (IsSpanList instance.now spans.now) }
+    ensures err { IfErr result (IsSpanFault instance.now spans.now) }
 {
-    if !is_ordered(table) {
+    if !are_in_order(spans) {
         return Err(SpanFault::Order);
     }
-    match first_over(instance, table.spans.as_slice()) {
+    if !are_light(spans) {
+        return Err(SpanFault::Weights);
+    }
+    match first_over(instance, spans) {
         Some(number) => Err(SpanFault::Money(number)),
         None => Ok(()),
     }

@@ -1,6 +1,11 @@
-//! Spans of prices, and tables with spans beside shares.
-use fp_prices::{Share, Weight};
+//! Spans of prices.
+use fp_prices::Weight;
 use std::marker::Model;
+
+/// The weights of all spans of a list come together to less than this, in parts of a unit of money,
+/// so that no sum of prices passes 128 bits: a search adds up at most a weight for each of 65,000
+/// points, and a leaf what 500 shipments pay.
+pub const MOST_SPAN_WEIGHT: u128 = 1 << 100;
 
 /// How the trucks of a run of classes of one arc are paid: those whose points lie from `point` up
 /// to, and without, `until`.
@@ -27,21 +32,4 @@ impl Model for Span {
     ghost Value = { ClassSpan };
 
     ghost view = { λ s. record { arc = s.arc; point = s.point; until = s.until; money = s.money; charge = s.charge; weights = s.weights.items } };
-}
-
-/// Prices of classes: shares of single classes, and spans. A class for which some span holds is
-/// priced by the spans alone. Contracts see a table as its two lists (`PriceTable`). Tables are
-/// numbered from 1 by their places in a list of tables.
-#[derive(Drop)]
-pub struct SpanTable {
-    pub shares: Vec<Share>,
-    pub spans: Vec<Span>,
-}
-
-impl Model for SpanTable {
-    ghost use Rattle.fp_spans.specs.Spans.{PriceTable};
-
-    ghost Value = { PriceTable };
-
-    ghost view = { λ t. record { shares = t.shares.items; spans = t.spans.items } };
 }

@@ -4,7 +4,7 @@ use Rattle.std.proofs.lemmas.List.{take_all}
 use Rattle.std.proofs.lemmas.List.Sorted.{IsNonDecreasingBy-drop, IsNonDecreasingBy-take, IsPartitionPoint-from_clause, IsPartitionedBy-ltb}
 use Rattle.fp_spans.specs.Spans.{ClassSpan}
 use Rattle.fp_spans.specs.SpanPrices.{money_at}
-use Rattle.fp_spans.specs.SpanTables.{no_span}
+use Rattle.fp_spans.specs.SpanLists.{no_span}
 use Rattle.fp_spans.proofs.ArcRuns.{money-after}
 use Rattle.fp_spans.proofs.money_rule.from_arc.Goals as goal
 

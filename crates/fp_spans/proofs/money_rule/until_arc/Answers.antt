@@ -2,7 +2,7 @@ use Rattle.std.proofs.Common.{ℕ, List, leb, arith, rules}
 use Rattle.std.proofs.lemmas.Bool.{leb-false}
 use Rattle.std.proofs.lemmas.List.Sorted.{IsPartitionPoint-from_clause, IsPartitionedBy-leb}
 use Rattle.fp_spans.specs.Spans.{ClassSpan}
-use Rattle.fp_spans.specs.SpanTables.{no_span}
+use Rattle.fp_spans.specs.SpanLists.{no_span}
 use Rattle.fp_spans.proofs.ArcRuns.{money-until}
 use Rattle.fp_spans.proofs.money_rule.until_arc.Goals as goal
 

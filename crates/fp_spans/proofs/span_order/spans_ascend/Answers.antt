@@ -1,6 +1,6 @@
 use Rattle.std.proofs.Common.{refl, arith}
 use Rattle.fp_lists.proofs.Pairs.{AllPairs-from_adjacent}
-use Rattle.fp_spans.specs.SpanTables.{StandsBefore}
+use Rattle.fp_spans.specs.SpanLists.{StandsBefore}
 use Rattle.fp_spans.proofs.SpanOrders.{StandsBefore-trans}
 use Rattle.fp_spans.proofs.span_order.spans_ascend.Goals as goal
 

@@ -1,5 +1,5 @@
 use Rattle.std.specs.List.{AllAdjacentBelow}
-use Rattle.fp_spans.specs.SpanTables.{StandsBefore}
+use Rattle.fp_spans.specs.SpanLists.{StandsBefore}
 use Rattle.fp_spans.proofs.span_order.spans_ascend.Given as goal
 
 -- the spans before this place are in order

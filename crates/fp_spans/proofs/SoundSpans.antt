@@ -1,4 +1,4 @@
--- A table in order whose spans keep the money rule, and whose charges pay, keeps both rules of spans.
+-- Spans in order that keep the money rule, and whose charges pay, keep both rules of spans.
 use Rattle.std.proofs.Common.{◌≡◌, ℕ, ◌+◌, ◌*◌, ◌<◌, ◌≤◌, Bool, true, List, length, sym, ap, ◌∙◌, subst, arith}
 use Rattle.std.specs.Prelude.{All, if◌then◌else◌}
 use Rattle.std.proofs.lemmas.List.{get_or-map, length-map}
@@ -13,7 +13,8 @@ use Rattle.fp_model.specs.Numbered.{no_shipment, shipment_at}
 use Rattle.fp_model.specs.Problem.{Problem, IsArc, IsShipment, IsValid, arc_at, no_arc}
 use Rattle.fp_prices.specs.declared.tables.Weight.{Weight}
 use Rattle.fp_spans.specs.Spans.{ClassSpan}
-use Rattle.fp_spans.specs.SpanCharges.{ChargePays, IsSpanOf, SoundTablesKeepRules, item_of, items_of}
+use Rattle.fp_spans.specs.SpanCharges.{ChargePays, SoundSpansKeepRules, item_of, items_of}
+use Rattle.fp_spans.specs.SpanLists.{IsSpanOf}
 use Rattle.fp_spans.specs.SpanRules.{KeepsSetRule, WeightsAscend}
 use Rattle.fp_spans.proofs.PlaceSets.{KeepsPlaceRule, no_weight, set_rule-by_places, weight_at}
 
@@ -59,8 +60,8 @@ charge-keeps p span valid of ascend pays = set_rule-by_places p span ascend by_p
         ap (λ (n : ℕ). div_ceil n capacity) (items-at_places p span.weights chosen (λ item. item.size)) in
         omega (arith, fits, items-at_places p span.weights chosen (λ item. item.weight), ap (λ (n : ℕ). span.money * n) sizes)
 
-pub sound_tables-keep_rules : SoundTablesKeepRules
-sound_tables-keep_rules p table valid of sound pay = record {
+pub sound_spans-keep_rules : SoundSpansKeepRules
+sound_spans-keep_rules p spans valid of sound pay = record {
   money = sound.money;
-  sets = recursion_from_All (KeepsSetRule p) table.spans (λ k d lt. charge-keeps p _ valid (of k d lt) (sound.ordered.weights k d lt) (pay k d lt));
+  sets = recursion_from_All (KeepsSetRule p) spans (λ k d lt. charge-keeps p _ valid (of k d lt) (sound.ordered.weights k d lt) (pay k d lt));
 }
