@@ -1,0 +1,110 @@
+//! The ascent over the prices of spans at a leaf.
+ghost use Rattle.std.specs.Prelude.{◌≡◌, IfOk};
+ghost use Rattle.fp_prices.specs.Tables.{AreTables, HasKind};
+
+use crate::NoMemory;
+use crate::efforts::SpanEffort;
+use crate::exact_ascent::settle;
+use crate::keeping::kept_spans;
+use crate::layouts::Layout;
+use crate::prices::SpanPrices;
+use crate::proposals::proposed_spans;
+use crate::starts::Start;
+use crate::subgradients::ascend;
+use fp_leafnets::{LeafNets, MoneyUnit};
+use fp_prices::{Kind, Leaf, Table};
+use fp_spans::Span;
+use std::alloc::Global;
+use std::marker::Model;
+
+/// The ascent over the prices of spans at a leaf: the nets of its shipments and what they cost, made
+/// once. Contracts see the leaf.
+///
+/// Nothing is promised of what it proposes. On a leaf where some shipment has no allowed timed walk
+/// it proposes nothing of use.
+#[derive(Drop)]
+pub struct SpanAscent<'a> {
+    leaf: &'a Leaf<'a>,
+    model: LeafNets,
+}
+
+impl<'a> Model for SpanAscent<'a> {
+    ghost use Rattle.fp_prices.specs.Rounds.{LeafModel};
+
+    ghost Value = { LeafModel };
+
+    ghost view = { λ a. a.leaf.now };
+}
+
+// The loads, or none.
+fn loads_where(holds: bool, loads: &[u128]) -> &[u128] {
+    if holds { loads } else { &[] }
+}
+
+// Spans over the nets of a leaf, from prices by single classes.
+fn best_spans(
+    alloc: Global,
+    model: &mut LeafNets,
+    layout: &Layout,
+    prices: &mut SpanPrices,
+    effort: &SpanEffort,
+) -> Result<Vec<Span>, NoMemory> {
+    if effort.turns > 0 {
+        ascend(alloc, layout, &mut model.nets, prices, effort)?;
+    }
+    if effort.settle_passes > 0 {
+        settle(alloc, layout, &mut model.nets, prices, effort.settle_passes)?;
+    }
+    let unit: MoneyUnit = model.unit;
+    let kept = kept_spans(
+        alloc,
+        layout,
+        &mut model.nets,
+        prices,
+        &model.classes,
+        &model.arcs,
+    )?;
+    proposed_spans(alloc, layout, prices, &kept, &model.arcs, unit)
+}
+
+impl<'a> SpanAscent<'a> {
+    /// The ascent at a leaf. `NoMemory` only where no memory is found. Takes time and memory that
+    /// grow with the allowed classes of all shipments, and with the points for each shipment.
+    pub fn of(alloc: Global, leaf: &'a Leaf<'a>) -> Result<SpanAscent<'a>, NoMemory>
+        ensures { IfOk result (λ ascent. ascent ≡ leaf.now) }
+    {
+        let model = LeafNets::of(alloc, leaf)?;
+        Ok(SpanAscent { leaf, model })
+    }
+
+    /// Spans for the mode plain, in order, each with the least charge that pays; none where nothing
+    /// better than prices by size alone is found. The search starts from the prices of a kind, which
+    /// may name one of the tables, in the mode `forced`. `NoMemory` only where no memory is found.
+    ///
+    /// One search over each net for each turn of the effort, and one over the sets of each span
+    /// whose prices move. Takes memory that grows with the edges of the nets.
+    pub fn spans(
+        &mut self,
+        alloc: Global,
+        tables: &[Table],
+        kind: Kind,
+        forced: bool,
+        effort: &SpanEffort,
+    ) -> Result<Vec<Span>, NoMemory>
+        requires tables { AreTables self.old.setting.problem tables.now }
+        requires kind { HasKind tables.now kind }
+        ensures { self.new ≡ self.old }
+    {
+        let model = &mut self.model;
+        let layout = Layout::of(alloc, &mut model.nets, &model.classes, &model.arcs)?;
+        let mut prices = SpanPrices::of(alloc, &layout)?;
+        let pricing = self.leaf.pricing(alloc, tables, kind, forced)?;
+        let start = Start {
+            pricing: &pricing,
+            freed: loads_where(forced, &model.loads),
+            unit: model.unit,
+        };
+        start.put_all(&layout.payers, &model.nets, &mut prices);
+        best_spans(alloc, model, &layout, &mut prices, effort)
+    }
+}

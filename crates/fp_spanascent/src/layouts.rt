@@ -1,0 +1,197 @@
+//! The spans over the classes of a leaf, and who pays by them.
+
+use crate::NoMemory;
+use crate::payers::{Payer, divisor_of, most_of};
+use fp_leafnets::{ArcMoney, Class, EdgeUse, NO_PART, NONE, Net, Nets, arc_of, part_mut};
+use fp_model::limits::LATEST;
+use std::alloc::Global;
+
+/// A run of the classes of an arc, from a point up to and without another.
+#[derive(Clone, Copy, PartialEq, Eq)]
+pub(crate) struct Run {
+    pub arc: u32,
+    pub point: u32,
+    pub until: u32,
+}
+
+/// A span over a run. Its payers stand together, by shipment.
+#[derive(Clone, Copy)]
+pub(crate) struct LaidSpan {
+    pub run: Run,
+    /// What a truck costs.
+    pub truck: u64,
+    pub capacity: u64,
+    /// A common divisor of the capacity and the payers' sizes.
+    pub grain: u64,
+    pub first: usize,
+    pub end: usize,
+}
+
+/// The spans over the classes of a leaf.
+#[derive(Drop)]
+pub(crate) struct Layout {
+    pub spans: Vec<LaidSpan>,
+    pub payers: Vec<Payer>,
+    /// The edges of the payers, among those of all nets.
+    pub edges: Vec<usize>,
+}
+
+/// Those of a span's payers' things that stand by payer.
+pub(crate) fn of_span<'a, T>(all: &'a [T], span: &LaidSpan) -> &'a [T] {
+    all.get(span.first..span.end).unwrap_or(&[])
+}
+
+// How many edges of all nets stand for each class.
+fn count_edges(alloc: Global, nets: &Nets, classes: usize) -> Result<Vec<u32>, NoMemory> {
+    let mut counts = vec![in alloc; 0u32; classes]?;
+    for edge in &nets.uses {
+        if let Some(count) = counts.get_mut(edge.class as usize) {
+            *count = count.wrapping_add(1);
+        }
+    }
+    Ok(counts)
+}
+
+// The run of one class: it ends at the next point of the arc.
+fn single_run(class: u32, classes: &[Class]) -> Run {
+    let here = classes.get(class as usize);
+    let next = classes.get((class as usize).wrapping_add(1));
+    match (here, next) {
+        (Some(here), Some(next)) if here.arc == next.arc => Run {
+            arc: here.arc,
+            point: here.point,
+            until: next.point,
+        },
+        (Some(here), _) => Run {
+            arc: here.arc,
+            point: here.point,
+            until: LATEST + 1,
+        },
+        _ => Run {
+            arc: 0,
+            point: 0,
+            until: 0,
+        },
+    }
+}
+
+impl Layout {
+    /// One span for each class of some net's edges.
+    pub(crate) fn of(
+        alloc: Global,
+        nets: &mut Nets,
+        classes: &[Class],
+        arcs: &[ArcMoney],
+    ) -> Result<Layout, NoMemory> {
+        let counts = count_edges(alloc, nets, classes.len())?;
+        let mut layout = Layout {
+            spans: Vec::new(alloc),
+            payers: Vec::new(alloc),
+            edges: Vec::new(alloc),
+        };
+        let numbers = layout.open_spans(alloc, &counts, classes, arcs)?;
+        layout.place_edges(nets, &numbers);
+        layout.set_grains();
+        Ok(layout)
+    }
+
+    // Opens a span for each class with edges, with room for its payers. For each class its span's
+    // number, or `NONE`.
+    fn open_spans(
+        &mut self,
+        alloc: Global,
+        counts: &[u32],
+        classes: &[Class],
+        arcs: &[ArcMoney],
+    ) -> Result<Vec<u32>, NoMemory> {
+        let mut numbers = Vec::with_capacity(alloc, counts.len())?;
+        let mut class = 0u32;
+        let mut opened = 0u32;
+        for count in counts {
+            match arc_of(class, classes, arcs) {
+                Some(arc) if *count > 0 => {
+                    self.open_span(single_run(class, classes), arc, *count as usize)?;
+                    numbers.push(opened)?;
+                    opened = opened.wrapping_add(1);
+                }
+                _ => numbers.push(NONE)?,
+            }
+            class = class.wrapping_add(1);
+        }
+        Ok(numbers)
+    }
+
+    // Opens a span with so many payers. Its end rises as they are placed.
+    fn open_span(&mut self, run: Run, arc: ArcMoney, payers: usize) -> Result<(), NoMemory> {
+        let first = self.payers.len();
+        let end = first.wrapping_add(payers);
+        self.payers.resize(end, Payer::NOBODY)?;
+        self.edges.resize(end, usize::MAX)?;
+        self.spans.push(LaidSpan {
+            run,
+            truck: arc.truck,
+            capacity: arc.capacity,
+            grain: 1,
+            first,
+            end: first,
+        })?;
+        Ok(())
+    }
+
+    // Gives each edge of a class its place among the payers of its span, by shipment.
+    fn place_edges(&mut self, nets: &mut Nets, numbers: &[u32]) {
+        let mut shipment = 0u32;
+        for net in &nets.list {
+            if let Some(uses) = part_mut(&mut nets.uses, net.first_edge, net.end_edge) {
+                self.place_net(net, shipment, uses, numbers);
+            }
+            shipment = shipment.wrapping_add(1);
+        }
+    }
+
+    // The same for the edges of one net.
+    fn place_net(&mut self, net: &Net, shipment: u32, uses: &mut [EdgeUse], numbers: &[u32]) {
+        let mut number = net.first_edge;
+        for edge in uses.iter_mut() {
+            edge.pool = numbers.get(edge.class as usize).copied().unwrap_or(NONE);
+            edge.part = NO_PART;
+            if let Some(span) = self.spans.get_mut(edge.pool as usize) {
+                edge.part = span.end;
+                span.end = span.end.wrapping_add(1);
+                let payer = Payer {
+                    shipment,
+                    size: net.size,
+                    most: most_of(net.size, span.truck, span.capacity),
+                    first_edge: edge.part,
+                    end_edge: edge.part.wrapping_add(1),
+                };
+                if let (Some(place), Some(at)) = (
+                    self.payers.get_mut(edge.part),
+                    self.edges.get_mut(edge.part),
+                ) {
+                    *place = payer;
+                    *at = number;
+                }
+            }
+            number = number.wrapping_add(1);
+        }
+    }
+
+    // Sets the grains of the spans.
+    fn set_grains(&mut self) {
+        for span in self.spans.iter_mut() {
+            let mut grain = span.capacity;
+            for payer in of_span(&self.payers, span) {
+                grain = divisor_of(grain, payer.size);
+            }
+            span.grain = grain.max(1);
+        }
+    }
+
+    /// The edges of a payer.
+    pub(crate) fn edges_of(&self, payer: &Payer) -> &[usize] {
+        self.edges
+            .get(payer.first_edge..payer.end_edge)
+            .unwrap_or(&[])
+    }
+}

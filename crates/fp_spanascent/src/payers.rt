@@ -1,0 +1,43 @@
+//! Those who pay by a span.
+
+/// A shipment that may use classes of a span.
+#[derive(Clone, Copy)]
+pub(crate) struct Payer {
+    pub shipment: u32,
+    pub size: u64,
+    /// What the trucks cost that hold the shipment alone.
+    pub most: u64,
+    /// The edges of its net that stand for classes of the span, among the edges of all payers.
+    pub first_edge: usize,
+    pub end_edge: usize,
+}
+
+impl Payer {
+    /// A payer's place before it's taken.
+    pub(crate) const NOBODY: Payer = Payer {
+        shipment: 0,
+        size: 0,
+        most: 0,
+        first_edge: 0,
+        end_edge: 0,
+    };
+}
+
+/// What the trucks cost that hold a size alone.
+pub(crate) fn most_of(size: u64, truck: u64, capacity: u64) -> u64 {
+    truck.saturating_mul(size.div_ceil(capacity.max(1)).max(1))
+}
+
+/// The greatest common divisor of two numbers.
+pub(crate) fn divisor_of(first: u64, second: u64) -> u64 {
+    let (mut first, mut second) = (first, second);
+    for _ in 0..128 {
+        if second == 0 {
+            break;
+        }
+        let rest = first % second;
+        first = second;
+        second = rest;
+    }
+    first
+}
