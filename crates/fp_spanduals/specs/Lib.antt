@@ -1,0 +1,2 @@
+pub mod SoundSpans
+pub mod SpanPrices
