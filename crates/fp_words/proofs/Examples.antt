@@ -1,5 +1,5 @@
 -- The forms at words that are written out.
-use Rattle.std.proofs.Common.{◌≡◌, [], ◌∷◌, refl}
+use Rattle.std.proofs.Common.{◌≡◌, true, false, [], ◌∷◌, refl}
 use Rattle.std.specs.Prelude.{Some, None, codes}
 use Rattle.clap.proofs.OnLiterals.{clap_on_literals}
 use Rattle.fp_words.specs.declared.orders.Order.TheVariants.{Direct, Check, Bound, Plan, Trial, Yard, Fleet, Replan, Quote}
@@ -11,8 +11,42 @@ the-direct = refl
 the-check : order_of (codes "check" ∷ []) ≡ Some Check
 the-check = refl
 
-the-bound : order_of (codes "bound" ∷ []) ≡ Some Bound
+the-bound : order_of (codes "bound" ∷ []) ≡ Some (Bound false)
 the-bound = refl
+
+with-spans : order_of (codes "bound" ∷ codes "--spans" ∷ []) ≡ Some (Bound true)
+unfolding clap_on_literals
+with-spans = refl
+
+spans-twice : order_of (codes "bound" ∷ codes "--spans" ∷ codes "--spans" ∷ []) ≡ None
+unfolding clap_on_literals
+spans-twice = refl
+
+-- a flag has no value, not even an empty one
+spans-value : order_of (codes "bound" ∷ codes "--spans=1" ∷ []) ≡ None
+unfolding clap_on_literals
+spans-value = refl
+
+spans-empty : order_of (codes "bound" ∷ codes "--spans=" ∷ []) ≡ None
+unfolding clap_on_literals
+spans-empty = refl
+
+spans-word : order_of (codes "bound" ∷ codes "--spans" ∷ codes "x" ∷ []) ≡ None
+unfolding clap_on_literals
+spans-word = refl
+
+word-for-spans : order_of (codes "bound" ∷ codes "spans" ∷ []) ≡ None
+unfolding clap_on_literals
+word-for-spans = refl
+
+other-flag : order_of (codes "bound" ∷ codes "--span" ∷ []) ≡ None
+unfolding clap_on_literals
+other-flag = refl
+
+-- the flag is `bound`'s alone
+spans-of-plan : order_of (codes "plan" ∷ codes "--spans" ∷ []) ≡ None
+unfolding clap_on_literals
+spans-of-plan = refl
 
 no-word : order_of [] ≡ None
 no-word = refl

@@ -1,11 +1,13 @@
--- The rows of what words gave.
+-- The rows of what words gave, before any default.
 use Rattle.std.proofs.Common.{◌≡◌, ℕ, Bool, false, List, [], ◌∷◌, ◌++◌, map, refl, ap, inl, inr}
 use Rattle.std.specs.Prelude.{Some, None, ◌||◌}
 use Rattle.std.specs.Str.{bytes_eq}
 use Rattle.std.proofs.lemmas.Bool.{cases_Bool, or_parts}
 use Rattle.clap.specs.Walk.{Row, first_of, has_row, reading_by, with_values, without}
 use Rattle.clap.specs.Simple.{new_rule}
+use Rattle.clap.specs.Takes.{is_given as is_used}
 use Rattle.clap.specs.declared.parser.matches.ValueSource.TheVariants.{CommandLine}
+use Rattle.fp_words.specs.Commands.{was_given}
 use Rattle.fp_words.specs.Options.{Given, is_given, value_given}
 
 -- the row of what was given
@@ -31,6 +33,24 @@ with_values-new [] name value e = refl
 with_values-new (g ∷ given) name value e =
     let parts = or_parts (bytes_eq g.0 name) (is_given given name) e in
     rw parts.0 (ap (λ (rs : List Row). row g ∷ rs) (with_values-new given name value parts.1))
+
+-- what was given counts as used
+pub is_used-rows : (given : List Given) (name : List ℕ) → is_used name (rows given) ≡ is_given given name
+is_used-rows [] name = refl
+is_used-rows (g ∷ given) name =
+    elim (cases_Bool (bytes_eq g.0 name)) [
+      | inl t ↦ rw t refl
+      | inr f ↦ rw f (is_used-rows given name)
+    ]
+
+-- and as given by the words
+pub was_given-rows : (given : List Given) (name : List ℕ) → was_given name (rows given) ≡ is_given given name
+was_given-rows [] name = refl
+was_given-rows (g ∷ given) name =
+    elim (cases_Bool (bytes_eq g.0 name)) [
+      | inl t ↦ rw t refl
+      | inr f ↦ rw f (was_given-rows given name)
+    ]
 
 -- the value of what was given is that in its row
 pub first_of-rows : (given : List Given) (name : List ℕ) → first_of name (rows given) ≡ value_given given name

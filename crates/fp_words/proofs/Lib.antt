@@ -7,6 +7,7 @@ pub mod Walks
 pub mod Parses
 pub mod EnteredRows
 pub mod OptionRules
+pub mod FlagDefaults
 pub mod OptionWords
 pub mod OptionForms
 pub mod PlaceRules

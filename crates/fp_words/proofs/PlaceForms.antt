@@ -1,24 +1,25 @@
 -- A form with places is read by a subcommand that has them.
 use Rattle.std.proofs.Common.{◌≡◌, ◌∙◌, ℕ, Bool, true, false, List, [], ◌∷◌, ◌++◌, length, refl, sym, ap, inl, inr, append_assoc}
-use Rattle.std.specs.Prelude.{Option, Some, None, ◌==◌, ◌&&◌}
+use Rattle.std.specs.Prelude.{Option, Some, None, ◌==◌, ◌&&◌, fold}
 use Rattle.std.specs.List.{list_any, list_all, zip}
 use Rattle.std.proofs.lemmas.Bool.{cases_Bool}
 use Rattle.std.proofs.lemmas.Bool.Decides.{Decides-eqb}
 use Rattle.std.proofs.lemmas.List.{append-nil}
 use Rattle.std.proofs.Math.Bool.{and-false}
 use Rattle.std.proofs.Math.Dec.{eqb-suc-suc, eqb-suc-zero, eqb-zero-suc}
-use Rattle.clap.specs.Walk.{idle}
+use Rattle.clap.specs.Walk.{Row, idle, rows_after, with_default}
 use Rattle.clap.specs.Simple.{rows_at}
 use Rattle.fp_fields.specs.Fields.{is_number}
 use Rattle.fp_words.specs.declared.orders.Order.{Order}
 use Rattle.fp_words.specs.Commands.{entered_order, is_dashes}
-use Rattle.fp_words.specs.Options.{Given, is_flag}
+use Rattle.fp_words.specs.Options.{Given, is_option_word}
 use Rattle.fp_words.specs.Places.{are_numbers, by_places}
 use Rattle.fp_words.specs.Settings.{Setting, is_number_between, names_of}
 use Rattle.fp_words.proofs.FirstWords.{rest_faults}
 use Rattle.fp_words.proofs.GivenRows.{rows}
+use Rattle.fp_words.proofs.NoDefaults.{fold-with_default}
 use Rattle.fp_words.proofs.Parses.{Reads}
-use Rattle.fp_words.proofs.PlaceRules.{places}
+use Rattle.fp_words.proofs.PlaceRules.{places, places-no_defaults}
 use Rattle.fp_words.proofs.PlaceWords.{Stands, placed_from, places-read, shape}
 use Rattle.fp_words.proofs.Walks.{Agrees, state_at}
 
@@ -27,17 +28,17 @@ and-swap true b c = refl
 and-swap false true c = refl
 and-swap false false c = refl
 
--- a flag is no number
-is_number-flag : (word : List ℕ) → is_flag word ≡ true → is_number word ≡ false
-is_number-flag [] flag = refl
-is_number-flag (x ∷ xs) flag =
+-- an option is no number
+is_number-option_word : (word : List ℕ) → is_option_word word ≡ true → is_number word ≡ false
+is_number-option_word [] dashed = refl
+is_number-option_word (x ∷ xs) dashed =
     elim (cases_Bool (x == 45)) [
       | inl t ↦ let hyphen : x ≡ 45 = (Decides-eqb x 45).0 t in rw (hyphen, eqb-suc-zero (length xs)) refl
-      | inr f ↦ let g = rw f at flag in cc g
+      | inr f ↦ let g = rw f at dashed in cc g
     ]
 
-is_number_between-flag : (least most : ℕ) (word : List ℕ) → is_flag word ≡ true → is_number_between least most word ≡ false
-is_number_between-flag least most word flag = rw (is_number-flag word flag) refl
+is_number_between-option_word : (least most : ℕ) (word : List ℕ) → is_option_word word ≡ true → is_number_between least most word ≡ false
+is_number_between-option_word least most word dashed = rw (is_number-option_word word dashed) refl
 
 are_numbers-cons : (s : Setting) (settings : List Setting) (word : List ℕ) (words : List (List ℕ)) → are_numbers (s ∷ settings) (word ∷ words) ≡ (is_number_between s.least s.most word && are_numbers settings words)
 are_numbers-cons s settings word words =
@@ -49,8 +50,8 @@ placed-some given more [] [] is = (refl, rw (append-nil given) (cc is))
 placed-some given more [] (word ∷ words) is = cc is
 placed-some given more (name ∷ names) [] is = cc is
 placed-some given more (name ∷ names) (word ∷ words) is =
-    elim (cases_Bool (is_flag word)) [
-      | inl flag ↦ let g = rw flag at is in cc g
+    elim (cases_Bool (is_option_word word)) [
+      | inl dashed ↦ let g = rw dashed at is in cc g
       | inr plain ↦
           let rest = placed-some (given ++ (name, word) ∷ []) more names words (rw plain at is) in
           (rw rest.0 refl, rest.1 ∙ append_assoc given ((name, word) ∷ []) (zip names words))
@@ -63,8 +64,8 @@ placed-none given [] (word ∷ words) is = rw (eqb-suc-zero (length words)) refl
 placed-none given (s ∷ settings) [] is = rw (eqb-zero-suc (length settings)) refl
 placed-none given (s ∷ settings) (word ∷ words) is =
     are_numbers-cons s settings word words
-    ∙ elim (cases_Bool (is_flag word)) as (λ _. (is_number_between s.least s.most word && are_numbers settings words) ≡ false) [
-      | inl flag ↦ rw (is_number_between-flag s.least s.most word flag) refl
+    ∙ elim (cases_Bool (is_option_word word)) as (λ _. (is_number_between s.least s.most word && are_numbers settings words) ≡ false) [
+      | inl dashed ↦ rw (is_number_between-option_word s.least s.most word dashed) refl
       | inr plain ↦ rw (placed-none (given ++ (s.name, word) ∷ []) settings words (rw plain at is)) (and-false (is_number_between s.least s.most word))
     ]
 
@@ -74,7 +75,7 @@ are_numbers-dashes [] (word ∷ words) e = rw (eqb-suc-zero (length words)) refl
 are_numbers-dashes (s ∷ settings) (word ∷ words) e =
     are_numbers-cons s settings word words
     ∙ elim (cases_Bool (is_dashes word)) as (λ _. (is_number_between s.least s.most word && are_numbers settings words) ≡ false) [
-      | inl t ↦ rw (is_number_between-flag s.least s.most word (rw t refl)) refl
+      | inl t ↦ rw (is_number_between-option_word s.least s.most word (rw t refl)) refl
       | inr f ↦ rw (are_numbers-dashes settings words (rw f at e)) (and-false (is_number_between s.least s.most word))
     ]
 
@@ -85,7 +86,9 @@ module _ (command : List ℕ) (settings : List Setting) (order : (ℕ → ℕ) �
   passed-by None words is agrees none = absurd (agrees none)
   passed-by (Some given) words is agrees none =
       let filled = placed-some [] given (names_of settings) words is in
-      sym (gives words filled.0) ∙ sym (ap (λ (g : List Given). entered_order (command, rows g)) filled.1) ∙ sym (ap (λ r. entered_order (command, r)) agrees.1)
+      let found : rows_after (places 1 (names_of settings)) [] words ≡ rows given =
+      ap (λ (r : List Row). fold with_default r (places 1 (names_of settings))) agrees.1 ∙ fold-with_default (rows given) (places 1 (names_of settings)) (places-no_defaults 1 (names_of settings)) in
+      sym (gives words filled.0) ∙ sym (ap (λ (g : List Given). entered_order (command, rows g)) filled.1) ∙ sym (ap (λ (r : List Row). entered_order (command, r)) found)
 
   failed-by : (o : Option (List Given)) (words : List (List ℕ)) → placed_from [] (names_of settings) words ≡ o → Agrees (shape command (names_of settings)) o (state_at 1 [] None idle) words
       → (rest_faults (shape command (names_of settings)) words ≡ [] → ⊥) → ◌≡◌ {A = Option Order} (by_places settings order words) None

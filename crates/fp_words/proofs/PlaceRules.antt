@@ -12,7 +12,7 @@ use Rattle.clap.specs.Simple.{filled, with_index}
 use Rattle.clap.specs.Takes.{is_given as is_used}
 use Rattle.fp_words.specs.Commands.{place_rule}
 use Rattle.fp_words.specs.Options.{Given, is_among, is_given}
-use Rattle.fp_words.proofs.GivenRows.{rows}
+use Rattle.fp_words.proofs.GivenRows.{is_used-rows, rows}
 use Rattle.fp_words.proofs.NoDefaults.{NoDefaults}
 
 -- the place of this number as it is built, and the number of the next one
@@ -39,15 +39,6 @@ arg_by_long-places k (n ∷ names) name = arg_by_long-places (after k) names nam
 pub arg_by_short-places : (k : ℕ) (names : List (List ℕ)) (x : ℕ) → arg_by_short (places k names) x ≡ None
 arg_by_short-places k [] x = refl
 arg_by_short-places k (n ∷ names) x = arg_by_short-places (after k) names x
-
--- what was given counts as used
-is_used-rows : (given : List Given) (name : List ℕ) → is_used name (rows given) ≡ is_given given name
-is_used-rows [] name = refl
-is_used-rows (g ∷ given) name =
-    elim (cases_Bool (bytes_eq g.0 name)) [
-      | inl t ↦ rw t refl
-      | inr f ↦ rw f (is_used-rows given name)
-    ]
 
 -- whether clap misses one of the places
 abbrev pub misses : List Rule → List Given → Bool

@@ -12,7 +12,7 @@ use Rattle.clap.specs.Walk.{Row, Rule, arg_by_id, arg_by_index, bundle_met, fini
 use Rattle.clap.specs.Simple.{Shape}
 use Rattle.clap.specs.Faults.{flags_fault, settle_fault, step_fault, use_fault, walk_fault}
 use Rattle.fp_words.specs.Commands.{bare, is_dashes}
-use Rattle.fp_words.specs.Options.{Given, is_among, is_flag, is_given}
+use Rattle.fp_words.specs.Options.{Given, is_among, is_option_word, is_given}
 use Rattle.fp_words.proofs.BareWords.{leaf}
 use Rattle.fp_words.proofs.GivenRows.{rows}
 use Rattle.fp_words.proofs.NoDefaults.{defaults_fault-none, fold-with_default}
@@ -24,12 +24,12 @@ use Rattle.fp_words.proofs.Walks.{Agrees, agrees-skip, agrees-stop, held, state_
 abbrev pub shape : List ℕ → List (List ℕ) → Shape
 shape command names = record (leaf (bare command)) { rules = places 1 names }
 
--- what words give in places of these names: a word that is no flag in each
+-- what words give in places of these names: a word that is no option in each
 abbrev pub placed_from : List Given → List (List ℕ) → List (List ℕ) → Option (List Given)
 placed_from given [] [] = Some given
 placed_from given [] (word ∷ words) = None
 placed_from given (name ∷ names) [] = None
-placed_from given (name ∷ names) (word ∷ words) = if is_flag word then None else placed_from (given ++ (name, word) ∷ []) names words
+placed_from given (name ∷ names) (word ∷ words) = if is_option_word word then None else placed_from (given ++ (name, word) ∷ []) names words
 
 -- From this number on clap finds these places, by number and by name, and none was given yet.
 abbrev pub Stands : List Rule → List Given → ℕ → List (List ℕ) → Type 0
@@ -42,7 +42,7 @@ or-shift true b c = refl
 or-shift false true c = refl
 or-shift false false c = refl
 
-is_dashes-plain : (word : List ℕ) → is_flag word ≡ false → is_dashes word ≡ false
+is_dashes-plain : (word : List ℕ) → is_option_word word ≡ false → is_dashes word ≡ false
 is_dashes-plain word plain =
     elim (cases_Bool (is_dashes word)) [
       | inl t ↦ let g = rw t at plain in cc g
@@ -53,31 +53,31 @@ module _ (command : List ℕ) (names : List (List ℕ)) where
   abbrev here : Shape
   here = shape command names
 
-  -- a flag is refused
-  refused-flags : (k : ℕ) (found : List Row) (p : Option (List ℕ × List (List ℕ))) (word flags : List ℕ) (c : Option ℕ) → is_dashes word ≡ false → is_flag word ≡ true → long_of word ≡ None → short_of word ≡ Some flags → slice_get (chars flags) 0 ≡ c →
+  -- a word that is an option is refused
+  refused-flags : (k : ℕ) (found : List Row) (p : Option (List ℕ × List (List ℕ))) (word flags : List ℕ) (c : Option ℕ) → is_dashes word ≡ false → is_option_word word ≡ true → long_of word ≡ None → short_of word ≡ Some flags → slice_get (chars flags) 0 ≡ c →
       turn here (state_at k found p idle) word ≡ [] → ⊥
   unfolding flags_fault bundle_met chars
-  refused-flags k found p word [] None d flag l s e f = let g = rw (d, l, s) at flag in cc g
-  refused-flags k found p word [] (Some y) d flag l s e f = cc e
-  refused-flags k found p word (x ∷ xs) None d flag l s e f = let g = rw (d, l, s, e) at flag in cc g
-  refused-flags k found p word (x ∷ xs) (Some y) d flag l s e f = let g = rw (d, l, s, e, arg_by_short-places 1 names y) at f in cc g
+  refused-flags k found p word [] None d dashed l s e f = let g = rw (d, l, s) at dashed in cc g
+  refused-flags k found p word [] (Some y) d dashed l s e f = cc e
+  refused-flags k found p word (x ∷ xs) None d dashed l s e f = let g = rw (d, l, s, e) at dashed in cc g
+  refused-flags k found p word (x ∷ xs) (Some y) d dashed l s e f = let g = rw (d, l, s, e, arg_by_short-places 1 names y) at f in cc g
 
-  refused-short : (k : ℕ) (found : List Row) (p : Option (List ℕ × List (List ℕ))) (word : List ℕ) (t : Option (List ℕ)) → is_dashes word ≡ false → is_flag word ≡ true → long_of word ≡ None → short_of word ≡ t →
+  refused-short : (k : ℕ) (found : List Row) (p : Option (List ℕ × List (List ℕ))) (word : List ℕ) (t : Option (List ℕ)) → is_dashes word ≡ false → is_option_word word ≡ true → long_of word ≡ None → short_of word ≡ t →
       turn here (state_at k found p idle) word ≡ [] → ⊥
-  refused-short k found p word None d flag l s f = let g = rw (d, l, s) at flag in cc g
-  refused-short k found p word (Some flags) d flag l s f = refused-flags k found p word flags _ d flag l s refl f
+  refused-short k found p word None d dashed l s f = let g = rw (d, l, s) at dashed in cc g
+  refused-short k found p word (Some flags) d dashed l s f = refused-flags k found p word flags _ d dashed l s refl f
 
-  refused : (k : ℕ) (found : List Row) (p : Option (List ℕ × List (List ℕ))) (word : List ℕ) (t : Option (List ℕ × Option (List ℕ))) → is_dashes word ≡ false → is_flag word ≡ true → long_of word ≡ t →
+  refused : (k : ℕ) (found : List Row) (p : Option (List ℕ × List (List ℕ))) (word : List ℕ) (t : Option (List ℕ × Option (List ℕ))) → is_dashes word ≡ false → is_option_word word ≡ true → long_of word ≡ t →
       turn here (state_at k found p idle) word ≡ [] → ⊥
-  refused k found p word None d flag l f = refused-short k found p word (short_of word) d flag l refl f
-  refused k found p word (Some (name, v)) d flag l f = let g = rw (d, l, arg_by_long-places 1 names name) at f in cc g
+  refused k found p word None d dashed l f = refused-short k found p word (short_of word) d dashed l refl f
+  refused k found p word (Some (name, v)) d dashed l f = let g = rw (d, l, arg_by_long-places 1 names name) at f in cc g
 
   -- any other word goes to the place of the number
   record Goes (k : ℕ) (found : List Row) (p : Option (List ℕ × List (List ℕ))) (word : List ℕ) : Type 0 where
     fault : turn here (state_at k found p idle) word ≡ step_fault here k (held found p) value
     next : walked (places 1 names) [] (state_at k found p idle) word ≡ to_positional (places 1 names) (arg_by_index (places 1 names) k) word (state_at k found p idle) (held found p)
 
-  goes-flags : (k : ℕ) (found : List Row) (p : Option (List ℕ × List (List ℕ))) (word flags : List ℕ) (c : Option ℕ) → is_flag word ≡ false → is_dashes word ≡ false → long_of word ≡ None → short_of word ≡ Some flags → slice_get (chars flags) 0 ≡ c →
+  goes-flags : (k : ℕ) (found : List Row) (p : Option (List ℕ × List (List ℕ))) (word flags : List ℕ) (c : Option ℕ) → is_option_word word ≡ false → is_dashes word ≡ false → long_of word ≡ None → short_of word ≡ Some flags → slice_get (chars flags) 0 ≡ c →
       Goes k found p word
   unfolding walked flags_fault bundle_met chars
   goes-flags k found p word [] None plain d l s e = record { fault = rw (d, l, s) refl; next = rw (d, l, s) refl }
@@ -85,12 +85,12 @@ module _ (command : List ℕ) (names : List (List ℕ)) where
   goes-flags k found p word (x ∷ xs) None plain d l s e = record { fault = rw (d, l, s, e) refl; next = rw (d, l, s, e) refl }
   goes-flags k found p word (x ∷ xs) (Some y) plain d l s e = let g = rw (d, l, s, e) at plain in cc g
 
-  goes-short : (k : ℕ) (found : List Row) (p : Option (List ℕ × List (List ℕ))) (word : List ℕ) (t : Option (List ℕ)) → is_flag word ≡ false → is_dashes word ≡ false → long_of word ≡ None → short_of word ≡ t → Goes k found p word
+  goes-short : (k : ℕ) (found : List Row) (p : Option (List ℕ × List (List ℕ))) (word : List ℕ) (t : Option (List ℕ)) → is_option_word word ≡ false → is_dashes word ≡ false → long_of word ≡ None → short_of word ≡ t → Goes k found p word
   unfolding walked
   goes-short k found p word None plain d l s = record { fault = rw (d, l, s) refl; next = rw (d, l, s) refl }
   goes-short k found p word (Some flags) plain d l s = goes-flags k found p word flags _ plain d l s refl
 
-  goes : (k : ℕ) (found : List Row) (p : Option (List ℕ × List (List ℕ))) (word : List ℕ) (t : Option (List ℕ × Option (List ℕ))) → is_flag word ≡ false → long_of word ≡ t → Goes k found p word
+  goes : (k : ℕ) (found : List Row) (p : Option (List ℕ × List (List ℕ))) (word : List ℕ) (t : Option (List ℕ × Option (List ℕ))) → is_option_word word ≡ false → long_of word ≡ t → Goes k found p word
   goes k found p word None plain l = goes-short k found p word (short_of word) plain (is_dashes-plain word plain) l refl
   goes k found p word (Some v) plain l = let g = rw (is_dashes-plain word plain, l) at plain in cc g
 
@@ -116,7 +116,7 @@ module _ (command : List ℕ) (names : List (List ℕ)) where
   ends k found p given b =
       let all : finished (places 1 names) (held found p) ≡ rows given = fold-with_default (settled (places 1 names) (held found p)).rows (places 1 names) (places-no_defaults 1 names) ∙ b.finds in
       let met : misses (places 1 names) given ≡ false = misses-none 1 names given (λ name among. sym (or-false (is_given given name)) ∙ sym (b.covers name) ∙ among) in
-      (rw (b.passes, defaults_fault-none (settled (places 1 names) (held found p)).rows (places 1 names) (places-no_defaults 1 names), all, met) refl, all)
+      (rw (b.passes, defaults_fault-none (settled (places 1 names) (held found p)).rows (places 1 names) (places-no_defaults 1 names), all, met) refl, b.finds)
 
   -- or where one is missing
   ends-early : (k : ℕ) (found : List Row) (p : Option (List ℕ × List (List ℕ))) (given : List Given) (name : List ℕ) (rest : List (List ℕ)) → Before k found p given (name ∷ rest) → Agrees here None (state_at k found p idle) []
@@ -130,7 +130,7 @@ module _ (command : List ℕ) (names : List (List ℕ)) where
       cc g
 
   -- a word more than places
-  strays : (k : ℕ) (found : List Row) (p : Option (List ℕ × List (List ℕ))) (given : List Given) (word : List ℕ) (words : List (List ℕ)) → Before k found p given [] → is_flag word ≡ false → Agrees here None (state_at k found p idle) (word ∷ words)
+  strays : (k : ℕ) (found : List Row) (p : Option (List ℕ × List (List ℕ))) (given : List Given) (word : List ℕ) (words : List (List ℕ)) → Before k found p given [] → is_option_word word ≡ false → Agrees here None (state_at k found p idle) (word ∷ words)
   strays k found p given word words b plain =
       agrees-stop here (state_at k found p idle) word words (λ f.
       let none = sym (goes k found p word (long_of word) plain refl).fault ∙ f in
@@ -139,10 +139,10 @@ module _ (command : List ℕ) (names : List (List ℕ)) where
 
   -- a word in its place, and what comes after it
   module _ (k : ℕ) (found : List Row) (p : Option (List ℕ × List (List ℕ))) (given : List Given) (name word : List ℕ) (rest : List (List ℕ)) (b : Before k found p given (name ∷ rest)) where
-    fits : is_flag word ≡ false → turn here (state_at k found p idle) word ≡ []
+    fits : is_option_word word ≡ false → turn here (state_at k found p idle) word ≡ []
     fits plain = (goes k found p word (long_of word) plain refl).fault ∙ rw (b.stands.0, and-false (is_pending (place k name) p), b.passes) refl
 
-    moves : is_flag word ≡ false → walked (places 1 names) [] (state_at k found p idle) word ≡ state_at (after k) (rows given) (Some (name, word ∷ [])) idle
+    moves : is_option_word word ≡ false → walked (places 1 names) [] (state_at k found p idle) word ≡ state_at (after k) (rows given) (Some (name, word ∷ [])) idle
     moves plain = (goes k found p word (long_of word) plain refl).next ∙ rw (b.stands.0, and-false (is_pending (place k name) p), b.finds) refl
 
     next-before : Before (after k) (rows given) (Some (name, word ∷ [])) (given ++ (name, word) ∷ []) rest
@@ -156,23 +156,23 @@ module _ (command : List ℕ) (names : List (List ℕ)) where
           finds = rw (b.stands.1, used_so) refl;
         }
 
-  flagged : (k : ℕ) (found : List Row) (p : Option (List ℕ × List (List ℕ))) (word : List ℕ) (words : List (List ℕ)) → is_dashes word ≡ false → is_flag word ≡ true → Agrees here None (state_at k found p idle) (word ∷ words)
-  flagged k found p word words d flag = agrees-stop here (state_at k found p idle) word words (refused k found p word (long_of word) d flag refl)
+  refuses : (k : ℕ) (found : List Row) (p : Option (List ℕ × List (List ℕ))) (word : List ℕ) (words : List (List ℕ)) → is_dashes word ≡ false → is_option_word word ≡ true → Agrees here None (state_at k found p idle) (word ∷ words)
+  refuses k found p word words d dashed = agrees-stop here (state_at k found p idle) word words (refused k found p word (long_of word) d dashed refl)
 
   placed : (rest words : List (List ℕ)) (k : ℕ) (found : List Row) (p : Option (List ℕ × List (List ℕ))) (given : List Given) → list_any is_dashes words ≡ false → Before k found p given rest → Agrees here (placed_from given rest words) (state_at k found p idle) words
   placed [] [] k found p given clean b = ends k found p given b
   placed (name ∷ rest) [] k found p given clean b = ends-early k found p given name rest b
   placed [] (word ∷ words) k found p given clean b =
-      elim (cases_Bool (is_flag word)) [
-        | inl flag ↦ flagged k found p word words (or_parts (is_dashes word) (list_any is_dashes words) clean).0 flag
+      elim (cases_Bool (is_option_word word)) [
+        | inl dashed ↦ refuses k found p word words (or_parts (is_dashes word) (list_any is_dashes words) clean).0 dashed
         | inr plain ↦ strays k found p given word words b plain
       ]
   placed (name ∷ rest) (word ∷ words) k found p given clean b =
       let parts = or_parts (is_dashes word) (list_any is_dashes words) clean in
       let rest_placed : Agrees here (placed_from (given ++ (name, word) ∷ []) rest words) (state_at (after k) (rows given) (Some (name, word ∷ [])) idle) words =
       placed rest words (after k) (rows given) (Some (name, word ∷ [])) (given ++ (name, word) ∷ []) parts.1 (next-before k found p given name word rest b) in
-      elim (cases_Bool (is_flag word)) [
-        | inl flag ↦ rw flag (flagged k found p word words parts.0 flag)
+      elim (cases_Bool (is_option_word word)) [
+        | inl dashed ↦ rw dashed (refuses k found p word words parts.0 dashed)
         | inr plain ↦
             rw plain (agrees-skip here (placed_from (given ++ (name, word) ∷ []) rest words) (state_at k found p idle) (state_at (after k) (rows given) (Some (name, word ∷ [])) idle) word words
             (fits k found p given name word rest b plain) (moves k found p given name word rest b plain) rest_placed)

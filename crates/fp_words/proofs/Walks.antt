@@ -30,10 +30,11 @@ module _ (s : Shape) where
   abbrev pub tail_fault : Walk → List (List ℕ) → Kinds
   tail_fault w words = or_else (walk_fault s [] w words) (end_fault (end_of w words))
 
-  -- the walk fails where the words give nothing that the subcommand takes, and else finds what they give
+  -- the walk fails where the words give nothing that the subcommand takes, and else finds what they give, before any
+  -- default
   abbrev pub Agrees : Option (List Given) → Walk → List (List ℕ) → Type 0
   Agrees None w words = tail_fault w words ≡ [] → ⊥
-  Agrees (Some given) w words = (tail_fault w words ≡ []) × (finished s.rules (end_of w words) ≡ rows given)
+  Agrees (Some given) w words = (tail_fault w words ≡ []) × ((settled s.rules (end_of w words)).rows ≡ rows given)
 
   pub agrees-skip : (o : Option (List Given)) (a b : Walk) (word : List ℕ) (words : List (List ℕ)) → turn a word ≡ [] → walked s.rules [] a word ≡ b → Agrees o b words → Agrees o a (word ∷ words)
   unfolding walk_fault
@@ -42,7 +43,7 @@ module _ (s : Shape) where
       λ f. h (sym (ap (λ (w : Walk). tail_fault w words) e) ∙ sym same ∙ f)
   agrees-skip (Some given) a b word words t e h =
       let same : tail_fault a (word ∷ words) ≡ tail_fault (walked s.rules [] a word) words = rw t refl in
-      (same ∙ ap (λ (w : Walk). tail_fault w words) e ∙ h.0, ap (λ (w : Walk). finished s.rules (end_of w words)) e ∙ h.1)
+      (same ∙ ap (λ (w : Walk). tail_fault w words) e ∙ h.0, ap (λ (w : Walk). (settled s.rules (end_of w words)).rows) e ∙ h.1)
 
   pub agrees-stop : (a : Walk) (word : List ℕ) (words : List (List ℕ)) → (turn a word ≡ [] → ⊥) → Agrees None a (word ∷ words)
   unfolding walk_fault

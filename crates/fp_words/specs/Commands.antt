@@ -1,14 +1,17 @@
 -- The command line as clap reads it, and what a parse of it orders.
-use Rattle.std.specs.Prelude.{ℕ, ◌≡◌, Bool, true, false, List, [], ◌∷◌, codes, map, if◌then◌else◌, None, Some, option_map}
+use Rattle.std.specs.Prelude.{ℕ, ◌≡◌, Bool, true, false, List, [], ◌∷◌, ◌++◌, codes, find, map, if◌then◌else◌, None, Some, option_and_then, option_map}
 use Rattle.std.specs.Str.{bytes_eq}
+use Rattle.std.specs.Option.{option_map_or}
 use Rattle.std.specs.declared.option.Option.{Option}
 use Rattle.clap.specs.Words.{App, Row, Rule, Shape, first_of, new_app, new_rule}
-use Rattle.clap.specs.declared.builder.action.ArgAction.TheVariants.{Set}
+use Rattle.clap.specs.declared.builder.action.ArgAction.TheVariants.{Set, SetTrue}
 use Rattle.clap.specs.declared.builder.command.Command.{Command}
 use Rattle.clap.specs.declared.builder.command.Command.TheViews.{out-Command}
+use Rattle.clap.specs.declared.parser.matches.ValueSource.{ValueSource}
+use Rattle.clap.specs.declared.parser.matches.ValueSource.TheVariants.{CommandLine, DefaultValue}
 use Rattle.fp_words.specs.declared.orders.Order.{Order}
-use Rattle.fp_words.specs.declared.orders.Order.TheVariants.{Direct, Check, Bound, Fleet, Quote, Replan}
-use Rattle.fp_words.specs.Settings.{budget_by, budget_settings, names_of, plan_by, plan_settings, trial_by, trial_settings, yard_by, yard_settings}
+use Rattle.fp_words.specs.declared.orders.Order.TheVariants.{Direct, Check, Fleet, Quote, Replan}
+use Rattle.fp_words.specs.Settings.{Options, bound_by, bound_options, budget_by, budget_options, names_of, plan_by, plan_options, trial_by, trial_settings, yard_by, yard_settings}
 
 -- the word is `--`
 abbrev pub is_dashes : List ℕ → Bool
@@ -22,6 +25,10 @@ bare name = (new_app name).top
 abbrev pub option_rule : List ℕ → Rule
 option_rule name = record (new_rule name) { long = Some name; action = Some Set }
 
+-- a flag, which is an option without a value
+abbrev pub flag_rule : List ℕ → Rule
+flag_rule name = record (new_rule name) { long = Some name; action = Some SetTrue }
+
 -- a place that a word must fill
 abbrev pub place_rule : List ℕ → Rule
 place_rule name = record (new_rule name) { required = true; action = Some Set }
@@ -30,9 +37,9 @@ place_rule name = record (new_rule name) { required = true; action = Some Set }
 abbrev pub IsLocal : Command → Type 0
 IsLocal command = (out-Command command).has_globals ≡ false
 
--- a subcommand with options of these names
-abbrev pub with_options : List ℕ → List (List ℕ) → Shape
-with_options command names = record (bare command) { rules = map option_rule names }
+-- a subcommand with these options
+abbrev pub with_options : List ℕ → Options → Shape
+with_options command options = record (bare command) { rules = map option_rule (names_of options.settings) ++ map flag_rule options.flags }
 
 -- a subcommand with places of these names, in this order
 abbrev pub with_places : List ℕ → List (List ℕ) → Shape
@@ -58,14 +65,23 @@ abbrev pub app : App
 app = above (
     bare (codes "direct")
     ∷ bare (codes "check")
-    ∷ bare (codes "bound")
-    ∷ with_options (codes "plan") (names_of plan_settings)
+    ∷ with_options (codes "bound") bound_options
+    ∷ with_options (codes "plan") plan_options
     ∷ with_places (codes "trial") (names_of trial_settings)
     ∷ with_places (codes "yard") (names_of yard_settings)
     ∷ bare (codes "fleet")
-    ∷ with_options (codes "replan") (names_of budget_settings)
-    ∷ with_options (codes "quote") (names_of budget_settings)
+    ∷ with_options (codes "replan") budget_options
+    ∷ with_options (codes "quote") budget_options
     ∷ [])
+
+-- a value came from the words, and not from a default
+abbrev pub is_from_words : ValueSource → Bool
+is_from_words CommandLine = true
+is_from_words DefaultValue = false
+
+-- the words gave the argument of this name
+abbrev pub was_given : List ℕ → List Row → Bool
+was_given name found = option_map_or is_from_words (option_and_then (λ (r : Row). r.source) (find (λ (r : Row). bytes_eq r.id name) found)) false
 
 -- what a subcommand orders in which this was found
 abbrev pub entered_order : List ℕ × List Row → Option Order
@@ -73,7 +89,7 @@ entered_order found =
     let text : List ℕ → Option (List ℕ) = λ name. first_of name found.1 in
     if bytes_eq found.0 (codes "direct") then Some Direct
     else if bytes_eq found.0 (codes "check") then Some Check
-    else if bytes_eq found.0 (codes "bound") then Some Bound
+    else if bytes_eq found.0 (codes "bound") then Some (bound_by (λ name. was_given name found.1))
     else if bytes_eq found.0 (codes "plan") then plan_by text
     else if bytes_eq found.0 (codes "trial") then trial_by text
     else if bytes_eq found.0 (codes "yard") then yard_by text

@@ -1,4 +1,5 @@
--- Numbers that words give: their ranges, and what they come to where options give them or not.
+-- What words give a command: its options and places, the ranges of numbers, and what it orders by
+-- them.
 use Rattle.std.specs.Prelude.{ℕ, ◌≤◌, Bool, List, [], ◌∷◌, ◌&&◌, length, nat_le, codes, map, if◌then◌else◌, None, Some, option_and_then, option_map}
 use Rattle.std.specs.declared.option.Option.{Option}
 use Rattle.fp_fields.specs.Fields.{is_number, is_within, number}
@@ -7,7 +8,7 @@ use Rattle.fp_history.specs.Budgets.{IsBudget}
 use Rattle.fp_model.specs.declared.limits.TheConstants.{GREATEST_SCALE, LAST_ROUND, MOST_SHIPMENTS, MOST_TERMINALS, SCALE}
 use Rattle.fp_tree.specs.declared.layout.TheConstants.{MOST_SPLITS}
 use Rattle.fp_words.specs.declared.orders.Order.{Order}
-use Rattle.fp_words.specs.declared.orders.Order.TheVariants.{Plan, Quote, Replan, Trial, Yard}
+use Rattle.fp_words.specs.declared.orders.Order.TheVariants.{Bound, Plan, Quote, Replan, Trial, Yard}
 use Rattle.fp_words.specs.declared.orders.TheConstants.{FEWEST_TERMINALS, GREATEST_SEED}
 use Rattle.fp_words.specs.declared.settings.TheConstants.{LONGEST_NUMBER, USUAL_BRANCHES, USUAL_ROUNDS}
 
@@ -39,12 +40,20 @@ shipments_setting = record { name = codes "shipments"; least = 0; most = MOST_SH
 abbrev pub names_of : List Setting → List (List ℕ)
 names_of settings = map (λ (s : Setting). s.name) settings
 
--- the options of a command with a budget, and those of `plan`
-abbrev pub budget_settings : List Setting
-budget_settings = rounds_setting ∷ branches_setting ∷ []
+-- The options of a command: those with a value, and the names of its flags, which have none.
+pub record Options : Type 0 where
+  pub settings : List Setting
+  pub flags : List (List ℕ)
 
-abbrev pub plan_settings : List Setting
-plan_settings = rounds_setting ∷ branches_setting ∷ scale_setting ∷ []
+-- the options of `bound`, those of a command with a budget, and those of `plan`
+abbrev pub bound_options : Options
+bound_options = record { settings = []; flags = codes "spans" ∷ [] }
+
+abbrev pub budget_options : Options
+budget_options = record { settings = rounds_setting ∷ branches_setting ∷ []; flags = [] }
+
+abbrev pub plan_options : Options
+plan_options = record { settings = rounds_setting ∷ branches_setting ∷ scale_setting ∷ []; flags = [] }
 
 -- the places of `trial` and of `yard`
 abbrev pub trial_settings : List Setting
@@ -89,6 +98,10 @@ trial_by text =
 
 abbrev pub yard_by : (List ℕ → Option (List ℕ)) → Option Order
 yard_by text = option_map (λ seed. Yard seed) (place_number seed_setting text)
+
+-- what `bound` orders, by the flags that were given
+abbrev pub bound_by : (List ℕ → Bool) → Order
+bound_by is_given = Bound (is_given (codes "spans"))
 
 -- what is ordered is within the limits
 abbrev pub IsWithinLimits : Order → Type 0

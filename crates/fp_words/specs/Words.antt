@@ -4,10 +4,10 @@ use Rattle.std.specs.Str.{bytes_eq}
 use Rattle.std.specs.declared.option.Option.{Option}
 use Rattle.std.specs.declared.alloc.Global.{Global}
 use Rattle.fp_words.specs.declared.orders.Order.{Order}
-use Rattle.fp_words.specs.declared.orders.Order.TheVariants.{Direct, Check, Bound, Trial, Yard, Fleet, Replan, Quote}
-use Rattle.fp_words.specs.Options.{by_options, value_given}
+use Rattle.fp_words.specs.declared.orders.Order.TheVariants.{Direct, Check, Trial, Yard, Fleet, Replan, Quote}
+use Rattle.fp_words.specs.Options.{by_options, is_given, value_given}
 use Rattle.fp_words.specs.Places.{by_places}
-use Rattle.fp_words.specs.Settings.{budget_by, budget_settings, names_of, plan_by, plan_settings, trial_settings, yard_settings}
+use Rattle.fp_words.specs.Settings.{bound_by, bound_options, budget_by, budget_options, plan_by, plan_options, trial_settings, yard_settings}
 use Rattle.fp_words.specs.declared.orders.WordFault.{WordFault}
 use Rattle.fp_words.specs.declared.orders.WordFault.TheVariants.{BadWords, NoMemory}
 
@@ -31,13 +31,13 @@ abbrev pub forms : List Form
 forms =
     record { name = codes "direct"; order = alone Direct }
     ∷ record { name = codes "check"; order = alone Check }
-    ∷ record { name = codes "bound"; order = alone Bound }
-    ∷ record { name = codes "plan"; order = by_options (names_of plan_settings) (λ given. plan_by (value_given given)) }
+    ∷ record { name = codes "bound"; order = by_options bound_options (λ given. Some (bound_by (is_given given))) }
+    ∷ record { name = codes "plan"; order = by_options plan_options (λ given. plan_by (value_given given)) }
     ∷ record { name = codes "trial"; order = by_places trial_settings (λ n. Trial (n 0) (n 1) (n 2)) }
     ∷ record { name = codes "yard"; order = by_places yard_settings (λ n. Yard (n 0)) }
     ∷ record { name = codes "fleet"; order = alone Fleet }
-    ∷ record { name = codes "replan"; order = by_options (names_of budget_settings) (λ given. option_map Replan (budget_by (value_given given))) }
-    ∷ record { name = codes "quote"; order = by_options (names_of budget_settings) (λ given. option_map Quote (budget_by (value_given given))) }
+    ∷ record { name = codes "replan"; order = by_options budget_options (λ given. option_map Replan (budget_by (value_given given))) }
+    ∷ record { name = codes "quote"; order = by_options budget_options (λ given. option_map Quote (budget_by (value_given given))) }
     ∷ []
 
 -- what a first word and the words after it order by the first of these forms that has this name

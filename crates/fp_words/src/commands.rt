@@ -1,10 +1,10 @@
 //! The command line as clap reads it: one command with a subcommand for each form.
 ghost use Rattle.std.specs.Prelude.{◌≡◌, codes, false, IfOk, IfSome, option_and_then};
 ghost use Rattle.clap.specs.Words.{app_of, found_of, new_app, rows_of, rule_of, subcommand_rows_of};
-ghost use Rattle.fp_words.specs.Commands.{IsLocal, app, entered_order, option_rule, place_rule, with_options, with_places};
-ghost use Rattle.fp_words.specs.Settings.{IsWithinLimits, budget_settings, names_of, plan_settings, trial_settings, yard_settings};
+ghost use Rattle.fp_words.specs.Commands.{IsLocal, app, entered_order, flag_rule, option_rule, place_rule, with_options, with_places};
+ghost use Rattle.fp_words.specs.Settings.{IsWithinLimits, bound_options, budget_options, names_of, plan_options, trial_settings, yard_settings};
 
-use crate::settings::{plan_by, quote_by, replan_by, trial_by, yard_by};
+use crate::settings::{bound_by, plan_by, quote_by, replan_by, trial_by, yard_by};
 use crate::{NoMemory, Order};
 use clap::{Arg, ArgAction, ArgMatches, Command};
 use std::alloc::Global;
@@ -17,6 +17,14 @@ fn option<'a>(alloc: Global, name: &'a str) -> Arg<'a>
     Arg::new(alloc, name).long(name).action(ArgAction::Set)
 }
 
+// An option without a value.
+fn flag<'a>(alloc: Global, name: &'a str) -> Arg<'a>
+    ensures rule { rule_of result ≡ flag_rule name.entry.now }
+    ensures local { result.global ≡ false }
+{
+    Arg::new(alloc, name).long(name).action(ArgAction::SetTrue)
+}
+
 // A place that a word must fill.
 fn place<'a>(alloc: Global, name: &'a str) -> Arg<'a>
     ensures rule { rule_of result ≡ place_rule name.entry.now }
@@ -25,9 +33,18 @@ fn place<'a>(alloc: Global, name: &'a str) -> Arg<'a>
     Arg::new(alloc, name).required(true).action(ArgAction::Set)
 }
 
+// The subcommand `bound`, with its flag.
+fn bound_command<'a>(alloc: Global) -> Result<Command<'a>, NoMemory>
+    ensures shape { IfOk result (λ command. (app_of command).top ≡ with_options (codes "bound") bound_options) }
+    ensures local { IfOk result IsLocal }
+{
+    let command = Command::new(alloc, "bound").arg(flag(alloc, "spans"))?;
+    Ok(command)
+}
+
 // A subcommand with the options of a budget.
 fn budget_command<'a>(alloc: Global, name: &'a str) -> Result<Command<'a>, NoMemory>
-    ensures shape { IfOk result (λ command. app_of command ≡ record (new_app name.entry.now) { top = with_options name.entry.now (names_of budget_settings) }) }
+    ensures shape { IfOk result (λ command. app_of command ≡ record (new_app name.entry.now) { top = with_options name.entry.now budget_options }) }
     ensures local { IfOk result IsLocal }
 {
     let command = Command::new(alloc, name)
@@ -38,7 +55,7 @@ fn budget_command<'a>(alloc: Global, name: &'a str) -> Result<Command<'a>, NoMem
 
 // The subcommand `plan`, with its options.
 fn plan_command<'a>(alloc: Global) -> Result<Command<'a>, NoMemory>
-    ensures shape { IfOk result (λ command. (app_of command).top ≡ with_options (codes "plan") (names_of plan_settings)) }
+    ensures shape { IfOk result (λ command. (app_of command).top ≡ with_options (codes "plan") plan_options) }
     ensures local { IfOk result IsLocal }
 {
     let command = budget_command(alloc, "plan")?.arg(option(alloc, "scale"))?;
@@ -78,7 +95,7 @@ pub fn command<'a>(alloc: Global) -> Result<Command<'a>, NoMemory>
         .subcommand_required(true)
         .subcommand(Command::new(alloc, "direct"))?
         .subcommand(Command::new(alloc, "check"))?
-        .subcommand(Command::new(alloc, "bound"))?
+        .subcommand(bound_command(alloc)?)?
         .subcommand(plan_command(alloc)?)?
         .subcommand(trial_command(alloc)?)?
         .subcommand(yard_command(alloc)?)?
@@ -98,7 +115,7 @@ fn order_by(name: &str, matches: &ArgMatches) -> Option<Order>
     } else if name == "check" {
         Some(Order::Check)
     } else if name == "bound" {
-        Some(Order::Bound)
+        Some(bound_by(matches))
     } else if name == "plan" {
         plan_by(matches)
     } else if name == "trial" {

@@ -9,8 +9,10 @@ pub enum Order {
     Direct,
     /// Whether a certificate is accepted.
     Check,
-    /// A number under which no plan costs.
-    Bound,
+    /// A number under which no plan costs; with `spans`, by prices of runs of classes too.
+    Bound {
+        spans: bool,
+    },
     /// The cheapest plan that a search with this budget finds, at this scale of prices.
     Plan {
         budget: Budget,

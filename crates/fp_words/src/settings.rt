@@ -1,12 +1,15 @@
-//! Numbers in words: the values of options, and the words in places.
+//! What words give a command: the values of options, whether a flag is among them, and the words in
+//! places.
 ghost use Rattle.std.specs.Prelude.{◌≡◌, ◌≤◌, IfSome, option_and_then, option_map};
 ghost use Rattle.clap.specs.Words.{first_of, found_of, rows_of};
 ghost use Rattle.fp_history.specs.Budgets.{IsBudget};
+ghost use Rattle.fp_words.specs.Commands.{is_from_words, was_given};
 ghost use Rattle.fp_words.specs.declared.orders.Order.TheVariants.{Quote, Replan};
-ghost use Rattle.fp_words.specs.Settings.{IsWithinLimits, budget_by, number_of, number_or, plan_by, trial_by, yard_by};
+ghost use Rattle.fp_words.specs.Settings.{IsWithinLimits, bound_by, budget_by, number_of, number_or, plan_by, trial_by, yard_by};
 
 use crate::orders::{FEWEST_TERMINALS, GREATEST_SEED, Order};
 use clap::ArgMatches;
+use clap::parser::ValueSource;
 use fp_fields::digits::{is_number, short_between};
 use fp_history::Budget;
 use fp_model::SCALE;
@@ -58,6 +61,23 @@ fn number_in(matches: &ArgMatches, name: &str, least: u32, most: u32) -> Option<
     }
 }
 
+// Whether a value came from the words, and not from a default.
+fn is_from_words(source: ValueSource) -> bool
+    ensures { result ≡ is_from_words source }
+{
+    matches!(source, ValueSource::CommandLine)
+}
+
+// Whether the flag of this name was given. One that wasn't has a value too, by default.
+fn was_given(matches: &ArgMatches, name: &str) -> bool
+    ensures { result ≡ was_given name.now (rows_of (found_of matches.now)) }
+{
+    match matches.value_source(name) {
+        Some(source) => is_from_words(source),
+        None => false,
+    }
+}
+
 // The budget that the options give.
 fn budget_by(matches: &ArgMatches) -> Option<Budget>
     ensures budget { result ≡ budget_by (λ name. first_of name (rows_of (found_of matches.now))) }
@@ -66,6 +86,15 @@ fn budget_by(matches: &ArgMatches) -> Option<Budget>
     let rounds = number_or(matches, "rounds", 0, LAST_ROUND, USUAL_ROUNDS)?;
     let branches = number_or(matches, "branches", 0, MOST_SPLITS, USUAL_BRANCHES)?;
     Some(Budget { rounds, branches })
+}
+
+/// What the options of `bound` order.
+pub fn bound_by(matches: &ArgMatches) -> Order
+    ensures { result ≡ bound_by (λ name. was_given name (rows_of (found_of matches.now))) }
+{
+    Order::Bound {
+        spans: was_given(matches, "spans"),
+    }
 }
 
 /// What the options of `plan` order; `None` exactly where the text of one is no number in its
