@@ -4,8 +4,8 @@
     bench/bound.py [PROGRAM [OTHER [WORD=VALUE ..]]]
 
 PROGRAM is the built program; without it the proved one in crates/freight/out is taken. It prints the bound of the root at round 0, the flat
-bound, both in units of money and rounded up, and the least seconds of three runs. OTHER is another program with the command `bound`, whose
-bound and seconds are printed beside; the words are settings of its environment.
+bound, both in units of money and rounded up, the bound with `--spans`, and the least seconds of three runs of each. OTHER is another
+program with the command `bound`, whose bound and seconds are printed beside; the words are settings of its environment.
 """
 import heapq
 import os
@@ -49,29 +49,30 @@ def least_price(leaving, origin, destination):
                 heapq.heappush(heap, (price + more, head))
 
 
-def bound_by(program, settings, text):
+def bound_by(words, settings, text):
     """The bound that a program prints, and the least seconds of three runs."""
     best = None
     for _ in range(3):
         start = time.monotonic()
-        done = subprocess.run([program, "bound"], input=text.encode(), stdout=subprocess.PIPE, env={**os.environ, **settings})
+        done = subprocess.run(words, input=text.encode(), stdout=subprocess.PIPE, env={**os.environ, **settings})
         took = time.monotonic() - start
         best = took if best is None else min(best, took)
     first = done.stdout.decode().split("\n")[0]
     if not first.startswith("answer,bound,"):
-        sys.exit(f"{program} printed {first!r}")
+        sys.exit(f"{' '.join(words)} printed {first!r}")
     return first.split(",")[2], best
 
 
 def main():
-    programs = [(built_program(), {})]
+    programs = [([built_program(), "bound"], {}), ([built_program(), "bound", "--spans"], {})]
     if len(sys.argv) > 2:
-        programs.append((sys.argv[2], dict(word.split("=", 1) for word in sys.argv[3:])))
+        programs.append(([sys.argv[2], "bound"], dict(word.split("=", 1) for word in sys.argv[3:])))
+    print(f"{'':28} {'':>9} {'':>17} {'with --spans':>17}")
     print(f"{'instance':28}      flat" + "   bound  seconds" * len(programs))
     for name, text in cases():
         row = f"{name:28} {flat_bound(text):9}"
-        for program, settings in programs:
-            value, seconds = bound_by(program, settings, text)
+        for words, settings in programs:
+            value, seconds = bound_by(words, settings, text)
             row += f" {value:>7} {seconds:8.3f}"
         print(row, flush=True)
 

@@ -43,10 +43,10 @@ direct-status p (shown.Direct q plan) told = let some : 1 ≤ 1 = omega arith in
 direct-status p (shown.Infeasible q shipment time) told = inr (refl, told.2)
 direct-status p _ told = absurd told
 
-bound-status : (p : Problem) (s : Shown) → ShowsBound p s → PlanStatus p (status_of s)
-bound-status p (shown.Bound q price tables value) told = inl (refl, told.1)
-bound-status p (shown.Infeasible q shipment time) told = inr (refl, told.2)
-bound-status p _ told = absurd told
+bound-status : (option : Bool) (p : Problem) (s : Shown) → ShowsBound option p s → PlanStatus p (status_of s)
+bound-status option p (shown.Bound q price tables spans value) told = inl (refl, told.1)
+bound-status option p (shown.Infeasible q shipment time) told = inr (refl, told.2)
+bound-status option p _ told = absurd told
 
 search-input-status : (p : Problem) (budget : Budget) (s : Shown) → ShowsSearch budget p s → SearchStatus p every budget (status_of s)
 search-input-status p budget (shown.Planned q solved) told = end-status p every budget solved told.1 (search-end p every budget solved.certificate.answer told.1.says)
@@ -77,7 +77,7 @@ certificate-map input s P Q each told =
 
 ShowsInput-InputStatus : (o : Order) (input : List ℕ) (s : Shown) → ShowsInput o input s → InputStatus o input (status_of s)
 ShowsInput-InputStatus Direct input s told = MatchResult_map (instance_in input) (λ p. ShowsDirect p s) (λ p. PlanStatus p (status_of s)) s (λ p. direct-status p s) told
-ShowsInput-InputStatus Bound input s told = MatchResult_map (instance_in input) (λ p. ShowsBound p s) (λ p. PlanStatus p (status_of s)) s (λ p. bound-status p s) told
+ShowsInput-InputStatus (Bound option) input s told = MatchResult_map (instance_in input) (λ p. ShowsBound option p s) (λ p. PlanStatus p (status_of s)) s (λ p. bound-status option p s) told
 ShowsInput-InputStatus (Plan budget scale) input s told =
     MatchResult_map (instance_at scale input) (λ p. ShowsSearch budget p s) (λ p. SearchStatus p every budget (status_of s)) s (λ p. search-input-status p budget s) told
 ShowsInput-InputStatus (Trial seed terminals shipments) input s told = absurd told

@@ -33,7 +33,7 @@ MatchResult_neither (Err y) P Q first second told = second y told
 
 -- what no command shows answers no order
 module _ (s : Shown) (fault : (f : Fault) → s ≡ shown.BadInput f.ordinal f.code → ⊥) (long : s ≡ shown.TooLong → ⊥) (direct : (p : Problem) → ShowsDirect p s → ⊥)
-    (bound : (p : Problem) → ShowsBound p s → ⊥) (search_none : (budget : Budget) (p : Problem) → ShowsSearch budget p s → ⊥) (check : (p : Problem) (c : Statement) → ShowsCheck p c s → ⊥)
+    (bound : (option : Bool) (p : Problem) → ShowsBound option p s → ⊥) (search_none : (budget : Budget) (p : Problem) → ShowsSearch budget p s → ⊥) (check : (p : Problem) (c : Statement) → ShowsCheck p c s → ⊥)
     (replan : (budget : Budget) (x : KeptInstance) → ShowsReplan budget x s → ⊥) (quote : (budget : Budget) (p : Problem) → ShowsQuote budget p s → ⊥)
     (alone : (o : Order) → ShowsAlone o s → ⊥) (yard : (seed : ℕ) (p : Problem) (c : Statement) → ShowsYard seed p c s → ⊥)
     (fleet : (p : Problem) (c : Statement) → ShowsFleet p c s → ⊥) where
@@ -44,7 +44,7 @@ module _ (s : Shown) (fault : (f : Fault) → s ≡ shown.BadInput f.ordinal f.c
 
   no-input : (o : Order) (input : List ℕ) → ShowsInput o input s → ⊥
   no-input Direct input told = MatchResult_neither (instance_in input) (λ p. ShowsDirect p s) (λ (f : Fault). s ≡ shown.BadInput f.ordinal f.code) direct fault told
-  no-input Bound input told = MatchResult_neither (instance_in input) (λ p. ShowsBound p s) (λ (f : Fault). s ≡ shown.BadInput f.ordinal f.code) bound fault told
+  no-input (Bound option) input told = MatchResult_neither (instance_in input) (λ p. ShowsBound option p s) (λ (f : Fault). s ≡ shown.BadInput f.ordinal f.code) (bound option) fault told
   no-input (Plan budget scale) input told =
       MatchResult_neither (instance_at scale input) (λ p. ShowsSearch budget p s) (λ (f : Fault). s ≡ shown.BadInput f.ordinal f.code) (search_none budget) fault told
   no-input (Trial seed terminals shipments) input told = told
@@ -69,11 +69,11 @@ alone-shows_trial s none _ told = told
 
 nothing-no_order : (o : Order) (old new : Option (List ℕ)) → Answers (Some o) old new shown.Nothing → ⊥
 nothing-no_order o old new told =
-    no-answer shown.Nothing (λ f e. cc e) (λ e. cc e) (λ p none. none) (λ p none. none) (λ budget p none. none) (λ p c none. none) (λ budget x none. none) (λ budget p none. none) (alone-shows_trial shown.Nothing (λ seed terminals shipments none. none)) (λ seed p c none. none) (λ p c none. none) o old new told
+    no-answer shown.Nothing (λ f e. cc e) (λ e. cc e) (λ p none. none) (λ option p none. none) (λ budget p none. none) (λ p c none. none) (λ budget x none. none) (λ budget p none. none) (alone-shows_trial shown.Nothing (λ seed terminals shipments none. none)) (λ seed p c none. none) (λ p c none. none) o old new told
 
 words-no_order : (o : Order) (old new : Option (List ℕ)) → Answers (Some o) old new shown.BadWords → ⊥
 words-no_order o old new told =
-    no-answer shown.BadWords (λ f e. cc e) (λ e. cc e) (λ p none. none) (λ p none. none) (λ budget p none. none) (λ p c none. none) (λ budget x none. none) (λ budget p none. none) (alone-shows_trial shown.BadWords (λ seed terminals shipments none. none)) (λ seed p c none. none) (λ p c none. none) o old new told
+    no-answer shown.BadWords (λ f e. cc e) (λ e. cc e) (λ p none. none) (λ option p none. none) (λ budget p none. none) (λ p c none. none) (λ budget x none. none) (λ budget p none. none) (alone-shows_trial shown.BadWords (λ seed terminals shipments none. none)) (λ seed p c none. none) (λ p c none. none) o old new told
 
 nothing-no_answer : (o : Option Order) (old new : Option (List ℕ)) → Answers o old new shown.Nothing → ⊥
 nothing-no_answer None old new told = cc told

@@ -46,7 +46,7 @@ ShowsNo_check input number (Err f) is same = absurd (rejection-no_fault number f
 -- only `check`, `yard` and `fleet` reject
 ShowsNo_input : (o : Order) (input : List ℕ) (number : ℕ) → ShowsInput o input (shown.RejectedPart number) → ShowsRejection (Some o) input (shown.RejectedPart number)
 ShowsNo_input Direct input number told = absurd (rejection-unread number (instance_in input) told)
-ShowsNo_input Bound input number told = absurd (rejection-unread number (instance_in input) told)
+ShowsNo_input (Bound option) input number told = absurd (rejection-unread number (instance_in input) told)
 ShowsNo_input (Plan budget scale) input number told = absurd (rejection-unread number (instance_at scale input) told)
 ShowsNo_input (Trial seed terminals shipments) input number told = absurd told
 ShowsNo_input (Yard seed) input number told = yard-rejection seed input number told

@@ -79,7 +79,7 @@ ShowsFault_check input ordinal code (Err f) is same = record { fault = f; first 
 -- a refusal of an order by the first fault of its input
 ShowsFault_input : (o : Order) (input : List ℕ) (ordinal code : ℕ) → ShowsInput o input (shown.BadInput ordinal code) → ShowsFault (Some o) input (shown.BadInput ordinal code)
 ShowsFault_input Direct input ordinal code told = ShowsFault_instance Direct input ordinal code (λ p. ShowsDirect p (shown.BadInput ordinal code)) (instance_in input) (λ p none. none) refl (instance_in input) refl told
-ShowsFault_input Bound input ordinal code told = ShowsFault_instance Bound input ordinal code (λ p. ShowsBound p (shown.BadInput ordinal code)) (instance_in input) (λ p none. none) refl (instance_in input) refl told
+ShowsFault_input (Bound option) input ordinal code told = ShowsFault_instance (Bound option) input ordinal code (λ p. ShowsBound option p (shown.BadInput ordinal code)) (instance_in input) (λ p none. none) refl (instance_in input) refl told
 ShowsFault_input (Plan budget scale) input ordinal code told =
     ShowsFault_instance (Plan budget scale) input ordinal code (λ p. ShowsSearch budget p (shown.BadInput ordinal code)) (instance_at scale input) (λ p none. none) refl (instance_at scale input) refl told
 ShowsFault_input (Trial seed terminals shipments) input ordinal code told = absurd told
@@ -161,24 +161,26 @@ ShowsYes_check input s (Ok p) is told done = ShowsYes_certificate input s p (cer
 ShowsYes_check input s (Err f) is same done = absurd (fault-not_done s f same done)
 
 -- the number that `bound` shows
-done-bound : (input : List ℕ) (p : Problem) (s : Shown) → instance_in input ≡ Ok p → ShowsBound p s → status_of s ≡ status.Done → ShowsNumber input s
-done-bound input p (shown.Bound q price tables value) is told done = record {
+done-bound : (option : Bool) (input : List ℕ) (p : Problem) (s : Shown) → instance_in input ≡ Ok p → ShowsBound option p s → status_of s ≡ status.Done → ShowsNumber option input s
+done-bound option input p (shown.Bound q price tables spans value) is told done = record {
   instance = p;
   price = price;
   tables = tables;
+  spans = spans;
   value = value;
   read = is;
-  shows = ap (λ (x : Problem). shown.Bound x price tables value) told.0;
+  shows = ap (λ (x : Problem). shown.Bound x price tables spans value) told.0;
   exists = told.1;
   bound = told.2;
+  without = told.3;
 }
-done-bound input p (shown.Infeasible q shipment time) is told done = let g = done in cc
-done-bound input p _ is told done = absurd told
+done-bound option input p (shown.Infeasible q shipment time) is told done = let g = done in cc
+done-bound option input p _ is told done = absurd told
 
-ShowsNumber_bound : (input : List ℕ) (s : Shown) (r : Result Problem Fault) → instance_in input ≡ r →
-    MatchResult r (λ p. ShowsBound p s) (λ (f : Fault). s ≡ shown.BadInput f.ordinal f.code) → status_of s ≡ status.Done → ShowsNumber input s
-ShowsNumber_bound input s (Ok p) is told done = done-bound input p s is told done
-ShowsNumber_bound input s (Err f) is same done = absurd (fault-not_done s f same done)
+ShowsNumber_bound : (option : Bool) (input : List ℕ) (s : Shown) (r : Result Problem Fault) → instance_in input ≡ r →
+    MatchResult r (λ p. ShowsBound option p s) (λ (f : Fault). s ≡ shown.BadInput f.ordinal f.code) → status_of s ≡ status.Done → ShowsNumber option input s
+ShowsNumber_bound option input s (Ok p) is told done = done-bound option input p s is told done
+ShowsNumber_bound option input s (Err f) is same done = absurd (fault-not_done s f same done)
 
 -- what a search shows, and how it ended
 module _ (budget : Budget) (given : Result Problem Fault) (show : Problem → Solution → Shown) (p : Problem) where
@@ -217,7 +219,7 @@ ShowsOptimal_search budget given s (Err f) is same done = absurd (fault-not_done
 -- what an order shows that is done
 ShowsDone_input : (o : Order) (input : List ℕ) (s : Shown) → ShowsInput o input s → status_of s ≡ status.Done → ShowsDone (Some o) input s
 ShowsDone_input Direct input s told done = ShowsPlan_direct input s (instance_in input) refl told done
-ShowsDone_input Bound input s told done = ShowsNumber_bound input s (instance_in input) refl told done
+ShowsDone_input (Bound option) input s told done = ShowsNumber_bound option input s (instance_in input) refl told done
 ShowsDone_input (Plan budget scale) input s told done = ShowsOptimal_search budget (instance_at scale input) s (instance_at scale input) refl told done
 ShowsDone_input (Trial seed terminals shipments) input s told done = absurd told
 ShowsDone_input (Yard seed) input s told done = yard-done seed input s told done
@@ -264,8 +266,8 @@ none-direct input p (shown.Infeasible q shipment time) is told same = record {
 none-direct input p (shown.Direct q plan) is told same = let g = same in cc
 none-direct input p _ is told same = absurd told
 
-none-bound : (input : List ℕ) (p : Problem) (s : Shown) → instance_in input ≡ Ok p → ShowsBound p s → status_of s ≡ status.Infeasible → ShowsNone Bound input s
-none-bound input p (shown.Infeasible q shipment time) is told same = record {
+none-bound : (option : Bool) (input : List ℕ) (p : Problem) (s : Shown) → instance_in input ≡ Ok p → ShowsBound option p s → status_of s ≡ status.Infeasible → ShowsNone (Bound option) input s
+none-bound option input p (shown.Infeasible q shipment time) is told same = record {
   instance = p;
   shipment = shipment;
   time = time;
@@ -274,8 +276,8 @@ none-bound input p (shown.Infeasible q shipment time) is told same = record {
   blocked = told.1;
   none = told.2;
 }
-none-bound input p (shown.Bound q price tables value) is told same = let g = same in cc
-none-bound input p _ is told same = absurd told
+none-bound option input p (shown.Bound q price tables spans value) is told same = let g = same in cc
+none-bound option input p _ is told same = absurd told
 
 none-search : (budget : Budget) (scale : ℕ) (input : List ℕ) (p : Problem) (s : Shown) → instance_at scale input ≡ Ok p → ShowsSearch budget p s → status_of s ≡ status.Infeasible → ShowsNone (Plan budget scale) input s
 none-search budget scale input p (shown.Infeasible q shipment time) is told same = record {
@@ -298,7 +300,7 @@ none-check p c _ told same = absurd told
 
 ShowsNone_input : (o : Order) (input : List ℕ) (s : Shown) → ShowsInput o input s → status_of s ≡ status.Infeasible → ShowsInfeasible (Some o) input s
 ShowsNone_input Direct input s told none = MatchResult_shows status.Infeasible (instance_in input) (instance_in input) (λ p. ShowsDirect p s) s (ShowsNone Direct input s) (λ e. cc e) refl none told (λ p is shows. none-direct input p s is shows none)
-ShowsNone_input Bound input s told none = MatchResult_shows status.Infeasible (instance_in input) (instance_in input) (λ p. ShowsBound p s) s (ShowsNone Bound input s) (λ e. cc e) refl none told (λ p is shows. none-bound input p s is shows none)
+ShowsNone_input (Bound option) input s told none = MatchResult_shows status.Infeasible (instance_in input) (instance_in input) (λ p. ShowsBound option p s) s (ShowsNone (Bound option) input s) (λ e. cc e) refl none told (λ p is shows. none-bound option input p s is shows none)
 ShowsNone_input (Plan budget scale) input s told none =
     MatchResult_shows status.Infeasible (instance_at scale input) (instance_at scale input) (λ p. ShowsSearch budget p s) s (ShowsNone (Plan budget scale) input s) (λ e. cc e) refl none told (λ p is shows. none-search budget scale input p s is shows none)
 ShowsNone_input (Trial seed terminals shipments) input s told none = absurd told
@@ -339,10 +341,10 @@ direct-not_open p (shown.Direct q plan) told ends = let g = ends in cc
 direct-not_open p (shown.Infeasible q shipment time) told ends = let g = ends in cc
 direct-not_open p _ told ends = absurd told
 
-bound-not_open : (p : Problem) (s : Shown) → ShowsBound p s → status_of s ≡ status.Unfinished → ⊥
-bound-not_open p (shown.Bound q price tables value) told ends = let g = ends in cc
-bound-not_open p (shown.Infeasible q shipment time) told ends = let g = ends in cc
-bound-not_open p _ told ends = absurd told
+bound-not_open : (option : Bool) (p : Problem) (s : Shown) → ShowsBound option p s → status_of s ≡ status.Unfinished → ⊥
+bound-not_open option p (shown.Bound q price tables spans value) told ends = let g = ends in cc
+bound-not_open option p (shown.Infeasible q shipment time) told ends = let g = ends in cc
+bound-not_open option p _ told ends = absurd told
 
 check-not_open : (p : Problem) (c : Statement) (s : Shown) → ShowsCheck p c s → status_of s ≡ status.Unfinished → ⊥
 check-not_open p c (shown.Accepted kind) told ends = let g = ends in cc
@@ -351,7 +353,7 @@ check-not_open p c _ told ends = absurd told
 
 ShowsOpen_input : (o : Order) (input : List ℕ) (s : Shown) → ShowsInput o input s → status_of s ≡ status.Unfinished → ShowsOpen (Some o) input s
 ShowsOpen_input Direct input s told ends = MatchResult_shows status.Unfinished (instance_in input) (instance_in input) (λ p. ShowsDirect p s) s ⊥ (λ e. cc e) refl ends told (λ p is shows. direct-not_open p s shows ends)
-ShowsOpen_input Bound input s told ends = MatchResult_shows status.Unfinished (instance_in input) (instance_in input) (λ p. ShowsBound p s) s ⊥ (λ e. cc e) refl ends told (λ p is shows. bound-not_open p s shows ends)
+ShowsOpen_input (Bound option) input s told ends = MatchResult_shows status.Unfinished (instance_in input) (instance_in input) (λ p. ShowsBound option p s) s ⊥ (λ e. cc e) refl ends told (λ p is shows. bound-not_open option p s shows ends)
 ShowsOpen_input (Plan budget scale) input s told ends =
     MatchResult_shows status.Unfinished (instance_at scale input) (instance_at scale input) (λ p. ShowsSearch budget p s) s (ShowsUnfinished budget (instance_at scale input) shown.Planned s) (λ e. cc e) refl ends told (λ p is shows. open-search budget (instance_at scale input) p s is shows ends)
 ShowsOpen_input (Trial seed terminals shipments) input s told ends = absurd told

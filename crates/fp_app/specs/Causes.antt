@@ -1,5 +1,5 @@
 -- When each status comes, by the words and the whole input.
-use Rattle.std.specs.Prelude.{◌≡◌, ◌⊎◌, ◌-◌, ℕ, List, length, nat_lt, MatchBool, MatchResult, Option, Some, None, Ok, Result}
+use Rattle.std.specs.Prelude.{◌≡◌, ◌⊎◌, ◌-◌, ℕ, Bool, false, List, [], length, nat_lt, MatchBool, MatchResult, Option, Some, None, Ok, Result}
 use Rattle.std.specs.declared.alloc.Global.{Global}
 use Rattle.std.specs.declared.vec.Vec.{Vec}
 use Rattle.fp_model.specs.declared.parts.Leg.{Leg}
@@ -16,6 +16,7 @@ use Rattle.fp_history.specs.declared.budgets.Budget.{Budget}
 use Rattle.fp_history.specs.Solutions.{Solution}
 use Rattle.fp_prices.specs.declared.leaf_prices.LeafPrice.{LeafPrice}
 use Rattle.fp_prices.specs.Shares.{ClassShare}
+use Rattle.fp_spans.specs.Spans.{ClassSpan}
 use Rattle.fp_app.specs.declared.shown.AnswerKind.{AnswerKind}
 use Rattle.fp_words.specs.declared.orders.Order.{Order}
 use Rattle.fp_words.specs.declared.orders.Order.TheVariants as order
@@ -49,16 +50,18 @@ pub record ShowsPlan (input : List ℕ) (result : Shown) : Type 0 where
   pub direct : IsDirectPlan instance routes
 
 -- The input gives an instance, of which a plan exists, and what is shown is a number under which no
--- plan costs.
-pub record ShowsNumber (input : List ℕ) (result : Shown) : Type 0 where
+-- plan costs. Without the option no spans are used.
+pub record ShowsNumber (option : Bool) (input : List ℕ) (result : Shown) : Type 0 where
   pub instance : Problem
   pub price : LeafPrice
   pub tables : Vec (List ClassShare) Global
+  pub spans : Vec ClassSpan Global
   pub value : ℕ
   pub read : instance_in input ≡ Ok instance
-  pub shows : result ≡ shown.Bound instance price tables value
+  pub shows : result ≡ shown.Bound instance price tables spans value
   pub exists : PlanExists instance
-  pub bound : IsRootBound instance price tables.items value
+  pub bound : IsRootBound instance price tables.items spans.items value
+  pub without : option ≡ false → spans.items ≡ []
 
 -- There is an instance, of which a plan exists, and what is shown is what a search with a budget shows
 -- of it.
@@ -228,7 +231,7 @@ abbrev pub ShowsDone : Option Order → List ℕ → Shown → Type 0
 ShowsDone None input result = ⊥
 ShowsDone (Some order.Direct) input result = ShowsPlan input result
 ShowsDone (Some order.Check) input result = ShowsYes input result
-ShowsDone (Some order.Bound) input result = ShowsNumber input result
+ShowsDone (Some (order.Bound option)) input result = ShowsNumber option input result
 ShowsDone (Some (order.Plan budget scale)) input result = ShowsOptimal budget (instance_at scale input) shown.Planned result
 ShowsDone (Some (order.Trial seed terminals shipments)) input result = ShowsOptimal trial_budget (Ok (generated seed terminals shipments)) (shown.Trial seed) result
 ShowsDone (Some (order.Yard seed)) input result = ShowsRun seed input result
@@ -302,7 +305,7 @@ InputStatus order.Check input result =
     MatchResult (leading_instance_in input)
     (λ p. MatchResult (certificate_in p input) (λ c. CheckStatus (scaled p c) c result) (λ f. result ≡ status.BadInput))
     (λ f. result ≡ status.BadInput)
-InputStatus order.Bound input result = MatchResult (instance_in input) (λ p. PlanStatus p result) (λ f. result ≡ status.BadInput)
+InputStatus (order.Bound option) input result = MatchResult (instance_in input) (λ p. PlanStatus p result) (λ f. result ≡ status.BadInput)
 InputStatus (order.Plan budget scale) input result = MatchResult (instance_at scale input) (λ p. SearchStatus p every budget result) (λ f. result ≡ status.BadInput)
 InputStatus (order.Trial seed terminals shipments) input result = ⊥
 InputStatus (order.Yard seed) input result =

@@ -29,7 +29,7 @@ abbrev pub limit_of : Option Order → ℕ
 limit_of None = 0
 limit_of (Some order.Direct) = INSTANCE_LIMIT
 limit_of (Some order.Check) = CHECK_LIMIT
-limit_of (Some order.Bound) = INSTANCE_LIMIT
+limit_of (Some (order.Bound option)) = INSTANCE_LIMIT
 limit_of (Some (order.Plan budget scale)) = INSTANCE_LIMIT
 limit_of (Some (order.Trial seed terminals shipments)) = 0
 limit_of (Some (order.Yard seed)) = CHECK_LIMIT
@@ -176,7 +176,7 @@ abbrev pub fault_in : Option Order → List ℕ → Option Fault
 fault_in None input = None
 fault_in (Some order.Direct) input = fault_of (instance_in input)
 fault_in (Some order.Check) input = input_fault input (leading_instance_in input)
-fault_in (Some order.Bound) input = fault_of (instance_in input)
+fault_in (Some (order.Bound option)) input = fault_of (instance_in input)
 fault_in (Some (order.Plan budget scale)) input = fault_of (instance_at scale input)
 fault_in (Some (order.Trial seed terminals shipments)) input = None
 fault_in (Some (order.Yard seed)) input = input_fault input (leading_instance_in input)
@@ -189,7 +189,7 @@ fault_in (Some (order.Quote budget)) input = fault_of (quoted_in input)
 abbrev pub given_to : Order → List ℕ → Result Problem Fault
 given_to order.Direct input = instance_in input
 given_to order.Check input = leading_instance_in input
-given_to order.Bound input = instance_in input
+given_to (order.Bound option) input = instance_in input
 given_to (order.Plan budget scale) input = instance_at scale input
 given_to (order.Trial seed terminals shipments) input = Ok (generated seed terminals shipments)
 given_to (order.Yard seed) input = leading_instance_in input

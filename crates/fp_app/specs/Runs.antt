@@ -1,5 +1,5 @@
 -- What a run answers, and what it does to its source and its sink.
-use Rattle.std.specs.Prelude.{◌≡◌, ℕ, ◌+◌, ◌≤◌, List, length, nat_lt, MatchBool, None, Some, IsSomeAnd, ⊤}
+use Rattle.std.specs.Prelude.{◌≡◌, ℕ, ◌+◌, ◌≤◌, Bool, false, List, [], length, nat_lt, MatchBool, None, Some, IsSomeAnd, ⊤}
 use Rattle.std.specs.declared.alloc.Global.{Global}
 use Rattle.std.specs.declared.vec.Vec.{Vec}
 use Rattle.std.specs.Io.KnownBytes.{Appends, Consumes, IsAtEnd}
@@ -40,11 +40,12 @@ ShowsDirect p (shown.Infeasible instance shipment time) = (instance ≡ p) × Is
 ShowsDirect p _ = ⊥
 
 -- `bound`: where a plan exists, a number under which none costs, and otherwise the first shipment
--- that can't be carried in time, with its fastest time.
-abbrev pub ShowsBound : Problem → Shown → Type 0
-ShowsBound p (shown.Bound instance price tables value) = (instance ≡ p) × PlanExists p × IsRootBound p price tables.items value
-ShowsBound p (shown.Infeasible instance shipment time) = (instance ≡ p) × IsBlocked p shipment time × (PlanExists p → ⊥)
-ShowsBound p _ = ⊥
+-- that can't be carried in time, with its fastest time. Without the option no spans are used.
+abbrev pub ShowsBound : Bool → Problem → Shown → Type 0
+ShowsBound option p (shown.Bound instance price tables spans value) =
+    (instance ≡ p) × PlanExists p × IsRootBound p price tables.items spans.items value × (option ≡ false → spans.items ≡ [])
+ShowsBound option p (shown.Infeasible instance shipment time) = (instance ≡ p) × IsBlocked p shipment time × (PlanExists p → ⊥)
+ShowsBound option p _ = ⊥
 
 -- `plan`: where a plan exists, what a search with the budget shows, and otherwise the first shipment
 -- that can't be carried in time, with its fastest time.
@@ -98,7 +99,7 @@ TakesOneMore limit old new = (taken : List ℕ) × Consumes old new taken × (le
 abbrev pub ShowsInput : Order → List ℕ → Shown → Type 0
 ShowsInput order.Direct input result = OfInstance input result (λ p. ShowsDirect p result)
 ShowsInput order.Check input result = OfCertificate input result (λ p c. ShowsCheck (scaled p c) c result)
-ShowsInput order.Bound input result = OfInstance input result (λ p. ShowsBound p result)
+ShowsInput (order.Bound option) input result = OfInstance input result (λ p. ShowsBound option p result)
 ShowsInput (order.Plan budget scale) input result = OfScaled scale input result (λ p. ShowsSearch budget p result)
 ShowsInput (order.Trial seed terminals shipments) input result = ⊥
 ShowsInput (order.Yard seed) input result = OfCertificate input result (λ p c. ShowsYard seed p c result)

@@ -29,7 +29,7 @@ both_status _ other = search_status other
 -- the status of a run that showed this to its end
 abbrev pub status_of : Shown → Status
 status_of (shown.Direct instance plan) = status.Done
-status_of (shown.Bound instance price tables value) = status.Done
+status_of (shown.Bound instance price tables spans value) = status.Done
 status_of (shown.Planned instance solved) = search_status solved.certificate.answer
 status_of (shown.Trial seed instance solved) = search_status solved.certificate.answer
 status_of (shown.Replanned instance kept solved) = search_status solved.certificate.answer

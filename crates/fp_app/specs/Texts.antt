@@ -68,7 +68,7 @@ quote_lines name extra = lines_of ((codes "quote" ∷ name ∷ decimal extra.low
 abbrev pub IsText : Shown → List ℕ → Type 0
 IsText (shown.Direct p routes) text =
     (c : Statement) × IsDirectCertificate p routes c × (text ≡ certificate_text p c)
-IsText (shown.Bound p price tables value) text = text ≡ bound_lines (whole_units p value)
+IsText (shown.Bound p price tables spans value) text = text ≡ bound_lines (whole_units p value)
 IsText (shown.Planned p solved) text = text ≡ certificate_text p solved.certificate
 IsText (shown.Trial seed p solved) text = text ≡ trial_lines seed p solved.certificate.answer
 IsText (shown.Replanned p kept solved) text = text ≡ certificate_text p solved.certificate

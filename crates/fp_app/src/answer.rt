@@ -84,7 +84,7 @@ fn input_shown(alloc: Global, order: Order, bytes: Vec<u8>) -> Result<Shown, NoM
     match order {
         Order::Direct => direct_shown(alloc, bytes),
         Order::Check => check_shown(alloc, bytes),
-        Order::Bound => bound_shown(alloc, bytes),
+        Order::Bound { spans } => bound_shown(alloc, bytes, spans),
         Order::Plan { budget, scale } => plan_shown(alloc, bytes, budget, scale),
         Order::Trial { .. } => unreachable!(),
         Order::Yard { seed } => yard_shown(alloc, bytes, seed),

@@ -15,7 +15,7 @@ pub(crate) fn limit_of(order: Order) -> usize
     ensures { result ≡ limit_of (Some order) }
 {
     match order {
-        Order::Direct | Order::Bound | Order::Plan { .. } => INSTANCE_LIMIT,
+        Order::Direct | Order::Bound { .. } | Order::Plan { .. } => INSTANCE_LIMIT,
         Order::Replan { .. } | Order::Quote { .. } => INSTANCE_LIMIT,
         Order::Check | Order::Yard { .. } | Order::Fleet => CHECK_LIMIT,
         Order::Trial { .. } => 0,

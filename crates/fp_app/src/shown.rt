@@ -8,6 +8,7 @@ use fp_certificate::Answer;
 use fp_fleet::Fleet;
 use fp_model::{Instance, Plan};
 use fp_prices::{LeafPrice, Table};
+use fp_spans::Span;
 use fp_yard::Event;
 
 /// How a run ended.
@@ -107,12 +108,13 @@ pub enum Shown {
         plan: Plan,
     },
     /// What a plan of an instance costs at least: the value of the leaf without sides at round 0
-    /// under the price and the tables, in parts of a unit of money, of which the instance's scale
-    /// makes one. It's printed in whole units, rounded up.
+    /// under the price, the tables and the spans, in parts of a unit of money, of which the
+    /// instance's scale makes one. It's printed in whole units, rounded up.
     Bound {
         instance: Instance,
         price: LeafPrice,
         tables: Vec<Table>,
+        spans: Vec<Span>,
         value: u128,
     },
     /// What a search shows of an instance, at the scale of the words: its certificate, which is

@@ -4,7 +4,7 @@ use crate::runs::run_on;
 use fp_examples::ONE_ARC;
 use std::test::Fail;
 
-const LINES: [&str; 37] = [
+const LINES: [&str; 44] = [
     "",
     "fly",
     "Direct",
@@ -23,6 +23,13 @@ const LINES: [&str; 37] = [
     "direct --help",
     "--version",
     "help direct",
+    "bound --spans --spans",
+    "bound --spans=1",
+    "bound --spans=",
+    "bound --spans x",
+    "bound spans",
+    "bound -s",
+    "plan --spans",
     "plan now",
     "plan --rounds",
     "plan --rounds --branches 5",
