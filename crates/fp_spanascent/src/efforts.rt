@@ -23,8 +23,6 @@ pub struct SpanEffort {
     pub loads: u32,
     /// The most passes of the ascent in which the value doesn't fall; 0 leaves it out.
     pub settle_passes: u32,
-    /// How many times spans of several classes may be laid over those that are there.
-    pub joins: u32,
 }
 
 impl SpanEffort {
@@ -38,6 +36,5 @@ impl SpanEffort {
         fresh: 3,
         loads: 512,
         settle_passes: 5,
-        joins: 3,
     };
 }
