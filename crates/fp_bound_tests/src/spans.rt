@@ -2,7 +2,7 @@
 
 ghost use Rattle.std.specs.Prelude.{[], ◌≡◌, ◌-◌, ◌<◌, ◌≤◌, ◌^◌, ◌∷◌, All, IfOk, length};
 ghost use Rattle.fp_prices.specs.Tables.{HasKind};
-ghost use Rattle.fp_spans.specs.SpanLists.{IsSpanOf};
+ghost use Rattle.fp_spans.specs.SpanLists.{IsSpanList, IsSpanOf};
 
 use fp_examples::{TRIO, instance_of};
 use fp_flatnet::{Windows, initial};
@@ -67,8 +67,32 @@ fn three_pay(alloc: Global, arc: u32, w: u128) -> Result<Span, NoMemory>
     })
 }
 
-// What a leaf with the initial points is worth by spans, and by linear prices where none holds.
-// `None` where the spans are refused.
+// What a leaf with the initial points is worth by spans that stand in order, and by linear prices
+// where none holds. `None` where a charge doesn't pay.
+fn listed_bound(
+    alloc: Global,
+    instance: &Instance,
+    spans: &[Span],
+    sides: &[Side],
+    forced: bool,
+) -> Result<Option<LeafBound>, NoMemory>
+    requires terminals { length instance.now.terminals ≤ 100 }
+    requires listed { IsSpanList instance.now spans.now }
+    requires exist { All (IsSpanOf instance.now) spans.now }
+    requires few { length spans.now < 2 ^ 32 - 1 }
+{
+    if check_charges(alloc, instance, spans)?.is_some() {
+        return Ok(None);
+    }
+    let windows = Windows::of(alloc, instance)?;
+    let points = initial(alloc, instance, &windows)?;
+    let round = RoundNetwork::of(alloc, instance, &points, 0)?;
+    let leaf = Leaf::of(alloc, &round, &windows, sides)?;
+    let bound = span_bound(alloc, &leaf, &[], spans, Kind::Linear, forced)?;
+    Ok(Some(bound))
+}
+
+// The same, or `None` where the spans are refused.
 fn spanned_bound(
     alloc: Global,
     instance: &Instance,
@@ -80,15 +104,10 @@ fn spanned_bound(
     requires exist { All (IsSpanOf instance.now) spans.now }
     requires few { length spans.now < 2 ^ 32 - 1 }
 {
-    if check_spans(instance, spans).is_err() || check_charges(alloc, instance, spans)?.is_some() {
-        return Ok(None);
+    match check_spans(instance, spans) {
+        Ok(()) => listed_bound(alloc, instance, spans, sides, forced),
+        Err(_) => Ok(None),
     }
-    let windows = Windows::of(alloc, instance)?;
-    let points = initial(alloc, instance, &windows)?;
-    let round = RoundNetwork::of(alloc, instance, &points, 0)?;
-    let leaf = Leaf::of(alloc, &round, &windows, sides)?;
-    let bound = span_bound(alloc, &leaf, &[], spans, Kind::Linear, forced)?;
-    Ok(Some(bound))
 }
 
 #[test]
