@@ -1,5 +1,5 @@
 -- Tables that may be added to those of a run, with what a leaf is worth by them.
-use Rattle.std.specs.Prelude.{◌+◌, ◌<◌, ◌≤◌, ◌≡◌, List, [], ◌∷◌, ◌++◌, length}
+use Rattle.std.specs.Prelude.{◌+◌, ◌<◌, ◌≤◌, ◌≡◌, List, [], ◌∷◌, ◌++◌, length, Option, Some, None}
 use Rattle.fp_prices.specs.declared.leaf_prices.Kind.TheVariants.{Table}
 use Rattle.fp_prices.specs.Rounds.{LeafModel}
 use Rattle.fp_prices.specs.Shares.{ClassShare}
@@ -22,3 +22,9 @@ pub record IsCandidate (leaf : LeafModel) (tables : List (List ClassShare)) (c :
 pub record IsBetter (leaf : LeafModel) (tables : List (List ClassShare)) (start : Start) (c : Candidate) : Type 0 where
   pub candidate : IsCandidate leaf tables c
   pub above : start.value < c.start.value
+
+-- where a candidate was found, there is this one too, and the leaf is worth no less by it
+abbrev pub IsNoBetter : Option Candidate → Option Candidate → Type 0
+IsNoBetter None other = Unit {0}
+IsNoBetter (Some c) None = ⊥
+IsNoBetter (Some c) (Some other) = c.start.value ≤ other.start.value

@@ -2,7 +2,7 @@
 ghost use Rattle.std.specs.Prelude.{◌≡◌, ◌+◌, ◌<◌, ◌≤◌, ◌⊎◌, IfOk, IfSome};
 ghost use Rattle.fp_prices.specs.Tables.{AreTables};
 ghost use Rattle.fp_duals.specs.declared.limits.TheConstants.{MOST_PRICE_LINES};
-ghost use Rattle.fp_duals.specs.Candidates.{IsBetter, IsCandidate};
+ghost use Rattle.fp_duals.specs.Candidates.{IsBetter, IsCandidate, IsNoBetter};
 ghost use Rattle.fp_duals.specs.PriceLines.{line_total};
 ghost use Rattle.fp_duals.specs.PriceTables.{IsFitTable};
 
@@ -80,9 +80,11 @@ fn better_in_mode(
     }
 }
 
-// The one by which the leaf is worth more.
+// The one by which the leaf is worth more, where there are two.
 fn better_of(first: Option<Candidate>, second: Option<Candidate>) -> Option<Candidate>
-    ensures { (result ≡ first) ⊎ (result ≡ second) }
+    ensures one { (result ≡ first) ⊎ (result ≡ second) }
+    ensures first { IsNoBetter first result }
+    ensures second { IsNoBetter second result }
 {
     match (first, second) {
         (Some(one), Some(other)) => {

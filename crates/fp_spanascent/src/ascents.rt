@@ -4,15 +4,11 @@ ghost use Rattle.fp_prices.specs.Tables.{AreTables, HasKind};
 
 use crate::NoMemory;
 use crate::efforts::SpanEffort;
-use crate::exact_ascent::settle;
-use crate::keeping::kept_spans;
-use crate::layouts::Layout;
-use crate::prices::SpanPrices;
-use crate::proposals::proposed_spans;
+use crate::searches::Search;
 use crate::starts::Start;
-use crate::subgradients::ascend;
-use fp_leafnets::{LeafNets, MoneyUnit};
+use fp_leafnets::LeafNets;
 use fp_prices::{Kind, Leaf, Table};
+use fp_spanlayouts::{Layout, SpanPrices};
 use fp_spans::Span;
 use std::alloc::Global;
 use std::marker::Model;
@@ -39,32 +35,6 @@ impl<'a> Model for SpanAscent<'a> {
 // The loads, or none.
 fn loads_where(holds: bool, loads: &[u128]) -> &[u128] {
     if holds { loads } else { &[] }
-}
-
-// Spans over the nets of a leaf, from prices by single classes.
-fn best_spans(
-    alloc: Global,
-    model: &mut LeafNets,
-    layout: &Layout,
-    prices: &mut SpanPrices,
-    effort: &SpanEffort,
-) -> Result<Vec<Span>, NoMemory> {
-    if effort.turns > 0 {
-        ascend(alloc, layout, &mut model.nets, prices, effort)?;
-    }
-    if effort.settle_passes > 0 {
-        settle(alloc, layout, &mut model.nets, prices, effort.settle_passes)?;
-    }
-    let unit: MoneyUnit = model.unit;
-    let kept = kept_spans(
-        alloc,
-        layout,
-        &mut model.nets,
-        prices,
-        &model.classes,
-        &model.arcs,
-    )?;
-    proposed_spans(alloc, layout, prices, &kept, &model.arcs, unit)
 }
 
 impl<'a> SpanAscent<'a> {
@@ -105,6 +75,11 @@ impl<'a> SpanAscent<'a> {
             unit: model.unit,
         };
         start.put_all(&layout.payers, &model.nets, &mut prices);
-        best_spans(alloc, model, &layout, &mut prices, effort)
+        let mut search = Search {
+            layout,
+            prices,
+            effort,
+        };
+        search.best_spans(alloc, model)
     }
 }

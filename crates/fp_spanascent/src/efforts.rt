@@ -13,8 +13,8 @@ pub struct SpanEffort {
     pub level: u32,
     /// Where the target would be nearer than this, in the same parts, the ascent ends.
     pub least_level: u32,
-    /// Where the shipments may use at most so many classes, one by one and all together, the ascent
-    /// ends only where the target would be nearer than one part.
+    /// Where there are at most so many pairs of a shipment and a class that it may use, the ascent
+    /// goes on until the target would be nearer than one part.
     pub small: u32,
     /// The part of the newest walks in the averaged direction, in parts of 64, at most 64.
     pub fresh: u32,
@@ -23,6 +23,8 @@ pub struct SpanEffort {
     pub loads: u32,
     /// The most passes of the ascent in which the value doesn't fall; 0 leaves it out.
     pub settle_passes: u32,
+    /// How many times spans of several classes may be laid over those that are there.
+    pub joins: u32,
 }
 
 impl SpanEffort {
@@ -36,5 +38,6 @@ impl SpanEffort {
         fresh: 3,
         loads: 512,
         settle_passes: 5,
+        joins: 3,
     };
 }

@@ -16,18 +16,14 @@
 #![tactic(auto)]
 
 mod ascents;
-mod charges;
+mod averages;
 mod directions;
 mod efforts;
 mod exact_ascent;
 mod keeping;
-mod layouts;
-mod needs;
-mod own_payers;
-mod payers;
-mod prices;
 mod proposals;
-mod sets;
+mod searches;
+mod separation;
 mod shared_walks;
 mod starts;
 mod subgradients;

@@ -1,14 +1,23 @@
 //! The spans of some prices, with the least charges that pay.
 
 use crate::NoMemory;
-use crate::layouts::{LaidSpan, Layout, of_span};
-use crate::payers::Payer;
-use crate::prices::SpanPrices;
+use crate::keeping::Kept;
 use fp_knapsack::{Item, Knapsack};
 use fp_leafnets::{ArcMoney, MoneyUnit};
 use fp_prices::Weight;
+use fp_spanlayouts::{LaidSpan, Layout, Payer, SpanPrices, of_span};
 use fp_spans::Span;
 use std::alloc::Global;
+
+/// Prices by the spans of a layout, as they are proposed.
+#[derive(Clone, Copy)]
+pub(crate) struct Proposal<'a> {
+    pub layout: &'a Layout,
+    pub prices: &'a SpanPrices,
+    pub kept: &'a Kept<'a>,
+    pub arcs: &'a [ArcMoney],
+    pub unit: MoneyUnit,
+}
 
 // The weights of payers, by shipment.
 fn weights_of(
@@ -48,51 +57,62 @@ fn items_of(
     Ok(items)
 }
 
-// The span over a run with its money; `None` where no charge pays.
-fn span_of(
-    alloc: Global,
-    knapsack: &mut Knapsack,
-    layout: &Layout,
-    prices: &SpanPrices,
-    span: &LaidSpan,
-    money: u128,
-    unit: MoneyUnit,
-) -> Result<Option<Span>, NoMemory> {
-    let payers = of_span(&layout.payers, span);
-    let weights = of_span(&prices.weights, span);
-    let items = items_of(alloc, payers, weights, unit)?;
-    let Some(charge) = knapsack.least_charge(&items, span.capacity.max(1), money)? else {
-        return Ok(None);
-    };
-    Ok(Some(Span {
-        arc: span.run.arc,
-        point: span.run.point,
-        until: span.run.until,
-        money,
-        charge,
-        weights: weights_of(alloc, payers, weights, unit)?,
-    }))
-}
-
-/// The kept spans of a layout, in order, with the least charges that pay.
-pub(crate) fn proposed_spans(
-    alloc: Global,
-    layout: &Layout,
-    prices: &SpanPrices,
-    kept: &[bool],
-    arcs: &[ArcMoney],
-    unit: MoneyUnit,
-) -> Result<Vec<Span>, NoMemory> {
-    let mut knapsack = Knapsack::new(alloc);
-    let mut spans = Vec::new(alloc);
-    for (span, keep) in layout.spans.iter().zip(kept.iter()) {
-        if *keep && let Some(arc) = arcs.get(span.run.arc as usize) {
-            let money = arc.truck_parts;
-            let found = span_of(alloc, &mut knapsack, layout, prices, span, money, unit)?;
-            if let Some(found) = found {
-                spans.push(found)?;
+impl Proposal<'_> {
+    // The money of a span: of a single class what the kept ones that are joined over it leave of the
+    // cost of a truck.
+    fn money(&self, number: usize, arc: &ArcMoney) -> u128 {
+        if number >= self.layout.singles {
+            return self.unit.outer(self.prices.money_of(number));
+        }
+        let mut left = arc.truck_parts;
+        for joined in self.layout.covers.group(number) {
+            if self.kept.has(*joined) {
+                left = left.saturating_sub(self.unit.outer(self.prices.money_of(*joined)));
             }
         }
+        left
     }
-    Ok(spans)
+
+    // The span with so much money and the least charge that pays; `None` where none does.
+    fn span(
+        &self,
+        alloc: Global,
+        knapsack: &mut Knapsack,
+        span: &LaidSpan,
+        money: u128,
+    ) -> Result<Option<Span>, NoMemory> {
+        let payers: &[Payer] = of_span(&self.layout.payers, span);
+        let weights: &[u64] = of_span(&self.prices.weights, span);
+        let items = items_of(alloc, payers, weights, self.unit)?;
+        let Some(charge) = knapsack.least_charge(&items, span.capacity.max(1), money)? else {
+            return Ok(None);
+        };
+        Ok(Some(Span {
+            arc: span.run.arc,
+            point: span.run.point,
+            until: span.run.until,
+            money,
+            charge,
+            weights: weights_of(alloc, payers, weights, self.unit)?,
+        }))
+    }
+
+    /// The kept spans in order, with the least charges that pay.
+    pub(crate) fn spans(&self, alloc: Global) -> Result<Vec<Span>, NoMemory> {
+        let mut knapsack = Knapsack::new(alloc);
+        let mut spans = Vec::new(alloc);
+        for number in 0..self.layout.spans.len() {
+            if self.kept.has(number)
+                && let Some(span) = self.layout.spans.get(number)
+                && let Some(arc) = self.arcs.get(span.run.arc as usize)
+            {
+                let money = self.money(number, arc);
+                if let Some(found) = self.span(alloc, &mut knapsack, span, money)? {
+                    spans.push(found)?;
+                }
+            }
+        }
+        spans.sort_by_key(|span: &Span| (span.arc, span.point, span.until))?;
+        Ok(spans)
+    }
 }

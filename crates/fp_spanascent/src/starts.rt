@@ -1,10 +1,9 @@
 //! The prices of a kind, put into the spans of single classes.
 ghost use Rattle.std.specs.Prelude.{◌<◌, length};
 
-use crate::payers::Payer;
-use crate::prices::SpanPrices;
 use fp_leafnets::{EdgeUse, MoneyUnit, Nets};
 use fp_prices::LeafPricing;
+use fp_spanlayouts::{Payer, SpanPrices};
 
 /// Prices from which a search starts.
 #[derive(Clone, Copy)]

@@ -2,19 +2,18 @@
 //! value, and what they come to too much is charged.
 
 use crate::NoMemory;
-use crate::charges::Charges;
+use crate::averages::Averages;
 use crate::directions::Direction;
 use crate::efforts::SpanEffort;
-use crate::layouts::{Layout, of_span};
-use crate::payers::Payer;
-use crate::prices::{SpanPrices, change_costs};
 use fp_leafnets::{Nets, part_mut};
+use fp_spanlayouts::{Charges, Layout, Payer, SpanPrices, change_costs, of_span};
 use std::alloc::Global;
 
 // Where the ascent stands.
 #[derive(Drop)]
 struct Climb {
     direction: Direction,
+    averages: Averages,
     charges: Charges,
     // The value of the prices, the value at the start, the best value and its prices.
     value: u64,
@@ -34,14 +33,14 @@ fn part_of(value: u64, level: u32, shift: u32) -> u64 {
     part.min(u128::from(u64::MAX)) as u64
 }
 
-// Where a weight of a payer goes by `rate`, in parts of 2^20, times a mean.
-fn moved(payer: &Payer, weight: u64, mean: i64, rate: u64) -> u64 {
+// Where an amount up to `most` goes by `rate`, in parts of 2^20, times a mean.
+fn moved(amount: u64, most: u64, mean: i64, rate: u64) -> u64 {
     let step = u128::from(rate).saturating_mul(u128::from(mean.unsigned_abs())) >> 20;
     let step = step.min(u128::from(u64::MAX)) as u64;
     if mean > 0 {
-        weight.saturating_add(step).min(payer.most)
+        amount.saturating_add(step).min(most)
     } else {
-        weight.saturating_sub(step)
+        amount.saturating_sub(step)
     }
 }
 
@@ -57,6 +56,7 @@ impl Climb {
         let small = layout.payers.len() <= effort.small as usize;
         let mut climb = Climb {
             direction: Direction::of(alloc, layout, effort.fresh)?,
+            averages: Averages::of(alloc, layout, effort)?,
             charges: Charges::of(alloc, layout, u64::from(effort.loads))?,
             value: 0,
             start: 0,
@@ -94,18 +94,24 @@ impl Climb {
     }
 
     // Moves all weights by `rate` times the direction, and sets the costs.
-    fn step(&mut self, layout: &Layout, nets: &mut Nets, prices: &mut SpanPrices, rate: u64) {
+    fn move_weights(
+        &mut self,
+        layout: &Layout,
+        nets: &mut Nets,
+        prices: &mut SpanPrices,
+        rate: u64,
+    ) {
         for (span, stale) in layout.spans.iter().zip(self.charges.stale.iter_mut()) {
             let Some(weights) = part_mut(&mut prices.weights, span.first, span.end) else {
                 continue;
             };
-            let payers = of_span(&layout.payers, span);
-            let means = of_span(&self.direction.means, span);
+            let payers: &[Payer] = of_span(&layout.payers, span);
+            let means: &[i64] = of_span(&self.direction.means, span);
             for ((weight, payer), mean) in weights.iter_mut().zip(payers.iter()).zip(means.iter()) {
                 if *mean == 0 {
                     continue;
                 }
-                let new = moved(payer, *weight, *mean, rate);
+                let new = moved(*weight, payer.most, *mean, rate);
                 if new != *weight {
                     change_costs(&mut nets.edges, layout.edges_of(payer), *weight, new);
                     *weight = new;
@@ -113,6 +119,22 @@ impl Climb {
                 }
             }
         }
+    }
+
+    // Moves the money of joined spans by `rate` times what it gains.
+    fn move_money(&mut self, layout: &Layout, prices: &mut SpanPrices, rate: u64) {
+        for number in layout.singles..layout.spans.len() {
+            let gain = self.direction.gain(layout, number);
+            if let Some(span) = layout.spans.get(number)
+                && let Some(money) = prices.money.get_mut(number)
+                && let Some(stale) = self.charges.stale.get_mut(number)
+            {
+                let new = moved(*money, span.truck, gain, rate);
+                *stale |= new != *money;
+                *money = new;
+            }
+        }
+        prices.spread(layout, &mut self.charges.stale);
     }
 
     // Notes the value of the prices, and keeps the best.
@@ -142,53 +164,73 @@ impl Climb {
         self.find_value(layout, nets, prices)
     }
 
-    // One turn. Whether there is more to do.
-    fn turn(
+    // Moves the prices once. Whether there is a way to go.
+    fn step(
+        &mut self,
+        layout: &Layout,
+        nets: &mut Nets,
+        prices: &mut SpanPrices,
+        turn: u32,
+    ) -> Result<bool, NoMemory> {
+        self.direction.turn(layout, nets, &self.charges, turn == 0);
+        self.averages
+            .turn(layout, nets, &self.direction.walks, &self.charges, turn);
+        let norm = self.direction.norm(layout, prices);
+        if norm == 0 {
+            return Ok(false);
+        }
+        let rate = self.rate(norm);
+        self.move_weights(layout, nets, prices, rate);
+        if layout.spans.len() > layout.singles {
+            self.move_money(layout, prices, rate);
+        }
+        self.find_value(layout, nets, prices)?;
+        self.note(prices);
+        Ok(true)
+    }
+
+    // Lets the target come nearer where too many turns had little gain. Whether it can.
+    fn come_nearer(
         &mut self,
         layout: &Layout,
         nets: &mut Nets,
         prices: &mut SpanPrices,
         patience: u32,
-        first: bool,
     ) -> Result<bool, NoMemory> {
-        self.direction.turn(layout, nets, &self.charges, first);
-        let norm = self.direction.norm(prices);
-        if norm == 0 {
+        if self.idle <= patience {
+            return Ok(true);
+        }
+        self.idle = 0;
+        self.level /= 2;
+        if self.level < self.least_level {
             return Ok(false);
         }
-        self.step(layout, nets, prices, self.rate(norm));
-        self.find_value(layout, nets, prices)?;
-        self.note(prices);
-        if self.idle > patience {
-            self.idle = 0;
-            self.level /= 2;
-            if self.level < self.least_level {
-                return Ok(false);
-            }
-            // Before the first gain the way on is better than the start again.
-            if self.best > self.start {
-                self.return_to_best(layout, nets, prices)?;
-            }
+        // Before the first gain the way on is better than the start again.
+        if self.best > self.start {
+            self.return_to_best(layout, nets, prices)?;
         }
         Ok(true)
     }
 }
 
-/// Moves the prices by the spans of a layout to better ones.
+/// Moves the prices by the spans of a layout to better ones. The averages over the turns.
 pub(crate) fn ascend(
     alloc: Global,
     layout: &Layout,
     nets: &mut Nets,
     prices: &mut SpanPrices,
     effort: &SpanEffort,
-) -> Result<(), NoMemory> {
+) -> Result<Averages, NoMemory> {
     let mut climb = Climb::of(alloc, layout, nets, prices, effort)?;
     for turn in 0..effort.turns {
-        if !climb.turn(layout, nets, prices, effort.patience, turn == 0)? {
+        if !climb.step(layout, nets, prices, turn)? {
+            break;
+        }
+        if !climb.come_nearer(layout, nets, prices, effort.patience)? {
             break;
         }
     }
     prices.copy(&climb.best_prices);
     prices.set_costs(layout, nets);
-    Ok(())
+    Ok(climb.averages)
 }

@@ -42,8 +42,8 @@ fn price_by(
 ///
 /// They are sought from the prices of a kind, which may name one of the tables, plain or with forced
 /// classes paid whole. What is found keeps both rules of spans, so no plan of the leaf costs less
-/// than it's worth by them. That spans are found promises nobody. `NoMemory` only where no memory
-/// is found.
+/// than it's worth by them. Nothing is promised of when spans are found. `NoMemory` only where no
+/// memory is found.
 pub fn better_spans(
     alloc: Global,
     leaf: &Leaf,

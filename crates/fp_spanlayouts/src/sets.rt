@@ -52,16 +52,24 @@ impl Terms {
     }
 }
 
-// The best payments with one item more.
-fn add_item(old: &[u64], new: &mut [u64], grains: usize, weight: u64) {
-    for (to, from) in new.iter_mut().zip(old.iter()) {
+// Copies a row.
+fn copy_row(to: &mut [u64], from: &[u64]) {
+    for (to, from) in to.iter_mut().zip(from.iter()) {
         *to = *from;
     }
-    let width = new.len();
-    if let Some(room) = part_mut(new, grains, width) {
-        for (to, from) in room.iter_mut().zip(old.iter()) {
-            *to = (*to).max(from.wrapping_add(weight));
+}
+
+// The row with one item more.
+fn add_item(old: &[u64], new: &mut [u64], grains: usize, weight: u64) {
+    let without = old.get(grains..).unwrap_or(&[]);
+    match new.split_at_mut_checked(grains) {
+        Some((below, above)) => {
+            copy_row(below, old);
+            for ((to, from), rest) in above.iter_mut().zip(without.iter()).zip(old.iter()) {
+                *to = (*from).max(rest.wrapping_add(weight));
+            }
         }
+        None => copy_row(new, old),
     }
 }
 
@@ -199,8 +207,12 @@ impl Sets {
         if self.weight <= terms.money {
             return Ok(0);
         }
-        for mark in marks.iter_mut() {
-            *mark = false;
+        let free = terms.money == 0;
+        for (mark, weight) in marks.iter_mut().zip(weights.iter()) {
+            *mark = free && *weight > 0;
+        }
+        if free {
+            return Ok(self.weight);
         }
         // No set with more trucks than these pays more than its money.
         let trucks = self.weight.wrapping_sub(1) / terms.money.max(1);
@@ -228,8 +240,8 @@ impl Sets {
         let size = payers.get(place).map_or(0, |payer| payer.size);
         let alone = terms.trucks(size);
         let free = terms.money.saturating_mul(alone).saturating_add(charge);
-        if self.weight == 0 {
-            return Ok(free);
+        if self.weight == 0 || terms.money == 0 {
+            return Ok(free.saturating_sub(self.weight));
         }
         // No set with more trucks than these leaves less.
         let trucks = alone.saturating_add(self.weight.wrapping_sub(1) / terms.money.max(1));

@@ -1,14 +1,15 @@
 //! The spans over the classes of a leaf, and who pays by them.
 
 use crate::NoMemory;
+use crate::groups::{Groups, Member};
 use crate::payers::{Payer, divisor_of, most_of};
 use fp_leafnets::{ArcMoney, Class, EdgeUse, NO_PART, NONE, Net, Nets, arc_of, part_mut};
 use fp_model::limits::LATEST;
 use std::alloc::Global;
 
 /// A run of the classes of an arc, from a point up to and without another.
-#[derive(Clone, Copy, PartialEq, Eq)]
-pub(crate) struct Run {
+#[derive(Clone, Copy, Debug, PartialEq, Eq)]
+pub struct Run {
     pub arc: u32,
     pub point: u32,
     pub until: u32,
@@ -16,28 +17,41 @@ pub(crate) struct Run {
 
 /// A span over a run. Its payers stand together, by shipment.
 #[derive(Clone, Copy)]
-pub(crate) struct LaidSpan {
+pub struct LaidSpan {
     pub run: Run,
     /// What a truck costs.
     pub truck: u64,
     pub capacity: u64,
     /// A common divisor of the capacity and the payers' sizes.
     pub grain: u64,
+    /// Where its payers stand, among all.
     pub first: usize,
     pub end: usize,
+    /// The spans of single classes within its run.
+    pub first_single: usize,
+    pub end_single: usize,
 }
 
-/// The spans over the classes of a leaf.
+/// The spans over the classes of a leaf: first one for each class that some shipment may use, by arc
+/// and then by point, and then those that are joined of several.
 #[derive(Drop)]
-pub(crate) struct Layout {
+pub struct Layout {
     pub spans: Vec<LaidSpan>,
+    /// How many spans are of single classes.
+    pub singles: usize,
     pub payers: Vec<Payer>,
     /// The edges of the payers, among those of all nets.
-    pub edges: Vec<usize>,
+    pub(crate) edges: Vec<usize>,
+    /// The payers of each shipment, in the order of the spans.
+    pub own: Groups,
+    /// The joined spans over each span of a single class.
+    pub covers: Groups,
+    /// The payers of joined spans over each edge of all nets.
+    pub links: Groups,
 }
 
-/// Those of a span's payers' things that stand by payer.
-pub(crate) fn of_span<'a, T>(all: &'a [T], span: &LaidSpan) -> &'a [T] {
+/// The part of a list by payers that a span's payers have.
+pub fn of_span<'a, T>(all: &'a [T], span: &LaidSpan) -> &'a [T] {
     all.get(span.first..span.end).unwrap_or(&[])
 }
 
@@ -76,8 +90,9 @@ fn single_run(class: u32, classes: &[Class]) -> Run {
 }
 
 impl Layout {
-    /// One span for each class of some net's edges.
-    pub(crate) fn of(
+    /// A span for each class of some net's edges. Tells the edges of the nets their spans and their
+    /// payers, as `pool` and `part`. `NoMemory` only where no memory is found.
+    pub fn of(
         alloc: Global,
         nets: &mut Nets,
         classes: &[Class],
@@ -86,12 +101,18 @@ impl Layout {
         let counts = count_edges(alloc, nets, classes.len())?;
         let mut layout = Layout {
             spans: Vec::new(alloc),
+            singles: 0,
             payers: Vec::new(alloc),
             edges: Vec::new(alloc),
+            own: Groups::new(alloc),
+            covers: Groups::new(alloc),
+            links: Groups::new(alloc),
         };
         let numbers = layout.open_spans(alloc, &counts, classes, arcs)?;
+        layout.singles = layout.spans.len();
         layout.place_edges(nets, &numbers);
         layout.set_grains();
+        layout.group_payers(alloc, nets.list.len())?;
         Ok(layout)
     }
 
@@ -123,6 +144,7 @@ impl Layout {
 
     // Opens a span with so many payers. Its end rises as they are placed.
     fn open_span(&mut self, run: Run, arc: ArcMoney, payers: usize) -> Result<(), NoMemory> {
+        let number = self.spans.len();
         let first = self.payers.len();
         let end = first.wrapping_add(payers);
         self.payers.resize(end, Payer::NOBODY)?;
@@ -134,6 +156,8 @@ impl Layout {
             grain: 1,
             first,
             end: first,
+            first_single: number,
+            end_single: number.wrapping_add(1),
         })?;
         Ok(())
     }
@@ -160,6 +184,7 @@ impl Layout {
                 span.end = span.end.wrapping_add(1);
                 let payer = Payer {
                     shipment,
+                    span: edge.pool as usize,
                     size: net.size,
                     most: most_of(net.size, span.truck, span.capacity),
                     first_edge: edge.part,
@@ -177,8 +202,8 @@ impl Layout {
         }
     }
 
-    // Sets the grains of the spans.
-    fn set_grains(&mut self) {
+    /// Sets the grains of the spans.
+    pub(crate) fn set_grains(&mut self) {
         for span in self.spans.iter_mut() {
             let mut grain = span.capacity;
             for payer in of_span(&self.payers, span) {
@@ -188,8 +213,26 @@ impl Layout {
         }
     }
 
-    /// The edges of a payer.
-    pub(crate) fn edges_of(&self, payer: &Payer) -> &[usize] {
+    /// Groups the payers by so many shipments.
+    pub(crate) fn group_payers(&mut self, alloc: Global, shipments: usize) -> Result<(), NoMemory> {
+        let mut members = Vec::with_capacity(alloc, self.payers.len())?;
+        let mut number = 0usize;
+        for payer in &self.payers {
+            let group = payer.shipment as usize;
+            members.push(Member { group, number })?;
+            number = number.wrapping_add(1);
+        }
+        self.own = Groups::of(alloc, &members, shipments)?;
+        Ok(())
+    }
+
+    /// The spans of single classes.
+    pub fn singles(&self) -> &[LaidSpan] {
+        self.spans.get(..self.singles).unwrap_or(&[])
+    }
+
+    /// The edges of a payer, among those of all nets.
+    pub fn edges_of(&self, payer: &Payer) -> &[usize] {
         self.edges
             .get(payer.first_edge..payer.end_edge)
             .unwrap_or(&[])

@@ -24,7 +24,7 @@ fn list_needs(edges: &[Edge], uses: &[EdgeUse], labels: &[Label], needs: &mut [u
 
 /// Puts in what the shipment of a net needs to pay over each of its edges, at the costs that are
 /// set. The least cost of a walk.
-pub(crate) fn find_needs(nets: &mut Nets, net: &Net, needs: &mut [u64]) -> u64 {
+pub fn find_needs(nets: &mut Nets, net: &Net, needs: &mut [u64]) -> u64 {
     let goal = nets.label_net(net);
     if let Some(rests) = nets.rests.get(net.first_node..net.end_node) {
         cut_labels(&mut nets.labels, rests, goal);

@@ -9,7 +9,7 @@ use std::alloc::Global;
 
 /// The charges of the spans of a layout, and the sets that are charged.
 #[derive(Drop)]
-pub(crate) struct Charges {
+pub struct Charges {
     sets: Sets,
     // The most loads by which sets are told apart.
     loads: u64,
@@ -23,7 +23,7 @@ pub(crate) struct Charges {
 
 impl Charges {
     /// No charges: all are to be found, with at most so many loads.
-    pub(crate) fn of(alloc: Global, layout: &Layout, loads: u64) -> Result<Charges, NoMemory> {
+    pub fn of(alloc: Global, layout: &Layout, loads: u64) -> Result<Charges, NoMemory> {
         let spans = layout.spans.len();
         Ok(Charges {
             sets: Sets::new(alloc),
@@ -35,7 +35,7 @@ impl Charges {
     }
 
     /// Says that the prices of all spans changed.
-    pub(crate) fn forget(&mut self) {
+    pub fn forget(&mut self) {
         for stale in self.stale.iter_mut() {
             *stale = true;
         }
@@ -71,11 +71,7 @@ impl Charges {
     }
 
     /// Finds the charges of the spans whose prices changed. What all charges come to.
-    pub(crate) fn find_all(
-        &mut self,
-        layout: &Layout,
-        prices: &SpanPrices,
-    ) -> Result<u64, NoMemory> {
+    pub fn find_all(&mut self, layout: &Layout, prices: &SpanPrices) -> Result<u64, NoMemory> {
         let mut sum = 0u64;
         let mut number = 0usize;
         for span in &layout.spans {
@@ -91,14 +87,37 @@ impl Charges {
         Ok(sum)
     }
 
-    /// The most that a payer may pay by a span beside the others under the span's charge.
-    pub(crate) fn room(
+    /// The trucks for the set of a span that is charged; 0 where it isn't charged.
+    pub fn trucks(&self, layout: &Layout, number: usize) -> u64 {
+        let charge = self.list.get(number).copied().unwrap_or(0);
+        let Some(span) = layout.spans.get(number) else {
+            return 0;
+        };
+        if charge == 0 {
+            return 0;
+        }
+        let mut size = 0u64;
+        let charged = of_span(&self.charged, span);
+        for (payer, charged) in of_span(&layout.payers, span).iter().zip(charged.iter()) {
+            if *charged {
+                size = size.saturating_add(payer.size);
+            }
+        }
+        size.div_ceil(span.capacity.max(1))
+    }
+
+    /// The most that a payer may pay by its span beside the others under the span's charge.
+    /// `NoMemory` only where no memory is found.
+    pub fn room(
         &mut self,
         layout: &Layout,
         prices: &SpanPrices,
-        number: usize,
         payer: usize,
     ) -> Result<u64, NoMemory> {
+        let number = layout
+            .payers
+            .get(payer)
+            .map_or(usize::MAX, |paying| paying.span);
         let Some(span) = layout.spans.get(number) else {
             return Ok(0);
         };

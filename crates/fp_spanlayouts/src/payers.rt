@@ -2,8 +2,9 @@
 
 /// A shipment that may use classes of a span.
 #[derive(Clone, Copy)]
-pub(crate) struct Payer {
+pub struct Payer {
     pub shipment: u32,
+    pub span: usize,
     pub size: u64,
     /// What the trucks cost that hold the shipment alone.
     pub most: u64,
@@ -16,6 +17,7 @@ impl Payer {
     /// A payer's place before it's taken.
     pub(crate) const NOBODY: Payer = Payer {
         shipment: 0,
+        span: 0,
         size: 0,
         most: 0,
         first_edge: 0,
