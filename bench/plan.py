@@ -1,5 +1,6 @@
 #!/usr/bin/env python3
-"""What `plan` finds: cost, bound, ending, seconds and memory, on generated instances, a carrier's lines and hubs, and a day of real size.
+"""What `plan` finds: cost, bound, ending, seconds and memory, on generated instances, a carrier's lines and hubs, and a day of real size;
+without `--spans`, with it, and with it and no branches.
 
     bench/plan.py [PROGRAM [OTHER ..]]
 
@@ -15,29 +16,34 @@ from instances import cases, generated
 from kit import HEADS, TOP, built_program, measured, planned, row_of
 
 SHORT = ["--rounds", "40", "--branches", "100"]
+ROOT = ["--rounds", "40", "--branches", "0", "--spans"]
 
 
 def all_cases():
     """What each case is called, its records, and the options that it is planned with."""
     for name, text in cases():
         yield name, text, SHORT
+        yield f"{name}, spans", text, SHORT + ["--spans"]
+        yield f"{name}, root", text, ROOT
     for seed in (1, 2, 3):
         yield f"6x15 seed {seed}, defaults", generated(seed, 6, 15), []
-    with open(os.path.join(TOP, "examples", "france-day.csv")) as day:
-        yield "france-day.csv", day.read(), SHORT
+    with open(os.path.join(TOP, "examples", "france-day.csv")) as file:
+        day = file.read()
+    yield "france-day.csv", day, SHORT
+    yield "france-day.csv, spans", day, SHORT + ["--spans"]
 
 
 def main():
     program = built_program()
     others = [sys.argv[2:]] if len(sys.argv) > 2 else []
-    print(" | ".join([f"{'instance':28} {HEADS}"] + [HEADS] * len(others)))
+    print(" | ".join([f"{'instance':34} {HEADS}"] + [HEADS] * len(others)))
     for name, text, options in all_cases():
         figures, printed = planned([program, "plan"] + options, text)
         checked, _, _ = measured([program, "check"], text + printed)
         if not checked.startswith("accepted,"):
             sys.exit(f"{name}: check says {checked!r}")
         rows = [row_of(*figures)] + [row_of(*planned(other + ["plan"] + options, text)[0]) for other in others]
-        print(" | ".join([f"{name:28} {rows[0]}"] + rows[1:]), flush=True)
+        print(" | ".join([f"{name:34} {rows[0]}"] + rows[1:]), flush=True)
 
 
 if __name__ == "__main__":

@@ -15,7 +15,7 @@ use Rattle.fp_timenodes.specs.Points.{TimePoints, added_at, greatest_round, poin
 use Rattle.fp_lists.proofs.Truth.{or_right_comm}
 use Rattle.fp_lists.proofs.Membership.{list_has-append, list_has-rest, list_has-first, list_has-cons_cases}
 use Rattle.fp_flatnet.specs.declared.window_tables.TheConstants.{MOST_ANCHORS}
-use Rattle.fp_flatnet.specs.Initial.{BeginAt, initial_points}
+use Rattle.fp_flatnet.specs.Initial.{initial_points}
 use Rattle.fp_lines.specs.Ranges.{IsPointInRange}
 use Rattle.fp_acceptance.specs.Points.{AreAddedPoints, ArePointsOf, points_with_added}
 use Rattle.fp_acceptance.proofs.RoundCounts.{RoundsAscend, count_in, length-count_in}

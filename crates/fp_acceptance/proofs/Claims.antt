@@ -1,7 +1,6 @@
 -- What an accepted certificate claims is true.
 use Rattle.std.proofs.Common.{◌≡◌, ℕ, ◌*◌, ◌<◌, ◌≤◌, List, [], ◌∷◌, length, ⊎_elim, refl, sym, subst, arith}
 use Rattle.std.specs.Prelude.{Option, Some, None, slice_index_or}
-use Rattle.std.specs.List.{AllByRecursion}
 use Rattle.std.specs.Int.{div_ceil}
 use Rattle.fp_lists.proofs.Elements.{AnyByRecursion-all}
 use Rattle.fp_model.specs.declared.parts.Leg.{Leg}
@@ -22,11 +21,11 @@ use Rattle.fp_tree.specs.declared.sides.Split.{Split}
 use Rattle.fp_tree.specs.declared.sides.Split.TheVariants.{ByArc, ByTime}
 use Rattle.fp_tree.specs.Sides.{IsTailOfSplit}
 use Rattle.fp_tree.specs.Trees.{HaveTails, Leaf, tree_leaves}
-use Rattle.fp_lists.specs.Elements.{AnyByRecursion}
-use Rattle.fp_prices.specs.Leaves.{IsLeafEmpty, IsLeafValue, IsPlanOfLeaf}
-use Rattle.fp_prices.specs.Prices.{AllKeepRule}
-use Rattle.fp_prices.proofs.PlanBounds.{leaf-bounds, leaf-empty}
+use Rattle.fp_prices.specs.Leaves.{IsLeafEmpty, IsPlanOfLeaf}
+use Rattle.fp_prices.proofs.PlanBounds.{leaf-empty}
 use Rattle.fp_prices.proofs.PlanLeaves.{plan-obeys-leaf}
+use Rattle.fp_spans.specs.SpanKinds.{IsPricedValue, spans_beside}
+use Rattle.fp_spans.proofs.SpanBounds.{span_leaf-bounds}
 use Rattle.fp_lines.specs.declared.certificates.Answer.{Answer}
 use Rattle.fp_lines.specs.declared.certificates.Answer.TheVariants.{Direct, Optimal, Unfinished, Infeasible}
 use Rattle.fp_lines.specs.declared.certificates.Node.{Node}
@@ -37,19 +36,23 @@ use Rattle.fp_acceptance.specs.Accepted.{Applies, IsAccepted, IsBlockedAs, IsToo
 use Rattle.fp_acceptance.specs.Claims.{AcceptedClaims, Claims, ClaimsWithin, NoPlanWithinCheaper}
 use Rattle.fp_acceptance.specs.Leaves.{AreLeavesWorth, HasTree, IsLeafWorth, fork_of, split_tail}
 use Rattle.fp_acceptance.specs.Points.{points_as_of}
+use Rattle.fp_acceptance.specs.Units.{rounded_up}
+use Rattle.fp_acceptance.proofs.KeptPrices.{AreKept, HasPrices-kept}
+use Rattle.fp_acceptance.proofs.UnitCosts.{rounded_up-cost}
 
 -- a plan of a leaf costs at least what the leaf is worth
-IsLeafWorth-cost : (p : Problem) (table : WindowTable) (c : Statement) (claim d : ℕ) (plan : List (List Leg)) (x : Node) (sides : List Side) → IsValid p → AllKeepRule p c.tables →
+IsLeafWorth-cost : (p : Problem) (table : WindowTable) (c : Statement) (claim d : ℕ) (plan : List (List Leg)) (x : Node) (sides : List Side) → IsValid p → AreKept p c →
     IsPlanOfLeaf p (windows_in table) sides d plan → IsLeafWorth p table c claim x sides → claim ≤ cost p plan
 IsLeafWorth-cost p table c claim d plan (node.Branch split) sides valid keep of_leaf worth = absurd worth
 IsLeafWorth-cost p table c claim d plan (node.Leaf price) sides valid keep of_leaf worth =
     let points : ℕ → List ℕ = points_as_of p table.anchors c price.round in
     ⊎_elim
     (λ (empty : IsLeafEmpty p (windows_in table) points sides). absurd (leaf-empty p (windows_in table) points sides empty d plan of_leaf))
-    (λ (leaf : (value : ℕ) × IsLeafValue p (windows_in table) points sides c.tables price.kind price.forced value × (claim ≤ div_ceil value p.scale)).
-    let le : leaf.0 ≤ p.scale * cost p plan = leaf-bounds p (windows_in table) points sides c.tables price.kind price.forced leaf.0 valid keep leaf.1 d plan of_leaf in
+    (λ (leaf : (value : ℕ) × IsPricedValue p (windows_in table) points sides c.tables c.spans price.kind price.forced value × (claim ≤ rounded_up c.unit (div_ceil value p.scale))).
+    let le : leaf.0 ≤ p.scale * cost p plan = span_leaf-bounds p (windows_in table) points sides c.tables (spans_beside c.spans price.kind) price.kind price.forced leaf.0 valid keep.tables (keep.spans price.kind) leaf.1 d plan of_leaf in
     let few : div_ceil leaf.0 p.scale ≤ cost p plan = div_ceil-least leaf.0 p.scale (cost p plan) (omega (arith, valid.scale.0)) (omega (arith, le)) in
-    omega (arith, few, leaf.2))
+    let rounded : rounded_up c.unit (div_ceil leaf.0 p.scale) ≤ cost p plan = rounded_up-cost p c.unit (div_ceil leaf.0 p.scale) plan keep.range keep.unit few in
+    omega (arith, rounded, leaf.2))
     worth
 
 -- the terminal that an arc leaves
@@ -67,7 +70,7 @@ HaveTails-fork_of p (node.Branch split ∷ nodes) = (IsTailOfSplit-split_tail p 
 HaveTails-fork_of p (node.Leaf price ∷ nodes) = (tt, HaveTails-fork_of p nodes)
 
 -- where each leaf is worth the claim, no plan within the windows costs less
-AreLeavesWorth-NoPlanWithinCheaper : (p : Problem) (table : WindowTable) (c : Statement) (claim : ℕ) → IsValid p → AllKeepRule p c.tables → HasTree p c → AreLeavesWorth p table c claim →
+AreLeavesWorth-NoPlanWithinCheaper : (p : Problem) (table : WindowTable) (c : Statement) (claim : ℕ) → IsValid p → AreKept p c → HasTree p c → AreLeavesWorth p table c claim →
     NoPlanWithinCheaper p (windows_in table) claim
 AreLeavesWorth-NoPlanWithinCheaper p table c claim valid keep tree worth d plan some is within =
     AnyByRecursion-all _ (λ (l : Leaf Node). IsLeafWorth p table c claim l.node l.sides) (claim ≤ cost p plan)
@@ -88,22 +91,22 @@ IsTooLate-PlanExists p k time exists is plan =
     (AllZip-get_or (Carries p plan.0) p.shipments plan.1 k no_shipment [] plan.3 exists)
 
 -- what the parts that bound plans make true
-IsAccepted-NoPlanWithinCheaper : (p : Problem) (table : WindowTable) (c : Statement) (claim : ℕ) → IsValid p → IsAccepted p table c → Applies c.answer Part.Prices → Applies c.answer Part.Tree →
+IsAccepted-NoPlanWithinCheaper : (p : Problem) (table : WindowTable) (c : Statement) (claim : ℕ) → IsValid p → IsInRange p c → IsAccepted p table c → Applies c.answer Part.Prices → Applies c.answer Part.Tree →
     Applies c.answer Part.Leaves → claim_of c.answer ≡ claim → NoPlanWithinCheaper p (windows_in table) claim
-IsAccepted-NoPlanWithinCheaper p table c claim valid accepted prices tree leaves claimed =
-    AreLeavesWorth-NoPlanWithinCheaper p table c claim valid (accepted Part.Prices prices).rule (accepted Part.Tree tree)
+IsAccepted-NoPlanWithinCheaper p table c claim valid range accepted prices tree leaves claimed =
+    AreLeavesWorth-NoPlanWithinCheaper p table c claim valid (HasPrices-kept p c valid range (accepted Part.Prices prices)) (accepted Part.Tree tree)
     (subst (λ (n : ℕ). AreLeavesWorth p table c n) claimed (accepted Part.Leaves leaves))
 
-ClaimsWithin_answer : (p : Problem) (table : WindowTable) (c : Statement) (answer : Answer) → c.answer ≡ answer → IsValid p → IsAnswerInRange p answer → IsAccepted p table c →
+ClaimsWithin_answer : (p : Problem) (table : WindowTable) (c : Statement) (answer : Answer) → c.answer ≡ answer → IsValid p → IsInRange p c → IsAnswerInRange p answer → IsAccepted p table c →
     ClaimsWithin p (windows_in table) answer
-ClaimsWithin_answer p table c (Direct cost) same valid range accepted = tt
-ClaimsWithin_answer p table c (Optimal cost) same valid range accepted =
+ClaimsWithin_answer p table c (Direct cost) same valid whole range accepted = tt
+ClaimsWithin_answer p table c (Optimal cost) same valid whole range accepted =
     let applies : (part : Part) → Applies (Optimal cost) part → Applies c.answer part = λ part h. subst (λ (a : Answer). Applies a part) (sym same) h in
-    IsAccepted-NoPlanWithinCheaper p table c cost valid accepted (applies Part.Prices tt) (applies Part.Tree tt) (applies Part.Leaves tt) (rw same refl)
-ClaimsWithin_answer p table c (Unfinished cost bound spent) same valid range accepted =
+    IsAccepted-NoPlanWithinCheaper p table c cost valid whole accepted (applies Part.Prices tt) (applies Part.Tree tt) (applies Part.Leaves tt) (rw same refl)
+ClaimsWithin_answer p table c (Unfinished cost bound spent) same valid whole range accepted =
     let applies : (part : Part) → Applies (Unfinished cost bound spent) part → Applies c.answer part = λ part h. subst (λ (a : Answer). Applies a part) (sym same) h in
-    IsAccepted-NoPlanWithinCheaper p table c bound valid accepted (applies Part.Prices tt) (applies Part.Tree tt) (applies Part.Leaves tt) (rw same refl)
-ClaimsWithin_answer p table c (Infeasible shipment time) same valid range accepted =
+    IsAccepted-NoPlanWithinCheaper p table c bound valid whole accepted (applies Part.Prices tt) (applies Part.Tree tt) (applies Part.Leaves tt) (rw same refl)
+ClaimsWithin_answer p table c (Infeasible shipment time) same valid whole range accepted =
     IsTooLate-PlanExists p shipment time range.0
     (subst (λ (a : Answer). IsBlockedAs p a) same (accepted Part.Blocked (subst (λ (a : Answer). Applies a Part.Blocked) (sym same) tt)))
 
@@ -116,7 +119,7 @@ ClaimsWithin-Claims p windows (Infeasible shipment time) cover within = within
 
 -- what an accepted certificate claims of the plans within the windows is true
 pub IsAccepted-ClaimsWithin : (p : Problem) (table : WindowTable) (c : Statement) → IsValid p → IsInRange p c → IsAccepted p table c → ClaimsWithin p (windows_in table) c.answer
-IsAccepted-ClaimsWithin p table c valid range accepted = ClaimsWithin_answer p table c c.answer refl valid range.answer accepted
+IsAccepted-ClaimsWithin p table c valid range accepted = ClaimsWithin_answer p table c c.answer refl valid range range.answer accepted
 
 -- and where the windows are the instance's own, so is what it claims of all plans
 pub IsAccepted-Claims : (p : Problem) (table : WindowTable) (c : Statement) → IsValid p → IsInRange p c → IsAccepted p table c → AreWindows p (windows_in table) → Claims p c.answer

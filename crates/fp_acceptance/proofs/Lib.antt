@@ -1,3 +1,6 @@
 pub mod RoundCounts
 pub mod AddedPoints
+pub mod Multiples
+pub mod UnitCosts
+pub mod KeptPrices
 pub mod Claims

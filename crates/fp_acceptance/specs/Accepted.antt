@@ -5,13 +5,13 @@ use Rattle.fp_model.specs.Numbered.{shipment_at}
 use Rattle.fp_model.specs.Problem.{Problem}
 use Rattle.fp_model.specs.Times.{IsFastest}
 use Rattle.fp_flatnet.specs.Tables.{WindowTable, windows_in}
-use Rattle.fp_prices.specs.Tables.{AreTables}
 use Rattle.fp_lines.specs.declared.certificates.Answer.{Answer}
 use Rattle.fp_lines.specs.declared.certificates.Answer.TheVariants.{Direct, Optimal, Unfinished, Infeasible}
 use Rattle.fp_lines.specs.Statements.{Statement}
 use Rattle.fp_acceptance.specs.Leaves.{AreLeavesWorth, HasTree}
 use Rattle.fp_acceptance.specs.Plans.{HasCost, HasPlan, HasTrucks}
 use Rattle.fp_acceptance.specs.Points.{HasPoints}
+use Rattle.fp_acceptance.specs.Prices.{HasPrices}
 
 -- what a certificate is tested for, in this order
 pub data Part : Type 0 where
@@ -58,7 +58,7 @@ Holds p table c Part.Plan = HasPlan p (windows_in table) c
 Holds p table c Part.Cost = HasCost p c
 Holds p table c Part.Trucks = HasTrucks p c
 Holds p table c Part.Points = HasPoints p table.anchors c
-Holds p table c Part.Prices = AreTables p c.tables
+Holds p table c Part.Prices = HasPrices p c
 Holds p table c Part.Tree = HasTree p c
 Holds p table c Part.Leaves = AreLeavesWorth p table c (claim_of c.answer)
 Holds p table c Part.Blocked = IsBlockedAs p c.answer

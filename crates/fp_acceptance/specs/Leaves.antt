@@ -10,11 +10,13 @@ use Rattle.fp_tree.specs.declared.sides.Split.{Split}
 use Rattle.fp_tree.specs.declared.sides.Split.TheVariants.{ByArc, ByTime}
 use Rattle.fp_tree.specs.Sides.{Fork}
 use Rattle.fp_tree.specs.Trees.{Leaf, IsTree, tree_leaves, tree_splits}
-use Rattle.fp_prices.specs.Leaves.{IsLeafEmpty, IsLeafValue}
+use Rattle.fp_prices.specs.Leaves.{IsLeafEmpty}
+use Rattle.fp_spans.specs.SpanKinds.{IsPricedValue}
 use Rattle.fp_lines.specs.declared.certificates.Node.{Node}
 use Rattle.fp_lines.specs.declared.certificates.Node.TheVariants as node
 use Rattle.fp_lines.specs.Statements.{Statement}
 use Rattle.fp_acceptance.specs.Points.{points_as_of}
+use Rattle.fp_acceptance.specs.Units.{rounded_up}
 
 -- the terminal that the arc of a split leaves, and 0 for a split by time
 abbrev pub split_tail : Problem → Split → ℕ
@@ -31,13 +33,14 @@ pub record HasTree (p : Problem) (c : Statement) : Type 0 where
   pub tree : IsTree (fork_of p) c.tree
   pub few : length (tree_splits (fork_of p) c.tree) ≤ MOST_SPLITS
 
--- a leaf is empty, or its bound in whole units of money is at least the claim
+-- a leaf is empty, or its bound in whole units of money, rounded up to a multiple of the certificate's
+-- unit, is at least the claim
 abbrev pub IsLeafWorth : Problem → WindowTable → Statement → (claim : ℕ) → Node → List Side → Type 0
 IsLeafWorth p table c claim (node.Branch split) sides = ⊥
 IsLeafWorth p table c claim (node.Leaf price) sides =
     IsLeafEmpty p (windows_in table) (points_as_of p table.anchors c price.round) sides
-    ⊎ ((value : ℕ) × IsLeafValue p (windows_in table) (points_as_of p table.anchors c price.round) sides c.tables price.kind price.forced value
-    × (claim ≤ div_ceil value p.scale))
+    ⊎ ((value : ℕ) × IsPricedValue p (windows_in table) (points_as_of p table.anchors c price.round) sides c.tables c.spans price.kind price.forced value
+    × (claim ≤ rounded_up c.unit (div_ceil value p.scale)))
 
 -- each leaf of the tree is worth the claim under the sides on its way from the root
 abbrev pub AreLeavesWorth : Problem → WindowTable → Statement → (claim : ℕ) → Type 0

@@ -6,6 +6,8 @@
 
 mod laws;
 mod limits;
+mod units;
 
 pub use laws::accepted_claims;
 pub use limits::MOST_IN_ROUND;
+pub use units::{is_unit, reaches, rounded_below, unit_of};

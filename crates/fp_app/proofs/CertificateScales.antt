@@ -7,7 +7,8 @@ use Rattle.fp_model.specs.Problem.{Problem}
 use Rattle.fp_fields.specs.Faults.{Fault, first_fault}
 use Rattle.fp_certificate.specs.declared.drafts.Draft.{Draft}
 use Rattle.fp_certificate.specs.declared.kinds.LineKind.{LineKind}
-use Rattle.fp_certificate.specs.declared.kinds.LineKind.TheVariants.{Direct, Optimal, Unfinished, Infeasible, Scale, Leg, Truck, Point, Table, Share, Weight, ByArc, ByTime, Leaf, End}
+use Rattle.fp_certificate.specs.declared.kinds.LineKind.TheVariants.{Direct, Optimal, Unfinished, Infeasible, Scale, Leg, Truck, Point, Table, Share, Span, Weight, ByArc, ByTime, Leaf, End}
+use Rattle.fp_certificate.specs.declared.kinds.LineKind.TheVariants as kind
 use Rattle.fp_certificate.specs.Kinds.{kind_of}
 use Rattle.fp_certificate.specs.Reading.{certificate_from, kind_code, line_code, with_kind_of, with_line}
 use Rattle.fp_lines.specs.Statements.{Statement}
@@ -24,11 +25,13 @@ kind_code-scale p scale before (Some Optimal) fields = refl
 kind_code-scale p scale before (Some Unfinished) fields = refl
 kind_code-scale p scale before (Some Infeasible) fields = refl
 kind_code-scale p scale before (Some Scale) fields = refl
+kind_code-scale p scale before (Some kind.Unit) fields = refl
 kind_code-scale p scale before (Some Leg) fields = refl
 kind_code-scale p scale before (Some Truck) fields = refl
 kind_code-scale p scale before (Some Point) fields = refl
 kind_code-scale p scale before (Some Table) fields = refl
 kind_code-scale p scale before (Some Share) fields = refl
+kind_code-scale p scale before (Some Span) fields = refl
 kind_code-scale p scale before (Some Weight) fields = refl
 kind_code-scale p scale before (Some ByArc) fields = refl
 kind_code-scale p scale before (Some ByTime) fields = refl
@@ -45,11 +48,13 @@ with_kind-scale p scale before (Some Optimal) fields = refl
 with_kind-scale p scale before (Some Unfinished) fields = refl
 with_kind-scale p scale before (Some Infeasible) fields = refl
 with_kind-scale p scale before (Some Scale) fields = refl
+with_kind-scale p scale before (Some kind.Unit) fields = refl
 with_kind-scale p scale before (Some Leg) fields = refl
 with_kind-scale p scale before (Some Truck) fields = refl
 with_kind-scale p scale before (Some Point) fields = refl
 with_kind-scale p scale before (Some Table) fields = refl
 with_kind-scale p scale before (Some Share) fields = refl
+with_kind-scale p scale before (Some Span) fields = refl
 with_kind-scale p scale before (Some Weight) fields = refl
 with_kind-scale p scale before (Some ByArc) fields = refl
 with_kind-scale p scale before (Some ByTime) fields = refl

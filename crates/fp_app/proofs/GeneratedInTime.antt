@@ -1,10 +1,10 @@
 -- Each shipment of the generator can be carried in time: round the ring from its origin.
-use Rattle.std.proofs.Common.{◌≡◌, ◌∙◌, ℕ, zero, suc, ◌+◌, ◌-◌, ◌*◌, ◌/◌, ◌%◌, ◌<◌, ◌≤◌, Bool, true, false, ◌||◌, eqb, ⊎_elim, List, [], ◌∷◌, ◌++◌, length, map, replicate, get_or, refl, sym, ap, inl, inr, arith}
+use Rattle.std.proofs.Common.{◌≡◌, ◌∙◌, ℕ, zero, suc, ◌+◌, ◌-◌, ◌*◌, ◌/◌, ◌%◌, ◌<◌, ◌≤◌, Bool, true, ◌||◌, eqb, ⊎_elim, List, [], ◌∷◌, length, replicate, get_or, refl, sym, ap, inl, inr, arith}
 use Rattle.std.specs.Prelude.{All, IfSome, Option, Some, None}
 use Rattle.std.specs.List.{enumerate_from, flat_map, list_any, range_with_len}
 use Rattle.std.proofs.Math.Nat.{add-mul-mod_self_left, mod-add-div, mod-eq_of_lt}
 use Rattle.std.proofs.lemmas.Bool.{and_from, cases_Bool, cases_lt, eq-eqb, or_left, or_right}
-use Rattle.std.proofs.lemmas.List.Elements.{All-get_or, All-map}
+use Rattle.std.proofs.lemmas.List.Elements.{All-map}
 use Rattle.std.proofs.lemmas.List.Folds.{list_any-append}
 use Rattle.std.proofs.lemmas.List.FromFn.{get_or-map-range_with_len, length-map-range_with_len}
 use Rattle.std.proofs.lemmas.Nat.{mod_below}
@@ -15,7 +15,7 @@ use Rattle.fp_model.specs.Numbered.{shipment_at, no_shipment}
 use Rattle.fp_model.specs.Problem.{Problem, arc_at, hold_at, no_arc}
 use Rattle.fp_model.specs.Times.{IsFastest}
 use Rattle.fp_model.specs.Routes.{Leads, walk_time}
-use Rattle.fp_fields.specs.Indexes.{arc_ends, same_ends}
+use Rattle.fp_fields.specs.Indexes.{same_ends}
 use Rattle.fp_flatnet.specs.Verdicts.{IsBlocked}
 use Rattle.fp_reader.specs.Generator.{draw_after, drawn_arc, drawn_arcs, drawn_shipment, ends_from, generated, number_after, ring_ends}
 use Rattle.fp_reader.proofs.DrawnArcs.{arc_ends-drawn_arcs}

@@ -48,12 +48,12 @@ bound-status option p (shown.Bound q price tables spans value) told = inl (refl,
 bound-status option p (shown.Infeasible q shipment time) told = inr (refl, told.2)
 bound-status option p _ told = absurd told
 
-search-input-status : (p : Problem) (budget : Budget) (s : Shown) → ShowsSearch budget p s → SearchStatus p every budget (status_of s)
-search-input-status p budget (shown.Planned q solved) told = end-status p every budget solved told.1 (search-end p every budget solved.certificate.answer told.1.says)
-search-input-status p budget (shown.Infeasible q shipment time) told = inr (inr (refl, told.2))
-search-input-status p budget _ told = absurd told
+search-input-status : (p : Problem) (budget : Budget) (spans : Bool) (s : Shown) → ShowsSearch budget spans p s → SearchStatus p every budget (status_of s)
+search-input-status p budget spans (shown.Planned q solved) told = end-status p every budget spans solved told.1 (search-end p every budget solved.certificate.answer told.1.says)
+search-input-status p budget spans (shown.Infeasible q shipment time) told = inr (inr (refl, told.2))
+search-input-status p budget spans _ told = absurd told
 
-trial-status : (p : Problem) (s : Solution) → IsSearched p every trial_budget s → SearchEnd p every trial_budget s.certificate.answer → TrialStatus p (search_status s.certificate.answer)
+trial-status : (p : Problem) (s : Solution) → IsSearched p every trial_budget false s → SearchEnd p every trial_budget s.certificate.answer → TrialStatus p (search_status s.certificate.answer)
 trial-status p s told (optimal cost same plans) = inl (ap search_status same)
 trial-status p s told (unfinished cost bound spent same bounds) = inr (ap search_status same, (spent, bounds.scarce))
 
@@ -78,15 +78,15 @@ certificate-map input s P Q each told =
 ShowsInput-InputStatus : (o : Order) (input : List ℕ) (s : Shown) → ShowsInput o input s → InputStatus o input (status_of s)
 ShowsInput-InputStatus Direct input s told = MatchResult_map (instance_in input) (λ p. ShowsDirect p s) (λ p. PlanStatus p (status_of s)) s (λ p. direct-status p s) told
 ShowsInput-InputStatus (Bound option) input s told = MatchResult_map (instance_in input) (λ p. ShowsBound option p s) (λ p. PlanStatus p (status_of s)) s (λ p. bound-status option p s) told
-ShowsInput-InputStatus (Plan budget scale) input s told =
-    MatchResult_map (instance_at scale input) (λ p. ShowsSearch budget p s) (λ p. SearchStatus p every budget (status_of s)) s (λ p. search-input-status p budget s) told
+ShowsInput-InputStatus (Plan budget scale spans) input s told =
+    MatchResult_map (instance_at scale input) (λ p. ShowsSearch budget spans p s) (λ p. SearchStatus p every budget (status_of s)) s (λ p. search-input-status p budget spans s) told
 ShowsInput-InputStatus (Trial seed terminals shipments) input s told = absurd told
 ShowsInput-InputStatus (Yard seed) input s told = certificate-map input s (λ p c. ShowsYard seed p c s) (λ p c. ToldStatus p c (status_of s)) (λ p c. yard-status seed p c s) told
 ShowsInput-InputStatus Fleet input s told = certificate-map input s (λ p c. ShowsFleet p c s) (λ p c. ToldStatus p c (status_of s)) (λ p c. fleet-status p c s) told
-ShowsInput-InputStatus (Replan budget) input s told =
-    MatchResult_map (kept_in input) (λ (x : KeptInstance). ShowsReplan budget x s) (λ (x : KeptInstance). SearchStatus x.instance (keeping x.kept) budget (status_of s)) s (λ (x : KeptInstance). replan-status budget x s) told
-ShowsInput-InputStatus (Quote budget) input s told =
-    MatchResult_map (quoted_in input) (λ p. ShowsQuote budget p s) (λ p. QuoteStatus p budget (status_of s)) s (λ p. quote-status budget p s) told
+ShowsInput-InputStatus (Replan budget spans) input s told =
+    MatchResult_map (kept_in input) (λ (x : KeptInstance). ShowsReplan budget spans x s) (λ (x : KeptInstance). SearchStatus x.instance (keeping x.kept) budget (status_of s)) s (λ (x : KeptInstance). replan-status budget spans x s) told
+ShowsInput-InputStatus (Quote budget spans) input s told =
+    MatchResult_map (quoted_in input) (λ p. ShowsQuote budget spans p s) (λ p. QuoteStatus p budget (status_of s)) s (λ p. quote-status budget spans p s) told
 ShowsInput-InputStatus Check input s told =
     certificate-map input s (λ p c. ShowsCheck (scaled p c) c s) (λ p c. CheckStatus (scaled p c) c (status_of s)) (λ p c. check-status (scaled p c) c s) told
 

@@ -1,5 +1,5 @@
--- A leaf that has a value by some prices can't lack one by linear prices, so an earned leaf is worth
--- the flat bound.
+-- A leaf that has a value by some prices can't lack one by linear prices, so a value at least as good as
+-- those is at least the flat bound.
 use Rattle.std.proofs.Common.{◌≡◌, ℕ, zero, suc, ◌+◌, ◌*◌, ◌<◌, ◌≤◌, Bool, false, List, [], ◌∷◌, refl, inl, inr, arith}
 use Rattle.std.specs.Prelude.{Option, map, sum_by}
 use Rattle.std.proofs.lemmas.Bool.{cases_lt}
@@ -14,11 +14,13 @@ use Rattle.fp_allowed.specs.Allowed.{is_allowed}
 use Rattle.fp_allowed.specs.Walks.{IsTimedWalk}
 use Rattle.fp_prices.specs.declared.leaf_prices.Kind.{Kind}
 use Rattle.fp_prices.specs.declared.leaf_prices.Kind.TheVariants.{Linear}
-use Rattle.fp_prices.specs.EarnedLeaves.{IsEarnedLeaf}
 use Rattle.fp_prices.specs.FlatBounds.{IsFlatBound}
 use Rattle.fp_prices.specs.Leaves.{IsChain, IsLeafValue, IsLeastCost, leaf_price, walk_cost}
 use Rattle.fp_prices.specs.Shares.{ClassShare}
 use Rattle.fp_prices.proofs.FlatBounds.{flat-le}
+use Rattle.fp_spans.specs.SpanLeaves.{IsSpanLeafValue}
+use Rattle.fp_spans.specs.SpanPrices.{leaf_span_price}
+use Rattle.fp_spans.specs.Spans.{ClassSpan}
 
 -- where no number with a property is the least, none below any number has it
 none-below : (P : ℕ → Type 0) → ((n : ℕ) → P n → ((m : ℕ) → P m → n ≤ m) → ⊥) → (n m : ℕ) → m < n → P m → ⊥
@@ -61,12 +63,12 @@ are_chains-none allowed p i [] = tt
 are_chains-none allowed p i (s ∷ shipments) = (refl, are_chains-none allowed p (i + 1) shipments)
 
 -- so where a leaf has a value, the plain leaf can't lack one by linear prices
-linear-not_none : (p : Problem) (windows : ℕ → ℕ → Option Window) (points : ℕ → List ℕ) (sides : List Side) (tables : List (List ClassShare)) (kind : Kind) (forced : Bool) (value : ℕ) →
-    IsLeafValue p windows points sides tables kind forced value → ((plain : ℕ) → IsLeafValue p windows points sides [] Linear false plain → ⊥) → ⊥
-linear-not_none p windows points sides tables kind forced value is none =
+linear-not_none : (p : Problem) (windows : ℕ → ℕ → Option Window) (points : ℕ → List ℕ) (sides : List Side) (tables : List (List ClassShare)) (spans : List ClassSpan) (kind : Kind) (forced : Bool) (value : ℕ) →
+    IsSpanLeafValue p windows points sides tables spans kind forced value → ((plain : ℕ) → IsLeafValue p windows points sides [] Linear false plain → ⊥) → ⊥
+linear-not_none p windows points sides tables spans kind forced value is none =
     let allowed : ℕ → Leg → Bool = is_allowed p windows points sides in
     let chains : List (List Leg) = no_chains p.shipments in
-    costs-not_none p points allowed (λ k (s : Shipment). leaf_price p tables allowed kind is.chains k s.size) (λ k (s : Shipment). leaf_price p [] allowed Linear chains k s.size) 0 p.shipments is.costs is.are_least
+    costs-not_none p points allowed (λ k (s : Shipment). leaf_span_price p tables spans allowed kind is.chains k s.size) (λ k (s : Shipment). leaf_price p [] allowed Linear chains k s.size) 0 p.shipments is.costs is.are_least
     (λ others are. none (p.scale * departures_cost p chains (all_legs chains) + sum_by (λ (n : ℕ). n) others) (record {
       chains = chains;
       costs = others;
@@ -75,13 +77,13 @@ linear-not_none p windows points sides tables kind forced value is none =
       value_is = refl;
     }))
 
--- an earned leaf is worth the flat bound
-pub flat-le_leaf : (p : Problem) (windows : ℕ → ℕ → Option Window) (points : ℕ → List ℕ) (sides : List Side) (tables : List (List ClassShare)) (kind : Kind) (forced : Bool) (flat : ℕ) → IsFlatBound p flat →
-    (earned : IsEarnedLeaf p windows points sides tables kind forced) → flat ≤ earned.value
-flat-le_leaf p windows points sides tables kind forced flat is earned =
-    elim (cases_lt earned.value flat) [
+-- so a value at least as good as those by linear prices is at least the flat bound
+pub flat-le_leaf : (p : Problem) (windows : ℕ → ℕ → Option Window) (points : ℕ → List ℕ) (sides : List Side) (tables : List (List ClassShare)) (spans : List ClassSpan) (kind : Kind) (forced : Bool) (flat value : ℕ) → IsFlatBound p flat →
+    IsSpanLeafValue p windows points sides tables spans kind forced value → ((f : Bool) (other : ℕ) → IsLeafValue p windows points sides [] Linear f other → other ≤ value) → flat ≤ value
+flat-le_leaf p windows points sides tables spans kind forced flat value is leaf linear =
+    elim (cases_lt value flat) [
       | inl above ↦
-          absurd (linear-not_none p windows points sides tables kind forced earned.value earned.is (λ plain leaf.
-          omega (arith, above, flat-le p windows points sides [] flat plain is leaf, earned.linear false plain leaf)))
+          absurd (linear-not_none p windows points sides tables spans kind forced value leaf (λ plain other.
+          omega (arith, above, flat-le p windows points sides [] flat plain is other, linear false plain other)))
       | inr no_less ↦ no_less
     ]

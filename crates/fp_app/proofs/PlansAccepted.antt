@@ -90,7 +90,7 @@ module _ (q : Problem) (input longer : List ℕ) (more : Records) (c : Statement
       subst (λ (r : Result Statement Fault). MatchResult r (λ d. CheckStatus (scaled q d) d result) (λ (f : Fault). result ≡ status.BadInput)) same-certificate first
 
 pub CheckAcceptsPlans_hold : CheckAcceptsPlans
-CheckAcceptsPlans_hold budget scale input longer p s read searched joined result is =
+CheckAcceptsPlans_hold budget scale spans input longer p s read searched joined result is =
     let source : IsRead scale (instance_in input) p = instance-read scale (instance_in input) p read in
     let q : Problem = source.instance in
     let given : (ordinal : ℕ) → certificate_of q ordinal (records_of (certificate_text p s.certificate)) ≡ Ok s.certificate =

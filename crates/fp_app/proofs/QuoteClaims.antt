@@ -1,5 +1,5 @@
 -- What two searches tell of the extra cost of the last shipment.
-use Rattle.std.proofs.Common.{◌≡◌, ◌∙◌, ℕ, ◌+◌, ◌-◌, ◌≤◌, length, sym, ap, subst, arith}
+use Rattle.std.proofs.Common.{◌≡◌, ◌∙◌, ℕ, ◌-◌, ◌≤◌, Bool, length, sym, ap, subst, arith}
 use Rattle.fp_model.specs.Plans.{NoPlanCheaper}
 use Rattle.fp_model.specs.Problem.{Problem}
 use Rattle.fp_lines.specs.declared.certificates.Answer.{Answer}
@@ -17,16 +17,16 @@ use Rattle.fp_app.specs.Wanted.{every}
 use Rattle.fp_app.proofs.SearchEnds.{SearchEnd, optimal, search-end, unfinished}
 
 -- what a search shows is the cost of a plan
-cost-of_plan : (p : Problem) (budget : Budget) (s : Solution) → IsSearched p every budget s → IsCostOfPlan p (stated_cost s.certificate.answer)
-cost-of_plan p budget s told = let some : 1 ≤ 1 = omega arith in (1, routes_of p s.certificate, some, told.timetable.plan.plan, sym told.timetable.cost)
+cost-of_plan : (p : Problem) (budget : Budget) (spans : Bool) (s : Solution) → IsSearched p every budget spans s → IsCostOfPlan p (stated_cost s.certificate.answer)
+cost-of_plan p budget spans s told = let some : 1 ≤ 1 = omega arith in (1, routes_of p s.certificate, some, told.timetable.plan.plan, sym told.timetable.cost)
 
 -- and no plan costs less than it claims
 claim-least : (p : Problem) (budget : Budget) (a : Answer) → SearchEnd p every budget a → NoPlanCheaper p (claim_of a)
 claim-least p budget a (optimal cost same plans) = subst (NoPlanCheaper p) (sym (ap claim_of same)) plans
 claim-least p budget a (unfinished cost bound spent same bounds) = subst (NoPlanCheaper p) (sym (ap claim_of same)) bounds.plans
 
-figures : (p : Problem) (budget : Budget) (s : Solution) → IsSearched p every budget s → AreFigures p (claim_of s.certificate.answer) (stated_cost s.certificate.answer)
-figures p budget s told = record { low_is = claim-least p budget s.certificate.answer (search-end p every budget s.certificate.answer told.says); cost_is = cost-of_plan p budget s told }
+figures : (p : Problem) (budget : Budget) (spans : Bool) (s : Solution) → IsSearched p every budget spans s → AreFigures p (claim_of s.certificate.answer) (stated_cost s.certificate.answer)
+figures p budget spans s told = record { low_is = claim-least p budget s.certificate.answer (search-end p every budget s.certificate.answer told.says); cost_is = cost-of_plan p budget spans s told }
 
 -- the least cost lies between the figures
 least-above : (p : Problem) (low c n : ℕ) → AreFigures p low c → IsLeastCost p n → low ≤ n
@@ -64,10 +64,10 @@ exact-both p b a least most before after first second = (
   ap (λ (x : Answer). extra_of x a) first ∙ ap (λ (x : Answer). extra_of (Optimal least) x) second,
 )
 
-pub searched-quoted : (p : Problem) (budget : Budget) (before after : Solution) → IsSearched (without_last p) every budget before → IsSearched p every budget after → IsQuoted p budget before after
-searched-quoted p budget before after first second =
-    let one = figures (without_last p) budget before first in
-    let two = figures p budget after second in
+pub searched-quoted : (p : Problem) (budget : Budget) (spans : Bool) (before after : Solution) → IsSearched (without_last p) every budget spans before → IsSearched p every budget spans after → IsQuoted p budget spans before after
+searched-quoted p budget spans before after first second =
+    let one = figures (without_last p) budget spans before first in
+    let two = figures p budget spans after second in
     record {
       without = first;
       with_it = second;
@@ -80,11 +80,11 @@ bracketed p budget a (optimal cost same plans) = subst IsBracketed (sym same) tt
 bracketed p budget a (unfinished cost bound spent same bounds) = subst IsBracketed (sym same) tt
 
 -- so the two can be printed
-pub searched-can_be_quoted : (p : Problem) (budget : Budget) (before after : Solution) → 1 ≤ length p.shipments → IsSearched (without_last p) every budget before → IsSearched p every budget after →
+pub searched-can_be_quoted : (p : Problem) (budget : Budget) (spans : Bool) (before after : Solution) → 1 ≤ length p.shipments → IsSearched (without_last p) every budget spans before → IsSearched p every budget spans after →
     CanBeQuoted p before.certificate.answer after.certificate.answer
-searched-can_be_quoted p budget before after some first second = record {
+searched-can_be_quoted p budget spans before after some first second = record {
   shipment = some;
   without = bracketed (without_last p) budget before.certificate.answer (search-end (without_last p) every budget before.certificate.answer first.says);
   with_it = bracketed p budget after.certificate.answer (search-end p every budget after.certificate.answer second.says);
-  ascends = low-le p (claim_of before.certificate.answer) (stated_cost after.certificate.answer) (figures (without_last p) budget before first).low_is (figures p budget after second).cost_is;
+  ascends = low-le p (claim_of before.certificate.answer) (stated_cost after.certificate.answer) (figures (without_last p) budget spans before first).low_is (figures p budget spans after second).cost_is;
 }

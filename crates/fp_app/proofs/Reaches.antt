@@ -33,8 +33,8 @@ MatchResult_neither (Err y) P Q first second told = second y told
 
 -- what no command shows answers no order
 module _ (s : Shown) (fault : (f : Fault) → s ≡ shown.BadInput f.ordinal f.code → ⊥) (long : s ≡ shown.TooLong → ⊥) (direct : (p : Problem) → ShowsDirect p s → ⊥)
-    (bound : (option : Bool) (p : Problem) → ShowsBound option p s → ⊥) (search_none : (budget : Budget) (p : Problem) → ShowsSearch budget p s → ⊥) (check : (p : Problem) (c : Statement) → ShowsCheck p c s → ⊥)
-    (replan : (budget : Budget) (x : KeptInstance) → ShowsReplan budget x s → ⊥) (quote : (budget : Budget) (p : Problem) → ShowsQuote budget p s → ⊥)
+    (bound : (option : Bool) (p : Problem) → ShowsBound option p s → ⊥) (search_none : (budget : Budget) (spans : Bool) (p : Problem) → ShowsSearch budget spans p s → ⊥) (check : (p : Problem) (c : Statement) → ShowsCheck p c s → ⊥)
+    (replan : (budget : Budget) (spans : Bool) (x : KeptInstance) → ShowsReplan budget spans x s → ⊥) (quote : (budget : Budget) (spans : Bool) (p : Problem) → ShowsQuote budget spans p s → ⊥)
     (alone : (o : Order) → ShowsAlone o s → ⊥) (yard : (seed : ℕ) (p : Problem) (c : Statement) → ShowsYard seed p c s → ⊥)
     (fleet : (p : Problem) (c : Statement) → ShowsFleet p c s → ⊥) where
   no-certificate : (input : List ℕ) (P : Problem → Statement → Type 0) → ((p : Problem) (c : Statement) → P p c → ⊥) → OfCertificate input s P → ⊥
@@ -45,12 +45,12 @@ module _ (s : Shown) (fault : (f : Fault) → s ≡ shown.BadInput f.ordinal f.c
   no-input : (o : Order) (input : List ℕ) → ShowsInput o input s → ⊥
   no-input Direct input told = MatchResult_neither (instance_in input) (λ p. ShowsDirect p s) (λ (f : Fault). s ≡ shown.BadInput f.ordinal f.code) direct fault told
   no-input (Bound option) input told = MatchResult_neither (instance_in input) (λ p. ShowsBound option p s) (λ (f : Fault). s ≡ shown.BadInput f.ordinal f.code) (bound option) fault told
-  no-input (Plan budget scale) input told =
-      MatchResult_neither (instance_at scale input) (λ p. ShowsSearch budget p s) (λ (f : Fault). s ≡ shown.BadInput f.ordinal f.code) (search_none budget) fault told
+  no-input (Plan budget scale spans) input told =
+      MatchResult_neither (instance_at scale input) (λ p. ShowsSearch budget spans p s) (λ (f : Fault). s ≡ shown.BadInput f.ordinal f.code) (search_none budget spans) fault told
   no-input (Trial seed terminals shipments) input told = told
-  no-input (Replan budget) input told =
-      MatchResult_neither (kept_in input) (λ (x : KeptInstance). ShowsReplan budget x s) (λ (f : Fault). s ≡ shown.BadInput f.ordinal f.code) (replan budget) fault told
-  no-input (Quote budget) input told = MatchResult_neither (quoted_in input) (λ p. ShowsQuote budget p s) (λ (f : Fault). s ≡ shown.BadInput f.ordinal f.code) (quote budget) fault told
+  no-input (Replan budget spans) input told =
+      MatchResult_neither (kept_in input) (λ (x : KeptInstance). ShowsReplan budget spans x s) (λ (f : Fault). s ≡ shown.BadInput f.ordinal f.code) (replan budget spans) fault told
+  no-input (Quote budget spans) input told = MatchResult_neither (quoted_in input) (λ p. ShowsQuote budget spans p s) (λ (f : Fault). s ≡ shown.BadInput f.ordinal f.code) (quote budget spans) fault told
   no-input (Yard seed) input told = no-certificate input (λ p c. ShowsYard seed p c s) (yard seed) told
   no-input Fleet input told = no-certificate input (λ p c. ShowsFleet p c s) fleet told
   no-input Check input told = no-certificate input (λ p c. ShowsCheck (scaled p c) c s) (λ p c. check (scaled p c) c) told
@@ -69,11 +69,11 @@ alone-shows_trial s none _ told = told
 
 nothing-no_order : (o : Order) (old new : Option (List ℕ)) → Answers (Some o) old new shown.Nothing → ⊥
 nothing-no_order o old new told =
-    no-answer shown.Nothing (λ f e. cc e) (λ e. cc e) (λ p none. none) (λ option p none. none) (λ budget p none. none) (λ p c none. none) (λ budget x none. none) (λ budget p none. none) (alone-shows_trial shown.Nothing (λ seed terminals shipments none. none)) (λ seed p c none. none) (λ p c none. none) o old new told
+    no-answer shown.Nothing (λ f e. cc e) (λ e. cc e) (λ p none. none) (λ option p none. none) (λ budget spans p none. none) (λ p c none. none) (λ budget spans x none. none) (λ budget spans p none. none) (alone-shows_trial shown.Nothing (λ seed terminals shipments none. none)) (λ seed p c none. none) (λ p c none. none) o old new told
 
 words-no_order : (o : Order) (old new : Option (List ℕ)) → Answers (Some o) old new shown.BadWords → ⊥
 words-no_order o old new told =
-    no-answer shown.BadWords (λ f e. cc e) (λ e. cc e) (λ p none. none) (λ option p none. none) (λ budget p none. none) (λ p c none. none) (λ budget x none. none) (λ budget p none. none) (alone-shows_trial shown.BadWords (λ seed terminals shipments none. none)) (λ seed p c none. none) (λ p c none. none) o old new told
+    no-answer shown.BadWords (λ f e. cc e) (λ e. cc e) (λ p none. none) (λ option p none. none) (λ budget spans p none. none) (λ p c none. none) (λ budget spans x none. none) (λ budget spans p none. none) (alone-shows_trial shown.BadWords (λ seed terminals shipments none. none)) (λ seed p c none. none) (λ p c none. none) o old new told
 
 nothing-no_answer : (o : Option Order) (old new : Option (List ℕ)) → Answers o old new shown.Nothing → ⊥
 nothing-no_answer None old new told = cc told

@@ -47,12 +47,12 @@ ShowsNo_check input number (Err f) is same = absurd (rejection-no_fault number f
 ShowsNo_input : (o : Order) (input : List ℕ) (number : ℕ) → ShowsInput o input (shown.RejectedPart number) → ShowsRejection (Some o) input (shown.RejectedPart number)
 ShowsNo_input Direct input number told = absurd (rejection-unread number (instance_in input) told)
 ShowsNo_input (Bound option) input number told = absurd (rejection-unread number (instance_in input) told)
-ShowsNo_input (Plan budget scale) input number told = absurd (rejection-unread number (instance_at scale input) told)
+ShowsNo_input (Plan budget scale spans) input number told = absurd (rejection-unread number (instance_at scale input) told)
 ShowsNo_input (Trial seed terminals shipments) input number told = absurd told
 ShowsNo_input (Yard seed) input number told = yard-rejection seed input number told
 ShowsNo_input Fleet input number told = fleet-rejection input number told
-ShowsNo_input (Replan budget) input number told = absurd (rejection-unread number (kept_in input) told)
-ShowsNo_input (Quote budget) input number told = absurd (rejection-unread number (quoted_in input) told)
+ShowsNo_input (Replan budget spans) input number told = absurd (rejection-unread number (kept_in input) told)
+ShowsNo_input (Quote budget spans) input number told = absurd (rejection-unread number (quoted_in input) told)
 ShowsNo_input Check input number told = ShowsNo_check input number (leading_instance_in input) refl told
 
 alone-no_rejection : (o : Order) (number : ℕ) → ShowsAlone o (shown.RejectedPart number) → ⊥

@@ -24,21 +24,19 @@ use Rattle.fp_prices.specs.declared.bounds.LeafBound.TheVariants.{Value}
 use Rattle.fp_prices.specs.declared.leaf_prices.Kind.{Kind}
 use Rattle.fp_prices.specs.declared.leaf_prices.Kind.TheVariants.{Even, Linear}
 use Rattle.fp_prices.specs.declared.leaf_prices.LeafPrice.{LeafPrice}
-use Rattle.fp_prices.specs.EarnedLeaves.{IsEarnedLeaf}
 use Rattle.fp_prices.specs.Leaves.{IsFirstWithout, IsLeafValue, IsPlanOfLeaf}
-use Rattle.fp_prices.specs.FlatBounds.{IsFlatBound}
 use Rattle.fp_prices.specs.Shares.{ClassShare}
 use Rattle.fp_prices.specs.Tables.{AreTables, HasKind}
 use Rattle.fp_prices.proofs.PlanBounds.{leaf-empty}
 use Rattle.fp_prices.proofs.SamePoints.{bound-same}
 use Rattle.fp_spans.specs.SpanLeaves.{IsSpanLeafValue}
 use Rattle.fp_spans.specs.Spans.{ClassSpan}
+use Rattle.fp_spans.proofs.SameSpanValues.{span_value-same}
 use Rattle.fp_spans.proofs.SpanBounds.{span_leaf-bounds}
 use Rattle.fp_spans.proofs.SpanlessValues.{spanless-values}
 use Rattle.fp_spanduals.specs.declared.span_prices.SpanPrice.{SpanPrice}
 use Rattle.fp_spanduals.specs.SoundSpans.{AreSoundSpans}
 use Rattle.fp_spanduals.specs.SpanPrices.{IsBetterPrice}
-use Rattle.fp_spanduals.proofs.SameSpanValues.{span_value-same}
 use Rattle.fp_spanduals.proofs.SoundSpans.{no_spans-sound}
 use Rattle.fp_duals.specs.declared.improvements.Improved.{Improved}
 use Rattle.fp_duals.specs.declared.improvements.Improved.TheVariants.{Empty, Priced}
@@ -88,41 +86,27 @@ IsEarnedValue-same p windows points others price tables spans value valid same g
 
 -- so they make the bound of the instance
 IsEarnedValue-IsRootBound : (p : Problem) (table : WindowTable) (points : TimePoints) (price : LeafPrice) (tables : List (List ClassShare)) (spans : List ClassSpan) (value : ℕ) → AreWindowsOf p table → CoverPlans p (windows_in table) →
-    BeginAt p table.anchors points → AreTables p tables → AreSoundSpans p spans → HasKind tables price.kind → price.round ≡ 0 → ((flat : ℕ) → IsFlatBound p flat → flat ≤ value) →
+    BeginAt p table.anchors points → AreTables p tables → AreSoundSpans p spans → HasKind tables price.kind → price.round ≡ 0 →
     IsEarnedValue p (windows_in table) (λ terminal. points_at points terminal 0) price tables spans value → IsRootBound p price tables spans value
-IsEarnedValue-IsRootBound p table points price tables spans value windows covers begins prices sound kind round flat good =
+IsEarnedValue-IsRootBound p table points price tables spans value windows covers begins prices sound kind round good =
     let valid : IsValid p = windows.belongs.valid in
     let same : AgreeOnPoints p (λ terminal. points_at points terminal 0) (initial_points p []) =
     subst (λ (anchors : List Place). AgreeOnPoints p (λ terminal. points_at points terminal 0) (initial_points p anchors)) windows.unanchored begins.same in
     let here = IsEarnedValue-same p (windows_in table) (λ terminal. points_at points terminal 0) (initial_points p []) price tables spans value valid same good in
     record {
       root = record { table = table; windows = windows; prices = prices; sound = sound; kind = kind; round = round; earned = here };
-      flat = λ least is. div_ceil_mono least value p.scale (flat least is);
+      flat = λ least is. div_ceil_mono least value p.scale (flat-le_leaf p (windows_in table) (initial_points p []) [] tables spans price.kind price.forced least value is here.is here.linear);
       plans = root-plans p (windows_in table) (initial_points p []) tables spans price.kind price.forced value valid prices sound covers here.is;
     }
 
--- what an improvement of the root gives without spans: a good value, at least the flat bound
-module _ (p : Problem) (windows : ℕ → ℕ → Option Window) (points : ℕ → List ℕ) (before after : List (List ClassShare)) (price : LeafPrice) (value : ℕ) (walks : List (List Leg)) (none : before ≡ [])
-    (priced : IsPriced p windows points [] before after Linear 0 price value walks) where
-  priced-leaf : IsEarnedLeaf p windows points [] after price.kind price.forced
-  priced-leaf = record {
-    value = value;
-    is = priced.is_value;
-    linear = subst (λ (tables : List (List ClassShare)). (f : Bool) (other : ℕ) → IsLeafValue p windows points [] tables Linear f other → other ≤ value) none priced.best.linear;
-    even = subst (λ (tables : List (List ClassShare)). (f : Bool) (other : ℕ) → IsLeafValue p windows points [] tables Even f other → other ≤ value) none priced.best.even;
-  }
-
-  priced-earned : IsEarnedValue p windows points price after [] value
-  unfolding priced-leaf
-  priced-earned = record {
-    is = (spanless-values p windows points [] after price.kind price.forced value).1 priced.is_value;
-    linear = priced-leaf.linear;
-    even = priced-leaf.even;
-  }
-
-  priced-flat : (flat : ℕ) → IsFlatBound p flat → flat ≤ value
-  unfolding priced-leaf
-  priced-flat flat is = flat-le_leaf p windows points [] after price.kind price.forced flat is priced-leaf
+-- what an improvement of the root gives without spans: a good value
+priced-earned : (p : Problem) (windows : ℕ → ℕ → Option Window) (points : ℕ → List ℕ) (before after : List (List ClassShare)) (price : LeafPrice) (value : ℕ) (walks : List (List Leg)) → before ≡ [] →
+    IsPriced p windows points [] before after Linear 0 price value walks → IsEarnedValue p windows points price after [] value
+priced-earned p windows points before after price value walks none priced = record {
+  is = (spanless-values p windows points [] after price.kind price.forced value).1 priced.is_value;
+  linear = subst (λ (tables : List (List ClassShare)). (f : Bool) (other : ℕ) → IsLeafValue p windows points [] tables Linear f other → other ≤ value) none priced.best.linear;
+  even = subst (λ (tables : List (List ClassShare)). (f : Bool) (other : ℕ) → IsLeafValue p windows points [] tables Even f other → other ≤ value) none priced.best.even;
+}
 
 -- an improvement that found a price
 as-priced : (p : Problem) (windows : ℕ → ℕ → Option Window) (points : ℕ → List ℕ) (before after : List (List ClassShare)) (found : Improved) (price : LeafPrice) (value : ℕ) (walks : Vec (List Leg) Global) → found ≡ Priced price value walks →
@@ -136,7 +120,6 @@ pub IsImproved-IsRootBound : (p : Problem) (table : WindowTable) (points : TimeP
 IsImproved-IsRootBound p table points before after found price value walks windows covers begins none prices is improved =
     let priced = as-priced p (windows_in table) (λ terminal. points_at points terminal 0) before after found price value walks is improved in
     IsEarnedValue-IsRootBound p table points price after [] value windows covers begins prices.in_order (no_spans-sound p) priced.kind priced.of_round
-    (priced-flat p (windows_in table) (λ terminal. points_at points terminal 0) before after price value walks.items none priced)
     (priced-earned p (windows_in table) (λ terminal. points_at points terminal 0) before after price value walks.items none priced)
 
 -- linear prices of the root
@@ -151,9 +134,7 @@ pub IsBetterPrice-IsRootBound : (p : Problem) (table : WindowTable) (points : Ti
 IsBetterPrice-IsRootBound p table points before after found price value walks better windows covers begins none is improved good =
     let priced = as-priced p (windows_in table) (λ terminal. points_at points terminal 0) before after found price value walks is improved in
     let plain = priced-earned p (windows_in table) (λ terminal. points_at points terminal 0) before after price value walks.items none priced in
-    let flat = priced-flat p (windows_in table) (λ terminal. points_at points terminal 0) before after price value walks.items none priced in
     IsEarnedValue-IsRootBound p table points linear_price [] better.spans.items better.value windows covers begins (record { ascending = search rules; rule = tt }) good.sound tt refl
-    (λ least is. omega (arith, flat least is, good.above))
     (record {
       is = good.is;
       linear = λ f other is. omega (arith, plain.linear f other is, good.above);

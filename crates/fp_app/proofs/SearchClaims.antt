@@ -1,8 +1,9 @@
 -- What a search says of all plans, from what it has earned.
-use Rattle.std.proofs.Common.{◌≡◌, ℕ, ◌≤◌, ◌^◌, Bool, List, [], ◌∷◌, length, refl, sym, subst, inl, inr, arith}
-use Rattle.std.specs.Prelude.{◌⊎◌}
+use Rattle.std.proofs.Common.{◌≡◌, ◌∙◌, ℕ, ◌≤◌, ◌^◌, Bool, true, false, List, [], ◌∷◌, length, refl, sym, ap, subst, inl, inr, arith}
+use Rattle.std.specs.Prelude.{◌⊎◌, ◌≢◌, IfSome, MatchBool, None, Option}
 use Rattle.std.specs.Int.{div_ceil}
 use Rattle.std.specs.List.{AllByRecursion}
+use Rattle.std.proofs.lemmas.Option.{IfSome_then}
 use Rattle.fp_lists.specs.Elements.{AnyByRecursion}
 use Rattle.fp_lists.proofs.Ceilings.{div_ceil_mono}
 use Rattle.fp_model.specs.declared.parts.Leg.{Leg}
@@ -16,23 +17,22 @@ use Rattle.fp_flatnet.specs.Tables.{WindowTable, windows_in}
 use Rattle.fp_tree.specs.declared.sides.Side.{Side}
 use Rattle.fp_tree.specs.Trees.{Leaf}
 use Rattle.fp_allowed.specs.Slack.{slack}
-use Rattle.fp_prices.specs.declared.leaf_prices.Kind.{Kind}
-use Rattle.fp_prices.specs.declared.leaf_prices.Kind.TheVariants.{Linear}
 use Rattle.fp_prices.specs.declared.leaf_prices.LeafPrice.{LeafPrice}
 use Rattle.fp_prices.specs.FlatBounds.{IsFlatBound}
-use Rattle.fp_prices.specs.Leaves.{IsLeafValue}
-use Rattle.fp_prices.proofs.FlatBounds.{flat-le}
-use Rattle.fp_prices.proofs.OneValue.{leaf-value-unique}
+use Rattle.fp_spans.specs.SpanKinds.{spans_beside}
+use Rattle.fp_spans.proofs.OneSpanValue.{span_leaves-have-one-value}
 use Rattle.fp_lines.specs.declared.certificates.Answer.{Answer}
 use Rattle.fp_lines.specs.declared.certificates.Answer.TheVariants.{Optimal, Unfinished}
 use Rattle.fp_lines.specs.declared.certificates.Node.{Node}
 use Rattle.fp_lines.specs.declared.certificates.Node.TheVariants as node
 use Rattle.fp_lines.specs.declared.certificates.Spent.TheVariants.{Branches, Rounds}
+use Rattle.fp_lines.specs.Ranges.{IsInRange}
 use Rattle.fp_lines.specs.Statements.{Statement}
 use Rattle.fp_acceptance.specs.Accepted.{Applies, Part}
 use Rattle.fp_acceptance.specs.Claims.{ClaimsWithin, NoPlanWithinCheaper}
 use Rattle.fp_acceptance.specs.Plans.{HasPlan, routes_of, stated_cost}
 use Rattle.fp_acceptance.proofs.Claims.{AcceptedClaims_hold}
+use Rattle.fp_acceptance.proofs.Multiples.{rounded_up-more}
 use Rattle.fp_certificate.specs.Readable.{Allows, WrittenReadsBack}
 use Rattle.fp_history.specs.declared.budgets.Budget.{Budget}
 use Rattle.fp_history.specs.declared.endings.Left.{Left}
@@ -40,39 +40,43 @@ use Rattle.fp_history.specs.declared.endings.Left.TheVariants.{Nothing, Several,
 use Rattle.fp_history.specs.Notes.{History, added_of, points_of}
 use Rattle.fp_history.specs.PrintedLeaves.{IsEmptyAt, IsPrintedLeaf, IsWorth, OfLeaf}
 use Rattle.fp_history.specs.Solutions.{HasCause, IsEarnedSolution, Solution, branches_shown, history_of, leaves_shown}
-use Rattle.fp_history.specs.Splits.{IsEarnedAt}
+use Rattle.fp_history.specs.Splits.{IsEarnedAt, IsValueAt}
 use Rattle.fp_history.proofs.AddedPoints.{AreAddedPoints-IsEarnedTrace, points-in_time}
 use Rattle.fp_history.proofs.Enough.{EnoughBranches_hold, EnoughRounds_hold}
+use Rattle.fp_session.specs.Certificates.{IsPricedBy}
+use Rattle.fp_session.specs.Sessions.{SessionModel}
 use Rattle.fp_session.specs.Solved.{IsSolved}
-use Rattle.fp_app.specs.Searches.{AreInTime, IsSearched, SaysOfPlans}
+use Rattle.fp_session.specs.Starts.{IsSessionOf}
+use Rattle.fp_app.specs.Searches.{AreInTime, IsPricedAs, IsSearched, SaysOfPlans}
 use Rattle.fp_app.specs.Wanted.{AreWindowsFor, IsFirstPlan, IsWanted, NoneWantedCheaper, Wanted, WantedExists, every, keeping}
 use Rattle.fp_app.proofs.OneKeptTable.{AreKeptWindowsOf-unique}
 use Rattle.fp_app.proofs.OneTable.{AreWindowsOf_unique}
 use Rattle.fp_app.proofs.PlainValues.{flat-le_leaf}
 
 -- a printed leaf with a value is worth the flat bound
-flat-price : (h : History) (sides : List Side) (price : LeafPrice) (flat value : ℕ) → IsFlatBound h.problem flat → IsEmptyAt h sides price ⊎ IsEarnedAt h sides price →
-    IsLeafValue h.problem (windows_in h.windows) (points_of h price.round) sides h.tables price.kind price.forced value → flat ≤ value
+flat-price : (h : History) (sides : List Side) (price : LeafPrice) (flat value : ℕ) → IsFlatBound h.problem flat → IsEmptyAt h sides price ⊎ IsEarnedAt h sides price → IsValueAt h sides price value → flat ≤ value
 flat-price h sides price flat value least (inl empty) is =
-    let linear = subst (λ (k : Kind). IsLeafValue h.problem (windows_in h.windows) (points_of h price.round) sides h.tables k price.forced value) empty.linear is in
-    let plain = subst (λ (f : Bool). IsLeafValue h.problem (windows_in h.windows) (points_of h price.round) sides h.tables Linear f value) empty.plain linear in
-    flat-le h.problem (windows_in h.windows) (points_of h price.round) sides h.tables flat value least plain
+    absurd (span_leaves-have-one-value.some h.problem (windows_in h.windows) (points_of h price.round) sides h.tables (spans_beside h.spans price.kind) price.kind price.forced value is empty.empty)
 flat-price h sides price flat value least (inr earned) is =
-    let same : earned.value ≡ value = leaf-value-unique h.problem (windows_in h.windows) (points_of h price.round) sides h.tables price.kind price.forced earned.value value earned.is is in
-    subst (λ (n : ℕ). flat ≤ n) same (flat-le_leaf h.problem (windows_in h.windows) (points_of h price.round) sides h.tables price.kind price.forced flat least earned)
+    let same : earned.value ≡ value =
+    span_leaves-have-one-value.one h.problem (windows_in h.windows) (points_of h price.round) sides h.tables (spans_beside h.spans price.kind) price.kind price.forced earned.value value earned.is is in
+    let worth : flat ≤ earned.value =
+    flat-le_leaf h.problem (windows_in h.windows) (points_of h price.round) sides h.tables (spans_beside h.spans price.kind) price.kind price.forced flat earned.value least earned.is earned.linear in
+    omega (arith, worth, same)
 
-flat-node : (h : History) (n : Node) (sides : List Side) (flat bound : ℕ) → IsFlatBound h.problem flat → IsPrintedLeaf h (record { node = n; sides = sides }) →
+flat-node : (h : History) (n : Node) (sides : List Side) (flat bound : ℕ) → IfSome h.unit (λ u. 1 ≤ u) → IsFlatBound h.problem flat → IsPrintedLeaf h (record { node = n; sides = sides }) →
     OfLeaf (λ price under. IsWorth h under price bound) (record { node = n; sides = sides }) → div_ceil flat h.problem.scale ≤ bound
-flat-node h (node.Branch split) sides flat bound least printed worth = absurd worth
-flat-node h (node.Leaf price) sides flat bound least printed worth =
-    subst (λ (n : ℕ). div_ceil flat h.problem.scale ≤ n) (sym worth.rounded) (div_ceil_mono flat worth.value h.problem.scale (flat-price h sides price flat worth.value least printed worth.is))
+flat-node h (node.Branch split) sides flat bound some least printed worth = absurd worth
+flat-node h (node.Leaf price) sides flat bound some least printed worth =
+    let whole : div_ceil flat h.problem.scale ≤ div_ceil worth.value h.problem.scale = div_ceil_mono flat worth.value h.problem.scale (flat-price h sides price flat worth.value least printed worth.is) in
+    omega (arith, whole, rounded_up-more h.unit (div_ceil worth.value h.problem.scale) some, worth.rounded)
 
 -- so the worth of a printed leaf is at least the flat bound in whole units
-flat-leaves : (h : History) (leaves : List (Leaf Node)) (flat bound : ℕ) → IsFlatBound h.problem flat → AllByRecursion (IsPrintedLeaf h) leaves →
+flat-leaves : (h : History) (leaves : List (Leaf Node)) (flat bound : ℕ) → IfSome h.unit (λ u. 1 ≤ u) → IsFlatBound h.problem flat → AllByRecursion (IsPrintedLeaf h) leaves →
     AnyByRecursion (OfLeaf (λ price sides. IsWorth h sides price bound)) leaves → div_ceil flat h.problem.scale ≤ bound
-flat-leaves h [] flat bound least all any = absurd any
-flat-leaves h (l ∷ leaves) flat bound least all (inl here) = flat-node h l.node l.sides flat bound least all.0 here
-flat-leaves h (l ∷ leaves) flat bound least all (inr later) = flat-leaves h leaves flat bound least all.1 later
+flat-leaves h [] flat bound some least all any = absurd any
+flat-leaves h (l ∷ leaves) flat bound some least all (inl here) = flat-node h l.node l.sides flat bound some least all.0 here
+flat-leaves h (l ∷ leaves) flat bound some least all (inr later) = flat-leaves h leaves flat bound some least all.1 later
 
 -- the windows of the wanted plans belong to the instance
 windows-belong : (p : Problem) (wanted : Wanted) (table : WindowTable) → AreWindowsFor p wanted table → BelongsTo p table
@@ -90,7 +94,11 @@ wanted-cheaper p every table c windows within = λ d routes some is. within d ro
 wanted-cheaper p (keeping kept) table c windows within = λ d routes some is keeps. within d routes some is ((windows.tell d routes some is).1 keeps)
 
 -- what the answer of a search says, by what it left
-module _ (p : Problem) (wanted : Wanted) (table : WindowTable) (budget : Budget) (started : ℕ) (s : Solution) (windows : AreWindowsFor p wanted table) (earned : IsEarnedSolution p table budget started s) where
+module _ (p : Problem) (wanted : Wanted) (table : WindowTable) (budget : Budget) (started : ℕ) (s : Solution) (windows : AreWindowsFor p wanted table) (range : IsInRange p s.certificate) (earned : IsEarnedSolution p table budget started s) where
+  -- its unit is at least 1
+  some-unit : IfSome s.certificate.unit (λ u. 1 ≤ u)
+  some-unit = IfSome_then s.certificate.unit range.unit (λ u is. is.least)
+
   abbrev Caused : Left → Answer → Type 0
   Caused = HasCause (history_of p table s) budget (leaves_shown p s) (branches_shown p s)
 
@@ -99,13 +107,13 @@ module _ (p : Problem) (wanted : Wanted) (table : WindowTable) (budget : Budget)
   says-by (Timing leaf relaxed) (Unfinished cost bound Rounds) same cause claims = record {
     plans = wanted-cheaper p wanted table bound windows claims;
     below = cause.2;
-    flat = λ flat least. flat-leaves (history_of p table s) (leaves_shown p s) flat bound least earned.leaves cause.1.some;
+    flat = λ flat least. flat-leaves (history_of p table s) (leaves_shown p s) flat bound some-unit least earned.leaves cause.1.some;
     scarce = λ enough. EnoughRounds_hold p table budget started s (windows-belong p wanted table windows) earned enough cost bound same;
   }
   says-by (Several leaf shipment) (Unfinished cost bound Branches) same cause claims = record {
     plans = wanted-cheaper p wanted table bound windows claims;
     below = cause.2;
-    flat = λ flat least. flat-leaves (history_of p table s) (leaves_shown p s) flat bound least earned.leaves cause.1.some;
+    flat = λ flat least. flat-leaves (history_of p table s) (leaves_shown p s) flat bound some-unit least earned.leaves cause.1.some;
     scarce = λ enough. EnoughBranches_hold p table budget started s (windows-belong p wanted table windows).valid earned
         (subst (λ (t : WindowTable). 2 ^ slack p (windows_in t) [] ≤ budget.branches) (windows-one p wanted enough.0 table enough.1 windows) enough.2) cost bound same;
   }
@@ -137,12 +145,12 @@ is-wanted p every table c windows has = tt
 is-wanted p (keeping kept) table c windows has = let some : 1 ≤ 1 = omega arith in (windows.tell 1 (routes_of p c) some has.plan).0 has.within
 
 -- what a search shows that began with the first plan
-solved-searched : (p : Problem) (wanted : Wanted) (table : WindowTable) (budget : Budget) (first : List (List Leg)) (s : Solution) → AreWindowsFor p wanted table → IsFirstPlan p wanted first → WrittenReadsBack p →
-    IsSolved p table budget (cost p first) s → IsSearched p wanted budget s
-solved-searched p wanted table budget first s windows begins back solved =
+solved-searched : (p : Problem) (wanted : Wanted) (table : WindowTable) (budget : Budget) (spans : Bool) (first : List (List Leg)) (s : Solution) → AreWindowsFor p wanted table → IsFirstPlan p wanted first → WrittenReadsBack p →
+    IsSolved p table budget (cost p first) s → IsPricedAs spans s.certificate → IsSearched p wanted budget spans s
+solved-searched p wanted table budget spans first s windows begins back solved priced =
     let belongs : BelongsTo p table = windows-belong p wanted table windows in
     let claims : ClaimsWithin p (windows_in table) s.certificate.answer = AcceptedClaims_hold.within p table s.certificate belongs.valid solved.range solved.accepted in
-    let says : SaysOfPlans p wanted budget s.certificate.answer = says-by p wanted table budget (cost p first) s windows solved.earned s.left s.certificate.answer refl solved.earned.cause claims in
+    let says : SaysOfPlans p wanted budget s.certificate.answer = says-by p wanted table budget (cost p first) s windows solved.range solved.earned s.left s.certificate.answer refl solved.earned.cause claims in
     let parts = has-timetable p wanted budget s.certificate.answer says in
     record {
       table = table;
@@ -152,6 +160,7 @@ solved-searched p wanted table budget first s windows begins back solved =
       accepted = solved.accepted;
       back = back s.certificate solved.range solved.countable (allows p wanted budget s.certificate.answer s.certificate says);
       scale = solved.scale;
+      priced = priced;
       first = first;
       begins = begins;
       earned = solved.earned;
@@ -159,16 +168,29 @@ solved-searched p wanted table budget first s windows begins back solved =
       says = says;
     }
 
--- the same of a session of the instance, its windows and the budget
-pub session-searched : (p q : Problem) (wanted : Wanted) (table t : WindowTable) (budget b : Budget) (started : ℕ) (first : List (List Leg)) (s : Solution) → AreWindowsFor p wanted table → IsFirstPlan p wanted first →
-    WrittenReadsBack p → q ≡ p → t ≡ table → b ≡ budget → started ≡ cost p first → IsSolved q t b started s → IsSearched p wanted budget s
-session-searched p q wanted table t budget b started first s windows begins back instance whole same cheap solved =
-    let one : IsSolved p t b started s = subst (λ (x : Problem). IsSolved x t b started s) instance solved in
-    let two : IsSolved p table b started s = subst (λ (x : WindowTable). IsSolved p x b started s) whole one in
-    let three : IsSolved p table budget started s = subst (λ (x : Budget). IsSolved p table x started s) same two in
-    solved-searched p wanted table budget first s windows begins back (subst (λ (n : ℕ). IsSolved p table budget n s) cheap three)
+-- a session that has made no step, which has a unit with the option of spans, and none without it
+pub record IsChosen (p : Problem) (table : WindowTable) (first : List (List Leg)) (budget : Budget) (spans : Bool) (m : SessionModel) : Type 0 where
+  pub of : IsSessionOf p table first budget m
+  pub unit : MatchBool spans (m.prices.unit ≢ None) (m.prices.unit ≡ None)
+
+-- so what it shows is priced as the option says
+priced-as : (spans : Bool) (own : Option ℕ) (c : Statement) → MatchBool spans (own ≢ None) (own ≡ None) → IsPricedBy own c → IsPricedAs spans c
+priced-as true own c some priced = λ none. some (sym priced.unit ∙ none)
+priced-as false own c none priced = subst (λ (o : Option ℕ). IsPricedBy o c) none priced
+
+-- what a session of the instance shows
+pub session-searched : (p q : Problem) (wanted : Wanted) (table : WindowTable) (budget : Budget) (spans : Bool) (first : List (List Leg)) (m : SessionModel) (s : Solution) → AreWindowsFor p wanted table → IsFirstPlan p wanted first →
+    WrittenReadsBack p → q ≡ p → IsChosen q table first budget spans m → IsSolved m.instance m.windows m.budget m.started s → IsPricedBy m.prices.unit s.certificate → IsSearched p wanted budget spans s
+session-searched p q wanted table budget spans first m s windows begins back same chosen solved priced =
+    let of : IsSessionOf q table first budget m = chosen.of in
+    let one : IsSolved p m.windows m.budget m.started s = subst (λ (x : Problem). IsSolved x m.windows m.budget m.started s) (of.instance ∙ same) solved in
+    let two : IsSolved p table m.budget m.started s = subst (λ (x : WindowTable). IsSolved p x m.budget m.started s) of.windows one in
+    let three : IsSolved p table budget m.started s = subst (λ (x : Budget). IsSolved p table x m.started s) of.budget two in
+    let begun : m.started ≡ cost p first = of.started ∙ ap (λ (x : Problem). cost x first) same in
+    solved-searched p wanted table budget spans first s windows begins back (subst (λ (n : ℕ). IsSolved p table budget n s) begun three)
+    (priced-as spans m.prices.unit s.certificate chosen.unit priced)
 
 -- a wanted plan exists where a search shows one
-pub searched-exists : (p : Problem) (wanted : Wanted) (budget : Budget) (s : Solution) → IsSearched p wanted budget s → WantedExists p wanted
-searched-exists p every budget s told = let some : 1 ≤ 1 = omega arith in (1, _, some, told.timetable.plan.plan)
-searched-exists p (keeping kept) budget s told = let some : 1 ≤ 1 = omega arith in (1, _, some, told.timetable.plan.plan, told.is_wanted)
+pub searched-exists : (p : Problem) (wanted : Wanted) (budget : Budget) (spans : Bool) (s : Solution) → IsSearched p wanted budget spans s → WantedExists p wanted
+searched-exists p every budget spans s told = let some : 1 ≤ 1 = omega arith in (1, _, some, told.timetable.plan.plan)
+searched-exists p (keeping kept) budget spans s told = let some : 1 ≤ 1 = omega arith in (1, _, some, told.timetable.plan.plan, told.is_wanted)

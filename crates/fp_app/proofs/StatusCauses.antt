@@ -80,15 +80,15 @@ ShowsFault_check input ordinal code (Err f) is same = record { fault = f; first 
 ShowsFault_input : (o : Order) (input : List ℕ) (ordinal code : ℕ) → ShowsInput o input (shown.BadInput ordinal code) → ShowsFault (Some o) input (shown.BadInput ordinal code)
 ShowsFault_input Direct input ordinal code told = ShowsFault_instance Direct input ordinal code (λ p. ShowsDirect p (shown.BadInput ordinal code)) (instance_in input) (λ p none. none) refl (instance_in input) refl told
 ShowsFault_input (Bound option) input ordinal code told = ShowsFault_instance (Bound option) input ordinal code (λ p. ShowsBound option p (shown.BadInput ordinal code)) (instance_in input) (λ p none. none) refl (instance_in input) refl told
-ShowsFault_input (Plan budget scale) input ordinal code told =
-    ShowsFault_instance (Plan budget scale) input ordinal code (λ p. ShowsSearch budget p (shown.BadInput ordinal code)) (instance_at scale input) (λ p none. none) refl (instance_at scale input) refl told
+ShowsFault_input (Plan budget scale spans) input ordinal code told =
+    ShowsFault_instance (Plan budget scale spans) input ordinal code (λ p. ShowsSearch budget spans p (shown.BadInput ordinal code)) (instance_at scale input) (λ p none. none) refl (instance_at scale input) refl told
 ShowsFault_input (Trial seed terminals shipments) input ordinal code told = absurd told
 ShowsFault_input (Yard seed) input ordinal code told = yard-fault seed input ordinal code told
 ShowsFault_input Fleet input ordinal code told = fleet-fault input ordinal code told
-ShowsFault_input (Replan budget) input ordinal code told =
-    ShowsFault_instance (Replan budget) input ordinal code (λ (x : KeptInstance). ShowsReplan budget x (shown.BadInput ordinal code)) (kept_in input) (λ x none. none) refl (kept_in input) refl told
-ShowsFault_input (Quote budget) input ordinal code told =
-    ShowsFault_instance (Quote budget) input ordinal code (λ p. ShowsQuote budget p (shown.BadInput ordinal code)) (quoted_in input) (λ p none. none) refl (quoted_in input) refl told
+ShowsFault_input (Replan budget spans) input ordinal code told =
+    ShowsFault_instance (Replan budget spans) input ordinal code (λ (x : KeptInstance). ShowsReplan budget spans x (shown.BadInput ordinal code)) (kept_in input) (λ x none. none) refl (kept_in input) refl told
+ShowsFault_input (Quote budget spans) input ordinal code told =
+    ShowsFault_instance (Quote budget spans) input ordinal code (λ p. ShowsQuote budget spans p (shown.BadInput ordinal code)) (quoted_in input) (λ p none. none) refl (quoted_in input) refl told
 ShowsFault_input Check input ordinal code told = ShowsFault_check input ordinal code (leading_instance_in input) refl told
 
 -- an order that reads no input refuses none
@@ -183,56 +183,56 @@ ShowsNumber_bound option input s (Ok p) is told done = done-bound option input p
 ShowsNumber_bound option input s (Err f) is same done = absurd (fault-not_done s f same done)
 
 -- what a search shows, and how it ended
-module _ (budget : Budget) (given : Result Problem Fault) (show : Problem → Solution → Shown) (p : Problem) where
-  solution : (q : Problem) (x : Solution) → given ≡ Ok p → q ≡ p → IsSearched p every budget x → ShowsSolution budget given show (show q x)
+module _ (budget : Budget) (spans : Bool) (given : Result Problem Fault) (show : Problem → Solution → Shown) (p : Problem) where
+  solution : (q : Problem) (x : Solution) → given ≡ Ok p → q ≡ p → IsSearched p every budget spans x → ShowsSolution budget spans given show (show q x)
   solution q x is same told = record { instance = p; solved = x; read = is; shows = ap (λ (y : Problem). show y x) same; searched = told }
 
-  optimal-end : (q : Problem) (x : Solution) → given ≡ Ok p → q ≡ p → IsSearched p every budget x → SearchEnd p every budget x.certificate.answer → search_status x.certificate.answer ≡ status.Done →
-      ShowsOptimal budget given show (show q x)
+  optimal-end : (q : Problem) (x : Solution) → given ≡ Ok p → q ≡ p → IsSearched p every budget spans x → SearchEnd p every budget x.certificate.answer → search_status x.certificate.answer ≡ status.Done →
+      ShowsOptimal budget spans given show (show q x)
   unfolding solution
   optimal-end q x is same told (optimal cost answer plans) done = record { solution = solution q x is same told; cost = cost; answer = answer; plans = plans }
   optimal-end q x is same told (unfinished cost bound spent answer bounds) done = let e : status.Unfinished ≡ status.Done = sym (ap search_status answer) ∙ done in cc e
 
-  unfinished-end : (q : Problem) (x : Solution) → given ≡ Ok p → q ≡ p → IsSearched p every budget x → SearchEnd p every budget x.certificate.answer → search_status x.certificate.answer ≡ status.Unfinished →
-      ShowsUnfinished budget given show (show q x)
+  unfinished-end : (q : Problem) (x : Solution) → given ≡ Ok p → q ≡ p → IsSearched p every budget spans x → SearchEnd p every budget x.certificate.answer → search_status x.certificate.answer ≡ status.Unfinished →
+      ShowsUnfinished budget spans given show (show q x)
   unfolding solution
   unfinished-end q x is same told (optimal cost answer plans) ends = let e : status.Done ≡ status.Unfinished = sym (ap search_status answer) ∙ ends in cc e
   unfinished-end q x is same told (unfinished cost bound spent answer bounds) ends =
       record { solution = solution q x is same told; cost = cost; bound = bound; spent = spent; answer = answer; bounds = bounds }
 
-module _ (budget : Budget) (given : Result Problem Fault) (p : Problem) where
-  done-search : (s : Shown) → given ≡ Ok p → ShowsSearch budget p s → status_of s ≡ status.Done → ShowsOptimal budget given shown.Planned s
-  done-search (shown.Planned q x) is told done = optimal-end budget given shown.Planned p q x is told.0 told.1 (search-end p every budget x.certificate.answer told.1.says) done
+module _ (budget : Budget) (spans : Bool) (given : Result Problem Fault) (p : Problem) where
+  done-search : (s : Shown) → given ≡ Ok p → ShowsSearch budget spans p s → status_of s ≡ status.Done → ShowsOptimal budget spans given shown.Planned s
+  done-search (shown.Planned q x) is told done = optimal-end budget spans given shown.Planned p q x is told.0 told.1 (search-end p every budget x.certificate.answer told.1.says) done
   done-search (shown.Infeasible q shipment time) is told done = let g = done in cc
   done-search _ is told done = absurd told
 
-  open-search : (s : Shown) → given ≡ Ok p → ShowsSearch budget p s → status_of s ≡ status.Unfinished → ShowsUnfinished budget given shown.Planned s
-  open-search (shown.Planned q x) is told ends = unfinished-end budget given shown.Planned p q x is told.0 told.1 (search-end p every budget x.certificate.answer told.1.says) ends
+  open-search : (s : Shown) → given ≡ Ok p → ShowsSearch budget spans p s → status_of s ≡ status.Unfinished → ShowsUnfinished budget spans given shown.Planned s
+  open-search (shown.Planned q x) is told ends = unfinished-end budget spans given shown.Planned p q x is told.0 told.1 (search-end p every budget x.certificate.answer told.1.says) ends
   open-search (shown.Infeasible q shipment time) is told ends = let g = ends in cc
   open-search _ is told ends = absurd told
 
-ShowsOptimal_search : (budget : Budget) (given : Result Problem Fault) (s : Shown) (r : Result Problem Fault) → given ≡ r →
-    MatchResult r (λ p. ShowsSearch budget p s) (λ (f : Fault). s ≡ shown.BadInput f.ordinal f.code) → status_of s ≡ status.Done → ShowsOptimal budget given shown.Planned s
-ShowsOptimal_search budget given s (Ok p) is told done = done-search budget given p s is told done
-ShowsOptimal_search budget given s (Err f) is same done = absurd (fault-not_done s f same done)
+ShowsOptimal_search : (budget : Budget) (spans : Bool) (given : Result Problem Fault) (s : Shown) (r : Result Problem Fault) → given ≡ r →
+    MatchResult r (λ p. ShowsSearch budget spans p s) (λ (f : Fault). s ≡ shown.BadInput f.ordinal f.code) → status_of s ≡ status.Done → ShowsOptimal budget spans given shown.Planned s
+ShowsOptimal_search budget spans given s (Ok p) is told done = done-search budget spans given p s is told done
+ShowsOptimal_search budget spans given s (Err f) is same done = absurd (fault-not_done s f same done)
 
 -- what an order shows that is done
 ShowsDone_input : (o : Order) (input : List ℕ) (s : Shown) → ShowsInput o input s → status_of s ≡ status.Done → ShowsDone (Some o) input s
 ShowsDone_input Direct input s told done = ShowsPlan_direct input s (instance_in input) refl told done
 ShowsDone_input (Bound option) input s told done = ShowsNumber_bound option input s (instance_in input) refl told done
-ShowsDone_input (Plan budget scale) input s told done = ShowsOptimal_search budget (instance_at scale input) s (instance_at scale input) refl told done
+ShowsDone_input (Plan budget scale spans) input s told done = ShowsOptimal_search budget spans (instance_at scale input) s (instance_at scale input) refl told done
 ShowsDone_input (Trial seed terminals shipments) input s told done = absurd told
 ShowsDone_input (Yard seed) input s told done = yard-done seed input s told done
 ShowsDone_input Fleet input s told done = fleet-done input s told done
-ShowsDone_input (Replan budget) input s told done = replan-done budget input s told done
-ShowsDone_input (Quote budget) input s told done = quote-done budget input s told done
+ShowsDone_input (Replan budget spans) input s told done = replan-done budget spans input s told done
+ShowsDone_input (Quote budget spans) input s told done = quote-done budget spans input s told done
 ShowsDone_input Check input s told done = ShowsYes_check input s (leading_instance_in input) refl told done
 
 -- what an order shows that is done without an input
 ShowsDone_alone : (o : Order) (input : List ℕ) (s : Shown) → ShowsAlone o s → status_of s ≡ status.Done → ShowsDone (Some o) input s
 ShowsDone_alone (Trial seed terminals shipments) input (shown.Trial shown_seed q x) told done =
-    subst (λ (n : ℕ). ShowsOptimal trial_budget (Ok (generated seed terminals shipments)) (shown.Trial seed) (shown.Trial n q x)) (sym told.0)
-    (optimal-end trial_budget (Ok (generated seed terminals shipments)) (shown.Trial seed) (generated seed terminals shipments) q x refl told.1 told.2
+    subst (λ (n : ℕ). ShowsOptimal trial_budget false (Ok (generated seed terminals shipments)) (shown.Trial seed) (shown.Trial n q x)) (sym told.0)
+    (optimal-end trial_budget false (Ok (generated seed terminals shipments)) (shown.Trial seed) (generated seed terminals shipments) q x refl told.1 told.2
     (search-end (generated seed terminals shipments) every trial_budget x.certificate.answer told.2.says) done)
 ShowsDone_alone (Trial seed terminals shipments) input _ told done = absurd told
 ShowsDone_alone _ input s told done = absurd told
@@ -279,8 +279,8 @@ none-bound option input p (shown.Infeasible q shipment time) is told same = reco
 none-bound option input p (shown.Bound q price tables spans value) is told same = let g = same in cc
 none-bound option input p _ is told same = absurd told
 
-none-search : (budget : Budget) (scale : ℕ) (input : List ℕ) (p : Problem) (s : Shown) → instance_at scale input ≡ Ok p → ShowsSearch budget p s → status_of s ≡ status.Infeasible → ShowsNone (Plan budget scale) input s
-none-search budget scale input p (shown.Infeasible q shipment time) is told same = record {
+none-search : (budget : Budget) (scale : ℕ) (spans : Bool) (input : List ℕ) (p : Problem) (s : Shown) → instance_at scale input ≡ Ok p → ShowsSearch budget spans p s → status_of s ≡ status.Infeasible → ShowsNone (Plan budget scale spans) input s
+none-search budget scale spans input p (shown.Infeasible q shipment time) is told same = record {
   instance = p;
   shipment = shipment;
   time = time;
@@ -289,8 +289,8 @@ none-search budget scale input p (shown.Infeasible q shipment time) is told same
   blocked = told.1;
   none = told.2;
 }
-none-search budget scale input p (shown.Planned q x) is told same = absurd (search-no_other x.certificate.answer status.Infeasible (λ e. cc e) (λ e. cc e) same)
-none-search budget scale input p _ is told same = absurd told
+none-search budget scale spans input p (shown.Planned q x) is told same = absurd (search-no_other x.certificate.answer status.Infeasible (λ e. cc e) (λ e. cc e) same)
+none-search budget scale spans input p _ is told same = absurd told
 
 -- `check` shows none
 none-check : (p : Problem) (c : Statement) (s : Shown) → ShowsCheck p c s → status_of s ≡ status.Infeasible → ⊥
@@ -301,13 +301,13 @@ none-check p c _ told same = absurd told
 ShowsNone_input : (o : Order) (input : List ℕ) (s : Shown) → ShowsInput o input s → status_of s ≡ status.Infeasible → ShowsInfeasible (Some o) input s
 ShowsNone_input Direct input s told none = MatchResult_shows status.Infeasible (instance_in input) (instance_in input) (λ p. ShowsDirect p s) s (ShowsNone Direct input s) (λ e. cc e) refl none told (λ p is shows. none-direct input p s is shows none)
 ShowsNone_input (Bound option) input s told none = MatchResult_shows status.Infeasible (instance_in input) (instance_in input) (λ p. ShowsBound option p s) s (ShowsNone (Bound option) input s) (λ e. cc e) refl none told (λ p is shows. none-bound option input p s is shows none)
-ShowsNone_input (Plan budget scale) input s told none =
-    MatchResult_shows status.Infeasible (instance_at scale input) (instance_at scale input) (λ p. ShowsSearch budget p s) s (ShowsNone (Plan budget scale) input s) (λ e. cc e) refl none told (λ p is shows. none-search budget scale input p s is shows none)
+ShowsNone_input (Plan budget scale spans) input s told none =
+    MatchResult_shows status.Infeasible (instance_at scale input) (instance_at scale input) (λ p. ShowsSearch budget spans p s) s (ShowsNone (Plan budget scale spans) input s) (λ e. cc e) refl none told (λ p is shows. none-search budget scale spans input p s is shows none)
 ShowsNone_input (Trial seed terminals shipments) input s told none = absurd told
 ShowsNone_input (Yard seed) input s told none = absurd (yard-no_other seed status.Infeasible (λ e. cc e) (λ e. cc e) (λ e. cc e) input s told none)
 ShowsNone_input Fleet input s told none = absurd (fleet-no_other status.Infeasible (λ e. cc e) (λ e. cc e) (λ e. cc e) input s told none)
-ShowsNone_input (Replan budget) input s told none = replan-stuck budget input s told none
-ShowsNone_input (Quote budget) input s told none = quote-none budget input s told none
+ShowsNone_input (Replan budget spans) input s told none = replan-stuck budget spans input s told none
+ShowsNone_input (Quote budget spans) input s told none = quote-none budget spans input s told none
 ShowsNone_input Check input s told none =
     MatchResult_shows status.Infeasible (leading_instance_in input) (leading_instance_in input)
     (λ p. MatchResult (certificate_in p input) (λ c. ShowsCheck (scaled p c) c s) (λ (f : Fault). s ≡ shown.BadInput f.ordinal f.code)) s (ShowsNone Check input s) (λ e. cc e) refl none told
@@ -354,13 +354,13 @@ check-not_open p c _ told ends = absurd told
 ShowsOpen_input : (o : Order) (input : List ℕ) (s : Shown) → ShowsInput o input s → status_of s ≡ status.Unfinished → ShowsOpen (Some o) input s
 ShowsOpen_input Direct input s told ends = MatchResult_shows status.Unfinished (instance_in input) (instance_in input) (λ p. ShowsDirect p s) s ⊥ (λ e. cc e) refl ends told (λ p is shows. direct-not_open p s shows ends)
 ShowsOpen_input (Bound option) input s told ends = MatchResult_shows status.Unfinished (instance_in input) (instance_in input) (λ p. ShowsBound option p s) s ⊥ (λ e. cc e) refl ends told (λ p is shows. bound-not_open option p s shows ends)
-ShowsOpen_input (Plan budget scale) input s told ends =
-    MatchResult_shows status.Unfinished (instance_at scale input) (instance_at scale input) (λ p. ShowsSearch budget p s) s (ShowsUnfinished budget (instance_at scale input) shown.Planned s) (λ e. cc e) refl ends told (λ p is shows. open-search budget (instance_at scale input) p s is shows ends)
+ShowsOpen_input (Plan budget scale spans) input s told ends =
+    MatchResult_shows status.Unfinished (instance_at scale input) (instance_at scale input) (λ p. ShowsSearch budget spans p s) s (ShowsUnfinished budget spans (instance_at scale input) shown.Planned s) (λ e. cc e) refl ends told (λ p is shows. open-search budget spans (instance_at scale input) p s is shows ends)
 ShowsOpen_input (Trial seed terminals shipments) input s told ends = absurd told
 ShowsOpen_input (Yard seed) input s told ends = absurd (yard-no_other seed status.Unfinished (λ e. cc e) (λ e. cc e) (λ e. cc e) input s told ends)
 ShowsOpen_input Fleet input s told ends = absurd (fleet-no_other status.Unfinished (λ e. cc e) (λ e. cc e) (λ e. cc e) input s told ends)
-ShowsOpen_input (Replan budget) input s told ends = replan-open budget input s told ends
-ShowsOpen_input (Quote budget) input s told ends = quote-open budget input s told ends
+ShowsOpen_input (Replan budget spans) input s told ends = replan-open budget spans input s told ends
+ShowsOpen_input (Quote budget spans) input s told ends = quote-open budget spans input s told ends
 ShowsOpen_input Check input s told ends =
     MatchResult_shows status.Unfinished (leading_instance_in input) (leading_instance_in input)
     (λ p. MatchResult (certificate_in p input) (λ c. ShowsCheck (scaled p c) c s) (λ (f : Fault). s ≡ shown.BadInput f.ordinal f.code)) s ⊥ (λ e. cc e) refl ends told
@@ -369,8 +369,8 @@ ShowsOpen_input Check input s told ends =
 
 ShowsOpen_alone : (o : Order) (input : List ℕ) (s : Shown) → ShowsAlone o s → status_of s ≡ status.Unfinished → ShowsOpen (Some o) input s
 ShowsOpen_alone (Trial seed terminals shipments) input (shown.Trial shown_seed q x) told ends =
-    subst (λ (n : ℕ). ShowsUnfinished trial_budget (Ok (generated seed terminals shipments)) (shown.Trial seed) (shown.Trial n q x)) (sym told.0)
-    (unfinished-end trial_budget (Ok (generated seed terminals shipments)) (shown.Trial seed) (generated seed terminals shipments) q x refl told.1 told.2
+    subst (λ (n : ℕ). ShowsUnfinished trial_budget false (Ok (generated seed terminals shipments)) (shown.Trial seed) (shown.Trial n q x)) (sym told.0)
+    (unfinished-end trial_budget false (Ok (generated seed terminals shipments)) (shown.Trial seed) (generated seed terminals shipments) q x refl told.1 told.2
     (search-end (generated seed terminals shipments) every trial_budget x.certificate.answer told.2.says) ends)
 ShowsOpen_alone (Trial seed terminals shipments) input _ told ends = absurd told
 ShowsOpen_alone _ input s told ends = absurd told

@@ -1,5 +1,5 @@
 -- A certificate isn't both read as a plan and rejected as one.
-use Rattle.std.proofs.Common.{◌≡◌, ℕ, ◌≤◌, refl, sym, subst, arith, ◌∙◌}
+use Rattle.std.proofs.Common.{◌≡◌, ℕ, ◌≤◌, sym, subst, arith}
 use Rattle.fp_model.specs.Problem.{Problem}
 use Rattle.fp_flatnet.specs.Tables.{WindowTable, windows_in}
 use Rattle.fp_lines.specs.declared.certificates.Answer.{Answer}
@@ -9,7 +9,7 @@ use Rattle.fp_acceptance.specs.Accepted.{Holds, Part}
 use Rattle.fp_acceptance.specs.Plans.{HasTimetable}
 use Rattle.fp_checker.specs.Rejections.{IsFirstUnmet, IsPlanRejected, TellsPlan, part_number}
 use Rattle.fp_app.specs.Checks.{AreWindowsOf}
-use Rattle.fp_app.specs.Plans.{ShowsUntold, TellsTimetable}
+use Rattle.fp_app.specs.Plans.{ShowsUntold}
 use Rattle.fp_app.proofs.OneTable.{AreWindowsOf_unique}
 
 -- of a timetable the plan, its cost and its departures hold

@@ -63,26 +63,26 @@ pub record ShowsNumber (option : Bool) (input : List ℕ) (result : Shown) : Typ
   pub bound : IsRootBound instance price tables.items spans.items value
   pub without : option ≡ false → spans.items ≡ []
 
--- There is an instance, of which a plan exists, and what is shown is what a search with a budget shows
--- of it.
-pub record ShowsSolution (budget : Budget) (given : Result Problem Fault) (show : Problem → Solution → Shown) (result : Shown) : Type 0 where
+-- There is an instance, of which a plan exists, and what is shown is what a search with a budget, and
+-- with the option of spans or without it, shows of it.
+pub record ShowsSolution (budget : Budget) (spans : Bool) (given : Result Problem Fault) (show : Problem → Solution → Shown) (result : Shown) : Type 0 where
   pub instance : Problem
   pub solved : Solution
   pub read : given ≡ Ok instance
   pub shows : result ≡ show instance solved
-  pub searched : IsSearched instance every budget solved
+  pub searched : IsSearched instance every budget spans solved
 
 -- What is shown is optimal: no plan is cheaper, over any denominator.
-pub record ShowsOptimal (budget : Budget) (given : Result Problem Fault) (show : Problem → Solution → Shown) (result : Shown) : Type 0 where
-  pub solution : ShowsSolution budget given show result
+pub record ShowsOptimal (budget : Budget) (spans : Bool) (given : Result Problem Fault) (show : Problem → Solution → Shown) (result : Shown) : Type 0 where
+  pub solution : ShowsSolution budget spans given show result
   pub cost : ℕ
   pub answer : solution.solved.certificate.answer ≡ answer.Optimal cost
   pub plans : NoPlanCheaper solution.instance cost
 
 -- What is shown is unfinished: no plan costs less than its bound, over any denominator, and it tells
 -- what was spent.
-pub record ShowsUnfinished (budget : Budget) (given : Result Problem Fault) (show : Problem → Solution → Shown) (result : Shown) : Type 0 where
-  pub solution : ShowsSolution budget given show result
+pub record ShowsUnfinished (budget : Budget) (spans : Bool) (given : Result Problem Fault) (show : Problem → Solution → Shown) (result : Shown) : Type 0 where
+  pub solution : ShowsSolution budget spans given show result
   pub cost : ℕ
   pub bound : ℕ
   pub spent : Spent
@@ -90,26 +90,26 @@ pub record ShowsUnfinished (budget : Budget) (given : Result Problem Fault) (sho
   pub bounds : IsBoundBelow solution.instance every budget cost bound spent
 
 -- The input gives an instance and legs that are kept, which some plan keeps, and what is shown is what
--- a search with a budget shows among the plans that keep them.
-pub record ShowsKept (budget : Budget) (input : List ℕ) (result : Shown) : Type 0 where
+-- such a search shows among the plans that keep them.
+pub record ShowsKept (budget : Budget) (spans : Bool) (input : List ℕ) (result : Shown) : Type 0 where
   pub instance : Problem
   pub kept : Vec Kept Global
   pub solved : Solution
   pub read : kept_in input ≡ Ok (record { instance = instance; kept = kept.items })
   pub shows : result ≡ shown.Replanned instance kept solved
-  pub searched : IsSearched instance (keeping kept.items) budget solved
+  pub searched : IsSearched instance (keeping kept.items) budget spans solved
 
 -- What is shown is optimal: no plan that keeps the legs is cheaper, over any denominator.
-pub record ShowsKeptOptimal (budget : Budget) (input : List ℕ) (result : Shown) : Type 0 where
-  pub solution : ShowsKept budget input result
+pub record ShowsKeptOptimal (budget : Budget) (spans : Bool) (input : List ℕ) (result : Shown) : Type 0 where
+  pub solution : ShowsKept budget spans input result
   pub cost : ℕ
   pub answer : solution.solved.certificate.answer ≡ answer.Optimal cost
   pub plans : NoKeptPlanCheaper solution.instance solution.kept.items cost
 
 -- What is shown is unfinished: no plan that keeps the legs costs less than its bound, over any
 -- denominator, and it tells what was spent.
-pub record ShowsKeptUnfinished (budget : Budget) (input : List ℕ) (result : Shown) : Type 0 where
-  pub solution : ShowsKept budget input result
+pub record ShowsKeptUnfinished (budget : Budget) (spans : Bool) (input : List ℕ) (result : Shown) : Type 0 where
+  pub solution : ShowsKept budget spans input result
   pub cost : ℕ
   pub bound : ℕ
   pub spent : Spent
@@ -128,18 +128,18 @@ pub record ShowsStuck (input : List ℕ) (result : Shown) : Type 0 where
   pub none : CanBeKept instance kept → ⊥
 
 -- The input gives an instance with a shipment, of which a plan exists, and what is shown is what its
--- last shipment adds to the cost, by a search without it and one with it.
-pub record ShowsExtra (budget : Budget) (input : List ℕ) (result : Shown) : Type 0 where
+-- last shipment adds to the cost, by such a search without it and one with it.
+pub record ShowsExtra (budget : Budget) (spans : Bool) (input : List ℕ) (result : Shown) : Type 0 where
   pub instance : Problem
   pub before : Solution
   pub after : Solution
   pub read : quoted_in input ≡ Ok instance
   pub shows : result ≡ shown.Quoted instance before after
-  pub quoted : IsQuoted instance budget before after
+  pub quoted : IsQuoted instance budget spans before after
 
 -- Both searches are optimal, and what the shipment adds is exact.
-pub record ShowsExactExtra (budget : Budget) (input : List ℕ) (result : Shown) : Type 0 where
-  pub extra : ShowsExtra budget input result
+pub record ShowsExactExtra (budget : Budget) (spans : Bool) (input : List ℕ) (result : Shown) : Type 0 where
+  pub extra : ShowsExtra budget spans input result
   pub least : ℕ
   pub most : ℕ
   pub without : extra.before.certificate.answer ≡ answer.Optimal least
@@ -155,8 +155,8 @@ pub record IsUnfinished (p : Problem) (budget : Budget) (s : Solution) : Type 0 
   pub bounds : IsBoundBelow p every budget cost bound spent
 
 -- One of the two searches is unfinished.
-pub record ShowsOpenExtra (budget : Budget) (input : List ℕ) (result : Shown) : Type 0 where
-  pub extra : ShowsExtra budget input result
+pub record ShowsOpenExtra (budget : Budget) (spans : Bool) (input : List ℕ) (result : Shown) : Type 0 where
+  pub extra : ShowsExtra budget spans input result
   pub one_unfinished : IsUnfinished (without_last extra.instance) budget extra.before ⊎ IsUnfinished extra.instance budget extra.after
 
 -- The input gives an instance of which no plan exists over any denominator, and what is shown is
@@ -232,25 +232,25 @@ ShowsDone None input result = ⊥
 ShowsDone (Some order.Direct) input result = ShowsPlan input result
 ShowsDone (Some order.Check) input result = ShowsYes input result
 ShowsDone (Some (order.Bound option)) input result = ShowsNumber option input result
-ShowsDone (Some (order.Plan budget scale)) input result = ShowsOptimal budget (instance_at scale input) shown.Planned result
-ShowsDone (Some (order.Trial seed terminals shipments)) input result = ShowsOptimal trial_budget (Ok (generated seed terminals shipments)) (shown.Trial seed) result
+ShowsDone (Some (order.Plan budget scale spans)) input result = ShowsOptimal budget spans (instance_at scale input) shown.Planned result
+ShowsDone (Some (order.Trial seed terminals shipments)) input result = ShowsOptimal trial_budget false (Ok (generated seed terminals shipments)) (shown.Trial seed) result
 ShowsDone (Some (order.Yard seed)) input result = ShowsRun seed input result
 ShowsDone (Some order.Fleet) input result = ShowsTrucks input result
-ShowsDone (Some (order.Replan budget)) input result = ShowsKeptOptimal budget input result
-ShowsDone (Some (order.Quote budget)) input result = ShowsExactExtra budget input result
+ShowsDone (Some (order.Replan budget spans)) input result = ShowsKeptOptimal budget spans input result
+ShowsDone (Some (order.Quote budget spans)) input result = ShowsExactExtra budget spans input result
 
 -- what is shown where an order is unfinished
 abbrev pub ShowsOpen : Option Order → List ℕ → Shown → Type 0
-ShowsOpen (Some (order.Plan budget scale)) input result = ShowsUnfinished budget (instance_at scale input) shown.Planned result
-ShowsOpen (Some (order.Trial seed terminals shipments)) input result = ShowsUnfinished trial_budget (Ok (generated seed terminals shipments)) (shown.Trial seed) result
-ShowsOpen (Some (order.Replan budget)) input result = ShowsKeptUnfinished budget input result
-ShowsOpen (Some (order.Quote budget)) input result = ShowsOpenExtra budget input result
+ShowsOpen (Some (order.Plan budget scale spans)) input result = ShowsUnfinished budget spans (instance_at scale input) shown.Planned result
+ShowsOpen (Some (order.Trial seed terminals shipments)) input result = ShowsUnfinished trial_budget false (Ok (generated seed terminals shipments)) (shown.Trial seed) result
+ShowsOpen (Some (order.Replan budget spans)) input result = ShowsKeptUnfinished budget spans input result
+ShowsOpen (Some (order.Quote budget spans)) input result = ShowsOpenExtra budget spans input result
 ShowsOpen _ input result = ⊥
 
 -- what is shown where no plan exists, or none that keeps the legs
 abbrev pub ShowsInfeasible : Option Order → List ℕ → Shown → Type 0
 ShowsInfeasible None input result = ⊥
-ShowsInfeasible (Some (order.Replan budget)) input result = ShowsStuck input result
+ShowsInfeasible (Some (order.Replan budget spans)) input result = ShowsStuck input result
 ShowsInfeasible (Some order) input result = ShowsNone order input result
 
 -- what is shown where a certificate is rejected: for `check` it isn't accepted for the instance at the
@@ -306,7 +306,7 @@ InputStatus order.Check input result =
     (λ p. MatchResult (certificate_in p input) (λ c. CheckStatus (scaled p c) c result) (λ f. result ≡ status.BadInput))
     (λ f. result ≡ status.BadInput)
 InputStatus (order.Bound option) input result = MatchResult (instance_in input) (λ p. PlanStatus p result) (λ f. result ≡ status.BadInput)
-InputStatus (order.Plan budget scale) input result = MatchResult (instance_at scale input) (λ p. SearchStatus p every budget result) (λ f. result ≡ status.BadInput)
+InputStatus (order.Plan budget scale spans) input result = MatchResult (instance_at scale input) (λ p. SearchStatus p every budget result) (λ f. result ≡ status.BadInput)
 InputStatus (order.Trial seed terminals shipments) input result = ⊥
 InputStatus (order.Yard seed) input result =
     MatchResult (leading_instance_in input)
@@ -316,8 +316,8 @@ InputStatus order.Fleet input result =
     MatchResult (leading_instance_in input)
     (λ p. MatchResult (certificate_in p input) (λ c. ToldStatus p c result) (λ f. result ≡ status.BadInput))
     (λ f. result ≡ status.BadInput)
-InputStatus (order.Replan budget) input result = MatchResult (kept_in input) (λ (x : KeptInstance). SearchStatus x.instance (keeping x.kept) budget result) (λ f. result ≡ status.BadInput)
-InputStatus (order.Quote budget) input result = MatchResult (quoted_in input) (λ p. QuoteStatus p budget result) (λ f. result ≡ status.BadInput)
+InputStatus (order.Replan budget spans) input result = MatchResult (kept_in input) (λ (x : KeptInstance). SearchStatus x.instance (keeping x.kept) budget result) (λ f. result ≡ status.BadInput)
+InputStatus (order.Quote budget spans) input result = MatchResult (quoted_in input) (λ p. QuoteStatus p budget result) (λ f. result ≡ status.BadInput)
 
 -- the one status of an order that reads no input
 abbrev pub AloneStatus : Order → Status → Type 0

@@ -1,7 +1,8 @@
 -- An instance and a certificate of an input, or why there are none.
-use Rattle.std.specs.Prelude.{ℕ, ◌+◌, ◌≡◌, List, drop, Some, Ok, Err, ⊤}
+use Rattle.std.specs.Prelude.{ℕ, ◌+◌, ◌-◌, ◌^◌, ◌<◌, ◌≡◌, List, drop, length, All, Some, Ok, Err, ⊤}
 use Rattle.fp_model.specs.Problem.{Problem}
 use Rattle.fp_prices.specs.Tables.{AreCountable}
+use Rattle.fp_spans.specs.Spans.{ClassSpan}
 use Rattle.fp_lines.specs.Ranges.{IsInRange}
 use Rattle.fp_lines.specs.Statements.{Statement}
 use Rattle.fp_certificate.specs.Reading.{certificate_of}
@@ -21,9 +22,10 @@ abbrev pub IsCheckInputOf : Problem → ℕ → List (List (List ℕ)) → Check
 IsCheckInputOf p used records (Both q c) = (q ≡ p) × (certificate_of p (used + 1) (drop used records) ≡ Ok c)
 IsCheckInputOf p used records (Fault ordinal code) = certificate_of p (used + 1) (drop used records) ≡ Err (record { ordinal = ordinal; code = code })
 
--- the certificate can be checked for the instance: it is in range, and its tables can be counted
+-- the certificate can be checked for the instance: it is in range, and its tables and the spans beside
+-- each can be counted
 abbrev pub CanBeChecked : Problem → Statement → Type 0
-CanBeChecked p c = IsInRange p c × AreCountable p c.tables
+CanBeChecked p c = IsInRange p c × AreCountable p c.tables × All (λ (list : List ClassSpan). length list < 2 ^ 32 - 1) c.spans
 
 -- the certificate can be checked for the instance, where there is one
 abbrev pub AreCheckable : CheckInput → Type 0

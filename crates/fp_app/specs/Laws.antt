@@ -1,5 +1,5 @@
 -- What one run answers to the text of another.
-use Rattle.std.specs.Prelude.{ℕ, ◌≡◌, List, ◌++◌, Ok}
+use Rattle.std.specs.Prelude.{ℕ, ◌≡◌, Bool, List, ◌++◌, Ok}
 use Rattle.fp_model.specs.Problem.{Problem}
 use Rattle.fp_records.specs.Fields.{records_of}
 use Rattle.fp_history.specs.declared.budgets.Budget.{Budget}
@@ -18,5 +18,5 @@ use Rattle.fp_app.specs.Wanted.{every}
 -- solution's certificate, the status of `check` for the longer input is that of an accepted one
 abbrev pub CheckAcceptsPlans : Type 0
 CheckAcceptsPlans =
-    (budget : Budget) (scale : ℕ) (input longer : List ℕ) (p : Problem) (s : Solution) → instance_at scale input ≡ Ok p → IsSearched p every budget s →
+    (budget : Budget) (scale : ℕ) (spans : Bool) (input longer : List ℕ) (p : Problem) (s : Solution) → instance_at scale input ≡ Ok p → IsSearched p every budget spans s →
     records_of longer ≡ records_of input ++ records_of (certificate_text p s.certificate) → (result : Status) → InputStatus Check longer result → result ≡ Done

@@ -47,33 +47,35 @@ ShowsBound option p (shown.Bound instance price tables spans value) =
 ShowsBound option p (shown.Infeasible instance shipment time) = (instance ≡ p) × IsBlocked p shipment time × (PlanExists p → ⊥)
 ShowsBound option p _ = ⊥
 
--- `plan`: where a plan exists, what a search with the budget shows, and otherwise the first shipment
--- that can't be carried in time, with its fastest time.
-abbrev pub ShowsSearch : Budget → Problem → Shown → Type 0
-ShowsSearch budget p (shown.Planned instance solved) = (instance ≡ p) × IsSearched p every budget solved
-ShowsSearch budget p (shown.Infeasible instance shipment time) = (instance ≡ p) × IsBlocked p shipment time × (PlanExists p → ⊥)
-ShowsSearch budget p _ = ⊥
+-- `plan`: where a plan exists, what a search with the budget shows, with the option of spans or without
+-- it, and otherwise the first shipment that can't be carried in time, with its fastest time.
+abbrev pub ShowsSearch : Budget → (spans : Bool) → Problem → Shown → Type 0
+ShowsSearch budget spans p (shown.Planned instance solved) = (instance ≡ p) × IsSearched p every budget spans solved
+ShowsSearch budget spans p (shown.Infeasible instance shipment time) = (instance ≡ p) × IsBlocked p shipment time × (PlanExists p → ⊥)
+ShowsSearch budget spans p _ = ⊥
 
--- `trial`: what a search of the drawn instance shows, with a small budget.
+-- `trial`: what a search of the drawn instance shows, with a small budget and without spans.
 abbrev pub ShowsTrial : (seed terminals shipments : ℕ) → Shown → Type 0
 ShowsTrial seed terminals shipments (shown.Trial shown_seed instance solved) =
-    (shown_seed ≡ seed) × (instance ≡ generated seed terminals shipments) × IsSearched (generated seed terminals shipments) every trial_budget solved
+    (shown_seed ≡ seed) × (instance ≡ generated seed terminals shipments) × IsSearched (generated seed terminals shipments) every trial_budget false solved
 ShowsTrial seed terminals shipments _ = ⊥
 
--- `replan`: where a plan keeps the legs, what a search with the budget among those plans shows, and
--- otherwise the first shipment that no legs carry that begin with its kept legs.
-abbrev pub ShowsReplan : Budget → KeptInstance → Shown → Type 0
-ShowsReplan budget x (shown.Replanned instance kept solved) =
-    (x ≡ record { instance = instance; kept = kept.items }) × IsSearched instance (keeping kept.items) budget solved
-ShowsReplan budget x (shown.Stuck instance shipment) = (instance ≡ x.instance) × IsStuck x.instance x.kept shipment × (CanBeKept x.instance x.kept → ⊥)
-ShowsReplan budget x _ = ⊥
+-- `replan`: where a plan keeps the legs, what a search with the budget among those plans shows, with the
+-- option of spans or without it, and otherwise the first shipment that no legs carry that begin with its
+-- kept legs.
+abbrev pub ShowsReplan : Budget → (spans : Bool) → KeptInstance → Shown → Type 0
+ShowsReplan budget spans x (shown.Replanned instance kept solved) =
+    (x ≡ record { instance = instance; kept = kept.items }) × IsSearched instance (keeping kept.items) budget spans solved
+ShowsReplan budget spans x (shown.Stuck instance shipment) = (instance ≡ x.instance) × IsStuck x.instance x.kept shipment × (CanBeKept x.instance x.kept → ⊥)
+ShowsReplan budget spans x _ = ⊥
 
--- `quote`: where a plan exists, what searches without the last shipment and with it show, and
--- otherwise the first shipment that can't be carried in time, with its fastest time.
-abbrev pub ShowsQuote : Budget → Problem → Shown → Type 0
-ShowsQuote budget p (shown.Quoted instance before after) = (instance ≡ p) × IsQuoted p budget before after
-ShowsQuote budget p (shown.Infeasible instance shipment time) = (instance ≡ p) × IsBlocked p shipment time × (PlanExists p → ⊥)
-ShowsQuote budget p _ = ⊥
+-- `quote`: where a plan exists, what searches without the last shipment and with it show, both with the
+-- option of spans or both without it, and otherwise the first shipment that can't be carried in time,
+-- with its fastest time.
+abbrev pub ShowsQuote : Budget → (spans : Bool) → Problem → Shown → Type 0
+ShowsQuote budget spans p (shown.Quoted instance before after) = (instance ≡ p) × IsQuoted p budget spans before after
+ShowsQuote budget spans p (shown.Infeasible instance shipment time) = (instance ≡ p) × IsBlocked p shipment time × (PlanExists p → ⊥)
+ShowsQuote budget spans p _ = ⊥
 
 -- The whole input was read and P holds of it, or more than the limit came.
 abbrev pub OfInput : ℕ → Option (List ℕ) → Option (List ℕ) → Shown → (List ℕ → Type 0) → Type 0
@@ -100,12 +102,12 @@ abbrev pub ShowsInput : Order → List ℕ → Shown → Type 0
 ShowsInput order.Direct input result = OfInstance input result (λ p. ShowsDirect p result)
 ShowsInput order.Check input result = OfCertificate input result (λ p c. ShowsCheck (scaled p c) c result)
 ShowsInput (order.Bound option) input result = OfInstance input result (λ p. ShowsBound option p result)
-ShowsInput (order.Plan budget scale) input result = OfScaled scale input result (λ p. ShowsSearch budget p result)
+ShowsInput (order.Plan budget scale spans) input result = OfScaled scale input result (λ p. ShowsSearch budget spans p result)
 ShowsInput (order.Trial seed terminals shipments) input result = ⊥
 ShowsInput (order.Yard seed) input result = OfCertificate input result (λ p c. ShowsYard seed p c result)
 ShowsInput order.Fleet input result = OfCertificate input result (λ p c. ShowsFleet p c result)
-ShowsInput (order.Replan budget) input result = OfKept input result (λ x. ShowsReplan budget x result)
-ShowsInput (order.Quote budget) input result = OfQuoted input result (λ p. ShowsQuote budget p result)
+ShowsInput (order.Replan budget spans) input result = OfKept input result (λ x. ShowsReplan budget spans x result)
+ShowsInput (order.Quote budget spans) input result = OfQuoted input result (λ p. ShowsQuote budget spans p result)
 
 -- What an order shows that reads no input.
 abbrev pub ShowsAlone : Order → Shown → Type 0

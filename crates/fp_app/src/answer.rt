@@ -85,11 +85,15 @@ fn input_shown(alloc: Global, order: Order, bytes: Vec<u8>) -> Result<Shown, NoM
         Order::Direct => direct_shown(alloc, bytes),
         Order::Check => check_shown(alloc, bytes),
         Order::Bound { spans } => bound_shown(alloc, bytes, spans),
-        Order::Plan { budget, scale } => plan_shown(alloc, bytes, budget, scale),
+        Order::Plan {
+            budget,
+            scale,
+            spans,
+        } => plan_shown(alloc, bytes, budget, scale, spans),
         Order::Trial { .. } => unreachable!(),
         Order::Yard { seed } => yard_shown(alloc, bytes, seed),
         Order::Fleet => fleet_shown(alloc, bytes),
-        Order::Replan { budget } => replan_shown(alloc, bytes, budget),
-        Order::Quote { budget } => quote_shown(alloc, bytes, budget),
+        Order::Replan { budget, spans } => replan_shown(alloc, bytes, budget, spans),
+        Order::Quote { budget, spans } => quote_shown(alloc, bytes, budget, spans),
     }
 }

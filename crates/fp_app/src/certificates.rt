@@ -23,10 +23,12 @@ fn timetable_of(
     Certificate {
         answer,
         scale: None,
+        unit: None,
         legs,
         trucks,
         points: Vec::new(alloc),
         tables: Vec::new(alloc),
+        spans: Vec::new(alloc),
         tree: Vec::new(alloc),
     }
 }

@@ -21,28 +21,39 @@ use fp_replan::without_last;
 use fp_session::Solved;
 use std::alloc::Global;
 
-/// What `quote` shows for the bytes of an input, with a budget within its limits.
-pub fn quote_shown(alloc: Global, bytes: Vec<u8>, budget: Budget) -> Result<Shown, NoMemory>
+/// What `quote` shows for the bytes of an input, with a budget within its limits, and with the option
+/// of spans or without it.
+pub fn quote_shown(
+    alloc: Global,
+    bytes: Vec<u8>,
+    budget: Budget,
+    spans: bool,
+) -> Result<Shown, NoMemory>
     requires length { length bytes.items ≤ INSTANCE_LIMIT }
     requires budget { IsBudget budget }
-    ensures shown { IfOk result (λ shown. OfQuoted bytes.items shown (λ p. ShowsQuote budget p shown)) }
+    ensures shown { IfOk result (λ shown. OfQuoted bytes.items shown (λ p. ShowsQuote budget spans p shown)) }
     ensures printable { IfOk result IsPrintable }
 {
     match read_quoted(alloc, bytes)? {
-        InstanceInput::Read { instance } => quote_last(alloc, instance, budget),
+        InstanceInput::Read { instance } => quote_last(alloc, instance, budget, spans),
         InstanceInput::Fault { ordinal, code } => Ok(Shown::BadInput { ordinal, code }),
     }
 }
 
 // What the last shipment adds to the cost, or the first shipment that can't be carried in time.
-fn quote_last(alloc: Global, instance: Instance, budget: Budget) -> Result<Shown, NoMemory>
+fn quote_last(
+    alloc: Global,
+    instance: Instance,
+    budget: Budget,
+    spans: bool,
+) -> Result<Shown, NoMemory>
     requires shipment { 1 ≤ length instance.shipments }
     requires budget { IsBudget budget }
-    ensures shown { IfOk result (ShowsQuote budget instance) }
+    ensures shown { IfOk result (ShowsQuote budget spans instance) }
     ensures printable { IfOk result IsPrintable }
 {
     match feasible(alloc, &instance)? {
-        Verdict::All => solve_twice(alloc, instance, budget),
+        Verdict::All => solve_twice(alloc, instance, budget, spans),
         Verdict::Blocked { shipment, distance } => Ok(Shown::Infeasible {
             instance,
             shipment,
@@ -52,16 +63,21 @@ fn quote_last(alloc: Global, instance: Instance, budget: Budget) -> Result<Shown
 }
 
 // What searches show without the last shipment and with it.
-fn solve_twice(alloc: Global, instance: Instance, budget: Budget) -> Result<Shown, NoMemory>
+fn solve_twice(
+    alloc: Global,
+    instance: Instance,
+    budget: Budget,
+    spans: bool,
+) -> Result<Shown, NoMemory>
     requires shipment { 1 ≤ length instance.shipments }
     requires time { AllInTime instance }
     requires exists { PlanExists instance }
     requires budget { IsBudget budget }
-    ensures shown { IfOk result (ShowsQuote budget instance) }
+    ensures shown { IfOk result (ShowsQuote budget spans instance) }
     ensures printable { IfOk result IsPrintable }
 {
-    let before = solve_without_last(alloc, &instance, budget)?;
-    let after = solve(alloc, &instance, budget)?;
+    let before = solve_without_last(alloc, &instance, budget, spans)?;
+    let after = solve(alloc, &instance, budget, spans)?;
     Ok(Shown::Quoted {
         instance,
         before,
@@ -74,15 +90,16 @@ fn solve_without_last(
     alloc: Global,
     instance: &Instance,
     budget: Budget,
+    spans: bool,
 ) -> Result<Solved, NoMemory>
     requires shipment { 1 ≤ length instance.now.shipments }
     requires exists { PlanExists instance.now }
     requires budget { IsBudget budget }
-    ensures { IfOk result (IsSearched (without_last_of instance.now) every budget) }
+    ensures { IfOk result (IsSearched (without_last_of instance.now) every budget spans) }
 {
     let earlier = without_last(alloc, instance)?;
     match feasible(alloc, &earlier)? {
-        Verdict::All => solve(alloc, &earlier, budget),
+        Verdict::All => solve(alloc, &earlier, budget, spans),
         // A plan of all shipments carries these too.
         Verdict::Blocked { .. } => unreachable!(),
     }

@@ -2,9 +2,9 @@
 ghost use Rattle.std.specs.Prelude.{◌≡◌, ◌<◌, ◌≤◌, ◌-◌, ◌^◌, length, not, IfOk};
 ghost use Rattle.std.specs.List.{prefix_len};
 ghost use Rattle.fp_history.specs.Budgets.{IsBudget};
-ghost use Rattle.fp_lines.specs.Ranges.{IsInRange};
 ghost use Rattle.fp_replan.specs.declared.kept.TheConstants.{MOST_KEPT};
 ghost use Rattle.fp_replan.specs.KeptLegs.{AreKept};
+ghost use Rattle.fp_app.specs.CheckInputs.{CanBeChecked};
 ghost use Rattle.fp_app.specs.declared.limits.TheConstants.{INSTANCE_LIMIT};
 ghost use Rattle.fp_app.specs.Inputs.{OfKept, is_kept};
 ghost use Rattle.fp_app.specs.KeptInputs.{CanKeep, IsKeptInput, IsKeptInputOf};
@@ -13,15 +13,15 @@ ghost use Rattle.fp_app.specs.Searches.{IsSearched};
 ghost use Rattle.fp_app.specs.Shown.{IsPrintable};
 ghost use Rattle.fp_app.specs.Wanted.{IsFirstPlan, keeping};
 
+use crate::searches::search_from;
 use crate::{NoMemory, Shown};
-use fp_certificate::written_reads_back;
 use fp_fields::fields::is_of_kind;
 use fp_history::Budget;
 use fp_model::{Instance, Plan};
 use fp_reader::{InputFault, Tail, instance};
 use fp_records::{Record, records};
 use fp_replan::{Kept, KeptFault, Started, read_kept, start, windows};
-use fp_session::{Session, Solved};
+use fp_session::Solved;
 use std::alloc::{AllocError, Global};
 
 /// What an input gives.
@@ -33,15 +33,21 @@ pub enum KeptInput {
     Fault { ordinal: u32, code: u32 },
 }
 
-/// What `replan` shows for the bytes of an input, with a budget within its limits.
-pub fn replan_shown(alloc: Global, bytes: Vec<u8>, budget: Budget) -> Result<Shown, NoMemory>
+/// What `replan` shows for the bytes of an input, with a budget within its limits, and with the option
+/// of spans or without it.
+pub fn replan_shown(
+    alloc: Global,
+    bytes: Vec<u8>,
+    budget: Budget,
+    spans: bool,
+) -> Result<Shown, NoMemory>
     requires length { length bytes.items ≤ INSTANCE_LIMIT }
     requires budget { IsBudget budget }
-    ensures shown { IfOk result (λ shown. OfKept bytes.items shown (λ x. ShowsReplan budget x shown)) }
+    ensures shown { IfOk result (λ shown. OfKept bytes.items shown (λ x. ShowsReplan budget spans x shown)) }
     ensures printable { IfOk result IsPrintable }
 {
     match read_both(alloc, bytes)? {
-        KeptInput::Both { instance, kept } => search_keeping(alloc, instance, kept, budget),
+        KeptInput::Both { instance, kept } => search_keeping(alloc, instance, kept, budget, spans),
         KeptInput::Fault { ordinal, code } => Ok(Shown::BadInput { ordinal, code }),
     }
 }
@@ -100,16 +106,17 @@ fn search_keeping(
     instance: Instance,
     kept: Vec<Kept>,
     budget: Budget,
+    spans: bool,
 ) -> Result<Shown, NoMemory>
     requires kept { AreKept instance kept.items }
     requires few { length kept.items ≤ MOST_KEPT }
     requires budget { IsBudget budget }
-    ensures shown { IfOk result (ShowsReplan budget (record { instance = instance; kept = kept.items })) }
+    ensures shown { IfOk result (ShowsReplan budget spans (record { instance = instance; kept = kept.items })) }
     ensures printable { IfOk result IsPrintable }
 {
     match start(alloc, &instance, &kept)? {
         Started::Plan { plan } => {
-            let solved = solve_keeping(alloc, &instance, &kept, plan, budget)?;
+            let solved = solve_keeping(alloc, &instance, &kept, plan, budget, spans)?;
             Ok(Shown::Replanned {
                 instance,
                 kept,
@@ -127,18 +134,15 @@ fn solve_keeping(
     kept: &[Kept],
     first: Plan,
     budget: Budget,
+    spans: bool,
 ) -> Result<Solved, NoMemory>
     requires kept { AreKept instance.now kept.now }
     requires few { length kept.now ≤ MOST_KEPT }
     requires first { IsFirstPlan instance.now (keeping kept.now) first }
     requires budget { IsBudget budget }
-    ensures searched { IfOk result (IsSearched instance.now (keeping kept.now) budget) }
-    ensures range { IfOk result (λ solved. IsInRange instance.now solved.certificate) }
+    ensures searched { IfOk result (IsSearched instance.now (keeping kept.now) budget spans) }
+    ensures checkable { IfOk result (λ solved. CanBeChecked instance.now solved.certificate) }
 {
-    // What is shown can be read again.
-    written_reads_back(instance);
     let windows = windows(alloc, instance, kept)?;
-    let session = Session::new(alloc, instance.copy(alloc)?, windows, first, budget)?;
-    let solved = session.solve(alloc)?;
-    Ok(solved)
+    search_from(alloc, instance, windows, first, budget, spans)
 }

@@ -1,9 +1,9 @@
 //! What `trial` shows.
-ghost use Rattle.std.specs.Prelude.{◌≤◌, IfOk};
+ghost use Rattle.std.specs.Prelude.{◌≤◌, IfOk, false};
 ghost use Rattle.fp_flatnet.specs.Verdicts.{AllInTime};
-ghost use Rattle.fp_lines.specs.Ranges.{AnswerExists, IsInRange};
+ghost use Rattle.fp_lines.specs.Ranges.{AnswerExists};
 ghost use Rattle.fp_model.specs.declared.limits.TheConstants.{MOST_SHIPMENTS, MOST_TERMINALS};
-ghost use Rattle.fp_prices.specs.Tables.{AreCountable};
+ghost use Rattle.fp_app.specs.CheckInputs.{CanBeChecked};
 ghost use Rattle.fp_app.specs.Checks.{IsAcceptedFor};
 ghost use Rattle.fp_app.specs.Runs.{ShowsTrial};
 ghost use Rattle.fp_app.specs.Searches.{IsSearched, trial_budget};
@@ -58,22 +58,21 @@ pub fn trial_shown(
 // What a search shows of an instance, once its certificate is checked.
 fn solve_and_check(alloc: Global, instance: &Instance) -> Result<Solved, NoMemory>
     requires { AllInTime instance.now }
-    ensures searched { IfOk result (IsSearched instance.now every trial_budget) }
+    ensures searched { IfOk result (IsSearched instance.now every trial_budget false) }
     ensures named { IfOk result (λ solved. AnswerExists instance.now solved.certificate.answer) }
 {
     let budget = Budget {
         rounds: TRIAL_ROUNDS,
         branches: TRIAL_BRANCHES,
     };
-    let solved = solve(alloc, instance, budget)?;
+    let solved = solve(alloc, instance, budget, false)?;
     confirm(alloc, instance, &solved.certificate)?;
     Ok(solved)
 }
 
 // Checks a certificate that is accepted.
 fn confirm(alloc: Global, instance: &Instance, certificate: &Certificate) -> Result<(), NoMemory>
-    requires range { IsInRange instance.now certificate.now }
-    requires countable { AreCountable instance.now certificate.now.tables }
+    requires checkable { CanBeChecked instance.now certificate.now }
     requires accepted { IsAcceptedFor instance.now certificate.now }
 {
     let windows = Windows::of(alloc, instance)?;

@@ -1,6 +1,6 @@
 -- What reading says of a worked certificate and of altered ones.
 use Rattle.std.proofs.Common.{◌≡◌, ℕ, List, [], ◌∷◌, ◌++◌, refl}
-use Rattle.std.specs.Prelude.{Result, Ok, Err, codes}
+use Rattle.std.specs.Prelude.{Result, Ok, Err, Some, codes}
 use Rattle.fp_fields.specs.Faults.{Fault}
 use Rattle.fp_certificate.specs.Reading.{certificate_of}
 use Rattle.fp_lines.specs.Statements.{Statement}
@@ -96,6 +96,81 @@ table-next = refl
 no-share : read (answer ∷ (codes "table" ∷ codes "1" ∷ []) ∷ (codes "share" ∷ codes "A" ∷ codes "B" ∷ codes "0" ∷ codes "0" ∷ [])
     ∷ (codes "table" ∷ codes "2" ∷ []) ∷ (codes "weight" ∷ codes "S1" ∷ codes "1" ∷ []) ∷ []) ≡ bad 9 24
 no-share = refl
+
+abbrev unit : List ℕ → List (List ℕ)
+unit n = codes "unit" ∷ n ∷ []
+
+-- a unit is at least 1 and at most 2^127 - 1, and there is one
+reads-unit : read (answer ∷ scale (codes "7") ∷ unit (codes "50") ∷ last ∷ [])
+    ≡ Ok (record best { scale = Some 7; unit = Some 50; legs = []; trucks = []; tree = [] })
+reads-unit = refl
+
+unit-zero : read (answer ∷ unit (codes "0") ∷ []) ≡ bad 6 28
+unit-zero = refl
+
+unit-above : read (answer ∷ unit (codes "170141183460469231731687303715884105728") ∷ []) ≡ bad 6 28
+unit-above = refl
+
+unit-twice : read (answer ∷ unit (codes "1") ∷ unit (codes "1") ∷ []) ≡ bad 7 24
+unit-twice = refl
+
+-- it stands after the scale and before the legs, and not under a direct answer
+unit-early : read (answer ∷ unit (codes "1") ∷ scale (codes "1") ∷ []) ≡ bad 7 24
+unit-early = refl
+
+unit-late : read (answer ∷ leg (codes "0") ∷ unit (codes "1") ∷ []) ≡ bad 7 24
+unit-late = refl
+
+unit-direct : read ((codes "answer" ∷ codes "direct" ∷ codes "104" ∷ []) ∷ unit (codes "1") ∷ []) ≡ bad 6 24
+unit-direct = refl
+
+abbrev table : List (List ℕ)
+table = codes "table" ∷ codes "1" ∷ []
+
+abbrev share : List (List ℕ)
+share = codes "share" ∷ codes "A" ∷ codes "B" ∷ codes "7" ∷ codes "20" ∷ []
+
+abbrev span : List ℕ → List ℕ → List (List ℕ)
+span until charge = codes "span" ∷ codes "A" ∷ codes "B" ∷ codes "7" ∷ until ∷ codes "100" ∷ charge ∷ []
+
+abbrev weight : List ℕ → List (List ℕ)
+weight w = codes "weight" ∷ codes "S1" ∷ w ∷ []
+
+-- a weight is that of the share or the span before it
+reads-span : read (answer ∷ table ∷ share ∷ weight (codes "3") ∷ span (codes "9") (codes "5") ∷ weight (codes "4") ∷ last ∷ [])
+    ≡ Ok (record best {
+      legs = [];
+      trucks = [];
+      tables = ((record { arc = 0; point = 7; v = 20; weights = (record { shipment = 0; w = 3 }) ∷ [] }) ∷ []) ∷ [];
+      spans = ((record { arc = 0; point = 7; until = 9; money = 100; charge = 5; weights = (record { shipment = 0; w = 4 }) ∷ [] }) ∷ []) ∷ [];
+      tree = [];
+    })
+reads-span = refl
+
+-- the shares of a table stand before its spans
+share-after-span : read (answer ∷ table ∷ span (codes "9") (codes "5") ∷ share ∷ []) ≡ bad 8 24
+share-after-span = refl
+
+-- a span stands in a table
+span-alone : read (answer ∷ span (codes "9") (codes "5") ∷ []) ≡ bad 6 24
+span-alone = refl
+
+-- it ends after its point, and at most at 100,001
+span-empty : read (answer ∷ table ∷ span (codes "7") (codes "5") ∷ []) ≡ bad 7 28
+span-empty = refl
+
+span-last : read (answer ∷ table ∷ span (codes "100001") (codes "5") ∷ []) ≡ bad 8 26
+span-last = refl
+
+span-past : read (answer ∷ table ∷ span (codes "100002") (codes "5") ∷ []) ≡ bad 7 28
+span-past = refl
+
+span-charge : read (answer ∷ table ∷ span (codes "9") (codes "170141183460469231731687303715884105728") ∷ []) ≡ bad 7 28
+span-charge = refl
+
+-- a weight in neither a share nor a span of its table
+no-span : read (answer ∷ table ∷ span (codes "9") (codes "5") ∷ (codes "table" ∷ codes "2" ∷ []) ∷ weight (codes "1") ∷ []) ≡ bad 9 24
+no-span = refl
 
 -- the name goes before the range
 name-first : read (answer ∷ (codes "point" ∷ codes "C" ∷ codes "0" ∷ codes "4001" ∷ []) ∷ []) ≡ bad 6 25

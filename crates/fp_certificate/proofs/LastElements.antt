@@ -3,9 +3,8 @@ use Rattle.std.proofs.Common.{◌≡◌, ◌≢◌, ◌∙◌, ◌-◌, ◌<◌,
 use Rattle.std.specs.Prelude.{Result, Ok, Err, OnOk, suc}
 use Rattle.std.proofs.Math.ListN.{set}
 use Rattle.std.proofs.lemmas.Bool.{eqb-false}
-use Rattle.fp_prices.specs.Shares.{ClassShare}
 use Rattle.fp_records.specs.Fields.{is_empty}
-use Rattle.fp_certificate.specs.Tables.{lacks_share, with_last}
+use Rattle.fp_certificate.specs.Tables.{lacks_last, with_last}
 
 -- a write at the last place
 pub with_last-set : {A : Type 0} (f : A → A) (xs : List A) (d : A) → 0 < length xs → set xs (length xs - 1) (f (get_or xs (length xs - 1) d)) ≡ with_last f xs
@@ -15,23 +14,23 @@ with_last-set f (x ∷ y ∷ xs) d some =
     let e : length (x ∷ y ∷ xs) - 1 ≡ suc (length (y ∷ xs) - 1) = omega arith in
     rw e (ap (λ (ys : List _). x ∷ ys) (with_last-set f (y ∷ xs) d (omega arith)))
 
--- the last table decides whether a share is missing
-pub lacks_share-last : (tables : List (List ClassShare)) (d : List ClassShare) → 0 < length tables → lacks_share tables ≡ is_empty (get_or tables (length tables - 1) d)
-lacks_share-last [] d some = absurd (omega arith)
-lacks_share-last (table ∷ []) d some = refl
-lacks_share-last (table ∷ next ∷ tables) d some =
-    let e : length (table ∷ next ∷ tables) - 1 ≡ suc (length (next ∷ tables) - 1) = omega arith in
-    rw e (lacks_share-last (next ∷ tables) d (omega arith))
+-- the last list decides whether an element is missing
+pub lacks_last-last : {A : Type 0} (lists : List (List A)) (d : List A) → 0 < length lists → lacks_last lists ≡ is_empty (get_or lists (length lists - 1) d)
+lacks_last-last [] d some = absurd (omega arith)
+lacks_last-last (list ∷ []) d some = refl
+lacks_last-last (list ∷ next ∷ lists) d some =
+    let e : length (list ∷ next ∷ lists) - 1 ≡ suc (length (next ∷ lists) - 1) = omega arith in
+    rw e (lacks_last-last (next ∷ lists) d (omega arith))
 
--- where no share is missing, there is a table, and the last one has a share
-pub has-table : (tables : List (List ClassShare)) → lacks_share tables ≡ false → 0 < length tables
-has-table [] h = cc h
-has-table (table ∷ tables) h = omega arith
+-- where no element is missing, there is a list, and the last one has an element
+pub has-list : {A : Type 0} (lists : List (List A)) → lacks_last lists ≡ false → 0 < length lists
+has-list [] h = cc h
+has-list (list ∷ lists) h = omega arith
 
-pub has-share : (tables : List (List ClassShare)) (d : List ClassShare) → lacks_share tables ≡ false → 0 < length (get_or tables (length tables - 1) d)
-has-share tables d h =
-    let last = get_or tables (length tables - 1) d in
-    let some : length last ≢ 0 = eqb-false (length last) 0 (sym (lacks_share-last tables d (has-table tables h)) ∙ h) in
+pub has-element : {A : Type 0} (lists : List (List A)) (d : List A) → lacks_last lists ≡ false → 0 < length (get_or lists (length lists - 1) d)
+has-element lists d h =
+    let last = get_or lists (length lists - 1) d in
+    let some : length last ≢ 0 = eqb-false (length last) 0 (sym (lacks_last-last lists d (has-list lists h)) ∙ h) in
     omega (arith, some)
 
 -- what a function made of the last element is written at its place

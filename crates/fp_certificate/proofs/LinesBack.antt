@@ -11,6 +11,7 @@ use Rattle.fp_prices.specs.declared.leaf_prices.LeafPrice.{LeafPrice}
 use Rattle.fp_prices.specs.declared.tables.Weight.{Weight}
 use Rattle.fp_prices.specs.Shares.{ClassShare}
 use Rattle.fp_prices.specs.Tables.{HasKind}
+use Rattle.fp_spans.specs.Spans.{ClassSpan}
 use Rattle.fp_fields.specs.Fields.{is_number, is_within, number}
 use Rattle.fp_records.specs.Fields.{is_empty}
 use Rattle.fp_timenodes.specs.declared.places.AddedPoint.{AddedPoint}
@@ -26,13 +27,13 @@ use Rattle.fp_lines.specs.declared.certificates.Spent.{Spent}
 use Rattle.fp_lines.specs.declared.certificates.Spent.TheVariants as spent
 use Rattle.fp_certificate.specs.declared.drafts.Draft.{Draft}
 use Rattle.fp_certificate.specs.declared.groups.Group.TheVariants as group
-use Rattle.fp_certificate.specs.Answers.{with_answer, with_scale}
+use Rattle.fp_certificate.specs.Answers.{with_answer, with_scale, with_unit}
 use Rattle.fp_certificate.specs.Groups.{has_ended, is_misplaced}
 use Rattle.fp_certificate.specs.Points.{with_point}
-use Rattle.fp_lines.specs.Ranges.{IsAnswerInRange, IsLeafInRange, IsLegInRange, IsNodeInRange, IsPointInRange, IsScaleInRange, IsShareInRange, IsSplitInRange, IsTruckInRange, IsWeightInRange, largest_figure}
+use Rattle.fp_lines.specs.Ranges.{IsAnswerInRange, IsLeafInRange, IsLegInRange, IsNodeInRange, IsPointInRange, IsScaleInRange, IsShareInRange, IsSpanInRange, IsSplitInRange, IsTruckInRange, IsUnitInRange, IsWeightInRange, largest_figure}
 use Rattle.fp_certificate.specs.Reading.{line_code, nothing_read, with_line}
-use Rattle.fp_lines.specs.Rows.{answer_fields, end_fields, kind_text, leaf_fields, leg_fields, mode_text, node_fields, point_fields, scale_fields, share_fields, split_fields, table_fields, truck_fields, weight_fields}
-use Rattle.fp_certificate.specs.Tables.{lacks_share, with_share, with_table, with_weight}
+use Rattle.fp_lines.specs.Rows.{answer_fields, end_fields, kind_text, leaf_fields, leg_fields, mode_text, node_fields, point_fields, scale_fields, share_fields, span_fields, split_fields, table_fields, truck_fields, unit_fields, weight_fields}
+use Rattle.fp_certificate.specs.Tables.{and_last_share_weight, and_last_span_weight, has_span, lacks_share, with_lists, with_share, with_span, with_table}
 use Rattle.fp_certificate.specs.Timetables.{with_leg, with_truck}
 use Rattle.fp_certificate.specs.Trees.{with_end, with_node}
 use Rattle.fp_certificate.proofs.NamesBack.{arc-back, shipment-back, terminal-back}
@@ -108,6 +109,16 @@ scale-step p before n r open_still placed none =
       gives = rw back.value refl;
     }
 
+-- a unit, where there is none yet
+pub unit-step : (p : Problem) (before : Draft) (n : ℕ) → IsUnitInRange n → has_ended before ≡ false → is_misplaced before group.Unit ≡ false
+    → is_some before.certificate.unit ≡ false → IsStep p before (unit_fields n) (with_unit before n)
+unit-step p before n r open_still placed none =
+    let back = large-back n r.most in
+    record {
+      clean = rw (open_still, placed, none, back.is, within-back 1 largest_figure n r.least r.most back) refl;
+      gives = rw back.value refl;
+    }
+
 -- a table with the next number
 pub table-step : (p : Problem) (before : Draft) (id : ℕ) → id ≡ length before.certificate.tables + 1 → id < 10 ^ 64 → has_ended before ≡ false
     → is_misplaced before group.Tables ≡ false → IsStep p before (table_fields id) (with_table before)
@@ -118,11 +129,11 @@ table-step p before id next small open_still placed =
       gives = refl;
     }
 
--- a share, without its weights
+-- a share, without its weights, in a table that has no span yet
 pub share-step : (p : Problem) (before : Draft) (s : ClassShare) → IsValid p → IsShareInRange p s → has_ended before ≡ false
-    → is_misplaced before group.Tables ≡ false → is_empty before.certificate.tables ≡ false
+    → is_misplaced before group.Tables ≡ false → is_empty before.certificate.tables ≡ false → has_span before.certificate.spans ≡ false
     → IsStep p before (share_fields p s) (with_share before (record s { weights = [] }))
-share-step p before s v r open_still placed some =
+share-step p before s v r open_still placed some bare =
     let arc = arc-back p s.arc v r.arc in
     let point = time-back s.point r.point in
     let v-back = large-back s.v r.price in
@@ -132,6 +143,7 @@ share-step p before s v r open_still placed some =
             open_still,
             placed,
             some,
+            bare,
             point.is,
             v-back.is,
             arc,
@@ -141,15 +153,58 @@ share-step p before s v r open_still placed some =
       gives = rw (arc, point.value, v-back.value) refl;
     }
 
+-- a span, without its weights
+pub span-step : (p : Problem) (before : Draft) (s : ClassSpan) → IsValid p → IsSpanInRange p s → has_ended before ≡ false
+    → is_misplaced before group.Tables ≡ false → is_empty before.certificate.spans ≡ false
+    → IsStep p before (span_fields p s) (with_span before (record s { weights = [] }))
+span-step p before s v r open_still placed some =
+    let arc = arc-back p s.arc v r.arc in
+    let point = time-back s.point r.point in
+    let until = number-back s.until (omega (arith, r.until)) in
+    let money = large-back s.money r.money in
+    let charge = large-back s.charge r.charge in
+    record {
+      clean =
+          rw (
+            open_still,
+            placed,
+            some,
+            point.is,
+            until.is,
+            money.is,
+            charge.is,
+            arc,
+            within-back 0 LATEST s.point (omega arith) r.point point,
+            point.value,
+            within-back (s.point + 1) (LATEST + 1) s.until (omega (arith, r.some)) r.until until,
+            within-back 0 largest_figure s.money (omega arith) r.money money,
+            within-back 0 largest_figure s.charge (omega arith) r.charge charge,
+          ) refl;
+      gives = rw (arc, point.value, until.value, money.value, charge.value) refl;
+    }
+
+-- a weight in the last share of a table that has no span
 pub weight-step : (p : Problem) (before : Draft) (w : Weight) → IsValid p → IsWeightInRange p w → has_ended before ≡ false
-    → is_misplaced before group.Tables ≡ false → lacks_share before.certificate.tables ≡ false
-    → IsStep p before (weight_fields p w) (with_weight before w)
-weight-step p before w v r open_still placed some =
+    → is_misplaced before group.Tables ≡ false → lacks_share before.certificate.tables ≡ false → has_span before.certificate.spans ≡ false
+    → IsStep p before (weight_fields p w) (with_lists before (and_last_share_weight w before.certificate.tables) before.certificate.spans)
+weight-step p before w v r open_still placed some bare =
+    let shipment = shipment-back p w.shipment v r.shipment in
+    let back = large-back w.w r.small in
+    record {
+      clean = rw (open_still, placed, bare, some, back.is, shipment, within-back 0 largest_figure w.w (omega arith) r.small back) refl;
+      gives = rw (bare, shipment, back.value) refl;
+    }
+
+-- a weight in the last span of a table
+pub span-weight-step : (p : Problem) (before : Draft) (w : Weight) → IsValid p → IsWeightInRange p w → has_ended before ≡ false
+    → is_misplaced before group.Tables ≡ false → has_span before.certificate.spans ≡ true
+    → IsStep p before (weight_fields p w) (with_lists before before.certificate.tables (and_last_span_weight w before.certificate.spans))
+span-weight-step p before w v r open_still placed some =
     let shipment = shipment-back p w.shipment v r.shipment in
     let back = large-back w.w r.small in
     record {
       clean = rw (open_still, placed, some, back.is, shipment, within-back 0 largest_figure w.w (omega arith) r.small back) refl;
-      gives = rw (shipment, back.value) refl;
+      gives = rw (some, shipment, back.value) refl;
     }
 
 -- a split

@@ -3,7 +3,7 @@ use Rattle.std.proofs.Common.{◌≡◌, ◌∙◌, ℕ, ◌+◌, ◌^◌, ◌-�
 use Rattle.std.specs.Prelude.{Option, Some, None, All, ◌&&◌, ◌==◌, not, IfSome}
 use Rattle.std.specs.List.{AllByRecursion, flat_map, list_all}
 use Rattle.std.proofs.lemmas.Bool.{and_from, and_parts, ne_eqb}
-use Rattle.std.proofs.lemmas.List.Elements.{All-head, All-tail, recursion_from_All}
+use Rattle.std.proofs.lemmas.List.Elements.{All-head, All-nil, All-tail, recursion_from_All}
 use Rattle.std.proofs.lemmas.List.Folds.{list_all-append}
 use Rattle.fp_model.specs.Names.{IsName, is_name_byte}
 use Rattle.fp_model.specs.Numbered.{no_shipment}
@@ -13,7 +13,10 @@ use Rattle.fp_prices.specs.declared.leaf_prices.Kind.TheVariants as price
 use Rattle.fp_prices.specs.declared.tables.Weight.{Weight}
 use Rattle.fp_prices.specs.Shares.{ClassShare}
 use Rattle.fp_prices.specs.Tables.{HasKind}
+use Rattle.fp_spans.specs.SpanKinds.{spans_of_table}
+use Rattle.fp_spans.specs.Spans.{ClassSpan}
 use Rattle.fp_fields.proofs.NameForm.{name-test}
+use Rattle.fp_lists.proofs.Elements.{AllByRecursion-get_or_default}
 use Rattle.fp_records.specs.Fields.{is_empty}
 use Rattle.fp_records.specs.Text.{is_plain, is_plain_field, is_plain_record}
 use Rattle.fp_timenodes.specs.declared.places.AddedPoint.{AddedPoint}
@@ -25,9 +28,9 @@ use Rattle.fp_lines.specs.declared.certificates.Answer.TheVariants as answer
 use Rattle.fp_lines.specs.declared.certificates.Node.{Node}
 use Rattle.fp_lines.specs.declared.certificates.Node.TheVariants as node
 use Rattle.fp_lines.specs.declared.certificates.Spent.TheVariants as spent
-use Rattle.fp_lines.specs.Ranges.{IsAnswerInRange, IsInRange, IsLegInRange, IsNodeInRange, IsPointInRange, IsScaleInRange, IsShareInRange, IsTruckInRange, IsWeightInRange}
+use Rattle.fp_lines.specs.Ranges.{IsAnswerInRange, IsInRange, IsLegInRange, IsNodeInRange, IsPointInRange, IsScaleInRange, IsShareInRange, IsSpanInRange, IsTruckInRange, IsUnitInRange, IsWeightInRange}
 use Rattle.fp_certificate.specs.Readable.{HaveNames}
-use Rattle.fp_lines.specs.Rows.{answer_fields, head_name, kind_text, leg_fields, mode_text, node_fields, point_fields, rows_of, scale_rows, share_fields, share_rows, shipment_name, table_fields, table_rows, tables_rows, tail_name, terminal_name, truck_fields, weight_fields}
+use Rattle.fp_lines.specs.Rows.{answer_fields, head_name, kind_text, leg_fields, mode_text, node_fields, point_fields, rows_of, scale_rows, share_fields, share_rows, shipment_name, span_fields, span_rows, table_fields, table_rows, tables_rows, tail_name, terminal_name, truck_fields, unit_rows, weight_fields}
 use Rattle.fp_lines.specs.Statements.{Statement}
 use Rattle.fp_model.proofs.Validity.{IsArc-valid}
 use Rattle.fp_certificate.proofs.NumbersBack.{large-back, number-back, time-back}
@@ -83,6 +86,10 @@ scale-plain : (p : Problem) (scale : Option ℕ) → IfSome scale (IsScaleInRang
 scale-plain p None r = refl
 scale-plain p (Some n) r = rw (number-back n (omega (arith, r.most))).plain refl
 
+unit-plain : (unit : Option ℕ) → IfSome unit IsUnitInRange → list_all is_plain_record (unit_rows unit) ≡ true
+unit-plain None r = refl
+unit-plain (Some n) r = rw (large-back n r.most).plain refl
+
 leg-plain : (p : Problem) (l : LegLine) → IsValid p → HaveNames p → IsLegInRange p l → is_plain_record (leg_fields p l) ≡ true
 leg-plain p l v named r =
     rw (
@@ -136,15 +143,44 @@ shares-plain p (s ∷ shares) v named all =
     both-plain (share_rows p s) (flat_map (share_rows p) shares) (share-plain p s v named (All-head (IsShareInRange p) s shares all))
     (shares-plain p shares v named (All-tail (IsShareInRange p) s shares all))
 
-tables-plain : (p : Problem) (id : ℕ) (tables : List (List ClassShare)) → IsValid p → HaveNames p → id + length tables < 10 ^ 64 → All (All (IsShareInRange p)) tables
-    → list_all is_plain_record (tables_rows p id tables) ≡ true
-tables-plain p id [] v named few all = refl
-tables-plain p id (table ∷ tables) v named few all =
+span-plain : (p : Problem) (s : ClassSpan) → IsValid p → HaveNames p → IsSpanInRange p s → list_all is_plain_record (span_rows p s) ≡ true
+span-plain p s v named r =
+    let line : is_plain_record (span_fields p s) ≡ true =
+    rw (
+      tail-plain p s.arc v r.arc,
+      head-plain p s.arc v r.arc,
+      (time-back s.point r.point).plain,
+      (number-back s.until (omega (arith, r.until))).plain,
+      (large-back s.money r.money).plain,
+      (large-back s.charge r.charge).plain,
+    ) refl in
+    and_from (is_plain_record (span_fields p s)) (list_all is_plain_record (map (weight_fields p) s.weights)) line
+    (each-plain (weight_fields p) (IsWeightInRange p) (λ w. weight-plain p w named) s.weights (recursion_from_All (IsWeightInRange p) s.weights r.weights))
+
+spans-plain : (p : Problem) (spans : List ClassSpan) → IsValid p → HaveNames p → All (IsSpanInRange p) spans
+    → list_all is_plain_record (flat_map (span_rows p) spans) ≡ true
+spans-plain p [] v named all = refl
+spans-plain p (s ∷ spans) v named all =
+    both-plain (span_rows p s) (flat_map (span_rows p) spans) (span-plain p s v named (All-head (IsSpanInRange p) s spans all))
+    (spans-plain p spans v named (All-tail (IsSpanInRange p) s spans all))
+
+-- the spans beside the table with a number are in range, also where there is no list for it
+beside-range : (p : Problem) (spans : List (List ClassSpan)) (id : ℕ) → All (All (IsSpanInRange p)) spans → All (IsSpanInRange p) (spans_of_table spans id)
+beside-range p spans id all =
+    AllByRecursion-get_or_default (All (IsSpanInRange p)) spans (id - 1) [] (recursion_from_All (All (IsSpanInRange p)) spans all) (All-nil (IsSpanInRange p))
+
+tables-plain : (p : Problem) (spans : List (List ClassSpan)) (id : ℕ) (tables : List (List ClassShare)) → IsValid p → HaveNames p → id + length tables < 10 ^ 64
+    → All (All (IsShareInRange p)) tables → All (All (IsSpanInRange p)) spans → list_all is_plain_record (tables_rows p spans id tables) ≡ true
+tables-plain p spans id [] v named few all beside = refl
+tables-plain p spans id (table ∷ tables) v named few all beside =
     let line : is_plain_record (table_fields id) ≡ true = rw (number-back id (omega arith)).plain refl in
-    both-plain (table_rows p id table) (tables_rows p (id + 1) tables)
-    (and_from (is_plain_record (table_fields id)) (list_all is_plain_record (flat_map (share_rows p) table)) line
-    (shares-plain p table v named (All-head (All (IsShareInRange p)) table tables all)))
-    (tables-plain p (id + 1) tables v named (omega arith) (All-tail (All (IsShareInRange p)) table tables all))
+    let mine = spans_of_table spans id in
+    let shares = flat_map (share_rows p) table in
+    let runs = flat_map (span_rows p) mine in
+    both-plain (table_rows p id table mine) (tables_rows p spans (id + 1) tables)
+    (and_from (is_plain_record (table_fields id)) (list_all is_plain_record (shares ++ runs)) line
+    (both-plain shares runs (shares-plain p table v named (All-head (All (IsShareInRange p)) table tables all)) (spans-plain p mine v named (beside-range p spans id beside))))
+    (tables-plain p spans (id + 1) tables v named (omega arith) (All-tail (All (IsShareInRange p)) table tables all) beside)
 
 kind-plain : (tables : List (List ClassShare)) (kind : Kind) → length tables < 10 ^ 64 → HasKind tables kind → is_plain_field (kind_text kind) ≡ true
 kind-plain tables price.Linear few r = refl
@@ -169,10 +205,11 @@ pub rows-plain : (p : Problem) (c : Statement) → IsValid p → HaveNames p →
 rows-plain p c v named r few =
     and_from (is_plain_record (answer_fields p c.answer)) _ (answer-plain p c.answer named r.answer)
     (both-plain (scale_rows c.scale) _ (scale-plain p c.scale r.scale)
+    (both-plain (unit_rows c.unit) _ (unit-plain c.unit r.unit)
     (both-plain (map (leg_fields p) c.legs) _ (each-plain (leg_fields p) (IsLegInRange p) (λ l. leg-plain p l v named) c.legs (recursion_from_All (IsLegInRange p) c.legs r.legs))
     (both-plain (map (truck_fields p) c.trucks) _ (each-plain (truck_fields p) (IsTruckInRange p) (λ t. truck-plain p t v) c.trucks (recursion_from_All (IsTruckInRange p) c.trucks r.trucks))
     (both-plain (map (point_fields p) c.points) _ (each-plain (point_fields p) (IsPointInRange p) (λ x. point-plain p x v) c.points (recursion_from_All (IsPointInRange p) c.points r.points))
-    (both-plain (tables_rows p 1 c.tables) _ (tables-plain p 1 c.tables v named (omega (arith, few)) r.tables)
+    (both-plain (tables_rows p c.spans 1 c.tables) _ (tables-plain p c.spans 1 c.tables v named (omega (arith, few)) r.tables r.spans)
     (both-plain (map (node_fields p) c.tree) _
     (each-plain (node_fields p) (IsNodeInRange p c.tables) (λ n. node-plain p c.tables n v named (omega (arith, few))) c.tree (recursion_from_All (IsNodeInRange p c.tables) c.tree r.tree))
-    refl))))))
+    refl)))))))

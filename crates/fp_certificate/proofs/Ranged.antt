@@ -4,11 +4,13 @@ use Rattle.std.specs.Prelude.{Option, Some, None, Result, Ok, All, IfSome, ◌&&
 use Rattle.std.proofs.lemmas.Bool.{and_parts, cases_Bool, ltb-true, not-false, or_parts}
 use Rattle.std.proofs.lemmas.List.{drop_more, length_push}
 use Rattle.std.proofs.lemmas.List.Elements.{All-nil, All-push, All-weaker}
-use Rattle.fp_model.specs.declared.limits.TheConstants.{GREATEST_SCALE, LAST_ROUND, LONGEST_FASTEST}
+use Rattle.fp_model.specs.declared.limits.TheConstants.{GREATEST_SCALE, LAST_ROUND, LATEST, LONGEST_FASTEST}
 use Rattle.fp_model.specs.Problem.{Problem, weight_at}
 use Rattle.fp_prices.specs.declared.leaf_prices.Kind.{Kind}
 use Rattle.fp_prices.specs.declared.leaf_prices.Kind.TheVariants as price
+use Rattle.fp_prices.specs.declared.tables.Weight.{Weight}
 use Rattle.fp_prices.specs.Shares.{ClassShare}
+use Rattle.fp_spans.specs.Spans.{ClassSpan}
 use Rattle.fp_prices.specs.Tables.{AreCountable, HasKind}
 use Rattle.fp_fields.specs.Findings.{first_code}
 use Rattle.fp_fields.specs.Fields.{has_number, is_between, number_at, has_word}
@@ -22,34 +24,49 @@ use Rattle.fp_lines.specs.declared.certificates.Node.TheVariants as node
 use Rattle.fp_certificate.specs.declared.drafts.Draft.{Draft}
 use Rattle.fp_certificate.specs.declared.groups.Group.TheVariants as group
 use Rattle.fp_certificate.specs.declared.kinds.LineKind.{LineKind}
-use Rattle.fp_certificate.specs.declared.kinds.LineKind.TheVariants.{Direct, Optimal, Unfinished, Infeasible, Scale, Leg, Truck, Point, Table, Share, Weight, ByArc, ByTime, Leaf, End}
+use Rattle.fp_certificate.specs.declared.kinds.LineKind.TheVariants.{Direct, Optimal, Unfinished, Infeasible, Scale, Leg, Truck, Point, Table, Share, Span, ByArc, ByTime, Leaf, End}
+use Rattle.fp_certificate.specs.declared.kinds.LineKind.TheVariants as kind
 use Rattle.fp_certificate.specs.Answers.{has_bad_scale, has_time, has_time_in_range, has_unfinished_digits, time_in, is_figure}
 use Rattle.fp_certificate.specs.Groups.{has_ended, is_misplaced}
 use Rattle.fp_certificate.specs.Kinds.{kind_of}
 use Rattle.fp_fields.specs.NamedParts.{lacks_arc, lacks_shipment, lacks_terminal}
 use Rattle.fp_certificate.specs.Points.{point_in}
-use Rattle.fp_lines.specs.Ranges.{IsAnswerInRange, IsInRange, IsLegInRange, IsNodeInRange, IsPointInRange, IsScaleInRange, IsShareInRange, IsTruckInRange, IsWeightInRange}
+use Rattle.fp_lines.specs.Ranges.{IsAnswerInRange, IsInRange, IsLegInRange, IsNodeInRange, IsPointInRange, IsScaleInRange, IsShareInRange, IsSpanInRange, IsTruckInRange, IsWeightInRange, largest_figure}
 use Rattle.fp_certificate.specs.Reading.{certificate_from, faults_of, finished, kind_code, line_code, nothing_read, with_kind, with_kind_of, with_line}
 use Rattle.fp_lines.specs.Statements.{Statement}
-use Rattle.fp_certificate.specs.Tables.{and_share, and_weight, share_in, weight_in, with_last}
+use Rattle.fp_certificate.specs.Tables.{and_share, and_span, and_span_weight, and_weight, has_end_in_range, has_span, share_in, span_in, weight_in, with_last, with_weight}
 use Rattle.fp_certificate.specs.Timetables.{is_time, leg_in, truck_in}
 use Rattle.fp_certificate.specs.Trees.{has_kind_word, has_leaf_digits, has_leaf_ranges, kind_in, leaf_in}
 use Rattle.fp_certificate.proofs.LineRanges.{All-with_last, arc-there, in-time, shipment-there, small, terminal-there}
-use Rattle.fp_certificate.proofs.TableCounts.{AreFewerThan, fewer-than, length-with_last, line-fewer}
+use Rattle.fp_certificate.proofs.TableCounts.{AreCounted, counted-more, length-with_last, line-fewer}
 
 -- with another answer
 with-answer : (p : Problem) (c : Statement) (a : Answer) → IsAnswerInRange p a → IsInRange p c → IsInRange p (record c { answer = a })
-with-answer p c a h r = record { answer = h; scale = r.scale; legs = r.legs; trucks = r.trucks; points = r.points; tables = r.tables; tree = r.tree }
+with-answer p c a h r = record {
+  answer = h;
+  scale = r.scale;
+  unit = r.unit;
+  legs = r.legs;
+  trucks = r.trucks;
+  points = r.points;
+  tables = r.tables;
+  spans = r.spans;
+  beside = r.beside;
+  tree = r.tree;
+}
 
 -- with one more node
 with-node : (p : Problem) (c : Statement) (n : Node) → IsNodeInRange p c.tables n → IsInRange p c → IsInRange p (record c { tree = c.tree ++ (n ∷ []) })
 with-node p c n h r = record {
   answer = r.answer;
   scale = r.scale;
+  unit = r.unit;
   legs = r.legs;
   trucks = r.trucks;
   points = r.points;
   tables = r.tables;
+  spans = r.spans;
+  beside = r.beside;
   tree = All-push (IsNodeInRange p c.tables) c.tree n r.tree h;
 }
 
@@ -63,18 +80,62 @@ node-grows : (p : Problem) (few many : List (List ClassShare)) (n : Node) → le
 node-grows p few many (Branch split) le h = h
 node-grows p few many (node.Leaf price) le h = record { kind = kind-grows few many price.kind le h.kind; round = h.round }
 
--- with other tables, no fewer than before
-with-tables : (p : Problem) (c : Statement) (tables : List (List ClassShare)) → length c.tables ≤ length tables → All (All (IsShareInRange p)) tables
-    → IsInRange p c → IsInRange p (record c { tables = tables })
-with-tables p c tables le h r = record {
+-- with other tables and other spans beside them, no fewer than before
+with-lists : (p : Problem) (c : Statement) (tables : List (List ClassShare)) (spans : List (List ClassSpan)) → length c.tables ≤ length tables → length spans ≡ length tables
+    → All (All (IsShareInRange p)) tables → All (All (IsSpanInRange p)) spans → IsInRange p c → IsInRange p (record c { tables = tables; spans = spans })
+with-lists p c tables spans le beside h t r = record {
   answer = r.answer;
   scale = r.scale;
+  unit = r.unit;
   legs = r.legs;
   trucks = r.trucks;
   points = r.points;
   tables = h;
+  spans = t;
+  beside = beside;
   tree = All-weaker (IsNodeInRange p c.tables) (IsNodeInRange p tables) (λ n. node-grows p c.tables tables n le) c.tree r.tree;
 }
+
+-- with a changed last table, of which the shares are in range again
+with-last-table : (p : Problem) (c : Statement) (f : List ClassShare → List ClassShare) → ((table : List ClassShare) → All (IsShareInRange p) table → All (IsShareInRange p) (f table))
+    → IsInRange p c → IsInRange p (record c { tables = with_last f c.tables })
+with-last-table p c f changes r =
+    let stays : length (with_last f c.tables) ≡ length c.tables = length-with_last f c.tables in
+    with-lists p c (with_last f c.tables) c.spans (omega arith) (omega (arith, r.beside))
+    (All-with_last (All (IsShareInRange p)) (All (IsShareInRange p)) f c.tables (λ table all. all) changes r.tables) r.spans r
+
+-- with a changed last list of spans, which are in range again
+with-last-spans : (p : Problem) (c : Statement) (f : List ClassSpan → List ClassSpan) → ((list : List ClassSpan) → All (IsSpanInRange p) list → All (IsSpanInRange p) (f list))
+    → IsInRange p c → IsInRange p (record c { spans = with_last f c.spans })
+with-last-spans p c f changes r =
+    let stays : length (with_last f c.spans) ≡ length c.spans = length-with_last f c.spans in
+    with-lists p c c.tables (with_last f c.spans) (omega arith) (omega (arith, r.beside)) r.tables
+    (All-with_last (All (IsSpanInRange p)) (All (IsSpanInRange p)) f c.spans (λ list all. all) changes r.spans) r
+
+-- with one more weight
+weight-ranged : (p : Problem) (before : Draft) (w : Weight) → IsWeightInRange p w → IsInRange p before.certificate → IsInRange p (with_weight before w).certificate
+weight-ranged p before w fits r =
+    let share : (x : ClassShare) → IsShareInRange p x → IsShareInRange p (and_weight w x) = λ x s. record {
+      arc = s.arc;
+      point = s.point;
+      price = s.price;
+      weights = All-push (IsWeightInRange p) x.weights w s.weights fits;
+    } in
+    let span : (x : ClassSpan) → IsSpanInRange p x → IsSpanInRange p (and_span_weight w x) = λ x s. record {
+      arc = s.arc;
+      point = s.point;
+      some = s.some;
+      until = s.until;
+      money = s.money;
+      charge = s.charge;
+      weights = All-push (IsWeightInRange p) x.weights w s.weights fits;
+    } in
+    elim (cases_Bool (has_span before.certificate.spans)) [
+      | inl some ↦ rw some (with-last-spans p before.certificate (with_last (and_span_weight w))
+          (λ list all. All-with_last (IsSpanInRange p) (IsSpanInRange p) (and_span_weight w) list (λ x s. s) span all) r)
+      | inr none ↦ rw none (with-last-table p before.certificate (with_last (and_weight w))
+          (λ table all. All-with_last (IsShareInRange p) (IsShareInRange p) (and_weight w) table (λ x s. s) share all) r)
+    ]
 
 -- the fastest time of an infeasible answer
 time-range : (fields : List (List ℕ)) → has_time_in_range fields ≡ true → IfSome (time_in fields) (λ t. t ≤ LONGEST_FASTEST)
@@ -93,6 +154,12 @@ scale-range p fields h =
     let parts = and_parts limits (nat_lt weight (2 ^ 127)) (not-false (limits && nat_lt weight (2 ^ 127)) h) in
     let range = is_between-limits 1 GREATEST_SCALE fields 1 parts.0 in
     record { least = range.0; most = range.1; fits = ltb-true weight (2 ^ 127) parts.1 }
+
+-- the end of a span
+end-range : (fields : List (List ℕ)) → has_end_in_range fields ≡ true → (number_at fields 3 < number_at fields 4) × (number_at fields 4 ≤ LATEST + 1)
+end-range fields h =
+    let limits = is_between-limits (number_at fields 3 + 1) (LATEST + 1) fields 4 h in
+    (omega (arith, limits.0), limits.1)
 
 -- the kind of a leaf's prices
 kind-range : (tables : List (List ClassShare)) (fields : List (List ℕ)) → (has_kind_word fields || is_between 1 (length tables) fields 1) ≡ true → HasKind tables (kind_in fields)
@@ -140,7 +207,36 @@ kind-ranged p before Scale fields h r =
     let digits = IsClear-from_none 23 (not (has_number fields 1)) count.later in
     let order = IsClear-from_none 24 _ digits.later in
     let range = IsClear-from_none 28 (has_bad_scale p fields) order.later in
-    record { answer = r.answer; scale = scale-range p fields range.here; legs = r.legs; trucks = r.trucks; points = r.points; tables = r.tables; tree = r.tree }
+    record {
+      answer = r.answer;
+      scale = scale-range p fields range.here;
+      unit = r.unit;
+      legs = r.legs;
+      trucks = r.trucks;
+      points = r.points;
+      tables = r.tables;
+      spans = r.spans;
+      beside = r.beside;
+      tree = r.tree;
+    }
+kind-ranged p before kind.Unit fields h r =
+    let count = IsClear-from_none 22 (not (length fields == 2)) h in
+    let digits = IsClear-from_none 23 (not (has_number fields 1)) count.later in
+    let order = IsClear-from_none 24 _ digits.later in
+    let range = IsClear-from_none 28 (not (is_between 1 largest_figure fields 1)) order.later in
+    let limits = is_between-limits 1 largest_figure fields 1 (not-false (is_between 1 largest_figure fields 1) range.here) in
+    record {
+      answer = r.answer;
+      scale = r.scale;
+      unit = record { least = limits.0; most = limits.1 };
+      legs = r.legs;
+      trucks = r.trucks;
+      points = r.points;
+      tables = r.tables;
+      spans = r.spans;
+      beside = r.beside;
+      tree = r.tree;
+    }
 kind-ranged p before Leg fields h r =
     let count = IsClear-from_none 22 (not (length fields == 6)) h in
     let digits = IsClear-from_none 23 (not (has_number fields 4 && has_number fields 5)) count.later in
@@ -157,10 +253,13 @@ kind-ranged p before Leg fields h r =
     record {
       answer = r.answer;
       scale = r.scale;
+      unit = r.unit;
       legs = All-push (IsLegInRange p) before.certificate.legs (leg_in p fields) r.legs leg;
       trucks = r.trucks;
       points = r.points;
       tables = r.tables;
+      spans = r.spans;
+      beside = r.beside;
       tree = r.tree;
     }
 kind-ranged p before Truck fields h r =
@@ -180,10 +279,13 @@ kind-ranged p before Truck fields h r =
     record {
       answer = r.answer;
       scale = r.scale;
+      unit = r.unit;
       legs = r.legs;
       trucks = All-push (IsTruckInRange p) before.certificate.trucks (truck_in p fields) r.trucks truck;
       points = r.points;
       tables = r.tables;
+      spans = r.spans;
+      beside = r.beside;
       tree = r.tree;
     }
 kind-ranged p before Point fields h r =
@@ -201,20 +303,24 @@ kind-ranged p before Point fields h r =
     record {
       answer = r.answer;
       scale = r.scale;
+      unit = r.unit;
       legs = r.legs;
       trucks = r.trucks;
       points = All-push (IsPointInRange p) before.certificate.points (point_in p fields) r.points point;
       tables = r.tables;
+      spans = r.spans;
+      beside = r.beside;
       tree = r.tree;
     }
 kind-ranged p before Table fields h r =
     let tables = before.certificate.tables in
-    with-tables p before.certificate (tables ++ ([] ∷ [])) (omega (arith, length_push tables []))
-    (All-push (All (IsShareInRange p)) tables [] r.tables (All-nil (IsShareInRange p))) r
+    let spans = before.certificate.spans in
+    with-lists p before.certificate (tables ++ ([] ∷ [])) (spans ++ ([] ∷ [])) (omega (arith, length_push tables []))
+    (omega (arith, r.beside, length_push tables [], length_push spans []))
+    (All-push (All (IsShareInRange p)) tables [] r.tables (All-nil (IsShareInRange p)))
+    (All-push (All (IsSpanInRange p)) spans [] r.spans (All-nil (IsSpanInRange p))) r
 kind-ranged p before Share fields h r =
-    let tables = before.certificate.tables in
     let share = share_in p fields in
-    let stays : length tables ≤ length (with_last (and_share share) tables) = omega (arith, length-with_last (and_share share) tables) in
     let count = IsClear-from_none 22 (not (length fields == 5)) h in
     let digits = IsClear-from_none 23 (not (has_number fields 3 && has_number fields 4)) count.later in
     let order = IsClear-from_none 24 _ digits.later in
@@ -227,12 +333,32 @@ kind-ranged p before Share fields h r =
       price = small fields 4 limits.1;
       weights = All-nil (IsWeightInRange p);
     } in
-    with-tables p before.certificate (with_last (and_share share) tables) stays
-    (All-with_last (All (IsShareInRange p)) (All (IsShareInRange p)) (and_share share) tables (λ table all. all) (λ table all. All-push (IsShareInRange p) table share all fits) r.tables) r
-kind-ranged p before Weight fields h r =
-    let tables = before.certificate.tables in
+    with-last-table p before.certificate (and_share share) (λ table all. All-push (IsShareInRange p) table share all fits) r
+kind-ranged p before Span fields h r =
+    let span = span_in p fields in
+    let has_digits = has_number fields 3 && has_number fields 4 && (has_number fields 5 && has_number fields 6) in
+    let in_range = is_time fields 3 && has_end_in_range fields && is_figure fields 5 && is_figure fields 6 in
+    let count = IsClear-from_none 22 (not (length fields == 7)) h in
+    let digits = IsClear-from_none 23 (not has_digits) count.later in
+    let order = IsClear-from_none 24 _ digits.later in
+    let name = IsClear-from_none 25 (lacks_arc p fields 1 2) order.later in
+    let range = IsClear-from_none 28 (not in_range) name.later in
+    let four = and_parts (is_time fields 3 && has_end_in_range fields && is_figure fields 5) (is_figure fields 6) (not-false in_range range.here) in
+    let three = and_parts (is_time fields 3 && has_end_in_range fields) (is_figure fields 5) four.0 in
+    let two = and_parts (is_time fields 3) (has_end_in_range fields) three.0 in
+    let limits = end-range fields two.1 in
+    let fits : IsSpanInRange p span = record {
+      arc = arc-there p fields 1 2 name.here;
+      point = in-time fields 3 two.0;
+      some = limits.0;
+      until = limits.1;
+      money = small fields 5 three.1;
+      charge = small fields 6 four.1;
+      weights = All-nil (IsWeightInRange p);
+    } in
+    with-last-spans p before.certificate (and_span span) (λ list all. All-push (IsSpanInRange p) list span all fits) r
+kind-ranged p before kind.Weight fields h r =
     let weight = weight_in p fields in
-    let stays : length tables ≤ length (with_last (with_last (and_weight weight)) tables) = omega (arith, length-with_last (with_last (and_weight weight)) tables) in
     let count = IsClear-from_none 22 (not (length fields == 3)) h in
     let digits = IsClear-from_none 23 (not (has_number fields 2)) count.later in
     let order = IsClear-from_none 24 _ digits.later in
@@ -242,15 +368,7 @@ kind-ranged p before Weight fields h r =
       shipment = shipment-there p fields 1 name.here;
       small = small fields 2 (not-false (is_figure fields 2) range.here);
     } in
-    let more : (share : ClassShare) → IsShareInRange p share → IsShareInRange p (and_weight weight share) = λ share s. record {
-      arc = s.arc;
-      point = s.point;
-      price = s.price;
-      weights = All-push (IsWeightInRange p) share.weights weight s.weights fits;
-    } in
-    with-tables p before.certificate (with_last (with_last (and_weight weight)) tables) stays
-    (All-with_last (All (IsShareInRange p)) (All (IsShareInRange p)) (with_last (and_weight weight)) tables (λ table all. all)
-    (λ table all. All-with_last (IsShareInRange p) (IsShareInRange p) (and_weight weight) table (λ share s. s) more all) r.tables) r
+    weight-ranged p before weight fits r
 kind-ranged p before ByArc fields h r =
     let count = IsClear-from_none 22 (not (length fields == 5)) h in
     let order = IsClear-from_none 24 (is_misplaced before group.Tree) count.later in
@@ -316,43 +434,61 @@ at-end before ordinal c h = elim (cases_Bool (has_ended before)) [
   | inr going ↦ cc (rw going at h)
 ]
 
--- the counts of tables and shares grow by at most one a line
+-- the counts of tables, shares and spans grow by at most one a line
 from-ranged : (p : Problem) (before : Draft) (n ordinal : ℕ) (records : List (List (List ℕ))) (c : Statement) → IsInRange p before.certificate
-    → AreFewerThan n before.certificate.tables → certificate_from p before ordinal records ≡ Ok c
-    → IsInRange p c × AreFewerThan (n + length records) c.tables
+    → AreCounted n before.certificate.tables before.certificate.spans → certificate_from p before ordinal records ≡ Ok c
+    → IsInRange p c × AreCounted (n + length records) c.tables c.spans
 from-ranged p before n ordinal [] c r few h = (
   subst (λ (s : Statement). IsInRange p s) (at-end before ordinal c h) r,
-  subst (λ (s : Statement). AreFewerThan (n + 0) s.tables) (at-end before ordinal c h) (fewer-than n (n + 0) before.certificate.tables (omega arith) few),
+  subst (λ (s : Statement). AreCounted (n + 0) s.tables s.spans) (at-end before ordinal c h)
+      (counted-more n (n + 0) before.certificate.tables before.certificate.spans (omega arith) few),
 )
 from-ranged p before n ordinal (fields ∷ records) c r few h =
     let next = first_fault-ok ordinal (line_code p before fields) (certificate_from p (with_line p before fields) (ordinal + 1) records) c h in
     let rest = from-ranged p (with_line p before fields) (n + 1) (ordinal + 1) records c (line-ranged p before fields next.0 r) (line-fewer p before n fields few) next.1 in
-    (rest.0, fewer-than (n + 1 + length records) (n + length (fields ∷ records)) c.tables (omega arith) rest.1)
+    (rest.0, counted-more (n + 1 + length records) (n + length (fields ∷ records)) c.tables c.spans (omega arith) rest.1)
 
 -- nothing is in range
 nothing-ranged : (p : Problem) → IsInRange p nothing_read.certificate
 nothing-ranged p = record {
   answer = lit≤ tt;
   scale = tt;
+  unit = tt;
   legs = All-nil (IsLegInRange p);
   trucks = All-nil (IsTruckInRange p);
   points = All-nil (IsPointInRange p);
   tables = All-nil (All (IsShareInRange p));
+  spans = All-nil (All (IsSpanInRange p));
+  beside = refl;
   tree = All-nil (IsNodeInRange p []);
 }
 
--- what records give is in range, and its tables can be counted in 32 bits, where the records can
+-- at the start there is nothing to be counted
+none-counted : AreCounted 1 [] []
+none-counted = record {
+  few_shares = record { few_lists = omega arith; few_elements = All-nil (λ (table : List ClassShare). length table < 1) };
+  few_spans = record { few_lists = omega arith; few_elements = All-nil (λ (list : List ClassSpan). length list < 1) };
+}
+
+-- what was read is in range, its tables can be counted in 32 bits, and so can the spans beside each
+pub record IsCountedRead (p : Problem) (c : Statement) : Type 0 where
+  pub range : IsInRange p c
+  pub countable : AreCountable p c.tables
+  pub few_spans : All (λ (list : List ClassSpan). length list < 2 ^ 32 - 1) c.spans
+
+-- what records give is so, where the records can be counted
 pub read-ranged : (p : Problem) (ordinal : ℕ) (records : List (List (List ℕ))) (c : Statement) → length records < 2 ^ 32 - 1
-    → certificate_from p nothing_read ordinal records ≡ Ok c → IsInRange p c × AreCountable p c.tables
+    → certificate_from p nothing_read ordinal records ≡ Ok c → IsCountedRead p c
 read-ranged p ordinal records c few h =
-    let none : AreFewerThan 1 [] = record { few_tables = omega arith; few_shares = All-nil (λ (table : List ClassShare). length table < 1) } in
-    let all = from-ranged p nothing_read 1 ordinal records c (nothing-ranged p) none h in
-    let fewer = fewer-than (1 + length records) (2 ^ 32 - 1) c.tables (omega arith) all.1 in (
-      all.0,
-      record {
-        few_tables = fewer.few_tables;
-        few_shares = fewer.few_shares;
+    let all = from-ranged p nothing_read 1 ordinal records c (nothing-ranged p) none-counted h in
+    let fewer = counted-more (1 + length records) (2 ^ 32 - 1) c.tables c.spans (omega arith) all.1 in
+    record {
+      range = all.0;
+      countable = record {
+        few_tables = fewer.few_shares.few_lists;
+        few_shares = fewer.few_shares.few_elements;
         arcs = All-weaker (All (IsShareInRange p)) (All (λ (s : ClassShare). s.arc < length p.arcs))
             (λ table h. All-weaker (IsShareInRange p) (λ (s : ClassShare). s.arc < length p.arcs) (λ s i. i.arc) table h) c.tables all.0.tables;
-      },
-    )
+      };
+      few_spans = fewer.few_spans.few_elements;
+    }

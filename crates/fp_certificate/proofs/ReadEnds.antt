@@ -1,9 +1,10 @@
 -- What the last step of reading answers, for all lines.
 use Rattle.std.proofs.Common.{◌≡◌, ◌∙◌, ℕ, ◌+◌, ◌-◌, ◌^◌, ◌<◌, ◌≤◌, List, length, take, drop, sym, ap, arith}
-use Rattle.std.specs.Prelude.{Result, Ok, Err, IfOk, MatchResult}
+use Rattle.std.specs.Prelude.{All, Result, Ok, Err, IfOk, MatchResult}
 use Rattle.std.proofs.lemmas.List.{length-drop, take_rest}
 use Rattle.fp_model.specs.Problem.{Problem}
 use Rattle.fp_prices.specs.Tables.{AreCountable}
+use Rattle.fp_spans.specs.Spans.{ClassSpan}
 use Rattle.fp_fields.specs.Faults.{Fault}
 use Rattle.fp_certificate.specs.declared.drafts.Draft.{Draft}
 use Rattle.fp_certificate.specs.declared.faults.CertFault.{CertFault}
@@ -38,13 +39,18 @@ certificate_of-bad (Err (Bad o k)) end read same h ordinal code is =
     rw (← ordinals, ← codes) (same ∙ h)
 certificate_of-bad (Err NoMemory) end read same h ordinal code is = cc is
 
--- it is in range, and its tables can be counted
+-- it is in range, and its tables and the spans beside each can be counted
 pub IsInRange-read : (p : Problem) (ordinal : ℕ) (records : List (List (List ℕ))) (r : Result Statement CertFault) → length records < 2 ^ 32 - 1
     → IfOk r (λ c. certificate_of p ordinal records ≡ Ok c) → IfOk r (IsInRange p)
-IsInRange-read p ordinal records (Ok c) few h = (read-ranged p ordinal records c few h).0
+IsInRange-read p ordinal records (Ok c) few h = (read-ranged p ordinal records c few h).range
 IsInRange-read p ordinal records (Err e) few h = tt
 
 pub AreCountable-read : (p : Problem) (ordinal : ℕ) (records : List (List (List ℕ))) (r : Result Statement CertFault) → length records < 2 ^ 32 - 1
     → IfOk r (λ c. certificate_of p ordinal records ≡ Ok c) → IfOk r (λ c. AreCountable p c.tables)
-AreCountable-read p ordinal records (Ok c) few h = (read-ranged p ordinal records c few h).1
+AreCountable-read p ordinal records (Ok c) few h = (read-ranged p ordinal records c few h).countable
 AreCountable-read p ordinal records (Err e) few h = tt
+
+pub few-spans-read : (p : Problem) (ordinal : ℕ) (records : List (List (List ℕ))) (r : Result Statement CertFault) → length records < 2 ^ 32 - 1
+    → IfOk r (λ c. certificate_of p ordinal records ≡ Ok c) → IfOk r (λ c. All (λ (list : List ClassSpan). length list < 2 ^ 32 - 1) c.spans)
+few-spans-read p ordinal records (Ok c) few h = (read-ranged p ordinal records c few h).few_spans
+few-spans-read p ordinal records (Err e) few h = tt

@@ -23,9 +23,10 @@ abbrev pub ReadsTo : Problem → ℕ → List (List (List ℕ)) → Statement �
 ReadsTo p k rest s c = (g : Group) (ordinal : ℕ) → place_of g ≤ k → certificate_from p (at s g) ordinal rest ≡ Ok c
 
 -- no group before the end is that of the end
-pub has_ended_at-before_end : (g : Group) → place_of g ≤ 6 → has_ended_at (Some g) ≡ false
+pub has_ended_at-before_end : (g : Group) → place_of g ≤ 7 → has_ended_at (Some g) ≡ false
 has_ended_at-before_end group.Answer le = refl
 has_ended_at-before_end group.Scale le = refl
+has_ended_at-before_end group.Unit le = refl
 has_ended_at-before_end group.Legs le = refl
 has_ended_at-before_end group.Trucks le = refl
 has_ended_at-before_end group.Points le = refl

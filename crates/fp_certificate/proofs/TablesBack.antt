@@ -1,24 +1,30 @@
--- The tables of a certificate are read back from their lines.
-use Rattle.std.proofs.Common.{◌≡◌, ◌∙◌, ℕ, ◌+◌, ◌^◌, ◌-◌, ◌<◌, false, List, [], ◌∷◌, ◌++◌, length, map, refl, sym, ap, subst, append_assoc, arith, lit≤, inl, inr}
-use Rattle.std.specs.Prelude.{All, ◌==◌}
+-- The tables of a certificate are read back from their lines, each with the spans beside it.
+use Rattle.std.proofs.Common.{◌≡◌, ◌∙◌, ℕ, ◌+◌, ◌^◌, ◌-◌, ◌<◌, ◌≤◌, Bool, false, List, [], ◌∷◌, ◌++◌, length, map, refl, sym, ap, subst, append_assoc, arith, lit≤, inl, inr}
+use Rattle.std.specs.Prelude.{◌⊎◌, All, not}
 use Rattle.std.specs.List.{AllByRecursion, flat_map, fold}
+use Rattle.std.proofs.Math.Seq.{get_or-append_seam}
 use Rattle.std.proofs.lemmas.Bool.{ne_eqb}
 use Rattle.std.proofs.lemmas.List.{append-nil, length_push}
 use Rattle.std.proofs.lemmas.List.Elements.{All-head, All-tail, recursion_from_All}
 use Rattle.fp_model.specs.Problem.{IsValid, Problem}
 use Rattle.fp_prices.specs.declared.tables.Weight.{Weight}
 use Rattle.fp_prices.specs.Shares.{ClassShare}
+use Rattle.fp_spans.specs.SpanKinds.{spans_of_table}
+use Rattle.fp_spans.specs.Spans.{ClassSpan}
 use Rattle.fp_records.specs.Fields.{is_empty}
+use Rattle.fp_certificate.specs.declared.groups.Group.{Group}
 use Rattle.fp_certificate.specs.declared.groups.Group.TheVariants as group
-use Rattle.fp_certificate.specs.Groups.{is_forbidden}
-use Rattle.fp_lines.specs.Ranges.{IsShareInRange, IsWeightInRange}
-use Rattle.fp_lines.specs.Rows.{share_fields, share_rows, table_fields, tables_rows, weight_fields}
+use Rattle.fp_certificate.specs.Groups.{is_forbidden, place_of}
+use Rattle.fp_lines.specs.Ranges.{IsShareInRange, IsSpanInRange, IsWeightInRange}
+use Rattle.fp_lines.specs.Rows.{share_fields, share_rows, span_fields, span_rows, table_fields, tables_rows, weight_fields}
 use Rattle.fp_lines.specs.Statements.{Statement}
-use Rattle.fp_certificate.specs.Tables.{and_share, and_weight, lacks_share, with_last}
-use Rattle.fp_certificate.proofs.LinesBack.{share-step, table-step, weight-step}
-use Rattle.fp_certificate.proofs.ListsBack.{Free}
-use Rattle.fp_certificate.proofs.SegmentsBack.{ReadsTo, at, one-line, segment, has_ended_at-before_end, is_misplaced_after-later}
-use Rattle.fp_certificate.proofs.TableCounts.{length-with_last}
+use Rattle.fp_certificate.specs.Tables.{and_share, and_span, and_span_weight, and_weight, has_span, lacks_last, with_last}
+use Rattle.fp_certificate.proofs.LinesBack.{IsStep, share-step, span-step, span-weight-step, table-step, weight-step}
+use Rattle.fp_certificate.proofs.SegmentsBack.{ReadsTo, at, one-line, has_ended_at-before_end, is_misplaced_after-later}
+
+-- lists of which the last is this one
+abbrev ending : {A : Type 0} → List (List A) → List A → List (List A)
+ending lists list = lists ++ (list ∷ [])
 
 -- the last element of a list with one more
 with_last-push : {A : Type 0} (f : A → A) (xs : List A) (x : A) → with_last f (xs ++ (x ∷ [])) ≡ xs ++ (f x ∷ [])
@@ -26,117 +32,198 @@ with_last-push f [] x = refl
 with_last-push f (a ∷ []) x = refl
 with_last-push {A} f (a ∷ b ∷ xs) x = ap (λ (ys : List A). a ∷ ys) (with_last-push f (b ∷ xs) x)
 
+-- the last element of the last list
+last-changed : {A : Type 0} (f : A → A) (lists : List (List A)) (list : List A) (x : A)
+    → with_last (with_last f) (ending lists (list ++ (x ∷ []))) ≡ ending lists (list ++ (f x ∷ []))
+last-changed {A} f lists list x =
+    with_last-push (with_last f) lists (list ++ (x ∷ [])) ∙ ap (λ (ys : List A). ending lists ys) (with_last-push f list x)
+
 -- a list with one more element is not empty
 some-pushed : {A : Type 0} (xs : List A) (x : A) → is_empty (xs ++ (x ∷ [])) ≡ false
 some-pushed xs x = ne_eqb (length (xs ++ (x ∷ []))) 0 (λ e. omega (arith, length_push xs x))
 
--- a last table decides
-lacks_share-push : (tables : List (List ClassShare)) (table : List ClassShare) → lacks_share (tables ++ (table ∷ [])) ≡ is_empty table
-lacks_share-push [] table = refl
-lacks_share-push (a ∷ []) table = refl
-lacks_share-push (a ∷ b ∷ tables) table = lacks_share-push (b ∷ tables) table
+-- the last list decides
+lacks_last-ending : {A : Type 0} (lists : List (List A)) (list : List A) → lacks_last (ending lists list) ≡ is_empty list
+lacks_last-ending [] list = refl
+lacks_last-ending (a ∷ []) list = refl
+lacks_last-ending (a ∷ b ∷ lists) list = lacks_last-ending (b ∷ lists) list
 
--- a changed last share is still there
-lacks_share-changed : (f : ClassShare → ClassShare) (tables : List (List ClassShare)) → lacks_share (with_last (with_last f) tables) ≡ lacks_share tables
-lacks_share-changed f [] = refl
-lacks_share-changed f (table ∷ []) = ap (λ (n : ℕ). n == 0) (length-with_last f table)
-lacks_share-changed f (a ∷ b ∷ []) = lacks_share-changed f (b ∷ [])
-lacks_share-changed f (a ∷ b ∷ d ∷ tables) = lacks_share-changed f (b ∷ d ∷ tables)
+-- it has an element where one was added
+lacks_last-pushed : {A : Type 0} (lists : List (List A)) (list : List A) (x : A) → lacks_last (ending lists (list ++ (x ∷ []))) ≡ false
+lacks_last-pushed lists list x = lacks_last-ending lists (list ++ (x ∷ [])) ∙ some-pushed list x
 
--- with other tables
-abbrev with : Statement → List (List ClassShare) → Statement
-with s tables = record s { tables = tables }
+-- elements of the last of some lists, each of a line and the lines of its weights, are read: its line
+-- begins it, the line of a weight adds the weight, and with all its weights it is whole. `put` is the
+-- statement so far with such lists
+record AreRead (p : Problem) (E : Type 0) (put : List (List E) → Statement) (fields : E → List (List ℕ)) (bare : E → E) (weighed : E → Weight → E) (weights : E → List Weight) (Fits : E → Type 0) : Type 0 where
+  begins : (lists : List (List E)) (list : List E) (x : E) → Fits x → (g : Group) → place_of g ≤ 6
+      → IsStep p (at (put (ending lists list)) g) (fields x) (at (put (ending lists (list ++ (bare x ∷ [])))) group.Tables)
+  grows : (lists : List (List E)) (list : List E) (x : E) (w : Weight) → IsWeightInRange p w → (g : Group) → place_of g ≤ 6
+      → IsStep p (at (put (ending lists (list ++ (x ∷ [])))) g) (weight_fields p w) (at (put (ending lists (list ++ (weighed x w ∷ [])))) group.Tables)
+  whole : (x : E) → fold weighed (bare x) (weights x) ≡ x
+  inside : (x : E) → Fits x → All (IsWeightInRange p) (weights x)
 
-abbrev add-weight : Statement → Weight → Statement
-add-weight s w = with s (with_last (with_last (and_weight w)) s.tables)
+-- the weights of the last element
+weights-back : (p : Problem) {E : Type 0} (put : List (List E) → Statement) (fields : E → List (List ℕ)) (bare : E → E) (weighed : E → Weight → E) (weights : E → List Weight) (Fits : E → Type 0)
+    → AreRead p E put fields bare weighed weights Fits → (c : Statement) (rest : List (List (List ℕ))) (lists : List (List E)) (list : List E) (ws : List Weight) (x : E)
+    → AllByRecursion (IsWeightInRange p) ws → ReadsTo p 6 rest (put (ending lists (list ++ (fold weighed x ws ∷ [])))) c
+    → ReadsTo p 6 (map (weight_fields p) ws ++ rest) (put (ending lists (list ++ (x ∷ [])))) c
+weights-back p put fields bare weighed weights Fits are c rest lists list [] x all after = after
+weights-back p put fields bare weighed weights Fits are c rest lists list (w ∷ ws) x all after =
+    one-line p 6 group.Tables (weight_fields p w) (put (ending lists (list ++ (x ∷ [])))) (put (ending lists (list ++ (weighed x w ∷ [])))) c
+    (map (weight_fields p) ws ++ rest) (lit≤ tt) (λ g le. are.grows lists list x w all.0 g le)
+    (weights-back p put fields bare weighed weights Fits are c rest lists list ws (weighed x w) all.1 after)
 
--- one more weight of the last share of the last table
-last-weight : (tables : List (List ClassShare)) (table : List ClassShare) (share : ClassShare) (w : Weight)
-    → with_last (with_last (and_weight w)) (tables ++ ((table ++ (share ∷ [])) ∷ [])) ≡ tables ++ ((table ++ (and_weight w share ∷ [])) ∷ [])
-last-weight tables table share w =
-    with_last-push (with_last (and_weight w)) tables (table ++ (share ∷ []))
-    ∙ ap (λ (t : List ClassShare). tables ++ (t ∷ [])) (with_last-push (and_weight w) table share)
+-- elements of the last list, each with its weights
+elements-back : (p : Problem) {E : Type 0} (put : List (List E) → Statement) (fields : E → List (List ℕ)) (bare : E → E) (weighed : E → Weight → E) (weights : E → List Weight) (Fits : E → Type 0)
+    → AreRead p E put fields bare weighed weights Fits → (c : Statement) (rest : List (List (List ℕ))) (lists : List (List E)) (xs list : List E)
+    → All Fits xs → ReadsTo p 6 rest (put (ending lists (list ++ xs))) c
+    → ReadsTo p 6 (flat_map (λ x. fields x ∷ map (weight_fields p) (weights x)) xs ++ rest) (put (ending lists list)) c
+elements-back p {E} put fields bare weighed weights Fits are c rest lists [] list all after =
+    subst (λ (ys : List E). ReadsTo p 6 rest (put (ending lists ys)) c) (append-nil list) after
+elements-back p {E} put fields bare weighed weights Fits are c rest lists (x ∷ xs) list all after =
+    let rows : E → List (List (List ℕ)) = λ y. fields y ∷ map (weight_fields p) (weights y) in
+    let others = flat_map rows xs in
+    let fits = All-head Fits x xs all in
+    let next = elements-back p put fields bare weighed weights Fits are c rest lists xs (list ++ (x ∷ [])) (All-tail Fits x xs all)
+    (subst (λ (ys : List E). ReadsTo p 6 rest (put (ending lists ys)) c) (sym (append_assoc list (x ∷ []) xs)) after) in
+    let filled = subst (λ (y : E). ReadsTo p 6 (others ++ rest) (put (ending lists (list ++ (y ∷ [])))) c) (sym (are.whole x)) next in
+    let weighing = weights-back p put fields bare weighed weights Fits are c (others ++ rest) lists list (weights x) (bare x)
+    (recursion_from_All (IsWeightInRange p) (weights x) (are.inside x fits)) filled in
+    subst (λ (lines : List (List (List ℕ))). ReadsTo p 6 lines (put (ending lists list)) c) (sym (append_assoc (rows x) others rest))
+    (one-line p 6 group.Tables (fields x) (put (ending lists list)) (put (ending lists (list ++ (bare x ∷ [])))) c
+    (map (weight_fields p) (weights x) ++ (others ++ rest)) (lit≤ tt) (λ g le. are.begins lists list x fits g le) weighing)
 
--- the weights of the last share
-weights-added : (s : Statement) (tables : List (List ClassShare)) (table : List ClassShare) (weights : List Weight) (share : ClassShare)
-    → fold add-weight (with s (tables ++ ((table ++ (share ∷ [])) ∷ []))) weights
-    ≡ with s (tables ++ ((table ++ ((record share { weights = share.weights ++ weights }) ∷ [])) ∷ []))
-weights-added s tables table [] share =
-    ap (λ (ws : List Weight). with s (tables ++ ((table ++ ((record share { weights = ws }) ∷ [])) ∷ []))) (sym (append-nil share.weights))
-weights-added s tables table (w ∷ weights) share =
-    ap (λ (ts : List (List ClassShare)). fold add-weight (with s ts) weights) (last-weight tables table share w)
-    ∙ weights-added s tables table weights (and_weight w share)
-    ∙ ap (λ (ws : List Weight). with s (tables ++ ((table ++ ((record share { weights = ws }) ∷ [])) ∷ []))) (append_assoc share.weights (w ∷ []) weights)
+-- a share and a span without weights, and with one more
+abbrev bare-share : ClassShare → ClassShare
+bare-share x = record x { weights = [] }
 
--- a weight that can be read
-record IsWeightFit (p : Problem) (s : Statement) (w : Weight) : Type 0 where
-  range : IsWeightInRange p w
-  some : lacks_share s.tables ≡ false
-  free : is_forbidden s.answer group.Tables ≡ false
+abbrev bare-span : ClassSpan → ClassSpan
+bare-span x = record x { weights = [] }
 
-fit-each : (p : Problem) (s : Statement) (weights : List Weight) → lacks_share s.tables ≡ false → is_forbidden s.answer group.Tables ≡ false
-    → AllByRecursion (IsWeightInRange p) weights → AllByRecursion (IsWeightFit p s) weights
-fit-each p s [] some free all = tt
-fit-each p s (w ∷ weights) some free all = (record { range = all.0; some = some; free = free }, fit-each p s weights some free all.1)
+abbrev share-weighed : ClassShare → Weight → ClassShare
+share-weighed x w = and_weight w x
 
--- a share with its weights
-share-back : (p : Problem) (s c : Statement) (tables : List (List ClassShare)) (table : List ClassShare) (share : ClassShare) (rest : List (List (List ℕ)))
-    → IsValid p → IsShareInRange p share → is_forbidden s.answer group.Tables ≡ false
-    → ReadsTo p 5 rest (with s (tables ++ ((table ++ (share ∷ [])) ∷ []))) c → ReadsTo p 5 (share_rows p share ++ rest) (with s (tables ++ (table ∷ []))) c
-share-back p s c tables table share rest v r free after =
-    let bare : ClassShare = record share { weights = [] } in
-    let now = with s (tables ++ ((table ++ (bare ∷ [])) ∷ [])) in
-    let some : lacks_share now.tables ≡ false = lacks_share-push tables (table ++ (bare ∷ [])) ∙ some-pushed table bare in
-    let weights : ReadsTo p 5 (map (weight_fields p) share.weights ++ rest) now c =
-    segment p 5 group.Tables (weight_fields p) add-weight (IsWeightFit p) (lit≤ tt)
-    (λ t g w le fits. weight-step p (at t g) w v fits.range (has_ended_at-before_end g (omega arith)) (is_misplaced_after-later g group.Tables t.answer refl le fits.free) fits.some)
-    (λ t x y one other. record { range = other.range; some = lacks_share-changed (and_weight x) t.tables ∙ other.some; free = other.free })
-    rest c share.weights now (fit-each p now share.weights some free (recursion_from_All (IsWeightInRange p) share.weights r.weights))
-    (subst (λ (t : Statement). ReadsTo p 5 rest t c) (sym (weights-added s tables table share.weights bare)) after) in
-    one-line p 5 group.Tables (share_fields p share) (with s (tables ++ (table ∷ []))) (with s (with_last (and_share bare) (tables ++ (table ∷ [])))) c
-    (map (weight_fields p) share.weights ++ rest) (lit≤ tt)
-    (λ g le. share-step p (at (with s (tables ++ (table ∷ []))) g) share v r (has_ended_at-before_end g (omega arith)) (is_misplaced_after-later g group.Tables s.answer refl le free) (some-pushed tables table))
-    (subst (λ (ts : List (List ClassShare)). ReadsTo p 5 (map (weight_fields p) share.weights ++ rest) (with s ts) c) (sym (with_last-push (and_share bare) tables table)) weights)
+abbrev span-weighed : ClassSpan → Weight → ClassSpan
+span-weighed x w = and_span_weight w x
 
--- the shares of the last table
-shares-back : (p : Problem) (s c : Statement) (tables : List (List ClassShare)) (rest : List (List (List ℕ))) → IsValid p → is_forbidden s.answer group.Tables ≡ false
-    → (shares table : List ClassShare) → All (IsShareInRange p) shares → ReadsTo p 5 rest (with s (tables ++ ((table ++ shares) ∷ []))) c
-    → ReadsTo p 5 (flat_map (share_rows p) shares ++ rest) (with s (tables ++ (table ∷ []))) c
-shares-back p s c tables rest v free [] table all after =
-    subst (λ (t : List ClassShare). ReadsTo p 5 rest (with s (tables ++ (t ∷ []))) c) (append-nil table) after
-shares-back p s c tables rest v free (share ∷ shares) table all after =
-    let others = flat_map (share_rows p) shares in
-    let next = shares-back p s c tables rest v free shares (table ++ (share ∷ [])) (All-tail (IsShareInRange p) share shares all)
-    (subst (λ (t : List ClassShare). ReadsTo p 5 rest (with s (tables ++ (t ∷ []))) c) (sym (append_assoc table (share ∷ []) shares)) after) in
-    subst (λ (lines : List (List (List ℕ))). ReadsTo p 5 lines (with s (tables ++ (table ∷ []))) c) (sym (append_assoc (share_rows p share) others rest))
-    (share-back p s c tables table share (others ++ rest) v (All-head (IsShareInRange p) share shares all) free next)
+share-whole : (ws : List Weight) (x : ClassShare) → fold share-weighed x ws ≡ record x { weights = x.weights ++ ws }
+share-whole [] x = ap (λ (us : List Weight). record x { weights = us }) (sym (append-nil x.weights))
+share-whole (w ∷ ws) x = share-whole ws (and_weight w x) ∙ ap (λ (us : List Weight). record x { weights = us }) (append_assoc x.weights (w ∷ []) ws)
 
--- tables that are numbered from the next on
-numbered-back : (p : Problem) (c : Statement) (rest : List (List (List ℕ))) → IsValid p → (tables : List (List ClassShare)) (s : Statement) (id : ℕ)
-    → id ≡ length s.tables + 1 → id + length tables < 10 ^ 64 → All (All (IsShareInRange p)) tables → is_forbidden s.answer group.Tables ≡ false
-    → ReadsTo p 5 rest (with s (s.tables ++ tables)) c → ReadsTo p 5 (tables_rows p id tables ++ rest) s c
-numbered-back p c rest v [] s id next few all free after =
-    subst (λ (ts : List (List ClassShare)). ReadsTo p 5 rest (with s ts) c) (append-nil s.tables) after
-numbered-back p c rest v (table ∷ tables) s id next few all free after =
+span-whole : (ws : List Weight) (x : ClassSpan) → fold span-weighed x ws ≡ record x { weights = x.weights ++ ws }
+span-whole [] x = ap (λ (us : List Weight). record x { weights = us }) (sym (append-nil x.weights))
+span-whole (w ∷ ws) x = span-whole ws (and_span_weight w x) ∙ ap (λ (us : List Weight). record x { weights = us }) (append_assoc x.weights (w ∷ []) ws)
+
+-- a statement with other tables, and with other spans
+abbrev with-tables : Statement → List (List ClassShare) → Statement
+with-tables s tables = record s { tables = tables }
+
+abbrev with-spans : Statement → List (List ClassSpan) → Statement
+with-spans s spans = record s { spans = spans }
+
+-- shares, in a table that has no span yet
+shares-read : (p : Problem) (s : Statement) → IsValid p → is_forbidden s.answer group.Tables ≡ false → has_span s.spans ≡ false
+    → AreRead p ClassShare (with-tables s) (share_fields p) bare-share share-weighed (λ x. x.weights) (IsShareInRange p)
+shares-read p s v free none = record {
+  begins = λ lists list x fits g le. subst (λ (ts : List (List ClassShare)). IsStep p (at (with-tables s (ending lists list)) g) (share_fields p x) (at (with-tables s ts) group.Tables))
+      (with_last-push (and_share (bare-share x)) lists list)
+      (share-step p (at (with-tables s (ending lists list)) g) x v fits (has_ended_at-before_end g (omega arith)) (is_misplaced_after-later g group.Tables s.answer refl le free)
+      (some-pushed lists list) none);
+  grows = λ lists list x w r g le. subst (λ (ts : List (List ClassShare)). IsStep p (at (with-tables s (ending lists (list ++ (x ∷ [])))) g) (weight_fields p w) (at (with-tables s ts) group.Tables))
+      (last-changed (and_weight w) lists list x)
+      (weight-step p (at (with-tables s (ending lists (list ++ (x ∷ [])))) g) w v r (has_ended_at-before_end g (omega arith)) (is_misplaced_after-later g group.Tables s.answer refl le free)
+      (lacks_last-pushed lists list x) none);
+  whole = λ x. share-whole x.weights (bare-share x);
+  inside = λ x fits. fits.weights;
+}
+
+-- spans
+spans-read : (p : Problem) (s : Statement) → IsValid p → is_forbidden s.answer group.Tables ≡ false
+    → AreRead p ClassSpan (with-spans s) (span_fields p) bare-span span-weighed (λ x. x.weights) (IsSpanInRange p)
+spans-read p s v free = record {
+  begins = λ lists list x fits g le. subst (λ (ls : List (List ClassSpan)). IsStep p (at (with-spans s (ending lists list)) g) (span_fields p x) (at (with-spans s ls) group.Tables))
+      (with_last-push (and_span (bare-span x)) lists list)
+      (span-step p (at (with-spans s (ending lists list)) g) x v fits (has_ended_at-before_end g (omega arith)) (is_misplaced_after-later g group.Tables s.answer refl le free)
+      (some-pushed lists list));
+  grows = λ lists list x w r g le. subst (λ (ls : List (List ClassSpan)). IsStep p (at (with-spans s (ending lists (list ++ (x ∷ [])))) g) (weight_fields p w) (at (with-spans s ls) group.Tables))
+      (last-changed (and_span_weight w) lists list x)
+      (span-weight-step p (at (with-spans s (ending lists (list ++ (x ∷ [])))) g) w v r (has_ended_at-before_end g (omega arith)) (is_misplaced_after-later g group.Tables s.answer refl le free)
+      (ap (λ (b : Bool). not b) (lacks_last-pushed lists list x)));
+  whole = λ x. span-whole x.weights (bare-span x);
+  inside = λ x fits. fits.weights;
+}
+
+-- with other tables and other spans
+abbrev with : Statement → List (List ClassShare) → List (List ClassSpan) → Statement
+with s tables spans = record s { tables = tables; spans = spans }
+
+-- the same tables and spans
+moved : (p : Problem) (rest : List (List (List ℕ))) (s c : Statement) (ts us : List (List ClassShare)) (ls ms : List (List ClassSpan)) → ts ≡ us → ls ≡ ms
+    → ReadsTo p 6 rest (with s us ms) c → ReadsTo p 6 rest (with s ts ls) c
+moved p rest s c ts us ls ms tables spans after =
+    subst (λ (t : List (List ClassShare)). ReadsTo p 6 rest (with s t ls) c) (sym tables)
+    (subst (λ (l : List (List ClassSpan)). ReadsTo p 6 rest (with s us l) c) (sym spans) after)
+
+-- the shares of a table and the spans beside it, after the line of the table
+table-back : (p : Problem) (s c : Statement) (table : List ClassShare) (spans : List ClassSpan) (rest : List (List (List ℕ))) → IsValid p
+    → is_forbidden s.answer group.Tables ≡ false → All (IsShareInRange p) table → All (IsSpanInRange p) spans
+    → ReadsTo p 6 rest (with s (ending s.tables table) (ending s.spans spans)) c
+    → ReadsTo p 6 (flat_map (share_rows p) table ++ (flat_map (span_rows p) spans ++ rest)) (with s (ending s.tables []) (ending s.spans [])) c
+table-back p s c table spans rest v free shares-fit spans-fit after =
+    let full = with-tables s (ending s.tables table) in
+    let fresh = with-spans s (ending s.spans []) in
+    let none : has_span fresh.spans ≡ false = ap (λ (b : Bool). not b) (lacks_last-ending s.spans []) in
+    let beside : ReadsTo p 6 (flat_map (span_rows p) spans ++ rest) (with s (ending s.tables table) (ending s.spans [])) c =
+    elements-back p (with-spans full) (span_fields p) bare-span span-weighed (λ x. x.weights) (IsSpanInRange p) (spans-read p full v free) c rest s.spans spans [] spans-fit after in
+    elements-back p (with-tables fresh) (share_fields p) bare-share share-weighed (λ x. x.weights) (IsShareInRange p) (shares-read p fresh v free none) c
+    (flat_map (span_rows p) spans ++ rest) s.tables table [] shares-fit beside
+
+-- tables that are numbered from the next on, with the lists of spans that are left
+numbered-back : (p : Problem) (c : Statement) (rest : List (List (List ℕ))) (every : List (List ClassSpan)) → IsValid p
+    → (tables : List (List ClassShare)) (spans : List (List ClassSpan)) (s : Statement) (id : ℕ)
+    → id ≡ length s.tables + 1 → length s.spans ≡ length s.tables → s.spans ++ spans ≡ every → length spans ≡ length tables → id + length tables < 10 ^ 64
+    → All (All (IsShareInRange p)) tables → All (All (IsSpanInRange p)) spans → is_forbidden s.answer group.Tables ≡ false
+    → ReadsTo p 6 rest (with s (s.tables ++ tables) (s.spans ++ spans)) c → ReadsTo p 6 (tables_rows p every id tables ++ rest) s c
+numbered-back p c rest every v [] [] s id next level together beside few shares-fit spans-fit free after =
+    moved p rest s c s.tables (s.tables ++ []) s.spans (s.spans ++ []) (sym (append-nil s.tables)) (sym (append-nil s.spans)) after
+numbered-back p c rest every v [] (list ∷ spans) s id next level together beside few shares-fit spans-fit free after = absurd (omega arith)
+numbered-back p c rest every v (table ∷ tables) [] s id next level together beside few shares-fit spans-fit free after = absurd (omega arith)
+numbered-back p c rest every v (table ∷ tables) (list ∷ spans) s id next level together beside few shares-fit spans-fit free after =
     let shares = flat_map (share_rows p) table in
-    let others = tables_rows p (id + 1) tables in
-    let more = with s (s.tables ++ (table ∷ [])) in
-    let later : ReadsTo p 5 (others ++ rest) more c =
-    numbered-back p c rest v tables more (id + 1) (omega (arith, length_push s.tables table)) (omega arith)
-    (All-tail (All (IsShareInRange p)) table tables all) free
-    (subst (λ (ts : List (List ClassShare)). ReadsTo p 5 rest (with s ts) c) (sym (append_assoc s.tables (table ∷ []) tables)) after) in
-    let inside = shares-back p s c s.tables (others ++ rest) v free table [] (All-head (All (IsShareInRange p)) table tables all) later in
-    one-line p 5 group.Tables (table_fields id) s (with s (s.tables ++ ([] ∷ []))) c ((shares ++ others) ++ rest) (lit≤ tt)
+    let runs = flat_map (span_rows p) list in
+    let others = tables_rows p every (id + 1) tables in
+    let more = with s (ending s.tables table) (ending s.spans list) in
+    let fresh = with s (ending s.tables []) (ending s.spans []) in
+    let place : id - 1 ≡ length s.spans = omega arith in
+    let mine : spans_of_table every id ≡ list = rw (← together, place) (get_or-append_seam s.spans list spans []) in
+    let later : ReadsTo p 6 (others ++ rest) more c =
+    numbered-back p c rest every v tables spans more (id + 1) (omega (arith, length_push s.tables table)) (omega (arith, length_push s.tables table, length_push s.spans list))
+    (append_assoc s.spans (list ∷ []) spans ∙ together) (omega arith) (omega arith)
+    (All-tail (All (IsShareInRange p)) table tables shares-fit) (All-tail (All (IsSpanInRange p)) list spans spans-fit) free
+    (moved p rest s c (ending s.tables table ++ tables) (s.tables ++ (table ∷ tables)) (ending s.spans list ++ spans) (s.spans ++ (list ∷ spans))
+    (append_assoc s.tables (table ∷ []) tables) (append_assoc s.spans (list ∷ []) spans) after) in
+    let inside = table-back p s c table list (others ++ rest) v free (All-head (All (IsShareInRange p)) table tables shares-fit)
+    (All-head (All (IsSpanInRange p)) list spans spans-fit) later in
+    let lines : ((shares ++ runs) ++ others) ++ rest ≡ shares ++ (runs ++ (others ++ rest)) =
+    append_assoc (shares ++ runs) others rest ∙ append_assoc shares runs (others ++ rest) in
+    subst (λ (ls : List ClassSpan). ReadsTo p 6 (table_fields id ∷ (((shares ++ flat_map (span_rows p) ls) ++ others) ++ rest)) s c) (sym mine)
+    (one-line p 6 group.Tables (table_fields id) s fresh c (((shares ++ runs) ++ others) ++ rest) (lit≤ tt)
     (λ g le. table-step p (at s g) id next (omega arith) (has_ended_at-before_end g (omega arith)) (is_misplaced_after-later g group.Tables s.answer refl le free))
-    (subst (λ (lines : List (List (List ℕ))). ReadsTo p 5 lines (with s (s.tables ++ ([] ∷ []))) c) (sym (append_assoc shares others rest)) inside)
+    (subst (λ (ls : List (List (List ℕ))). ReadsTo p 6 ls fresh c) (sym lines) inside))
 
 -- all tables
-pub tables-back : (p : Problem) (s c : Statement) (tables : List (List ClassShare)) (rest : List (List (List ℕ))) → IsValid p → s.tables ≡ []
-    → length tables < 2 ^ 32 - 1 → All (All (IsShareInRange p)) tables → Free (is_forbidden s.answer group.Tables) tables
-    → ReadsTo p 5 rest (record s { tables = tables }) c → ReadsTo p 5 (tables_rows p 1 tables ++ rest) s c
-tables-back p s c tables rest v none few all (inl free) after =
+pub tables-back : (p : Problem) (s c : Statement) (tables : List (List ClassShare)) (spans : List (List ClassSpan)) (rest : List (List (List ℕ))) → IsValid p
+    → s.tables ≡ [] → s.spans ≡ [] → length spans ≡ length tables → length tables < 2 ^ 32 - 1 → All (All (IsShareInRange p)) tables → All (All (IsSpanInRange p)) spans
+    → (is_forbidden s.answer group.Tables ≡ false) ⊎ ((tables ≡ []) × (spans ≡ []))
+    → ReadsTo p 6 rest (record s { tables = tables; spans = spans }) c → ReadsTo p 6 (tables_rows p spans 1 tables ++ rest) s c
+tables-back p s c tables spans rest v none bare beside few shares-fit spans-fit (inl free) after =
     let start : 1 ≡ length s.tables + 1 = rw none refl in
-    numbered-back p c rest v tables s 1 start (omega arith) all free (subst (λ (ts : List (List ClassShare)). ReadsTo p 5 rest (with s (ts ++ tables)) c) (sym none) after)
-tables-back p s c tables rest v none few all (inr empty) after =
-    subst (λ (ts : List (List ClassShare)). ReadsTo p 5 (tables_rows p 1 ts ++ rest) s c) (sym empty)
-    (subst (λ (ts : List (List ClassShare)). ReadsTo p 5 rest (with s ts) c) (empty ∙ sym none) after)
+    let level : length s.spans ≡ length s.tables = rw (none, bare) refl in
+    let no-tables : s.tables ++ tables ≡ tables = rw none refl in
+    let no-spans : s.spans ++ spans ≡ spans = rw bare refl in
+    numbered-back p c rest spans v tables spans s 1 start level no-spans beside (omega arith) shares-fit spans-fit free
+    (moved p rest s c (s.tables ++ tables) tables (s.spans ++ spans) spans no-tables no-spans after)
+tables-back p s c tables spans rest v none bare beside few shares-fit spans-fit (inr empty) after =
+    subst (λ (ts : List (List ClassShare)). ReadsTo p 6 (tables_rows p spans 1 ts ++ rest) s c) (sym empty.0)
+    (moved p rest s c s.tables tables s.spans spans (none ∙ sym empty.0) (bare ∙ sym empty.1) after)

@@ -10,12 +10,12 @@ use Rattle.fp_lines.specs.declared.certificates.Answer.TheVariants as answer
 use Rattle.fp_certificate.specs.declared.groups.Group.{Group}
 use Rattle.fp_certificate.specs.declared.groups.Group.TheVariants as group
 use Rattle.fp_certificate.specs.Groups.{is_forbidden, place_of}
-use Rattle.fp_lines.specs.Ranges.{IsInRange, IsScaleInRange}
+use Rattle.fp_lines.specs.Ranges.{IsInRange, IsScaleInRange, IsUnitInRange}
 use Rattle.fp_certificate.specs.Readable.{Allows, HaveNames, IsReadable, WrittenReadsBack}
 use Rattle.fp_certificate.specs.Reading.{certificate_of, nothing_read}
-use Rattle.fp_lines.specs.Rows.{answer_fields, end_fields, leg_fields, node_fields, point_fields, rows_of, scale_fields, scale_rows, tables_rows, truck_fields}
+use Rattle.fp_lines.specs.Rows.{answer_fields, end_fields, leg_fields, node_fields, point_fields, rows_of, scale_fields, scale_rows, tables_rows, truck_fields, unit_fields, unit_rows}
 use Rattle.fp_lines.specs.Statements.{Statement}
-use Rattle.fp_certificate.proofs.LinesBack.{IsStep, answer-step, end-step, scale-step}
+use Rattle.fp_certificate.proofs.LinesBack.{IsStep, answer-step, end-step, scale-step, unit-step}
 use Rattle.fp_certificate.proofs.ListsBack.{Free, legs-back, points-back, tree-back, trucks-back}
 use Rattle.fp_certificate.proofs.PlainRows.{rows-plain}
 use Rattle.fp_certificate.proofs.SegmentsBack.{ReadsTo, at, has_ended_at-before_end, is_misplaced_after-later}
@@ -24,23 +24,26 @@ use Rattle.fp_certificate.proofs.TablesBack.{tables-back}
 -- what the answer forbids isn't there
 record IsFree (c : Statement) : Type 0 where
   scale : (is_forbidden c.answer group.Scale ≡ false) ⊎ (c.scale ≡ None)
+  unit : (is_forbidden c.answer group.Unit ≡ false) ⊎ (c.unit ≡ None)
   legs : Free (is_forbidden c.answer group.Legs) c.legs
   trucks : Free (is_forbidden c.answer group.Trucks) c.trucks
   points : Free (is_forbidden c.answer group.Points) c.points
-  tables : Free (is_forbidden c.answer group.Tables) c.tables
+  tables : (is_forbidden c.answer group.Tables ≡ false) ⊎ ((c.tables ≡ []) × (c.spans ≡ []))
   tree : Free (is_forbidden c.answer group.Tree) c.tree
 
 free-answer : (a : Answer) (c : Statement) → c.answer ≡ a → Allows a c → IsFree c
 free-answer (answer.Direct cost) c is h = record {
   scale = inr h.scale;
+  unit = inr h.unit;
   legs = inl (rw is refl);
   trucks = inl (rw is refl);
   points = inr h.points;
-  tables = inr h.tables;
+  tables = inr (h.tables, h.spans);
   tree = inr h.tree;
 }
 free-answer (answer.Optimal cost) c is h = record {
   scale = inl (rw is refl);
+  unit = inl (rw is refl);
   legs = inl (rw is refl);
   trucks = inl (rw is refl);
   points = inl (rw is refl);
@@ -49,6 +52,7 @@ free-answer (answer.Optimal cost) c is h = record {
 }
 free-answer (answer.Unfinished cost bound s) c is h = record {
   scale = inl (rw is refl);
+  unit = inl (rw is refl);
   legs = inl (rw is refl);
   trucks = inl (rw is refl);
   points = inl (rw is refl);
@@ -57,10 +61,11 @@ free-answer (answer.Unfinished cost bound s) c is h = record {
 }
 free-answer (answer.Infeasible shipment time) c is h = record {
   scale = inr h.rest.scale;
+  unit = inr h.rest.unit;
   legs = inr h.legs;
   trucks = inr h.trucks;
   points = inr h.rest.points;
-  tables = inr h.rest.tables;
+  tables = inr (h.rest.tables, h.rest.spans);
   tree = inr h.rest.tree;
 }
 
@@ -83,7 +88,7 @@ one-line-then p k m h fields s t c rest small step after g ordinal le =
     rw (now.clean, now.gives) (after h (ordinal + 1) small)
 
 -- the end gives what there is
-end-back : (p : Problem) (c : Statement) → ReadsTo p 6 (end_fields ∷ []) c c
+end-back : (p : Problem) (c : Statement) → ReadsTo p 7 (end_fields ∷ []) c c
 end-back p c g ordinal le =
     let step = end-step p (at c g) (has_ended_at-before_end g le) (is_misplaced_after-later g group.End c.answer refl (omega arith) (end-free c.answer)) in
     rw step.clean refl
@@ -98,35 +103,49 @@ scale-back p s c rest (Some n) none range (inl free) after =
     (λ g le. scale-step p (at s g) n range (has_ended_at-before_end g (omega arith)) (is_misplaced_after-later g group.Scale s.answer refl (omega arith) free) (rw none refl)) after
 scale-back p s c rest (Some n) none range (inr missing) after = cc missing
 
+-- a unit, where there is one
+unit-back : (p : Problem) (s c : Statement) (rest : List (List (List ℕ))) (unit : Option ℕ) → s.unit ≡ None → IfSome unit IsUnitInRange
+    → (is_forbidden s.answer group.Unit ≡ false) ⊎ (unit ≡ None) → ReadsTo p 2 rest (record s { unit = unit }) c → ReadsTo p 1 (unit_rows unit ++ rest) s c
+unit-back p s c rest None none range free after =
+    sooner p 1 2 rest s c (lit≤ tt) (subst (λ (o : Option ℕ). ReadsTo p 2 rest (record s { unit = o }) c) (sym none) after)
+unit-back p s c rest (Some n) none range (inl free) after =
+    one-line-then p 1 2 group.Unit (unit_fields n) s (record s { unit = Some n }) c rest (lit≤ tt)
+    (λ g le. unit-step p (at s g) n range (has_ended_at-before_end g (omega arith)) (is_misplaced_after-later g group.Unit s.answer refl (omega arith) free) (rw none refl)) after
+unit-back p s c rest (Some n) none range (inr missing) after = cc missing
+
 -- after the answer, the lines of all other parts
 parts-back : (p : Problem) (c : Statement) → IsValid p → IsInRange p c → length c.tables < 2 ^ 32 - 1 → IsFree c
     → ReadsTo p 0
     (scale_rows c.scale
+    ++ (unit_rows c.unit
     ++ (map (leg_fields p) c.legs
     ++ (map (truck_fields p) c.trucks
     ++ (map (point_fields p) c.points
-    ++ (tables_rows p 1 c.tables
+    ++ (tables_rows p c.spans 1 c.tables
     ++ (map (node_fields p) c.tree
-    ++ (end_fields ∷ []))))))) (record nothing_read.certificate { answer = c.answer }) c
+    ++ (end_fields ∷ [])))))))) (record nothing_read.certificate { answer = c.answer }) c
 parts-back p c v r few free =
     let s : Statement = record nothing_read.certificate { answer = c.answer } in
     let with-scale : Statement = record s { scale = c.scale } in
-    let with-legs : Statement = record with-scale { legs = c.legs } in
+    let with-unit : Statement = record with-scale { unit = c.unit } in
+    let with-legs : Statement = record with-unit { legs = c.legs } in
     let with-trucks : Statement = record with-legs { trucks = c.trucks } in
     let with-points : Statement = record with-trucks { points = c.points } in
-    let with-tables : Statement = record with-points { tables = c.tables } in
+    let with-tables : Statement = record with-points { tables = c.tables; spans = c.spans } in
     let last = end_fields ∷ [] in
     let tree = map (node_fields p) c.tree ++ last in
-    let tables = tables_rows p 1 c.tables ++ tree in
+    let tables = tables_rows p c.spans 1 c.tables ++ tree in
     let points = map (point_fields p) c.points ++ tables in
     let trucks = map (truck_fields p) c.trucks ++ points in
     let legs = map (leg_fields p) c.legs ++ trucks in
-    let six : ReadsTo p 6 tree with-tables c = tree-back p with-tables c c.tree last v (omega arith) r.tree free.tree (end-back p c) in
-    let five : ReadsTo p 5 tables with-points c = tables-back p with-points c c.tables tree v refl few r.tables free.tables (sooner p 5 6 tree with-tables c (lit≤ tt) six) in
-    let four : ReadsTo p 4 points with-trucks c = points-back p with-trucks c c.points tables v r.points free.points (sooner p 4 5 tables with-points c (lit≤ tt) five) in
-    let three : ReadsTo p 3 trucks with-legs c = trucks-back p with-legs c c.trucks points v r.trucks free.trucks (sooner p 3 4 points with-trucks c (lit≤ tt) four) in
-    let two : ReadsTo p 2 legs with-scale c = legs-back p with-scale c c.legs trucks v r.legs free.legs (sooner p 2 3 trucks with-legs c (lit≤ tt) three) in
-    scale-back p s c legs c.scale refl r.scale free.scale (sooner p 1 2 legs with-scale c (lit≤ tt) two)
+    let seven : ReadsTo p 7 tree with-tables c = tree-back p with-tables c c.tree last v (omega arith) r.tree free.tree (end-back p c) in
+    let six : ReadsTo p 6 tables with-points c =
+    tables-back p with-points c c.tables c.spans tree v refl refl r.beside few r.tables r.spans free.tables (sooner p 6 7 tree with-tables c (lit≤ tt) seven) in
+    let five : ReadsTo p 5 points with-trucks c = points-back p with-trucks c c.points tables v r.points free.points (sooner p 5 6 tables with-points c (lit≤ tt) six) in
+    let four : ReadsTo p 4 trucks with-legs c = trucks-back p with-legs c c.trucks points v r.trucks free.trucks (sooner p 4 5 points with-trucks c (lit≤ tt) five) in
+    let three : ReadsTo p 3 legs with-unit c = legs-back p with-unit c c.legs trucks v r.legs free.legs (sooner p 3 4 trucks with-legs c (lit≤ tt) four) in
+    let one : ReadsTo p 1 (unit_rows c.unit ++ legs) with-scale c = unit-back p with-scale c legs c.unit refl r.unit free.unit (sooner p 2 3 legs with-unit c (lit≤ tt) three) in
+    scale-back p s c (unit_rows c.unit ++ legs) c.scale refl r.scale free.scale one
 
 -- the lines of a certificate give it
 rows-back : (p : Problem) (c : Statement) (ordinal : ℕ) → IsValid p → IsInRange p c → length c.tables < 2 ^ 32 - 1 → IsReadable c

@@ -1,5 +1,5 @@
--- The lines of answers and of a scale: their faults, each with its code, in the order in which they
--- are looked for, and what they give. The first fault decides.
+-- The lines of answers, of a scale and of a unit: their faults, each with its code, in the order in
+-- which they are looked for, and what they give. The first fault decides.
 use Rattle.std.specs.Prelude.{ℕ, ◌^◌, List, [], ◌∷◌, length, Bool, ◌&&◌, ◌||◌, not, ◌==◌, nat_lt, is_some, if◌then◌else◌, Option, Some, None, codes}
 use Rattle.fp_model.specs.declared.limits.TheConstants.{GREATEST_SCALE, LONGEST_FASTEST}
 use Rattle.fp_model.specs.Problem.{Problem, weight_at}
@@ -98,3 +98,16 @@ scale_faults p before fields =
 -- a draft with a scale
 abbrev pub with_scale : Draft → ℕ → Draft
 with_scale before n = record { certificate = record before.certificate { scale = Some n }; latest = Some group.Scale }
+
+-- the faults of `unit,Q`
+abbrev pub unit_faults : Draft → List (List ℕ) → List Finding
+unit_faults before fields =
+    finding 22 (not (length fields == 2))
+    ∷ finding 23 (not (has_number fields 1))
+    ∷ finding 24 (is_misplaced before group.Unit || is_some before.certificate.unit)
+    ∷ finding 28 (not (is_between 1 largest_figure fields 1))
+    ∷ []
+
+-- a draft with a unit
+abbrev pub with_unit : Draft → ℕ → Draft
+with_unit before n = record { certificate = record before.certificate { unit = Some n }; latest = Some group.Unit }

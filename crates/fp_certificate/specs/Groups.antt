@@ -10,16 +10,18 @@ use Rattle.fp_certificate.specs.declared.groups.Group.TheVariants as group
 abbrev pub place_of : Group → ℕ
 place_of group.Answer = 0
 place_of group.Scale = 1
-place_of group.Legs = 2
-place_of group.Trucks = 3
-place_of group.Points = 4
-place_of group.Tables = 5
-place_of group.Tree = 6
-place_of group.End = 7
+place_of group.Unit = 2
+place_of group.Legs = 3
+place_of group.Trucks = 4
+place_of group.Points = 5
+place_of group.Tables = 6
+place_of group.Tree = 7
+place_of group.End = 8
 
 -- whether no line of the group can stand under a `direct` answer: it has legs and trucks alone
 abbrev pub is_beyond_direct : Group → Bool
 is_beyond_direct group.Scale = true
+is_beyond_direct group.Unit = true
 is_beyond_direct group.Points = true
 is_beyond_direct group.Tables = true
 is_beyond_direct group.Tree = true

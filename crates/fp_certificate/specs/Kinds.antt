@@ -26,11 +26,13 @@ abbrev pub kind_of : List (List ℕ) → Option LineKind
 kind_of fields =
     if is_kind (codes "answer") fields then answer_kind (field fields 1)
     else if is_kind (codes "scale") fields then Some kind.Scale
+    else if is_kind (codes "unit") fields then Some kind.Unit
     else if is_kind (codes "leg") fields then Some kind.Leg
     else if is_kind (codes "truck") fields then Some kind.Truck
     else if is_kind (codes "point") fields then Some kind.Point
     else if is_kind (codes "table") fields then Some kind.Table
     else if is_kind (codes "share") fields then Some kind.Share
+    else if is_kind (codes "span") fields then Some kind.Span
     else if is_kind (codes "weight") fields then Some kind.Weight
     else if is_kind (codes "split") fields then split_kind (field fields 1)
     else if is_kind (codes "leaf") fields then Some kind.Leaf

@@ -16,8 +16,10 @@ use Rattle.fp_lines.specs.Statements.{Statement}
 -- there is nothing beside an answer, legs and trucks
 pub record HasTimetableAlone (c : Statement) : Type 0 where
   pub scale : c.scale ≡ None
+  pub unit : c.unit ≡ None
   pub points : c.points ≡ []
   pub tables : c.tables ≡ []
+  pub spans : c.spans ≡ []
   pub tree : c.tree ≡ []
 
 -- there is nothing beside an answer

@@ -7,20 +7,21 @@ use Rattle.fp_fields.specs.Faults.{first_fault, Fault}
 use Rattle.fp_lines.specs.declared.certificates.Answer.TheVariants as answer
 use Rattle.fp_certificate.specs.declared.drafts.Draft.{Draft}
 use Rattle.fp_certificate.specs.declared.kinds.LineKind.{LineKind}
-use Rattle.fp_certificate.specs.declared.kinds.LineKind.TheVariants.{Direct, Optimal, Unfinished, Infeasible, Scale, Leg, Truck, Point, Table, Share, Weight, ByArc, ByTime, Leaf, End}
-use Rattle.fp_certificate.specs.Answers.{cost_faults, infeasible_faults, infeasible_in, scale_faults, unfinished_faults, unfinished_in, with_answer, with_scale}
+use Rattle.fp_certificate.specs.declared.kinds.LineKind.TheVariants.{Direct, Optimal, Unfinished, Infeasible, Scale, Leg, Truck, Point, Table, Share, Span, Weight, ByArc, ByTime, Leaf, End}
+use Rattle.fp_certificate.specs.declared.kinds.LineKind.TheVariants as kind
+use Rattle.fp_certificate.specs.Answers.{cost_faults, infeasible_faults, infeasible_in, scale_faults, unfinished_faults, unfinished_in, unit_faults, with_answer, with_scale, with_unit}
 use Rattle.fp_certificate.specs.Groups.{has_ended}
 use Rattle.fp_certificate.specs.Kinds.{kind_of}
 use Rattle.fp_certificate.specs.Points.{point_faults, point_in, with_point}
 use Rattle.fp_lines.specs.Statements.{Statement}
-use Rattle.fp_certificate.specs.Tables.{share_faults, share_in, table_faults, weight_faults, weight_in, with_share, with_table, with_weight}
+use Rattle.fp_certificate.specs.Tables.{share_faults, share_in, span_faults, span_in, table_faults, weight_faults, weight_in, with_share, with_span, with_table, with_weight}
 use Rattle.fp_certificate.specs.Timetables.{leg_faults, leg_in, truck_faults, truck_in, with_leg, with_truck}
 use Rattle.fp_certificate.specs.Trees.{by_arc_faults, by_arc_in, by_time_faults, by_time_in, end_faults, leaf_faults, leaf_in, with_end, with_node}
 
 -- nothing read yet; the answer stands for none
 abbrev pub nothing_read : Draft
 nothing_read = record {
-  certificate = record { answer = answer.Direct 0; scale = None; legs = []; trucks = []; points = []; tables = []; tree = [] };
+  certificate = record { answer = answer.Direct 0; scale = None; unit = None; legs = []; trucks = []; points = []; tables = []; spans = []; tree = [] };
   latest = None;
 }
 
@@ -31,11 +32,13 @@ faults_of p before Optimal fields = cost_faults before fields
 faults_of p before Unfinished fields = unfinished_faults before fields
 faults_of p before Infeasible fields = infeasible_faults p before fields
 faults_of p before Scale fields = scale_faults p before fields
+faults_of p before kind.Unit fields = unit_faults before fields
 faults_of p before Leg fields = leg_faults p before fields
 faults_of p before Truck fields = truck_faults p before fields
 faults_of p before Point fields = point_faults p before fields
 faults_of p before Table fields = table_faults before fields
 faults_of p before Share fields = share_faults p before fields
+faults_of p before Span fields = span_faults p before fields
 faults_of p before Weight fields = weight_faults p before fields
 faults_of p before ByArc fields = by_arc_faults p before fields
 faults_of p before ByTime fields = by_time_faults p before fields
@@ -58,11 +61,13 @@ with_kind p before Optimal fields = with_answer before (answer.Optimal (number_a
 with_kind p before Unfinished fields = with_answer before (unfinished_in fields)
 with_kind p before Infeasible fields = with_answer before (infeasible_in p fields)
 with_kind p before Scale fields = with_scale before (number_at fields 1)
+with_kind p before kind.Unit fields = with_unit before (number_at fields 1)
 with_kind p before Leg fields = with_leg before (leg_in p fields)
 with_kind p before Truck fields = with_truck before (truck_in p fields)
 with_kind p before Point fields = with_point before (point_in p fields)
 with_kind p before Table fields = with_table before
 with_kind p before Share fields = with_share before (share_in p fields)
+with_kind p before Span fields = with_span before (span_in p fields)
 with_kind p before Weight fields = with_weight before (weight_in p fields)
 with_kind p before ByArc fields = with_node before (by_arc_in p fields)
 with_kind p before ByTime fields = with_node before (by_time_in p fields)

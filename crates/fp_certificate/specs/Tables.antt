@@ -1,12 +1,14 @@
--- The lines of tables, shares and weights: their faults in the order in which they are looked for,
--- and what they give.
-use Rattle.std.specs.Prelude.{ℕ, ◌+◌, List, [], ◌∷◌, ◌++◌, length, Bool, true, ◌&&◌, ◌||◌, not, ◌==◌, Some}
+-- The lines of tables, shares, spans and weights: their faults in the order in which they are looked
+-- for, and what they give.
+use Rattle.std.specs.Prelude.{ℕ, ◌+◌, List, [], ◌∷◌, ◌++◌, length, Bool, true, ◌&&◌, ◌||◌, not, ◌==◌, if◌then◌else◌, Some}
+use Rattle.fp_model.specs.declared.limits.TheConstants.{LATEST}
 use Rattle.fp_model.specs.Problem.{Problem}
 use Rattle.fp_prices.specs.declared.tables.Weight.{Weight}
 use Rattle.fp_prices.specs.Shares.{ClassShare}
+use Rattle.fp_spans.specs.Spans.{ClassSpan}
 use Rattle.fp_fields.specs.Findings.{finding}
 use Rattle.fp_fields.specs.Findings.{Finding}
-use Rattle.fp_fields.specs.Fields.{has_number, number_at}
+use Rattle.fp_fields.specs.Fields.{has_number, is_between, number_at}
 use Rattle.fp_records.specs.Fields.{is_empty}
 use Rattle.fp_certificate.specs.declared.drafts.Draft.{Draft}
 use Rattle.fp_certificate.specs.declared.groups.Group.TheVariants as group
@@ -21,11 +23,19 @@ with_last f [] = []
 with_last f (x ∷ []) = f x ∷ []
 with_last f (x ∷ y ∷ xs) = x ∷ with_last f (y ∷ xs)
 
+-- whether the last of some lists is empty, or there is none
+abbrev pub lacks_last : {A : Type 0} → List (List A) → Bool
+lacks_last [] = true
+lacks_last (list ∷ []) = is_empty list
+lacks_last (list ∷ next ∷ lists) = lacks_last (next ∷ lists)
+
 -- whether the last table has no share, or there is no table
 abbrev pub lacks_share : List (List ClassShare) → Bool
-lacks_share [] = true
-lacks_share (table ∷ []) = is_empty table
-lacks_share (table ∷ next ∷ tables) = lacks_share (next ∷ tables)
+lacks_share tables = lacks_last tables
+
+-- whether a span stands in the last table
+abbrev pub has_span : List (List ClassSpan) → Bool
+has_span spans = not (lacks_last spans)
 
 -- the faults of `table,ID`. An ID has to be the next number, so none that passes is out of range
 abbrev pub table_faults : Draft → List (List ℕ) → List Finding
@@ -35,20 +45,21 @@ table_faults before fields =
     ∷ finding 24 (is_misplaced before group.Tables || not (number_at fields 1 == length before.certificate.tables + 1))
     ∷ []
 
--- a draft with other tables
-abbrev pub with_tables : Draft → List (List ClassShare) → Draft
-with_tables before tables = record { certificate = record before.certificate { tables = tables }; latest = Some group.Tables }
+-- a draft with other tables and other spans beside them
+abbrev pub with_lists : Draft → List (List ClassShare) → List (List ClassSpan) → Draft
+with_lists before tables spans =
+    record { certificate = record before.certificate { tables = tables; spans = spans }; latest = Some group.Tables }
 
--- a draft with one more table, which has no shares yet
+-- a draft with one more table, which has neither shares nor spans yet
 abbrev pub with_table : Draft → Draft
-with_table before = with_tables before (before.certificate.tables ++ ([] ∷ []))
+with_table before = with_lists before (before.certificate.tables ++ ([] ∷ [])) (before.certificate.spans ++ ([] ∷ []))
 
--- the faults of `share,FROM,TO,POINT,V`
+-- the faults of `share,FROM,TO,POINT,V`. The shares of a table stand before its spans
 abbrev pub share_faults : Problem → Draft → List (List ℕ) → List Finding
 share_faults p before fields =
     finding 22 (not (length fields == 5))
     ∷ finding 23 (not (has_number fields 3 && has_number fields 4))
-    ∷ finding 24 (is_misplaced before group.Tables || is_empty before.certificate.tables)
+    ∷ finding 24 (is_misplaced before group.Tables || is_empty before.certificate.tables || has_span before.certificate.spans)
     ∷ finding 25 (lacks_arc p fields 1 2)
     ∷ finding 28 (not (is_time fields 3 && is_figure fields 4))
     ∷ []
@@ -63,14 +74,48 @@ and_share share table = table ++ (share ∷ [])
 
 -- a draft with one more share in its last table
 abbrev pub with_share : Draft → ClassShare → Draft
-with_share before share = with_tables before (with_last (and_share share) before.certificate.tables)
+with_share before share = with_lists before (with_last (and_share share) before.certificate.tables) before.certificate.spans
 
--- the faults of `weight,SHIPMENT,W`
+-- whether the end of a span is after its point, and at most 100,001
+abbrev pub has_end_in_range : List (List ℕ) → Bool
+has_end_in_range fields = is_between (number_at fields 3 + 1) (LATEST + 1) fields 4
+
+-- the faults of `span,FROM,TO,POINT,UNTIL,MONEY,CHARGE`. Each table brings a list of spans, so there
+-- is none where there is no table
+abbrev pub span_faults : Problem → Draft → List (List ℕ) → List Finding
+span_faults p before fields =
+    finding 22 (not (length fields == 7))
+    ∷ finding 23 (not (has_number fields 3 && has_number fields 4 && (has_number fields 5 && has_number fields 6)))
+    ∷ finding 24 (is_misplaced before group.Tables || is_empty before.certificate.spans)
+    ∷ finding 25 (lacks_arc p fields 1 2)
+    ∷ finding 28 (not (is_time fields 3 && has_end_in_range fields && is_figure fields 5 && is_figure fields 6))
+    ∷ []
+
+-- the span of a line, which has no weights yet
+abbrev pub span_in : Problem → List (List ℕ) → ClassSpan
+span_in p fields = record {
+  arc = arc_in p fields 1 2;
+  point = number_at fields 3;
+  until = number_at fields 4;
+  money = number_at fields 5;
+  charge = number_at fields 6;
+  weights = [];
+}
+
+-- the spans of a table with one more
+abbrev pub and_span : ClassSpan → List ClassSpan → List ClassSpan
+and_span span spans = spans ++ (span ∷ [])
+
+-- a draft with one more span in its last list of spans
+abbrev pub with_span : Draft → ClassSpan → Draft
+with_span before span = with_lists before before.certificate.tables (with_last (and_span span) before.certificate.spans)
+
+-- the faults of `weight,SHIPMENT,W`. It stands in a share or in a span of the last table
 abbrev pub weight_faults : Problem → Draft → List (List ℕ) → List Finding
 weight_faults p before fields =
     finding 22 (not (length fields == 3))
     ∷ finding 23 (not (has_number fields 2))
-    ∷ finding 24 (is_misplaced before group.Tables || lacks_share before.certificate.tables)
+    ∷ finding 24 (is_misplaced before group.Tables || (not (has_span before.certificate.spans) && lacks_share before.certificate.tables))
     ∷ finding 25 (lacks_shipment p fields 1)
     ∷ finding 28 (not (is_figure fields 2))
     ∷ []
@@ -83,6 +128,21 @@ weight_in p fields = record { shipment = shipment_in p fields 1; w = number_at f
 abbrev pub and_weight : Weight → ClassShare → ClassShare
 and_weight weight share = record share { weights = share.weights ++ (weight ∷ []) }
 
--- a draft with one more weight in the last share of its last table
+-- a span with one more weight
+abbrev pub and_span_weight : Weight → ClassSpan → ClassSpan
+and_span_weight weight span = record span { weights = span.weights ++ (weight ∷ []) }
+
+-- tables with one more weight in the last share of the last of them
+abbrev pub and_last_share_weight : Weight → List (List ClassShare) → List (List ClassShare)
+and_last_share_weight weight tables = with_last (with_last (and_weight weight)) tables
+
+-- lists of spans with one more weight in the last span of the last of them
+abbrev pub and_last_span_weight : Weight → List (List ClassSpan) → List (List ClassSpan)
+and_last_span_weight weight spans = with_last (with_last (and_span_weight weight)) spans
+
+-- a draft with one more weight in the last span of its last table, or in its last share where it has
+-- no span
 abbrev pub with_weight : Draft → Weight → Draft
-with_weight before weight = with_tables before (with_last (with_last (and_weight weight)) before.certificate.tables)
+with_weight before weight =
+    if has_span before.certificate.spans then with_lists before before.certificate.tables (and_last_span_weight weight before.certificate.spans)
+    else with_lists before (and_last_share_weight weight before.certificate.tables) before.certificate.spans

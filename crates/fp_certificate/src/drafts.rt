@@ -1,20 +1,22 @@
 //! What the lines of a certificate have given so far.
-ghost use Rattle.std.specs.Prelude.{◌≡◌, ◌<◌, false, length, MatchResult, Ok, OnOk};
-ghost use Rattle.fp_certificate.specs.Answers.{with_answer, with_scale};
+ghost use Rattle.std.specs.Prelude.{◌≡◌, ◌<◌, ◌&&◌, false, length, MatchResult, not, Ok, OnOk};
+ghost use Rattle.fp_certificate.specs.Answers.{with_answer, with_scale, with_unit};
 ghost use Rattle.fp_certificate.specs.Groups.{has_ended, is_misplaced};
 ghost use Rattle.fp_certificate.specs.Points.{with_point};
 ghost use Rattle.fp_certificate.specs.Outcomes.{IsFirst};
 ghost use Rattle.fp_certificate.specs.Reading.{finished, nothing_read};
-ghost use Rattle.fp_certificate.specs.Tables.{lacks_share, with_share, with_table, with_weight};
+ghost use Rattle.fp_certificate.specs.Tables.{has_span, lacks_share, with_share, with_span, with_table, with_weight};
 ghost use Rattle.fp_certificate.specs.Timetables.{with_leg, with_truck};
 ghost use Rattle.fp_certificate.specs.Trees.{with_end, with_node};
 
 use crate::NoMemory;
 use crate::faults::CertFault;
 use crate::groups::Group;
+use crate::open_spans::{has_span, push_span, push_span_weight};
 use crate::open_tables::{push_share, push_weight};
 use fp_lines::{Answer, Certificate, Node};
 use fp_prices::{Share, Table, Weight};
+use fp_spans::{Span, TableSpans};
 use fp_timenodes::AddedPoint;
 use fp_timetable::{LegLine, TruckLine};
 use std::alloc::Global;
@@ -37,10 +39,12 @@ impl Draft {
             certificate: Certificate {
                 answer: Answer::Direct { cost: 0 },
                 scale: None,
+                unit: None,
                 legs: Vec::new(alloc),
                 trucks: Vec::new(alloc),
                 points: Vec::new(alloc),
                 tables: Vec::new(alloc),
+                spans: Vec::new(alloc),
                 tree: Vec::new(alloc),
             },
             latest: None,
@@ -77,6 +81,14 @@ impl Draft {
         self.latest = Some(Group::Scale);
     }
 
+    /// Takes a unit.
+    pub fn set_unit(&mut self, unit: u128)
+        ensures { self.new ≡ with_unit self.old unit }
+    {
+        self.certificate.unit = Some(unit);
+        self.latest = Some(Group::Unit);
+    }
+
     /// Adds a leg. The only error is `NoMemory`.
     pub fn add_leg(&mut self, leg: LegLine) -> Result<(), NoMemory>
         ensures { OnOk result (self.new ≡ with_leg self.old leg) }
@@ -107,13 +119,16 @@ impl Draft {
         Ok(())
     }
 
-    /// Adds a table without shares. The only error is `NoMemory`.
+    /// Adds a table with neither shares nor spans. The only error is `NoMemory`.
     pub fn add_table(&mut self, alloc: Global) -> Result<(), NoMemory>
         ensures { OnOk result (self.new ≡ with_table self.old) }
     {
         let certificate = &mut self.certificate;
         certificate.tables.push(Table {
             shares: Vec::new(alloc),
+        })?;
+        certificate.spans.push(TableSpans {
+            spans: Vec::new(alloc),
         })?;
         self.latest = Some(Group::Tables);
         Ok(())
@@ -130,13 +145,29 @@ impl Draft {
         Ok(())
     }
 
-    /// Adds a weight to the last share of the last table. The only error is `NoMemory`.
+    /// Adds a span to the last list of spans. The only error is `NoMemory`.
+    pub fn add_span(&mut self, span: Span) -> Result<(), NoMemory>
+        requires { 0 < length self.old.certificate.spans }
+        ensures { OnOk result (self.new ≡ with_span self.old span) }
+    {
+        let certificate = &mut self.certificate;
+        push_span(&mut certificate.spans, span)?;
+        self.latest = Some(Group::Tables);
+        Ok(())
+    }
+
+    /// Adds a weight to the last span of the last table, or to its last share where it has no span.
+    /// The only error is `NoMemory`.
     pub fn add_weight(&mut self, weight: Weight) -> Result<(), NoMemory>
-        requires { lacks_share self.old.certificate.tables ≡ false }
+        requires { (not (has_span self.old.certificate.spans) && lacks_share self.old.certificate.tables) ≡ false }
         ensures { OnOk result (self.new ≡ with_weight self.old weight) }
     {
         let certificate = &mut self.certificate;
-        push_weight(&mut certificate.tables, weight)?;
+        if has_span(&certificate.spans) {
+            push_span_weight(&mut certificate.spans, weight)?;
+        } else {
+            push_weight(&mut certificate.tables, weight)?;
+        }
         self.latest = Some(Group::Tables);
         Ok(())
     }

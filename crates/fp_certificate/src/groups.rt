@@ -9,6 +9,7 @@ use fp_lines::Answer;
 pub enum Group {
     Answer,
     Scale,
+    Unit,
     Legs,
     Trucks,
     Points,
@@ -25,12 +26,13 @@ impl Group {
         match self {
             Group::Answer => 0,
             Group::Scale => 1,
-            Group::Legs => 2,
-            Group::Trucks => 3,
-            Group::Points => 4,
-            Group::Tables => 5,
-            Group::Tree => 6,
-            Group::End => 7,
+            Group::Unit => 2,
+            Group::Legs => 3,
+            Group::Trucks => 4,
+            Group::Points => 5,
+            Group::Tables => 6,
+            Group::Tree => 7,
+            Group::End => 8,
         }
     }
 
@@ -54,7 +56,7 @@ impl Group {
     {
         matches!(
             self,
-            Group::Scale | Group::Points | Group::Tables | Group::Tree
+            Group::Scale | Group::Unit | Group::Points | Group::Tables | Group::Tree
         )
     }
 

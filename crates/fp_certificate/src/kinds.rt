@@ -18,6 +18,8 @@ pub enum LineKind {
     Infeasible,
     /// `scale,N`
     Scale,
+    /// `unit,Q`
+    Unit,
     /// `leg,SHIPMENT,FROM,TO,DEPART,ARRIVE`
     Leg,
     /// `truck,FROM,TO,DEPART,TRUCKS,LOAD`
@@ -28,6 +30,8 @@ pub enum LineKind {
     Table,
     /// `share,FROM,TO,POINT,V`
     Share,
+    /// `span,FROM,TO,POINT,UNTIL,MONEY,CHARGE`
+    Span,
     /// `weight,SHIPMENT,W`
     Weight,
     /// `split,arc,SHIPMENT,FROM,TO`
@@ -78,6 +82,8 @@ pub fn kind_of(line: &Record) -> Option<LineKind>
         answer_kind(field_at(line, 1))
     } else if is_of_kind(line, b"scale") {
         Some(LineKind::Scale)
+    } else if is_of_kind(line, b"unit") {
+        Some(LineKind::Unit)
     } else if is_of_kind(line, b"leg") {
         Some(LineKind::Leg)
     } else if is_of_kind(line, b"truck") {
@@ -88,6 +94,8 @@ pub fn kind_of(line: &Record) -> Option<LineKind>
         Some(LineKind::Table)
     } else if is_of_kind(line, b"share") {
         Some(LineKind::Share)
+    } else if is_of_kind(line, b"span") {
+        Some(LineKind::Span)
     } else if is_of_kind(line, b"weight") {
         Some(LineKind::Weight)
     } else if is_of_kind(line, b"split") {

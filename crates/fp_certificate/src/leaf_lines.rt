@@ -1,19 +1,18 @@
 //! Lines `leaf,KIND,ROUND,MODE`.
 ghost use Rattle.std.specs.Prelude.{◌≡◌, false, ◌||◌, ◌<◌, ◌^◌, Some, None, true, length, MatchOption, MatchResult};
 ghost use Rattle.fp_fields.specs.Findings.{IsFirstFault, first_code};
-ghost use Rattle.fp_fields.specs.Fields.{has_number, is_between, number_at};
-ghost use Rattle.fp_model.specs.declared.limits.TheConstants.{LAST_ROUND};
+ghost use Rattle.fp_fields.specs.Fields.{has_number, is_between};
 ghost use Rattle.fp_certificate.specs.Codes.{code_of};
 ghost use Rattle.fp_certificate.specs.Trees.{has_kind_word, has_leaf_digits, kind_in, leaf_faults, leaf_in, with_node};
 
 use crate::drafts::Draft;
 use crate::groups::Group;
 use crate::line_faults::LineFault;
+use crate::line_fields::round_at;
 use fp_fields::RecordError;
 use fp_fields::digits::short_between;
 use fp_fields::fields::{field_at, has_fields, has_number, has_word};
 use fp_lines::Node;
-use fp_model::limits::LAST_ROUND;
 use fp_prices::{Kind, LeafPrice};
 use fp_records::Record;
 
@@ -49,15 +48,6 @@ fn kind_of(line: &Record, tables: u32) -> Option<Kind>
     Some(Kind::Table { id })
 }
 
-// The round of a leaf; `None` exactly where it is above 4,000.
-fn round_of(line: &Record) -> Option<u32>
-    requires { has_number line.now 2 ≡ true }
-    ensures { MatchOption result (is_between 0 LAST_ROUND line.now 2 ≡ false)
-        (λ n. (is_between 0 LAST_ROUND line.now 2 ≡ true) × (n ≡ number_at line.now 2)) }
-{
-    short_between(field_at(line, 2), 0, LAST_ROUND)
-}
-
 // The leaf of a line, or the first of the line's faults.
 fn leaf_of(draft: &Draft, line: &Record) -> Result<Node, LineFault>
     requires { length draft.now.certificate.tables < 2 ^ 32 }
@@ -78,7 +68,7 @@ fn leaf_of(draft: &Draft, line: &Record) -> Result<Node, LineFault>
     let Some(kind) = kind_of(line, tables) else {
         return Err(LineFault::Range);
     };
-    let Some(round) = round_of(line) else {
+    let Some(round) = round_at(line, 2, 0) else {
         return Err(LineFault::Range);
     };
     let forced = has_word(line, 3, b"forced");

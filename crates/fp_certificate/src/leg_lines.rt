@@ -1,25 +1,17 @@
 //! Lines `leg,SHIPMENT,FROM,TO,DEPART,ARRIVE`.
-ghost use Rattle.std.specs.Prelude.{◌≡◌, ◌&&◌, Some, None, MatchResult};
+ghost use Rattle.std.specs.Prelude.{◌≡◌, Some, None, MatchResult};
 ghost use Rattle.fp_fields.specs.Findings.{IsFirstFault, first_code};
-ghost use Rattle.fp_fields.specs.Fields.{has_number};
 ghost use Rattle.fp_certificate.specs.Codes.{code_of};
 ghost use Rattle.fp_certificate.specs.Timetables.{leg_faults, leg_in, with_leg};
 
 use crate::drafts::Draft;
 use crate::groups::Group;
 use crate::line_faults::LineFault;
-use crate::line_fields::time_at;
-use fp_fields::fields::{has_fields, has_number};
+use crate::line_fields::{have_numbers, time_at};
+use fp_fields::fields::has_fields;
 use fp_fields::{Lookup, RecordError};
 use fp_records::Record;
 use fp_timetable::LegLine;
-
-// Whether the times are numbers.
-fn has_leg_digits(line: &Record) -> bool
-    ensures { result ≡ (has_number line.now 4 && has_number line.now 5) }
-{
-    has_number(line, 4) && has_number(line, 5)
-}
 
 // The leg of a line, or the first of the line's faults.
 fn leg_of(lookup: &Lookup<'_>, draft: &Draft, line: &Record) -> Result<LegLine, LineFault>
@@ -30,7 +22,7 @@ fn leg_of(lookup: &Lookup<'_>, draft: &Draft, line: &Record) -> Result<LegLine, 
     if !has_fields(line, 6) {
         return Err(LineFault::Fields);
     }
-    if !has_leg_digits(line) {
+    if !have_numbers(line, 4, 5) {
         return Err(LineFault::Digits);
     }
     if draft.is_misplaced(Group::Legs) {

@@ -13,14 +13,17 @@ mod leaf_lines;
 mod leg_lines;
 mod line_faults;
 mod line_fields;
+mod open_spans;
 mod open_tables;
 mod point_lines;
 mod reading;
 mod scale_lines;
 mod share_lines;
+mod span_lines;
 mod split_lines;
 mod table_lines;
 mod truck_lines;
+mod unit_lines;
 mod weight_lines;
 
 pub use faults::CertFault;

@@ -1,16 +1,24 @@
 //! The numbers in the fields of a line that is read.
-ghost use Rattle.std.specs.Prelude.{◌≡◌, true, false, MatchOption};
-ghost use Rattle.fp_fields.specs.Fields.{has_number, number_at};
+ghost use Rattle.std.specs.Prelude.{◌≡◌, ◌&&◌, true, false, MatchOption};
+ghost use Rattle.fp_fields.specs.Fields.{has_number, is_between, number_at};
+ghost use Rattle.fp_model.specs.declared.limits.TheConstants.{LAST_ROUND};
 ghost use Rattle.fp_certificate.specs.Answers.{is_figure};
 ghost use Rattle.fp_certificate.specs.Timetables.{is_time};
 
 use fp_fields::digits::{number_between, short_between};
-use fp_fields::fields::field_at;
-use fp_model::limits::LATEST;
+use fp_fields::fields::{field_at, has_number};
+use fp_model::limits::{LAST_ROUND, LATEST};
 use fp_records::Record;
 
-// The largest number that a field may have where no other limit is named: `2^127 - 1`.
-const LARGEST_FIGURE: u128 = 170_141_183_460_469_231_731_687_303_715_884_105_727;
+/// The largest number that a field may have where no other limit is named: `2^127 - 1`.
+pub const LARGEST_FIGURE: u128 = 170_141_183_460_469_231_731_687_303_715_884_105_727;
+
+/// Whether the fields at two places are numbers.
+pub fn have_numbers(line: &Record, place: usize, other: usize) -> bool
+    ensures { result ≡ (has_number line.now place && has_number line.now other) }
+{
+    has_number(line, place) && has_number(line, other)
+}
 
 /// The number in the field at a place; `None` exactly where it is above `2^127 - 1`.
 pub fn figure_at(line: &Record, place: usize) -> Option<u128>
@@ -26,4 +34,13 @@ pub fn time_at(line: &Record, place: usize) -> Option<u32>
     ensures { MatchOption result (is_time line.now place ≡ false) (λ n. (is_time line.now place ≡ true) × (n ≡ number_at line.now place)) }
 {
     short_between(field_at(line, place), 0, LATEST)
+}
+
+/// The round in the field at a place; `None` exactly where it isn't from the least to 4,000.
+pub fn round_at(line: &Record, place: usize, least: u32) -> Option<u32>
+    requires { has_number line.now place ≡ true }
+    ensures { MatchOption result (is_between least LAST_ROUND line.now place ≡ false)
+        (λ n. (is_between least LAST_ROUND line.now place ≡ true) × (n ≡ number_at line.now place)) }
+{
+    short_between(field_at(line, place), least, LAST_ROUND)
 }

@@ -1,37 +1,17 @@
 //! Lines `point,TERMINAL,TIME,ROUND`.
-ghost use Rattle.std.specs.Prelude.{◌≡◌, ◌<◌, false, ◌&&◌, Some, None, true, MatchOption, MatchResult};
+ghost use Rattle.std.specs.Prelude.{◌≡◌, Some, None, MatchResult};
 ghost use Rattle.fp_fields.specs.Findings.{IsFirstFault, first_code};
-ghost use Rattle.fp_fields.specs.Fields.{has_number, is_between, number_at};
-ghost use Rattle.fp_model.specs.declared.limits.TheConstants.{LAST_ROUND};
 ghost use Rattle.fp_certificate.specs.Codes.{code_of};
 ghost use Rattle.fp_certificate.specs.Points.{point_faults, point_in, with_point};
 
 use crate::drafts::Draft;
 use crate::groups::Group;
 use crate::line_faults::LineFault;
-use crate::line_fields::time_at;
-use fp_fields::digits::short_between;
-use fp_fields::fields::{field_at, has_fields, has_number};
+use crate::line_fields::{have_numbers, round_at, time_at};
+use fp_fields::fields::has_fields;
 use fp_fields::{Lookup, RecordError};
-use fp_model::limits::LAST_ROUND;
 use fp_records::Record;
 use fp_timenodes::AddedPoint;
-
-// Whether the time and the round are numbers.
-fn has_point_digits(line: &Record) -> bool
-    ensures { result ≡ (has_number line.now 2 && has_number line.now 3) }
-{
-    has_number(line, 2) && has_number(line, 3)
-}
-
-// The round of a point; `None` exactly where it isn't 1 to 4,000.
-fn round_of(line: &Record) -> Option<u32>
-    requires { has_number line.now 3 ≡ true }
-    ensures { MatchOption result (is_between 1 LAST_ROUND line.now 3 ≡ false)
-        (λ n. (is_between 1 LAST_ROUND line.now 3 ≡ true) × (n ≡ number_at line.now 3)) }
-{
-    short_between(field_at(line, 3), 1, LAST_ROUND)
-}
 
 // The point of a line, or the first of the line's faults.
 fn point_of(lookup: &Lookup<'_>, draft: &Draft, line: &Record) -> Result<AddedPoint, LineFault>
@@ -42,7 +22,7 @@ fn point_of(lookup: &Lookup<'_>, draft: &Draft, line: &Record) -> Result<AddedPo
     if !has_fields(line, 4) {
         return Err(LineFault::Fields);
     }
-    if !has_point_digits(line) {
+    if !have_numbers(line, 2, 3) {
         return Err(LineFault::Digits);
     }
     if draft.is_misplaced(Group::Points) {
@@ -54,7 +34,7 @@ fn point_of(lookup: &Lookup<'_>, draft: &Draft, line: &Record) -> Result<AddedPo
     let Some(at) = time_at(line, 2) else {
         return Err(LineFault::Range);
     };
-    let Some(round) = round_of(line) else {
+    let Some(round) = round_at(line, 3, 1) else {
         return Err(LineFault::Range);
     };
     Ok(AddedPoint {

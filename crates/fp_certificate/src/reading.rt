@@ -1,6 +1,7 @@
 //! Reads a certificate.
-ghost use Rattle.std.specs.Prelude.{◌≡◌, ◌≤◌, ◌+◌, ◌-◌, ◌^◌, ◌<◌, ℕ, drop, length, Err, IfOk, MatchResult, None, Ok};
+ghost use Rattle.std.specs.Prelude.{◌≡◌, ◌≤◌, ◌+◌, ◌-◌, ◌^◌, ◌<◌, ℕ, List, drop, length, All, Err, IfOk, MatchResult, None, Ok};
 ghost use Rattle.fp_prices.specs.Tables.{AreCountable};
+ghost use Rattle.fp_spans.specs.Spans.{ClassSpan};
 ghost use Rattle.fp_fields.specs.Indexes.{entries_of};
 ghost use Rattle.fp_fields.specs.Findings.{IsFirstFault, first_code};
 ghost use Rattle.fp_certificate.specs.Codes.{code_of};
@@ -19,9 +20,11 @@ use crate::line_faults::LineFault;
 use crate::point_lines::read_point;
 use crate::scale_lines::read_scale;
 use crate::share_lines::read_share;
+use crate::span_lines::read_span;
 use crate::split_lines::{read_by_arc, read_by_time};
 use crate::table_lines::read_table;
 use crate::truck_lines::read_truck;
+use crate::unit_lines::read_unit;
 use crate::weight_lines::read_weight;
 use fp_fields::{Index, Lookup, RecordError};
 use fp_lines::Certificate;
@@ -48,11 +51,13 @@ fn read_kind(
         LineKind::Unfinished => read_unfinished(draft, line),
         LineKind::Infeasible => read_infeasible(lookup, draft, line),
         LineKind::Scale => read_scale(lookup, draft, line),
+        LineKind::Unit => read_unit(draft, line),
         LineKind::Leg => read_leg(lookup, draft, line),
         LineKind::Truck => read_truck(lookup, draft, line),
         LineKind::Point => read_point(lookup, draft, line),
         LineKind::Table => read_table(alloc, draft, line),
         LineKind::Share => read_share(alloc, lookup, draft, line),
+        LineKind::Span => read_span(alloc, lookup, draft, line),
         LineKind::Weight => read_weight(lookup, draft, line),
         LineKind::ByArc => read_by_arc(lookup, draft, line),
         LineKind::ByTime => read_by_time(lookup, draft, line),
@@ -114,12 +119,13 @@ fn draft_of(
 ///
 /// There are fewer than `2^32 - 1` records, and `from` is at most their number. Ordinals count from
 /// 1 over all records. The records are the lines that [`fp_lines::write`] tells of, in that order;
-/// legs, trucks, shares and weights may stand in any order among themselves. A number is one or
-/// more ASCII digits, leading zeros allowed. A certificate that was read is in range: times are at
-/// most 100,000, rounds at most 4,000, a point's round at least 1, a fastest time at most
-/// 10,000,000, a scale is 1 to 1,000,000,000 and fits the instance, all other numbers are at most
-/// `2^127 - 1`, and the tables that leaves name exist. Its tables, and the shares of each, are
-/// fewer than `2^32 - 1`.
+/// legs, trucks, shares, spans and weights may stand in any order among themselves. A number is one
+/// or more ASCII digits, leading zeros allowed. A certificate that was read is in range: times are
+/// at most 100,000, a span ends after its point and at most at 100,001, rounds are at most 4,000, a
+/// point's round at least 1, a fastest time at most 10,000,000, a scale is 1 to 1,000,000,000 and
+/// fits the instance, a unit is at least 1, all other numbers are at most `2^127 - 1`, and the
+/// tables that leaves name exist. Its tables, and the shares and the spans of each, are fewer than
+/// `2^32 - 1`.
 ///
 /// `Bad` comes exactly where there is a fault: the first record with one decides ([`CertFault`] has
 /// the codes). `NoMemory` comes only where no memory is found.
@@ -136,6 +142,7 @@ pub fn read(
         → certificate_of instance.now (from + 1) (drop from lines.now) ≡ Err (record { ordinal = ordinal; code = code }) }
     ensures range { IfOk result (IsInRange instance.now) }
     ensures countable { IfOk result (λ c. AreCountable instance.now c.tables) }
+    ensures few { IfOk result (λ c. All (λ (list : List ClassSpan). length list < 2 ^ 32 - 1) c.spans) }
 {
     let index = Index::of(alloc, instance)?;
     read_with_index(alloc, instance, &index, lines, from)
@@ -157,6 +164,7 @@ pub fn read_with_index(
         → certificate_of instance.now (from + 1) (drop from lines.now) ≡ Err (record { ordinal = ordinal; code = code }) }
     ensures range { IfOk result (IsInRange instance.now) }
     ensures countable { IfOk result (λ c. AreCountable instance.now c.tables) }
+    ensures few { IfOk result (λ c. All (λ (list : List ClassSpan). length list < 2 ^ 32 - 1) c.spans) }
 {
     let lookup = Lookup::new(instance, index);
     let draft = draft_of(alloc, &lookup, &lines[from..], from + 1)?;

@@ -1,26 +1,19 @@
 //! Lines `share,FROM,TO,POINT,V`, each followed by its weights.
-ghost use Rattle.std.specs.Prelude.{◌≡◌, ◌<◌, length, OnOk, ◌&&◌, Some, None, MatchResult};
+ghost use Rattle.std.specs.Prelude.{◌≡◌, ◌<◌, length, OnOk, Some, None, MatchResult};
 ghost use Rattle.fp_fields.specs.Findings.{IsFirstFault, first_code};
-ghost use Rattle.fp_fields.specs.Fields.{has_number};
 ghost use Rattle.fp_certificate.specs.Codes.{code_of};
 ghost use Rattle.fp_certificate.specs.Tables.{share_faults, share_in, with_share};
 
 use crate::drafts::Draft;
 use crate::groups::Group;
 use crate::line_faults::LineFault;
-use crate::line_fields::{figure_at, time_at};
-use fp_fields::fields::{has_fields, has_number};
+use crate::line_fields::{figure_at, have_numbers, time_at};
+use crate::open_spans::has_span;
+use fp_fields::fields::has_fields;
 use fp_fields::{Lookup, RecordError};
 use fp_prices::Share;
 use fp_records::Record;
 use std::alloc::Global;
-
-// Whether the point and the price are numbers.
-fn has_share_digits(line: &Record) -> bool
-    ensures { result ≡ (has_number line.now 3 && has_number line.now 4) }
-{
-    has_number(line, 3) && has_number(line, 4)
-}
 
 // The share of a line, which has no weights yet, or the first of the line's faults.
 fn share_of(
@@ -37,10 +30,13 @@ fn share_of(
     if !has_fields(line, 5) {
         return Err(LineFault::Fields);
     }
-    if !has_share_digits(line) {
+    if !have_numbers(line, 3, 4) {
         return Err(LineFault::Digits);
     }
-    if draft.is_misplaced(Group::Tables) || draft.certificate.tables.is_empty() {
+    if draft.is_misplaced(Group::Tables)
+        || draft.certificate.tables.is_empty()
+        || has_span(&draft.certificate.spans)
+    {
         return Err(LineFault::Order);
     }
     let Some(arc) = lookup.arc_at(line, 1, 2) else {

@@ -1,4 +1,4 @@
-//! Lines `table,ID`, each followed by its shares.
+//! Lines `table,ID`, each followed by its shares and then by its spans.
 ghost use Rattle.std.specs.Prelude.{◌≡◌, ◌+◌, ◌==◌, Some, None, true, length, MatchResult};
 ghost use Rattle.fp_fields.specs.Findings.{IsFirstFault, first_code};
 ghost use Rattle.fp_fields.specs.Fields.{has_number, number_at};
@@ -41,7 +41,7 @@ fn test_table(draft: &Draft, line: &Record) -> Result<(), LineFault>
     Ok(())
 }
 
-/// Adds a table without shares, or tells the first of the line's faults.
+/// Adds a table with neither shares nor spans, or tells the first of the line's faults.
 pub fn read_table(
     alloc: Global,
     draft: &mut Draft,

@@ -1,25 +1,17 @@
 //! Lines `truck,FROM,TO,DEPART,TRUCKS,LOAD`.
-ghost use Rattle.std.specs.Prelude.{◌≡◌, ◌&&◌, Some, None, MatchResult};
+ghost use Rattle.std.specs.Prelude.{◌≡◌, Some, None, MatchResult};
 ghost use Rattle.fp_fields.specs.Findings.{IsFirstFault, first_code};
-ghost use Rattle.fp_fields.specs.Fields.{has_number};
 ghost use Rattle.fp_certificate.specs.Codes.{code_of};
 ghost use Rattle.fp_certificate.specs.Timetables.{truck_faults, truck_in, with_truck};
 
 use crate::drafts::Draft;
 use crate::groups::Group;
 use crate::line_faults::LineFault;
-use crate::line_fields::{figure_at, time_at};
+use crate::line_fields::{figure_at, have_numbers, time_at};
 use fp_fields::fields::{has_fields, has_number};
 use fp_fields::{Lookup, RecordError};
 use fp_records::Record;
 use fp_timetable::TruckLine;
-
-// Whether the time, the trucks and the load are numbers.
-fn has_truck_digits(line: &Record) -> bool
-    ensures { result ≡ (has_number line.now 3 && has_number line.now 4 && has_number line.now 5) }
-{
-    has_number(line, 3) && has_number(line, 4) && has_number(line, 5)
-}
 
 // The departure of a line, or the first of the line's faults.
 fn truck_of(lookup: &Lookup<'_>, draft: &Draft, line: &Record) -> Result<TruckLine, LineFault>
@@ -30,7 +22,7 @@ fn truck_of(lookup: &Lookup<'_>, draft: &Draft, line: &Record) -> Result<TruckLi
     if !has_fields(line, 6) {
         return Err(LineFault::Fields);
     }
-    if !has_truck_digits(line) {
+    if !have_numbers(line, 3, 4) || !has_number(line, 5) {
         return Err(LineFault::Digits);
     }
     if draft.is_misplaced(Group::Trucks) {

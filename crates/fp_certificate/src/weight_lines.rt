@@ -1,14 +1,15 @@
 //! Lines `weight,SHIPMENT,W`.
-ghost use Rattle.std.specs.Prelude.{◌≡◌, false, OnOk, Some, None, MatchResult};
+ghost use Rattle.std.specs.Prelude.{◌≡◌, ◌&&◌, false, not, OnOk, Some, None, MatchResult};
 ghost use Rattle.fp_fields.specs.Findings.{IsFirstFault, first_code};
 ghost use Rattle.fp_fields.specs.Fields.{has_number};
 ghost use Rattle.fp_certificate.specs.Codes.{code_of};
-ghost use Rattle.fp_certificate.specs.Tables.{lacks_share, weight_faults, weight_in, with_weight};
+ghost use Rattle.fp_certificate.specs.Tables.{has_span, lacks_share, weight_faults, weight_in, with_weight};
 
 use crate::drafts::Draft;
 use crate::groups::Group;
 use crate::line_faults::LineFault;
 use crate::line_fields::figure_at;
+use crate::open_spans::has_span;
 use crate::open_tables::lacks_share;
 use fp_fields::fields::{has_fields, has_number};
 use fp_fields::{Lookup, RecordError};
@@ -20,7 +21,7 @@ fn weight_of(lookup: &Lookup<'_>, draft: &Draft, line: &Record) -> Result<Weight
     ensures faults { MatchResult result
         (λ weight. (first_code (weight_faults lookup.now draft.now line.now) ≡ None) × (weight ≡ weight_in lookup.now line.now))
         (λ fault. first_code (weight_faults lookup.now draft.now line.now) ≡ Some (code_of fault)) }
-    ensures share { OnOk result (lacks_share draft.now.certificate.tables ≡ false) }
+    ensures some { OnOk result ((not (has_span draft.now.certificate.spans) && lacks_share draft.now.certificate.tables) ≡ false) }
 {
     if !has_fields(line, 3) {
         return Err(LineFault::Fields);
@@ -28,7 +29,9 @@ fn weight_of(lookup: &Lookup<'_>, draft: &Draft, line: &Record) -> Result<Weight
     if !has_number(line, 2) {
         return Err(LineFault::Digits);
     }
-    if draft.is_misplaced(Group::Tables) || lacks_share(&draft.certificate.tables) {
+    if draft.is_misplaced(Group::Tables)
+        || (!has_span(&draft.certificate.spans) && lacks_share(&draft.certificate.tables))
+    {
         return Err(LineFault::Order);
     }
     let Some(shipment) = lookup.shipment_at(line, 1) else {
@@ -40,7 +43,7 @@ fn weight_of(lookup: &Lookup<'_>, draft: &Draft, line: &Record) -> Result<Weight
     Ok(Weight { shipment, w })
 }
 
-/// Adds the weight of a line to the last share, or tells the first of the line's faults.
+/// Adds the weight of a line to the last span or share, or tells the first of the line's faults.
 pub fn read_weight(
     lookup: &Lookup<'_>,
     draft: &mut Draft,

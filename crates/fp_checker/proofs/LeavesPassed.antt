@@ -16,9 +16,11 @@ use Rattle.fp_tree.proofs.Walks.{leaves_of-none, leaves_on-leaf, leaves_on-split
 use Rattle.fp_prices.specs.declared.bounds.LeafBound.{LeafBound}
 use Rattle.fp_prices.specs.declared.bounds.LeafBound.TheVariants.{Empty, Value}
 use Rattle.fp_prices.specs.declared.leaf_prices.LeafPrice.{LeafPrice}
-use Rattle.fp_prices.specs.Leaves.{IsBoundOf, IsLeafEmpty, IsLeafValue}
-use Rattle.fp_prices.proofs.OneValue.{leaf-value-some, leaf-value-unique}
-use Rattle.fp_prices.proofs.SamePoints.{bound-same}
+use Rattle.fp_prices.specs.Leaves.{IsLeafEmpty}
+use Rattle.fp_spans.specs.SpanKinds.{IsPricedValue, spans_beside}
+use Rattle.fp_spans.specs.SpanLeaves.{IsSpanBoundOf}
+use Rattle.fp_spans.proofs.OneSpanValue.{span_leaves-have-one-value}
+use Rattle.fp_spans.proofs.SameSpanValues.{span_bound-same}
 use Rattle.fp_lines.specs.declared.certificates.Node.{Node}
 use Rattle.fp_lines.specs.declared.certificates.Node.TheVariants as node
 use Rattle.fp_lines.specs.Statements.{Statement}
@@ -26,6 +28,7 @@ use Rattle.fp_acceptance.specs.Accepted.{claim_of}
 use Rattle.fp_acceptance.specs.Leaves.{IsLeafWorth, fork_of, split_tail}
 use Rattle.fp_checker.specs.Bounds.{IsBoundWorth}
 use Rattle.fp_acceptance.specs.Points.{ArePointsOf, points_as_of}
+use Rattle.fp_acceptance.specs.Units.{rounded_up}
 use Rattle.fp_checker.proofs.TreeNodes.{nodes-from}
 
 -- a leaf is worth what a certificate claims
@@ -82,8 +85,8 @@ worth-last p table c whole way nodes i d price lt is same worth ended =
 
 -- a bound tells whether its leaf is worth a claim
 told-worth : (p : Problem) (table : WindowTable) (c : Statement) (claim : ℕ) (price : LeafPrice) (sides : List Side) (bound : LeafBound) →
-    IsBoundOf p (windows_in table) (points_as_of p table.anchors c price.round) sides c.tables price.kind price.forced bound →
-    (IsBoundWorth p.scale claim bound ↔ IsLeafWorth p table c claim (node.Leaf price) sides)
+    IsSpanBoundOf p (windows_in table) (points_as_of p table.anchors c price.round) sides c.tables (spans_beside c.spans price.kind) price.kind price.forced bound →
+    (IsBoundWorth c.unit p.scale claim bound ↔ IsLeafWorth p table c claim (node.Leaf price) sides)
 told-worth p table c claim price sides (Empty shipment) is = (λ _. inl (record { shipment = shipment; exists = is.exists; none = is.none }), λ _. tt)
 told-worth p table c claim price sides (Value value) is =
     let points : ℕ → List ℕ = points_as_of p table.anchors c price.round in (
@@ -91,17 +94,17 @@ told-worth p table c claim price sides (Value value) is =
       λ worth.
           ⊎_elim
           (λ (empty : IsLeafEmpty p (windows_in table) points sides).
-          absurd (leaf-value-some p (windows_in table) points sides c.tables price.kind price.forced value is empty))
-          (λ (leaf : (v : ℕ) × IsLeafValue p (windows_in table) points sides c.tables price.kind price.forced v × (claim ≤ div_ceil v p.scale)).
-          subst (λ (n : ℕ). claim ≤ div_ceil n p.scale) (leaf-value-unique p (windows_in table) points sides c.tables price.kind price.forced leaf.0 value leaf.1 is) leaf.2)
+          absurd (span_leaves-have-one-value.some p (windows_in table) points sides c.tables (spans_beside c.spans price.kind) price.kind price.forced value is empty))
+          (λ (leaf : (v : ℕ) × IsPricedValue p (windows_in table) points sides c.tables c.spans price.kind price.forced v × (claim ≤ rounded_up c.unit (div_ceil v p.scale))).
+          subst (λ (n : ℕ). claim ≤ rounded_up c.unit (div_ceil n p.scale)) (span_leaves-have-one-value.one p (windows_in table) points sides c.tables (spans_beside c.spans price.kind) price.kind price.forced leaf.0 value leaf.1 is) leaf.2)
           worth,
     )
 
 -- also a bound over the points that were made
 pub bound-worth : (p : Problem) (table : WindowTable) (c : Statement) (claim : ℕ) (v : TimePoints) (price : LeafPrice) (sides : List Side) (bound : LeafBound) → IsValid p → ArePointsOf p table.anchors c.points v →
-    IsBoundOf p (windows_in table) (λ terminal. points_at v terminal price.round) sides c.tables price.kind price.forced bound →
-    (IsBoundWorth p.scale claim bound ↔ IsLeafWorth p table c claim (node.Leaf price) sides)
+    IsSpanBoundOf p (windows_in table) (λ terminal. points_at v terminal price.round) sides c.tables (spans_beside c.spans price.kind) price.kind price.forced bound →
+    (IsBoundWorth c.unit p.scale claim bound ↔ IsLeafWorth p table c claim (node.Leaf price) sides)
 bound-worth p table c claim v price sides bound valid are is =
     told-worth p table c claim price sides bound
-    (bound-same p valid (windows_in table) (λ terminal. points_at v terminal price.round) (points_as_of p table.anchors c price.round) (λ terminal lt. are.same terminal price.round lt)
-    sides c.tables price.kind price.forced bound is)
+    (span_bound-same p valid (windows_in table) (λ terminal. points_at v terminal price.round) (points_as_of p table.anchors c price.round) (λ terminal lt. are.same terminal price.round lt)
+    sides c.tables (spans_beside c.spans price.kind) price.kind price.forced bound is)

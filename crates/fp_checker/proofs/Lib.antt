@@ -5,3 +5,4 @@ pub mod TreeNodes
 pub mod SharesInOrder
 pub mod LeavesPassed
 pub mod FirstParts
+pub mod Spanned

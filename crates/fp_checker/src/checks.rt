@@ -1,10 +1,11 @@
 //! Tests a certificate part by part.
-ghost use Rattle.std.specs.Prelude.{ℕ, ◌≡◌, ◌<◌, ◌≤◌, IfOk, OnOk, length};
+ghost use Rattle.std.specs.Prelude.{ℕ, ◌≡◌, ◌<◌, ◌≤◌, ◌-◌, ◌^◌, List, All, IfOk, OnOk, length};
 ghost use Rattle.fp_model.specs.Numbered.{shipment_at};
 ghost use Rattle.fp_flatnet.specs.Belonging.{BelongsTo};
 ghost use Rattle.fp_flatnet.specs.Tables.{windows_in};
 ghost use Rattle.fp_flatnet.specs.Windows.{AreWindows};
 ghost use Rattle.fp_prices.specs.Tables.{AreCountable};
+ghost use Rattle.fp_spans.specs.Spans.{ClassSpan};
 ghost use Rattle.fp_lines.specs.Ranges.{IsInRange};
 ghost use Rattle.fp_acceptance.specs.Accepted.{IsAccepted, IsTooLate};
 ghost use Rattle.fp_checker.specs.Rejections.{IsPlanRejected, TellsPlan, IsFirstUnmet, HoldBelow, IsFirstFailed};
@@ -16,11 +17,11 @@ use crate::departures::are_same;
 use crate::fastest_times::is_too_late;
 use crate::leaves::are_leaves_worth;
 use crate::plans::told_plan;
-use crate::price_tables::are_tables;
+use crate::prices::has_prices;
 use crate::rejections::{BLOCKED, COST, LEAVES, PLAN, PRICES, Rejected, TREE, TRUCKS};
 use crate::trees::{is_tree, split_count};
-use fp_certificate::{Answer, Certificate};
 use fp_flatnet::Windows;
+use fp_lines::{Answer, Certificate};
 use fp_model::{Instance, Plan};
 use fp_timetable::{plan_cost, trucks};
 use fp_tree::MOST_SPLITS;
@@ -73,13 +74,14 @@ fn test_bound(
     requires belongs { BelongsTo instance.now windows.now }
     requires range { IsInRange instance.now certificate.now }
     requires countable { AreCountable instance.now certificate.now.tables }
+    requires few { All (λ (list : List ClassSpan). length list < 2 ^ 32 - 1) certificate.now.spans }
     requires timetable { HasTimetable instance.now (windows_in windows.now) certificate.now }
     ensures holds { OnOk result (HoldBelow instance.now windows.now certificate.now BLOCKED) }
     ensures part { (number : ℕ) → result ≡ Err (Rejected.Part number) →
         (number ≤ 7) × IsFirstUnmet instance.now windows.now certificate.now number }
 {
     let points = told_points(alloc, instance, windows, certificate.points.as_slice())?;
-    if !are_tables(instance, certificate.tables.as_slice()) {
+    if !has_prices(alloc, instance, certificate)? {
         return Err(Rejected::Part { number: PRICES });
     }
     let nodes = certificate.tree.as_slice();
@@ -103,6 +105,7 @@ fn test_claim(
     requires belongs { BelongsTo instance.now windows.now }
     requires range { IsInRange instance.now certificate.now }
     requires countable { AreCountable instance.now certificate.now.tables }
+    requires few { All (λ (list : List ClassSpan). length list < 2 ^ 32 - 1) certificate.now.spans }
     ensures holds { OnOk result (HoldBelow instance.now windows.now certificate.now BLOCKED) }
     ensures part { (number : ℕ) → result ≡ Err (Rejected.Part number) →
         (number ≤ 7) × IsFirstUnmet instance.now windows.now certificate.now number }
@@ -141,6 +144,7 @@ fn test_parts(
     requires belongs { BelongsTo instance.now windows.now }
     requires range { IsInRange instance.now certificate.now }
     requires countable { AreCountable instance.now certificate.now.tables }
+    requires few { All (λ (list : List ClassSpan). length list < 2 ^ 32 - 1) certificate.now.spans }
     ensures accepted { OnOk result (IsAccepted instance.now windows.now certificate.now) }
     ensures part { (number : ℕ) → result ≡ Err (Rejected.Part number) →
         IsFirstFailed instance.now windows.now certificate.now number }
@@ -165,8 +169,8 @@ fn test_parts(
 /// `Rejected` tells the first part that fails.
 ///
 /// The instance has the scale of prices under which the certificate was made. The certificate's
-/// numbers are in range, as those of one that was read, and there are fewer than `2^32 - 1` tables
-/// and shares in each. Takes time that grows with its lines, but for the leaves, each of which is
+/// numbers are in range, as those of one that was read, and there are fewer than `2^32 - 1` tables,
+/// and shares and spans of each. Takes time that grows with its lines, but for the leaves, each of which is
 /// bounded anew. `NoMemory` only where no memory is found.
 pub fn check(
     alloc: Global,
@@ -177,6 +181,7 @@ pub fn check(
     requires belongs { BelongsTo instance.now windows.now }
     requires range { IsInRange instance.now certificate.now }
     requires countable { AreCountable instance.now certificate.now.tables }
+    requires few { All (λ (list : List ClassSpan). length list < 2 ^ 32 - 1) certificate.now.spans }
     ensures accepted { OnOk result (IsAccepted instance.now windows.now certificate.now) }
     ensures part { (number : ℕ) → result ≡ Err (Rejected.Part number) →
         IsFirstFailed instance.now windows.now certificate.now number }

@@ -1,20 +1,27 @@
 //! What the leaves of a certificate's tree are worth.
-ghost use Rattle.std.specs.Prelude.{◌≡◌, ◌≤◌, ◌↔◌, IfOk, IsTrue};
+ghost use Rattle.std.specs.Prelude.{◌≡◌, ◌≤◌, ◌↔◌, IfOk, IfSome, IsTrue};
 ghost use Rattle.fp_flatnet.specs.Belonging.{BelongsTo};
 ghost use Rattle.fp_prices.specs.RoundBounds.{AreRoundBounds};
-ghost use Rattle.fp_prices.specs.Tables.{AreTables, HasKind};
+ghost use Rattle.fp_prices.specs.Tables.{HasKind};
+ghost use Rattle.fp_spans.specs.SpanKinds.{spans_beside as spans_beside_table};
+ghost use Rattle.fp_spans.specs.SpanLeaves.{IsSpanBoundOf};
+ghost use Rattle.fp_flatnet.specs.Tables.{windows_in};
+ghost use Rattle.fp_timenodes.specs.Points.{points_at};
 ghost use Rattle.fp_lines.specs.declared.certificates.Node.TheVariants as node;
 ghost use Rattle.fp_lines.specs.Ranges.{IsInRange, IsSplitInRange};
 ghost use Rattle.fp_acceptance.specs.Accepted.{claim_of as claim_of_answer};
 ghost use Rattle.fp_acceptance.specs.Leaves.{AreLeavesWorth, IsLeafWorth, split_tail as tail_of_split};
 ghost use Rattle.fp_checker.specs.Bounds.{IsBoundWorth};
 ghost use Rattle.fp_acceptance.specs.Points.{ArePointsOf};
+ghost use Rattle.fp_acceptance.specs.Prices.{HasPrices};
 
 use crate::NoMemory;
-use fp_certificate::{Answer, Certificate, Node};
+use fp_acceptance::reaches;
 use fp_flatnet::Windows;
+use fp_lines::{Answer, Certificate, Node};
 use fp_model::Instance;
 use fp_prices::{Kind, LeafBound, LeafPrice, RoundBounds};
+use fp_spans::{span_bound_of, spans_beside};
 use fp_timenodes::Points;
 use fp_tree::{Side, Split, Way};
 use std::alloc::Global;
@@ -41,15 +48,51 @@ fn claim_of(answer: Answer) -> u128
     }
 }
 
-// Whether a leaf of this bound is empty, or worth a claim in whole units of money.
-fn is_bound_worth(bound: LeafBound, scale: u32, claim: u128) -> bool
-    requires { 1 ≤ scale }
-    ensures { IsTrue result ↔ IsBoundWorth scale claim bound }
+// Whether a leaf of this bound is empty, or worth a claim in whole units of money, rounded up to a
+// multiple of the unit.
+fn is_bound_worth(bound: LeafBound, scale: u32, unit: Option<u128>, claim: u128) -> bool
+    requires scale { 1 ≤ scale }
+    requires unit { IfSome unit (λ u. 1 ≤ u) }
+    ensures { IsTrue result ↔ IsBoundWorth unit scale claim bound }
 {
     match bound {
         LeafBound::Empty { .. } => true,
-        LeafBound::Value { value } => claim <= value.div_ceil(u128::from(scale)),
+        LeafBound::Value { value } => reaches(value.div_ceil(u128::from(scale)), unit, claim),
     }
+}
+
+// The bound of a leaf under sides by the certificate's prices, with what is kept for the leaves after
+// it.
+fn leaf_bound<'a>(
+    alloc: Global,
+    instance: &'a Instance,
+    windows: &Windows,
+    certificate: &Certificate,
+    points: &Points,
+    sides: &[Side],
+    price: LeafPrice,
+    kept: RoundBounds<'a>,
+) -> Result<(LeafBound, RoundBounds<'a>), NoMemory>
+    requires belongs { BelongsTo instance.now windows.now }
+    requires range { IsInRange instance.now certificate.now }
+    requires points { ArePointsOf instance.now windows.now.anchors certificate.now.points
+        points.now }
+    requires prices { HasPrices instance.now certificate.now }
+    requires kind { HasKind certificate.now.tables price.kind }
+    requires kept { AreRoundBounds instance.now points.now certificate.now.tables kept }
+    ensures exact { IfOk result (λ found. IsSpanBoundOf instance.now (windows_in windows.now) (λ terminal. points_at points.now terminal price.round)
+        sides.now certificate.now.tables (spans_beside_table certificate.now.spans price.kind) price.kind price.forced found.0) }
+    ensures kept { IfOk result (λ found. AreRoundBounds instance.now points.now certificate.now.tables found.1) }
+{
+    let tables = certificate.tables.as_slice();
+    let spans = spans_beside(&certificate.spans, price.kind);
+    if spans.is_empty() {
+        return kept.bound(alloc, instance, windows, points, tables, sides, price);
+    }
+    let bound = span_bound_of(
+        alloc, instance, windows, points, sides, tables, spans, price,
+    )?;
+    Ok((bound, kept))
 }
 
 // Whether a leaf under sides is worth what the certificate claims, with what is kept for the leaves
@@ -65,18 +108,28 @@ fn is_leaf_worth<'a>(
     kept: RoundBounds<'a>,
 ) -> Result<(bool, RoundBounds<'a>), NoMemory>
     requires belongs { BelongsTo instance.now windows.now }
+    requires range { IsInRange instance.now certificate.now }
     requires points { ArePointsOf instance.now windows.now.anchors certificate.now.points
         points.now }
-    requires tables { AreTables instance.now certificate.now.tables }
+    requires prices { HasPrices instance.now certificate.now }
     requires kind { HasKind certificate.now.tables price.kind }
     requires kept { AreRoundBounds instance.now points.now certificate.now.tables kept }
     ensures worth { IfOk result (λ found. IsTrue found.0
         ↔ IsLeafWorth instance.now windows.now certificate.now (claim_of_answer certificate.now.answer) (node.Leaf price) sides.now) }
     ensures kept { IfOk result (λ found. AreRoundBounds instance.now points.now certificate.now.tables found.1) }
 {
-    let tables = certificate.tables.as_slice();
-    let found = kept.bound(alloc, instance, windows, points, tables, sides, price)?;
-    let is_worth = is_bound_worth(found.0, instance.scale(), claim_of(certificate.answer));
+    let found = leaf_bound(
+        alloc,
+        instance,
+        windows,
+        certificate,
+        points,
+        sides,
+        price,
+        kept,
+    )?;
+    let claim = claim_of(certificate.answer);
+    let is_worth = is_bound_worth(found.0, instance.scale(), certificate.unit, claim);
     Ok((is_worth, found.1))
 }
 
@@ -93,7 +146,7 @@ pub(crate) fn are_leaves_worth(
     requires range { IsInRange instance.now certificate.now }
     requires points { ArePointsOf instance.now windows.now.anchors certificate.now.points
         points.now }
-    requires tables { AreTables instance.now certificate.now.tables }
+    requires prices { HasPrices instance.now certificate.now }
     ensures { IfOk result (λ worth. IsTrue worth
         ↔ AreLeavesWorth instance.now windows.now certificate.now (claim_of_answer certificate.now.answer)) }
 {

@@ -12,7 +12,9 @@ mod fastest_times;
 mod leaves;
 mod orders;
 mod plans;
+mod price_spans;
 mod price_tables;
+mod prices;
 mod rejections;
 mod trees;
 

@@ -4,7 +4,7 @@ ghost use Rattle.fp_model.specs.Problem.{Problem};
 ghost use Rattle.fp_tree.specs.Trees.{IsTree, tree_splits};
 ghost use Rattle.fp_acceptance.specs.Leaves.{fork_of};
 
-use fp_certificate::Node;
+use fp_lines::Node;
 
 // Whether the nodes are exactly one tree in preorder: as long as nodes are to come, a split opens
 // one more tree, and a leaf ends one.

@@ -11,15 +11,15 @@ shared = record { arc = 0; point = 0; v = 7; weights = record { shipment = 0; w 
 by_size : ClassShare
 by_size = record { arc = 0; point = 4; v = 10; weights = [] }
 
--- the line of the first and those of its weights, and the line of the second
-four_lines : line_count (shared ∷ (by_size ∷ [])) ≡ 4
+-- the table's own line, that of the first share and those of its weights, and that of the second
+five_lines : line_count (shared ∷ (by_size ∷ [])) ≡ 5
 unfolding shared by_size
-four_lines = refl
+five_lines = refl
 
 no_lines : line_total [] ≡ 0
 no_lines = refl
 
 -- two tables
-six_lines : line_total ((shared ∷ (by_size ∷ [])) ∷ ((by_size ∷ (by_size ∷ [])) ∷ [])) ≡ 6
+eight_lines : line_total ((shared ∷ (by_size ∷ [])) ∷ ((by_size ∷ (by_size ∷ [])) ∷ [])) ≡ 8
 unfolding shared by_size
-six_lines = refl
+eight_lines = refl

@@ -12,6 +12,7 @@ use Rattle.fp_prices.specs.declared.leaf_prices.LeafPrice.{LeafPrice}
 use Rattle.fp_prices.specs.EarnedLeaves.{IsEarnedLeaf}
 use Rattle.fp_prices.specs.Shares.{ClassShare}
 use Rattle.fp_prices.proofs.TableAppends.{IsLeafValue-append}
+use Rattle.fp_duals.specs.Starts.{IsStartKind}
 use Rattle.fp_duals.specs.Improvements.{AddsTable, IsPriced}
 
 module _ (p : Problem) (windows : ℕ → ℕ → Option Window) (points : ℕ → List ℕ) (sides : List Side) (before after : List (List ClassShare)) (inherited : Kind) (round : ℕ) (price : LeafPrice) (value : ℕ) (walks : List (List Leg))
@@ -32,5 +33,5 @@ module _ (p : Problem) (windows : ℕ → ℕ → Option Window) (points : ℕ �
 
   pub IsPriced-more : HasMore
   IsPriced-more =
-      ⊎_elim (λ (same : after ≡ before). let none : HasMore = record { more = []; appended = same ∙ sym (append-nil before) } in none)
+      ⊎_elim (λ (same : (after ≡ before) × IsStartKind inherited price.kind). let none : HasMore = record { more = []; appended = same.0 ∙ sym (append-nil before) } in none)
       (λ (adds : AddsTable p windows points sides before after inherited price.kind value). let one : HasMore = record { more = adds.table ∷ []; appended = adds.last } in one) is.added

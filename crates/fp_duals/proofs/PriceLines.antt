@@ -2,11 +2,11 @@
 use Rattle.std.proofs.Common.{◌≡◌, ℕ, ◌+◌, ◌-◌, ◌<◌, ◌≤◌, List, [], ◌∷◌, ◌++◌, length, get_or, refl, subst, arith}
 use Rattle.std.specs.Prelude.{All}
 use Rattle.std.proofs.lemmas.List.{get_or_append_left, length-append}
-use Rattle.std.proofs.lemmas.List.Elements.{All-append, All-head, All-cons, All-nil, All-tail}
+use Rattle.std.proofs.lemmas.List.Elements.{All-append, All-cons, All-nil}
 use Rattle.std.proofs.lemmas.List.Sums.{sum_by-append, sum_by-cons, sum_by_more_le}
 use Rattle.fp_prices.specs.Shares.{ClassShare}
 use Rattle.fp_duals.specs.declared.limits.TheConstants.{MOST_PRICE_LINES}
-use Rattle.fp_duals.specs.PriceLines.{AreCounted, IsShortTable, line_count, line_total}
+use Rattle.fp_duals.specs.PriceLines.{AreCounted, IsInTime, line_count, line_total}
 
 -- what holds of each element of a list holds of each of its front
 pub All-front : {X : Type 0} (P : X → Type 0) (xs ys : List X) → All P (xs ++ ys) → All P xs
@@ -14,18 +14,18 @@ All-front P xs ys all = λ k d lt. subst P (get_or_append_left xs ys d k lt) (al
 
 -- no tables
 pub within-none : AreCounted [] 0
-within-none = record { within = record { each = All-nil IsShortTable; lines = omega arith }; counted = refl }
+within-none = record { within = record { each = All-nil IsInTime; lines = omega arith }; counted = refl }
 
 -- the lines of one table more
 pub total-more : (tables : List (List ClassShare)) (table : List ClassShare) → line_total (tables ++ (table ∷ [])) ≡ line_total tables + line_count table
 total-more tables table = omega (arith, sum_by-append line_count tables (table ∷ []), sum_by-cons line_count table [])
 
 -- tables within the limits, with one more that fits
-pub counted-more : (tables : List (List ClassShare)) (table : List ClassShare) (lines : ℕ) → AreCounted tables lines → IsShortTable table → line_count table + line_total tables ≤ MOST_PRICE_LINES →
+pub counted-more : (tables : List (List ClassShare)) (table : List ClassShare) (lines : ℕ) → AreCounted tables lines → IsInTime table → line_count table + line_total tables ≤ MOST_PRICE_LINES →
     AreCounted (tables ++ (table ∷ [])) (lines + line_count table)
-counted-more tables table lines are short few = record {
+counted-more tables table lines are in_time few = record {
   within = record {
-    each = All-append IsShortTable tables (table ∷ []) are.within.each (All-cons IsShortTable table [] short (All-nil IsShortTable));
+    each = All-append IsInTime tables (table ∷ []) are.within.each (All-cons IsInTime table [] in_time (All-nil IsInTime));
     lines = omega (arith, total-more tables table, few);
   };
   counted = omega (arith, total-more tables table, are.counted);
@@ -34,7 +34,7 @@ counted-more tables table lines are short few = record {
 -- and without the last
 pub counted-fewer : (tables : List (List ClassShare)) (table : List ClassShare) (lines : ℕ) → AreCounted (tables ++ (table ∷ [])) lines → AreCounted tables (lines - line_count table)
 counted-fewer tables table lines are = record {
-  within = record { each = All-front IsShortTable tables (table ∷ []) are.within.each; lines = omega (arith, total-more tables table, are.within.lines) };
+  within = record { each = All-front IsInTime tables (table ∷ []) are.within.each; lines = omega (arith, total-more tables table, are.within.lines) };
   counted = omega (arith, total-more tables table, are.counted);
 }
 
@@ -43,11 +43,10 @@ pub shares-le-lines : (table : List ClassShare) → length table ≤ line_count 
 shares-le-lines [] = omega arith
 shares-le-lines (share ∷ table) = omega (arith, sum_by-cons (λ (s : ClassShare). 1 + length s.weights) share table, shares-le-lines table)
 
--- tables that each have a share are at most as many as their lines
-pub tables-le-lines : (tables : List (List ClassShare)) → All IsShortTable tables → length tables ≤ line_total tables
-tables-le-lines [] all = omega arith
-tables-le-lines (table ∷ tables) all =
-    omega (arith, sum_by-cons line_count table tables, shares-le-lines table, (All-head IsShortTable table tables all).some, tables-le-lines tables (All-tail IsShortTable table tables all))
+-- tables are at most as many as their lines
+pub tables-le-lines : (tables : List (List ClassShare)) → length tables ≤ line_total tables
+tables-le-lines [] = omega arith
+tables-le-lines (table ∷ tables) = omega (arith, sum_by-cons line_count table tables, tables-le-lines tables)
 
 -- the lines of one of the tables are at most those of all
 pub table-le-total : (tables : List (List ClassShare)) (k : ℕ) (d : List ClassShare) → k < length tables → line_count (get_or tables k d) ≤ line_total tables

@@ -28,7 +28,7 @@ use Rattle.fp_prices.proofs.SamePoints.{bound-same}
 use Rattle.fp_duals.specs.declared.improvements.Improved.{Improved}
 use Rattle.fp_duals.specs.declared.improvements.Improved.TheVariants as of
 use Rattle.fp_duals.specs.Improvements.{AddsTable, IsImproved, IsPriced, IsReachedChain}
-use Rattle.fp_duals.specs.Starts.{EachMode, EachStart}
+use Rattle.fp_duals.specs.Starts.{EachMode, EachStart, IsStartKind}
 
 module _ (p : Problem) (valid : IsValid p) (windows : ℕ → ℕ → Option Window) (points others : ℕ → List ℕ) (same : AgreeOnPoints p points others) (sides : List Side) where
   -- the values over the other points are such numbers too
@@ -92,7 +92,7 @@ module _ (p : Problem) (valid : IsValid p) (windows : ℕ → ℕ → Option Win
     least = AreLeastWalks-same after price.kind price.forced walks is.least;
     reached = λ chains ends. is.reached chains
         (subst (λ (allowed : ℕ → Leg → Bool). AllZipFrom (λ k. IsReachedChain p (allowed k)) 0 p.shipments chains) (sym (is_allowed_same p valid points others same windows sides)) ends);
-    added = ⊎_elim (λ (e : after ≡ before). inl e) (λ (a : AddsTable p windows points sides before after inherited price.kind value). inr (AddsTable-same before after inherited price.kind value a)) is.added;
+    added = ⊎_elim (λ (e : (after ≡ before) × IsStartKind inherited price.kind). inl e) (λ (a : AddsTable p windows points sides before after inherited price.kind value). inr (AddsTable-same before after inherited price.kind value a)) is.added;
   }
 
   pub IsImproved-same : (before after : List (List ClassShare)) (inherited : Kind) (round : ℕ) (improved : Improved) → IsImproved p windows points sides before after inherited round improved →

@@ -1,5 +1,5 @@
 -- The best of a leaf's starting prices, one after the other.
-use Rattle.std.proofs.Common.{◌≡◌, ℕ, ◌≤◌, Bool, true, false, List, refl, subst, arith}
+use Rattle.std.proofs.Common.{◌≡◌, ℕ, ◌≤◌, Bool, true, false, List, ⊎_elim, inl, inr, refl, ◌∙◌, subst, arith}
 use Rattle.std.specs.Prelude.{Option, IfOk, Result, Ok, Err}
 use Rattle.std.specs.declared.alloc.AllocError.{AllocError}
 use Rattle.fp_model.specs.Problem.{Problem}
@@ -16,7 +16,7 @@ use Rattle.fp_prices.specs.Rounds.{LeafModel}
 use Rattle.fp_prices.specs.Shares.{ClassShare}
 use Rattle.fp_prices.proofs.OneValue.{leaf-value-some, leaf-value-unique}
 use Rattle.fp_duals.specs.declared.starts.Start.{Start}
-use Rattle.fp_duals.specs.Starts.{EachMode, EachStart, IsBestStart, IsStart}
+use Rattle.fp_duals.specs.Starts.{EachMode, EachStart, IsBestStart, IsOneOf, IsStart, IsStartKind}
 
 -- a bound that is at most a number tells that each value by its prices is
 pub value-le : (p : Problem) (windows : ℕ → ℕ → Option Window) (points : ℕ → List ℕ) (sides : List Side) (tables : List (List ClassShare)) (kind : Kind) (forced : Bool) (bound : LeafBound) (n : ℕ) →
@@ -61,6 +61,27 @@ module _ (p : Problem) (windows : ℕ → ℕ → Option Window) (points : ℕ �
       of Even by_id = EachMode-le Even even n c by_even
       of (Table id) by_id = by_id id refl
 
+-- one of two kinds of which the first is one of two
+pub one-of_told : (first second between : Kind) (r : Result Start AllocError) → IsOneOf first second between → IfOk r (λ (s : Start). IsOneOf between second s.kind) → IfOk r (λ (s : Start). IsOneOf first second s.kind)
+one-of_told first second between (Err e) was is = tt
+one-of_told first second between (Ok s) was is =
+    ⊎_elim (λ (same : s.kind ≡ between). ⊎_elim (λ (e : between ≡ first). let o : IsOneOf first second s.kind = inl (same ∙ e) in o) (λ (e : between ≡ second). let o : IsOneOf first second s.kind = inr (same ∙ e) in o) was)
+    (λ (same : s.kind ≡ second). let o : IsOneOf first second s.kind = inr same in o) is
+
+-- the kinds of the starts, one after the other
+pub start-kind : (inherited first second third last : Kind) → first ≡ Linear → IsOneOf first Linear second → IsOneOf second Even third → IsOneOf third inherited last → IsStartKind inherited last
+start-kind inherited first second third last is by_second by_third by_last =
+    let plain : second ≡ Linear = ⊎_elim (λ (e : second ≡ first). e ∙ is) (λ (e : second ≡ Linear). e) by_second in
+    ⊎_elim
+    (λ (same : last ≡ third).
+    ⊎_elim (λ (e : third ≡ second). let k : IsStartKind inherited last = inl (same ∙ e ∙ plain) in k) (λ (e : third ≡ Even). let k : IsStartKind inherited last = inr (inl (same ∙ e)) in k) by_third)
+    (λ (e : last ≡ inherited). let k : IsStartKind inherited last = inr (inr e) in k) by_last
+
+pub start-kind_told : (inherited first second third : Kind) (r : Result Start AllocError) → first ≡ Linear → IsOneOf first Linear second → IsOneOf second Even third → IfOk r (λ (s : Start). IsOneOf third inherited s.kind) →
+    IfOk r (λ (s : Start). IsStartKind inherited s.kind)
+start-kind_told inherited first second third (Err e) is by_second by_third by_last = tt
+start-kind_told inherited first second third (Ok s) is by_second by_third by_last = start-kind inherited first second third s.kind is by_second by_third by_last
+
 -- the first start: linear prices with forced classes paid whole
 pub record IsFirstStart (leaf : LeafModel) (tables : List (List ClassShare)) (first : Start) : Type 0 where
   pub is : IsStart leaf tables first
@@ -83,20 +104,21 @@ first-le leaf tables first start = λ other value.
     omega (arith, same)
 
 -- the best of all, from the first start, the better by linear prices, the better by even prices, and the last
-pub best-start : (leaf : LeafModel) (tables : List (List ClassShare)) (kind : Kind) (first linear even last : Start) → IsFirstStart leaf tables first → first.value ≤ linear.value →
+pub best-start : (leaf : LeafModel) (tables : List (List ClassShare)) (kind : Kind) (first linear even last : Start) → IsStartKind kind last.kind → IsFirstStart leaf tables first → first.value ≤ linear.value →
     ((other : ℕ) → IsLeafValue leaf.setting.problem (windows_in leaf.setting.windows) (points_in leaf.setting.network) leaf.sides tables Linear false other → other ≤ linear.value) → linear.value ≤ even.value →
     EachMode leaf.setting.problem (windows_in leaf.setting.windows) (points_in leaf.setting.network) leaf.sides tables Even (λ other. other ≤ even.value) → IsStart leaf tables last → even.value ≤ last.value →
     ((id : ℕ) → kind ≡ Table id → EachMode leaf.setting.problem (windows_in leaf.setting.windows) (points_in leaf.setting.network) leaf.sides tables kind (λ other. other ≤ last.value)) → IsBestStart leaf tables kind last
-best-start leaf tables kind first linear even last start a plain b by_even is less by_table = record {
+best-start leaf tables kind first linear even last one start a plain b by_even is less by_table = record {
   is = is;
+  one = one;
   best = six-starts leaf.setting.problem (windows_in leaf.setting.windows) (points_in leaf.setting.network) leaf.sides tables kind first.value linear.value even.value last.value a b less (first-le leaf tables first start) plain by_even by_table;
   above = record { whole = first.value; value = first-value leaf tables first start; below = omega (arith, a, b, less) };
 }
 
 -- the same of what a call gives
-pub best-start_told : (leaf : LeafModel) (tables : List (List ClassShare)) (kind : Kind) (first linear even : Start) (r : Result Start AllocError) → IsFirstStart leaf tables first → first.value ≤ linear.value →
+pub best-start_told : (leaf : LeafModel) (tables : List (List ClassShare)) (kind : Kind) (first linear even : Start) (r : Result Start AllocError) → IfOk r (λ (s : Start). IsStartKind kind s.kind) → IsFirstStart leaf tables first → first.value ≤ linear.value →
     ((other : ℕ) → IsLeafValue leaf.setting.problem (windows_in leaf.setting.windows) (points_in leaf.setting.network) leaf.sides tables Linear false other → other ≤ linear.value) → linear.value ≤ even.value →
     EachMode leaf.setting.problem (windows_in leaf.setting.windows) (points_in leaf.setting.network) leaf.sides tables Even (λ other. other ≤ even.value) → IfOk r (IsStart leaf tables) → IfOk r (λ (s : Start). even.value ≤ s.value) →
     IfOk r (λ (s : Start). EachMode leaf.setting.problem (windows_in leaf.setting.windows) (points_in leaf.setting.network) leaf.sides tables kind (λ other. other ≤ s.value)) → IfOk r (IsBestStart leaf tables kind)
-best-start_told leaf tables kind first linear even (Err e) start a plain b by_even is less by_kind = tt
-best-start_told leaf tables kind first linear even (Ok last) start a plain b by_even is less by_kind = best-start leaf tables kind first linear even last start a plain b by_even is less (λ id is_table. by_kind)
+best-start_told leaf tables kind first linear even (Err e) one start a plain b by_even is less by_kind = tt
+best-start_told leaf tables kind first linear even (Ok last) one start a plain b by_even is less by_kind = best-start leaf tables kind first linear even last one start a plain b by_even is less (λ id is_table. by_kind)

@@ -6,13 +6,14 @@ use Rattle.fp_prices.specs.Shares.{ClassShare}
 use Rattle.fp_duals.specs.declared.candidates.Candidate.{Candidate}
 use Rattle.fp_duals.specs.declared.limits.TheConstants.{MOST_PRICE_LINES}
 use Rattle.fp_duals.specs.declared.starts.Start.{Start}
-use Rattle.fp_duals.specs.PriceLines.{IsShortTable, line_count, line_total}
+use Rattle.fp_duals.specs.PriceLines.{IsInTime, line_count, line_total}
 use Rattle.fp_duals.specs.PriceTables.{ArePriceTables}
 use Rattle.fp_duals.specs.Starts.{IsStart}
 
 -- the table may be added to the tables, and the start's prices are by it
 pub record IsCandidate (leaf : LeafModel) (tables : List (List ClassShare)) (c : Candidate) : Type 0 where
-  pub short : IsShortTable c.table
+  pub some : 1 ≤ length c.table
+  pub in_time : IsInTime c.table
   pub few : line_count c.table + line_total tables ≤ MOST_PRICE_LINES
   pub prices : ArePriceTables leaf.setting.problem (c.table ∷ [])
   pub named : c.start.kind ≡ Table (length tables + 1)

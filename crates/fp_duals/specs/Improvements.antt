@@ -20,7 +20,7 @@ use Rattle.fp_prices.specs.Shares.{ClassShare}
 use Rattle.fp_prices.specs.Tables.{HasKind}
 use Rattle.fp_duals.specs.declared.improvements.Improved.{Improved}
 use Rattle.fp_duals.specs.declared.improvements.Improved.TheVariants.{Empty, Priced}
-use Rattle.fp_duals.specs.Starts.{EachStart}
+use Rattle.fp_duals.specs.Starts.{EachStart, IsStartKind}
 
 -- the forced chain of a shipment, which reaches its destination
 pub record IsReachedChain (p : Problem) (allowed : Leg → Bool) (s : Shipment) (legs : List Leg) : Type 0 where
@@ -47,7 +47,7 @@ pub record IsPriced (p : Problem) (windows : ℕ → ℕ → Option Window) (poi
   pub least : AreLeastWalks p windows points sides after price.kind price.forced walks
   -- where the forced chain of each shipment reaches its destination, the value is what they cost
   pub reached : (chains : List (List Leg)) → AllZipFrom (λ k. IsReachedChain p (is_allowed p windows points sides k)) 0 p.shipments chains → value ≡ p.scale * cost p chains
-  pub added : (after ≡ before) ⊎ AddsTable p windows points sides before after inherited price.kind value
+  pub added : ((after ≡ before) × IsStartKind inherited price.kind) ⊎ AddsTable p windows points sides before after inherited price.kind value
 
 -- what comes of improving a leaf: that it is empty, by its first shipment without an allowed timed walk, and the tables are the same, or its price
 abbrev pub IsImproved : Problem → (ℕ → ℕ → Option Window) → (ℕ → List ℕ) → List Side → (before after : List (List ClassShare)) → (inherited : Kind) → (round : ℕ) → Improved → Type 0

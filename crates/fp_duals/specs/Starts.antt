@@ -1,6 +1,6 @@
 -- The six prices from which a leaf's price is improved: the kinds linear, even and inherited, each plain and with forced classes
 -- paid whole.
-use Rattle.std.specs.Prelude.{ℕ, ◌≤◌, List, Bool, true, Option}
+use Rattle.std.specs.Prelude.{ℕ, ◌≤◌, ◌≡◌, ◌⊎◌, List, Bool, true, Option}
 use Rattle.fp_model.specs.Problem.{Problem}
 use Rattle.fp_flatnet.specs.declared.window_tables.Window.{Window}
 use Rattle.fp_flatnet.specs.Tables.{windows_in}
@@ -37,8 +37,17 @@ pub record IsAboveWhole (leaf : LeafModel) (tables : List (List ClassShare)) (n 
   pub value : IsLeafValue leaf.setting.problem (windows_in leaf.setting.windows) (points_in leaf.setting.network) leaf.sides tables Linear true whole
   pub below : whole ≤ n
 
+-- a kind is one of two
+abbrev pub IsOneOf : (first second kind : Kind) → Type 0
+IsOneOf first second kind = (kind ≡ first) ⊎ (kind ≡ second)
+
+-- a kind is one of those of the six starting prices
+abbrev pub IsStartKind : (inherited kind : Kind) → Type 0
+IsStartKind inherited kind = (kind ≡ Linear) ⊎ (kind ≡ Even) ⊎ (kind ≡ inherited)
+
 -- a start at least as good as each of the six, where the first of them has a value
 pub record IsBestStart (leaf : LeafModel) (tables : List (List ClassShare)) (inherited : Kind) (start : Start) : Type 0 where
   pub is : IsStart leaf tables start
+  pub one : IsStartKind inherited start.kind
   pub best : EachStart leaf.setting.problem (windows_in leaf.setting.windows) (points_in leaf.setting.network) leaf.sides tables inherited (λ other. other ≤ start.value)
   pub above : IsAboveWhole leaf tables start.value

@@ -150,8 +150,9 @@ fn improve_from(
 /// least cost under it for each shipment, which repeats no timed node. Where the forced chain of
 /// each shipment reaches its destination, the value is the scale times what the chains cost.
 ///
-/// The tables that were there stay. At most one is added: it is the last, it has a share, the price
-/// is by it, and the value is above those by all six starting prices. The tables are of the
+/// The tables that were there stay, and the price is of one of the kinds of the starting prices, or
+/// one table is added: it is the last, it has a share, the price is by it, and the value is above
+/// those by all six starting prices. The tables are of the
 /// instance, in order and within the price rule, before and after, and a table that `inherited`
 /// names is one of them; its round and mode aren't used. `NoMemory` only where no memory is found;
 /// then the tables are as before.

@@ -1,4 +1,4 @@
 //! The limit of the tables of a run.
 
-/// The most price lines in one run: the shares of all tables, and all their weights.
+/// The most price lines in one run: all tables, their shares, and all their weights.
 pub const MOST_PRICE_LINES: u32 = 500_000;

@@ -1,8 +1,8 @@
 //! The tables of prices of a run.
-ghost use Rattle.std.specs.Prelude.{◌≡◌, ◌+◌, ◌≤◌, All, IfOk, [], ◌∷◌, ◌++◌, length, take, OnOk, OnErr};
+ghost use Rattle.std.specs.Prelude.{◌≡◌, ◌+◌, ◌≤◌, All, IfOk, MatchBool, false, [], ◌∷◌, ◌++◌, length, take, OnOk, OnErr};
 ghost use Rattle.fp_prices.specs.Shares.{ClassShare};
 ghost use Rattle.fp_duals.specs.declared.limits.TheConstants.{MOST_PRICE_LINES};
-ghost use Rattle.fp_duals.specs.PriceLines.{AreWithinLimits, IsShortTable, line_count, line_total};
+ghost use Rattle.fp_duals.specs.PriceLines.{AreWithinLimits, IsInTime, line_count, line_total};
 
 use crate::NoMemory;
 use crate::limits::MOST_PRICE_LINES;
@@ -10,12 +10,12 @@ use fp_prices::{Share, Table};
 use std::alloc::Global;
 use std::marker::Model;
 
-// The price lines of shares that have few enough.
+// The price lines of a table of shares that has few enough.
 fn lines_of(shares: &[Share]) -> u32
     requires { line_count shares.now ≤ MOST_PRICE_LINES }
     ensures { result ≡ line_count shares.now }
 {
-    let mut lines = 0;
+    let mut lines = 1;
     for share in shares {
         lines += 1 + share.weights.len() as u32;
     }
@@ -23,7 +23,7 @@ fn lines_of(shares: &[Share]) -> u32
 }
 
 /// The tables of a run: their points are at most 100,000, and they have at most 500,000 price lines
-/// in all, which are their shares and the weights of these. Each has a share.
+/// in all, which are themselves, their shares and the weights of these.
 ///
 /// Contracts see the list of the tables, each as the list of its shares.
 #[derive(Drop)]
@@ -92,7 +92,7 @@ impl Tables {
     /// Adds a table of at most so many price lines as are left. `NoMemory` only where no memory is
     /// found.
     pub(crate) fn push(&mut self, table: Table) -> Result<(), NoMemory>
-        requires short { IsShortTable table }
+        requires in_time { IsInTime table }
         requires few { line_count table + line_total self.old ≤ MOST_PRICE_LINES }
         ensures ok { OnOk result (self.new ≡ self.old ++ (table ∷ [])) }
         ensures err { OnErr result (self.new ≡ self.old) }
@@ -101,6 +101,24 @@ impl Tables {
         self.list.push(table)?;
         self.lines += lines;
         Ok(())
+    }
+
+    /// Adds a table without shares, and tells whether it did: not where no price line is left.
+    /// `NoMemory` only where no memory is found.
+    pub fn push_empty(&mut self, alloc: Global) -> Result<bool, NoMemory>
+        ensures added { IfOk result (λ added. MatchBool added
+            (self.new ≡ self.old ++ ([] ∷ [])) (self.new ≡ self.old)) }
+        ensures full { IfOk result (λ added. added ≡ false
+            → line_total self.old ≡ MOST_PRICE_LINES) }
+        ensures err { OnErr result (self.new ≡ self.old) }
+    {
+        if self.left() == 0 {
+            return Ok(false);
+        }
+        self.push(Table {
+            shares: Vec::new(alloc),
+        })?;
+        Ok(true)
     }
 
     /// Takes the last table away, where there is one.

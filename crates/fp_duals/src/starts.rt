@@ -20,7 +20,7 @@ pub(crate) struct Start {
 }
 
 impl Start {
-    ghost use Rattle.fp_duals.specs.Starts.{EachMode, IsBestStart, IsStart};
+    ghost use Rattle.fp_duals.specs.Starts.{EachMode, IsBestStart, IsOneOf, IsStart};
 
     // This start, or the prices of a kind in a mode, where the leaf has a greater value by these.
     fn or_mode(
@@ -35,6 +35,7 @@ impl Start {
         requires kind { HasKind tables.now kind }
         requires start { IsStart leaf.now tables.now self }
         ensures start { IfOk result (IsStart leaf.now tables.now) }
+        ensures one { IfOk result (λ start. IsOneOf self.kind kind start.kind) }
         ensures no_less { IfOk result (λ start. self.value ≤ start.value) }
         ensures best { IfOk result (λ start.
             (other : ℕ) → IsLeafValue leaf.now.setting.problem
@@ -64,6 +65,7 @@ impl Start {
         requires kind { HasKind tables.now kind }
         requires start { IsStart leaf.now tables.now self }
         ensures start { IfOk result (IsStart leaf.now tables.now) }
+        ensures one { IfOk result (λ start. IsOneOf self.kind kind start.kind) }
         ensures no_less { IfOk result (λ start. self.value ≤ start.value) }
         ensures best { IfOk result (λ start.
             EachMode leaf.now.setting.problem

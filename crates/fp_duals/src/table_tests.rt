@@ -15,11 +15,14 @@ use fp_model::limits::LATEST;
 use fp_prices::{Share, Table, Weight, check_tables};
 use std::slice;
 
-// Whether shares have at most so many price lines.
+// Whether a table of shares has at most so many price lines.
 fn has_at_most(shares: &[Share], lines: u32) -> bool
     ensures { IsTrue result ↔ (line_count shares.now ≤ lines) }
 {
-    let mut left = u64::from(lines);
+    if lines == 0 {
+        return false;
+    }
+    let mut left = u64::from(lines) - 1;
     for share in shares {
         let weights = share.weights.len() as u64;
         if weights >= left {

@@ -12,11 +12,13 @@ use Rattle.fp_tree.specs.declared.sides.Side.{Side}
 use Rattle.fp_prices.specs.declared.leaf_prices.Kind.{Kind}
 use Rattle.fp_prices.specs.declared.leaf_prices.Kind.TheVariants.{Even, Linear}
 use Rattle.fp_prices.specs.declared.leaf_prices.LeafPrice.{LeafPrice}
-use Rattle.fp_prices.specs.EarnedLeaves.{IsEarnedLeaf}
 use Rattle.fp_prices.specs.Leaves.{IsLeafEmpty, IsLeafValue}
 use Rattle.fp_prices.specs.Shares.{ClassShare}
 use Rattle.fp_prices.specs.Tables.{HasKind}
-use Rattle.fp_prices.proofs.TableAppends.{IsLeafValue-append}
+use Rattle.fp_spans.specs.SpanKinds.{IsPricedValue, spans_beside}
+use Rattle.fp_spans.specs.SpanLeaves.{IsSpanLeafValue}
+use Rattle.fp_spans.specs.Spans.{ClassSpan}
+use Rattle.fp_spans.proofs.SpanAppends.{IsPricedValue-tables, beside-append}
 use Rattle.fp_history.specs.declared.notes.SplitNote.{SplitNote}
 use Rattle.fp_history.specs.Notes.{History, Refinement, last_round, points_of, with_note, with_tables}
 use Rattle.fp_history.specs.PrintedLeaves.{IsEmptyAt}
@@ -24,21 +26,19 @@ use Rattle.fp_history.specs.Splits.{IsEarnedAt, IsEarnedSplit}
 use Rattle.fp_history.specs.Traces.{IsEarnedRound, IsEarnedTrace}
 use Rattle.fp_history.proofs.PointsKept.{points_of-with_note}
 
--- a leaf is earned over the same points
-abbrev earned-same : (p : Problem) (windows : ℕ → ℕ → Option Window) (points others : ℕ → List ℕ) → points ≡ others → (sides : List Side) (tables : List (List ClassShare)) (kind : Kind) (forced : Bool) →
-    IsEarnedLeaf p windows points sides tables kind forced → IsEarnedLeaf p windows others sides tables kind forced
-earned-same p windows points others same sides tables kind forced leaf = record {
-  value = leaf.value;
-  is = subst (λ (qs : ℕ → List ℕ). IsLeafValue p windows qs sides tables kind forced leaf.value) same leaf.is;
-  linear = subst (λ (qs : ℕ → List ℕ). (f : Bool) (other : ℕ) → IsLeafValue p windows qs sides [] Linear f other → other ≤ leaf.value) same leaf.linear;
-  even = subst (λ (qs : ℕ → List ℕ). (f : Bool) (other : ℕ) → IsLeafValue p windows qs sides [] Even f other → other ≤ leaf.value) same leaf.even;
-}
-
 module _ (h : History) (n : Refinement) (sides : List Side) (price : LeafPrice) (less : price.round < n.round) where
   -- a leaf that was earned as of an earlier round stays so
   abbrev pub IsEarnedAt-with_note : IsEarnedAt h sides price → IsEarnedAt (with_note h n) sides price
   IsEarnedAt-with_note leaf =
-      earned-same h.problem (windows_in h.windows) (points_of h price.round) (points_of (with_note h n) price.round) (sym (points_of-with_note h n price.round less)) sides h.tables price.kind price.forced leaf
+      let p = h.problem in
+      let windows = windows_in h.windows in
+      let same : points_of h price.round ≡ points_of (with_note h n) price.round = sym (points_of-with_note h n price.round less) in
+      record {
+        value = leaf.value;
+        is = subst (λ (qs : ℕ → List ℕ). IsPricedValue p windows qs sides h.tables h.spans price.kind price.forced leaf.value) same leaf.is;
+        linear = subst (λ (qs : ℕ → List ℕ). (f : Bool) (other : ℕ) → IsLeafValue p windows qs sides [] Linear f other → other ≤ leaf.value) same leaf.linear;
+        even = subst (λ (qs : ℕ → List ℕ). (f : Bool) (other : ℕ) → IsLeafValue p windows qs sides [] Even f other → other ≤ leaf.value) same leaf.even;
+      }
 
   -- and so does one that was empty
   pub IsEmptyAt-with_note : IsEmptyAt h sides price → IsEmptyAt (with_note h n) sides price
@@ -48,12 +48,14 @@ module _ (h : History) (n : Refinement) (sides : List Side) (price : LeafPrice) 
     plain = leaf.plain;
   }
 
--- a leaf that was earned stays so when tables are added
-abbrev pub IsEarnedAt-with_tables : (h : History) (more : List (List ClassShare)) (sides : List Side) (price : LeafPrice) → HasKind h.tables price.kind → IsEarnedAt h sides price →
-    IsEarnedAt (with_tables h more) sides price
-IsEarnedAt-with_tables h more sides price has leaf = record {
+-- a leaf that was earned stays so when tables are added, with spans beside them
+abbrev pub IsEarnedAt-with_tables : (h : History) (more : List (List ClassShare)) (spans : List (List ClassSpan)) (sides : List Side) (price : LeafPrice) → length h.spans ≡ length h.tables → HasKind h.tables price.kind → IsEarnedAt h sides price →
+    IsEarnedAt (with_tables h more spans) sides price
+IsEarnedAt-with_tables h more spans sides price beside has leaf = record {
   value = leaf.value;
-  is = IsLeafValue-append h.problem (windows_in h.windows) (points_of h price.round) sides h.tables price.kind price.forced leaf.value has more leaf.is;
+  is = subst (λ (s : List ClassSpan). IsSpanLeafValue h.problem (windows_in h.windows) (points_of h price.round) sides (h.tables ++ more) s price.kind price.forced leaf.value)
+      (sym (beside-append h.tables h.spans spans price.kind beside has))
+      (IsPricedValue-tables h.problem (windows_in h.windows) (points_of h price.round) sides h.tables price.kind price.forced leaf.value has more h.spans leaf.is);
   linear = leaf.linear;
   even = leaf.even;
 }
@@ -64,9 +66,9 @@ module _ (h : History) (started ended : ℕ) (sides : List Side) (note : SplitNo
   IsEarnedSplit-with_note n less = record { leaf = IsEarnedAt-with_note h n sides note.price less split.leaf; below = split.below; first = split.first; last = split.last }
 
   -- when tables are
-  pub IsEarnedSplit-with_tables : (more : List (List ClassShare)) → HasKind h.tables note.price.kind → IsEarnedSplit (with_tables h more) started ended sides note
-  IsEarnedSplit-with_tables more has = record {
-    leaf = IsEarnedAt-with_tables h more sides note.price has split.leaf;
+  pub IsEarnedSplit-with_tables : (more : List (List ClassShare)) (spans : List (List ClassSpan)) → length h.spans ≡ length h.tables → HasKind h.tables note.price.kind → IsEarnedSplit (with_tables h more spans) started ended sides note
+  IsEarnedSplit-with_tables more spans beside has = record {
+    leaf = IsEarnedAt-with_tables h more spans sides note.price beside has split.leaf;
     below = split.below;
     first = split.first;
     last = split.last;
@@ -110,8 +112,8 @@ module _ (h : History) (started ended : ℕ) (trace : IsEarnedTrace h started en
       kept k m less round_of = subst (λ (points : ℕ → List ℕ). IsEarnedRound h.problem h.windows points m) (sym (points_of-with_note h n k less)) round_of
 
   -- tables have no say in it
-  pub IsEarnedTrace-with_tables : (more : List (List ClassShare)) → IsEarnedTrace (with_tables h more) started ended
-  IsEarnedTrace-with_tables more = record { rounds = trace.rounds; earned = trace.earned; falling = trace.falling; first = trace.first; last = trace.last }
+  pub IsEarnedTrace-with_tables : (more : List (List ClassShare)) (spans : List (List ClassSpan)) → IsEarnedTrace (with_tables h more spans) started ended
+  IsEarnedTrace-with_tables more spans = record { rounds = trace.rounds; earned = trace.earned; falling = trace.falling; first = trace.first; last = trace.last }
 
   -- and it stays earned when the incumbent becomes cheaper
   pub IsEarnedTrace-cheaper : (cheaper : ℕ) → cheaper ≤ ended → IsEarnedTrace h started cheaper

@@ -1,12 +1,15 @@
 -- What a search notes of its rounds, and the points that it has added.
-use Rattle.std.specs.Prelude.{ℕ, List, [], ◌∷◌, ◌++◌, length, map}
+use Rattle.std.specs.Prelude.{ℕ, List, [], ◌∷◌, ◌++◌, length, map, Option}
+use Rattle.std.specs.Int.{div_ceil}
 use Rattle.fp_model.specs.declared.parts.Leg.{Leg}
 use Rattle.fp_model.specs.Problem.{Problem}
 use Rattle.fp_timenodes.specs.declared.places.AddedPoint.{AddedPoint}
 use Rattle.fp_timenodes.specs.declared.places.Place.{Place}
 use Rattle.fp_flatnet.specs.Tables.{WindowTable}
 use Rattle.fp_prices.specs.Shares.{ClassShare}
+use Rattle.fp_spans.specs.Spans.{ClassSpan}
 use Rattle.fp_acceptance.specs.Points.{points_with_added}
+use Rattle.fp_acceptance.specs.Units.{rounded_up}
 
 -- a round of refinement: its number, what the incumbent cost, a relaxed plan that called for it, and
 -- the places at which it added points
@@ -25,13 +28,15 @@ abbrev pub added_of : List Refinement → List AddedPoint
 added_of [] = []
 added_of (n ∷ notes) = points_added n.round n.added ++ added_of notes
 
--- the history of a search: the instance and its windows, its notes on rounds, and its tables of
--- prices
+-- the history of a search: the instance and its windows, its notes on rounds, its tables of prices
+-- with the spans beside each, and the unit by which it rounds up what leaves are worth, if it does
 pub record History : Type 0 where
   pub problem : Problem
   pub windows : WindowTable
   pub trace : List Refinement
   pub tables : List (List ClassShare)
+  pub spans : List (List ClassSpan)
+  pub unit : Option ℕ
 
 -- the points of each terminal as of a round
 abbrev pub points_of : History → ℕ → ℕ → List ℕ
@@ -45,6 +50,10 @@ last_round h = length h.trace
 abbrev pub with_note : History → Refinement → History
 with_note h n = record h { trace = h.trace ++ n ∷ [] }
 
--- a history with more tables
-abbrev pub with_tables : History → List (List ClassShare) → History
-with_tables h more = record h { tables = h.tables ++ more }
+-- a history with more tables, and the spans beside them
+abbrev pub with_tables : History → List (List ClassShare) → List (List ClassSpan) → History
+with_tables h more spans = record h { tables = h.tables ++ more; spans = h.spans ++ spans }
+
+-- a value in whole units of money, rounded up to a multiple of the unit
+abbrev pub worth_of : History → ℕ → ℕ
+worth_of h value = rounded_up h.unit (div_ceil value h.problem.scale)

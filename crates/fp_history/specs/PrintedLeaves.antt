@@ -1,6 +1,5 @@
 -- What the leaves of a printed tree show.
 use Rattle.std.specs.Prelude.{ℕ, ◌<◌, ◌≤◌, ◌≡◌, ◌⊎◌, List, [], Bool, false}
-use Rattle.std.specs.Int.{div_ceil}
 use Rattle.fp_lists.specs.Elements.{AnyByRecursion}
 use Rattle.std.specs.List.{AllByRecursion}
 use Rattle.fp_flatnet.specs.Tables.{windows_in}
@@ -11,7 +10,7 @@ use Rattle.fp_prices.specs.declared.leaf_prices.LeafPrice.{LeafPrice}
 use Rattle.fp_prices.specs.Leaves.{IsLeafEmpty, IsLeafValue}
 use Rattle.fp_lines.specs.declared.certificates.Node.{Node}
 use Rattle.fp_lines.specs.declared.certificates.Node.TheVariants as node
-use Rattle.fp_history.specs.Notes.{History, last_round, points_of}
+use Rattle.fp_history.specs.Notes.{History, last_round, points_of, worth_of}
 use Rattle.fp_history.specs.Splits.{IsEarnedAt, IsValueAt}
 
 -- a leaf is empty over the points as of its price's round, and its price is linear and plain
@@ -28,11 +27,11 @@ OfLeaf P l = elim l.node as (λ n. Type 0) [ node.Branch split ↦ ⊥ | node.Le
 abbrev pub IsPrintedLeaf : History → Leaf Node → Type 0
 IsPrintedLeaf h = OfLeaf (λ price sides. IsEmptyAt h sides price ⊎ IsEarnedAt h sides price)
 
--- a leaf isn't empty and is worth so much, in whole units of money
+-- a leaf isn't empty and is worth so much, in whole units of money, rounded up by the unit
 pub record IsWorth (h : History) (sides : List Side) (price : LeafPrice) (worth : ℕ) : Type 0 where
   pub value : ℕ
   pub is : IsValueAt h sides price value
-  pub rounded : worth ≡ div_ceil value h.problem.scale
+  pub rounded : worth ≡ worth_of h value
 
 -- the least that a leaf is worth which isn't empty
 pub record IsLeastWorth (h : History) (leaves : List (Leaf Node)) (bound : ℕ) : Type 0 where
@@ -44,6 +43,6 @@ pub record IsLeastWorth (h : History) (leaves : List (Leaf Node)) (bound : ℕ) 
 pub record IsOpenBelow (h : History) (cost : ℕ) (sides : List Side) (price : LeafPrice) : Type 0 where
   pub value : ℕ
   pub is : IsValueAt h sides price value
-  pub below : div_ceil value h.problem.scale < cost
+  pub below : worth_of h value < cost
   pub linear : (f : Bool) (other : ℕ) → IsLeafValue h.problem (windows_in h.windows) (points_of h (last_round h)) sides [] Linear f other → other ≤ value
   pub even : (f : Bool) (other : ℕ) → IsLeafValue h.problem (windows_in h.windows) (points_of h (last_round h)) sides [] Even f other → other ≤ value

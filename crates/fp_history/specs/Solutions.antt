@@ -40,7 +40,7 @@ pub record Solution : Type 0 where
 
 -- the history that it shows
 abbrev pub history_of : Problem → WindowTable → Solution → History
-history_of p table s = record { problem = p; windows = table; trace = s.trace; tables = s.certificate.tables }
+history_of p table s = record { problem = p; windows = table; trace = s.trace; tables = s.certificate.tables; spans = s.certificate.spans; unit = s.certificate.unit }
 
 -- the leaves of its tree, and its splits, with the sides on their ways
 abbrev pub leaves_shown : Problem → Solution → List (Leaf Node)

@@ -24,10 +24,12 @@ abbrev pub best : Statement
 best = record {
   answer = Optimal 104;
   scale = None;
+  unit = None;
   legs = (record { shipment = 0; arc = 0; depart = 0; arrive = 5 }) ∷ [];
   trucks = (record { arc = 0; depart = 0; trucks = 1; load = 4 }) ∷ [];
   points = [];
   tables = [];
+  spans = [];
   tree = Leaf (record { kind = Linear; round = 0; forced = true }) ∷ [];
 }
 
@@ -58,11 +60,19 @@ unfolding digits
 writes = refl
 
 -- tables are numbered from 1, and weights follow their shares
-numbered : tables_rows small 1 ([] ∷ ((record { arc = 0; point = 7; v = 20; weights = (record { shipment = 0; w = 3 }) ∷ [] }) ∷ []) ∷ [])
+numbered : tables_rows small [] 1 ([] ∷ ((record { arc = 0; point = 7; v = 20; weights = (record { shipment = 0; w = 3 }) ∷ [] }) ∷ []) ∷ [])
     ≡ (codes "table" ∷ codes "1" ∷ []) ∷ (codes "table" ∷ codes "2" ∷ []) ∷ (codes "share" ∷ codes "A" ∷ codes "B" ∷ codes "7" ∷ codes "20" ∷ [])
     ∷ (codes "weight" ∷ codes "S1" ∷ codes "3" ∷ []) ∷ []
 unfolding digits
 numbered = refl
+
+-- spans follow the shares of their table
+beside : tables_rows small ([] ∷ (record { arc = 0; point = 7; until = 9; money = 100; charge = 5; weights = (record { shipment = 0; w = 3 }) ∷ [] } ∷ []) ∷ []) 1
+    ([] ∷ ((record { arc = 0; point = 7; v = 20; weights = [] }) ∷ []) ∷ [])
+    ≡ (codes "table" ∷ codes "1" ∷ []) ∷ (codes "table" ∷ codes "2" ∷ []) ∷ (codes "share" ∷ codes "A" ∷ codes "B" ∷ codes "7" ∷ codes "20" ∷ [])
+    ∷ (codes "span" ∷ codes "A" ∷ codes "B" ∷ codes "7" ∷ codes "9" ∷ codes "100" ∷ codes "5" ∷ []) ∷ (codes "weight" ∷ codes "S1" ∷ codes "3" ∷ []) ∷ []
+unfolding digits
+beside = refl
 
 by-table : kind_text (Table 12) ≡ codes "12"
 unfolding digits

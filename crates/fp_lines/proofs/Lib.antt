@@ -1,4 +1,5 @@
 mod EndedLines
 pub mod Named
+pub mod SpanRanges
 mod RowTexts
 pub mod Examples

@@ -1,11 +1,12 @@
 -- Certificates whose numbers are in range, and whose terminals, arcs, shipments and tables exist.
-use Rattle.std.specs.Prelude.{ℕ, ◌-◌, ◌<◌, ◌≤◌, ◌^◌, List, length, All, IfSome}
+use Rattle.std.specs.Prelude.{ℕ, ◌+◌, ◌-◌, ◌<◌, ◌≤◌, ◌≡◌, ◌^◌, List, length, All, IfSome}
 use Rattle.fp_model.specs.declared.limits.TheConstants.{GREATEST_SCALE, LAST_ROUND, LATEST, LONGEST_FASTEST}
 use Rattle.fp_model.specs.Problem.{Problem, weight_at}
 use Rattle.fp_prices.specs.declared.leaf_prices.LeafPrice.{LeafPrice}
 use Rattle.fp_prices.specs.declared.tables.Weight.{Weight}
 use Rattle.fp_prices.specs.Shares.{ClassShare}
 use Rattle.fp_prices.specs.Tables.{HasKind}
+use Rattle.fp_spans.specs.Spans.{ClassSpan}
 use Rattle.fp_timenodes.specs.declared.places.AddedPoint.{AddedPoint}
 use Rattle.fp_timetable.specs.declared.lines.LegLine.{LegLine}
 use Rattle.fp_timetable.specs.declared.lines.TruckLine.{TruckLine}
@@ -35,6 +36,11 @@ pub record IsScaleInRange (p : Problem) (scale : ℕ) : Type 0 where
   pub least : 1 ≤ scale
   pub most : scale ≤ GREATEST_SCALE
   pub fits : weight_at scale p.arcs p.shipments < 2 ^ 127
+
+-- a unit is at least 1 and no larger than a field may be
+pub record IsUnitInRange (unit : ℕ) : Type 0 where
+  pub least : 1 ≤ unit
+  pub most : unit ≤ largest_figure
 
 -- a leg's shipment and arc exist, and its times are at most 100,000
 pub record IsLegInRange (p : Problem) (l : LegLine) : Type 0 where
@@ -69,6 +75,17 @@ pub record IsShareInRange (p : Problem) (share : ClassShare) : Type 0 where
   pub price : share.v ≤ largest_figure
   pub weights : All (IsWeightInRange p) share.weights
 
+-- a span's arc exists, its point is at most 100,000 and before its end, which is at most 100,001, its
+-- money and its charge are no larger than a field may be, and its weights are in range
+pub record IsSpanInRange (p : Problem) (span : ClassSpan) : Type 0 where
+  pub arc : span.arc < length p.arcs
+  pub point : span.point ≤ LATEST
+  pub some : span.point < span.until
+  pub until : span.until ≤ LATEST + 1
+  pub money : span.money ≤ largest_figure
+  pub charge : span.charge ≤ largest_figure
+  pub weights : All (IsWeightInRange p) span.weights
+
 -- a split's shipment, arc and terminal exist, and its time is at most 100,000
 abbrev pub IsSplitInRange : Problem → Split → Type 0
 IsSplitInRange p (ByArc shipment arc) = (shipment < length p.shipments) × (arc < length p.arcs)
@@ -84,14 +101,18 @@ abbrev pub IsNodeInRange : Problem → List (List ClassShare) → Node → Type 
 IsNodeInRange p tables (Branch split) = IsSplitInRange p split
 IsNodeInRange p tables (Leaf price) = IsLeafInRange tables price
 
--- all numbers are in range, and all terminals, arcs, shipments and tables exist
+-- all numbers are in range, all terminals, arcs, shipments and tables exist, and there is a list of
+-- spans for each table
 pub record IsInRange (p : Problem) (c : Statement) : Type 0 where
   pub answer : IsAnswerInRange p c.answer
   pub scale : IfSome c.scale (IsScaleInRange p)
+  pub unit : IfSome c.unit IsUnitInRange
   pub legs : All (IsLegInRange p) c.legs
   pub trucks : All (IsTruckInRange p) c.trucks
   pub points : All (IsPointInRange p) c.points
   pub tables : All (All (IsShareInRange p)) c.tables
+  pub spans : All (All (IsSpanInRange p)) c.spans
+  pub beside : length c.spans ≡ length c.tables
   pub tree : All (IsNodeInRange p c.tables) c.tree
 
 -- the shipment of an answer exists
@@ -112,6 +133,11 @@ pub record ShareExists (p : Problem) (share : ClassShare) : Type 0 where
   pub arc : share.arc < length p.arcs
   pub weights : All (WeightExists p) share.weights
 
+-- the arc of a span and the shipments of its weights exist
+pub record SpanExists (p : Problem) (span : ClassSpan) : Type 0 where
+  pub arc : span.arc < length p.arcs
+  pub weights : All (WeightExists p) span.weights
+
 -- the shipment, the arc and the terminal of a split exist
 abbrev pub SplitExists : Problem → Split → Type 0
 SplitExists p (ByArc shipment arc) = (shipment < length p.shipments) × (arc < length p.arcs)
@@ -129,4 +155,5 @@ pub record IsNamed (p : Problem) (c : Statement) : Type 0 where
   pub trucks : All (TruckExists p) c.trucks
   pub points : All (PointExists p) c.points
   pub tables : All (All (ShareExists p)) c.tables
+  pub spans : All (All (SpanExists p)) c.spans
   pub tree : All (NodeExists p) c.tree

@@ -10,6 +10,8 @@ use Rattle.fp_prices.specs.declared.leaf_prices.Kind.TheVariants.{Linear, Even, 
 use Rattle.fp_prices.specs.declared.leaf_prices.LeafPrice.{LeafPrice}
 use Rattle.fp_prices.specs.declared.tables.Weight.{Weight}
 use Rattle.fp_prices.specs.Shares.{ClassShare}
+use Rattle.fp_spans.specs.SpanKinds.{spans_of_table}
+use Rattle.fp_spans.specs.Spans.{ClassSpan}
 use Rattle.fp_timenodes.specs.declared.places.AddedPoint.{AddedPoint}
 use Rattle.fp_timetable.specs.declared.lines.LegLine.{LegLine}
 use Rattle.fp_timetable.specs.declared.lines.TruckLine.{TruckLine}
@@ -85,6 +87,15 @@ abbrev pub scale_rows : Option ℕ → List (List (List ℕ))
 scale_rows None = []
 scale_rows (Some scale) = scale_fields scale ∷ []
 
+-- `unit,Q`
+abbrev pub unit_fields : ℕ → List (List ℕ)
+unit_fields unit = codes "unit" ∷ decimal unit ∷ []
+
+-- the line of a unit, where there is one
+abbrev pub unit_rows : Option ℕ → List (List (List ℕ))
+unit_rows None = []
+unit_rows (Some unit) = unit_fields unit ∷ []
+
 -- `leg,SHIPMENT,FROM,TO,DEPART,ARRIVE`
 abbrev pub leg_fields : Problem → LegLine → List (List ℕ)
 leg_fields p l =
@@ -115,14 +126,23 @@ weight_fields p w = codes "weight" ∷ shipment_name p w.shipment ∷ decimal w.
 abbrev pub share_rows : Problem → ClassShare → List (List (List ℕ))
 share_rows p s = share_fields p s ∷ map (weight_fields p) s.weights
 
--- the line of a table with a number, followed by its shares
-abbrev pub table_rows : Problem → ℕ → List ClassShare → List (List (List ℕ))
-table_rows p id table = table_fields id ∷ flat_map (share_rows p) table
+-- `span,FROM,TO,POINT,UNTIL,MONEY,CHARGE`
+abbrev pub span_fields : Problem → ClassSpan → List (List ℕ)
+span_fields p s =
+    codes "span" ∷ tail_name p s.arc ∷ head_name p s.arc ∷ decimal s.point ∷ decimal s.until ∷ decimal s.money ∷ decimal s.charge ∷ []
 
--- the lines of tables that are numbered from a number on
-abbrev pub tables_rows : Problem → ℕ → List (List ClassShare) → List (List (List ℕ))
-tables_rows p id [] = []
-tables_rows p id (table ∷ tables) = table_rows p id table ++ tables_rows p (id + 1) tables
+-- the line of a span, followed by its weights
+abbrev pub span_rows : Problem → ClassSpan → List (List (List ℕ))
+span_rows p s = span_fields p s ∷ map (weight_fields p) s.weights
+
+-- the line of a table with a number, followed by its shares and by the spans beside it
+abbrev pub table_rows : Problem → ℕ → List ClassShare → List ClassSpan → List (List (List ℕ))
+table_rows p id table spans = table_fields id ∷ (flat_map (share_rows p) table ++ flat_map (span_rows p) spans)
+
+-- the lines of tables that are numbered from a number on, beside which these spans are
+abbrev pub tables_rows : Problem → List (List ClassSpan) → ℕ → List (List ClassShare) → List (List (List ℕ))
+tables_rows p spans id [] = []
+tables_rows p spans id (table ∷ tables) = table_rows p id table (spans_of_table spans id) ++ tables_rows p spans (id + 1) tables
 
 -- `split,arc,SHIPMENT,FROM,TO` or `split,time,SHIPMENT,TERMINAL,AT`
 abbrev pub split_fields : Problem → Split → List (List ℕ)
@@ -158,9 +178,10 @@ abbrev pub rows_of : Problem → Statement → List (List (List ℕ))
 rows_of p c =
     answer_fields p c.answer
     ∷ (scale_rows c.scale
+    ++ (unit_rows c.unit
     ++ (map (leg_fields p) c.legs
     ++ (map (truck_fields p) c.trucks
     ++ (map (point_fields p) c.points
-    ++ (tables_rows p 1 c.tables
+    ++ (tables_rows p c.spans 1 c.tables
     ++ (map (node_fields p) c.tree
-    ++ (end_fields ∷ [])))))))
+    ++ (end_fields ∷ []))))))))

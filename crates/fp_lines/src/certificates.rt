@@ -1,5 +1,6 @@
 //! What a certificate is made of.
 use fp_prices::{LeafPrice, Table};
+use fp_spans::TableSpans;
 use fp_timenodes::AddedPoint;
 use fp_timetable::{LegLine, TruckLine};
 use fp_tree::Split;
@@ -62,6 +63,9 @@ pub struct Certificate {
     /// How many parts of prices make a unit of money, 1 to 1,000,000,000. `None` stands for
     /// 1,000,000.
     pub scale: Option<u32>,
+    /// A number that divides what each plan costs, by which bounds are rounded up, at least 1. `None`
+    /// where they aren't.
+    pub unit: Option<u128>,
     /// The legs of the plan, by departure and then by shipment.
     pub legs: Vec<LegLine>,
     /// The departures of the plan with their trucks, by departure and then by arc.
@@ -70,6 +74,8 @@ pub struct Certificate {
     pub points: Vec<AddedPoint>,
     /// The tables of prices, numbered from 1.
     pub tables: Vec<Table>,
+    /// The spans beside each table, in the order of the tables.
+    pub spans: Vec<TableSpans>,
     /// The tree of the search in preorder.
     pub tree: Vec<Node>,
 }
@@ -82,10 +88,12 @@ impl Model for Certificate {
     ghost view = { λ c. record {
       answer = c.answer;
       scale = c.scale;
+      unit = c.unit;
       legs = c.legs.items;
       trucks = c.trucks.items;
       points = c.points.items;
       tables = c.tables.items;
+      spans = c.spans.items;
       tree = c.tree.items;
     } };
 }

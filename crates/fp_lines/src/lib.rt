@@ -13,9 +13,11 @@ mod node_lines;
 mod point_lines;
 mod scale_lines;
 mod share_lines;
+mod span_lines;
 mod split_lines;
 mod table_lines;
 mod truck_lines;
+mod unit_lines;
 mod weight_lines;
 mod writing;
 

@@ -1,14 +1,16 @@
-//! Lines `table,ID`, each followed by its shares.
-ghost use Rattle.std.specs.Prelude.{◌≡◌, ◌++◌, All, false, OnOk};
+//! Lines `table,ID`, each followed by its shares and by the spans beside it.
+ghost use Rattle.std.specs.Prelude.{◌≡◌, ◌++◌, [], All, false, slice_index_or, OnOk};
 ghost use Rattle.fp_records.specs.Text.{line_of, lines_of};
-ghost use Rattle.fp_lines.specs.Ranges.{ShareExists};
+ghost use Rattle.fp_lines.specs.Ranges.{ShareExists, SpanExists};
 ghost use Rattle.fp_lines.specs.Rows.{table_fields, table_rows, tables_rows};
 
 use crate::NoMemory;
 use crate::share_lines::write_shares;
+use crate::span_lines::write_spans;
 use fp_model::Instance;
 use fp_prices::Table;
 use fp_records::Line;
+use fp_spans::{Span, TableSpans};
 
 // Adds `table,ID`.
 fn write_id(line: &mut Line, id: u128) -> Result<(), NoMemory>
@@ -21,31 +23,52 @@ fn write_id(line: &mut Line, id: u128) -> Result<(), NoMemory>
     line.end()
 }
 
-// Adds the line of a table, followed by its shares.
+// Adds the line of a table, followed by its shares and by the spans beside it.
 fn write_table(
     line: &mut Line,
     instance: &Instance,
     id: u128,
     table: &Table,
+    spans: &[Span],
 ) -> Result<(), NoMemory>
     requires begun { line.old.begun ≡ false }
-    requires exist { All (ShareExists instance.now) table.now }
-    ensures text { OnOk result (line.new.text ≡ line.old.text ++ lines_of (table_rows instance.now id table.now)) }
+    requires shares { All (ShareExists instance.now) table.now }
+    requires spans { All (SpanExists instance.now) spans.now }
+    ensures text { OnOk result (line.new.text ≡ line.old.text ++ lines_of (table_rows instance.now id table.now spans.now)) }
     ensures ended { OnOk result (line.new.begun ≡ false) }
 {
     write_id(line, id)?;
-    write_shares(line, instance, &table.shares)
+    write_shares(line, instance, &table.shares)?;
+    write_spans(line, instance, spans)
 }
 
-/// Adds the lines of tables, numbered from 1, each followed by its shares.
-pub fn write_tables(line: &mut Line, instance: &Instance, tables: &[Table]) -> Result<(), NoMemory>
+// The spans beside the table at a place, where there is a list for it.
+fn spans_at(spans: &[TableSpans], place: usize) -> &[Span]
+    ensures { result.now ≡ slice_index_or spans.now place [] }
+{
+    match spans.get(place) {
+        Some(beside) => &beside.spans,
+        None => &[],
+    }
+}
+
+/// Adds the lines of tables, numbered from 1, each followed by its shares and by the spans beside
+/// it.
+pub fn write_tables(
+    line: &mut Line,
+    instance: &Instance,
+    tables: &[Table],
+    spans: &[TableSpans],
+) -> Result<(), NoMemory>
     requires begun { line.old.begun ≡ false }
-    requires exist { All (All (ShareExists instance.now)) tables.now }
-    ensures text { OnOk result (line.new.text ≡ line.old.text ++ lines_of (tables_rows instance.now 1 tables.now)) }
+    requires shares { All (All (ShareExists instance.now)) tables.now }
+    requires spans { All (All (SpanExists instance.now)) spans.now }
+    ensures text { OnOk result (line.new.text ≡ line.old.text ++ lines_of (tables_rows instance.now spans.now 1 tables.now)) }
     ensures ended { OnOk result (line.new.begun ≡ false) }
 {
     for (place, table) in tables.iter().enumerate() {
-        write_table(line, instance, place as u128 + 1, table)?;
+        let beside = spans_at(spans, place);
+        write_table(line, instance, place as u128 + 1, table, beside)?;
     }
     Ok(())
 }

@@ -13,6 +13,7 @@ use crate::point_lines::write_points;
 use crate::scale_lines::write_scale;
 use crate::table_lines::write_tables;
 use crate::truck_lines::write_trucks;
+use crate::unit_lines::write_unit;
 use fp_model::Instance;
 use fp_records::Line;
 use std::alloc::Global;
@@ -33,11 +34,12 @@ fn write_end(line: &mut Line) -> Result<(), NoMemory>
 ///
 /// - `answer,direct,COST`, `answer,optimal,COST`, `answer,unfinished,COST,BOUND,SPENT` with
 ///   `rounds` or `branches`, or `answer,infeasible,SHIPMENT,TIME` with a fastest time or `none`.
-/// - `scale,N`, where the certificate has a scale.
+/// - `scale,N`, where the certificate has a scale, and `unit,Q`, where it has a unit.
 /// - `leg,SHIPMENT,FROM,TO,DEPART,ARRIVE` for each leg, `truck,FROM,TO,DEPART,TRUCKS,LOAD` for each
 ///   departure, and `point,TERMINAL,TIME,ROUND` for each added point.
 /// - `table,ID` for each table, followed by `share,FROM,TO,POINT,V` for each of its shares, each
-///   followed by `weight,SHIPMENT,W` for each of its weights.
+///   followed by `weight,SHIPMENT,W` for each of its weights; and then by
+///   `span,FROM,TO,POINT,UNTIL,MONEY,CHARGE` for each span beside it, each followed by its weights.
 /// - For each node of the tree `split,arc,SHIPMENT,FROM,TO`, `split,time,SHIPMENT,TERMINAL,AT` or
 ///   `leaf,KIND,ROUND,MODE`, with `linear`, `even` or a table's ID for the kind, and `plain` or
 ///   `forced` for the mode.
@@ -56,10 +58,11 @@ pub fn write(
     let mut line = Line::new(alloc)?;
     write_answer(&mut line, instance, certificate.answer)?;
     write_scale(&mut line, certificate.scale)?;
+    write_unit(&mut line, certificate.unit)?;
     write_legs(&mut line, instance, &certificate.legs)?;
     write_trucks(&mut line, instance, &certificate.trucks)?;
     write_points(&mut line, instance, &certificate.points)?;
-    write_tables(&mut line, instance, &certificate.tables)?;
+    write_tables(&mut line, instance, &certificate.tables, &certificate.spans)?;
     write_tree(&mut line, instance, &certificate.tree)?;
     write_end(&mut line)?;
     Ok(line.into_bytes())

@@ -28,6 +28,8 @@ mod runs;
 #[cfg(test)]
 mod sizes;
 #[cfg(test)]
+mod span_certificates;
+#[cfg(test)]
 mod trials;
 #[cfg(test)]
 mod words;

@@ -27,7 +27,7 @@ const DAY: &str =
 const HEAVY: &str =
     "terminal,A\nterminal,B\narc,A,B,5,10,100,1000000000000\nshipment,S1,A,B,10000000000000,0,10\n";
 
-const ANSWERED: [Row; 29] = [
+const ANSWERED: [Row; 33] = [
     ("plan", ONE_ARC, 0, "answer,optimal,104\n"),
     (
         "plan --rounds 4000 --branches 100000",
@@ -125,6 +125,21 @@ const ANSWERED: [Row; 29] = [
         "answer,unfinished,180,150,branches\n",
     ),
     ("plan --branches 0", DETOUR, 0, "answer,optimal,100\n"),
+    // By spans each pays a whole truck at the root. All costs are multiples of the unit.
+    (
+        "plan --spans --branches 0",
+        TRIO,
+        0,
+        "answer,optimal,180\nunit,30\nleg,",
+    ),
+    ("plan --spans", ONE_ARC, 0, "answer,optimal,104\nunit,4\n"),
+    (
+        "plan --rounds 0 --spans",
+        LINE,
+        10,
+        "answer,unfinished,300,200,rounds\nunit,100\n",
+    ),
+    ("plan --spans", NO_SHIPMENTS, 0, "answer,optimal,0\nunit,"),
     ("plan", SHEET, 0, "answer,optimal,109\n"),
     ("plan", HELD, 0, "answer,optimal,300\n"),
     (
@@ -165,7 +180,7 @@ const REFUSED: [Row; 3] = [
 ];
 
 // Words, the records of the input, what a line begins with, and how many lines do.
-const COUNTS: [(&str, &str, &str, usize); 11] = [
+const COUNTS: [(&str, &str, &str, usize); 14] = [
     // Both leave together.
     ("plan", PAIR, "truck,", 1),
     ("plan", NO_SHIPMENTS, "", 3),
@@ -173,6 +188,9 @@ const COUNTS: [(&str, &str, &str, usize); 11] = [
     ("plan --rounds=1", LINE, "point,B,4,1", 1),
     ("plan --scale 1000000", LINE, "scale,", 0),
     ("plan --branches 1", TRIO, "split,", 1),
+    ("plan --branches 1", TRIO, "unit,", 0),
+    ("plan --branches 1", TRIO, "span,", 0),
+    ("plan --spans", TRIO, "split,", 0),
     ("plan --branches 1", TRIO, "leaf,", 2),
     ("plan", HELD, "leg,S1,B,C,5,10", 1),
     ("direct", DAY, "answer,direct,356900", 1),

@@ -11,8 +11,9 @@ type Row = (&'static str, &'static str, u8, &'static str);
 const APART: &str =
     "terminal,A\nterminal,B\narc,A,B,5,10,100,1\nshipment,S1,A,B,4,0,10\nshipment,S2,A,B,5,6,12\n";
 
-const ROWS: [Row; 6] = [
+const ROWS: [Row; 7] = [
     ("quote", PAIR, 0, "quote,S2,5,5\nend\n"),
+    ("quote --spans", PAIR, 0, "quote,S2,5,5\nend\n"),
     ("quote", APART, 0, "quote,S2,105,105\nend\n"),
     ("quote", LINE, 0, "quote,S2,100,100\nend\n"),
     ("quote --rounds 0", LINE, 10, "quote,S2,0,100\nend\n"),

@@ -8,7 +8,7 @@ use std::test::Fail;
 // which the answer begins.
 type Row = (&'static str, &'static str, &'static str, u8, &'static str);
 
-const ROWS: [Row; 10] = [
+const ROWS: [Row; 11] = [
     (
         "replan",
         LINE,
@@ -24,6 +24,13 @@ const ROWS: [Row; 10] = [
         "answer,stuck,S2\nend\n",
     ),
     ("replan", PAIR, "kept,S1,A,B,0", 0, "answer,optimal,209\n"),
+    (
+        "replan --spans",
+        PAIR,
+        "kept,S1,A,B,0",
+        0,
+        "answer,optimal,209\nunit,1\n",
+    ),
     (
         "replan",
         PAIR,

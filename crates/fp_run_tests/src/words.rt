@@ -4,7 +4,7 @@ use crate::runs::run_on;
 use fp_examples::ONE_ARC;
 use std::test::Fail;
 
-const LINES: [&str; 44] = [
+const LINES: [&str; 46] = [
     "",
     "fly",
     "Direct",
@@ -29,7 +29,9 @@ const LINES: [&str; 44] = [
     "bound --spans x",
     "bound spans",
     "bound -s",
-    "plan --spans",
+    "plan --spans --spans",
+    "plan --spans=1",
+    "plan spans",
     "plan now",
     "plan --rounds",
     "plan --rounds --branches 5",
@@ -52,13 +54,15 @@ const LINES: [&str; 44] = [
 ];
 
 // Words with options, which may stand in any order.
-const PLANS: [&str; 6] = [
+const PLANS: [&str; 8] = [
     "plan",
     "plan --rounds 4000",
     "plan --rounds=0 --branches=0",
     "plan --branches 100000 --rounds 0000000005",
     "plan --scale 1",
     "plan --scale=1000000000 --branches 7 --rounds=7",
+    "plan --spans",
+    "plan --rounds 7 --spans --scale 1",
 ];
 
 // One shipment that can't be carried in time.

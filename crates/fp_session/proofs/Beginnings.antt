@@ -18,12 +18,10 @@ use Rattle.fp_tree.specs.Trees.{Leaf, HaveTails, tree_branches, tree_leaves}
 use Rattle.fp_allowed.specs.Allowed.{tails_of}
 use Rattle.fp_allowed.specs.SamePoints.{AgreeOnPoints}
 use Rattle.fp_allowed.specs.Settings.{Setting}
-use Rattle.fp_prices.specs.declared.leaf_prices.Kind.TheVariants.{Linear}
 use Rattle.fp_prices.specs.declared.leaf_prices.LeafPrice.{LeafPrice}
-use Rattle.fp_prices.specs.Shares.{ClassShare}
 use Rattle.fp_duals.specs.declared.improvements.Improved.{Improved}
 use Rattle.fp_duals.specs.declared.improvements.Improved.TheVariants as improved
-use Rattle.fp_duals.specs.PriceTables.{ArePriceTables}
+use Rattle.fp_session.specs.Prices.{ArePrices, PriceLists, no_prices}
 use Rattle.fp_history.specs.Notes.{History, Refinement, last_round, points_of}
 use Rattle.fp_history.specs.Points.{BeginWith}
 use Rattle.fp_history.specs.Traces.{IsEarnedTrace}
@@ -33,25 +31,20 @@ use Rattle.fp_session.specs.declared.searches.Search.{Search}
 use Rattle.fp_session.specs.Nodes.{IsKept, IsLeafOf, IsSplitOf}
 use Rattle.fp_session.specs.Outcomes.{empty_kept, priced_kept}
 use Rattle.fp_history.specs.Budgets.{IsBudget}
-use Rattle.fp_session.specs.Searches.{IsIncumbent, IsLeft, IsSearch, history, in_hand}
-use Rattle.fp_session.specs.Starts.{HasBegun, start_of}
-use Rattle.fp_session.specs.StepCauses.{open_count}
+use Rattle.fp_session.specs.Searches.{IsIncumbent, IsLeft, IsSearch, history}
+use Rattle.fp_session.specs.Starts.{start_of}
 use Rattle.fp_session.proofs.ImprovedLeaves.{kept-empty, kept-priced}
 use Rattle.fp_session.proofs.Improvements.{ImprovedIn}
 
 -- no notes are earned
-pub trace-start : (p : Problem) (table : WindowTable) (tables : List (List ClassShare)) (started ended : ℕ) → IsEarnedTrace (start_of p table tables) started ended
-trace-start p table tables started ended = record {
+pub trace-start : (p : Problem) (table : WindowTable) (prices : PriceLists) (started ended : ℕ) → IsEarnedTrace (start_of p table prices) started ended
+trace-start p table prices started ended = record {
   rounds = tt;
   earned = tt;
   falling = λ i j d before lt. absurd (omega (arith, lt));
   first = λ k d lt. absurd (omega (arith, lt));
   last = λ k d lt. absurd (omega (arith, lt));
 }
-
--- no tables are in order
-pub tables-start : (p : Problem) (tables : List (List ClassShare)) → tables ≡ [] → ArePriceTables p tables
-tables-start p tables none = subst (ArePriceTables p) (sym none) (record { in_order = record { ascending = λ k d lt. absurd (omega (arith, lt)); rule = tt }; of_instance = λ k d lt. absurd (omega (arith, lt)) })
 
 -- the points begin with the initial ones
 pub begin-start : (p : Problem) (table : WindowTable) (v : TimePoints) → BeginAt p table.anchors v → v.added ≡ [] → length v.first ≤ Rattle.fp_flatnet.specs.declared.window_tables.TheConstants.MOST_ANCHORS + 2 * Rattle.fp_model.specs.declared.limits.TheConstants.MOST_SHIPMENTS → BeginWith p table.anchors v
@@ -64,64 +57,54 @@ begin-start p table v begins none few = record {
 
 -- and the network has them
 pub agree-start : (p : Problem) (table : WindowTable) (v : TimePoints) (net : TimedNetwork) → BelongsTo p table → BeginWith p table.anchors v → v.added ≡ [] → IsNetworkOf p v 0 net →
-    AgreeOnPoints p (points_in net) (points_of (start_of p table []) 0)
-agree-start p table v net belongs begins none is = AgreeOnPoints-history (start_of p table []) 0 0 belongs (trace-start p table [] 0 0) (omega arith) v 0 net begins none is
+    AgreeOnPoints p (points_in net) (points_of (start_of p table no_prices) 0)
+agree-start p table v net belongs begins none is = AgreeOnPoints-history (start_of p table no_prices) 0 0 belongs (trace-start p table no_prices 0 0) (omega arith) v 0 net begins none is
 
-module _ (p : Problem) (table : WindowTable) (net : TimedNetwork) (valid : IsValid p) (same : AgreeOnPoints p (points_in net) (points_of (start_of p table []) 0)) (before after : List (List ClassShare)) (r : Improved)
-    (x : Setting) (setting : x ≡ record { problem = p; windows = table; network = net }) (none : before ≡ []) (here : ImprovedIn x [] before after Linear 0 r) where
-  own : ImprovedIn (record { problem = p; windows = table; network = net }) [] before after Linear 0 r
-  own = subst (λ (y : Setting). ImprovedIn y [] before after Linear 0 r) setting here
+module _ (p : Problem) (table : WindowTable) (net : TimedNetwork) (valid : IsValid p) (same : AgreeOnPoints p (points_in net) (points_of (start_of p table no_prices) 0)) (after : PriceLists) (r : Improved)
+    (x : Setting) (setting : x ≡ record { problem = p; windows = table; network = net }) (here : ImprovedIn x [] after 0 r) where
+  own : ImprovedIn (record { problem = p; windows = table; network = net }) [] after 0 r
+  own = subst (λ (y : Setting). ImprovedIn y [] after 0 r) setting here
 
   -- what is kept of the root, where it is empty
   pub root-empty : (shipment : ℕ) → r ≡ improved.Empty shipment → IsKept (start_of p table after) [] (empty_kept 0).payload (empty_kept 0).value
   root-empty shipment was =
       kept-empty (start_of p table after) net [] valid same shipment 0 0
-      (subst (λ (q : Improved). ImprovedIn (record { problem = p; windows = table; network = net }) [] before after Linear 0 q) was own).0
+      (subst (λ (q : Improved). ImprovedIn (record { problem = p; windows = table; network = net }) [] after 0 q) was own)
 
   -- and where it has a price
   pub root-priced : (price : LeafPrice) (value : ℕ) (walks : Rattle.std.specs.declared.vec.Vec.Vec (List Leg) Rattle.std.specs.declared.alloc.Global.Global) → r ≡ improved.Priced price value walks →
       IsKept (start_of p table after) [] (priced_kept price value).payload (priced_kept price value).value
   root-priced price value walks was =
-      kept-priced (start_of p table after) net [] valid same before Linear price value walks.items
-      (subst (λ (q : Improved). ImprovedIn (record { problem = p; windows = table; network = net }) [] before after Linear 0 q) was own) 0
+      kept-priced (start_of p table after) net [] valid same price value walks.items
+      (subst (λ (q : Improved). ImprovedIn (record { problem = p; windows = table; network = net }) [] after 0 q) was own) 0
 
 -- a search that begins
-pub IsSearch-start : (s : Search) (tables : List (List ClassShare)) (payload : Payload) (value : ℕ) → BelongsTo s.instance s.windows → IsBudget s.budget → IsIncumbent s.instance s.windows s.incumbent s.cost →
-    s.cost ≤ s.started → BeginWith s.instance s.windows.anchors s.points → s.points.added ≡ [] → IsNetworkOf s.instance s.points 0 s.network → ArePriceTables s.instance tables →
-    IsKept (start_of s.instance s.windows tables) [] payload value → s.tree ≡ open_leaf payload value ∷ [] → s.trace.items ≡ [] → s.left ≡ None → IsSearch s tables
-IsSearch-start s tables payload value belongs budget incumbent cheaper points added network prices kept tree trace going = record {
+pub IsSearch-start : (s : Search) (prices : PriceLists) (payload : Payload) (value : ℕ) → BelongsTo s.instance s.windows → IsBudget s.budget → IsIncumbent s.instance s.windows s.incumbent s.cost →
+    s.cost ≤ s.started → BeginWith s.instance s.windows.anchors s.points → s.points.added ≡ [] → IsNetworkOf s.instance s.points 0 s.network → ArePrices s.instance prices →
+    IsKept (start_of s.instance s.windows prices) [] payload value → s.tree ≡ open_leaf payload value ∷ [] → s.trace.items ≡ [] → s.left ≡ None → IsSearch s prices
+IsSearch-start s prices payload value belongs budget incumbent cheaper points added network are kept tree trace going = record {
   belongs = belongs;
   budget = budget;
   incumbent = incumbent;
   cheaper = cheaper;
-  trace = at (λ h. IsEarnedTrace h s.started s.cost) (trace-start s.instance s.windows tables s.started s.cost);
+  trace = at (λ h. IsEarnedTrace h s.started s.cost) (trace-start s.instance s.windows prices s.started s.cost);
   rounds = at (λ h. last_round h ≤ s.budget.rounds) (omega arith);
   points = points;
   added = added ∙ sym (ap Rattle.fp_history.specs.Notes.added_of trace);
   network = at (λ h. IsNetworkOf s.instance s.points (last_round h) s.network) network;
-  prices = prices;
+  prices = are;
   tails = subst (HaveTails (tails_of s.instance) fork_of) (sym tree) (tt, tt);
   few = subst (λ (ns : List (Node Payload)). Rattle.fp_tree.specs.Nodes.split_count ns ≤ s.budget.branches) (sym tree) (omega arith);
   splits = at (λ h. All (IsSplitOf h s.started s.cost) (tree_branches fork_of s.tree))
-      (subst (λ (ns : List (Node Payload)). All (IsSplitOf (start_of s.instance s.windows tables) s.started s.cost) (tree_branches fork_of ns)) (sym tree) (All-nil (IsSplitOf (start_of s.instance s.windows tables) s.started s.cost)));
+      (subst (λ (ns : List (Node Payload)). All (IsSplitOf (start_of s.instance s.windows prices) s.started s.cost) (tree_branches fork_of ns)) (sym tree) (All-nil (IsSplitOf (start_of s.instance s.windows prices) s.started s.cost)));
   leaves = at (λ h. All (IsLeafOf h s.cost) (tree_leaves fork_of s.tree))
-      (subst (λ (ns : List (Node Payload)). All (IsLeafOf (start_of s.instance s.windows tables) s.cost) (tree_leaves fork_of ns)) (sym tree)
-      (All-cons (IsLeafOf (start_of s.instance s.windows tables) s.cost) root [] (record { kept = kept; closed = λ shut. absurd (false≢true shut) }) (All-nil (IsLeafOf (start_of s.instance s.windows tables) s.cost))));
-  left = subst (λ (o : Option Rattle.fp_history.specs.declared.endings.Left.Left). IfSome o (IsLeft s tables)) (sym going) tt;
+      (subst (λ (ns : List (Node Payload)). All (IsLeafOf (start_of s.instance s.windows prices) s.cost) (tree_leaves fork_of ns)) (sym tree)
+      (All-cons (IsLeafOf (start_of s.instance s.windows prices) s.cost) root [] (record { kept = kept; closed = λ shut. absurd (false≢true shut) }) (All-nil (IsLeafOf (start_of s.instance s.windows prices) s.cost))));
+  left = subst (λ (o : Option Rattle.fp_history.specs.declared.endings.Left.Left). IfSome o (IsLeft s prices)) (sym going) tt;
 }
   where
     root : Leaf (Node Payload)
     root = record { node = open_leaf payload value; sides = [] }
 
-    at : (P : History → Type 0) → P (start_of s.instance s.windows tables) → P (history s tables)
-    at P = subst (λ (ns : List Refinement). P (record { problem = s.instance; windows = s.windows; trace = ns; tables = tables })) (sym trace)
-
--- and it has made no step
-pub HasBegun-start : (s : Search) (start : List (List Leg)) (payload : Payload) (value : ℕ) → s.incumbent ≡ start → s.tree ≡ open_leaf payload value ∷ [] → s.trace.items ≡ [] → s.left ≡ None → HasBegun start (in_hand s)
-HasBegun-start s start payload value incumbent tree trace going = record {
-  incumbent = incumbent;
-  leaves = ap (λ (ns : List (Node Payload)). open_count ns) tree;
-  splits = ap (λ (ns : List (Node Payload)). split_count ns) tree;
-  trace = trace;
-  going = going;
-}
+    at : (P : History → Type 0) → P (start_of s.instance s.windows prices) → P (history s prices)
+    at P = subst (λ (ns : List Refinement). P (record { problem = s.instance; windows = s.windows; trace = ns; tables = prices.tables; spans = prices.spans; unit = prices.unit })) (sym trace)

@@ -1,6 +1,6 @@
 -- A split that was chosen divides a leaf.
-use Rattle.std.proofs.Common.{◌≡◌, ℕ, ◌<◌, List, length, refl, sym, subst, arith}
-use Rattle.std.specs.Prelude.{None, Option}
+use Rattle.std.proofs.Common.{ℕ, ◌<◌, List, length, refl, sym, subst, arith}
+use Rattle.std.specs.Prelude.{Option}
 use Rattle.fp_model.specs.Problem.{Problem}
 use Rattle.fp_relaxmodel.proofs.MetTerminals.{arc-within}
 use Rattle.fp_flatnet.specs.declared.window_tables.Window.{Window}
@@ -19,15 +19,12 @@ use Rattle.fp_allowed.specs.Departures.{DividesDepartures, IsSplitAt}
 use Rattle.fp_allowed.specs.Slack.{DividesSome}
 use Rattle.fp_lines.specs.Ranges.{IsSplitInRange}
 use Rattle.fp_prices.specs.declared.leaf_prices.Kind.{Kind}
-use Rattle.fp_prices.specs.Shares.{ClassShare}
 use Rattle.fp_prices.specs.Tables.{HasKind}
 use Rattle.fp_prices.proofs.TableAppends.{HasKind-append}
-use Rattle.fp_duals.specs.PriceTables.{ArePriceTables}
 use Rattle.fp_session.specs.declared.searches.Search.{Search}
-use Rattle.fp_session.specs.Outcomes.{HaveGrown}
+use Rattle.fp_session.specs.Prices.{HaveGrown, PriceLists}
 use Rattle.fp_session.specs.Searches.{IsSearch}
 use Rattle.fp_session.proofs.Improvements.{setting_of}
-use Rattle.fp_session.proofs.SearchChanges.{IsSearch-with_tables}
 
 module _ (p : Problem) (k terminal : ℕ) where
   -- a split at a terminal is in range
@@ -45,19 +42,14 @@ module _ (p : Problem) (k terminal : ℕ) where
       DividesSome p windows sides (record { split = split; tail = terminal })
   DividesSome-at windows sides split exists divides = record { shipment = k; terminal = terminal; exists = exists; tail = refl; divides = divides }
 
--- a search knows what it did with tables that have grown
-pub IsSearch-grown : (s : Search) (before after : List (List ClassShare)) → IsSearch s before → s.left ≡ None → HaveGrown s.instance before after → IsSearch s after
-IsSearch-grown s before after is going grown =
-    subst (IsSearch s) (sym grown.is) (IsSearch-with_tables s before is going grown.more (subst (ArePriceTables s.instance) grown.is grown.prices))
-
--- and the kinds that it had
-pub HasKind-grown : (p : Problem) (before after : List (List ClassShare)) (kind : Kind) → HaveGrown p before after → HasKind before kind → HasKind after kind
-HasKind-grown p before after kind grown has = subst (λ (ts : List (List ClassShare)). HasKind ts kind) (sym grown.is) (HasKind-append before grown.more kind has)
+-- prices that have grown have the kinds that they had
+pub HasKind-grown : (p : Problem) (before after : PriceLists) (kind : Kind) → HaveGrown p before after → HasKind before.tables kind → HasKind after.tables kind
+HasKind-grown p before after kind grown has = subst (λ (x : PriceLists). HasKind x.tables kind) (sym grown.is) (HasKind-append before.tables grown.tables kind has)
 
 -- a terminal where a forced chain of a leaf ends with several ways to go exists
-pub terminal-exists : (s : Search) (tables : List (List ClassShare)) (sides : List Side) (k terminal : ℕ) → IsSearch s tables → EndsInSeveral (record { setting = setting_of s; sides = sides }) k terminal →
+pub terminal-exists : (s : Search) (prices : PriceLists) (sides : List Side) (k terminal : ℕ) → IsSearch s prices → EndsInSeveral (record { setting = setting_of s; sides = sides }) k terminal →
     terminal < length s.instance.terminals
-terminal-exists s tables sides k terminal is ends =
+terminal-exists s prices sides k terminal is ends =
     let leave : SeveralLeave s.instance (allowed_in (setting_of s) sides k) terminal = ends.ends.3 in
     let exists : leave.one.arc < length s.instance.arcs =
     allowed_exists s.instance (windows_in s.windows) (points_in s.network) sides k leave.one leave.one_allowed in

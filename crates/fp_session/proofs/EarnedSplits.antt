@@ -1,9 +1,8 @@
 -- A leaf that is divided earned it.
 use Rattle.std.proofs.Common.{◌≡◌, ℕ, ◌<◌, ◌≤◌, Bool, false, List, subst, arith}
 use Rattle.std.specs.Prelude.{MatchBool}
-use Rattle.std.specs.Int.{div_ceil}
 use Rattle.fp_tree.specs.declared.sides.Side.{Side}
-use Rattle.fp_history.specs.Notes.{History}
+use Rattle.fp_history.specs.Notes.{History, worth_of}
 use Rattle.fp_history.specs.PrintedLeaves.{IsEmptyAt}
 use Rattle.fp_history.specs.Splits.{IsEarnedSplit}
 use Rattle.fp_session.specs.declared.payloads.Payload.{Payload}
@@ -21,12 +20,12 @@ IsEarnedAs-kept h sides payload value kept some =
 -- where it is worth less than the incumbent, which costs no more than the plan that the search started
 -- with, it is a split that is earned by that cost
 pub IsEarnedSplit-kept : (h : History) (started cost : ℕ) (sides : List Side) (payload : Payload) (value : ℕ) → IsKept h sides payload value → payload.empty ≡ false →
-    div_ceil value h.problem.scale < cost → cost ≤ started → IsEarnedSplit h started cost sides (split_note (record payload { incumbent = cost }))
+    worth_of h value < cost → cost ≤ started → IsEarnedSplit h started cost sides (split_note (record payload { incumbent = cost }))
 IsEarnedSplit-kept h started cost sides payload value kept some below le =
     let earned_as : IsEarnedAs h sides payload.price value = IsEarnedAs-kept h sides payload value kept some in
     record {
       leaf = earned_as.earned;
-      below = subst (λ (v : ℕ). div_ceil v h.problem.scale < cost) earned_as.is below;
+      below = subst (λ (v : ℕ). worth_of h v < cost) earned_as.is below;
       first = le;
       last = omega arith;
     }

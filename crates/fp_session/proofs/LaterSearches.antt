@@ -1,19 +1,18 @@
 -- A search goes on by steps, and what it shows in the end goes on from what it had in hand.
-use Rattle.std.proofs.Common.{◌≡◌, ◌≤◌, List, [], ◌∷◌, ◌++◌, refl, sym, ap, ◌∙◌, arith}
-use Rattle.std.specs.Prelude.{IfSome, None, Option, Some}
+use Rattle.std.proofs.Common.{◌≡◌, ℕ, ◌≤◌, List, [], ◌∷◌, ◌++◌, refl, sym, ap, ◌∙◌, subst, arith}
+use Rattle.std.specs.Prelude.{IfOk, IfSome, None, Option, Some, Result, Ok, Err}
+use Rattle.std.specs.declared.alloc.AllocError.{AllocError}
 use Rattle.std.proofs.lemmas.List.{append-nil, append_assoc}
-use Rattle.std.proofs.lemmas.Option.{none-some, same_Some}
+use Rattle.std.proofs.lemmas.Option.{none-some}
 use Rattle.fp_history.specs.declared.endings.Left.{Left}
 use Rattle.fp_history.specs.Notes.{Refinement}
 use Rattle.fp_history.specs.Solutions.{Solution}
 use Rattle.fp_session.specs.declared.searches.Search.{Search}
 use Rattle.fp_session.specs.declared.steps.Step.{Step}
 use Rattle.fp_session.specs.declared.steps.Step.TheVariants as step
-use Rattle.fp_session.specs.Certificates.{IsShown}
-use Rattle.fp_session.specs.Searches.{InHand, in_hand}
-use Rattle.fp_session.specs.Solved.{GoesOnFrom, ShowsInHand}
+use Rattle.fp_session.specs.Certificates.{IsPricedBy, IsShown}
+use Rattle.fp_session.specs.Searches.{InHand}
 use Rattle.fp_session.specs.Steps.{HasGoneOn, IsStep}
-use Rattle.fp_session.specs.TreeLines.{notes_of}
 
 -- what holds of a search that had ended, where it follows from another fact of it and its end
 if-some : (o : Option Left) (A : Type 0) (P : Left → Type 0) → IfSome o (λ left. A) → ((left : Left) → o ≡ Some left → A → P left) → IfSome o P
@@ -48,16 +47,7 @@ module _ (s t u : InHand) (gone : HasGoneOn s t) (going : t.left ≡ None) where
   gone-step step.Branch is = as-before (omega (arith, is.cost)) is.trace
   gone-step (step.Done ending) is = as-before (omega (arith, is.cost)) is.trace
 
--- what is shown of a search that has ended
-pub shown-onward : (s : InHand) (t : Search) (kept : Left) (x : Solution) → HasGoneOn s (in_hand t) → t.left ≡ Some kept → IsShown (record t { left = None }) kept x → GoesOnFrom s x
-shown-onward s t kept x gone end shown = record {
-  cost = omega (arith, shown.cost, gone.cost);
-  more = gone.more;
-  trace = shown.trace ∙ gone.trace;
-  ended = if-some s.left (in_hand t ≡ s) (λ left. ShowsInHand s left x) gone.ended (λ left own same. record {
-    cost = shown.cost ∙ ap (λ (h : InHand). h.cost) same;
-    trace = shown.trace ∙ ap (λ (h : InHand). h.trace) same;
-    splits = shown.splits ∙ ap (λ (h : InHand). notes_of h.tree) same;
-    left = shown.left ∙ same_Some kept left (sym end ∙ ap (λ (h : InHand). h.left) same ∙ own);
-  });
-}
+-- what is shown of a search tells of its prices
+pub priced-shown : (s : Search) (unit own : Option ℕ) (kept : Left) (r : Result Solution AllocError) → unit ≡ own → IfOk r (IsShown s unit kept) → IfOk r (λ x. IsPricedBy own x.certificate)
+priced-shown s unit own kept (Err e) same shown = tt
+priced-shown s unit own kept (Ok x) same shown = subst (λ (u : Option ℕ). IsPricedBy u x.certificate) same shown.priced

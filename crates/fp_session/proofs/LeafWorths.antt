@@ -1,7 +1,6 @@
 -- What the leaves of a search are worth, and the bound of an answer that is unfinished.
 use Rattle.std.proofs.Common.{◌≡◌, ℕ, ◌<◌, ◌≤◌, Bool, true, false, List, ◌⊎◌, inl, inr, ⊎_elim, refl, sym, ap, ◌∙◌, subst, arith}
 use Rattle.std.specs.Prelude.{All, IsSomeAnd, MatchBool, Option, Some}
-use Rattle.std.specs.Int.{div_ceil}
 use Rattle.std.proofs.lemmas.Bool.{false≢true}
 use Rattle.std.proofs.lemmas.Option.{slice_get_within}
 use Rattle.fp_flatnet.specs.Tables.{windows_in}
@@ -10,17 +9,18 @@ use Rattle.fp_tree.specs.Nodes.{Node, fork_of as fork_at, leaf_at, leaf_count, v
 use Rattle.fp_tree.specs.Trees.{HaveTails, IsTree, Leaf, tree_leaves}
 use Rattle.fp_allowed.specs.Allowed.{tails_of}
 use Rattle.fp_prices.specs.declared.leaf_prices.LeafPrice.{LeafPrice}
-use Rattle.fp_prices.specs.Leaves.{IsLeafEmpty, IsLeafValue}
-use Rattle.fp_prices.proofs.OneValue.{leaf-value-some, leaf-value-unique}
+use Rattle.fp_prices.specs.Leaves.{IsLeafEmpty}
+use Rattle.fp_spans.specs.SpanKinds.{spans_beside}
+use Rattle.fp_spans.proofs.OneSpanValue.{span_leaves-have-one-value}
 use Rattle.fp_lines.specs.declared.certificates.Node.{Node as Line}
 use Rattle.fp_acceptance.specs.Leaves.{fork_of}
-use Rattle.fp_history.specs.Notes.{History, points_of}
+use Rattle.fp_history.specs.Notes.{History, points_of, worth_of}
 use Rattle.fp_history.specs.PrintedLeaves.{IsEmptyAt, IsLeastWorth, IsOpenBelow, IsPrintedLeaf, IsWorth, OfLeaf}
 use Rattle.fp_history.specs.Solutions.{AtLeaf}
 use Rattle.fp_history.specs.Splits.{IsEarnedAt, IsValueAt}
 use Rattle.fp_session.specs.declared.payloads.Payload.{Payload}
 use Rattle.fp_session.specs.Nodes.{IsEarnedAs, IsKept, IsLeafOf, IsSettled}
-use Rattle.fp_session.specs.TreeLines.{IsLeastBelow, lines_of, worth_of}
+use Rattle.fp_session.specs.TreeLines.{IsLeastBelow, leaf_worth, lines_of}
 use Rattle.fp_session.proofs.PrintedTree.{leaf-line, leaf-printed, leaves-printed}
 use Rattle.fp_session.proofs.TreeLines.{some_and}
 use Rattle.fp_session.proofs.TreeRanges.{all-at}
@@ -39,9 +39,9 @@ module _ (h : History) where
   pub value-kept : (sides : List Side) (payload : Payload) (value v : ℕ) → IsKept h sides payload value → IsValueAt h sides payload.price v → (payload.empty ≡ false) × (value ≡ v)
   value-kept sides payload value v kept is =
       by_mark ((payload.empty ≡ false) × (value ≡ v)) sides payload value kept
-      (λ mark empty. absurd (leaf-value-some h.problem (windows_in h.windows) (points_of h payload.price.round) sides h.tables payload.price.kind payload.price.forced v is empty.empty))
+      (λ mark empty. absurd (span_leaves-have-one-value.some h.problem (windows_in h.windows) (points_of h payload.price.round) sides h.tables (spans_beside h.spans payload.price.kind) payload.price.kind payload.price.forced v is empty.empty))
       (λ mark earned.
-      (mark, earned.is ∙ leaf-value-unique h.problem (windows_in h.windows) (points_of h payload.price.round) sides h.tables payload.price.kind payload.price.forced earned.earned.value v earned.earned.is is))
+      (mark, earned.is ∙ span_leaves-have-one-value.one h.problem (windows_in h.windows) (points_of h payload.price.round) sides h.tables (spans_beside h.spans payload.price.kind) payload.price.kind payload.price.forced earned.earned.value v earned.earned.is is))
 
   -- a leaf is printed as it is kept
   pub printed-kept : (sides : List Side) (payload : Payload) (value : ℕ) → IsKept h sides payload value → IsEmptyAt h sides payload.price ⊎ IsEarnedAt h sides payload.price
@@ -52,16 +52,16 @@ module _ (h : History) where
   abbrev pub IsWorthClaim : (claim : ℕ) → List Side → LeafPrice → Type 0
   IsWorthClaim claim sides price =
       IsLeafEmpty h.problem (windows_in h.windows) (points_of h price.round) sides
-      ⊎ ((value : ℕ) × IsLeafValue h.problem (windows_in h.windows) (points_of h price.round) sides h.tables price.kind price.forced value × (claim ≤ div_ceil value h.problem.scale))
+      ⊎ ((value : ℕ) × IsValueAt h sides price value × (claim ≤ worth_of h value))
 
-  pub worth-kept : (claim : ℕ) (sides : List Side) (payload : Payload) (value : ℕ) → IsKept h sides payload value → (payload.empty ≡ false → claim ≤ div_ceil value h.problem.scale) → IsWorthClaim claim sides payload.price
+  pub worth-kept : (claim : ℕ) (sides : List Side) (payload : Payload) (value : ℕ) → IsKept h sides payload value → (payload.empty ≡ false → claim ≤ worth_of h value) → IsWorthClaim claim sides payload.price
   worth-kept claim sides payload value kept unmarked =
       by_mark (IsWorthClaim claim sides payload.price) sides payload value kept (λ mark empty. inl empty.empty)
-      (λ mark earned. inr (earned.earned.value, earned.earned.is, subst (λ (v : ℕ). claim ≤ div_ceil v h.problem.scale) earned.is (unmarked mark)))
+      (λ mark earned. inr (earned.earned.value, earned.earned.is, subst (λ (v : ℕ). claim ≤ worth_of h v) earned.is (unmarked mark)))
 
   -- a leaf that is settled and isn't empty is worth the cost
-  pub settled-worth : (cost : ℕ) (payload : Payload) (value : ℕ) → IsSettled h cost payload value → payload.empty ≡ false → cost ≤ div_ceil value h.problem.scale
-  settled-worth cost payload value settled unmarked = ⊎_elim (λ (empty : payload.empty ≡ true). absurd (false≢true (sym unmarked ∙ empty))) (λ (worth : cost ≤ div_ceil value h.problem.scale). worth) settled
+  pub settled-worth : (cost : ℕ) (payload : Payload) (value : ℕ) → IsSettled h cost payload value → payload.empty ≡ false → cost ≤ worth_of h value
+  settled-worth cost payload value settled unmarked = ⊎_elim (λ (empty : payload.empty ≡ true). absurd (false≢true (sym unmarked ∙ empty))) (λ (worth : cost ≤ worth_of h value). worth) settled
 
   module _ (cost : ℕ) (nodes : List (Node Payload)) (tails : HaveTails (tails_of h.problem) fork_at nodes) (whole : IsTree fork_at nodes) (leaves : All (IsLeafOf h cost) (tree_leaves fork_at nodes)) where
     -- a leaf by its number
@@ -78,9 +78,9 @@ module _ (h : History) where
         let some = some_and (leaf_at nodes k) (λ (l : Leaf (Node Payload)). P l.node.payload.price l.sides) is in
         subst (λ (o : Option (Leaf Line)). IsSomeAnd o (OfLeaf P)) (sym (leaf-line h.problem nodes tails whole k some.0 some.1)) some.2
 
-    module _ (bound : ℕ) (least : IsLeastBelow h.problem.scale cost nodes (leaf_count nodes) bound) where
+    module _ (bound : ℕ) (least : IsLeastBelow h cost nodes (leaf_count nodes) bound) where
       -- a leaf that isn't empty is worth the bound
-      pub bound-le : (k : ℕ) (l : Leaf (Node Payload)) → leaf_at nodes k ≡ Some l → l.node.payload.empty ≡ false → bound ≤ div_ceil (value_of l.node) h.problem.scale
+      pub bound-le : (k : ℕ) (l : Leaf (Node Payload)) → leaf_at nodes k ≡ Some l → l.node.payload.empty ≡ false → bound ≤ worth_of h (value_of l.node)
       bound-le k l at unmarked = least.each k l (slice_get_within (tree_leaves fork_at nodes) k l at) at unmarked
 
       -- where a leaf is worth less than the cost, the bound is below it
@@ -89,22 +89,22 @@ module _ (h : History) where
           let some = some_and (leaf_at nodes k) (λ (l : Leaf (Node Payload)). IsOpenBelow h cost l.sides l.node.payload.price) is in
           let l : Leaf (Node Payload) = some.0 in
           let kept = value-kept l.sides l.node.payload (value_of l.node) some.2.value (leaf-of k l some.1).kept some.2.is in
-          let le : bound ≤ div_ceil some.2.value h.problem.scale = subst (λ (v : ℕ). bound ≤ div_ceil v h.problem.scale) kept.1 (bound-le k l some.1 kept.0) in
+          let le : bound ≤ worth_of h some.2.value = subst (λ (v : ℕ). bound ≤ worth_of h v) kept.1 (bound-le k l some.1 kept.0) in
           omega (arith, le, some.2.below)
 
       -- and it is the least that a leaf is worth
       pub least-worth : bound < cost → IsLeastWorth h (tree_leaves (fork_of h.problem) (lines_of nodes)) bound
       least-worth below =
           let found = least.some below in
-          let some = some_and (leaf_at nodes found.0) (λ (l : Leaf (Node Payload)). (l.node.payload.empty ≡ false) × (bound ≡ worth_of h.problem.scale l)) found.1 in
+          let some = some_and (leaf_at nodes found.0) (λ (l : Leaf (Node Payload)). (l.node.payload.empty ≡ false) × (bound ≡ leaf_worth h l)) found.1 in
           record {
             each = leaves-printed h.problem nodes tails whole (OfLeaf (λ price sides. (worth : ℕ) → IsWorth h sides price worth → bound ≤ worth))
                 (λ k l at worth is.
                 let kept = value-kept l.sides l.node.payload (value_of l.node) is.value (leaf-of k l at).kept is.is in
-                let le : bound ≤ div_ceil is.value h.problem.scale = subst (λ (v : ℕ). bound ≤ div_ceil v h.problem.scale) kept.1 (bound-le k l at kept.0) in
+                let le : bound ≤ worth_of h is.value = subst (λ (v : ℕ). bound ≤ worth_of h v) kept.1 (bound-le k l at kept.0) in
                 omega (arith, le, is.rounded));
             some = leaf-printed h.problem nodes tails whole (OfLeaf (λ price sides. IsWorth h sides price bound)) found.0 some.0 some.1
                 (by_mark (IsWorth h some.0.sides some.0.node.payload.price bound) some.0.sides some.0.node.payload (value_of some.0.node) (leaf-of found.0 some.0 some.1).kept
                 (λ mark empty. absurd (false≢true (sym some.2.0 ∙ mark)))
-                (λ mark earned. record { value = earned.earned.value; is = earned.earned.is; rounded = some.2.1 ∙ ap (λ (v : ℕ). div_ceil v h.problem.scale) earned.is }));
+                (λ mark earned. record { value = earned.earned.value; is = earned.earned.is; rounded = some.2.1 ∙ ap (λ (v : ℕ). worth_of h v) earned.is }));
           }

@@ -1,4 +1,7 @@
 pub mod RefinedPoints
+pub mod GrownPrices
+pub mod Worths
+pub mod ImprovedPrices
 pub mod ImprovedLeaves
 pub mod TreeChanges
 pub mod SearchChanges
@@ -8,6 +11,7 @@ pub mod PrintedTree
 pub mod PlanCosts
 pub mod LineRanges
 pub mod TableRanges
+pub mod PriceRanges
 pub mod PointRanges
 pub mod TreeRanges
 pub mod LeafWorths

@@ -21,7 +21,7 @@ use Rattle.fp_allowed.proofs.SamePoints.{AgreeOnPoints_sym}
 use Rattle.fp_relaxmodel.specs.Relaxed.{IsRelaxedPlan}
 use Rattle.fp_relaxmodel.proofs.PlansCoarsen.{HasRoutes-relaxed}
 use Rattle.fp_relaxmodel.proofs.RelaxedWalks.{IsRelaxedPlan_same}
-use Rattle.fp_prices.specs.Shares.{ClassShare}
+use Rattle.fp_session.specs.Prices.{PriceLists}
 use Rattle.fp_shortarcs.specs.declared.shorts.Short.{Short}
 use Rattle.fp_shortarcs.specs.TooShort.{AreTooShort, CanBePoint, IsShort}
 use Rattle.fp_shortarcs.proofs.SamePoints.{AreTooShort_same, CanBePoint_same}
@@ -34,19 +34,19 @@ use Rattle.fp_session.specs.Moves.{points_now}
 use Rattle.fp_session.specs.Refining.{ArePlacesOf, CanAdd, IsPlaceAmong}
 use Rattle.fp_session.specs.Searches.{IsSearch, history}
 
-module _ (s : Search) (tables : List (List ClassShare)) (is : IsSearch s tables) where
+module _ (s : Search) (prices : PriceLists) (is : IsSearch s prices) where
   -- the network has the points as of the last round
   pub agree-now : AgreeOnPoints s.instance (points_in s.network) (points_now s)
   agree-now =
-      AgreeOnPoints-history (history s tables) s.started s.cost is.belongs is.trace (omega (arith, is.rounds, is.budget.rounds)) s.points (last_round (history s tables)) s.network is.points is.added is.network
+      AgreeOnPoints-history (history s prices) s.started s.cost is.belongs is.trace (omega (arith, is.rounds, is.budget.rounds)) s.points (last_round (history s prices)) s.network is.points is.added is.network
 
   -- among them the initial ones
   pub initial-now : HasInitialPoints s.instance s.windows.anchors (points_in s.network)
   initial-now =
       HasInitialPoints_same s.instance s.windows.anchors (points_now s) (points_in s.network) (AgreeOnPoints_sym s.instance (points_in s.network) (points_now s) agree-now)
       (λ terminal at lt has.
-      list_has-append (initial_points s.instance s.windows.anchors terminal) (added_at (added_of s.trace.items) terminal (last_round (history s tables))) at
-      ∙ or_left (list_has (initial_points s.instance s.windows.anchors terminal) at) (list_has (added_at (added_of s.trace.items) terminal (last_round (history s tables))) at) has)
+      list_has-append (initial_points s.instance s.windows.anchors terminal) (added_at (added_of s.trace.items) terminal (last_round (history s prices))) at
+      ∙ or_left (list_has (initial_points s.instance s.windows.anchors terminal) at) (list_has (added_at (added_of s.trace.items) terminal (last_round (history s prices))) at) has)
 
   -- a relaxed plan as of the last round is one of the network
   pub relaxed-now : (walks : List (List Leg)) → IsRelaxedPlan s.instance (windows_in s.windows) (points_now s) walks → IsRelaxedPlan s.instance (windows_in s.windows) (points_in s.network) walks
@@ -54,17 +54,17 @@ module _ (s : Search) (tables : List (List ClassShare)) (is : IsSearch s tables)
       IsRelaxedPlan_same s.instance is.belongs.valid (windows_in s.windows) (points_now s) (points_in s.network) (AgreeOnPoints_sym s.instance (points_in s.network) (points_now s) agree-now) walks relaxed
 
   -- no point is of a round after the last one
-  pub greatest-now : greatest_round s.points.added ≤ last_round (history s tables)
-  greatest-now = omega (arith, ap greatest_round is.added, greatest_round-history (history s tables) s.started s.cost is.trace)
+  pub greatest-now : greatest_round s.points.added ≤ last_round (history s prices)
+  greatest-now = omega (arith, ap greatest_round is.added, greatest_round-history (history s prices) s.started s.cost is.trace)
 
   -- so the network is that of the next round too, before its points are added
-  pub network-next : (round : ℕ) → round ≡ last_round (history s tables) + 1 → IsNetworkOf s.instance s.points round s.network
-  network-next round next = IsNetworkOf_from_greatest s.instance s.points (last_round (history s tables)) round s.network greatest-now (omega (arith, next)) is.network
+  pub network-next : (round : ℕ) → round ≡ last_round (history s prices) + 1 → IsNetworkOf s.instance s.points round s.network
+  network-next round next = IsNetworkOf_from_greatest s.instance s.points (last_round (history s prices)) round s.network greatest-now (omega (arith, next)) is.network
 
   module _ (walks : List (List Leg)) (shorts : List Short) (places : List Place) (short : AreTooShort s.instance (points_in s.network) walks shorts) (can : All (CanBePoint s.instance (points_in s.network)) shorts)
       (are : ArePlacesOf shorts places) where
     -- the places can be added
-    pub places-can : (round : ℕ) → round ≡ last_round (history s tables) + 1 → All (CanAdd s.instance s.points round) places
+    pub places-can : (round : ℕ) → round ≡ last_round (history s prices) + 1 → All (CanAdd s.instance s.points round) places
     places-can round next = All-weaker (IsPlaceAmong shorts) (CanAdd s.instance s.points round) one places are.each
       where
         one : (q : Place) → IsPlaceAmong shorts q → CanAdd s.instance s.points round q
@@ -74,7 +74,7 @@ module _ (s : Search) (tables : List (List ClassShare)) (is : IsSearch s tables)
             (record {
               terminal = own.terminal;
               time = omega (arith, own.before, horizon-in_time s.instance.shipments (λ k d lt. (is.belongs.valid.parts.shipments k d lt).within.due));
-              new = ap (λ (qs : List ℕ). list_has qs among.short.at) (points_at_from_greatest s.points among.short.terminal (last_round (history s tables)) round greatest-now (omega (arith, next)))
+              new = ap (λ (qs : List ℕ). list_has qs among.short.at) (points_at_from_greatest s.points among.short.terminal (last_round (history s prices)) round greatest-now (omega (arith, next)))
                   ∙ sym (is.network.points among.short.terminal own.terminal among.short.at) ∙ own.new;
             })
 

@@ -1,7 +1,6 @@
 -- What a step may do at an open leaf.
 use Rattle.std.proofs.Common.{◌≡◌, ℕ, ◌+◌, ◌<◌, ◌≤◌, inl, inr, Bool, true, false, List, [], ◌∷◌, length, refl, sym, ap, ◌∙◌, subst, arith}
 use Rattle.std.specs.Prelude.{All, IsSomeAnd, None, Option, Some}
-use Rattle.std.specs.Int.{div_ceil}
 use Rattle.std.proofs.lemmas.Bool.{false≢true}
 use Rattle.std.proofs.lemmas.List.Elements.{All-cons, All-nil}
 use Rattle.fp_lists.specs.Distinct.{AreDistinct}
@@ -30,7 +29,7 @@ use Rattle.fp_relaxmodel.specs.Relaxed.{AreTimedWalks, IsRelaxedPlan}
 use Rattle.fp_relaxmodel.specs.Terminals.{terminals_on}
 use Rattle.fp_relaxmodel.proofs.RelaxedWalks.{IsRelaxedPlan-timed}
 use Rattle.fp_prices.specs.Rounds.{LeafModel, RoundModel}
-use Rattle.fp_prices.specs.Shares.{ClassShare}
+use Rattle.fp_history.specs.Notes.{worth_of}
 use Rattle.fp_history.specs.Solutions.{AreWalksUnder, HasSeveral}
 use Rattle.fp_session.specs.declared.dividing.Several.{Several}
 use Rattle.fp_session.specs.declared.kept.Kept.{Kept}
@@ -41,9 +40,11 @@ use Rattle.fp_session.specs.declared.searches.Search.{Search}
 use Rattle.fp_session.specs.Dividing.{IsSeveral, NoneSeveral}
 use Rattle.fp_session.specs.Moves.{AtOpenLeaf, IsMove, IsMoveAt, IsOpenMove, IsUnsettled, points_now}
 use Rattle.fp_session.specs.Nodes.{IsKept, IsKeptAs, IsLeafOf, IsSettled}
-use Rattle.fp_session.specs.Outcomes.{HaveGrown, IsFound}
+use Rattle.fp_session.specs.Outcomes.{IsFound}
+use Rattle.fp_session.specs.Prices.{ArePrices, HaveGrown, PriceLists}
 use Rattle.fp_session.specs.Searches.{IsSearch, history}
 use Rattle.fp_session.proofs.Applied.{of-value, some-value}
+use Rattle.fp_session.proofs.GrownPrices.{unit-some, worth-grown}
 use Rattle.fp_session.proofs.Improvements.{IsKept-grown, setting_of}
 use Rattle.fp_session.proofs.NextRounds.{agree-now}
 use Rattle.fp_session.proofs.ReachedWalks.{NoneSeveral-cheaper, NoneSeveral-routes}
@@ -70,19 +71,19 @@ module _ (s : Search) (sides : List Side) (walks : List (List Leg)) (under : Are
       (λ k t walk timed. IsTimedWalk_without_sides s.instance (windows_in s.windows) (points_now s) sides k t walk timed) 0 s.instance.shipments walks under
 
   -- so they are a relaxed plan where no terminal stands twice on one
-  pub under-relaxed : (tables : List (List ClassShare)) → IsSearch s tables → All (λ walk. AreDistinct (terminals_on s.instance walk)) walks →
+  pub under-relaxed : (prices : PriceLists) → IsSearch s prices → All (λ walk. AreDistinct (terminals_on s.instance walk)) walks →
       IsRelaxedPlan s.instance (windows_in s.windows) (points_now s) walks
-  under-relaxed tables is apart = IsRelaxedPlan-timed s.instance (windows_in s.windows) (points_now s) walks is.belongs.valid under-timed apart
+  under-relaxed prices is apart = IsRelaxedPlan-timed s.instance (windows_in s.windows) (points_now s) walks is.belongs.valid under-timed apart
 
 -- a shipment that has several ways to go at a leaf has them over the points as of the last round
-pub IsSeveral-now : (s : Search) (tables : List (List ClassShare)) (leaf : LeafModel) (sides : List Side) (several : Several) → IsSearch s tables → leaf.setting ≡ setting_of s → leaf.sides ≡ sides →
+pub IsSeveral-now : (s : Search) (prices : PriceLists) (leaf : LeafModel) (sides : List Side) (several : Several) → IsSearch s prices → leaf.setting ≡ setting_of s → leaf.sides ≡ sides →
     IsSeveral leaf several → HasSeveral s.instance s.windows (points_now s) sides several.shipment
-IsSeveral-now s tables leaf sides several is setting are has =
+IsSeveral-now s prices leaf sides several is setting are has =
     over (subst (λ (l : List Side). IsSeveral (record { setting = setting_of s; sides = l }) several) are
     (subst (λ (x : Setting). IsSeveral (record { setting = x; sides = leaf.sides }) several) setting has))
   where
     same : is_allowed s.instance (windows_in s.windows) (points_in s.network) sides ≡ is_allowed s.instance (windows_in s.windows) (points_now s) sides
-    same = is_allowed_same s.instance is.belongs.valid (points_in s.network) (points_now s) (agree-now s tables is) (windows_in s.windows) sides
+    same = is_allowed_same s.instance is.belongs.valid (points_in s.network) (points_now s) (agree-now s prices is) (windows_in s.windows) sides
 
     over : IsSeveral (record { setting = setting_of s; sides = sides }) several → HasSeveral s.instance s.windows (points_now s) sides several.shipment
     over own = record {
@@ -94,17 +95,17 @@ IsSeveral-now s tables leaf sides several is setting are has =
     }
 
 -- what may be done at a leaf that has something to search for may be done at it
-pub IsMoveAt-open : (s : Search) (tables : List (List ClassShare)) (leaf : ℕ) (sides : List Side) (kept : Kept) (m : Move) → IsUnsettled (history s tables) s.cost sides kept →
-    IsOpenMove s tables leaf sides m → IsMoveAt s tables leaf sides kept m
-IsMoveAt-open s tables leaf sides kept move.Close unsettled is = absurd is
-IsMoveAt-open s tables leaf sides kept (move.Better cheaper) unsettled is = (unsettled, is)
-IsMoveAt-open s tables leaf sides kept (move.Refine note refined) unsettled is = (unsettled, is)
-IsMoveAt-open s tables leaf sides kept (move.Divide division) unsettled is = (unsettled, is.0, is.1)
-IsMoveAt-open s tables leaf sides kept (move.Stop left) unsettled is = (unsettled, is)
+pub IsMoveAt-open : (s : Search) (prices : PriceLists) (leaf : ℕ) (sides : List Side) (kept : Kept) (m : Move) → IsUnsettled (history s prices) s.cost sides kept →
+    IsOpenMove s prices leaf sides m → IsMoveAt s prices leaf sides kept m
+IsMoveAt-open s prices leaf sides kept move.Close unsettled is = absurd is
+IsMoveAt-open s prices leaf sides kept (move.Better cheaper) unsettled is = (unsettled, is)
+IsMoveAt-open s prices leaf sides kept (move.Refine note refined) unsettled is = (unsettled, is)
+IsMoveAt-open s prices leaf sides kept (move.Divide division) unsettled is = (unsettled, is.0, is.1)
+IsMoveAt-open s prices leaf sides kept (move.Stop left) unsettled is = (unsettled, is)
 
 -- a leaf of which something is found has something to search for, where it is worth less than the cost
-pub IsUnsettled-found : (s : Search) (before after : List (List ClassShare)) (sides : List Side) (kept : Kept) (walks : List (List Leg)) → IsFound (history s before) sides kept walks →
-    div_ceil kept.value s.instance.scale < s.cost → IsUnsettled (history s after) s.cost sides kept
+pub IsUnsettled-found : (s : Search) (before after : PriceLists) (sides : List Side) (kept : Kept) (walks : List (List Leg)) → IsFound (history s before) sides kept walks →
+    worth_of (history s after) kept.value < s.cost → IsUnsettled (history s after) s.cost sides kept
 IsUnsettled-found s before after sides kept walks found below = record {
   some = found.some;
   below = below;
@@ -112,18 +113,18 @@ IsUnsettled-found s before after sides kept walks found below = record {
 }
 
 -- a move at an open leaf, by what is kept of it
-pub IsMove-at : (s : Search) (tables : List (List ClassShare)) (k : ℕ) (l : Leaf (Node Payload)) (kept : Kept) (m : Move) → leaf_at s.tree k ≡ Some l → closed_of l.node ≡ false →
-    IsKept (history s tables) l.sides kept.payload kept.value → (kept.payload.empty ≡ false → value_of l.node ≤ kept.value) → IsMoveAt s tables k l.sides kept m → IsMove s tables k kept m
-IsMove-at s tables k l kept m at still keeps no_less may = record {
-  kept = here (λ x. IsKept (history s tables) x.sides kept.payload kept.value) keeps;
+pub IsMove-at : (s : Search) (prices : PriceLists) (k : ℕ) (l : Leaf (Node Payload)) (kept : Kept) (m : Move) → leaf_at s.tree k ≡ Some l → closed_of l.node ≡ false →
+    IsKept (history s prices) l.sides kept.payload kept.value → (kept.payload.empty ≡ false → value_of l.node ≤ kept.value) → IsMoveAt s prices k l.sides kept m → IsMove s prices k kept m
+IsMove-at s prices k l kept m at still keeps no_less may = record {
+  kept = here (λ x. IsKept (history s prices) x.sides kept.payload kept.value) keeps;
   no_less = here (λ x. kept.payload.empty ≡ false → value_of x.node ≤ kept.value) no_less;
-  planned = here (λ x. IsMoveAt s tables k x.sides kept m) may;
+  planned = here (λ x. IsMoveAt s prices k x.sides kept m) may;
 }
   where
     here : (P : Leaf (Node Payload) → Type 0) → P l → AtOpenLeaf s.tree k P
     here P holds = subst (λ (o : Option (Leaf (Node Payload))). IsSomeAnd o (λ (x : Leaf (Node Payload)). (closed_of x.node ≡ false) × P x)) (sym at) (still, holds)
 
-module _ (s : Search) (before after : List (List ClassShare)) (k : ℕ) (sides : List Side) (old : Kept) (was : AtOpenLeaf s.tree k (λ l. IsKeptAs l old))
+module _ (s : Search) (before after : PriceLists) (k : ℕ) (sides : List Side) (old : Kept) (was : AtOpenLeaf s.tree k (λ l. IsKeptAs l old))
     (on : IsSomeAnd (leaf_at s.tree k) (λ (l : Leaf (Node Payload)). l.sides ≡ sides)) where
   -- the leaf with the number
   chosen : (l : Leaf (Node Payload)) × (leaf_at s.tree k ≡ Some l) × ((closed_of l.node ≡ false) × IsKeptAs l old)
@@ -153,25 +154,25 @@ module _ (s : Search) (before after : List (List ClassShare)) (k : ℕ) (sides :
       chosen-move kept move.Close keeps (λ some. absurd (false≢true (sym some ∙ empty))) settled
 
   -- and a leaf that is worth at least the cost
-  pub dear-move : (kept : Kept) (walks : List (List Leg)) → IsFound (history s after) sides kept walks → old.value ≤ kept.value → s.cost ≤ div_ceil kept.value s.instance.scale → IsMove s after k kept move.Close
+  pub dear-move : (kept : Kept) (walks : List (List Leg)) → IsFound (history s after) sides kept walks → old.value ≤ kept.value → s.cost ≤ worth_of (history s after) kept.value → IsMove s after k kept move.Close
   dear-move kept walks found no_less dear =
       let settled : IsSettled (history s after) s.cost kept.payload kept.value = inr dear in chosen-move kept move.Close found.kept (λ some. no_less) settled
 
   -- at another the move is one that may be made there
-  pub found-move : (between : List (List ClassShare)) (kept : Kept) (walks : List (List Leg)) (m : Move) → IsFound (history s between) sides kept walks → HaveGrown s.instance between after →
-      old.value ≤ kept.value → div_ceil kept.value s.instance.scale < s.cost → IsOpenMove s after k sides m → IsMove s after k kept m
-  found-move between kept walks m found grown no_less below may =
-      chosen-move kept m (IsKept-grown s between after sides kept grown found.kept) (λ some. no_less)
-      (IsMoveAt-open s after k sides kept m (IsUnsettled-found s between after sides kept walks found below) may)
+  pub found-move : (between : PriceLists) (kept : Kept) (walks : List (List Leg)) (m : Move) → IsFound (history s between) sides kept walks → ArePrices s.instance between → HaveGrown s.instance between after →
+      old.value ≤ kept.value → worth_of (history s between) kept.value < s.cost → IsOpenMove s after k sides m → IsMove s after k kept m
+  found-move between kept walks m found are grown no_less below may =
+      chosen-move kept m (IsKept-grown s between after sides kept are grown found.kept) (λ some. no_less)
+      (IsMoveAt-open s after k sides kept m (IsUnsettled-found s between after sides kept walks found (omega (arith, worth-grown s between after kept.value grown, below))) may)
 
 -- where no shipment of a leaf has several ways to go, the walks that were found are routes and cost
 -- less than the incumbent
-pub NoneSeveral-found : (s : Search) (tables : List (List ClassShare)) (leaf : LeafModel) (sides : List Side) (kept : Kept) (walks : List (List Leg)) (n : ℕ) → IsSearch s tables → leaf.setting ≡ setting_of s →
-    leaf.sides ≡ sides → IsFound (history s tables) sides kept walks → div_ceil kept.value s.instance.scale < s.cost → n ≡ length s.instance.shipments → NoneSeveral leaf n →
+pub NoneSeveral-found : (s : Search) (prices : PriceLists) (leaf : LeafModel) (sides : List Side) (kept : Kept) (walks : List (List Leg)) (n : ℕ) → IsSearch s prices → leaf.setting ≡ setting_of s →
+    leaf.sides ≡ sides → IsFound (history s prices) sides kept walks → worth_of (history s prices) kept.value < s.cost → n ≡ length s.instance.shipments → NoneSeveral leaf n →
     All (λ walk. AreDistinct (terminals_on s.instance walk)) walks × (cost s.instance walks < s.cost)
-NoneSeveral-found s tables leaf sides kept walks n is setting are found below long none = (
-  NoneSeveral-routes (history s tables) s.network sides is.belongs (agree-now s tables is) kept walks found own,
-  NoneSeveral-cheaper (history s tables) s.network sides is.belongs (agree-now s tables is) kept walks found own s.cost below,
+NoneSeveral-found s prices leaf sides kept walks n is setting are found below long none = (
+  NoneSeveral-routes (history s prices) s.network sides is.belongs (agree-now s prices is) kept walks found own,
+  NoneSeveral-cheaper (history s prices) s.network sides is.belongs (agree-now s prices is) kept walks found own s.cost (unit-some s.instance prices is.prices) below,
 )
   where
     own : NoneSeveral (record { setting = setting_of s; sides = sides }) (length s.instance.shipments)
@@ -196,9 +197,9 @@ AtOpenLeaf-both nodes k P still holds = both (leaf_at nodes k) still holds
     both (Some l) one other = (one, other)
 
 -- an open leaf that was empty is closed
-pub empty-stays : (s : Search) (tables : List (List ClassShare)) (k : ℕ) (old : Kept) → IsSearch s tables → AtOpenLeaf s.tree k (λ l. IsKeptAs l old) → old.payload.empty ≡ true → IsMove s tables k old move.Close
-empty-stays s tables k old is was empty =
+pub empty-stays : (s : Search) (prices : PriceLists) (k : ℕ) (old : Kept) → IsSearch s prices → AtOpenLeaf s.tree k (λ l. IsKeptAs l old) → old.payload.empty ≡ true → IsMove s prices k old move.Close
+empty-stays s prices k old is was empty =
     let found = some-value (leaf_at s.tree k) (λ (l : Leaf (Node Payload)). (closed_of l.node ≡ false) × IsKeptAs l old) was in
     let on : IsSomeAnd (leaf_at s.tree k) (λ (l : Leaf (Node Payload)). l.sides ≡ found.0.sides) =
     subst (λ (o : Option (Leaf (Node Payload))). IsSomeAnd o (λ (l : Leaf (Node Payload)). l.sides ≡ found.0.sides)) (sym found.1) refl in
-    empty-move s tables tables k found.0.sides old was on old (was-kept s tables tables k found.0.sides old was on is) empty
+    empty-move s prices prices k found.0.sides old was on old (was-kept s prices prices k found.0.sides old was on is) empty

@@ -1,7 +1,7 @@
 -- Where no forced chain of a leaf ends with several ways to go, the walks that were found are these
 -- chains: they are routes, and cost less than the incumbent where the leaf is worth less.
 use Rattle.std.proofs.Common.{◌≡◌, ◌≢◌, ℕ, suc, ◌+◌, ◌*◌, ◌<◌, ◌≤◌, ◌⊎◌, ⊎_elim, Bool, List, [], ◌∷◌, length, get_or, sym, ap, ◌∙◌, subst, arith}
-use Rattle.std.specs.Prelude.{All}
+use Rattle.std.specs.Prelude.{All, IfSome}
 use Rattle.std.specs.Int.{div_ceil}
 use Rattle.std.proofs.Math.Nat.{mul-le-mul_left}
 use Rattle.std.proofs.lemmas.Bool.{cases_lt}
@@ -30,7 +30,8 @@ use Rattle.fp_relaxmodel.specs.Terminals.{terminals_on}
 use Rattle.fp_relaxmodel.proofs.MetTerminals.{route-decides}
 use Rattle.fp_prices.specs.Rounds.{LeafModel}
 use Rattle.fp_duals.specs.Improvements.{IsReachedChain}
-use Rattle.fp_history.specs.Notes.{History, last_round, points_of}
+use Rattle.fp_acceptance.proofs.Multiples.{rounded_up-more}
+use Rattle.fp_history.specs.Notes.{History, last_round, points_of, worth_of}
 use Rattle.fp_session.specs.declared.kept.Kept.{Kept}
 use Rattle.fp_session.specs.Dividing.{EndsElsewhere, NoneSeveral}
 use Rattle.fp_session.specs.Outcomes.{IsFound}
@@ -117,5 +118,7 @@ module _ (h : History) (net : TimedNetwork) (sides : List Side) (belongs : Belon
     NoneSeveral-routes = routes-from 0 h.problem.shipments walks (λ k lt. (belongs.valid.parts.shipments k no_shipment lt).ends) chains
 
     -- that cost less together than the incumbent
-    pub NoneSeveral-cheaper : (incumbent : ℕ) → div_ceil kept.value h.problem.scale < incumbent → cost h.problem walks < incumbent
-    NoneSeveral-cheaper incumbent below = cost_below h.problem.scale (cost h.problem walks) kept.value incumbent belongs.valid.scale.0 (found.reached walks chains) below
+    pub NoneSeveral-cheaper : (incumbent : ℕ) → IfSome h.unit (λ u. 1 ≤ u) → worth_of h kept.value < incumbent → cost h.problem walks < incumbent
+    NoneSeveral-cheaper incumbent some below =
+        cost_below h.problem.scale (cost h.problem walks) kept.value incumbent belongs.valid.scale.0 (found.reached walks chains)
+        (omega (arith, rounded_up-more h.unit (div_ceil kept.value h.problem.scale) some, below))

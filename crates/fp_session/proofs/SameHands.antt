@@ -9,6 +9,7 @@ use Rattle.fp_longestarcs.specs.Whole.{IsNetworkOf}
 use Rattle.fp_tree.specs.Nodes.{fork_of, split_count}
 use Rattle.fp_tree.specs.Trees.{tree_branches, tree_leaves}
 use Rattle.fp_prices.specs.Shares.{ClassShare}
+use Rattle.fp_spans.specs.Spans.{ClassSpan}
 use Rattle.fp_history.specs.declared.endings.Left.{Left}
 use Rattle.fp_history.specs.declared.endings.Left.TheVariants.{Nothing, Several, Timing}
 use Rattle.fp_history.specs.Clashes.{ClashesBelow}
@@ -17,18 +18,18 @@ use Rattle.fp_history.specs.Solutions.{AreWalksUnder, HasSeveral}
 use Rattle.fp_history.specs.Traces.{IsEarnedTrace}
 use Rattle.fp_session.specs.declared.searches.Search.{Search}
 use Rattle.fp_session.specs.Nodes.{IsLeafOf, IsSplitOf}
-use Rattle.fp_session.specs.Outcomes.{HaveGrown}
+use Rattle.fp_session.specs.Prices.{ArePrices, HaveGrown, PriceLists, first_prices}
 use Rattle.fp_session.specs.Searches.{InHand, IsLeft, IsLeftOpen, IsSearch, history, in_hand}
-use Rattle.fp_session.proofs.SearchChanges.{IsSearch-with_tables}
+use Rattle.fp_session.proofs.SearchChanges.{IsSearch-with_more}
 
-module _ (s : Search) (tables : List (List ClassShare)) where
+module _ (s : Search) (prices : PriceLists) where
   module _ (trace : Vec Refinement Global) (same : trace.items ≡ s.trace.items) where
     -- the history with the same notes
-    at : (P : History → Type 0) → P (history s tables) → P (history (record s { trace = trace }) tables)
-    at P = subst (λ (ns : List Refinement). P (record { problem = s.instance; windows = s.windows; trace = ns; tables = tables })) (sym same)
+    at : (P : History → Type 0) → P (history s prices) → P (history (record s { trace = trace }) prices)
+    at P = subst (λ (ns : List Refinement). P (record { problem = s.instance; windows = s.windows; trace = ns; tables = prices.tables; spans = prices.spans; unit = prices.unit })) (sym same)
 
     -- what it left is so
-    left-trace : (o : Option Left) → IfSome o (IsLeft s tables) → IfSome o (IsLeft (record s { trace = trace }) tables)
+    left-trace : (o : Option Left) → IfSome o (IsLeft s prices) → IfSome o (IsLeft (record s { trace = trace }) prices)
     left-trace None is = tt
     left-trace (Some Nothing) is = is
     left-trace (Some (Timing leaf relaxed)) is =
@@ -41,7 +42,7 @@ module _ (s : Search) (tables : List (List ClassShare)) where
         at (λ h. (split_count s.tree ≡ s.budget.branches) × IsLeftOpen h s.cost s.tree leaf (λ sides. HasSeveral s.instance s.windows (points_of h (last_round h)) sides shipment)) is
 
     -- a search with the same notes
-    pub IsSearch-trace : IsSearch s tables → IsSearch (record s { trace = trace }) tables
+    pub IsSearch-trace : IsSearch s prices → IsSearch (record s { trace = trace }) prices
     IsSearch-trace is = record {
       belongs = is.belongs;
       budget = is.budget;
@@ -61,7 +62,7 @@ module _ (s : Search) (tables : List (List ClassShare)) where
     }
 
   -- what it left is taken out of it
-  pub IsSearch-taken : IsSearch s tables → IsSearch (record s { left = None }) tables
+  pub IsSearch-taken : IsSearch s prices → IsSearch (record s { left = None }) prices
   IsSearch-taken is = record {
     belongs = is.belongs;
     budget = is.budget;
@@ -80,7 +81,7 @@ module _ (s : Search) (tables : List (List ClassShare)) where
     left = tt;
   }
 
-  pub IsLeft-taken : (left : Left) → IsLeft s tables left → IsLeft (record s { left = None }) tables left
+  pub IsLeft-taken : (left : Left) → IsLeft s prices left → IsLeft (record s { left = None }) prices left
   IsLeft-taken Nothing is = is
   IsLeft-taken (Timing leaf relaxed) is = is
   IsLeft-taken (Several leaf shipment) is = is
@@ -102,23 +103,27 @@ rebuild h trace = record {
 }
 
 -- a search with the same in hand
-pub IsSearch-hand : (s t : Search) (tables : List (List ClassShare)) → in_hand t ≡ in_hand s → IsSearch s tables → IsSearch t tables
-IsSearch-hand s t tables same is =
-    subst (λ (h : InHand). IsSearch (rebuild h t.trace) tables) (sym same) (IsSearch-trace s tables t.trace (ap (λ (h : InHand). h.trace) same) is)
+pub IsSearch-hand : (s t : Search) (prices : PriceLists) → in_hand t ≡ in_hand s → IsSearch s prices → IsSearch t prices
+IsSearch-hand s t prices same is =
+    subst (λ (h : InHand). IsSearch (rebuild h t.trace) prices) (sym same) (IsSearch-trace s prices t.trace (ap (λ (h : InHand). h.trace) same) is)
 
--- a search with tables that have grown
-pub IsSearch-grown : (s : Search) (before after : List (List ClassShare)) → HaveGrown s.instance before after → s.left ≡ None → IsSearch s before → IsSearch s after
+-- a search with prices that have grown
+pub IsSearch-grown : (s : Search) (before after : PriceLists) → HaveGrown s.instance before after → s.left ≡ None → IsSearch s before → IsSearch s after
 IsSearch-grown s before after grown going is =
-    subst (IsSearch s) (sym grown.is) (IsSearch-with_tables s before is going grown.more (subst (Rattle.fp_duals.specs.PriceTables.ArePriceTables s.instance) grown.is grown.prices))
+    subst (IsSearch s) (sym grown.is) (IsSearch-with_more s before is going grown.tables grown.spans (subst (ArePrices s.instance) grown.is grown.prices))
 
--- tables that have grown, cut to as many as they were
-pub cut-back : (p : Rattle.fp_model.specs.Problem.Problem) (before after cut : List (List ClassShare)) (count : ℕ) → HaveGrown p before after → count ≡ length before → cut ≡ take count after → cut ≡ before
-cut-back p before after cut count grown is made =
-    made ∙ ap (take count) grown.is ∙ ap (λ (n : ℕ). take n (before ++ grown.more)) is ∙ take-append_seam before grown.more
+-- prices that have grown, cut to as many as they were
+pub cut-back : (p : Rattle.fp_model.specs.Problem.Problem) (before after cut : PriceLists) (count : ℕ) → ArePrices p before → HaveGrown p before after → count ≡ length before.tables → cut ≡ first_prices count after → cut ≡ before
+cut-back p before after cut count are grown is made =
+    made ∙ ap (first_prices count) grown.is
+    ∙ ap (λ (ts : List (List ClassShare)). record { tables = ts; spans = take count (before.spans ++ grown.spans); unit = before.unit })
+    (ap (λ (n : ℕ). take n (before.tables ++ grown.tables)) is ∙ take-append_seam before.tables grown.tables)
+    ∙ ap (λ (ss : List (List ClassSpan)). record { tables = before.tables; spans = ss; unit = before.unit })
+    (ap (λ (n : ℕ). take n (before.spans ++ grown.spans)) (is ∙ sym are.beside) ∙ take-append_seam before.spans grown.spans)
 
-pub cut-few : (p : Rattle.fp_model.specs.Problem.Problem) (before after : List (List ClassShare)) (count : ℕ) → HaveGrown p before after → count ≡ length before → count ≤ length after
-cut-few p before after count grown is = omega (arith, is, ap (λ (ts : List (List ClassShare)). length ts) grown.is, length-append before grown.more)
+pub cut-few : (p : Rattle.fp_model.specs.Problem.Problem) (before after : PriceLists) (count : ℕ) → HaveGrown p before after → count ≡ length before.tables → count ≤ length after.tables
+cut-few p before after count grown is = omega (arith, is, ap (λ (x : PriceLists). length x.tables) grown.is, length-append before.tables grown.tables)
 
--- with tables that are as they were
-pub IsSearch-back : (s t : Search) (before cut : List (List ClassShare)) → in_hand t ≡ in_hand s → cut ≡ before → IsSearch s before → IsSearch t cut
-IsSearch-back s t before cut same tables is = subst (IsSearch t) (sym tables) (IsSearch-hand s t before same is)
+-- with prices that are as they were
+pub IsSearch-back : (s t : Search) (before cut : PriceLists) → in_hand t ≡ in_hand s → cut ≡ before → IsSearch s before → IsSearch t cut
+IsSearch-back s t before cut same prices is = subst (IsSearch t) (sym prices) (IsSearch-hand s t before same is)

@@ -1,7 +1,6 @@
 -- What a search knows stays true with each of its changes.
 use Rattle.std.proofs.Common.{◌≡◌, ℕ, ◌+◌, ◌<◌, ◌≤◌, ⊎_elim, inl, inr, Bool, true, false, List, [], ◌∷◌, ◌++◌, length, sym, ap, ◌∙◌, subst, arith}
 use Rattle.std.specs.Prelude.{All, IfSome, MatchBool, None, Option, Some}
-use Rattle.std.specs.Int.{div_ceil}
 use Rattle.std.specs.declared.alloc.Global.{Global}
 use Rattle.std.specs.declared.vec.Vec.{Vec}
 use Rattle.std.proofs.lemmas.Bool.{false≢true}
@@ -18,10 +17,10 @@ use Rattle.fp_tree.specs.Nodes.{Node, close_leaf, closed_of, divide_leaf, fork_o
 use Rattle.fp_tree.specs.Trees.{Branch, Leaf, tree_branches, tree_leaves, with_leaf}
 use Rattle.fp_allowed.specs.Allowed.{tails_of}
 use Rattle.fp_prices.specs.Shares.{ClassShare}
-use Rattle.fp_duals.specs.PriceTables.{ArePriceTables}
+use Rattle.fp_spans.specs.Spans.{ClassSpan}
 use Rattle.fp_history.specs.declared.endings.Left.{Left}
 use Rattle.fp_history.specs.declared.endings.Left.TheVariants.{Nothing, Several, Timing}
-use Rattle.fp_history.specs.Notes.{History, Refinement, added_of, last_round, points_added, with_note, with_tables}
+use Rattle.fp_history.specs.Notes.{History, Refinement, added_of, last_round, points_added, with_note, with_tables, worth_of}
 use Rattle.fp_history.specs.PrintedLeaves.{IsEmptyAt}
 use Rattle.fp_history.specs.Splits.{IsEarnedSplit}
 use Rattle.fp_history.specs.Traces.{IsEarnedTrace}
@@ -34,26 +33,28 @@ use Rattle.fp_session.specs.declared.payloads.Payload.{Payload}
 use Rattle.fp_session.specs.declared.searches.Search.{Search}
 use Rattle.fp_session.specs.Moves.{IsCheaper, IsDivision, IsNextRound, fork_in}
 use Rattle.fp_session.specs.Nodes.{IsEarnedAs, IsKept, IsLeafOf, IsPriceOf, IsSettled, IsSplitOf, split_note}
+use Rattle.fp_session.specs.Prices.{ArePrices, PriceLists, with_more}
 use Rattle.fp_session.specs.Searches.{IsLeft, IsSearch, history}
 use Rattle.fp_session.proofs.ImprovedLeaves.{IsKept-with_tables}
 use Rattle.fp_session.proofs.TreeChanges.{branches-close, branches-divide, branches-put, leaves-close, leaves-divide, leaves-put, tails-close, tails-divide, tails-put}
 
 -- nothing is left where the search hasn't ended
-nothing-left : (s : Search) (tables : List (List ClassShare)) → s.left ≡ None → IfSome s.left (IsLeft s tables)
-nothing-left s tables none = subst (λ (o : Option Left). IfSome o (IsLeft s tables)) (sym none) tt
+nothing-left : (s : Search) (prices : PriceLists) → s.left ≡ None → IfSome s.left (IsLeft s prices)
+nothing-left s prices none = subst (λ (o : Option Left). IfSome o (IsLeft s prices)) (sym none) tt
 
 module _ (h : History) (started cost : ℕ) where
-  -- a leaf and a split with more tables
-  pub IsLeafOf-with_tables : (more : List (List ClassShare)) (l : Leaf (Node Payload)) → IsLeafOf h cost l → IsLeafOf (with_tables h more) cost l
-  IsLeafOf-with_tables more l is = record { kept = IsKept-with_tables h more l.sides l.node.payload (value_of l.node) is.kept; closed = is.closed }
+  -- a leaf and a split with more prices
+  module _ (more : List (List ClassShare)) (spans : List (List ClassSpan)) (beside : length h.spans ≡ length h.tables) where
+    pub IsLeafOf-with_tables : (l : Leaf (Node Payload)) → IsLeafOf h cost l → IsLeafOf (with_tables h more spans) cost l
+    IsLeafOf-with_tables l is = record { kept = IsKept-with_tables h more spans l.sides l.node.payload (value_of l.node) beside is.kept; closed = is.closed }
 
-  pub IsSplitOf-with_tables : (more : List (List ClassShare)) (b : Branch (Node Payload)) → IsSplitOf h started cost b → IsSplitOf (with_tables h more) started cost b
-  IsSplitOf-with_tables more b is = record {
-    price = record { round = is.price.round; kind = HasKind-append h.tables more b.node.payload.price.kind is.price.kind };
-    earned = IsEarnedSplit-with_tables h started cost b.sides (split_note b.node.payload) is.earned more is.price.kind;
-    range = is.range;
-    divides = is.divides;
-  }
+    pub IsSplitOf-with_tables : (b : Branch (Node Payload)) → IsSplitOf h started cost b → IsSplitOf (with_tables h more spans) started cost b
+    IsSplitOf-with_tables b is = record {
+      price = record { round = is.price.round; kind = HasKind-append h.tables more b.node.payload.price.kind is.price.kind };
+      earned = IsEarnedSplit-with_tables h started cost b.sides (split_note b.node.payload) is.earned more spans beside is.price.kind;
+      range = is.range;
+      divides = is.divides;
+    }
 
   -- under a cheaper incumbent
   pub IsLeafOf-cheaper : (cheaper : ℕ) → cheaper ≤ cost → (l : Leaf (Node Payload)) → IsLeafOf h cost l → IsLeafOf h cheaper l
@@ -62,7 +63,7 @@ module _ (h : History) (started cost : ℕ) where
     closed = λ shut.
         ⊎_elim
         (λ (empty : l.node.payload.empty ≡ true). let e : IsSettled h cheaper l.node.payload (value_of l.node) = inl empty in e)
-        (λ (worth : cost ≤ div_ceil (value_of l.node) h.problem.scale). let e : IsSettled h cheaper l.node.payload (value_of l.node) = inr (omega (arith, le, worth)) in e)
+        (λ (worth : cost ≤ worth_of h (value_of l.node)). let e : IsSettled h cheaper l.node.payload (value_of l.node) = inr (omega (arith, le, worth)) in e)
         (is.closed shut);
   }
 
@@ -100,15 +101,15 @@ module _ (h : History) (started cost : ℕ) where
     divides = is.divides;
   }
 
-module _ (s : Search) (tables : List (List ClassShare)) (is : IsSearch s tables) (going : s.left ≡ None) where
-  -- more tables
-  pub IsSearch-with_tables : (more : List (List ClassShare)) → ArePriceTables s.instance (tables ++ more) → IsSearch s (tables ++ more)
-  IsSearch-with_tables more grown = record {
+module _ (s : Search) (prices : PriceLists) (is : IsSearch s prices) (going : s.left ≡ None) where
+  -- more prices
+  pub IsSearch-with_more : (more : List (List ClassShare)) (spans : List (List ClassSpan)) → ArePrices s.instance (with_more prices more spans) → IsSearch s (with_more prices more spans)
+  IsSearch-with_more more spans grown = record {
     belongs = is.belongs;
     budget = is.budget;
     incumbent = is.incumbent;
     cheaper = is.cheaper;
-    trace = IsEarnedTrace-with_tables (history s tables) s.started s.cost is.trace more;
+    trace = IsEarnedTrace-with_tables (history s prices) s.started s.cost is.trace more spans;
     rounds = is.rounds;
     points = is.points;
     added = is.added;
@@ -116,21 +117,21 @@ module _ (s : Search) (tables : List (List ClassShare)) (is : IsSearch s tables)
     prices = grown;
     tails = is.tails;
     few = is.few;
-    splits = All-weaker (IsSplitOf (history s tables) s.started s.cost) (IsSplitOf (history s (tables ++ more)) s.started s.cost)
-        (IsSplitOf-with_tables (history s tables) s.started s.cost more) (tree_branches fork_of s.tree) is.splits;
-    leaves = All-weaker (IsLeafOf (history s tables) s.cost) (IsLeafOf (history s (tables ++ more)) s.cost)
-        (IsLeafOf-with_tables (history s tables) s.started s.cost more) (tree_leaves fork_of s.tree) is.leaves;
-    left = nothing-left s (tables ++ more) going;
+    splits = All-weaker (IsSplitOf (history s prices) s.started s.cost) (IsSplitOf (history s (with_more prices more spans)) s.started s.cost)
+        (IsSplitOf-with_tables (history s prices) s.started s.cost more spans is.prices.beside) (tree_branches fork_of s.tree) is.splits;
+    leaves = All-weaker (IsLeafOf (history s prices) s.cost) (IsLeafOf (history s (with_more prices more spans)) s.cost)
+        (IsLeafOf-with_tables (history s prices) s.started s.cost more spans is.prices.beside) (tree_leaves fork_of s.tree) is.leaves;
+    left = nothing-left s (with_more prices more spans) going;
   }
 
   -- a cheaper incumbent
-  pub IsSearch-better : (c : Cheaper) → IsCheaper s c → IsSearch (record s { incumbent = c.plan; cost = c.cost }) tables
+  pub IsSearch-better : (c : Cheaper) → IsCheaper s c → IsSearch (record s { incumbent = c.plan; cost = c.cost }) prices
   IsSearch-better c better = record {
     belongs = is.belongs;
     budget = is.budget;
     incumbent = better.incumbent;
     cheaper = omega (arith, better.less, is.cheaper);
-    trace = IsEarnedTrace-cheaper (history s tables) s.started s.cost is.trace c.cost (omega (arith, better.less));
+    trace = IsEarnedTrace-cheaper (history s prices) s.started s.cost is.trace c.cost (omega (arith, better.less));
     rounds = is.rounds;
     points = is.points;
     added = is.added;
@@ -138,17 +139,17 @@ module _ (s : Search) (tables : List (List ClassShare)) (is : IsSearch s tables)
     prices = is.prices;
     tails = is.tails;
     few = is.few;
-    splits = All-weaker (IsSplitOf (history s tables) s.started s.cost) (IsSplitOf (history s tables) s.started c.cost)
-        (IsSplitOf-cheaper (history s tables) s.started s.cost c.cost (omega (arith, better.less))) (tree_branches fork_of s.tree) is.splits;
-    leaves = All-weaker (IsLeafOf (history s tables) s.cost) (IsLeafOf (history s tables) c.cost)
-        (IsLeafOf-cheaper (history s tables) s.started s.cost c.cost (omega (arith, better.less))) (tree_leaves fork_of s.tree) is.leaves;
-    left = nothing-left (record s { incumbent = c.plan; cost = c.cost }) tables going;
+    splits = All-weaker (IsSplitOf (history s prices) s.started s.cost) (IsSplitOf (history s prices) s.started c.cost)
+        (IsSplitOf-cheaper (history s prices) s.started s.cost c.cost (omega (arith, better.less))) (tree_branches fork_of s.tree) is.splits;
+    leaves = All-weaker (IsLeafOf (history s prices) s.cost) (IsLeafOf (history s prices) c.cost)
+        (IsLeafOf-cheaper (history s prices) s.started s.cost c.cost (omega (arith, better.less))) (tree_leaves fork_of s.tree) is.leaves;
+    left = nothing-left (record s { incumbent = c.plan; cost = c.cost }) prices going;
   }
 
   module _ (k : ℕ) (l : Leaf (Node Payload)) (at : leaf_at s.tree k ≡ Some l) where
     -- what was found of an open leaf
-    pub IsSearch-put : (payload : Payload) (value : ℕ) → IsKept (history s tables) l.sides payload value → closed_of l.node ≡ false →
-        split_count (with_leaf fork_of (put_leaf payload value) k s.tree) ≡ split_count s.tree → IsSearch (record s { tree = with_leaf fork_of (put_leaf payload value) k s.tree }) tables
+    pub IsSearch-put : (payload : Payload) (value : ℕ) → IsKept (history s prices) l.sides payload value → closed_of l.node ≡ false →
+        split_count (with_leaf fork_of (put_leaf payload value) k s.tree) ≡ split_count s.tree → IsSearch (record s { tree = with_leaf fork_of (put_leaf payload value) k s.tree }) prices
     IsSearch-put payload value kept still count = record {
       belongs = is.belongs;
       budget = is.budget;
@@ -162,15 +163,15 @@ module _ (s : Search) (tables : List (List ClassShare)) (is : IsSearch s tables)
       prices = is.prices;
       tails = tails-put (tails_of s.instance) payload value s.tree k is.tails;
       few = omega (arith, count, is.few);
-      splits = subst (All (IsSplitOf (history s tables) s.started s.cost)) (sym (branches-put s.tree k l at payload value)) is.splits;
-      leaves = leaves-put s.tree k l at (IsLeafOf (history s tables) s.cost) payload value is.leaves
+      splits = subst (All (IsSplitOf (history s prices) s.started s.cost)) (sym (branches-put s.tree k l at payload value)) is.splits;
+      leaves = leaves-put s.tree k l at (IsLeafOf (history s prices) s.cost) payload value is.leaves
           (record { kept = kept; closed = λ shut. absurd (false≢true (sym still ∙ shut)) });
-      left = nothing-left (record s { tree = with_leaf fork_of (put_leaf payload value) k s.tree }) tables going;
+      left = nothing-left (record s { tree = with_leaf fork_of (put_leaf payload value) k s.tree }) prices going;
     }
 
     -- a leaf that is settled is closed
-    pub IsSearch-close : IsKept (history s tables) l.sides l.node.payload (value_of l.node) → IsSettled (history s tables) s.cost l.node.payload (value_of l.node) →
-        split_count (with_leaf fork_of close_leaf k s.tree) ≡ split_count s.tree → IsSearch (record s { tree = with_leaf fork_of close_leaf k s.tree }) tables
+    pub IsSearch-close : IsKept (history s prices) l.sides l.node.payload (value_of l.node) → IsSettled (history s prices) s.cost l.node.payload (value_of l.node) →
+        split_count (with_leaf fork_of close_leaf k s.tree) ≡ split_count s.tree → IsSearch (record s { tree = with_leaf fork_of close_leaf k s.tree }) prices
     IsSearch-close kept settled count = record {
       belongs = is.belongs;
       budget = is.budget;
@@ -184,17 +185,17 @@ module _ (s : Search) (tables : List (List ClassShare)) (is : IsSearch s tables)
       prices = is.prices;
       tails = tails-close (tails_of s.instance) s.tree k is.tails;
       few = omega (arith, count, is.few);
-      splits = subst (All (IsSplitOf (history s tables) s.started s.cost)) (sym (branches-close s.tree k l at)) is.splits;
-      leaves = leaves-close s.tree k l at (IsLeafOf (history s tables) s.cost) is.leaves (record { kept = kept; closed = λ shut. settled });
-      left = nothing-left (record s { tree = with_leaf fork_of close_leaf k s.tree }) tables going;
+      splits = subst (All (IsSplitOf (history s prices) s.started s.cost)) (sym (branches-close s.tree k l at)) is.splits;
+      leaves = leaves-close s.tree k l at (IsLeafOf (history s prices) s.cost) is.leaves (record { kept = kept; closed = λ shut. settled });
+      left = nothing-left (record s { tree = with_leaf fork_of close_leaf k s.tree }) prices going;
     }
 
     -- a leaf is divided that was earned and worth less than the incumbent costs, with that cost in its
     -- payload
-    pub IsSearch-divide : (d : Division) → IsDivision (history s tables) l.sides d → IsEarnedSplit (history s tables) s.started s.cost l.sides (split_note l.node.payload) →
-        IsPriceOf (history s tables) l.node.payload.price →
+    pub IsSearch-divide : (d : Division) → IsDivision (history s prices) l.sides d → IsEarnedSplit (history s prices) s.started s.cost l.sides (split_note l.node.payload) →
+        IsPriceOf (history s prices) l.node.payload.price →
         split_count (with_leaf fork_of (divide_leaf (fork_in d) (open_leaf d.first.payload d.first.value) (open_leaf d.second.payload d.second.value)) k s.tree) ≤ s.budget.branches →
-        IsSearch (record s { tree = with_leaf fork_of (divide_leaf (fork_in d) (open_leaf d.first.payload d.first.value) (open_leaf d.second.payload d.second.value)) k s.tree }) tables
+        IsSearch (record s { tree = with_leaf fork_of (divide_leaf (fork_in d) (open_leaf d.first.payload d.first.value) (open_leaf d.second.payload d.second.value)) k s.tree }) prices
     IsSearch-divide d division earned price count = record {
       belongs = is.belongs;
       budget = is.budget;
@@ -208,23 +209,23 @@ module _ (s : Search) (tables : List (List ClassShare)) (is : IsSearch s tables)
       prices = is.prices;
       tails = tails-divide (tails_of s.instance) (fork_in d) d.first.payload d.second.payload d.first.value d.second.value s.tree k division.tail is.tails;
       few = count;
-      splits = branches-divide s.tree k l at (IsSplitOf (history s tables) s.started s.cost) (fork_in d) d.first.payload d.second.payload d.first.value d.second.value is.splits
+      splits = branches-divide s.tree k l at (IsSplitOf (history s prices) s.started s.cost) (fork_in d) d.first.payload d.second.payload d.first.value d.second.value is.splits
           (record { price = price; earned = earned; range = division.range; divides = division.divides });
-      leaves = leaves-divide s.tree k l at (IsLeafOf (history s tables) s.cost) (fork_in d) d.first.payload d.second.payload d.first.value d.second.value is.leaves
+      leaves = leaves-divide s.tree k l at (IsLeafOf (history s prices) s.cost) (fork_in d) d.first.payload d.second.payload d.first.value d.second.value is.leaves
           (record { kept = division.first; closed = λ shut. absurd (false≢true shut) }) (record { kept = division.second; closed = λ shut. absurd (false≢true shut) });
-      left = nothing-left (record s { tree = with_leaf fork_of (divide_leaf (fork_in d) (open_leaf d.first.payload d.first.value) (open_leaf d.second.payload d.second.value)) k s.tree }) tables going;
+      left = nothing-left (record s { tree = with_leaf fork_of (divide_leaf (fork_in d) (open_leaf d.first.payload d.first.value) (open_leaf d.second.payload d.second.value)) k s.tree }) prices going;
     }
 
   -- one more round
   pub IsSearch-refine : (note : Refinement) (r : Refined) (trace : Vec Refinement Global) → trace.items ≡ s.trace.items ++ (note ∷ []) → IsNextRound s note r →
-      IsSearch (record s { points = r.points; network = r.network; trace = trace }) tables
+      IsSearch (record s { points = r.points; network = r.network; trace = trace }) prices
   IsSearch-refine note r trace grown next = record {
     belongs = is.belongs;
     budget = is.budget;
     incumbent = is.incumbent;
     cheaper = is.cheaper;
     trace = at (λ h. IsEarnedTrace h s.started s.cost)
-        (IsEarnedTrace-with_note (history s tables) s.started s.cost is.trace note next.round next.incumbent is.cheaper next.earned);
+        (IsEarnedTrace-with_note (history s prices) s.started s.cost is.trace note next.round next.incumbent is.cheaper next.earned);
     rounds = omega (arith, next.left, long);
     points = record {
       terminals = ap (λ (v : TimePoints). v.terminals) next.refined.points ∙ is.points.terminals;
@@ -239,22 +240,22 @@ module _ (s : Search) (tables : List (List ClassShare)) (is : IsSearch s tables)
     tails = is.tails;
     few = is.few;
     splits = at (λ h. All (IsSplitOf h s.started s.cost) (tree_branches fork_of s.tree))
-        (All-weaker (IsSplitOf (history s tables) s.started s.cost) (IsSplitOf (with_note (history s tables) note) s.started s.cost)
-        (IsSplitOf-with_note (history s tables) s.started s.cost note next.round) (tree_branches fork_of s.tree) is.splits);
+        (All-weaker (IsSplitOf (history s prices) s.started s.cost) (IsSplitOf (with_note (history s prices) note) s.started s.cost)
+        (IsSplitOf-with_note (history s prices) s.started s.cost note next.round) (tree_branches fork_of s.tree) is.splits);
     leaves = at (λ h. All (IsLeafOf h s.cost) (tree_leaves fork_of s.tree))
-        (All-weaker (IsLeafOf (history s tables) s.cost) (IsLeafOf (with_note (history s tables) note) s.cost)
-        (IsLeafOf-with_note (history s tables) s.started s.cost note next.round) (tree_leaves fork_of s.tree) is.leaves);
-    left = nothing-left (record s { points = r.points; network = r.network; trace = trace }) tables going;
+        (All-weaker (IsLeafOf (history s prices) s.cost) (IsLeafOf (with_note (history s prices) note) s.cost)
+        (IsLeafOf-with_note (history s prices) s.started s.cost note next.round) (tree_leaves fork_of s.tree) is.leaves);
+    left = nothing-left (record s { points = r.points; network = r.network; trace = trace }) prices going;
   }
     where
       long : length trace.items ≡ length s.trace.items + 1
       long = omega (arith, ap (λ (ns : List Refinement). length ns) grown, length-append s.trace.items (note ∷ []))
 
-      at : (P : History → Type 0) → P (with_note (history s tables) note) → P (record { problem = s.instance; windows = s.windows; trace = trace.items; tables = tables })
-      at P = subst (λ (ns : List Refinement). P (record { problem = s.instance; windows = s.windows; trace = ns; tables = tables })) (sym grown)
+      at : (P : History → Type 0) → P (with_note (history s prices) note) → P (record { problem = s.instance; windows = s.windows; trace = trace.items; tables = prices.tables; spans = prices.spans; unit = prices.unit })
+      at P = subst (λ (ns : List Refinement). P (record { problem = s.instance; windows = s.windows; trace = ns; tables = prices.tables; spans = prices.spans; unit = prices.unit })) (sym grown)
 
   -- and its end
-  pub IsSearch-stop : (left : Left) → IsLeft s tables left → IsSearch (record s { left = Some left }) tables
+  pub IsSearch-stop : (left : Left) → IsLeft s prices left → IsSearch (record s { left = Some left }) prices
   IsSearch-stop left why = record {
     belongs = is.belongs;
     budget = is.budget;
@@ -273,7 +274,7 @@ module _ (s : Search) (tables : List (List ClassShare)) (is : IsSearch s tables)
     left = by_left left why;
   }
     where
-      by_left : (what : Left) → IsLeft s tables what → IsLeft (record s { left = Some left }) tables what
+      by_left : (what : Left) → IsLeft s prices what → IsLeft (record s { left = Some left }) prices what
       by_left Nothing all = all
       by_left (Timing leaf relaxed) all = all
       by_left (Several leaf shipment) all = all

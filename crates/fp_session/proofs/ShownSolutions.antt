@@ -18,6 +18,7 @@ use Rattle.fp_timetable.specs.declared.lines.LegLine.{LegLine}
 use Rattle.fp_timetable.specs.declared.lines.TruckLine.{TruckLine}
 use Rattle.fp_timetable.specs.Lines.{AreLegLines, AreTruckLines, LegExists, TruckExists, routes_from}
 use Rattle.fp_prices.specs.Shares.{ClassShare}
+use Rattle.fp_spans.specs.Spans.{ClassSpan}
 use Rattle.fp_lines.specs.declared.certificates.Answer.{Answer}
 use Rattle.fp_lines.specs.declared.certificates.Answer.TheVariants.{Direct, Infeasible, Optimal, Unfinished}
 use Rattle.fp_lines.specs.declared.certificates.Node.{Node as Line}
@@ -31,7 +32,7 @@ use Rattle.fp_duals.specs.PriceLines.{AreWithinLimits}
 use Rattle.fp_history.specs.declared.endings.Left.{Left}
 use Rattle.fp_history.specs.declared.endings.Left.TheVariants.{Nothing, Several, Timing}
 use Rattle.fp_history.specs.declared.notes.SplitNote.{SplitNote}
-use Rattle.fp_history.specs.Notes.{History, added_of, last_round, points_of}
+use Rattle.fp_history.specs.Notes.{History, added_of, last_round, points_of, worth_of}
 use Rattle.fp_history.specs.PrintedLeaves.{IsOpenBelow}
 use Rattle.fp_history.specs.Solutions.{AreWalksUnder, HasCause, HasSeveral, IsEarnedSolution, Solution, branches_shown, leaves_shown}
 use Rattle.fp_history.specs.Splits.{IsEarnedSplit}
@@ -41,6 +42,7 @@ use Rattle.fp_session.specs.declared.payloads.Payload.{Payload}
 use Rattle.fp_session.specs.declared.searches.Search.{Search}
 use Rattle.fp_session.specs.Certificates.{IsAnswer, IsCertificate, IsShown, named_scale}
 use Rattle.fp_session.specs.Nodes.{IsLeafOf, IsSplitOf, split_note}
+use Rattle.fp_session.specs.Prices.{PriceLists}
 use Rattle.fp_session.specs.Searches.{IsLeft, IsSearch, history}
 use Rattle.fp_session.specs.TreeLines.{lines_of, notes_of}
 use Rattle.fp_session.proofs.LeafWorths.{bound-le, bound-lt, leaf-of, least-worth, leaves-shown, left-shown, settled-worth, worth-kept}
@@ -48,6 +50,7 @@ use Rattle.fp_session.proofs.LineRanges.{legs-in_range, trucks-in_range}
 use Rattle.fp_session.proofs.PlanCosts.{cost-in_range}
 use Rattle.fp_session.proofs.PointRanges.{points-in_range}
 use Rattle.fp_session.proofs.PrintedTree.{AllDivide-lines, IsTree-lines, branches-noted, leaves-printed, length-branches, splits-lines}
+use Rattle.fp_session.proofs.PriceRanges.{prices-hold, spans-few, spans-in_range, unit-in_range}
 use Rattle.fp_session.proofs.TableRanges.{tables-countable, tables-in_range}
 use Rattle.fp_session.proofs.TreeRanges.{all-at, tree-in_range}
 
@@ -56,7 +59,7 @@ scale-in_range : (p : Problem) → IsValid p → (b : Bool) → IfSome (cond b N
 scale-in_range p valid true = tt
 scale-in_range p valid false = record { least = valid.scale.0; most = valid.scale.1; fits = valid.fits }
 
-module _ (s : Search) (prices : List (List ClassShare)) (search : IsSearch s prices) (whole : IsTree fork_at s.tree) (within : AreWithinLimits prices)
+module _ (s : Search) (prices : PriceLists) (search : IsSearch s prices) (whole : IsTree fork_at s.tree) (within : AreWithinLimits prices.tables)
     (legs : List LegLine) (trucks : List TruckLine) (are_legs : AreLegLines s.instance s.incumbent legs) (routes : routes_from legs 0 s.instance.shipments ≡ s.incumbent)
     (legs_exist : All (LegExists s.instance) legs) (are_trucks : AreTruckLines s.instance s.incumbent trucks) (trucks_exist : All (TruckExists s.instance) trucks) where
   -- the history of the search
@@ -68,10 +71,12 @@ module _ (s : Search) (prices : List (List ClassShare)) (search : IsSearch s pri
   statement stated = record {
     answer = stated;
     scale = named_scale s.instance.scale;
+    unit = prices.unit;
     legs = legs;
     trucks = trucks;
     points = added_of s.trace.items;
-    tables = prices;
+    tables = prices.tables;
+    spans = prices.spans;
     tree = lines_of s.tree;
   }
 
@@ -91,7 +96,7 @@ module _ (s : Search) (prices : List (List ClassShare)) (search : IsSearch s pri
   part-holds stated costs worth carried Part.Cost applies = costs ∙ search.incumbent.costs ∙ ap (cost s.instance) (sym routes)
   part-holds stated costs worth carried Part.Trucks applies = subst (λ (R : List (List Leg)). AreTruckLines s.instance R trucks) (sym routes) are_trucks
   part-holds stated costs worth carried Part.Points applies = AreAddedPoints-IsEarnedTrace h s.started s.cost search.trace
-  part-holds stated costs worth carried Part.Prices applies = search.prices.in_order
+  part-holds stated costs worth carried Part.Prices applies = let held = prices-hold s.instance prices search.prices in record { tables = held.tables; spans = held.spans; unit = held.unit }
   part-holds stated costs worth carried Part.Tree applies = record {
     tree = IsTree-lines s.instance s.tree search.tails whole;
     few = omega (arith, splits-lines s.instance s.tree search.tails whole, search.few, search.budget.branches);
@@ -101,7 +106,7 @@ module _ (s : Search) (prices : List (List ClassShare)) (search : IsSearch s pri
 
   -- the leaves are worth what each of them is that isn't empty
   leaves-worth : (stated : Answer) (claim : ℕ) →
-      ((k : ℕ) (l : Leaf (Node Payload)) → leaf_at s.tree k ≡ Some l → l.node.payload.empty ≡ false → claim ≤ Rattle.std.specs.Int.div_ceil (value_of l.node) s.instance.scale) →
+      ((k : ℕ) (l : Leaf (Node Payload)) → leaf_at s.tree k ≡ Some l → l.node.payload.empty ≡ false → claim ≤ worth_of h (value_of l.node)) →
       AreLeavesWorth s.instance s.windows (statement stated) claim
   leaves-worth stated claim unmarked =
       leaves-printed s.instance s.tree search.tails whole (λ (l : Leaf Line). IsLeafWorth s.instance s.windows (statement stated) claim l.node l.sides)
@@ -112,13 +117,16 @@ module _ (s : Search) (prices : List (List ClassShare)) (search : IsSearch s pri
   statement-in_range stated range = record {
     answer = range;
     scale = scale-in_range s.instance search.belongs.valid (s.instance.scale == SCALE);
+    unit = unit-in_range s.instance prices search.prices;
     legs = legs-in_range s.instance s.incumbent legs search.belongs.valid search.incumbent.plan are_legs legs_exist;
     trucks = trucks-in_range s.instance s.incumbent trucks search.belongs.valid search.incumbent.plan are_trucks trucks_exist;
     points = points-in_range h s.started s.cost search.belongs search.trace few;
-    tables = tables-in_range s.instance prices search.belongs.valid search.prices within;
-    tree = tree-in_range s.instance prices s.tree whole
+    tables = tables-in_range s.instance prices.tables search.belongs.valid search.prices.tables within;
+    spans = spans-in_range s.instance prices search.prices;
+    beside = search.prices.beside;
+    tree = tree-in_range s.instance prices.tables s.tree whole
         (All-weaker (IsSplitOf h s.started s.cost) (λ (b : Branch (Node Payload)). IfSome (fork_at b.node) (λ (f : Fork). IsSplitInRange s.instance f.split)) (λ b split. split.range) (tree_branches fork_at s.tree) search.splits)
-        (All-weaker (IsLeafOf h s.cost) (λ (l : Leaf (Node Payload)). IsLeafInRange prices l.node.payload.price) (λ l leaf. record { kind = leaf.kept.price.kind; round = omega (arith, leaf.kept.price.round, few) })
+        (All-weaker (IsLeafOf h s.cost) (λ (l : Leaf (Node Payload)). IsLeafInRange prices.tables l.node.payload.price) (λ l leaf. record { kind = leaf.kept.price.kind; round = omega (arith, leaf.kept.price.round, few) })
         (tree_leaves fork_at s.tree) search.leaves);
   }
     where
@@ -144,11 +152,13 @@ module _ (s : Search) (prices : List (List ClassShare)) (search : IsSearch s pri
   -- all of it
   shown-of : (stated : Answer) (kept : Left) → stated_cost stated ≡ s.cost → (Applies stated Part.Blocked → ⊥) → IsAnswerInRange s.instance stated →
       AreLeavesWorth s.instance s.windows (statement stated) (claim_of stated) →
-      HasCause h s.budget (leaves_shown s.instance (solution stated kept)) (branches_shown s.instance (solution stated kept)) kept stated → IsShown s kept (solution stated kept)
+      HasCause h s.budget (leaves_shown s.instance (solution stated kept)) (branches_shown s.instance (solution stated kept)) kept stated → IsShown s prices.unit kept (solution stated kept)
   shown-of stated kept costs carried range worth cause = record {
     accepted = part-holds stated costs worth carried;
     range = statement-in_range stated range;
-    countable = tables-countable s.instance prices search.prices within;
+    countable = tables-countable s.instance prices.tables search.prices.tables within;
+    few = spans-few s.instance prices search.prices;
+    priced = record { unit = refl; without = search.prices.without };
     scale = refl;
     plan = routes;
     cost = costs;
@@ -163,14 +173,14 @@ module _ (s : Search) (prices : List (List ClassShare)) (search : IsSearch s pri
   cost-small = omega (arith, search.incumbent.costs, cost-in_range s.instance 1 s.incumbent search.belongs.valid search.incumbent.plan)
 
   -- with the answer by what was left
-  pub shown-answer : (stated : Answer) (kept : Left) → IsLeft s prices kept → IsAnswer s kept stated → IsShown s kept (solution stated kept)
+  pub shown-answer : (stated : Answer) (kept : Left) → IsLeft s prices kept → IsAnswer s prices kept stated → IsShown s prices.unit kept (solution stated kept)
   shown-answer (Optimal n) Nothing closed is =
       shown-of (Optimal n) Nothing is (λ none. none) (omega (arith, is, cost-small))
       (leaves-worth (Optimal n) n
       (λ k l at unmarked.
       let leaf = leaf-of h s.cost s.tree search.tails whole search.leaves k l at in
       let shut = all-at (λ (m : Leaf (Node Payload)). Rattle.fp_tree.specs.Nodes.closed_of m.node ≡ true) (tree_leaves fork_at s.tree) k l closed at in
-      subst (λ (m : ℕ). m ≤ Rattle.std.specs.Int.div_ceil (value_of l.node) s.instance.scale) (sym is) (settled-worth h s.cost l.node.payload (value_of l.node) (leaf.closed shut) unmarked)))
+      subst (λ (m : ℕ). m ≤ worth_of h (value_of l.node)) (sym is) (settled-worth h s.cost l.node.payload (value_of l.node) (leaf.closed shut) unmarked)))
       tt
   shown-answer (Unfinished n bound Rounds) (Timing leaf relaxed) left is =
       let lt : bound < s.cost = bound-lt h s.cost s.tree search.tails whole search.leaves bound is.1 leaf left.2.open_at in
@@ -214,18 +224,23 @@ module _ (s : Search) (prices : List (List ClassShare)) (search : IsSearch s pri
   shown-answer (Infeasible shipment time) (Several leaf at) left is = absurd is
 
 -- a certificate of a search is the one with its parts
-pub IsShown-certificate : (s : Search) (prices : List (List ClassShare)) (kept : Left) (stated : Answer) (c : Statement) (splits : List SplitNote) → IsSearch s prices → IsLeft s prices kept →
-    IsTree fork_at s.tree → IsAnswer s kept stated → IsCertificate s prices stated c → splits ≡ notes_of s.tree →
-    IsShown s kept (record { certificate = c; trace = s.trace.items; splits = splits; left = kept })
+pub IsShown-certificate : (s : Search) (prices : PriceLists) (kept : Left) (stated : Answer) (c : Statement) (splits : List SplitNote) → IsSearch s prices → IsLeft s prices kept →
+    IsTree fork_at s.tree → IsAnswer s prices kept stated → IsCertificate s prices stated c → splits ≡ notes_of s.tree →
+    IsShown s prices.unit kept (record { certificate = c; trace = s.trace.items; splits = splits; left = kept })
 IsShown-certificate s prices kept stated c splits search left whole answered is noted =
-    let made : Answer → Option ℕ → List AddedPoint → List (List ClassShare) → List Line → Statement =
-    λ a n points tables tree. record { answer = a; scale = n; legs = c.legs; trucks = c.trucks; points = points; tables = tables; tree = tree } in
+    let made : Answer → Option ℕ → List AddedPoint → PriceLists → List Line → Statement =
+    λ a n points x tree. record { answer = a; scale = n; unit = x.unit; legs = c.legs; trucks = c.trucks; points = points; tables = x.tables; spans = x.spans; tree = tree } in
+    let shown : PriceLists = record { tables = c.tables; spans = c.spans; unit = c.unit } in
+    let priced : shown ≡ prices =
+    ap (λ (ts : List (List ClassShare)). record { tables = ts; spans = c.spans; unit = c.unit }) is.tables
+    ∙ ap (λ (ss : List (List ClassSpan)). record { tables = prices.tables; spans = ss; unit = c.unit }) is.spans
+    ∙ ap (λ (u : Option ℕ). record { tables = prices.tables; spans = prices.spans; unit = u }) is.unit in
     let same : c ≡ made stated (named_scale s.instance.scale) (added_of s.trace.items) prices (lines_of s.tree) =
-    ap (λ (a : Answer). made a c.scale c.points c.tables c.tree) is.answer
-    ∙ ap (λ (n : Option ℕ). made stated n c.points c.tables c.tree) is.scale
-    ∙ ap (λ (points : List AddedPoint). made stated (named_scale s.instance.scale) points c.tables c.tree) (is.points ∙ search.added)
-    ∙ ap (λ (tables : List (List ClassShare)). made stated (named_scale s.instance.scale) (added_of s.trace.items) tables c.tree) is.tables
+    ap (λ (a : Answer). made a c.scale c.points shown c.tree) is.answer
+    ∙ ap (λ (n : Option ℕ). made stated n c.points shown c.tree) is.scale
+    ∙ ap (λ (points : List AddedPoint). made stated (named_scale s.instance.scale) points shown c.tree) (is.points ∙ search.added)
+    ∙ ap (λ (x : PriceLists). made stated (named_scale s.instance.scale) (added_of s.trace.items) x c.tree) priced
     ∙ ap (λ (tree : List Line). made stated (named_scale s.instance.scale) (added_of s.trace.items) prices tree) is.tree in
-    subst (λ (x : Statement). IsShown s kept (record { certificate = x; trace = s.trace.items; splits = splits; left = kept })) (sym same)
-    (subst (λ (notes : List SplitNote). IsShown s kept (record { certificate = made stated (named_scale s.instance.scale) (added_of s.trace.items) prices (lines_of s.tree); trace = s.trace.items; splits = notes; left = kept })) (sym noted)
+    subst (λ (x : Statement). IsShown s prices.unit kept (record { certificate = x; trace = s.trace.items; splits = splits; left = kept })) (sym same)
+    (subst (λ (notes : List SplitNote). IsShown s prices.unit kept (record { certificate = made stated (named_scale s.instance.scale) (added_of s.trace.items) prices (lines_of s.tree); trace = s.trace.items; splits = notes; left = kept })) (sym noted)
     (shown-answer s prices search whole is.within c.legs c.trucks is.legs is.routes is.legs_exist is.trucks is.trucks_exist stated kept left answered))

@@ -4,7 +4,7 @@ use Rattle.std.specs.Prelude.{IsSomeAnd, None, Option, Some}
 use Rattle.fp_tree.specs.declared.sides.Side.{Side}
 use Rattle.fp_tree.specs.Nodes.{Node, closed_of, fork_of, leaf_at, split_count}
 use Rattle.fp_tree.specs.Trees.{Leaf, tree_branches}
-use Rattle.fp_prices.specs.Shares.{ClassShare}
+use Rattle.fp_session.specs.Prices.{PriceLists}
 use Rattle.fp_history.specs.declared.endings.Left.{Left}
 use Rattle.fp_history.specs.Notes.{History, Refinement, last_round, with_note}
 use Rattle.fp_session.specs.declared.kept.Kept.{Kept}
@@ -36,53 +36,53 @@ AtOpenLeaf-map nodes k P Q weaker at = by_leaf (leaf_at nodes k) at
 pub AtOpenLeaf-fact : (nodes : List (Node Payload)) (k : ℕ) (A : Type 0) → AtOpenLeaf nodes k (λ l. A) → A
 AtOpenLeaf-fact nodes k A at = (some-value (leaf_at nodes k) (λ (l : Leaf (Node Payload)). (closed_of l.node ≡ false) × A) at).2.1
 
-module _ (s : Search) (tables : List (List ClassShare)) (k : ℕ) (kept : Kept) (m : Move) (is : IsMove s tables k kept m) where
-  planned-as : (other : Move) → m ≡ other → AtOpenLeaf s.tree k (λ l. IsMoveAt s tables k l.sides kept other)
-  planned-as other same = subst (λ (n : Move). AtOpenLeaf s.tree k (λ l. IsMoveAt s tables k l.sides kept n)) same is.planned
+module _ (s : Search) (prices : PriceLists) (k : ℕ) (kept : Kept) (m : Move) (is : IsMove s prices k kept m) where
+  planned-as : (other : Move) → m ≡ other → AtOpenLeaf s.tree k (λ l. IsMoveAt s prices k l.sides kept other)
+  planned-as other same = subst (λ (n : Move). AtOpenLeaf s.tree k (λ l. IsMoveAt s prices k l.sides kept n)) same is.planned
 
   -- a leaf that is to be closed is settled
-  pub close-settled : m ≡ move.Close → IsSettled (history s tables) s.cost kept.payload kept.value
-  close-settled same = AtOpenLeaf-fact s.tree k (IsSettled (history s tables) s.cost kept.payload kept.value) (planned-as move.Close same)
+  pub close-settled : m ≡ move.Close → IsSettled (history s prices) s.cost kept.payload kept.value
+  close-settled same = AtOpenLeaf-fact s.tree k (IsSettled (history s prices) s.cost kept.payload kept.value) (planned-as move.Close same)
 
   -- a plan that is to be taken is cheaper
   pub better-cheaper : (c : Cheaper) → m ≡ move.Better c → IsCheaper s c
   better-cheaper c same =
       AtOpenLeaf-fact s.tree k (IsCheaper s c)
-      (AtOpenLeaf-map s.tree k (λ l. IsMoveAt s tables k l.sides kept (move.Better c)) (λ l. IsCheaper s c) (λ l both. both.1) (planned-as (move.Better c) same))
+      (AtOpenLeaf-map s.tree k (λ l. IsMoveAt s prices k l.sides kept (move.Better c)) (λ l. IsCheaper s c) (λ l both. both.1) (planned-as (move.Better c) same))
 
   -- a round that is to be added is the next one
   pub refine-next : (note : Refinement) (r : Refined) → m ≡ move.Refine note r → IsNextRound s note r
   refine-next note r same =
       AtOpenLeaf-fact s.tree k (IsNextRound s note r)
-      (AtOpenLeaf-map s.tree k (λ l. IsMoveAt s tables k l.sides kept (move.Refine note r)) (λ l. IsNextRound s note r) (λ l both. both.1) (planned-as (move.Refine note r) same))
+      (AtOpenLeaf-map s.tree k (λ l. IsMoveAt s prices k l.sides kept (move.Refine note r)) (λ l. IsNextRound s note r) (λ l both. both.1) (planned-as (move.Refine note r) same))
 
   module _ (d : Division) (same : m ≡ move.Divide d) where
     -- a leaf that is to be divided has something to search for
-    pub divide-unsettled : AtOpenLeaf s.tree k (λ l. IsUnsettled (history s tables) s.cost l.sides kept)
+    pub divide-unsettled : AtOpenLeaf s.tree k (λ l. IsUnsettled (history s prices) s.cost l.sides kept)
     divide-unsettled =
-        AtOpenLeaf-map s.tree k (λ l. IsMoveAt s tables k l.sides kept (move.Divide d)) (λ l. IsUnsettled (history s tables) s.cost l.sides kept) (λ l all. all.0) (planned-as (move.Divide d) same)
+        AtOpenLeaf-map s.tree k (λ l. IsMoveAt s prices k l.sides kept (move.Divide d)) (λ l. IsUnsettled (history s prices) s.cost l.sides kept) (λ l all. all.0) (planned-as (move.Divide d) same)
 
     -- a branch is left for it
     pub divide-left : split_count s.tree < s.budget.branches
     divide-left =
         AtOpenLeaf-fact s.tree k (split_count s.tree < s.budget.branches)
-        (AtOpenLeaf-map s.tree k (λ l. IsMoveAt s tables k l.sides kept (move.Divide d)) (λ l. split_count s.tree < s.budget.branches) (λ l all. all.1) (planned-as (move.Divide d) same))
+        (AtOpenLeaf-map s.tree k (λ l. IsMoveAt s prices k l.sides kept (move.Divide d)) (λ l. split_count s.tree < s.budget.branches) (λ l all. all.1) (planned-as (move.Divide d) same))
 
     -- and it is divided so
-    pub divide-division : AtOpenLeaf s.tree k (λ l. IsDivision (history s tables) l.sides d)
+    pub divide-division : AtOpenLeaf s.tree k (λ l. IsDivision (history s prices) l.sides d)
     divide-division =
-        AtOpenLeaf-map s.tree k (λ l. IsMoveAt s tables k l.sides kept (move.Divide d)) (λ l. IsDivision (history s tables) l.sides d) (λ l all. all.2) (planned-as (move.Divide d) same)
+        AtOpenLeaf-map s.tree k (λ l. IsMoveAt s prices k l.sides kept (move.Divide d)) (λ l. IsDivision (history s prices) l.sides d) (λ l all. all.2) (planned-as (move.Divide d) same)
 
   module _ (left : Left) (same : m ≡ move.Stop left) where
     -- a leaf at which the search ends has something to search for
-    pub stop-unsettled : AtOpenLeaf s.tree k (λ l. IsUnsettled (history s tables) s.cost l.sides kept)
+    pub stop-unsettled : AtOpenLeaf s.tree k (λ l. IsUnsettled (history s prices) s.cost l.sides kept)
     stop-unsettled =
-        AtOpenLeaf-map s.tree k (λ l. IsMoveAt s tables k l.sides kept (move.Stop left)) (λ l. IsUnsettled (history s tables) s.cost l.sides kept) (λ l all. all.0) (planned-as (move.Stop left) same)
+        AtOpenLeaf-map s.tree k (λ l. IsMoveAt s prices k l.sides kept (move.Stop left)) (λ l. IsUnsettled (history s prices) s.cost l.sides kept) (λ l all. all.0) (planned-as (move.Stop left) same)
 
     -- and this is left there
     pub stop-left : AtOpenLeaf s.tree k (λ l. IsLeftAt s k l.sides left)
     stop-left =
-        AtOpenLeaf-map s.tree k (λ l. IsMoveAt s tables k l.sides kept (move.Stop left)) (λ l. IsLeftAt s k l.sides left) (λ l all. all.1) (planned-as (move.Stop left) same)
+        AtOpenLeaf-map s.tree k (λ l. IsMoveAt s prices k l.sides kept (move.Stop left)) (λ l. IsLeftAt s k l.sides left) (λ l all. all.1) (planned-as (move.Stop left) same)
 
 -- what is kept of a leaf stays true with one more note
 IsKept-with_note : (h : History) (started cost : ℕ) (n : Refinement) (sides : List Side) (payload : Payload) (value : ℕ) → n.round ≡ last_round h + 1 → IsKept h sides payload value →
@@ -91,14 +91,14 @@ IsKept-with_note h started cost n sides payload value next kept =
     let open_still : IsLeafOf h cost (leaf_put payload value false sides) = record { kept = kept; closed = λ shut. absurd (Rattle.std.proofs.lemmas.Bool.false≢true shut) } in
     (IsLeafOf-with_note h started cost n next (leaf_put payload value false sides) open_still).kept
 
-module _ (s t : Search) (tables : List (List ClassShare)) (note : Refinement) (r : Refined) (next : IsNextRound s note r) (with : in_hand t ≡ with_round (in_hand s) note r) where
+module _ (s t : Search) (prices : PriceLists) (note : Refinement) (r : Refined) (next : IsNextRound s note r) (with : in_hand t ≡ with_round (in_hand s) note r) where
   -- what was found of an open leaf is still true after a round
-  pub round-kept : (k : ℕ) (kept : Kept) → AtOpenLeaf s.tree k (λ l. IsKept (history s tables) l.sides kept.payload kept.value) →
-      AtOpenLeaf t.tree k (λ l. IsKept (history t tables) l.sides kept.payload kept.value)
+  pub round-kept : (k : ℕ) (kept : Kept) → AtOpenLeaf s.tree k (λ l. IsKept (history s prices) l.sides kept.payload kept.value) →
+      AtOpenLeaf t.tree k (λ l. IsKept (history t prices) l.sides kept.payload kept.value)
   round-kept k kept at =
-      subst (λ (h : InHand). AtOpenLeaf h.tree k (λ l. IsKept (record { problem = h.instance; windows = h.windows; trace = h.trace; tables = tables }) l.sides kept.payload kept.value)) (sym with)
-      (AtOpenLeaf-map s.tree k (λ l. IsKept (history s tables) l.sides kept.payload kept.value) (λ l. IsKept (with_note (history s tables) note) l.sides kept.payload kept.value)
-      (λ l own. IsKept-with_note (history s tables) s.started s.cost note l.sides kept.payload kept.value next.round own) at)
+      subst (λ (h : InHand). AtOpenLeaf h.tree k (λ l. IsKept (record { problem = h.instance; windows = h.windows; trace = h.trace; tables = prices.tables; spans = prices.spans; unit = prices.unit }) l.sides kept.payload kept.value)) (sym with)
+      (AtOpenLeaf-map s.tree k (λ l. IsKept (history s prices) l.sides kept.payload kept.value) (λ l. IsKept (with_note (history s prices) note) l.sides kept.payload kept.value)
+      (λ l own. IsKept-with_note (history s prices) s.started s.cost note l.sides kept.payload kept.value next.round own) at)
 
   pub round-going : s.left ≡ None → t.left ≡ None
   round-going going = ap (λ (h : InHand). h.left) with ∙ going

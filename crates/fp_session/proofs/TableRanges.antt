@@ -1,9 +1,9 @@
 -- Tables of prices of a run are in range and countable.
-use Rattle.std.proofs.Common.{ℕ, ◌+◌, ◌*◌, ◌≤◌, List, [], ◌∷◌, length, get_or, arith}
+use Rattle.std.proofs.Common.{ℕ, ◌*◌, ◌≤◌, List, [], ◌∷◌, length, get_or, arith}
 use Rattle.std.specs.Prelude.{All, sum_by}
 use Rattle.std.specs.List.{AllByRecursion}
 use Rattle.std.proofs.Math.Nat.{mul-le-mul_left}
-use Rattle.std.proofs.lemmas.List.Elements.{All-from_recursion, All-get_or, All-head, All-tail}
+use Rattle.std.proofs.lemmas.List.Elements.{All-from_recursion, All-get_or}
 use Rattle.std.proofs.lemmas.List.Sums.{sum_by-cons}
 use Rattle.fp_lists.proofs.Elements.{AllByRecursion-weaker}
 use Rattle.fp_model.specs.declared.limits.TheConstants.{GREATEST_AMOUNT, GREATEST_SCALE}
@@ -13,8 +13,9 @@ use Rattle.fp_prices.specs.Prices.{KeepsRule}
 use Rattle.fp_prices.specs.Shares.{ClassShare}
 use Rattle.fp_prices.specs.Tables.{AreCountable}
 use Rattle.fp_lines.specs.Ranges.{IsShareInRange}
-use Rattle.fp_duals.specs.PriceLines.{AreWithinLimits, IsShortTable, line_count, line_total}
+use Rattle.fp_duals.specs.PriceLines.{AreWithinLimits, line_count, line_total}
 use Rattle.fp_duals.specs.PriceTables.{ArePriceTables, IsShareOf}
+use Rattle.fp_duals.proofs.PriceLines.{shares-le-lines, tables-le-lines}
 
 -- each term is at most the sum
 terms-le : {X : Type 0} (f : X → ℕ) (xs : List X) → AllByRecursion (λ x. f x ≤ sum_by f xs) xs
@@ -52,25 +53,14 @@ tables-in_range p tables valid are within = λ i d lt j e less.
     share-in_range p (get_or table j e) valid
     (All-from_recursion (λ (share : ClassShare). KeepsRule p.scale (arc_at p share.arc) share) table
     (All-from_recursion (λ (t : List ClassShare). AllByRecursion (λ (share : ClassShare). KeepsRule p.scale (arc_at p share.arc) share) t) tables are.in_order.rule i d lt) j e less)
-    (are.of_instance i d lt j e less) ((within.each i d lt).points j e less)
-
--- a table has at most as many shares as price lines
-shares-le : (table : List ClassShare) → length table ≤ line_count table
-shares-le [] = omega arith
-shares-le (share ∷ table) = omega (arith, shares-le table, sum_by-cons (λ (s : ClassShare). 1 + length s.weights) share table)
-
--- there are at most as many tables as price lines
-pub tables-le : (tables : List (List ClassShare)) → All IsShortTable tables → length tables ≤ line_total tables
-tables-le [] short = omega arith
-tables-le (table ∷ tables) short =
-    omega (arith, tables-le tables (All-tail IsShortTable table tables short), (All-head IsShortTable table tables short).some, shares-le table, sum_by-cons line_count table tables)
+    (are.of_instance i d lt j e less) (within.each i d lt j e less)
 
 -- the tables of a run are countable
 pub tables-countable : (p : Problem) (tables : List (List ClassShare)) → ArePriceTables p tables → AreWithinLimits tables → AreCountable p tables
 tables-countable p tables are within = record {
-  few_tables = omega (arith, tables-le tables within.each, within.lines);
+  few_tables = omega (arith, tables-le-lines tables, within.lines);
   few_shares = λ i d lt.
       let le : line_count (get_or tables i d) ≤ line_total tables = All-from_recursion (λ (t : List ClassShare). line_count t ≤ line_total tables) tables (terms-le line_count tables) i d lt in
-      omega (arith, le, shares-le (get_or tables i d), within.lines);
+      omega (arith, le, shares-le-lines (get_or tables i d), within.lines);
   arcs = λ i d lt j e less. (are.of_instance i d lt j e less).arc;
 }

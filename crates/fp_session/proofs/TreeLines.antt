@@ -1,7 +1,6 @@
 -- Lines and notes of a tree, one after another.
-use Rattle.std.proofs.Common.{◌≡◌, ℕ, ◌+◌, ◌<◌, ◌≤◌, false, List, [], ◌∷◌, ◌++◌, get_or, map, take, refl, sym, ap, ◌∙◌, subst, arith, ⊎_elim}
-use Rattle.std.specs.Prelude.{IfSome, Option, Some, None, IsSomeAnd, slice_get, option_map}
-use Rattle.std.proofs.lemmas.Bool.{cases_lt, false≢true}
+use Rattle.std.proofs.Common.{◌≡◌, ℕ, ◌+◌, ◌<◌, List, [], ◌∷◌, ◌++◌, get_or, map, take, refl, sym, ap, ◌∙◌, subst}
+use Rattle.std.specs.Prelude.{Option, Some, None, IsSomeAnd, slice_get, option_map}
 use Rattle.std.proofs.lemmas.List.{map-append, take_more}
 use Rattle.std.proofs.lemmas.Option.{none-some, get_or_from_slice_get, slice_get_within}
 use Rattle.fp_tree.specs.declared.sides.Split.{Split}
@@ -11,7 +10,7 @@ use Rattle.fp_tree.specs.Trees.{IsTree, Leaf}
 use Rattle.fp_lines.specs.declared.certificates.Node.{Node as Line}
 use Rattle.fp_lines.specs.declared.certificates.Node.TheVariants as line
 use Rattle.fp_session.specs.declared.payloads.Payload.{Payload}
-use Rattle.fp_session.specs.TreeLines.{IsLeastBelow, IsWorthAt, line_of, worth_of}
+use Rattle.fp_session.specs.TreeLines.{line_of}
 use Rattle.fp_session.proofs.LeafNumbers.{after-leaf, after-split, leaf-at_place, leaves_before}
 
 -- the value of which something holds
@@ -84,37 +83,3 @@ split-line nodes node split ys here before =
     let some = some_and (slice_get nodes node) (λ (n : Node Payload). split_of n ≡ Some split) here in
     let fork = some-fork (fork_of some.0) split some.2 in
     (map-take_more line_of nodes node some.0 ys (line.Branch split) some.1 before (line-split some.0 split some.2), after-split fork_of node nodes some.0 fork.0 some.1 fork.1)
-
--- the least so far and one more leaf
-pub least-more : (scale ceiling : ℕ) (nodes : List (Node Payload)) (n least lesser : ℕ) (other : Option ℕ) → IsLeastBelow scale ceiling nodes n least →
-    IsSomeAnd (leaf_at nodes n) (λ (l : Leaf (Node Payload)). IsWorthAt scale l other) → lesser ≤ least → IfSome other (λ m. lesser ≤ m) → (lesser < least → other ≡ Some lesser) →
-    IsLeastBelow scale ceiling nodes (n + 1) lesser
-least-more scale ceiling nodes n least lesser other before here le under newer = record {
-  within = omega (arith, before.within, le);
-  each = λ k l lt at unmarked.
-      ⊎_elim
-      (λ (less : k < n). omega (arith, before.each k l less at unmarked, le))
-      (λ (more : n ≤ k).
-      let last : n ≡ k = omega (arith, lt, more) in
-      own l (subst (λ (j : ℕ). leaf_at nodes j ≡ Some l) (sym last) at) unmarked other here under)
-      (cases_lt k n);
-  some = λ below.
-      ⊎_elim
-      (λ (less : lesser < least). (n, newest other (newer less) here))
-      (λ (same : least ≤ lesser).
-      let is : least ≡ lesser = omega (arith, le, same) in
-      let found = before.some (omega (arith, is, below)) in
-      (found.0, subst (λ (m : ℕ). IsSomeAnd (leaf_at nodes found.0) (λ (l : Leaf (Node Payload)). (l.node.payload.empty ≡ false) × (m ≡ worth_of scale l))) is found.1))
-      (cases_lt lesser least);
-}
-  where
-    own : (l : Leaf (Node Payload)) → leaf_at nodes n ≡ Some l → l.node.payload.empty ≡ false → (o : Option ℕ) → IsSomeAnd (leaf_at nodes n) (λ (m : Leaf (Node Payload)). IsWorthAt scale m o) →
-        IfSome o (λ m. lesser ≤ m) → lesser ≤ worth_of scale l
-    own l at unmarked None is none = absurd (false≢true (sym unmarked ∙ subst (λ (p : Option (Leaf (Node Payload))). IsSomeAnd p (λ (m : Leaf (Node Payload)). IsWorthAt scale m None)) at is))
-    own l at unmarked (Some m) is most =
-        let both : IsWorthAt scale l (Some m) = subst (λ (p : Option (Leaf (Node Payload))). IsSomeAnd p (λ (x : Leaf (Node Payload)). IsWorthAt scale x (Some m))) at is in
-        omega (arith, both.1, most)
-
-    newest : (o : Option ℕ) → o ≡ Some lesser → IsSomeAnd (leaf_at nodes n) (λ (m : Leaf (Node Payload)). IsWorthAt scale m o) →
-        IsSomeAnd (leaf_at nodes n) (λ (l : Leaf (Node Payload)). (l.node.payload.empty ≡ false) × (lesser ≡ worth_of scale l))
-    newest o is at = subst (λ (p : Option ℕ). IsSomeAnd (leaf_at nodes n) (λ (m : Leaf (Node Payload)). IsWorthAt scale m p)) is at

@@ -1,10 +1,10 @@
 -- The certificate of a search that has ended, and all that is shown of it.
-use Rattle.std.specs.Prelude.{ℕ, ◌==◌, ◌≡◌, List, All, Option, Some, None, if◌then◌else◌}
+use Rattle.std.specs.Prelude.{ℕ, ◌==◌, ◌-◌, ◌^◌, ◌<◌, ◌≡◌, List, [], All, length, Option, Some, None, if◌then◌else◌}
 use Rattle.fp_model.specs.declared.limits.TheConstants.{SCALE}
 use Rattle.fp_tree.specs.Nodes.{leaf_count}
 use Rattle.fp_timetable.specs.Lines.{AreLegLines, AreTruckLines, LegExists, TruckExists, routes_from}
-use Rattle.fp_prices.specs.Shares.{ClassShare}
 use Rattle.fp_prices.specs.Tables.{AreCountable}
+use Rattle.fp_spans.specs.Spans.{ClassSpan}
 use Rattle.fp_lines.specs.declared.certificates.Answer.{Answer}
 use Rattle.fp_lines.specs.declared.certificates.Answer.TheVariants.{Optimal, Unfinished}
 use Rattle.fp_lines.specs.declared.certificates.Spent.TheVariants.{Branches, Rounds}
@@ -17,26 +17,28 @@ use Rattle.fp_history.specs.declared.endings.Left.{Left}
 use Rattle.fp_history.specs.declared.endings.Left.TheVariants.{Nothing, Several, Timing}
 use Rattle.fp_history.specs.Solutions.{IsEarnedSolution, Solution}
 use Rattle.fp_session.specs.declared.searches.Search.{Search}
+use Rattle.fp_session.specs.Prices.{PriceLists}
+use Rattle.fp_session.specs.Searches.{history}
 use Rattle.fp_session.specs.TreeLines.{IsLeastBelow, lines_of, notes_of}
 
 -- the least that a leaf of the search is worth which isn't empty, where that is below the cost
-abbrev pub IsBound : Search → ℕ → Type 0
-IsBound s bound = IsLeastBelow s.instance.scale s.cost s.tree (leaf_count s.tree) bound
+abbrev pub IsBound : Search → PriceLists → ℕ → Type 0
+IsBound s prices bound = IsLeastBelow (history s prices) s.cost s.tree (leaf_count s.tree) bound
 
 -- the answer of a search, by what it left
-abbrev pub IsAnswer : Search → Left → Answer → Type 0
-IsAnswer s Nothing (Optimal cost) = cost ≡ s.cost
-IsAnswer s (Timing leaf relaxed) (Unfinished cost bound Rounds) = (cost ≡ s.cost) × IsBound s bound
-IsAnswer s (Several leaf shipment) (Unfinished cost bound Branches) = (cost ≡ s.cost) × IsBound s bound
-IsAnswer s left answer = ⊥
+abbrev pub IsAnswer : Search → PriceLists → Left → Answer → Type 0
+IsAnswer s prices Nothing (Optimal cost) = cost ≡ s.cost
+IsAnswer s prices (Timing leaf relaxed) (Unfinished cost bound Rounds) = (cost ≡ s.cost) × IsBound s prices bound
+IsAnswer s prices (Several leaf shipment) (Unfinished cost bound Branches) = (cost ≡ s.cost) × IsBound s prices bound
+IsAnswer s prices left answer = ⊥
 
 -- the scale that a certificate names: none where it is 1,000,000
 abbrev pub named_scale : ℕ → Option ℕ
 named_scale scale = if scale == SCALE then None else Some scale
 
--- a certificate has an answer, the lines of the incumbent, the added points, the tables and the tree
+-- a certificate has an answer, the lines of the incumbent, the added points, the prices and the tree
 -- of a search
-pub record IsCertificate (s : Search) (prices : List (List ClassShare)) (stated : Answer) (c : Statement) : Type 0 where
+pub record IsCertificate (s : Search) (prices : PriceLists) (stated : Answer) (c : Statement) : Type 0 where
   pub answer : c.answer ≡ stated
   pub scale : c.scale ≡ named_scale s.instance.scale
   pub legs : AreLegLines s.instance s.incumbent c.legs
@@ -45,17 +47,26 @@ pub record IsCertificate (s : Search) (prices : List (List ClassShare)) (stated 
   pub trucks : AreTruckLines s.instance s.incumbent c.trucks
   pub trucks_exist : All (TruckExists s.instance) c.trucks
   pub points : c.points ≡ s.points.added
-  pub tables : c.tables ≡ prices
-  pub within : AreWithinLimits prices
+  pub tables : c.tables ≡ prices.tables
+  pub spans : c.spans ≡ prices.spans
+  pub unit : c.unit ≡ prices.unit
+  pub within : AreWithinLimits prices.tables
   pub tree : c.tree ≡ lines_of s.tree
+
+-- the certificate names this unit; without one there are no spans, so it means what it did before there were any
+pub record IsPricedBy (own : Option ℕ) (c : Statement) : Type 0 where
+  pub unit : c.unit ≡ own
+  pub without : own ≡ None → All (λ (spans : List ClassSpan). spans ≡ []) c.spans
 
 -- all that is shown of a search that has ended: its certificate is accepted, and in range and
 -- countable, so that it can be written and read again; it tells the incumbent and what that costs; and
 -- what it shows is earned, with the notes of the search
-pub record IsShown (s : Search) (kept : Left) (x : Solution) : Type 0 where
+pub record IsShown (s : Search) (unit : Option ℕ) (kept : Left) (x : Solution) : Type 0 where
   pub accepted : IsAccepted s.instance s.windows x.certificate
   pub range : IsInRange s.instance x.certificate
   pub countable : AreCountable s.instance x.certificate.tables
+  pub few : All (λ (spans : List ClassSpan). length spans < 2 ^ 32 - 1) x.certificate.spans
+  pub priced : IsPricedBy unit x.certificate
   pub scale : x.certificate.scale ≡ named_scale s.instance.scale
   pub plan : routes_of s.instance x.certificate ≡ s.incumbent
   pub cost : stated_cost x.certificate.answer ≡ s.cost

@@ -1,3 +1,5 @@
+pub mod Prices
+pub mod Pricing
 pub mod Nodes
 pub mod Searches
 pub mod Refining

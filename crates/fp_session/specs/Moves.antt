@@ -1,6 +1,5 @@
 -- What a step may do, before it does it.
 use Rattle.std.specs.Prelude.{ℕ, ◌+◌, ◌<◌, ◌≤◌, ◌≡◌, List, [], ◌∷◌, ◌++◌, false, IsSomeAnd}
-use Rattle.std.specs.Int.{div_ceil}
 use Rattle.fp_model.specs.declared.parts.Leg.{Leg}
 use Rattle.fp_flatnet.specs.Tables.{windows_in}
 use Rattle.fp_tree.specs.declared.sides.Side.{Side}
@@ -10,11 +9,11 @@ use Rattle.fp_tree.specs.Trees.{Leaf}
 use Rattle.fp_allowed.specs.Allowed.{tails_of}
 use Rattle.fp_allowed.specs.Slack.{DividesSome}
 use Rattle.fp_lines.specs.Ranges.{IsSplitInRange}
-use Rattle.fp_prices.specs.Shares.{ClassShare}
+use Rattle.fp_session.specs.Prices.{PriceLists, no_prices}
 use Rattle.fp_history.specs.declared.endings.Left.{Left}
 use Rattle.fp_history.specs.declared.endings.Left.TheVariants.{Nothing, Several, Timing}
 use Rattle.fp_history.specs.Clashes.{ClashesBelow}
-use Rattle.fp_history.specs.Notes.{History, Refinement, last_round, points_of}
+use Rattle.fp_history.specs.Notes.{History, Refinement, last_round, points_of, worth_of}
 use Rattle.fp_history.specs.Solutions.{AreWalksUnder, HasSeveral}
 use Rattle.fp_history.specs.Traces.{IsEarnedRound}
 use Rattle.fp_session.specs.declared.kept.Kept.{Kept}
@@ -32,7 +31,7 @@ use Rattle.fp_session.specs.Searches.{IsIncumbent, history}
 
 -- the points as of the last round
 abbrev pub points_now : Search → ℕ → List ℕ
-points_now s = points_of (history s []) (last_round (history s []))
+points_now s = points_of (history s no_prices) (last_round (history s no_prices))
 
 -- a plan that is cheaper than the incumbent
 pub record IsCheaper (s : Search) (c : Cheaper) : Type 0 where
@@ -41,8 +40,8 @@ pub record IsCheaper (s : Search) (c : Cheaper) : Type 0 where
 
 -- one more round, with the incumbent of the moment: it is earned, and there is one left
 pub record IsNextRound (s : Search) (note : Refinement) (r : Refined) : Type 0 where
-  pub left : last_round (history s []) < s.budget.rounds
-  pub round : note.round ≡ last_round (history s []) + 1
+  pub left : last_round (history s no_prices) < s.budget.rounds
+  pub round : note.round ≡ last_round (history s no_prices) + 1
   pub incumbent : note.incumbent ≡ s.cost
   pub earned : IsEarnedRound s.instance s.windows (points_now s) note
   pub refined : IsRefined s.instance s.points note.round note.added r
@@ -62,7 +61,7 @@ pub record IsDivision (h : History) (sides : List Side) (d : Division) : Type 0 
 
 -- nothing is left of rounds, and a relaxed plan under the sides calls for one
 pub record IsTimingLeft (s : Search) (sides : List Side) (relaxed : List (List Leg)) : Type 0 where
-  pub spent : last_round (history s []) ≡ s.budget.rounds
+  pub spent : last_round (history s no_prices) ≡ s.budget.rounds
   pub under : AreWalksUnder s.instance s.windows (points_now s) sides relaxed
   pub clashes : ClashesBelow s.instance s.windows (points_now s) s.cost relaxed
 
@@ -81,25 +80,25 @@ IsLeftAt s leaf sides (Several at shipment) = (at ≡ leaf) × IsSeveralLeft s s
 -- values by linear and by even prices
 pub record IsUnsettled (h : History) (cost : ℕ) (sides : List Side) (kept : Kept) : Type 0 where
   pub some : kept.payload.empty ≡ false
-  pub below : div_ceil kept.value h.problem.scale < cost
+  pub below : worth_of h kept.value < cost
   pub starts : IsAtLeastStarts h sides kept.value
 
 -- what a step may do at a leaf that has something to search for
-abbrev pub IsOpenMove : Search → List (List ClassShare) → (leaf : ℕ) → List Side → Move → Type 0
-IsOpenMove s tables leaf sides move.Close = ⊥
-IsOpenMove s tables leaf sides (move.Better cheaper) = IsCheaper s cheaper
-IsOpenMove s tables leaf sides (move.Refine note refined) = IsNextRound s note refined
-IsOpenMove s tables leaf sides (move.Divide division) = (split_count s.tree < s.budget.branches) × IsDivision (history s tables) sides division
-IsOpenMove s tables leaf sides (move.Stop left) = IsLeftAt s leaf sides left
+abbrev pub IsOpenMove : Search → PriceLists → (leaf : ℕ) → List Side → Move → Type 0
+IsOpenMove s prices leaf sides move.Close = ⊥
+IsOpenMove s prices leaf sides (move.Better cheaper) = IsCheaper s cheaper
+IsOpenMove s prices leaf sides (move.Refine note refined) = IsNextRound s note refined
+IsOpenMove s prices leaf sides (move.Divide division) = (split_count s.tree < s.budget.branches) × IsDivision (history s prices) sides division
+IsOpenMove s prices leaf sides (move.Stop left) = IsLeftAt s leaf sides left
 
 -- what a step may do at a leaf of which this is kept
-abbrev pub IsMoveAt : Search → List (List ClassShare) → (leaf : ℕ) → List Side → Kept → Move → Type 0
-IsMoveAt s tables leaf sides kept move.Close = IsSettled (history s tables) s.cost kept.payload kept.value
-IsMoveAt s tables leaf sides kept (move.Better cheaper) = IsUnsettled (history s tables) s.cost sides kept × IsCheaper s cheaper
-IsMoveAt s tables leaf sides kept (move.Refine note refined) = IsUnsettled (history s tables) s.cost sides kept × IsNextRound s note refined
-IsMoveAt s tables leaf sides kept (move.Divide division) =
-    IsUnsettled (history s tables) s.cost sides kept × (split_count s.tree < s.budget.branches) × IsDivision (history s tables) sides division
-IsMoveAt s tables leaf sides kept (move.Stop left) = IsUnsettled (history s tables) s.cost sides kept × IsLeftAt s leaf sides left
+abbrev pub IsMoveAt : Search → PriceLists → (leaf : ℕ) → List Side → Kept → Move → Type 0
+IsMoveAt s prices leaf sides kept move.Close = IsSettled (history s prices) s.cost kept.payload kept.value
+IsMoveAt s prices leaf sides kept (move.Better cheaper) = IsUnsettled (history s prices) s.cost sides kept × IsCheaper s cheaper
+IsMoveAt s prices leaf sides kept (move.Refine note refined) = IsUnsettled (history s prices) s.cost sides kept × IsNextRound s note refined
+IsMoveAt s prices leaf sides kept (move.Divide division) =
+    IsUnsettled (history s prices) s.cost sides kept × (split_count s.tree < s.budget.branches) × IsDivision (history s prices) sides division
+IsMoveAt s prices leaf sides kept (move.Stop left) = IsUnsettled (history s prices) s.cost sides kept × IsLeftAt s leaf sides left
 
 -- the leaf with a number is open, and it is so of its sides and its value
 abbrev pub AtOpenLeaf : List (Node Payload) → ℕ → (Leaf (Node Payload) → Type 0) → Type 0
@@ -107,7 +106,7 @@ AtOpenLeaf nodes leaf P = IsSomeAnd (leaf_at nodes leaf) (λ (l : Leaf (Node Pay
 
 -- what a step may do: at an open leaf, of which this is kept, with no less value than it had unless
 -- it is empty
-pub record IsMove (s : Search) (tables : List (List ClassShare)) (leaf : ℕ) (now : Kept) (m : Move) : Type 0 where
-  pub kept : AtOpenLeaf s.tree leaf (λ l. IsKept (history s tables) l.sides now.payload now.value)
+pub record IsMove (s : Search) (prices : PriceLists) (leaf : ℕ) (now : Kept) (m : Move) : Type 0 where
+  pub kept : AtOpenLeaf s.tree leaf (λ l. IsKept (history s prices) l.sides now.payload now.value)
   pub no_less : AtOpenLeaf s.tree leaf (λ l. now.payload.empty ≡ false → value_of l.node ≤ now.value)
-  pub planned : AtOpenLeaf s.tree leaf (λ l. IsMoveAt s tables leaf l.sides now m)
+  pub planned : AtOpenLeaf s.tree leaf (λ l. IsMoveAt s prices leaf l.sides now m)

@@ -1,6 +1,5 @@
 -- What a search knows of the nodes of its tree.
 use Rattle.std.specs.Prelude.{ℕ, ◌≤◌, ◌≡◌, ◌⊎◌, List, true, MatchBool, IfSome}
-use Rattle.std.specs.Int.{div_ceil}
 use Rattle.fp_flatnet.specs.Tables.{windows_in}
 use Rattle.fp_tree.specs.declared.sides.Side.{Side}
 use Rattle.fp_tree.specs.Nodes.{Node, closed_of, fork_of, value_of}
@@ -11,7 +10,7 @@ use Rattle.fp_prices.specs.declared.leaf_prices.LeafPrice.{LeafPrice}
 use Rattle.fp_prices.specs.Tables.{HasKind}
 use Rattle.fp_lines.specs.Ranges.{IsSplitInRange}
 use Rattle.fp_history.specs.declared.notes.SplitNote.{SplitNote}
-use Rattle.fp_history.specs.Notes.{History, last_round}
+use Rattle.fp_history.specs.Notes.{History, last_round, worth_of}
 use Rattle.fp_history.specs.PrintedLeaves.{IsEmptyAt}
 use Rattle.fp_history.specs.Splits.{IsEarnedAt, IsEarnedSplit}
 use Rattle.fp_session.specs.declared.kept.Kept.{Kept}
@@ -40,7 +39,7 @@ pub record IsKeptAs (l : Leaf (Node Payload)) (kept : Kept) : Type 0 where
 
 -- a leaf has nothing to search for: it is empty, or worth at least the cost
 abbrev pub IsSettled : History → (cost : ℕ) → Payload → (value : ℕ) → Type 0
-IsSettled h cost payload value = (payload.empty ≡ true) ⊎ (cost ≤ div_ceil value h.problem.scale)
+IsSettled h cost payload value = (payload.empty ≡ true) ⊎ (cost ≤ worth_of h value)
 
 -- a leaf of the tree: what it keeps is true, and where it is closed it is settled
 pub record IsLeafOf (h : History) (cost : ℕ) (l : Leaf (Node Payload)) : Type 0 where

@@ -1,30 +1,21 @@
 -- What comes of improving a leaf that is open.
-use Rattle.std.specs.Prelude.{ℕ, ◌*◌, ◌<◌, ◌≤◌, ◌≡◌, List, [], ◌++◌, Bool, true, false, None, Some, ◌⊎◌}
+use Rattle.std.specs.Prelude.{ℕ, ◌*◌, ◌<◌, ◌≤◌, ◌≡◌, List, [], Bool, true, false, None, Some, ◌⊎◌}
 use Rattle.fp_lists.specs.Numbered.{AllZipFrom}
 use Rattle.fp_model.specs.declared.parts.Leg.{Leg}
 use Rattle.fp_model.specs.Costs.{cost}
-use Rattle.fp_model.specs.Problem.{Problem}
 use Rattle.fp_flatnet.specs.Tables.{windows_in}
 use Rattle.fp_tree.specs.declared.sides.Side.{Side}
 use Rattle.fp_allowed.specs.Allowed.{is_allowed}
 use Rattle.fp_prices.specs.declared.leaf_prices.Kind.TheVariants.{Even, Linear}
 use Rattle.fp_prices.specs.declared.leaf_prices.LeafPrice.{LeafPrice}
 use Rattle.fp_prices.specs.Leaves.{IsLeafValue}
-use Rattle.fp_prices.specs.Shares.{ClassShare}
 use Rattle.fp_duals.specs.Improvements.{IsReachedChain}
-use Rattle.fp_duals.specs.PriceTables.{ArePriceTables}
 use Rattle.fp_history.specs.Notes.{History, last_round, points_of}
 use Rattle.fp_history.specs.Solutions.{AreWalksUnder}
 use Rattle.fp_session.specs.declared.kept.Kept.{Kept}
 use Rattle.fp_session.specs.declared.outcomes.Outcome.{Outcome}
 use Rattle.fp_session.specs.declared.outcomes.Outcome.TheVariants.{Empty, Open}
 use Rattle.fp_session.specs.Nodes.{IsKept}
-
--- the tables that were there stay, others may have come after them, and all are in order
-pub record HaveGrown (p : Problem) (before after : List (List ClassShare)) : Type 0 where
-  pub more : List (List ClassShare)
-  pub is : after ≡ before ++ more
-  pub prices : ArePriceTables p after
 
 -- a value is at least those of the leaf by linear and by even prices over the points as of the last
 -- round, plain and with forced classes paid whole

@@ -14,8 +14,6 @@ use Rattle.fp_tree.specs.declared.sides.Side.{Side}
 use Rattle.fp_tree.specs.Nodes.{Node, closed_of, fork_of, leaf_at, split_count}
 use Rattle.fp_tree.specs.Trees.{HaveTails, Leaf, tree_branches, tree_leaves}
 use Rattle.fp_allowed.specs.Allowed.{tails_of}
-use Rattle.fp_prices.specs.Shares.{ClassShare}
-use Rattle.fp_duals.specs.PriceTables.{ArePriceTables}
 use Rattle.fp_history.specs.declared.budgets.Budget.{Budget}
 use Rattle.fp_history.specs.declared.endings.Left.{Left}
 use Rattle.fp_history.specs.declared.endings.Left.TheVariants.{Nothing, Several, Timing}
@@ -29,6 +27,7 @@ use Rattle.fp_history.specs.Traces.{IsEarnedTrace}
 use Rattle.fp_session.specs.declared.payloads.Payload.{Payload}
 use Rattle.fp_session.specs.declared.searches.Search.{Search}
 use Rattle.fp_session.specs.Nodes.{IsLeafOf, IsSplitOf}
+use Rattle.fp_session.specs.Prices.{ArePrices, PriceLists}
 
 -- a plan in whole units within the windows, with what it costs
 pub record IsIncumbent (p : Problem) (table : WindowTable) (legs : List (List Leg)) (n : ℕ) : Type 0 where
@@ -36,9 +35,9 @@ pub record IsIncumbent (p : Problem) (table : WindowTable) (legs : List (List Le
   pub within : PlanLiesWithin (windows_in table) 1 legs
   pub costs : n ≡ cost p legs
 
--- the history of a search with these tables
-abbrev pub history : Search → List (List ClassShare) → History
-history s tables = record { problem = s.instance; windows = s.windows; trace = s.trace.items; tables = tables }
+-- the history of a search with these prices
+abbrev pub history : Search → PriceLists → History
+history s prices = record { problem = s.instance; windows = s.windows; trace = s.trace.items; tables = prices.tables; spans = prices.spans; unit = prices.unit }
 
 -- the leaf with a number is left open: it isn't empty and is worth less than the cost, and P of its
 -- sides
@@ -47,15 +46,15 @@ pub record IsLeftOpen (h : History) (cost : ℕ) (nodes : List (Node Payload)) (
   pub holds : IsSomeAnd (leaf_at nodes leaf) (λ (l : Leaf (Node Payload)). P l.sides)
 
 -- what a search left is so, and why it left it
-abbrev pub IsLeft : Search → List (List ClassShare) → Left → Type 0
-IsLeft s tables Nothing = All (λ (l : Leaf (Node Payload)). closed_of l.node ≡ true) (tree_leaves fork_of s.tree)
-IsLeft s tables (Timing leaf relaxed) =
-    (last_round (history s tables) ≡ s.budget.rounds)
-    × ClashesBelow s.instance s.windows (points_of (history s tables) (last_round (history s tables))) s.cost relaxed
-    × IsLeftOpen (history s tables) s.cost s.tree leaf (λ sides. AreWalksUnder s.instance s.windows (points_of (history s tables) (last_round (history s tables))) sides relaxed)
-IsLeft s tables (Several leaf shipment) =
+abbrev pub IsLeft : Search → PriceLists → Left → Type 0
+IsLeft s prices Nothing = All (λ (l : Leaf (Node Payload)). closed_of l.node ≡ true) (tree_leaves fork_of s.tree)
+IsLeft s prices (Timing leaf relaxed) =
+    (last_round (history s prices) ≡ s.budget.rounds)
+    × ClashesBelow s.instance s.windows (points_of (history s prices) (last_round (history s prices))) s.cost relaxed
+    × IsLeftOpen (history s prices) s.cost s.tree leaf (λ sides. AreWalksUnder s.instance s.windows (points_of (history s prices) (last_round (history s prices))) sides relaxed)
+IsLeft s prices (Several leaf shipment) =
     (split_count s.tree ≡ s.budget.branches)
-    × IsLeftOpen (history s tables) s.cost s.tree leaf (λ sides. HasSeveral s.instance s.windows (points_of (history s tables) (last_round (history s tables))) sides shipment)
+    × IsLeftOpen (history s prices) s.cost s.tree leaf (λ sides. HasSeveral s.instance s.windows (points_of (history s prices) (last_round (history s prices))) sides shipment)
 
 -- what a search has in hand, with its notes as a list
 pub record InHand : Type 0 where
@@ -87,20 +86,20 @@ in_hand s = record {
   left = s.left;
 }
 
--- all that a search knows of what it has in hand, with its tables of prices
-pub record IsSearch (s : Search) (tables : List (List ClassShare)) : Type 0 where
+-- all that a search knows of what it has in hand, with its prices
+pub record IsSearch (s : Search) (lists : PriceLists) : Type 0 where
   pub belongs : BelongsTo s.instance s.windows
   pub budget : IsBudget s.budget
   pub incumbent : IsIncumbent s.instance s.windows s.incumbent s.cost
   pub cheaper : s.cost ≤ s.started
-  pub trace : IsEarnedTrace (history s tables) s.started s.cost
-  pub rounds : last_round (history s tables) ≤ s.budget.rounds
+  pub trace : IsEarnedTrace (history s lists) s.started s.cost
+  pub rounds : last_round (history s lists) ≤ s.budget.rounds
   pub points : BeginWith s.instance s.windows.anchors s.points
   pub added : s.points.added ≡ added_of s.trace.items
-  pub network : IsNetworkOf s.instance s.points (last_round (history s tables)) s.network
-  pub prices : ArePriceTables s.instance tables
+  pub network : IsNetworkOf s.instance s.points (last_round (history s lists)) s.network
+  pub prices : ArePrices s.instance lists
   pub tails : HaveTails (tails_of s.instance) fork_of s.tree
   pub few : split_count s.tree ≤ s.budget.branches
-  pub splits : All (IsSplitOf (history s tables) s.started s.cost) (tree_branches fork_of s.tree)
-  pub leaves : All (IsLeafOf (history s tables) s.cost) (tree_leaves fork_of s.tree)
-  pub left : IfSome s.left (IsLeft s tables)
+  pub splits : All (IsSplitOf (history s lists) s.started s.cost) (tree_branches fork_of s.tree)
+  pub leaves : All (IsLeafOf (history s lists) s.cost) (tree_leaves fork_of s.tree)
+  pub left : IfSome s.left (IsLeft s lists)

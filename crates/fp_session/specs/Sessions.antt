@@ -6,7 +6,7 @@ use Rattle.fp_timenodes.specs.Points.{TimePoints}
 use Rattle.fp_flatnet.specs.Tables.{WindowTable}
 use Rattle.fp_longestarcs.specs.Networks.{TimedNetwork}
 use Rattle.fp_tree.specs.Nodes.{Node}
-use Rattle.fp_prices.specs.Shares.{ClassShare}
+use Rattle.fp_session.specs.Prices.{PriceLists}
 use Rattle.fp_history.specs.declared.budgets.Budget.{Budget}
 use Rattle.fp_history.specs.declared.endings.Left.{Left}
 use Rattle.fp_history.specs.Notes.{Refinement}
@@ -28,11 +28,11 @@ pub record SessionModel : Type 0 where
   pub tree : List (Node Payload)
   pub trace : List Refinement
   pub left : Option Left
-  pub tables : List (List ClassShare)
+  pub prices : PriceLists
 
--- a search with these tables
-abbrev pub session_of : InHand → List (List ClassShare) → SessionModel
-session_of s tables = record {
+-- a search with these prices
+abbrev pub session_of : InHand → PriceLists → SessionModel
+session_of s prices = record {
   instance = s.instance;
   windows = s.windows;
   budget = s.budget;
@@ -44,10 +44,10 @@ session_of s tables = record {
   tree = s.tree;
   trace = s.trace;
   left = s.left;
-  tables = tables;
+  prices = prices;
 }
 
--- what it has in hand besides its tables
+-- what it has in hand besides its prices
 abbrev pub hand_of : SessionModel → InHand
 hand_of m = record {
   instance = m.instance;
@@ -67,4 +67,4 @@ hand_of m = record {
 pub record IsSound (m : SessionModel) : Type 0 where
   pub search : Search
   pub is : hand_of m ≡ in_hand search
-  pub knows : IsSearch search m.tables
+  pub knows : IsSearch search m.prices

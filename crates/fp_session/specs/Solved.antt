@@ -1,8 +1,9 @@
 -- All that is shown of a search that has ended.
-use Rattle.std.specs.Prelude.{ℕ, ◌≤◌, ◌≡◌, List, ◌++◌, IfSome}
+use Rattle.std.specs.Prelude.{ℕ, ◌-◌, ◌^◌, ◌<◌, ◌≤◌, ◌≡◌, List, ◌++◌, length, All, IfSome}
 use Rattle.fp_model.specs.Problem.{Problem}
 use Rattle.fp_flatnet.specs.Tables.{WindowTable}
 use Rattle.fp_prices.specs.Tables.{AreCountable}
+use Rattle.fp_spans.specs.Spans.{ClassSpan}
 use Rattle.fp_lines.specs.Ranges.{IsInRange}
 use Rattle.fp_acceptance.specs.Accepted.{IsAccepted}
 use Rattle.fp_acceptance.specs.Plans.{stated_cost}
@@ -20,6 +21,7 @@ pub record IsSolved (p : Problem) (table : WindowTable) (budget : Budget) (start
   pub accepted : IsAccepted p table x.certificate
   pub range : IsInRange p x.certificate
   pub countable : AreCountable p x.certificate.tables
+  pub few : All (λ (spans : List ClassSpan). length spans < 2 ^ 32 - 1) x.certificate.spans
   pub scale : x.certificate.scale ≡ named_scale p.scale
   pub earned : IsEarnedSolution p table budget started x
 

@@ -1,5 +1,5 @@
 -- What comes of a relaxed plan that costs less than the incumbent.
-use Rattle.std.specs.Prelude.{◌≡◌, List, []}
+use Rattle.std.specs.Prelude.{◌≡◌, List}
 use Rattle.fp_model.specs.declared.parts.Leg.{Leg}
 use Rattle.fp_history.specs.Clashes.{ClashesBelow}
 use Rattle.fp_history.specs.Notes.{last_round}
@@ -7,6 +7,7 @@ use Rattle.fp_session.specs.declared.searches.Search.{Search}
 use Rattle.fp_session.specs.declared.timing.Timing.{Timing}
 use Rattle.fp_session.specs.declared.timing.Timing.TheVariants.{Better, Refine, Spent}
 use Rattle.fp_session.specs.Moves.{IsCheaper, IsNextRound, points_now}
+use Rattle.fp_session.specs.Prices.{no_prices}
 use Rattle.fp_session.specs.Searches.{history}
 
 -- a cheaper plan; or one more round; or the relaxed plan calls for one, and none is left
@@ -14,4 +15,4 @@ abbrev pub IsTiming : Search → List (List Leg) → Timing → Type 0
 IsTiming s relaxed (Better cheaper) = IsCheaper s cheaper
 IsTiming s relaxed (Refine round) = IsNextRound s round.note round.refined
 IsTiming s relaxed (Spent walks) =
-    (walks ≡ relaxed) × (last_round (history s []) ≡ s.budget.rounds) × ClashesBelow s.instance s.windows (points_now s) s.cost relaxed
+    (walks ≡ relaxed) × (last_round (history s no_prices) ≡ s.budget.rounds) × ClashesBelow s.instance s.windows (points_now s) s.cost relaxed

@@ -2,7 +2,7 @@
 ghost use Rattle.std.specs.Prelude.{◌≡◌, ◌<◌, ⊤, None, Ok, IfOk, IfSome, IsSomeAnd, OnErr, OnOk, false};
 ghost use Rattle.fp_tree.specs.Nodes.{closed_of, leaf_at, leaf_count};
 ghost use Rattle.fp_session.specs.declared.steps.Step.TheVariants.{Done};
-ghost use Rattle.fp_session.specs.Outcomes.{HaveGrown};
+ghost use Rattle.fp_session.specs.Prices.{HaveGrown};
 ghost use Rattle.fp_session.specs.Searches.{IsSearch, in_hand};
 ghost use Rattle.fp_session.specs.StepCauses.{ending_of as ending_in};
 ghost use Rattle.fp_session.specs.Steps.{HasGoneOn, IsStep, StayFixed};
@@ -10,72 +10,74 @@ ghost use Rattle.fp_session.specs.Steps.{HasGoneOn, IsStep, StayFixed};
 use crate::NoMemory;
 use crate::applying::ending_of;
 use crate::planning::next_move;
+use crate::prices::Prices;
 use crate::searches::Search;
 use crate::steps::Step;
-use fp_duals::Tables;
 use fp_history::{Ending, Left};
 use std::alloc::Global;
 
-// One step at an open leaf. Without memory there may be more tables, and all else is as before.
+// One step at an open leaf. Without memory the prices may have grown, and all else is as before.
 fn attempt(
     alloc: Global,
     search: &mut Search,
-    tables: &mut Tables,
+    prices: &mut Prices,
     leaf: u32,
 ) -> Result<Step, NoMemory>
-    requires search { IsSearch search.old tables.old }
+    requires search { IsSearch search.old prices.old }
     requires going { search.old.left ≡ None }
     requires leaf { leaf < leaf_count search.old.tree }
     requires open { IsSomeAnd (leaf_at search.old.tree leaf) (λ l. closed_of l.node ≡ false) }
-    ensures grown { HaveGrown search.old.instance tables.old tables.new }
-    ensures search { OnOk result (IsSearch search.new tables.new) }
+    ensures grown { HaveGrown search.old.instance prices.old prices.new }
+    ensures search { OnOk result (IsSearch search.new prices.new) }
     ensures fixed { StayFixed (in_hand search.old) (in_hand search.new) }
     ensures step { IfOk result (IsStep (in_hand search.old) (in_hand search.new)) }
     ensures err { OnErr result (in_hand search.new ≡ in_hand search.old) }
 {
-    let planned = next_move(alloc, search, leaf, tables)?;
-    search.apply(alloc, tables, leaf, planned)
+    let planned = next_move(alloc, search, leaf, prices)?;
+    search.apply(alloc, prices, leaf, planned)
 }
 
 // One step at an open leaf. Without memory all is as before.
 fn advance_at(
     alloc: Global,
     search: &mut Search,
-    tables: &mut Tables,
+    prices: &mut Prices,
     leaf: u32,
 ) -> Result<Step, NoMemory>
-    requires search { IsSearch search.old tables.old }
+    requires search { IsSearch search.old prices.old }
     requires going { search.old.left ≡ None }
     requires leaf { leaf < leaf_count search.old.tree }
     requires open { IsSomeAnd (leaf_at search.old.tree leaf) (λ l. closed_of l.node ≡ false) }
-    ensures search { IsSearch search.new tables.new }
+    ensures search { IsSearch search.new prices.new }
     ensures fixed { StayFixed (in_hand search.old) (in_hand search.new) }
     ensures step { IfOk result (IsStep (in_hand search.old) (in_hand search.new)) }
     ensures hand { OnErr result (in_hand search.new ≡ in_hand search.old) }
-    ensures tables { OnErr result (tables.new ≡ tables.old) }
+    ensures unit { prices.new.unit ≡ prices.old.unit }
+    ensures prices { OnErr result (prices.new ≡ prices.old) }
 {
-    let count = tables.list().len() as u32;
-    match attempt(alloc, search, tables, leaf) {
+    let count = prices.count();
+    match attempt(alloc, search, prices, leaf) {
         Ok(step) => Ok(step),
         Err(error) => {
-            tables.cut(count);
+            prices.cut(count);
             Err(error)
         }
     }
 }
 
 // One step of a search that hasn't ended. Without memory all is as before.
-fn advance_open(alloc: Global, search: &mut Search, tables: &mut Tables) -> Result<Step, NoMemory>
-    requires search { IsSearch search.old tables.old }
+fn advance_open(alloc: Global, search: &mut Search, prices: &mut Prices) -> Result<Step, NoMemory>
+    requires search { IsSearch search.old prices.old }
     requires going { search.old.left ≡ None }
-    ensures search { IsSearch search.new tables.new }
+    ensures search { IsSearch search.new prices.new }
     ensures fixed { StayFixed (in_hand search.old) (in_hand search.new) }
     ensures step { IfOk result (IsStep (in_hand search.old) (in_hand search.new)) }
     ensures hand { OnErr result (in_hand search.new ≡ in_hand search.old) }
-    ensures tables { OnErr result (tables.new ≡ tables.old) }
+    ensures unit { prices.new.unit ≡ prices.old.unit }
+    ensures prices { OnErr result (prices.new ≡ prices.old) }
 {
     match search.tree.best_open() {
-        Some(leaf) => advance_at(alloc, search, tables, leaf),
+        Some(leaf) => advance_at(alloc, search, prices, leaf),
         None => {
             search.left = Some(Left::Nothing);
             Ok(Step::Done {
@@ -89,23 +91,24 @@ fn advance_open(alloc: Global, search: &mut Search, tables: &mut Tables) -> Resu
 pub(crate) fn advance(
     alloc: Global,
     search: &mut Search,
-    tables: &mut Tables,
+    prices: &mut Prices,
 ) -> Result<Step, NoMemory>
-    requires search { IsSearch search.old tables.old }
-    ensures search { IsSearch search.new tables.new }
+    requires search { IsSearch search.old prices.old }
+    ensures search { IsSearch search.new prices.new }
     ensures fixed { StayFixed (in_hand search.old) (in_hand search.new) }
     ensures step { IfOk result (IsStep (in_hand search.old) (in_hand search.new)) }
     ensures answer { IfSome search.old.left (λ left. result ≡ Ok (Done (ending_in left))) }
     ensures ended { IfSome search.old.left (λ left. in_hand search.new ≡ in_hand search.old) }
-    ensures kept { IfSome search.old.left (λ left. tables.new ≡ tables.old) }
+    ensures kept { IfSome search.old.left (λ left. prices.new ≡ prices.old) }
     ensures hand { OnErr result (in_hand search.new ≡ in_hand search.old) }
-    ensures tables { OnErr result (tables.new ≡ tables.old) }
+    ensures unit { prices.new.unit ≡ prices.old.unit }
+    ensures prices { OnErr result (prices.new ≡ prices.old) }
 {
     match &search.left {
         Some(left) => Ok(Step::Done {
             ending: ending_of(left),
         }),
-        None => advance_open(alloc, search, tables),
+        None => advance_open(alloc, search, prices),
     }
 }
 
@@ -113,16 +116,17 @@ pub(crate) fn advance(
 pub(crate) fn finish(
     alloc: Global,
     search: &mut Search,
-    tables: &mut Tables,
+    prices: &mut Prices,
 ) -> Result<(), NoMemory>
-    requires search { IsSearch search.old tables.old }
-    ensures search { IsSearch search.new tables.new }
+    requires search { IsSearch search.old prices.old }
+    ensures search { IsSearch search.new prices.new }
     ensures fixed { StayFixed (in_hand search.old) (in_hand search.new) }
     ensures onward { OnOk result (HasGoneOn (in_hand search.old) (in_hand search.new)) }
+    ensures unit { prices.new.unit ≡ prices.old.unit }
     ensures ended { OnOk result (IsSomeAnd search.new.left (λ left. ⊤)) }
 {
     while search.left.is_none() {
-        advance(alloc, search, tables)?;
+        advance(alloc, search, prices)?;
     }
     Ok(())
 }

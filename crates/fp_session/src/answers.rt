@@ -1,34 +1,38 @@
 //! The answer of a search that has ended.
 ghost use Rattle.std.specs.Prelude.{◌≡◌};
 ghost use Rattle.fp_session.specs.Certificates.{IsAnswer, IsBound};
+ghost use Rattle.fp_session.specs.Prices.{ArePrices};
 
 use crate::least_worth::least_worth;
+use crate::prices::Prices;
 use crate::searches::Search;
 use fp_history::Left;
 use fp_lines::{Answer, Spent};
 
 // The bound of a search that is unfinished.
-fn bound(search: &Search) -> u128
-    ensures { IsBound search.now result }
+fn bound(search: &Search, prices: &Prices) -> u128
+    requires { ArePrices search.now.instance prices.now }
+    ensures { IsBound search.now prices.now result }
 {
-    least_worth(&search.tree, search.instance.scale(), search.cost)
+    least_worth(search, prices)
 }
 
 // The answer of a search, by what it left.
-pub(crate) fn answer(search: &Search, left: &Left) -> Answer
-    ensures { IsAnswer search.now left.now result }
+pub(crate) fn answer(search: &Search, prices: &Prices, left: &Left) -> Answer
+    requires { ArePrices search.now.instance prices.now }
+    ensures { IsAnswer search.now prices.now left.now result }
 {
     let cost = search.cost;
     match left {
         Left::Nothing => Answer::Optimal { cost },
         Left::Timing { .. } => Answer::Unfinished {
             cost,
-            bound: bound(search),
+            bound: bound(search, prices),
             spent: Spent::Rounds,
         },
         Left::Several { .. } => Answer::Unfinished {
             cost,
-            bound: bound(search),
+            bound: bound(search, prices),
             spent: Spent::Branches,
         },
     }

@@ -13,10 +13,10 @@ use crate::kept::Kept;
 use crate::moves::{Cheaper, Division, Move};
 use crate::payloads::Payload;
 use crate::planning::Planned;
+use crate::prices::Prices;
 use crate::searches::Search;
 use crate::steps::Step;
 use crate::timing::NextRound;
-use fp_duals::Tables;
 use fp_history::{Ending, Left};
 use fp_lines::Spent;
 use std::alloc::Global;
@@ -39,12 +39,12 @@ pub(crate) fn ending_of(left: &Left) -> Ending
 impl Search {
     // Keeps what was found of an open leaf, which is settled, and closes it. The tables serve the
     // contract alone, here and below.
-    pub(crate) fn close(&mut self, tables: &Tables, leaf: u32, kept: Kept)
-        requires search { IsSearch self.old tables.now }
+    pub(crate) fn close(&mut self, prices: &Prices, leaf: u32, kept: Kept)
+        requires search { IsSearch self.old prices.now }
         requires going { self.old.left ≡ None }
-        requires kept { AtOpenLeaf self.old.tree leaf (λ l. IsKept (history self.old tables.now) l.sides kept.payload kept.value) }
-        requires settled { IsSettled (history self.old tables.now) self.old.cost kept.payload kept.value }
-        ensures search { IsSearch self.new tables.now }
+        requires kept { AtOpenLeaf self.old.tree leaf (λ l. IsKept (history self.old prices.now) l.sides kept.payload kept.value) }
+        requires settled { IsSettled (history self.old prices.now) self.old.cost kept.payload kept.value }
+        ensures search { IsSearch self.new prices.now }
         ensures fixed { StayFixed (in_hand self.old) (in_hand self.new) }
         ensures closed { HasClosed (in_hand self.old) (in_hand self.new) }
     {
@@ -53,11 +53,11 @@ impl Search {
     }
 
     // Keeps what was found of an open leaf.
-    fn keep(&mut self, tables: &Tables, leaf: u32, kept: Kept)
-        requires search { IsSearch self.old tables.now }
+    fn keep(&mut self, prices: &Prices, leaf: u32, kept: Kept)
+        requires search { IsSearch self.old prices.now }
         requires going { self.old.left ≡ None }
-        requires kept { AtOpenLeaf self.old.tree leaf (λ l. IsKept (history self.old tables.now) l.sides kept.payload kept.value) }
-        ensures search { IsSearch self.new tables.now }
+        requires kept { AtOpenLeaf self.old.tree leaf (λ l. IsKept (history self.old prices.now) l.sides kept.payload kept.value) }
+        ensures search { IsSearch self.new prices.now }
         ensures others { self.new ≡ with_tree self.old self.new.tree }
         ensures open_leaves { open_count self.new.tree ≡ open_count self.old.tree }
         ensures splits { split_count self.new.tree ≡ split_count self.old.tree }
@@ -67,11 +67,11 @@ impl Search {
     }
 
     // A cheaper plan becomes the incumbent.
-    fn take(&mut self, tables: &Tables, cheaper: Cheaper)
-        requires search { IsSearch self.old tables.now }
+    fn take(&mut self, prices: &Prices, cheaper: Cheaper)
+        requires search { IsSearch self.old prices.now }
         requires going { self.old.left ≡ None }
         requires cheaper { IsCheaper self.old cheaper }
-        ensures search { IsSearch self.new tables.now }
+        ensures search { IsSearch self.new prices.now }
         ensures taken { self.new ≡ with_incumbent self.old cheaper }
     {
         self.incumbent = cheaper.plan;
@@ -79,11 +79,11 @@ impl Search {
     }
 
     // A round is added, with its note.
-    fn refine(&mut self, tables: &Tables, round: NextRound) -> Result<(), NoMemory>
-        requires search { IsSearch self.old tables.now }
+    fn refine(&mut self, prices: &Prices, round: NextRound) -> Result<(), NoMemory>
+        requires search { IsSearch self.old prices.now }
         requires going { self.old.left ≡ None }
         requires round { IsNextRound self.old round.note round.refined }
-        ensures search { OnOk result (IsSearch self.new tables.now) }
+        ensures search { OnOk result (IsSearch self.new prices.now) }
         ensures refined { OnOk result
             (in_hand self.new ≡ with_round (in_hand self.old) round.note round.refined) }
         ensures err { OnErr result (in_hand self.new ≡ in_hand self.old) }
@@ -99,18 +99,18 @@ impl Search {
     fn divide(
         &mut self,
         alloc: Global,
-        tables: &Tables,
+        prices: &Prices,
         leaf: u32,
         kept: Kept,
         division: Division,
     ) -> Result<(), NoMemory>
-        requires search { IsSearch self.old tables.now }
+        requires search { IsSearch self.old prices.now }
         requires going { self.old.left ≡ None }
         requires left { split_count self.old.tree < self.old.budget.branches }
-        requires unsettled { AtOpenLeaf self.old.tree leaf (λ l. IsUnsettled (history self.old tables.now) self.old.cost l.sides kept) }
-        requires kept { AtOpenLeaf self.old.tree leaf (λ l. IsKept (history self.old tables.now) l.sides kept.payload kept.value) }
-        requires division { AtOpenLeaf self.old.tree leaf (λ l. IsDivision (history self.old tables.now) l.sides division) }
-        ensures search { OnOk result (IsSearch self.new tables.now) }
+        requires unsettled { AtOpenLeaf self.old.tree leaf (λ l. IsUnsettled (history self.old prices.now) self.old.cost l.sides kept) }
+        requires kept { AtOpenLeaf self.old.tree leaf (λ l. IsKept (history self.old prices.now) l.sides kept.payload kept.value) }
+        requires division { AtOpenLeaf self.old.tree leaf (λ l. IsDivision (history self.old prices.now) l.sides division) }
+        ensures search { OnOk result (IsSearch self.new prices.now) }
         ensures fixed { StayFixed (in_hand self.old) (in_hand self.new) }
         ensures branched { OnOk result (HasBranched (in_hand self.old) (in_hand self.new)) }
         ensures err { OnErr result (self.new ≡ self.old) }
@@ -134,13 +134,13 @@ impl Search {
     }
 
     // Ends the search, with what it left at an open leaf, which keeps what was found of it.
-    fn stop(&mut self, tables: &Tables, leaf: u32, kept: Kept, left: Left)
-        requires search { IsSearch self.old tables.now }
+    fn stop(&mut self, prices: &Prices, leaf: u32, kept: Kept, left: Left)
+        requires search { IsSearch self.old prices.now }
         requires going { self.old.left ≡ None }
-        requires unsettled { AtOpenLeaf self.old.tree leaf (λ l. IsUnsettled (history self.old tables.now) self.old.cost l.sides kept) }
-        requires kept { AtOpenLeaf self.old.tree leaf (λ l. IsKept (history self.old tables.now) l.sides kept.payload kept.value) }
+        requires unsettled { AtOpenLeaf self.old.tree leaf (λ l. IsUnsettled (history self.old prices.now) self.old.cost l.sides kept) }
+        requires kept { AtOpenLeaf self.old.tree leaf (λ l. IsKept (history self.old prices.now) l.sides kept.payload kept.value) }
         requires left { AtOpenLeaf self.old.tree leaf (λ l. IsLeftAt self.old leaf l.sides left) }
-        ensures search { IsSearch self.new tables.now }
+        ensures search { IsSearch self.new prices.now }
         ensures fixed { StayFixed (in_hand self.old) (in_hand self.new) }
         ensures ended { HasEnded (in_hand self.old) (in_hand self.new) (ending_in left) }
     {
@@ -152,14 +152,14 @@ impl Search {
     pub(crate) fn apply(
         &mut self,
         alloc: Global,
-        tables: &Tables,
+        prices: &Prices,
         leaf: u32,
         planned: Planned,
     ) -> Result<Step, NoMemory>
-        requires search { IsSearch self.old tables.now }
+        requires search { IsSearch self.old prices.now }
         requires going { self.old.left ≡ None }
-        requires planned { IsMove self.old tables.now leaf planned.kept planned.planned }
-        ensures search { OnOk result (IsSearch self.new tables.now) }
+        requires planned { IsMove self.old prices.now leaf planned.kept planned.planned }
+        ensures search { OnOk result (IsSearch self.new prices.now) }
         ensures fixed { StayFixed (in_hand self.old) (in_hand self.new) }
         ensures step { IfOk result (IsStep (in_hand self.old) (in_hand self.new)) }
         ensures err { OnErr result (in_hand self.new ≡ in_hand self.old) }
@@ -167,26 +167,26 @@ impl Search {
         let kept = planned.kept;
         match planned.planned {
             Move::Close => {
-                self.close(tables, leaf, kept);
+                self.close(prices, leaf, kept);
                 Ok(Step::Closed)
             }
             Move::Better { cheaper } => {
-                self.keep(tables, leaf, kept);
-                self.take(tables, cheaper);
+                self.keep(prices, leaf, kept);
+                self.take(prices, cheaper);
                 Ok(Step::Better)
             }
             Move::Refine { note, refined } => {
-                self.refine(tables, NextRound { note, refined })?;
-                self.keep(tables, leaf, kept);
+                self.refine(prices, NextRound { note, refined })?;
+                self.keep(prices, leaf, kept);
                 Ok(Step::Round)
             }
             Move::Divide { division } => {
-                self.divide(alloc, tables, leaf, kept, division)?;
+                self.divide(alloc, prices, leaf, kept, division)?;
                 Ok(Step::Branch)
             }
             Move::Stop { left } => {
                 let ending = ending_of(&left);
-                self.stop(tables, leaf, kept, left);
+                self.stop(prices, leaf, kept, left);
                 Ok(Step::Done { ending })
             }
         }

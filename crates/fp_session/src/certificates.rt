@@ -4,9 +4,9 @@ ghost use Rattle.fp_model.specs.Plans.{IsPlan};
 ghost use Rattle.fp_session.specs.Certificates.{IsCertificate, named_scale};
 
 use crate::NoMemory;
+use crate::prices::Prices;
 use crate::searches::Search;
 use crate::tree_lines::tree_lines;
-use fp_duals::Tables;
 use fp_lines::{Answer, Certificate};
 use fp_model::Instance;
 use fp_model::limits::SCALE;
@@ -29,23 +29,26 @@ fn named_scale(instance: &Instance) -> Option<u32>
 pub(crate) fn certificate(
     alloc: Global,
     search: &Search,
-    tables: Tables,
+    prices: Prices,
     answer: Answer,
 ) -> Result<Certificate, NoMemory>
     requires { IsPlan search.now.instance 1 search.now.incumbent }
-    ensures { IfOk result (IsCertificate search.now tables answer) }
+    ensures { IfOk result (IsCertificate search.now prices answer) }
 {
     let legs = legs(alloc, &search.instance, &search.incumbent)?;
     let trucks = trucks(alloc, &search.instance, &search.incumbent)?;
     let points = search.points.added().to_vec(alloc)?;
     let tree = tree_lines(alloc, &search.tree)?;
+    let (tables, spans, unit) = prices.into_parts();
     Ok(Certificate {
         answer,
         scale: named_scale(&search.instance),
+        unit,
         legs,
         trucks,
         points,
-        tables: tables.into_list(),
+        tables,
+        spans,
         tree,
     })
 }

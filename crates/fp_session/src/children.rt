@@ -2,21 +2,25 @@
 ghost use Rattle.std.specs.Prelude.{[], ◌∷◌, ◌++◌, ◌≡◌, None, IfOk, false};
 ghost use Rattle.fp_prices.specs.Tables.{HasKind};
 ghost use Rattle.fp_session.specs.Nodes.{IsKept};
-ghost use Rattle.fp_session.specs.Outcomes.{HaveGrown};
+ghost use Rattle.fp_session.specs.Prices.{HaveGrown};
 ghost use Rattle.fp_session.specs.Searches.{IsSearch, history};
 
 use crate::NoMemory;
+use crate::efforts::PriceEffort;
 use crate::improving::{emptied, improved, priced};
 use crate::kept::Kept;
 use crate::outcomes::Outcome;
+use crate::prices::Prices;
+use crate::pricing::improve;
 use crate::searches::Search;
-use fp_duals::{Effort, Improved, Tables, improve_leaf};
+use fp_duals::Improved;
 use fp_prices::{Leaf, LeafPrice, RoundNetwork};
 use fp_tree::Side;
 use std::alloc::Global;
 
 // What is kept of the leaf on one side of a split, improved with little effort from a price of the
 // leaf above.
+#[tactic(auto, using(crate::proofs::GrownPrices::HaveGrown_none))]
 pub(crate) fn new_child(
     alloc: Global,
     search: &Search,
@@ -24,27 +28,28 @@ pub(crate) fn new_child(
     sides: &[Side],
     side: Side,
     inherited: LeafPrice,
-    tables: &mut Tables,
+    prices: &mut Prices,
 ) -> Result<Kept, NoMemory>
     requires problem { round.now.problem ≡ search.now.instance }
     requires network { round.now.network ≡ search.now.network }
-    requires search { IsSearch search.now tables.old }
-    requires kind { HasKind tables.old inherited.kind }
-    ensures grown { HaveGrown search.now.instance tables.old tables.new }
+    requires search { IsSearch search.now prices.old }
+    requires kind { HasKind prices.old.tables inherited.kind }
+    ensures grown { HaveGrown search.now.instance prices.old prices.new }
     ensures kept { IfOk result (λ kept.
-        IsKept (history search.now tables.new) (sides.now ++ (side ∷ [])) kept.payload kept.value) }
+        IsKept (history search.now prices.new) (sides.now ++ (side ∷ [])) kept.payload kept.value) }
 {
     let mut below = sides.to_vec(alloc)?;
     below.push(side)?;
     let leaf = Leaf::of(alloc, round, &search.windows, &below)?;
     let number = search.trace.len() as u32;
-    match improve_leaf(alloc, &leaf, number, inherited, &Effort::CHILD, tables)? {
+    match improve(alloc, &leaf, number, inherited, &PriceEffort::CHILD, prices)? {
         Improved::Empty { .. } => Ok(emptied(number)),
         Improved::Priced { price, value, .. } => Ok(priced(price, value)),
     }
 }
 
 // What is kept of such a leaf of which this was kept, improved with more effort.
+#[tactic(auto, using(crate::proofs::GrownPrices::HaveGrown_none))]
 fn better_child(
     alloc: Global,
     search: &Search,
@@ -52,21 +57,21 @@ fn better_child(
     sides: &[Side],
     side: Side,
     old: Kept,
-    tables: &mut Tables,
+    prices: &mut Prices,
 ) -> Result<Kept, NoMemory>
     requires problem { round.now.problem ≡ search.now.instance }
     requires network { round.now.network ≡ search.now.network }
-    requires search { IsSearch search.now tables.old }
-    requires kept { IsKept (history search.now tables.old) (sides.now ++ (side ∷ [])) old.payload old.value }
+    requires search { IsSearch search.now prices.old }
+    requires kept { IsKept (history search.now prices.old) (sides.now ++ (side ∷ [])) old.payload old.value }
     requires some { old.payload.empty ≡ false }
-    ensures grown { HaveGrown search.now.instance tables.old tables.new }
+    ensures grown { HaveGrown search.now.instance prices.old prices.new }
     ensures kept { IfOk result (λ kept.
-        IsKept (history search.now tables.new) (sides.now ++ (side ∷ [])) kept.payload kept.value) }
+        IsKept (history search.now prices.new) (sides.now ++ (side ∷ [])) kept.payload kept.value) }
 {
     let mut below = sides.to_vec(alloc)?;
     below.push(side)?;
     let leaf = Leaf::of(alloc, round, &search.windows, &below)?;
-    match improved(alloc, search, &leaf, old, &Effort::CHOSEN, tables)? {
+    match improved(alloc, search, &leaf, old, &PriceEffort::CHOSEN, prices)? {
         Outcome::Empty { kept } => Ok(kept),
         Outcome::Open { kept, .. } => Ok(kept),
     }
@@ -81,21 +86,21 @@ pub(crate) fn child(
     sides: &[Side],
     side: Side,
     above: Kept,
-    tables: &mut Tables,
+    prices: &mut Prices,
 ) -> Result<Kept, NoMemory>
     requires problem { round.now.problem ≡ search.now.instance }
     requires network { round.now.network ≡ search.now.network }
-    requires search { IsSearch search.now tables.old }
+    requires search { IsSearch search.now prices.old }
     requires going { search.now.left ≡ None }
-    requires kind { HasKind tables.old above.payload.price.kind }
-    ensures grown { HaveGrown search.now.instance tables.old tables.new }
+    requires kind { HasKind prices.old.tables above.payload.price.kind }
+    ensures grown { HaveGrown search.now.instance prices.old prices.new }
     ensures kept { IfOk result (λ kept.
-        IsKept (history search.now tables.new) (sides.now ++ (side ∷ [])) kept.payload kept.value) }
+        IsKept (history search.now prices.new) (sides.now ++ (side ∷ [])) kept.payload kept.value) }
 {
     let price = above.payload.price;
-    let kept = new_child(alloc, search, round, sides, side, price, tables)?;
+    let kept = new_child(alloc, search, round, sides, side, price, prices)?;
     if kept.payload.empty || kept.value >= above.value {
         return Ok(kept);
     }
-    better_child(alloc, search, round, sides, side, kept, tables)
+    better_child(alloc, search, round, sides, side, kept, prices)
 }

@@ -3,16 +3,16 @@ ghost use Rattle.std.specs.Prelude.{◌≡◌, ◌<◌, ◌≤◌, All, IfOk, le
 ghost use Rattle.fp_prices.specs.Tables.{HasKind};
 ghost use Rattle.fp_branching.specs.Candidates.{IsCandidate};
 ghost use Rattle.fp_session.specs.Dividing.{IsSeveral};
-ghost use Rattle.fp_session.specs.Outcomes.{HaveGrown};
+ghost use Rattle.fp_session.specs.Prices.{HaveGrown};
 ghost use Rattle.fp_session.specs.Searches.{IsSearch};
 
 use crate::NoMemory;
 use crate::children::new_child;
 use crate::dividing::Several;
 use crate::kept::Kept;
+use crate::prices::Prices;
 use crate::searches::Search;
 use fp_branching::{Candidate, candidates};
-use fp_duals::Tables;
 use fp_model::Leg;
 use fp_prices::{ClassWalk, Leaf, LeafPrice, RoundNetwork};
 use fp_relaxmodel::TimedWalk;
@@ -45,7 +45,7 @@ fn worth(search: &Search, kept: Kept) -> u128 {
     }
 }
 
-// What the sides of a candidate's split promise, with tables that serve this alone.
+// What the sides of a candidate's split promise, with prices that serve this alone.
 fn tried(
     alloc: Global,
     search: &Search,
@@ -53,14 +53,14 @@ fn tried(
     sides: &[Side],
     candidate: Candidate,
     inherited: LeafPrice,
-    tables: &mut Tables,
+    prices: &mut Prices,
 ) -> Result<Promise, NoMemory>
-    requires search { IsSearch search.now tables.old }
+    requires search { IsSearch search.now prices.old }
     requires going { search.now.left ≡ None }
     requires problem { round.now.problem ≡ search.now.instance }
     requires network { round.now.network ≡ search.now.network }
-    requires kind { HasKind tables.old inherited.kind }
-    ensures grown { HaveGrown search.now.instance tables.old tables.new }
+    requires kind { HasKind prices.old.tables inherited.kind }
+    ensures grown { HaveGrown search.now.instance prices.old prices.new }
 {
     let Candidate {
         terminal,
@@ -74,7 +74,7 @@ fn tried(
         sides,
         split.first(),
         inherited,
-        tables,
+        prices,
     )?;
     let second = new_child(
         alloc,
@@ -83,7 +83,7 @@ fn tried(
         sides,
         split.second(terminal),
         inherited,
-        tables,
+        prices,
     )?;
     let first = worth(search, first);
     let second = worth(search, second);
@@ -93,7 +93,7 @@ fn tried(
     })
 }
 
-// What the sides of a candidate's split promise. The tables are as before.
+// What the sides of a candidate's split promise. The prices are as before.
 fn promise_of(
     alloc: Global,
     search: &Search,
@@ -101,22 +101,22 @@ fn promise_of(
     sides: &[Side],
     candidate: Candidate,
     inherited: LeafPrice,
-    tables: &mut Tables,
+    prices: &mut Prices,
 ) -> Result<Promise, NoMemory>
-    requires search { IsSearch search.now tables.old }
+    requires search { IsSearch search.now prices.old }
     requires going { search.now.left ≡ None }
     requires problem { round.now.problem ≡ search.now.instance }
     requires network { round.now.network ≡ search.now.network }
-    requires kind { HasKind tables.old inherited.kind }
-    ensures { tables.new ≡ tables.old }
+    requires kind { HasKind prices.old.tables inherited.kind }
+    ensures { prices.new ≡ prices.old }
 {
-    let count = tables.list().len() as u32;
-    let promise = tried(alloc, search, round, sides, candidate, inherited, tables);
-    tables.cut(count);
+    let count = prices.count();
+    let promise = tried(alloc, search, round, sides, candidate, inherited, prices);
+    prices.cut(count);
     promise
 }
 
-// The place of the candidate whose sides promise most, the first of these. The tables are as before.
+// The place of the candidate whose sides promise most, the first of these. The prices are as before.
 fn best_place(
     alloc: Global,
     search: &Search,
@@ -124,21 +124,21 @@ fn best_place(
     sides: &[Side],
     list: &[Candidate],
     inherited: LeafPrice,
-    tables: &mut Tables,
+    prices: &mut Prices,
 ) -> Result<usize, NoMemory>
-    requires search { IsSearch search.now tables.old }
+    requires search { IsSearch search.now prices.old }
     requires going { search.now.left ≡ None }
     requires problem { round.now.problem ≡ search.now.instance }
     requires network { round.now.network ≡ search.now.network }
-    requires kind { HasKind tables.old inherited.kind }
+    requires kind { HasKind prices.old.tables inherited.kind }
     requires some { 1 ≤ length list.now }
-    ensures same { tables.new ≡ tables.old }
+    ensures same { prices.new ≡ prices.old }
     ensures place { IfOk result (λ place. place < length list.now) }
 {
     let mut best = 0;
-    let mut most = promise_of(alloc, search, round, sides, list[0], inherited, tables)?;
+    let mut most = promise_of(alloc, search, round, sides, list[0], inherited, prices)?;
     for place in 1..list.len() {
-        let next = promise_of(alloc, search, round, sides, list[place], inherited, tables)?;
+        let next = promise_of(alloc, search, round, sides, list[place], inherited, prices)?;
         if is_more(next, most) {
             best = place;
             most = next;
@@ -170,7 +170,7 @@ fn class_walks(alloc: Global, walks: &[TimedWalk]) -> Result<Vec<ClassWalk>, NoM
 
 // By which candidate a leaf is split in which a shipment has several ways to go: of the first few,
 // by the leaf's price and by walks of least cost under it, the one whose sides promise most. One
-// alone isn't tried. The tables are as before.
+// alone isn't tried. The prices are as before.
 pub(crate) fn choice(
     alloc: Global,
     search: &Search,
@@ -180,23 +180,23 @@ pub(crate) fn choice(
     several: Several,
     price: LeafPrice,
     walks: &[TimedWalk],
-    tables: &mut Tables,
+    prices: &mut Prices,
 ) -> Result<Candidate, NoMemory>
-    requires search { IsSearch search.now tables.old }
+    requires search { IsSearch search.now prices.old }
     requires going { search.now.left ≡ None }
     requires problem { round.now.problem ≡ search.now.instance }
     requires network { round.now.network ≡ search.now.network }
     requires setting { leaf.now.setting.problem ≡ search.now.instance }
     requires several { IsSeveral leaf.now several }
-    requires kind { HasKind tables.old price.kind }
-    ensures same { tables.new ≡ tables.old }
+    requires kind { HasKind prices.old.tables price.kind }
+    ensures same { prices.new ≡ prices.old }
     ensures candidate { IfOk result (IsCandidate leaf.now) }
 {
     let walks = class_walks(alloc, walks)?;
     let list = candidates(
         alloc,
         leaf,
-        tables.list(),
+        prices.tables(),
         price.kind,
         price.forced,
         &walks,
@@ -205,6 +205,6 @@ pub(crate) fn choice(
     if list.len() == 1 {
         return Ok(list[0]);
     }
-    let place = best_place(alloc, search, round, sides, &list, price, tables)?;
+    let place = best_place(alloc, search, round, sides, &list, price, prices)?;
     Ok(list[place])
 }

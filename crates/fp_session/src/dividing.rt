@@ -4,17 +4,17 @@ ghost use Rattle.fp_branching.specs.Candidates.{IsCandidate};
 ghost use Rattle.fp_prices.specs.Tables.{HasKind};
 ghost use Rattle.fp_session.specs.Dividing.{IsSeveral, NoneSeveral, several_terminal};
 ghost use Rattle.fp_session.specs.Moves.{IsDivision};
-ghost use Rattle.fp_session.specs.Outcomes.{HaveGrown};
+ghost use Rattle.fp_session.specs.Prices.{HaveGrown};
 ghost use Rattle.fp_session.specs.Searches.{IsSearch, history};
 
 use crate::NoMemory;
 use crate::children::child;
 use crate::kept::Kept;
 use crate::moves::Division;
+use crate::prices::Prices;
 use crate::searches::Search;
 use fp_allowed::ChainEnd;
 use fp_branching::Candidate;
-use fp_duals::Tables;
 use fp_prices::{Leaf, RoundNetwork};
 use fp_tree::Side;
 use std::alloc::Global;
@@ -67,22 +67,22 @@ pub(crate) fn division(
     sides: &[Side],
     candidate: Candidate,
     above: Kept,
-    tables: &mut Tables,
+    prices: &mut Prices,
 ) -> Result<Division, NoMemory>
-    requires search { IsSearch search.now tables.old }
+    requires search { IsSearch search.now prices.old }
     requires going { search.now.left ≡ None }
     requires problem { round.now.problem ≡ search.now.instance }
     requires network { round.now.network ≡ search.now.network }
     requires setting { leaf.now.setting ≡ record { problem = search.now.instance; windows = search.now.windows; network = search.now.network } }
     requires sides { leaf.now.sides ≡ sides.now }
     requires candidate { IsCandidate leaf.now candidate }
-    requires kind { HasKind tables.old above.payload.price.kind }
-    ensures grown { HaveGrown search.now.instance tables.old tables.new }
-    ensures division { IfOk result (IsDivision (history search.now tables.new) sides.now) }
+    requires kind { HasKind prices.old.tables above.payload.price.kind }
+    ensures grown { HaveGrown search.now.instance prices.old prices.new }
+    ensures division { IfOk result (IsDivision (history search.now prices.new) sides.now) }
 {
     let split = candidate.split;
     let tail = candidate.terminal;
-    let first = child(alloc, search, round, sides, split.first(), above, tables)?;
+    let first = child(alloc, search, round, sides, split.first(), above, prices)?;
     let second = child(
         alloc,
         search,
@@ -90,7 +90,7 @@ pub(crate) fn division(
         sides,
         split.second(tail),
         above,
-        tables,
+        prices,
     )?;
     Ok(Division {
         split,

@@ -1,16 +1,20 @@
 //! A leaf's price is improved at the present round.
-ghost use Rattle.std.specs.Prelude.{◌≡◌, ◌≤◌, IfOk, OnErr, false};
+ghost use Rattle.std.specs.Prelude.{◌≡◌, ◌≤◌, IfOk, false};
 ghost use Rattle.fp_prices.specs.Tables.{HasKind};
 ghost use Rattle.fp_session.specs.Nodes.{IsKept};
-ghost use Rattle.fp_session.specs.Outcomes.{HaveGrown, IsGreater, IsOutcome, empty_kept, noted_outcome, priced_kept};
+ghost use Rattle.fp_session.specs.Prices.{HaveGrown};
+ghost use Rattle.fp_session.specs.Outcomes.{IsGreater, IsOutcome, empty_kept, noted_outcome, priced_kept};
 ghost use Rattle.fp_session.specs.Searches.{IsSearch, history};
 
 use crate::NoMemory;
+use crate::efforts::PriceEffort;
 use crate::kept::Kept;
 use crate::outcomes::Outcome;
 use crate::payloads::Payload;
+use crate::prices::Prices;
+use crate::pricing::improve;
 use crate::searches::Search;
-use fp_duals::{Effort, Improved, Tables, improve_leaf};
+use fp_duals::{Effort, Improved};
 use fp_prices::{Kind, Leaf, LeafPrice};
 use fp_tree::Side;
 use std::alloc::Global;
@@ -68,20 +72,19 @@ pub(crate) fn improved(
     search: &Search,
     leaf: &Leaf,
     old: Kept,
-    effort: &Effort,
-    tables: &mut Tables,
+    effort: &PriceEffort,
+    prices: &mut Prices,
 ) -> Result<Outcome, NoMemory>
-    requires search { IsSearch search.now tables.old }
+    requires search { IsSearch search.now prices.old }
     requires setting { leaf.now.setting ≡ record { problem = search.now.instance; windows = search.now.windows; network = search.now.network } }
-    requires kept { IsKept (history search.now tables.old) leaf.now.sides old.payload old.value }
+    requires kept { IsKept (history search.now prices.old) leaf.now.sides old.payload old.value }
     requires some { old.payload.empty ≡ false }
-    ensures grown { HaveGrown search.now.instance tables.old tables.new }
+    ensures grown { HaveGrown search.now.instance prices.old prices.new }
     ensures outcome { IfOk result
-        (IsOutcome (history search.now tables.new) leaf.now.sides old) }
-    ensures err { OnErr result (tables.new ≡ tables.old) }
+        (IsOutcome (history search.now prices.new) leaf.now.sides old) }
 {
     let round = search.trace.len() as u32;
-    match improve_leaf(alloc, leaf, round, old.payload.price, effort, tables)? {
+    match improve(alloc, leaf, round, old.payload.price, effort, prices)? {
         Improved::Empty { .. } => Ok(Outcome::Empty {
             kept: emptied(round),
         }),
@@ -98,17 +101,20 @@ pub(crate) fn improved(
 
 // The effort at a leaf that a step has chosen: more at the root. One that was improved before over
 // the same points keeps its price, and its walks alone are found again.
-fn effort_at(sides: &[Side], again: bool) -> Effort {
+fn effort_at(sides: &[Side], again: bool) -> PriceEffort {
     let effort = if sides.is_empty() {
-        Effort::ROOT
+        PriceEffort::ROOT
     } else {
-        Effort::CHOSEN
+        PriceEffort::CHOSEN
     };
     if again {
-        Effort {
-            turns: 0,
-            settle_passes: 0,
-            ..effort
+        PriceEffort {
+            tables: Effort {
+                turns: 0,
+                settle_passes: 0,
+                ..effort.tables
+            },
+            spans: None,
         }
     } else {
         effort
@@ -140,18 +146,18 @@ pub(crate) fn improved_by_step(
     search: &Search,
     leaf: &Leaf,
     old: Kept,
-    tables: &mut Tables,
+    prices: &mut Prices,
 ) -> Result<Outcome, NoMemory>
-    requires search { IsSearch search.now tables.old }
+    requires search { IsSearch search.now prices.old }
     requires setting { leaf.now.setting ≡ record { problem = search.now.instance; windows = search.now.windows; network = search.now.network } }
-    requires kept { IsKept (history search.now tables.old) leaf.now.sides old.payload old.value }
+    requires kept { IsKept (history search.now prices.old) leaf.now.sides old.payload old.value }
     requires some { old.payload.empty ≡ false }
-    ensures grown { HaveGrown search.now.instance tables.old tables.new }
+    ensures grown { HaveGrown search.now.instance prices.old prices.new }
     ensures outcome { IfOk result
-        (IsOutcome (history search.now tables.new) leaf.now.sides old) }
+        (IsOutcome (history search.now prices.new) leaf.now.sides old) }
 {
     let round = search.trace.len() as u32;
     let effort = effort_at(leaf.sides(), old.payload.improved == Some(round));
-    let outcome = improved(alloc, search, leaf, old, &effort, tables)?;
+    let outcome = improved(alloc, search, leaf, old, &effort, prices)?;
     Ok(noted(outcome, round))
 }

@@ -1,45 +1,44 @@
 //! The least that a leaf of a tree is worth.
-ghost use Rattle.std.specs.Prelude.{◌≡◌, ◌≤◌, ◌<◌, IfSome, IsSomeAnd, Some};
+ghost use Rattle.std.specs.Prelude.{◌<◌, IsSomeAnd};
 ghost use Rattle.fp_tree.specs.Nodes.{leaf_at, leaf_count};
-ghost use Rattle.fp_session.specs.TreeLines.{IsLeastBelow, IsWorthAt};
+ghost use Rattle.fp_session.specs.Prices.{ArePrices};
+ghost use Rattle.fp_session.specs.Searches.{history};
+ghost use Rattle.fp_session.specs.TreeLines.{IsLeastBelow, IsWorthBelow};
 
-use crate::payloads::Payload;
-use fp_tree::Tree;
+use crate::prices::Prices;
+use crate::searches::Search;
+use fp_acceptance::rounded_below;
 
-// What a leaf is worth at a scale, in whole units of money, and none where it is empty.
-fn worth(tree: &Tree<Payload>, leaf: u32, scale: u32) -> Option<u128>
-    requires leaf { leaf < leaf_count tree.now }
-    requires scale { 1 ≤ scale }
-    ensures { IsSomeAnd (leaf_at tree.now leaf) (λ l. IsWorthAt scale l result) }
+// What a leaf is worth, in whole units of money, rounded up by the unit: none where it is empty, or
+// where that isn't below a ceiling.
+fn worth_below(search: &Search, prices: &Prices, leaf: u32, ceiling: u128) -> Option<u128>
+    requires prices { ArePrices search.now.instance prices.now }
+    requires leaf { leaf < leaf_count search.now.tree }
+    ensures { IsSomeAnd (leaf_at search.now.tree leaf)
+        (λ l. IsWorthBelow (history search.now prices.now) ceiling l result) }
 {
-    if tree.payload(leaf).empty {
-        None
-    } else {
-        Some(tree.value(leaf).div_ceil(u128::from(scale)))
+    if search.tree.payload(leaf).empty {
+        return None;
     }
+    let amount = search
+        .tree
+        .value(leaf)
+        .div_ceil(u128::from(search.instance.scale()));
+    rounded_below(amount, prices.unit(), ceiling)
 }
 
-// The lesser of two numbers, of which the second may be missing.
-fn lesser(ceiling: u128, other: Option<u128>) -> u128
-    ensures within { result ≤ ceiling }
-    ensures other { IfSome other (λ n. result ≤ n) }
-    ensures some { result < ceiling → other ≡ Some result }
-{
-    match other {
-        Some(other) if other < ceiling => other,
-        _ => ceiling,
-    }
-}
-
-// The least that a leaf is worth at a scale which isn't empty, or the ceiling where that isn't
+// The least that a leaf is worth which isn't empty, or what the incumbent costs where that isn't
 // below it.
-pub(crate) fn least_worth(tree: &Tree<Payload>, scale: u32, ceiling: u128) -> u128
-    requires { 1 ≤ scale }
-    ensures { IsLeastBelow scale ceiling tree.now (leaf_count tree.now) result }
+pub(crate) fn least_worth(search: &Search, prices: &Prices) -> u128
+    requires { ArePrices search.now.instance prices.now }
+    ensures { IsLeastBelow (history search.now prices.now) search.now.cost search.now.tree
+        (leaf_count search.now.tree) result }
 {
-    let mut least = ceiling;
-    for leaf in 0..tree.leaves() {
-        least = lesser(least, worth(tree, leaf, scale));
+    let mut least = search.cost;
+    for leaf in 0..search.tree.leaves() {
+        if let Some(worth) = worth_below(search, prices, leaf, least) {
+            least = worth;
+        }
     }
     least
 }

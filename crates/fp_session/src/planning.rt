@@ -1,6 +1,5 @@
 //! What a step is going to do at an open leaf.
 ghost use Rattle.std.specs.Prelude.{◌≡◌, ◌<◌, ◌≤◌, None, All, IfOk, IsTrue, ◌↔◌, IsSomeAnd, false};
-ghost use Rattle.std.specs.Int.{div_ceil};
 ghost use Rattle.fp_lists.specs.Distinct.{AreDistinct};
 ghost use Rattle.fp_model.specs.Costs.{cost as cost_of};
 ghost use Rattle.fp_model.specs.Routes.{ArcsExist};
@@ -9,11 +8,13 @@ ghost use Rattle.fp_relaxmodel.specs.Relaxed.{HasRoutes, IsRelaxedPlan};
 ghost use Rattle.fp_relaxmodel.specs.Terminals.{terminals_on};
 ghost use Rattle.fp_tree.specs.Nodes.{closed_of, leaf_at, leaf_count};
 ghost use Rattle.fp_prices.specs.Tables.{HasKind};
+ghost use Rattle.fp_history.specs.Notes.{worth_of};
 ghost use Rattle.fp_history.specs.Solutions.{AreWalksUnder};
 ghost use Rattle.fp_session.specs.Dividing.{IsSeveral};
 ghost use Rattle.fp_session.specs.Moves.{AtOpenLeaf, IsMove, IsOpenMove, points_now};
 ghost use Rattle.fp_session.specs.Nodes.{IsKeptAs};
-ghost use Rattle.fp_session.specs.Outcomes.{HaveGrown, IsFound};
+ghost use Rattle.fp_session.specs.Outcomes.{IsFound};
+ghost use Rattle.fp_session.specs.Prices.{ArePrices, HaveGrown};
 ghost use Rattle.fp_session.specs.Searches.{IsSearch, history};
 
 use crate::NoMemory;
@@ -23,9 +24,10 @@ use crate::improving::improved_by_step;
 use crate::kept::Kept;
 use crate::moves::Move;
 use crate::outcomes::Outcome;
+use crate::prices::Prices;
 use crate::searches::Search;
 use crate::timing::{Timing, timed};
-use fp_duals::Tables;
+use fp_acceptance::reaches;
 use fp_history::Left;
 use fp_model::Instance;
 use fp_prices::{Leaf, RoundNetwork};
@@ -70,10 +72,12 @@ fn are_cheaper(search: &Search, relaxed: &RelaxedPlan) -> bool
 }
 
 // Whether a leaf with this value is worth at least what the incumbent costs.
-fn is_dear(search: &Search, value: u128) -> bool
-    ensures { IsTrue result ↔ (search.now.cost ≤ div_ceil value search.now.instance.scale) }
+fn is_dear(search: &Search, prices: &Prices, value: u128) -> bool
+    requires { ArePrices search.now.instance prices.now }
+    ensures { IsTrue result ↔ (search.now.cost ≤ worth_of (history search.now prices.now) value) }
 {
-    value.div_ceil(u128::from(search.instance.scale())) >= search.cost
+    let amount = value.div_ceil(u128::from(search.instance.scale()));
+    reaches(amount, prices.unit(), search.cost)
 }
 
 // What a step is going to do where a relaxed plan under the sides of a leaf costs less than the
@@ -81,20 +85,20 @@ fn is_dear(search: &Search, value: u128) -> bool
 fn timed_move(
     alloc: Global,
     search: &Search,
-    tables: &Tables,
+    prices: &Prices,
     sides: &[Side],
     number: u32,
     relaxed: RelaxedPlan,
 ) -> Result<Move, NoMemory>
-    requires search { IsSearch search.now tables.now }
+    requires search { IsSearch search.now prices.now }
     requires relaxed { IsRelaxedPlan search.now.instance (windows_in search.now.windows)
         (points_now search.now) relaxed }
     requires under { AreWalksUnder search.now.instance search.now.windows (points_now search.now)
         sides.now relaxed }
     requires cheaper { cost_of search.now.instance relaxed < search.now.cost }
-    ensures { IfOk result (IsOpenMove search.now tables.now number sides.now) }
+    ensures { IfOk result (IsOpenMove search.now prices.now number sides.now) }
 {
-    match timed(alloc, search, tables, relaxed)? {
+    match timed(alloc, search, prices, relaxed)? {
         Timing::Better { cheaper } => Ok(Move::Better { cheaper }),
         Timing::Refine { round } => Ok(Move::Refine {
             note: round.note,
@@ -111,6 +115,7 @@ fn timed_move(
 
 // What a step is going to do at a leaf in which a shipment has several ways to go: it divides the
 // leaf, where a branch is left.
+#[tactic(auto, using(crate::proofs::GrownPrices::HaveGrown_none))]
 fn several_move(
     alloc: Global,
     search: &Search,
@@ -121,18 +126,18 @@ fn several_move(
     several: Several,
     kept: Kept,
     walks: &[TimedWalk],
-    tables: &mut Tables,
+    prices: &mut Prices,
 ) -> Result<Move, NoMemory>
-    requires search { IsSearch search.now tables.old }
+    requires search { IsSearch search.now prices.old }
     requires going { search.now.left ≡ None }
     requires problem { round.now.problem ≡ search.now.instance }
     requires network { round.now.network ≡ search.now.network }
     requires setting { leaf.now.setting ≡ record { problem = search.now.instance; windows = search.now.windows; network = search.now.network } }
     requires sides { leaf.now.sides ≡ sides.now }
     requires several { IsSeveral leaf.now several }
-    requires kind { HasKind tables.old kept.payload.price.kind }
-    ensures grown { HaveGrown search.now.instance tables.old tables.new }
-    ensures planned { IfOk result (IsOpenMove search.now tables.new number sides.now) }
+    requires kind { HasKind prices.old.tables kept.payload.price.kind }
+    ensures grown { HaveGrown search.now.instance prices.old prices.new }
+    ensures planned { IfOk result (IsOpenMove search.now prices.new number sides.now) }
 {
     if search.tree.splits() >= search.budget.branches {
         return Ok(Move::Stop {
@@ -144,13 +149,14 @@ fn several_move(
     }
     let price = kept.payload.price;
     let candidate = choice(
-        alloc, search, round, leaf, sides, several, price, walks, tables,
+        alloc, search, round, leaf, sides, several, price, walks, prices,
     )?;
-    let division = division(alloc, search, round, leaf, sides, candidate, kept, tables)?;
+    let division = division(alloc, search, round, leaf, sides, candidate, kept, prices)?;
     Ok(Move::Divide { division })
 }
 
 // What a step is going to do at an open leaf that is worth less than the incumbent costs.
+#[tactic(auto, using(crate::proofs::GrownPrices::HaveGrown_none))]
 fn move_at(
     alloc: Global,
     search: &Search,
@@ -160,22 +166,22 @@ fn move_at(
     number: u32,
     kept: Kept,
     walks: Vec<TimedWalk>,
-    tables: &mut Tables,
+    prices: &mut Prices,
 ) -> Result<Move, NoMemory>
-    requires search { IsSearch search.now tables.old }
+    requires search { IsSearch search.now prices.old }
     requires going { search.now.left ≡ None }
     requires problem { round.now.problem ≡ search.now.instance }
     requires network { round.now.network ≡ search.now.network }
     requires setting { leaf.now.setting ≡ record { problem = search.now.instance; windows = search.now.windows; network = search.now.network } }
     requires sides { leaf.now.sides ≡ sides.now }
-    requires found { IsFound (history search.now tables.old) sides.now kept walks.items }
-    requires below { div_ceil kept.value search.now.instance.scale < search.now.cost }
-    ensures grown { HaveGrown search.now.instance tables.old tables.new }
-    ensures planned { IfOk result (IsOpenMove search.now tables.new number sides.now) }
+    requires found { IsFound (history search.now prices.old) sides.now kept walks.items }
+    requires below { worth_of (history search.now prices.old) kept.value < search.now.cost }
+    ensures grown { HaveGrown search.now.instance prices.old prices.new }
+    ensures planned { IfOk result (IsOpenMove search.now prices.new number sides.now) }
 {
     let relaxed = RelaxedPlan { walks };
     if are_cheaper(search, &relaxed) {
-        return timed_move(alloc, search, tables, sides, number, relaxed);
+        return timed_move(alloc, search, prices, sides, number, relaxed);
     }
     let shipments = search.instance.shipments().len() as u32;
     match first_several(alloc, leaf, shipments)? {
@@ -184,7 +190,7 @@ fn move_at(
         Some(several) => {
             let walks = &relaxed.walks;
             several_move(
-                alloc, search, round, leaf, sides, number, several, kept, walks, tables,
+                alloc, search, round, leaf, sides, number, several, kept, walks, prices,
             )
         }
     }
@@ -203,40 +209,41 @@ fn kept_at(search: &Search, number: u32) -> Kept
 
 // What a step is going to do at an open leaf of which this was kept and which isn't known to be
 // empty, and what it keeps of it.
+#[tactic(auto, using(crate::proofs::GrownPrices::HaveGrown_none))]
 fn open_move(
     alloc: Global,
     search: &Search,
     number: u32,
     old: Kept,
-    tables: &mut Tables,
+    prices: &mut Prices,
 ) -> Result<Planned, NoMemory>
-    requires search { IsSearch search.now tables.old }
+    requires search { IsSearch search.now prices.old }
     requires going { search.now.left ≡ None }
     requires leaf { number < leaf_count search.now.tree }
     requires old { AtOpenLeaf search.now.tree number (λ l. IsKeptAs l old) }
     requires some { old.payload.empty ≡ false }
-    ensures grown { HaveGrown search.now.instance tables.old tables.new }
+    ensures grown { HaveGrown search.now.instance prices.old prices.new }
     ensures planned { IfOk result
-        (λ p. IsMove search.now tables.new number p.kept p.planned) }
+        (λ p. IsMove search.now prices.new number p.kept p.planned) }
 {
     let network = search.network.copy(alloc)?;
     let round = RoundNetwork::over(alloc, &search.instance, network)?;
     let sides = search.tree.leaf_sides(alloc, number)?;
     let leaf = Leaf::of(alloc, &round, &search.windows, &sides)?;
-    match improved_by_step(alloc, search, &leaf, old, tables)? {
+    match improved_by_step(alloc, search, &leaf, old, prices)? {
         Outcome::Empty { kept } => Ok(Planned {
             kept,
             planned: Move::Close,
         }),
         Outcome::Open { kept, walks } => {
-            if is_dear(search, kept.value) {
+            if is_dear(search, prices, kept.value) {
                 return Ok(Planned {
                     kept,
                     planned: Move::Close,
                 });
             }
             let planned = move_at(
-                alloc, search, &round, &leaf, &sides, number, kept, walks, tables,
+                alloc, search, &round, &leaf, &sides, number, kept, walks, prices,
             )?;
             Ok(Planned { kept, planned })
         }
@@ -244,20 +251,21 @@ fn open_move(
 }
 
 // What a step is going to do at an open leaf, and what it keeps of it. Also without memory the
-// tables have only grown.
+// prices have only grown.
+#[tactic(auto, using(crate::proofs::GrownPrices::HaveGrown_none))]
 pub(crate) fn next_move(
     alloc: Global,
     search: &Search,
     number: u32,
-    tables: &mut Tables,
+    prices: &mut Prices,
 ) -> Result<Planned, NoMemory>
-    requires search { IsSearch search.now tables.old }
+    requires search { IsSearch search.now prices.old }
     requires going { search.now.left ≡ None }
     requires leaf { number < leaf_count search.now.tree }
     requires still_open { IsSomeAnd (leaf_at search.now.tree number) (λ l. closed_of l.node ≡ false) }
-    ensures grown { HaveGrown search.now.instance tables.old tables.new }
+    ensures grown { HaveGrown search.now.instance prices.old prices.new }
     ensures planned { IfOk result
-        (λ p. IsMove search.now tables.new number p.kept p.planned) }
+        (λ p. IsMove search.now prices.new number p.kept p.planned) }
 {
     let old = kept_at(search, number);
     if old.payload.empty {
@@ -266,5 +274,5 @@ pub(crate) fn next_move(
             planned: Move::Close,
         });
     }
-    open_move(alloc, search, number, old, tables)
+    open_move(alloc, search, number, old, prices)
 }

@@ -1,32 +1,34 @@
 //! A search, step by step.
-ghost use Rattle.std.specs.Prelude.{◌≡◌, Ok, IfOk, IfSome, OnErr};
-ghost use Rattle.fp_model.specs.Costs.{cost as cost_of};
+ghost use Rattle.std.specs.Prelude.{◌≡◌, ◌≢◌, None, Ok, IfOk, IfSome, OnErr};
 ghost use Rattle.fp_model.specs.Plans.{IsPlan};
 ghost use Rattle.fp_flatnet.specs.Belonging.{BelongsTo};
 ghost use Rattle.fp_flatnet.specs.Tables.{windows_in};
 ghost use Rattle.fp_flatnet.specs.Windows.{PlanLiesWithin};
 ghost use Rattle.fp_session.specs.declared.steps.Step.TheVariants.{Done};
 ghost use Rattle.fp_history.specs.Budgets.{IsBudget};
+ghost use Rattle.fp_session.specs.Certificates.{IsPricedBy};
+ghost use Rattle.fp_session.specs.Prices.{ArePrices};
 ghost use Rattle.fp_session.specs.Sessions.{IsSound, hand_of};
 ghost use Rattle.fp_session.specs.Solved.{GoesOnFrom, IsSolved};
-ghost use Rattle.fp_session.specs.Starts.{HasBegun};
+ghost use Rattle.fp_session.specs.Starts.{IsSessionOf};
 ghost use Rattle.fp_session.specs.StepCauses.{ending_of};
 ghost use Rattle.fp_session.specs.Steps.{IsStep, StayFixed};
 
 use crate::NoMemory;
 use crate::advances::{advance, finish};
+use crate::prices::Prices;
 use crate::searches::Search;
 use crate::solutions::{Solved, solution};
 use crate::starts::started;
 use crate::steps::Step;
-use fp_duals::Tables;
+use fp_acceptance::unit_of;
 use fp_flatnet::Windows;
 use fp_history::Budget;
 use fp_model::{Instance, Plan};
 use std::alloc::Global;
 use std::marker::Model;
 
-/// A search: its plan in hand, its points, its tree, its tables and its notes.
+/// A search: its plan in hand, its points, its tree, its prices and its notes.
 ///
 /// Contracts see the instance, its windows, the budget, what the plan costs that the search started
 /// with, and all that it has in hand. Of each search they know that it is sound: its plan in hand is
@@ -35,7 +37,7 @@ use std::marker::Model;
 #[derive(Drop)]
 pub struct Session {
     search: Search,
-    tables: Tables,
+    prices: Prices,
 }
 
 impl Model for Session {
@@ -44,15 +46,39 @@ impl Model for Session {
 
     ghost Value = { SessionModel };
 
-    ghost view = { λ s. session_of (in_hand s.search) s.tables };
+    ghost view = { λ s. session_of (in_hand s.search) s.prices };
 
-    ghost invariant = { λ s. IsSearch s.search s.tables };
+    ghost invariant = { λ s. IsSearch s.search s.prices };
 }
 
 impl Session {
+    // A search that starts with a plan within the windows, and with prices by which it has a unit or
+    // none.
+    fn of(
+        alloc: Global,
+        instance: Instance,
+        windows: Windows,
+        start: Plan,
+        budget: Budget,
+        prices: Prices,
+    ) -> Result<Session, NoMemory>
+        requires belongs { BelongsTo instance windows }
+        requires plan { IsPlan instance 1 start }
+        requires within { PlanLiesWithin (windows_in windows) 1 start }
+        requires budget { IsBudget budget }
+        requires prices { ArePrices instance prices }
+        ensures of { IfOk result (IsSessionOf instance windows start budget) }
+        ensures unit { IfOk result (λ s. s.prices.unit ≡ prices.unit) }
+    {
+        let mut prices = prices;
+        let search = started(alloc, instance, windows, start, budget, &mut prices)?;
+        Ok(Session { search, prices })
+    }
+
     /// A search that starts with a plan within the windows, which belong to the instance, and may
     /// spend so much: at most 4,000 rounds and 100,000 branches. Its plan in hand is that one, its
-    /// tree is one open leaf, and there was no round. `NoMemory` only where no memory is found.
+    /// tree is one open leaf, and there was no round. It seeks no spans, and what it shows has no
+    /// unit. `NoMemory` only where no memory is found.
     pub fn new(
         alloc: Global,
         instance: Instance,
@@ -64,16 +90,31 @@ impl Session {
         requires plan { IsPlan instance 1 start }
         requires within { PlanLiesWithin (windows_in windows) 1 start }
         requires budget { IsBudget budget }
-        ensures instance { IfOk result (λ s. s.instance ≡ instance) }
-        ensures windows { IfOk result (λ s. s.windows ≡ windows) }
-        ensures budget { IfOk result (λ s. s.budget ≡ budget) }
-        ensures started { IfOk result (λ s. s.started ≡ cost_of instance start) }
-        ensures begun { IfOk result (λ s. HasBegun start (hand_of s)) }
-        ensures sound { IfOk result IsSound }
+        ensures of { IfOk result (IsSessionOf instance windows start budget) }
+        ensures unit { IfOk result (λ s. s.prices.unit ≡ None) }
     {
-        let mut tables = Tables::new(alloc);
-        let search = started(alloc, instance, windows, start, budget, &mut tables)?;
-        Ok(Session { search, tables })
+        let prices = Prices::new(alloc, None);
+        Session::of(alloc, instance, windows, start, budget, prices)
+    }
+
+    /// The same of a search that seeks spans, by which leaves are worth more, and rounds up what
+    /// they are worth to multiples of a unit that divides what each plan costs.
+    pub fn with_spans(
+        alloc: Global,
+        instance: Instance,
+        windows: Windows,
+        start: Plan,
+        budget: Budget,
+    ) -> Result<Session, NoMemory>
+        requires belongs { BelongsTo instance windows }
+        requires plan { IsPlan instance 1 start }
+        requires within { PlanLiesWithin (windows_in windows) 1 start }
+        requires budget { IsBudget budget }
+        ensures of { IfOk result (IsSessionOf instance windows start budget) }
+        ensures unit { IfOk result (λ s. s.prices.unit ≢ None) }
+    {
+        let prices = Prices::new(alloc, Some(unit_of(&instance)));
+        Session::of(alloc, instance, windows, start, budget, prices)
     }
 
     /// One step of the search. A search that has ended stays as it is and gives the same answer
@@ -85,8 +126,9 @@ impl Session {
         ensures ended { IfSome self.old.left (λ left. self.new ≡ self.old) }
         ensures err { OnErr result (self.new ≡ self.old) }
         ensures sound { IsSound self.new }
+        ensures unit { self.new.prices.unit ≡ self.old.prices.unit }
     {
-        advance(alloc, &mut self.search, &mut self.tables)
+        advance(alloc, &mut self.search, &mut self.prices)
     }
 
     /// Steps until the search has ended, and what it shows then: the plan costs no more than the one
@@ -95,13 +137,14 @@ impl Session {
     pub fn solve(self, alloc: Global) -> Result<Solved, NoMemory>
         ensures solved { IfOk result (IsSolved self.instance self.windows self.budget self.started) }
         ensures onward { IfOk result (GoesOnFrom (hand_of self)) }
+        ensures priced { IfOk result (λ x. IsPricedBy self.prices.unit x.certificate) }
     {
         let mut search = self.search;
-        let mut tables = self.tables;
-        finish(alloc, &mut search, &mut tables)?;
+        let mut prices = self.prices;
+        finish(alloc, &mut search, &mut prices)?;
         let Some(left) = search.left.take() else {
             unreachable!()
         };
-        solution(alloc, search, tables, left)
+        solution(alloc, search, prices, left)
     }
 }

@@ -6,9 +6,9 @@ ghost use Rattle.fp_session.specs.Searches.{IsLeft, IsSearch};
 use crate::NoMemory;
 use crate::answers::answer;
 use crate::certificates::certificate;
+use crate::prices::Prices;
 use crate::searches::Search;
 use crate::tree_lines::split_notes;
-use fp_duals::Tables;
 use fp_history::{Left, RoundNote, SplitNote};
 use fp_lines::Certificate;
 use fp_tree::leaves_cover_all;
@@ -48,18 +48,18 @@ impl Model for Solved {
 pub(crate) fn solution(
     alloc: Global,
     search: Search,
-    tables: Tables,
+    prices: Prices,
     left: Left,
 ) -> Result<Solved, NoMemory>
-    requires search { IsSearch search tables }
-    requires left { IsLeft search tables left }
-    ensures { IfOk result (IsShown search left) }
+    requires search { IsSearch search prices }
+    requires left { IsLeft search prices left }
+    ensures { IfOk result (IsShown search prices.unit left) }
 {
     // The nodes are one tree.
     leaves_cover_all(&search.tree);
-    let answer = answer(&search, &left);
+    let answer = answer(&search, &prices, &left);
     let splits = split_notes(alloc, &search.tree)?;
-    let certificate = certificate(alloc, &search, tables, answer)?;
+    let certificate = certificate(alloc, &search, prices, answer)?;
     Ok(Solved {
         certificate,
         trace: search.trace,

@@ -1,5 +1,5 @@
 //! A search begins with a plan, the initial points and one leaf.
-ghost use Rattle.std.specs.Prelude.{◌≡◌, ◌≤◌, [], IfOk, OnOk};
+ghost use Rattle.std.specs.Prelude.{◌≡◌, ◌≤◌, [], IfOk};
 ghost use Rattle.fp_model.specs.Costs.{cost as cost_of};
 ghost use Rattle.fp_model.specs.Plans.{IsPlan};
 ghost use Rattle.fp_timenodes.specs.declared.places.TheConstants.{MOST_POINTS};
@@ -9,18 +9,21 @@ ghost use Rattle.fp_flatnet.specs.Windows.{PlanLiesWithin};
 ghost use Rattle.fp_longestarcs.specs.Networks.{point_count, points_in};
 ghost use Rattle.fp_longestarcs.specs.Whole.{IsWholeNetwork};
 ghost use Rattle.fp_allowed.specs.SamePoints.{AgreeOnPoints};
-ghost use Rattle.fp_duals.specs.PriceTables.{ArePriceTables};
 ghost use Rattle.fp_history.specs.Notes.{points_of};
 ghost use Rattle.fp_session.specs.Nodes.{IsKept};
 ghost use Rattle.fp_history.specs.Budgets.{IsBudget};
+ghost use Rattle.fp_session.specs.Prices.{ArePrices, HaveGrown, no_prices};
 ghost use Rattle.fp_session.specs.Searches.{IsSearch, in_hand};
 ghost use Rattle.fp_session.specs.Starts.{HasBegun, start_of};
 
 use crate::NoMemory;
+use crate::efforts::PriceEffort;
 use crate::improving::{emptied, priced};
 use crate::kept::Kept;
+use crate::prices::Prices;
+use crate::pricing::improve;
 use crate::searches::Search;
-use fp_duals::{Effort, Improved, Tables, improve_leaf};
+use fp_duals::Improved;
 use fp_flatnet::{Windows, initial};
 use fp_history::Budget;
 use fp_longestarcs::Network;
@@ -31,20 +34,21 @@ use fp_tree::Tree;
 use std::alloc::Global;
 
 // What is kept of the root before any round, priced with little effort.
+#[tactic(auto, using(crate::proofs::GrownPrices::HaveGrown_none))]
 fn root(
     alloc: Global,
     instance: &Instance,
     windows: &Windows,
     network: &Network,
-    tables: &mut Tables,
+    prices: &mut Prices,
 ) -> Result<Kept, NoMemory>
     requires belongs { BelongsTo instance.now windows.now }
     requires whole { IsWholeNetwork instance.now network.now }
     requires few { point_count network.now ≤ MOST_POINTS }
-    requires points { AgreeOnPoints instance.now (points_in network.now) (points_of (start_of instance.now windows.now []) 0) }
-    requires tables { tables.old ≡ [] }
-    ensures kept { IfOk result (λ kept. IsKept (start_of instance.now windows.now tables.new) [] kept.payload kept.value) }
-    ensures prices { OnOk result (ArePriceTables instance.now tables.new) }
+    requires points { AgreeOnPoints instance.now (points_in network.now) (points_of (start_of instance.now windows.now no_prices) 0) }
+    requires prices { ArePrices instance.now prices.old }
+    ensures kept { IfOk result (λ kept. IsKept (start_of instance.now windows.now prices.new) [] kept.payload kept.value) }
+    ensures grown { HaveGrown instance.now prices.old prices.new }
 {
     let round = RoundNetwork::over(alloc, instance, network.copy(alloc)?)?;
     let leaf = Leaf::of(alloc, &round, windows, &[])?;
@@ -53,27 +57,28 @@ fn root(
         round: 0,
         forced: false,
     };
-    match improve_leaf(alloc, &leaf, 0, linear, &Effort::CHILD, tables)? {
+    match improve(alloc, &leaf, 0, linear, &PriceEffort::CHILD, prices)? {
         Improved::Empty { .. } => Ok(emptied(0)),
         Improved::Priced { price, value, .. } => Ok(priced(price, value)),
     }
 }
 
-// A search that starts with a plan within the windows, without tables at first.
+// A search that starts with a plan within the windows, and with these prices.
 pub(crate) fn started(
     alloc: Global,
     instance: Instance,
     windows: Windows,
     start: Plan,
     budget: Budget,
-    tables: &mut Tables,
+    prices: &mut Prices,
 ) -> Result<Search, NoMemory>
     requires belongs { BelongsTo instance windows }
     requires plan { IsPlan instance 1 start }
     requires within { PlanLiesWithin (windows_in windows) 1 start }
     requires budget { IsBudget budget }
-    requires tables { tables.old ≡ [] }
-    ensures search { IfOk result (λ s. IsSearch s tables.new) }
+    requires prices { ArePrices instance prices.old }
+    ensures unit { prices.new.unit ≡ prices.old.unit }
+    ensures search { IfOk result (λ s. IsSearch s prices.new) }
     ensures instance { IfOk result (λ s. s.instance ≡ instance) }
     ensures windows { IfOk result (λ s. s.windows ≡ windows) }
     ensures budget { IfOk result (λ s. s.budget ≡ budget) }
@@ -83,7 +88,7 @@ pub(crate) fn started(
     let cost = cost(alloc, &instance, &start)?;
     let points = initial(alloc, &instance, &windows)?;
     let network = Network::of(alloc, &instance, &points, 0)?;
-    let root = root(alloc, &instance, &windows, &network, tables)?;
+    let root = root(alloc, &instance, &windows, &network, prices)?;
     let tree = Tree::new(alloc, root.payload, root.value)?;
     Ok(Search {
         instance,

@@ -11,9 +11,9 @@ ghost use Rattle.fp_history.specs.Notes.{last_round};
 
 use crate::NoMemory;
 use crate::moves::{Cheaper, Refined};
+use crate::prices::Prices;
 use crate::refining::{places_of, refined};
 use crate::searches::Search;
-use fp_duals::Tables;
 use fp_history::RoundNote;
 use fp_relaxmodel::RelaxedPlan;
 use fp_repair::repair;
@@ -42,11 +42,11 @@ pub(crate) enum Timing {
 fn next_round(
     alloc: Global,
     search: &Search,
-    tables: &Tables,
+    prices: &Prices,
     relaxed: RelaxedPlan,
 ) -> Result<NextRound, NoMemory>
-    requires search { IsSearch search.now tables.now }
-    requires left { last_round (history search.now tables.now) < search.now.budget.rounds }
+    requires search { IsSearch search.now prices.now }
+    requires left { last_round (history search.now prices.now) < search.now.budget.rounds }
     requires clashes { ClashesBelow search.now.instance search.now.windows (points_now search.now)
         search.now.cost relaxed }
     ensures { IfOk result (λ r. IsNextRound search.now r.note r.refined) }
@@ -76,10 +76,10 @@ fn next_round(
 pub(crate) fn timed(
     alloc: Global,
     search: &Search,
-    tables: &Tables,
+    prices: &Prices,
     relaxed: RelaxedPlan,
 ) -> Result<Timing, NoMemory>
-    requires search { IsSearch search.now tables.now }
+    requires search { IsSearch search.now prices.now }
     requires relaxed { IsRelaxedPlan search.now.instance (windows_in search.now.windows)
         (points_now search.now) relaxed }
     requires cheaper { cost_of search.now.instance relaxed < search.now.cost }
@@ -102,6 +102,6 @@ pub(crate) fn timed(
     if search.trace.len() >= search.budget.rounds as usize {
         return Ok(Timing::Spent { relaxed });
     }
-    let round = next_round(alloc, search, tables, relaxed)?;
+    let round = next_round(alloc, search, prices, relaxed)?;
     Ok(Timing::Refine { round })
 }

@@ -1,61 +1,23 @@
--- What a leaf is worth by spans is the same over other lists of the same points.
-use Rattle.std.proofs.Common.{ℕ, Bool, false, List, [], subst}
+-- What is found by spans is the same over other lists of the same points.
+use Rattle.std.proofs.Common.{ℕ, false, List, []}
 use Rattle.std.specs.Prelude.{Option, IfOk, IfSome, Result, Ok, Err, Some, None}
-use Rattle.std.specs.List.{AllZip}
 use Rattle.std.specs.declared.alloc.AllocError.{AllocError}
-use Rattle.fp_lists.specs.Numbered.{AllZipFrom}
-use Rattle.fp_lists.proofs.Numbered.{AllZipFrom-weaker}
-use Rattle.fp_model.specs.declared.parts.Leg.{Leg}
-use Rattle.fp_model.specs.declared.parts.Shipment.{Shipment}
 use Rattle.fp_model.specs.Problem.{IsValid, Problem}
 use Rattle.fp_flatnet.specs.declared.window_tables.Window.{Window}
 use Rattle.fp_timenodes.specs.Points.{TimePoints, points_at}
 use Rattle.fp_longestarcs.specs.Networks.{TimedNetwork, points_in}
 use Rattle.fp_longestarcs.specs.Whole.{IsNetworkOf}
 use Rattle.fp_tree.specs.declared.sides.Side.{Side}
-use Rattle.fp_allowed.specs.Allowed.{is_allowed}
 use Rattle.fp_allowed.specs.SamePoints.{AgreeOnPoints}
-use Rattle.fp_allowed.proofs.SamePoints.{AgreeOnPoints_sym, IsTimedWalk_same, is_allowed_same}
-use Rattle.fp_prices.specs.declared.leaf_prices.Kind.{Kind}
 use Rattle.fp_prices.specs.declared.leaf_prices.Kind.TheVariants.{Linear}
-use Rattle.fp_prices.specs.Leaves.{IsChain, IsLeastCost}
-use Rattle.fp_prices.specs.Shares.{ClassShare}
-use Rattle.fp_spans.specs.SpanLeaves.{IsChargeOf, IsSpanLeafValue}
-use Rattle.fp_spans.specs.SpanPrices.{leaf_span_price}
-use Rattle.fp_spans.specs.Spans.{ClassSpan}
+use Rattle.fp_spans.proofs.SameSpanValues.{span_value-same}
 use Rattle.fp_spanduals.specs.declared.span_prices.SpanPrice.{SpanPrice}
 use Rattle.fp_spanduals.specs.SpanPrices.{IsBetterPrice}
 
 module _ (p : Problem) (valid : IsValid p) (windows : ℕ → ℕ → Option Window) (points others : ℕ → List ℕ) (same : AgreeOnPoints p points others) (sides : List Side) where
-  least-same : (allowed : Leg → Bool) (s : Shipment) (price : Leg → ℕ) (n : ℕ) → IsLeastCost p points allowed s price n → IsLeastCost p others allowed s price n
-  least-same allowed s price n least = record {
-    walk = least.walk;
-    timed = IsTimedWalk_same p valid points others same allowed s least.walk least.timed;
-    cost = least.cost;
-    least = λ other timed. least.least other (IsTimedWalk_same p valid others points (AgreeOnPoints_sym p points others same) allowed s other timed);
-  }
-
-  pub span_value-same : (tables : List (List ClassShare)) (spans : List ClassSpan) (kind : Kind) (forced : Bool) (value : ℕ) →
-      IsSpanLeafValue p windows points sides tables spans kind forced value → IsSpanLeafValue p windows others sides tables spans kind forced value
-  span_value-same tables spans kind forced value is =
-      let e = is_allowed_same p valid points others same windows sides in
-      record {
-        chains = is.chains;
-        costs = is.costs;
-        charges = is.charges;
-        are_chains = subst (λ (allowed : ℕ → Leg → Bool). AllZipFrom (λ k. IsChain p (allowed k) forced) 0 p.shipments is.chains) e is.are_chains;
-        are_least = subst (λ (allowed : ℕ → Leg → Bool). AllZipFrom (λ k (s : Shipment) n. IsLeastCost p others (allowed k) s (leaf_span_price p tables spans allowed kind is.chains k s.size) n) 0 p.shipments is.costs) e
-            (AllZipFrom-weaker
-            (λ k (s : Shipment) n. IsLeastCost p points (is_allowed p windows points sides k) s (leaf_span_price p tables spans (is_allowed p windows points sides) kind is.chains k s.size) n)
-            (λ k (s : Shipment) n. IsLeastCost p others (is_allowed p windows points sides k) s (leaf_span_price p tables spans (is_allowed p windows points sides) kind is.chains k s.size) n)
-            (λ k s n. least-same (is_allowed p windows points sides k) s (leaf_span_price p tables spans (is_allowed p windows points sides) kind is.chains k s.size) n) 0 p.shipments is.costs is.are_least);
-        are_charges = subst (λ (allowed : ℕ → Leg → Bool). AllZip (IsChargeOf p allowed is.chains) spans is.charges) e is.are_charges;
-        value_is = is.value_is;
-      }
-
   -- so are the spans by which it's worth more
   pub better-same : (value : ℕ) (price : SpanPrice) → IsBetterPrice p windows points sides value price → IsBetterPrice p windows others sides value price
-  better-same value price better = record { sound = better.sound; is = span_value-same [] price.spans.items Linear false price.value better.is; above = better.above }
+  better-same value price better = record { sound = better.sound; is = span_value-same p valid windows points others same sides [] price.spans.items Linear false price.value better.is; above = better.above }
 
 -- what is found over a network's points is so over the points as of its round
 pub better-as_of : (p : Problem) (valid : IsValid p) (windows : ℕ → ℕ → Option Window) (v : TimePoints) (round : ℕ) (net : TimedNetwork) → IsNetworkOf p v round net → (sides : List Side) (value : ℕ) (r : Result (Option SpanPrice) AllocError) →

@@ -1,50 +1,56 @@
 //! Whether spans that are proposed are of the instance and keep their rules.
-ghost use Rattle.std.specs.Prelude.{◌<◌, ◌-◌, ◌^◌, ◌↔◌, All, IfOk, IsTrue, length};
+ghost use Rattle.std.specs.Prelude.{All, IfOk};
 ghost use Rattle.std.specs.Bool.{OnTrue};
-ghost use Rattle.fp_prices.specs.declared.tables.Weight.{Weight};
-ghost use Rattle.fp_spans.specs.SpanLists.{IsSpanOf};
-ghost use Rattle.fp_spans.specs.Spans.{ClassSpan};
+ghost use Rattle.fp_lines.specs.Ranges.{IsSpanInRange, IsWeightInRange};
 ghost use Rattle.fp_spanduals.specs.SoundSpans.{AreSoundSpans};
 
 use crate::NoMemory;
 use fp_model::Instance;
+use fp_model::limits::LATEST;
 use fp_prices::Weight;
-use fp_spans::{Span, check_charges, check_spans};
+use fp_spans::{Span, are_paid};
 use std::alloc::Global;
 
-// Whether the shipments of weights exist.
-fn shipments_exist(instance: &Instance, weights: &[Weight]) -> bool
-    ensures { IsTrue result
-        ↔ All (λ (w : Weight). w.shipment < length instance.now.shipments) weights.now }
+// The largest figure that a certificate may have where no other limit is named.
+const LARGEST_FIGURE: u128 = u128::MAX / 2;
+
+// Whether the shipments of weights exist, and each is small enough for a certificate.
+fn weights_in_range(instance: &Instance, weights: &[Weight]) -> bool
+    ensures { OnTrue result (All (IsWeightInRange instance.now) weights.now) }
 {
     let shipments = instance.shipments().len();
-    weights
-        .iter()
-        .all(|weight| (weight.shipment as usize) < shipments)
+    weights.iter().all(|weight| (weight.shipment as usize) < shipments
+        && weight.w <= LARGEST_FIGURE)
 }
 
-// Whether a span is of an arc and of shipments that exist.
-fn is_of(instance: &Instance, span: &Span) -> bool
-    ensures { OnTrue result (IsSpanOf instance.now span.now) }
+// Whether a span is of an arc and of shipments that exist, and its numbers are small enough for a
+// certificate.
+fn is_in_range(instance: &Instance, span: &Span) -> bool
+    ensures { OnTrue result (IsSpanInRange instance.now span.now) }
 {
-    (span.arc as usize) < instance.arcs().len() && shipments_exist(instance, &span.weights)
+    (span.arc as usize) < instance.arcs().len()
+        && span.point < span.until
+        && span.until <= LATEST + 1
+        && span.money <= LARGEST_FIGURE
+        && span.charge <= LARGEST_FIGURE
+        && weights_in_range(instance, &span.weights)
 }
 
 // Whether all spans are so.
-fn are_of(instance: &Instance, spans: &[Span]) -> bool
-    ensures { OnTrue result (All (IsSpanOf instance.now) spans.now) }
+fn are_in_range(instance: &Instance, spans: &[Span]) -> bool
+    ensures { OnTrue result (All (IsSpanInRange instance.now) spans.now) }
 {
     for span in spans {
-        if !is_of(instance, span) {
+        if !is_in_range(instance, span) {
             return false;
         }
     }
     true
 }
 
-/// Whether spans are sound: of arcs and shipments that exist, in order, within the limit of their
-/// weights, and within both rules, so that values by them bound plans. `NoMemory` only where no
-/// memory is found.
+/// Whether spans are sound: of arcs and shipments that exist, in range for a certificate, in order,
+/// within the limit of their weights, and within both rules, so that values by them bound plans.
+/// `NoMemory` only where no memory is found.
 pub(crate) fn are_sound(
     alloc: Global,
     instance: &Instance,
@@ -52,16 +58,10 @@ pub(crate) fn are_sound(
 ) -> Result<bool, NoMemory>
     ensures { IfOk result (λ sound. OnTrue sound (AreSoundSpans instance.now spans.now)) }
 {
-    if spans.len() >= u32::MAX as usize || !are_of(instance, spans) {
+    if spans.len() >= u32::MAX as usize || !are_in_range(instance, spans) {
         return Ok(false);
     }
-    // An instance is valid, so spans that pass both tests keep both rules.
+    // An instance is valid, so spans that are paid keep both rules.
     let _known = instance.arcs();
-    match check_spans(instance, spans) {
-        Err(_) => Ok(false),
-        Ok(()) => match check_charges(alloc, instance, spans)? {
-            None => Ok(true),
-            Some(_) => Ok(false),
-        },
-    }
+    are_paid(alloc, instance, spans)
 }

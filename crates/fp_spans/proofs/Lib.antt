@@ -24,6 +24,9 @@ pub mod SpanCharges
 pub mod LeafBases
 pub mod SpanValues
 pub mod SpanBoundsFound
+pub mod SameSpanValues
+pub mod PaidSpans
+pub mod SpanAppends
 mod EqualWeights
 mod Examples
 mod DetourExamples

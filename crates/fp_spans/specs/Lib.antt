@@ -6,3 +6,4 @@ pub mod SpanLists
 pub mod SpanCharges
 pub mod ClassRanges
 pub mod SpanCosts
+pub mod SpanKinds

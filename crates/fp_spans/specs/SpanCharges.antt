@@ -30,3 +30,8 @@ pub record IsFirstUnpaid (p : Problem) (spans : List ClassSpan) (n : ℕ) : Type
 -- spans in order keep both rules, where they keep the money rule and their charges pay
 abbrev pub SoundSpansKeepRules : Type 0
 SoundSpansKeepRules = (p : Problem) (spans : List ClassSpan) → IsValid p → All (IsSpanOf p) spans → IsSpanList p spans → All (ChargePays p) spans → KeepSpanRules p spans
+
+-- spans that are in order and light, keep the money rule, and whose charges pay
+pub record ArePaidSpans (p : Problem) (spans : List ClassSpan) : Type 0 where
+  pub list : IsSpanList p spans
+  pub paid : All (ChargePays p) spans

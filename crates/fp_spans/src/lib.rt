@@ -14,6 +14,8 @@ mod laws;
 mod leaf_bases;
 mod leaf_charges;
 mod money_rule;
+mod paid_spans;
+mod rounds;
 mod span_bounds;
 mod span_costs;
 mod span_faults;
@@ -21,6 +23,7 @@ mod span_order;
 mod span_prices;
 mod spanned_rows;
 mod spans;
+mod table_spans;
 mod weight_rule;
 
 pub use charge_rule::check_charges;
@@ -29,9 +32,12 @@ pub use laws::{
     values_without_spans,
 };
 pub use money_rule::check_spans;
+pub use paid_spans::are_paid;
+pub use rounds::span_bound_of;
 pub use span_bounds::span_bound;
 pub use span_faults::SpanFault;
 pub use spans::{MOST_SPAN_WEIGHT, Span};
+pub use table_spans::{TableSpans, spans_beside};
 
 /// The error of a call that finds no memory.
 pub type NoMemory = std::alloc::AllocError;

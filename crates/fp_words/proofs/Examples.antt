@@ -43,10 +43,12 @@ other-flag : order_of (codes "bound" ∷ codes "--span" ∷ []) ≡ None
 unfolding clap_on_literals
 other-flag = refl
 
--- the flag is `bound`'s alone
-spans-of-plan : order_of (codes "plan" ∷ codes "--spans" ∷ []) ≡ None
-unfolding clap_on_literals
-spans-of-plan = refl
+-- other commands don't take the flag
+spans-of-fleet : order_of (codes "fleet" ∷ codes "--spans" ∷ []) ≡ None
+spans-of-fleet = refl
+
+spans-of-yard : order_of (codes "yard" ∷ codes "1" ∷ codes "--spans" ∷ []) ≡ None
+spans-of-yard = refl
 
 no-word : order_of [] ≡ None
 no-word = refl
@@ -63,19 +65,41 @@ dashes = refl
 help : order_of (codes "direct" ∷ codes "--help" ∷ []) ≡ None
 help = refl
 
-usual : order_of (codes "plan" ∷ []) ≡ Some (Plan (record { rounds = 400; branches = 4000 }) 1000000)
+usual : order_of (codes "plan" ∷ []) ≡ Some (Plan (record { rounds = 400; branches = 4000 }) 1000000 false)
 usual = refl
 
 -- in any order, as two words or as one
-all-options : order_of (codes "plan" ∷ codes "--scale" ∷ codes "7" ∷ codes "--rounds=0" ∷ codes "--branches" ∷ codes "0000000005" ∷ []) ≡ Some (Plan (record { rounds = 0; branches = 5 }) 7)
+all-options : order_of (codes "plan" ∷ codes "--scale" ∷ codes "7" ∷ codes "--rounds=0" ∷ codes "--branches" ∷ codes "0000000005" ∷ []) ≡ Some (Plan (record { rounds = 0; branches = 5 }) 7 false)
 unfolding clap_on_literals
 all-options = refl
+
+-- the flag before, among or after options with values
+spans-of-plan : order_of (codes "plan" ∷ codes "--spans" ∷ []) ≡ Some (Plan (record { rounds = 400; branches = 4000 }) 1000000 true)
+unfolding clap_on_literals
+spans-of-plan = refl
+
+spans-among : order_of (codes "plan" ∷ codes "--rounds=0" ∷ codes "--spans" ∷ codes "--scale" ∷ codes "7" ∷ []) ≡ Some (Plan (record { rounds = 0; branches = 4000 }) 7 true)
+unfolding clap_on_literals
+spans-among = refl
+
+spans-last : order_of (codes "plan" ∷ codes "--branches" ∷ codes "5" ∷ codes "--spans" ∷ []) ≡ Some (Plan (record { rounds = 400; branches = 5 }) 1000000 true)
+unfolding clap_on_literals
+spans-last = refl
+
+plan-spans-twice : order_of (codes "plan" ∷ codes "--spans" ∷ codes "--rounds=0" ∷ codes "--spans" ∷ []) ≡ None
+unfolding clap_on_literals
+plan-spans-twice = refl
+
+-- and not as the value of an option
+spans-for-number : order_of (codes "plan" ∷ codes "--rounds" ∷ codes "--spans" ∷ []) ≡ None
+unfolding clap_on_literals
+spans-for-number = refl
 
 too-many-rounds : order_of (codes "plan" ∷ codes "--rounds" ∷ codes "4001" ∷ []) ≡ None
 unfolding clap_on_literals
 too-many-rounds = refl
 
-most-branches : order_of (codes "plan" ∷ codes "--branches=100000" ∷ []) ≡ Some (Plan (record { rounds = 400; branches = 100000 }) 1000000)
+most-branches : order_of (codes "plan" ∷ codes "--branches=100000" ∷ []) ≡ Some (Plan (record { rounds = 400; branches = 100000 }) 1000000 false)
 unfolding clap_on_literals
 most-branches = refl
 
@@ -144,13 +168,21 @@ option-in-place = refl
 the-fleet : order_of (codes "fleet" ∷ []) ≡ Some Fleet
 the-fleet = refl
 
-the-replan : order_of (codes "replan" ∷ codes "--branches" ∷ codes "3" ∷ []) ≡ Some (Replan (record { rounds = 400; branches = 3 }))
+the-replan : order_of (codes "replan" ∷ codes "--branches" ∷ codes "3" ∷ []) ≡ Some (Replan (record { rounds = 400; branches = 3 }) false)
 unfolding clap_on_literals
 the-replan = refl
 
-the-quote : order_of (codes "quote" ∷ codes "--branches=3" ∷ codes "--rounds" ∷ codes "0" ∷ []) ≡ Some (Quote (record { rounds = 0; branches = 3 }))
+spans-of-replan : order_of (codes "replan" ∷ codes "--branches" ∷ codes "3" ∷ codes "--spans" ∷ []) ≡ Some (Replan (record { rounds = 400; branches = 3 }) true)
+unfolding clap_on_literals
+spans-of-replan = refl
+
+the-quote : order_of (codes "quote" ∷ codes "--branches=3" ∷ codes "--rounds" ∷ codes "0" ∷ []) ≡ Some (Quote (record { rounds = 0; branches = 3 }) false)
 unfolding clap_on_literals
 the-quote = refl
+
+spans-of-quote : order_of (codes "quote" ∷ codes "--spans" ∷ codes "--rounds" ∷ codes "0" ∷ []) ≡ Some (Quote (record { rounds = 0; branches = 4000 }) true)
+unfolding clap_on_literals
+spans-of-quote = refl
 
 -- a scale is `plan`'s alone
 scaled-quote : order_of (codes "quote" ∷ codes "--scale=7" ∷ []) ≡ None

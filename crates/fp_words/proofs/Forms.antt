@@ -8,12 +8,12 @@ use Rattle.clap.specs.Simple.{Shape, subcommand_of}
 use Rattle.clap.specs.Walk.{first_of}
 use Rattle.fp_fields.specs.Fields.{number}
 use Rattle.fp_model.specs.declared.limits.TheConstants.{MOST_SHIPMENTS, MOST_TERMINALS}
-use Rattle.fp_words.specs.declared.orders.Order.TheVariants.{Direct, Check, Trial, Yard, Fleet, Replan, Quote}
+use Rattle.fp_words.specs.declared.orders.Order.TheVariants.{Direct, Check, Trial, Yard, Fleet}
 use Rattle.fp_words.specs.declared.orders.TheConstants.{FEWEST_TERMINALS, GREATEST_SEED}
 use Rattle.fp_words.specs.Commands.{app, entered_order, is_dashes, was_given}
 use Rattle.fp_words.specs.Options.{Given, is_among, is_given, value_given}
 use Rattle.fp_words.specs.Places.{by_places}
-use Rattle.fp_words.specs.Settings.{bound_by, bound_options, budget_by, budget_options, is_number_between, names_of, plan_by, plan_options, trial_settings, yard_settings}
+use Rattle.fp_words.specs.Settings.{bound_by, bound_options, budget_by, budget_options, is_number_between, names_of, plan_by, plan_options, quote_by, replan_by, trial_settings, yard_settings}
 use Rattle.fp_words.specs.Words.{forms, order_of, texts}
 use Rattle.fp_words.proofs.BareWords.{leaf}
 use Rattle.fp_words.proofs.FirstWords.{faults-none}
@@ -30,8 +30,15 @@ bound_by-rows given = rw (was_given-all_rows bound_options.flags given (codes "s
 budget_by-rows : (flags : List (List ℕ)) (given : List Given) → is_among flags (codes "rounds") ≡ false → is_among flags (codes "branches") ≡ false → budget_by (λ name. first_of name (all_rows flags given)) ≡ budget_by (value_given given)
 budget_by-rows flags given rounds branches = rw (first_of-all_rows flags given (codes "rounds") rounds, first_of-all_rows flags given (codes "branches") branches) refl
 
-plan_by-rows : (given : List Given) → plan_by (λ name. first_of name (all_rows plan_options.flags given)) ≡ plan_by (value_given given)
-plan_by-rows given = rw (budget_by-rows plan_options.flags given refl refl, first_of-all_rows plan_options.flags given (codes "scale") refl) refl
+plan_by-rows : (given : List Given) → plan_by (λ name. first_of name (all_rows plan_options.flags given)) (λ name. was_given name (all_rows plan_options.flags given)) ≡ plan_by (value_given given) (is_given given)
+plan_by-rows given =
+    rw (budget_by-rows plan_options.flags given refl refl, first_of-all_rows plan_options.flags given (codes "scale") refl, was_given-all_rows plan_options.flags given (codes "spans")) refl
+
+replan_by-rows : (given : List Given) → replan_by (λ name. first_of name (all_rows budget_options.flags given)) (λ name. was_given name (all_rows budget_options.flags given)) ≡ replan_by (value_given given) (is_given given)
+replan_by-rows given = rw (budget_by-rows budget_options.flags given refl refl, was_given-all_rows budget_options.flags given (codes "spans")) refl
+
+quote_by-rows : (given : List Given) → quote_by (λ name. first_of name (all_rows budget_options.flags given)) (λ name. was_given name (all_rows budget_options.flags given)) ≡ quote_by (value_given given) (is_given given)
+quote_by-rows given = rw (budget_by-rows budget_options.flags given refl refl, was_given-all_rows budget_options.flags given (codes "spans")) refl
 
 -- three numbers, one after the other or at once
 three-numbers : (a b c : Bool) (x y z : ℕ) →
@@ -71,7 +78,7 @@ all-read = (
     (
       options-reads (codes "bound") bound_options (λ given. Some (bound_by (is_given given))) (λ given. ap (λ order. Some order) (bound_by-rows given)) refl,
       (
-        options-reads (codes "plan") plan_options (λ given. plan_by (value_given given)) plan_by-rows refl,
+        options-reads (codes "plan") plan_options (λ given. plan_by (value_given given) (is_given given)) plan_by-rows refl,
         (
           places-reads (codes "trial") trial_settings (λ n. Trial (n 0) (n 1) (n 2)) trial-gives refl (refl, refl, refl, λ seed. (refl, refl, refl, λ terminals. (refl, refl, refl, λ shipments. refl))),
           (
@@ -79,8 +86,8 @@ all-read = (
             (
               alone-reads (codes "fleet") Fleet refl refl,
               (
-                options-reads (codes "replan") budget_options (λ given. option_map Replan (budget_by (value_given given))) (λ given. ap (option_map Replan) (budget_by-rows budget_options.flags given refl refl)) refl,
-                (options-reads (codes "quote") budget_options (λ given. option_map Quote (budget_by (value_given given))) (λ given. ap (option_map Quote) (budget_by-rows budget_options.flags given refl refl)) refl, tt),
+                options-reads (codes "replan") budget_options (λ given. replan_by (value_given given) (is_given given)) replan_by-rows refl,
+                (options-reads (codes "quote") budget_options (λ given. quote_by (value_given given) (is_given given)) quote_by-rows refl, tt),
               ),
             ),
           ),

@@ -1,5 +1,5 @@
 -- The command line as clap reads it, and what a parse of it orders.
-use Rattle.std.specs.Prelude.{ℕ, ◌≡◌, Bool, true, false, List, [], ◌∷◌, ◌++◌, codes, find, map, if◌then◌else◌, None, Some, option_and_then, option_map}
+use Rattle.std.specs.Prelude.{ℕ, ◌≡◌, Bool, true, false, List, [], ◌∷◌, ◌++◌, codes, find, map, if◌then◌else◌, None, Some, option_and_then}
 use Rattle.std.specs.Str.{bytes_eq}
 use Rattle.std.specs.Option.{option_map_or}
 use Rattle.std.specs.declared.option.Option.{Option}
@@ -10,8 +10,8 @@ use Rattle.clap.specs.declared.builder.command.Command.TheViews.{out-Command}
 use Rattle.clap.specs.declared.parser.matches.ValueSource.{ValueSource}
 use Rattle.clap.specs.declared.parser.matches.ValueSource.TheVariants.{CommandLine, DefaultValue}
 use Rattle.fp_words.specs.declared.orders.Order.{Order}
-use Rattle.fp_words.specs.declared.orders.Order.TheVariants.{Direct, Check, Fleet, Quote, Replan}
-use Rattle.fp_words.specs.Settings.{Options, bound_by, bound_options, budget_by, budget_options, names_of, plan_by, plan_options, trial_by, trial_settings, yard_by, yard_settings}
+use Rattle.fp_words.specs.declared.orders.Order.TheVariants.{Direct, Check, Fleet}
+use Rattle.fp_words.specs.Settings.{Options, bound_by, bound_options, budget_options, names_of, plan_by, plan_options, quote_by, replan_by, trial_by, trial_settings, yard_by, yard_settings}
 
 -- the word is `--`
 abbrev pub is_dashes : List ℕ → Bool
@@ -87,13 +87,14 @@ was_given name found = option_map_or is_from_words (option_and_then (λ (r : Row
 abbrev pub entered_order : List ℕ × List Row → Option Order
 entered_order found =
     let text : List ℕ → Option (List ℕ) = λ name. first_of name found.1 in
+    let is_given : List ℕ → Bool = λ name. was_given name found.1 in
     if bytes_eq found.0 (codes "direct") then Some Direct
     else if bytes_eq found.0 (codes "check") then Some Check
-    else if bytes_eq found.0 (codes "bound") then Some (bound_by (λ name. was_given name found.1))
-    else if bytes_eq found.0 (codes "plan") then plan_by text
+    else if bytes_eq found.0 (codes "bound") then Some (bound_by is_given)
+    else if bytes_eq found.0 (codes "plan") then plan_by text is_given
     else if bytes_eq found.0 (codes "trial") then trial_by text
     else if bytes_eq found.0 (codes "yard") then yard_by text
     else if bytes_eq found.0 (codes "fleet") then Some Fleet
-    else if bytes_eq found.0 (codes "replan") then option_map Replan (budget_by text)
-    else if bytes_eq found.0 (codes "quote") then option_map Quote (budget_by text)
+    else if bytes_eq found.0 (codes "replan") then replan_by text is_given
+    else if bytes_eq found.0 (codes "quote") then quote_by text is_given
     else None

@@ -1,6 +1,6 @@
 -- What words give a command: its options and places, the ranges of numbers, and what it orders by
 -- them.
-use Rattle.std.specs.Prelude.{ℕ, ◌≤◌, Bool, List, [], ◌∷◌, ◌&&◌, length, nat_le, codes, map, if◌then◌else◌, None, Some, option_and_then, option_map}
+use Rattle.std.specs.Prelude.{ℕ, ◌≤◌, Bool, List, [], ◌∷◌, ◌++◌, ◌&&◌, length, nat_le, codes, map, if◌then◌else◌, None, Some, option_and_then, option_map}
 use Rattle.std.specs.declared.option.Option.{Option}
 use Rattle.fp_fields.specs.Fields.{is_number, is_within, number}
 use Rattle.fp_history.specs.declared.budgets.Budget.{Budget}
@@ -45,15 +45,19 @@ pub record Options : Type 0 where
   pub settings : List Setting
   pub flags : List (List ℕ)
 
+-- the numbers of a budget
+abbrev pub budget_settings : List Setting
+budget_settings = rounds_setting ∷ branches_setting ∷ []
+
 -- the options of `bound`, those of a command with a budget, and those of `plan`
 abbrev pub bound_options : Options
 bound_options = record { settings = []; flags = codes "spans" ∷ [] }
 
 abbrev pub budget_options : Options
-budget_options = record { settings = rounds_setting ∷ branches_setting ∷ []; flags = [] }
+budget_options = record { settings = budget_settings; flags = codes "spans" ∷ [] }
 
 abbrev pub plan_options : Options
-plan_options = record { settings = rounds_setting ∷ branches_setting ∷ scale_setting ∷ []; flags = [] }
+plan_options = record { settings = budget_settings ++ scale_setting ∷ []; flags = codes "spans" ∷ [] }
 
 -- the places of `trial` and of `yard`
 abbrev pub trial_settings : List Setting
@@ -75,8 +79,8 @@ abbrev pub number_or : ℕ → ℕ → ℕ → Option (List ℕ) → Option ℕ
 number_or usual least most None = Some usual
 number_or usual least most (Some text) = number_of least most text
 
--- what the texts of options and places come to, by their names: a number, a budget, and what `plan`,
--- `trial` and `yard` order
+-- what the texts of options and places come to, by their names: a number, a budget, and what `trial`
+-- and `yard` order
 abbrev pub option_number : ℕ → Setting → (List ℕ → Option (List ℕ)) → Option ℕ
 option_number usual s text = number_or usual s.least s.most (text s.name)
 
@@ -87,9 +91,6 @@ abbrev pub budget_by : (List ℕ → Option (List ℕ)) → Option Budget
 budget_by text =
     option_and_then (λ rounds. option_map (λ branches. record { rounds = rounds; branches = branches }) (option_number USUAL_BRANCHES branches_setting text))
     (option_number USUAL_ROUNDS rounds_setting text)
-
-abbrev pub plan_by : (List ℕ → Option (List ℕ)) → Option Order
-plan_by text = option_and_then (λ budget. option_map (λ scale. Plan budget scale) (option_number SCALE scale_setting text)) (budget_by text)
 
 abbrev pub trial_by : (List ℕ → Option (List ℕ)) → Option Order
 trial_by text =
@@ -103,11 +104,22 @@ yard_by text = option_map (λ seed. Yard seed) (place_number seed_setting text)
 abbrev pub bound_by : (List ℕ → Bool) → Order
 bound_by is_given = Bound (is_given (codes "spans"))
 
+-- what `plan`, `replan` and `quote` order, by the texts of options and by the flags that were given
+abbrev pub plan_by : (List ℕ → Option (List ℕ)) → (List ℕ → Bool) → Option Order
+plan_by text is_given =
+    option_and_then (λ budget. option_map (λ scale. Plan budget scale (is_given (codes "spans"))) (option_number SCALE scale_setting text)) (budget_by text)
+
+abbrev pub replan_by : (List ℕ → Option (List ℕ)) → (List ℕ → Bool) → Option Order
+replan_by text is_given = option_map (λ budget. Replan budget (is_given (codes "spans"))) (budget_by text)
+
+abbrev pub quote_by : (List ℕ → Option (List ℕ)) → (List ℕ → Bool) → Option Order
+quote_by text is_given = option_map (λ budget. Quote budget (is_given (codes "spans"))) (budget_by text)
+
 -- what is ordered is within the limits
 abbrev pub IsWithinLimits : Order → Type 0
-IsWithinLimits (Plan budget scale) = IsBudget budget × (1 ≤ scale) × (scale ≤ GREATEST_SCALE)
+IsWithinLimits (Plan budget scale spans) = IsBudget budget × (1 ≤ scale) × (scale ≤ GREATEST_SCALE)
 IsWithinLimits (Trial seed terminals shipments) = (seed ≤ GREATEST_SEED) × (FEWEST_TERMINALS ≤ terminals) × (terminals ≤ MOST_TERMINALS) × (shipments ≤ MOST_SHIPMENTS)
 IsWithinLimits (Yard seed) = seed ≤ GREATEST_SEED
-IsWithinLimits (Replan budget) = IsBudget budget
-IsWithinLimits (Quote budget) = IsBudget budget
+IsWithinLimits (Replan budget spans) = IsBudget budget
+IsWithinLimits (Quote budget spans) = IsBudget budget
 IsWithinLimits _ = Unit {0}

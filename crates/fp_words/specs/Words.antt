@@ -1,13 +1,13 @@
 -- The words of the command line: the forms that they may have, and what they order.
-use Rattle.std.specs.Prelude.{ℕ, List, [], ◌∷◌, codes, map, if◌then◌else◌, None, Some, option_map, Result, Ok, Err, ◌≡◌, String, string_bytes}
+use Rattle.std.specs.Prelude.{ℕ, List, [], ◌∷◌, codes, map, if◌then◌else◌, None, Some, Result, Ok, Err, ◌≡◌, String, string_bytes}
 use Rattle.std.specs.Str.{bytes_eq}
 use Rattle.std.specs.declared.option.Option.{Option}
 use Rattle.std.specs.declared.alloc.Global.{Global}
 use Rattle.fp_words.specs.declared.orders.Order.{Order}
-use Rattle.fp_words.specs.declared.orders.Order.TheVariants.{Direct, Check, Trial, Yard, Fleet, Replan, Quote}
+use Rattle.fp_words.specs.declared.orders.Order.TheVariants.{Direct, Check, Trial, Yard, Fleet}
 use Rattle.fp_words.specs.Options.{by_options, is_given, value_given}
 use Rattle.fp_words.specs.Places.{by_places}
-use Rattle.fp_words.specs.Settings.{bound_by, bound_options, budget_by, budget_options, plan_by, plan_options, trial_settings, yard_settings}
+use Rattle.fp_words.specs.Settings.{bound_by, bound_options, budget_options, plan_by, plan_options, quote_by, replan_by, trial_settings, yard_settings}
 use Rattle.fp_words.specs.declared.orders.WordFault.{WordFault}
 use Rattle.fp_words.specs.declared.orders.WordFault.TheVariants.{BadWords, NoMemory}
 
@@ -32,12 +32,12 @@ forms =
     record { name = codes "direct"; order = alone Direct }
     ∷ record { name = codes "check"; order = alone Check }
     ∷ record { name = codes "bound"; order = by_options bound_options (λ given. Some (bound_by (is_given given))) }
-    ∷ record { name = codes "plan"; order = by_options plan_options (λ given. plan_by (value_given given)) }
+    ∷ record { name = codes "plan"; order = by_options plan_options (λ given. plan_by (value_given given) (is_given given)) }
     ∷ record { name = codes "trial"; order = by_places trial_settings (λ n. Trial (n 0) (n 1) (n 2)) }
     ∷ record { name = codes "yard"; order = by_places yard_settings (λ n. Yard (n 0)) }
     ∷ record { name = codes "fleet"; order = alone Fleet }
-    ∷ record { name = codes "replan"; order = by_options budget_options (λ given. option_map Replan (budget_by (value_given given))) }
-    ∷ record { name = codes "quote"; order = by_options budget_options (λ given. option_map Quote (budget_by (value_given given))) }
+    ∷ record { name = codes "replan"; order = by_options budget_options (λ given. replan_by (value_given given) (is_given given)) }
+    ∷ record { name = codes "quote"; order = by_options budget_options (λ given. quote_by (value_given given) (is_given given)) }
     ∷ []
 
 -- what a first word and the words after it order by the first of these forms that has this name

@@ -1,8 +1,8 @@
 //! The command line as clap reads it: one command with a subcommand for each form.
-ghost use Rattle.std.specs.Prelude.{◌≡◌, codes, false, IfOk, IfSome, option_and_then};
+ghost use Rattle.std.specs.Prelude.{◌≡◌, [], codes, false, IfOk, IfSome, option_and_then};
 ghost use Rattle.clap.specs.Words.{app_of, found_of, new_app, rows_of, rule_of, subcommand_rows_of};
 ghost use Rattle.fp_words.specs.Commands.{IsLocal, app, entered_order, flag_rule, option_rule, place_rule, with_options, with_places};
-ghost use Rattle.fp_words.specs.Settings.{IsWithinLimits, bound_options, budget_options, names_of, plan_options, trial_settings, yard_settings};
+ghost use Rattle.fp_words.specs.Settings.{IsWithinLimits, bound_options, budget_options, budget_settings, names_of, plan_options, trial_settings, yard_settings};
 
 use crate::settings::{bound_by, plan_by, quote_by, replan_by, trial_by, yard_by};
 use crate::{NoMemory, Order};
@@ -42,9 +42,10 @@ fn bound_command<'a>(alloc: Global) -> Result<Command<'a>, NoMemory>
     Ok(command)
 }
 
-// A subcommand with the options of a budget.
+// A subcommand with the numbers of a budget, and no flag yet: those come after all options with a
+// value.
 fn budget_command<'a>(alloc: Global, name: &'a str) -> Result<Command<'a>, NoMemory>
-    ensures shape { IfOk result (λ command. app_of command ≡ record (new_app name.entry.now) { top = with_options name.entry.now budget_options }) }
+    ensures shape { IfOk result (λ command. app_of command ≡ record (new_app name.entry.now) { top = with_options name.entry.now (record { settings = budget_settings; flags = [] }) }) }
     ensures local { IfOk result IsLocal }
 {
     let command = Command::new(alloc, name)
@@ -53,12 +54,23 @@ fn budget_command<'a>(alloc: Global, name: &'a str) -> Result<Command<'a>, NoMem
     Ok(command)
 }
 
+// A subcommand with the options of a budget: `replan` or `quote`.
+fn search_command<'a>(alloc: Global, name: &'a str) -> Result<Command<'a>, NoMemory>
+    ensures shape { IfOk result (λ command. (app_of command).top ≡ with_options name.entry.now budget_options) }
+    ensures local { IfOk result IsLocal }
+{
+    let command = budget_command(alloc, name)?.arg(flag(alloc, "spans"))?;
+    Ok(command)
+}
+
 // The subcommand `plan`, with its options.
 fn plan_command<'a>(alloc: Global) -> Result<Command<'a>, NoMemory>
     ensures shape { IfOk result (λ command. (app_of command).top ≡ with_options (codes "plan") plan_options) }
     ensures local { IfOk result IsLocal }
 {
-    let command = budget_command(alloc, "plan")?.arg(option(alloc, "scale"))?;
+    let command = budget_command(alloc, "plan")?
+        .arg(option(alloc, "scale"))?
+        .arg(flag(alloc, "spans"))?;
     Ok(command)
 }
 
@@ -100,8 +112,8 @@ pub fn command<'a>(alloc: Global) -> Result<Command<'a>, NoMemory>
         .subcommand(trial_command(alloc)?)?
         .subcommand(yard_command(alloc)?)?
         .subcommand(Command::new(alloc, "fleet"))?
-        .subcommand(budget_command(alloc, "replan")?)?
-        .subcommand(budget_command(alloc, "quote")?)?;
+        .subcommand(search_command(alloc, "replan")?)?
+        .subcommand(search_command(alloc, "quote")?)?;
     Ok(command)
 }
 

@@ -2,14 +2,15 @@
 use fp_history::Budget;
 use thiserror::Error;
 
-/// A command, with the numbers that its words give.
+/// A command, with the numbers and flags that its words give. `spans` says that its search seeks
+/// prices of runs of classes too.
 #[derive(Clone, Copy, Debug, PartialEq, Eq)]
 pub enum Order {
     /// Each shipment's fastest timetable.
     Direct,
     /// Whether a certificate is accepted.
     Check,
-    /// A number under which no plan costs; with `spans`, by prices of runs of classes too.
+    /// A number under which no plan costs.
     Bound {
         spans: bool,
     },
@@ -17,6 +18,7 @@ pub enum Order {
     Plan {
         budget: Budget,
         scale: u32,
+        spans: bool,
     },
     /// What a search of an instance finds that is drawn from a seed, 0 to [`GREATEST_SEED`], with so
     /// many terminals, [`FEWEST_TERMINALS`] to [`MOST_TERMINALS`](fp_model::limits::MOST_TERMINALS),
@@ -36,10 +38,12 @@ pub enum Order {
     /// The cheapest plan that a search with this budget finds and that keeps legs which stand.
     Replan {
         budget: Budget,
+        spans: bool,
     },
     /// What the last shipment adds to the cost, by two searches with this budget each.
     Quote {
         budget: Budget,
+        spans: bool,
     },
 }
 

@@ -1,11 +1,10 @@
 //! What words give a command: the values of options, whether a flag is among them, and the words in
 //! places.
-ghost use Rattle.std.specs.Prelude.{◌≡◌, ◌≤◌, IfSome, option_and_then, option_map};
+ghost use Rattle.std.specs.Prelude.{◌≡◌, ◌≤◌, IfSome, option_and_then};
 ghost use Rattle.clap.specs.Words.{first_of, found_of, rows_of};
 ghost use Rattle.fp_history.specs.Budgets.{IsBudget};
 ghost use Rattle.fp_words.specs.Commands.{is_from_words, was_given};
-ghost use Rattle.fp_words.specs.declared.orders.Order.TheVariants.{Quote, Replan};
-ghost use Rattle.fp_words.specs.Settings.{IsWithinLimits, bound_by, budget_by, number_of, number_or, plan_by, trial_by, yard_by};
+ghost use Rattle.fp_words.specs.Settings.{IsWithinLimits, bound_by, budget_by, number_of, number_or, plan_by, quote_by, replan_by, trial_by, yard_by};
 
 use crate::orders::{FEWEST_TERMINALS, GREATEST_SEED, Order};
 use clap::ArgMatches;
@@ -100,31 +99,38 @@ pub fn bound_by(matches: &ArgMatches) -> Order
 /// What the options of `plan` order; `None` exactly where the text of one is no number in its
 /// range.
 pub fn plan_by(matches: &ArgMatches) -> Option<Order>
-    ensures order { result ≡ plan_by (λ name. first_of name (rows_of (found_of matches.now))) }
+    ensures order { result ≡ plan_by (λ name. first_of name (rows_of (found_of matches.now))) (λ name. was_given name (rows_of (found_of matches.now))) }
     ensures range { IfSome result IsWithinLimits }
 {
     let budget = budget_by(matches)?;
     let scale = number_or(matches, "scale", 1, GREATEST_SCALE, SCALE as u32)?;
-    Some(Order::Plan { budget, scale })
+    let spans = was_given(matches, "spans");
+    Some(Order::Plan {
+        budget,
+        scale,
+        spans,
+    })
 }
 
 /// What the options of `replan` order; `None` exactly where the text of one is no number in its
 /// range.
 pub fn replan_by(matches: &ArgMatches) -> Option<Order>
-    ensures order { result ≡ option_map Replan (budget_by (λ name. first_of name (rows_of (found_of matches.now)))) }
+    ensures order { result ≡ replan_by (λ name. first_of name (rows_of (found_of matches.now))) (λ name. was_given name (rows_of (found_of matches.now))) }
     ensures range { IfSome result IsWithinLimits }
 {
     let budget = budget_by(matches)?;
-    Some(Order::Replan { budget })
+    let spans = was_given(matches, "spans");
+    Some(Order::Replan { budget, spans })
 }
 
 /// The same for `quote`.
 pub fn quote_by(matches: &ArgMatches) -> Option<Order>
-    ensures order { result ≡ option_map Quote (budget_by (λ name. first_of name (rows_of (found_of matches.now)))) }
+    ensures order { result ≡ quote_by (λ name. first_of name (rows_of (found_of matches.now))) (λ name. was_given name (rows_of (found_of matches.now))) }
     ensures range { IfSome result IsWithinLimits }
 {
     let budget = budget_by(matches)?;
-    Some(Order::Quote { budget })
+    let spans = was_given(matches, "spans");
+    Some(Order::Quote { budget, spans })
 }
 
 /// What the words in the places of `trial` order; `None` exactly where one is no number in its

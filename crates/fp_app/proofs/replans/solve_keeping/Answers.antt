@@ -1,11 +1,8 @@
-use Rattle.std.proofs.Common.{rules, ◌≤◌, arith}
 use Rattle.fp_app.specs.Wanted.{AreKeptWindowsOf, keeping}
-use Rattle.fp_app.proofs.SearchClaims.{session-searched}
 use Rattle.fp_app.proofs.replans.solve_keeping.Goals as goal
 
 pub returns-clause-searched : goal.returns-clause-searched
 returns-clause-searched c =
     let windows : AreKeptWindowsOf c.args.instance.now c.args.kept.now c.in_ok-windows.windows =
     record { exact = c.in_ok-windows.ensures.windows; anchored = c.in_ok-windows.ensures.anchors; belongs = c.in_ok-windows.ensures.belongs; tell = c.in_ok-windows.ensures.tell } in
-    session-searched c.args.instance.now _ (keeping c.args.kept.now) c.in_ok-windows.windows _ c.args.budget _ _ c.args.first _ windows c.requires.first c.written_reads_back.ensures
-    (search rules) (search rules) (search rules) (search rules) c.in_ok-solved.ensures.solved
+    c.search_from.ensures.searched (keeping c.args.kept.now) windows c.requires.first

@@ -1,8 +1,7 @@
-use Rattle.std.proofs.Common.{◌∙◌, ap, subst, rules}
+use Rattle.std.proofs.Common.{subst}
 use Rattle.fp_flatnet.specs.declared.verdicts.Verdict.{Verdict}
 use Rattle.fp_flatnet.specs.Verdicts.{IsBlocked, IsVerdict}
 use Rattle.fp_model.specs.Problem.{Problem}
-use Rattle.fp_reader.specs.Generator.{generated}
 use Rattle.fp_app.proofs.GeneratedInTime.{generated-never_blocked}
 use Rattle.fp_app.proofs.trials.trial_shown.Goals as goal
 

@@ -1,7 +1,7 @@
 use Rattle.std.proofs.Common.{◌+◌, ◌-◌, ◌^◌, ◌<◌, ℕ, List, drop, length, arith}
 use Rattle.std.proofs.lemmas.List.{length-drop}
 use Rattle.fp_certificate.specs.Reading.{certificate_of, finished}
-use Rattle.fp_certificate.proofs.ReadEnds.{certificate_of-finished, certificate_of-ok, certificate_of-bad, IsInRange-read, AreCountable-read}
+use Rattle.fp_certificate.proofs.ReadEnds.{certificate_of-finished, certificate_of-ok, certificate_of-bad, IsInRange-read, AreCountable-read, few-spans-read}
 use Rattle.fp_certificate.proofs.reading.read_with_index.Goals as goal
 
 pub returns-clause-read : goal.returns-clause-read
@@ -31,3 +31,8 @@ pub returns-clause-countable : goal.returns-clause-countable
 returns-clause-countable c =
     let lines = c.args.lines.now in
     AreCountable-read c.args.instance.now (c.args.from + 1) (drop c.args.from lines) c.finish.result (few lines c.args.from c.requires.few) (returns-clause-read c)
+
+pub returns-clause-few : goal.returns-clause-few
+returns-clause-few c =
+    let lines = c.args.lines.now in
+    few-spans-read c.args.instance.now (c.args.from + 1) (drop c.args.from lines) c.finish.result (few lines c.args.from c.requires.few) (returns-clause-read c)

@@ -2,11 +2,11 @@ use Rattle.std.proofs.Common.{◌≡◌, ◌≤◌, List, length, sym, ap, ◌�
 use Rattle.std.proofs.lemmas.Result.{err_from_is_err_and}
 use Rattle.fp_model.specs.Problem.{Problem}
 use Rattle.fp_tree.specs.Trees.{IsTree, tree_splits}
-use Rattle.fp_prices.specs.Tables.{AreTables}
 use Rattle.fp_lines.specs.declared.certificates.Node.{Node}
 use Rattle.fp_lines.specs.Statements.{Statement}
 use Rattle.fp_acceptance.specs.Leaves.{HasTree, fork_of}
 use Rattle.fp_acceptance.specs.Points.{AreAddedPoints}
+use Rattle.fp_acceptance.specs.Prices.{HasPrices}
 use Rattle.fp_checker.proofs.Results.{Part_injective, false_refutes, Err_any}
 use Rattle.fp_checker.proofs.FirstParts.{points_unmet, prices_unmet, tree_unmet, leaves_unmet, HoldBelow_all}
 use Rattle.fp_checker.proofs.checks.test_bound.Goals as goal
@@ -29,16 +29,14 @@ returns-in_err-points-clause-part c =
     fails.1 (subst (AreAddedPoints c.args.instance.now c.args.windows.now.anchors) (sym (c.as_slice.ensures.value ∙ ap (λ (s : Statement). s.points) c.certificate.view_is)) has))
     number fails.0)
 
-pub returns-then-not-are_tables-clause-part : goal.returns-then-not-are_tables-clause-part
-returns-then-not-are_tables-clause-part c number same =
+pub returns-then-not-branch-clause-part : goal.returns-then-not-branch-clause-part
+returns-then-not-branch-clause-part c number same =
     let p = c.args.instance.now in
     let told : Statement = c.args.certificate.now in
     let points : AreAddedPoints p c.args.windows.now.anchors told.points =
     subst (AreAddedPoints p c.args.windows.now.anchors) (c.as_slice.ensures.value ∙ ap (λ (s : Statement). s.points) c.certificate.view_is) c.in_ok-points.ensures.holds in
     prices_unmet p c.args.windows.now told c.requires.timetable points
-    (λ are.
-    false_refutes c.are_tables.result c.if-not-are_tables.true c.are_tables.ensures.1
-    (subst (AreTables p) (sym (c.as_slice-2.ensures.value ∙ ap (λ (s : Statement). s.tables) c.certificate.view_is)) are))
+    (false_refutes c.in_ok-has_prices.field-0 c.if-not-branch.true c.in_ok-has_prices.ensures.1)
     number (Part_injective 5 number same)
 
 pub returns-then-not-is_tree-clause-part : goal.returns-then-not-is_tree-clause-part
@@ -47,10 +45,9 @@ returns-then-not-is_tree-clause-part c number same =
     let told : Statement = c.args.certificate.now in
     let points : AreAddedPoints p c.args.windows.now.anchors told.points =
     subst (AreAddedPoints p c.args.windows.now.anchors) (c.as_slice.ensures.value ∙ ap (λ (s : Statement). s.points) c.certificate.view_is) c.in_ok-points.ensures.holds in
-    let tables : AreTables p told.tables =
-    subst (AreTables p) (c.as_slice-2.ensures.value ∙ ap (λ (s : Statement). s.tables) c.certificate.view_is) (c.are_tables.ensures.0 c.if-not-are_tables.false) in
+    let prices : HasPrices p told = c.in_ok-has_prices.ensures.0 c.if-not-branch.false in
     let nodes : c.as_slice-nodes.result.now ≡ told.tree = c.as_slice-nodes.ensures.value ∙ ap (λ (s : Statement). s.tree) c.certificate.view_is in
-    tree_unmet p c.args.windows.now told c.requires.timetable points tables
+    tree_unmet p c.args.windows.now told c.requires.timetable points prices
     (λ has.
     elim c.then-not-is_tree.branch [
       | then-not-is_tree-via-then-not-is_tree w ↦
@@ -60,19 +57,18 @@ returns-then-not-is_tree-clause-part c number same =
     ])
     number (Part_injective 6 number same)
 
-pub returns-then-not-branch-clause-part : goal.returns-then-not-branch-clause-part
-returns-then-not-branch-clause-part c number same =
+pub returns-then-not-branch-2-clause-part : goal.returns-then-not-branch-2-clause-part
+returns-then-not-branch-2-clause-part c number same =
     let p = c.args.instance.now in
     let told : Statement = c.args.certificate.now in
     let points : AreAddedPoints p c.args.windows.now.anchors told.points =
     subst (AreAddedPoints p c.args.windows.now.anchors) (c.as_slice.ensures.value ∙ ap (λ (s : Statement). s.points) c.certificate.view_is) c.in_ok-points.ensures.holds in
-    let tables : AreTables p told.tables =
-    subst (AreTables p) (c.as_slice-2.ensures.value ∙ ap (λ (s : Statement). s.tables) c.certificate.view_is) (c.are_tables.ensures.0 c.if-not-are_tables.false) in
+    let prices : HasPrices p told = c.in_ok-has_prices.ensures.0 c.if-not-branch.false in
     let nodes : c.as_slice-nodes.result.now ≡ told.tree = c.as_slice-nodes.ensures.value ∙ ap (λ (s : Statement). s.tree) c.certificate.view_is in
     let tree : HasTree p told =
     has-tree p told c.as_slice-nodes.result.now nodes ((c.is_tree.ensures p).0 c.if-not-is_tree.false) (omega (arith, c.split_count.ensures p, c.if-split_count.false)) in
-    leaves_unmet p c.args.windows.now told c.requires.timetable points tables tree
-    (false_refutes c.in_ok-are_leaves_worth.field-0 c.if-not-branch.true c.in_ok-are_leaves_worth.ensures.1)
+    leaves_unmet p c.args.windows.now told c.requires.timetable points prices tree
+    (false_refutes c.in_ok-are_leaves_worth.field-0 c.if-not-branch-2.true c.in_ok-are_leaves_worth.ensures.1)
     number (Part_injective 7 number same)
 
 pub returns-clause-holds : goal.returns-clause-holds
@@ -81,9 +77,8 @@ returns-clause-holds c =
     let told : Statement = c.args.certificate.now in
     let points : AreAddedPoints p c.args.windows.now.anchors told.points =
     subst (AreAddedPoints p c.args.windows.now.anchors) (c.as_slice.ensures.value ∙ ap (λ (s : Statement). s.points) c.certificate.view_is) c.in_ok-points.ensures.holds in
-    let tables : AreTables p told.tables =
-    subst (AreTables p) (c.as_slice-2.ensures.value ∙ ap (λ (s : Statement). s.tables) c.certificate.view_is) (c.are_tables.ensures.0 c.if-not-are_tables.false) in
+    let prices : HasPrices p told = c.in_ok-has_prices.ensures.0 c.if-not-branch.false in
     let nodes : c.as_slice-nodes.result.now ≡ told.tree = c.as_slice-nodes.ensures.value ∙ ap (λ (s : Statement). s.tree) c.certificate.view_is in
     let tree : HasTree p told =
     has-tree p told c.as_slice-nodes.result.now nodes ((c.is_tree.ensures p).0 c.if-not-is_tree.false) (omega (arith, c.split_count.ensures p, c.if-split_count.false)) in
-    HoldBelow_all p c.args.windows.now told c.requires.timetable points tables tree (c.in_ok-are_leaves_worth.ensures.0 c.if-not-branch.false)
+    HoldBelow_all p c.args.windows.now told c.requires.timetable points prices tree (c.in_ok-are_leaves_worth.ensures.0 c.if-not-branch-2.false)

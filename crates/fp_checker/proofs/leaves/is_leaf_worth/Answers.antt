@@ -1,8 +1,5 @@
-use Rattle.std.proofs.Common.{◌≡◌, ℕ, List, sym, ap, ◌∙◌, subst}
-use Rattle.fp_timenodes.specs.Points.{points_at}
-use Rattle.fp_flatnet.specs.Tables.{windows_in}
-use Rattle.fp_prices.specs.Leaves.{IsBoundOf}
-use Rattle.fp_prices.specs.Shares.{ClassShare}
+use Rattle.std.proofs.Common.{◌≡◌, ℕ, sym, ap, subst}
+use Rattle.std.specs.Prelude.{Option}
 use Rattle.fp_lines.specs.Statements.{Statement}
 use Rattle.fp_acceptance.specs.Accepted.{claim_of}
 use Rattle.fp_checker.specs.Bounds.{IsBoundWorth}
@@ -13,20 +10,18 @@ pub returns-clause-worth : goal.returns-clause-worth
 returns-clause-worth c =
     let p = c.args.instance.now in
     let told : Statement = c.args.certificate.now in
-    let tables : c.as_slice-tables.result.now ≡ told.tables = c.as_slice-tables.ensures.value ∙ ap (λ (s : Statement). s.tables) c.certificate.view_is in
-    let claim : c.claim_of.result ≡ claim_of told.answer = c.claim_of.ensures ∙ ap (λ (s : Statement). claim_of s.answer) c.certificate.view_is in
-    let is : IsBoundOf p (windows_in c.args.windows.now) (λ terminal. points_at c.args.points.now terminal c.args.price.round) c.args.sides.now told.tables c.args.price.kind c.args.price.forced c.in_ok-found.found.0 =
-    subst (λ (ts : List (List ClassShare)).
-    IsBoundOf p (windows_in c.args.windows.now) (λ terminal. points_at c.args.points.now terminal c.args.price.round) c.args.sides.now ts c.args.price.kind c.args.price.forced c.in_ok-found.found.0)
-    tables c.in_ok-found.ensures.exact in
-    let worth =
-    bound-worth p c.args.windows.now told (claim_of told.answer) c.args.points.now c.args.price c.args.sides.now c.in_ok-found.found.0 c.requires.belongs.valid c.requires.points is in (
+    let bound = c.in_ok-found.found.0 in
+    let claim : c.claim_of-claim.result ≡ claim_of told.answer = rw c.claim_of-claim.ensures (ap (λ (s : Statement). claim_of s.answer) c.certificate.view_is) in
+    let unit : c.certificate.inside.unit ≡ told.unit = ap (λ (s : Statement). s.unit) c.certificate.view_is in
+    let worth = bound-worth p c.args.windows.now told (claim_of told.answer) c.args.points.now c.args.price c.args.sides.now bound c.requires.belongs.valid c.requires.points c.in_ok-found.ensures.exact in (
       λ h.
           worth.0
-          (subst (λ (n : ℕ). IsBoundWorth p.scale n c.in_ok-found.found.0) claim
-          (subst (λ (n : ℕ). IsBoundWorth n c.claim_of.result c.in_ok-found.found.0) c.scale.ensures.same (c.is_bound_worth-is_worth.ensures.0 h))),
+          (subst (λ (u : Option ℕ). IsBoundWorth u p.scale (claim_of told.answer) bound) unit
+          (subst (λ (n : ℕ). IsBoundWorth c.certificate.inside.unit p.scale n bound) claim
+          (subst (λ (n : ℕ). IsBoundWorth c.certificate.inside.unit n c.claim_of-claim.result bound) c.scale.ensures.same (c.is_bound_worth-is_worth.ensures.0 h)))),
       λ leaf.
           c.is_bound_worth-is_worth.ensures.1
-          (subst (λ (n : ℕ). IsBoundWorth n c.claim_of.result c.in_ok-found.found.0) (sym c.scale.ensures.same)
-          (subst (λ (n : ℕ). IsBoundWorth p.scale n c.in_ok-found.found.0) (sym claim) (worth.1 leaf))),
+          (subst (λ (n : ℕ). IsBoundWorth c.certificate.inside.unit n c.claim_of-claim.result bound) (sym c.scale.ensures.same)
+          (subst (λ (n : ℕ). IsBoundWorth c.certificate.inside.unit p.scale n bound) (sym claim)
+          (subst (λ (u : Option ℕ). IsBoundWorth u p.scale (claim_of told.answer) bound) (sym unit) (worth.1 leaf)))),
     )

@@ -5,10 +5,10 @@ use Rattle.fp_duals.proofs.PriceLines.{tables-le-lines}
 use Rattle.fp_duals.proofs.candidates.prices_by.Goals as goal
 
 pub overflow_cast-id : goal.overflow_cast-id
-overflow_cast-id c = omega (arith, tables-le-lines c.args.tables.now c.list.ensures.within.each, c.list.ensures.within.lines, ap length c.list.ensures.same)
+overflow_cast-id c = omega (arith, tables-le-lines c.args.tables.now, c.list.ensures.within.lines, ap length c.list.ensures.same)
 
 pub overflow_add-id : goal.overflow_add-id
-overflow_add-id c = omega (arith, tables-le-lines c.args.tables.now c.list.ensures.within.each, c.list.ensures.within.lines, ap length c.list.ensures.same)
+overflow_add-id c = omega (arith, tables-le-lines c.args.tables.now, c.list.ensures.within.lines, ap length c.list.ensures.same)
 
 pub bound-bound-requires-clause-tables : goal.bound-bound-requires-clause-tables
 bound-bound-requires-clause-tables c =

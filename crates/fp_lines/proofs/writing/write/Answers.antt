@@ -12,10 +12,12 @@ returns c =
     let v : Statement = record {
       answer = i.answer;
       scale = i.scale;
+      unit = i.unit;
       legs = i.legs.items;
       trucks = i.trucks.items;
       points = i.points.items;
       tables = i.tables.items;
+      spans = i.spans.items;
       tree = i.tree.items;
     } in
     subst (λ (s : Statement). c.into_bytes.result.items ≡ lines_of (rows_of p s)) c.certificate.view_is
@@ -27,6 +29,7 @@ returns c =
       c.in_ok-write_points.ensures.text,
       c.in_ok-write_trucks.ensures.text,
       c.in_ok-write_legs.ensures.text,
+      c.in_ok-write_unit.ensures.text,
       c.in_ok-write_scale.ensures.text,
       c.in_ok-write_answer.ensures.text,
       c.in_ok-line.ensures,
@@ -35,5 +38,6 @@ returns c =
       c.deref-3.ensures.value,
       c.deref-4.ensures.value,
       c.deref-5.ensures.value,
+      c.deref-6.ensures.value,
     )
     (sym (rows-text p v)))

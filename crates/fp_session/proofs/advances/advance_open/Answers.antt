@@ -11,7 +11,7 @@ pub advance_at-requires-clause-open : goal.advance_at-requires-clause-open
 advance_at-requires-clause-open c = best-open c.args.search.now.tree c.in-Some.leaf c.in-Some.ensures.best
 
 pub returns-in-None-clause-search : goal.returns-in-None-clause-search
-returns-in-None-clause-search c = IsSearch-stop c.args.search.now c.args.tables.now c.requires.search c.requires.going Nothing (c.in-None.ensures.none.0 refl)
+returns-in-None-clause-search c = IsSearch-stop c.args.search.now c.args.prices.now c.requires.search c.requires.going Nothing (c.in-None.ensures.none.0 refl)
 
 pub returns-in-None-clause-step : goal.returns-in-None-clause-step
 returns-in-None-clause-step c = record { left = refl; leaves = refl; splits = refl; branches = refl; cost = refl; trace = refl }

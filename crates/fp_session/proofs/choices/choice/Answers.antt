@@ -15,8 +15,8 @@ EndsInSeveral-several l several is = record { exists = is.exists; chain = is.cha
 
 pub candidates-requires-clause-tables : goal.candidates-requires-clause-tables
 candidates-requires-clause-tables c =
-    subst (AreTables c.args.leaf.now.setting.problem) (sym c.list.ensures.same)
-    (subst (λ (p : Problem). AreTables p c.args.tables.now) (sym c.requires.setting) c.requires.search.prices.in_order)
+    subst (AreTables c.args.leaf.now.setting.problem) (sym c.tables.ensures.same)
+    (subst (λ (p : Problem). AreTables p c.args.prices.now.tables) (sym c.requires.setting) c.requires.search.prices.tables.in_order)
 
 pub best_place-requires-clause-some : goal.best_place-requires-clause-some
 best_place-requires-clause-some c =

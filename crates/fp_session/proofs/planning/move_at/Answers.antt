@@ -18,11 +18,11 @@ are_cheaper-requires-clause-exist c = under-exist c.args.search.now c.args.sides
 pub are_cheaper-requires-clause-routes : goal.are_cheaper-requires-clause-routes
 are_cheaper-requires-clause-routes c = λ apart.
     HasRoutes-relaxed c.args.search.now.instance (windows_in c.args.search.now.windows) (points_now c.args.search.now) c.args.walks.items
-    (under-relaxed c.args.search.now c.args.sides.now c.args.walks.items c.requires.found.walks c.args.tables.now c.requires.search apart)
+    (under-relaxed c.args.search.now c.args.sides.now c.args.walks.items c.requires.found.walks c.args.prices.now c.requires.search apart)
 
 pub timed_move-requires-clause-relaxed : goal.timed_move-requires-clause-relaxed
 timed_move-requires-clause-relaxed c =
-    under-relaxed c.args.search.now c.args.sides.now c.args.walks.items c.requires.found.walks c.args.tables.now c.requires.search (c.are_cheaper.ensures.0 c.if-are_cheaper.true).0
+    under-relaxed c.args.search.now c.args.sides.now c.args.walks.items c.requires.found.walks c.args.prices.now c.requires.search (c.are_cheaper.ensures.0 c.if-are_cheaper.true).0
 
 pub timed_move-requires-clause-cheaper : goal.timed_move-requires-clause-cheaper
 timed_move-requires-clause-cheaper c = (c.are_cheaper.ensures.0 c.if-are_cheaper.true).1
@@ -35,5 +35,5 @@ unreachable-requires c =
     (false≢true
     (sym c.if-are_cheaper.false
     ∙ c.are_cheaper.ensures.1
-    (NoneSeveral-found c.args.search.now c.args.tables.now c.args.leaf.now c.args.sides.now c.args.kept c.args.walks.items (length c.shipments.result.now) c.requires.search c.requires.setting c.requires.sides
+    (NoneSeveral-found c.args.search.now c.args.prices.now c.args.leaf.now c.args.sides.now c.args.kept c.args.walks.items (length c.shipments.result.now) c.requires.search c.requires.setting c.requires.sides
     c.requires.found c.requires.below (omega (arith, ap (λ (ss : List Shipment). length ss) c.shipments.ensures.same)) none)))

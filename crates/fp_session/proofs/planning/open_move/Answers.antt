@@ -1,7 +1,6 @@
 -- What comes of improving the leaf decides.
-use Rattle.std.proofs.Common.{◌≡◌, ◌<◌, ◌≤◌, ⊎_elim, List, sym, ◌∙◌, subst}
+use Rattle.std.proofs.Common.{◌≡◌, ℕ, ◌<◌, ◌≤◌, ⊎_elim, List, sym, ◌∙◌, subst}
 use Rattle.std.specs.Prelude.{IsSomeAnd}
-use Rattle.std.specs.Int.{div_ceil}
 use Rattle.std.proofs.lemmas.Bool.{cases_lt, false≢true}
 use Rattle.fp_timenodes.specs.declared.places.TheConstants.{MOST_POINTS}
 use Rattle.fp_longestarcs.specs.Networks.{TimedNetwork, point_count}
@@ -9,12 +8,13 @@ use Rattle.fp_longestarcs.specs.Whole.{IsWholeNetwork}
 use Rattle.fp_tree.specs.declared.sides.Side.{Side}
 use Rattle.fp_tree.specs.Nodes.{Node, leaf_at}
 use Rattle.fp_tree.specs.Trees.{Leaf}
+use Rattle.fp_history.specs.Notes.{worth_of}
 use Rattle.fp_session.specs.declared.outcomes.Outcome.TheVariants as outcome
 use Rattle.fp_session.specs.declared.payloads.Payload.{Payload}
 use Rattle.fp_session.specs.Moves.{IsOpenMove}
 use Rattle.fp_session.specs.Outcomes.{IsOutcome}
 use Rattle.fp_session.specs.Searches.{history}
-use Rattle.fp_session.proofs.Divisions.{IsSearch-grown}
+use Rattle.fp_session.proofs.SameHands.{IsSearch-grown}
 use Rattle.fp_session.proofs.OpenMoves.{dear-move, empty-move, found-move, was-kept}
 use Rattle.fp_session.proofs.PointLimits.{few-points}
 use Rattle.fp_session.proofs.planning.open_move.Goals as goal
@@ -23,39 +23,40 @@ pub over-requires-clause-whole : goal.over-requires-clause-whole
 over-requires-clause-whole c = subst (IsWholeNetwork c.args.search.now.instance) (sym c.in_ok-network.ensures) c.requires.search.network.whole
 
 pub over-requires-clause-few : goal.over-requires-clause-few
-over-requires-clause-few c = subst (λ (net : TimedNetwork). point_count net ≤ MOST_POINTS) (sym c.in_ok-network.ensures) (few-points c.args.search.now c.args.tables.now c.requires.search)
+over-requires-clause-few c = subst (λ (net : TimedNetwork). point_count net ≤ MOST_POINTS) (sym c.in_ok-network.ensures) (few-points c.args.search.now c.args.prices.now c.requires.search)
 
 pub improved_by_step-requires-clause-kept : goal.improved_by_step-requires-clause-kept
 improved_by_step-requires-clause-kept c =
-    was-kept c.args.search.now c.args.tables.now c.args.tables.now c.args.number c.in_ok-leaf.leaf.sides c.args.old c.requires.old
+    was-kept c.args.search.now c.args.prices.now c.args.prices.now c.args.number c.in_ok-leaf.leaf.sides c.args.old c.requires.old
     (subst (λ (ss : List Side). IsSomeAnd (leaf_at c.args.search.now.tree c.args.number) (λ (l : Leaf (Node Payload)). l.sides ≡ ss)) (sym (c.in_ok-leaf.ensures.sides ∙ c.deref.ensures.value)) c.in_ok-sides.ensures) c.requires.search
 
 pub returns-in-Empty-clause-planned : goal.returns-in-Empty-clause-planned
 returns-in-Empty-clause-planned c =
-    let came : IsOutcome (history c.args.search.now c.improved_by_step.new.tables) c.in_ok-leaf.leaf.sides c.args.old (outcome.Empty c.in-Empty.kept) =
-    subst (IsOutcome (history c.args.search.now c.improved_by_step.new.tables) c.in_ok-leaf.leaf.sides c.args.old) c.in-Empty.is c.in_ok-kept.ensures.outcome in
-    empty-move c.args.search.now c.args.tables.now c.improved_by_step.new.tables c.args.number c.in_ok-leaf.leaf.sides c.args.old c.requires.old
+    let came : IsOutcome (history c.args.search.now c.improved_by_step.new.prices) c.in_ok-leaf.leaf.sides c.args.old (outcome.Empty c.in-Empty.kept) =
+    subst (IsOutcome (history c.args.search.now c.improved_by_step.new.prices) c.in_ok-leaf.leaf.sides c.args.old) c.in-Empty.is c.in_ok-kept.ensures.outcome in
+    empty-move c.args.search.now c.args.prices.now c.improved_by_step.new.prices c.args.number c.in_ok-leaf.leaf.sides c.args.old c.requires.old
     (subst (λ (ss : List Side). IsSomeAnd (leaf_at c.args.search.now.tree c.args.number) (λ (l : Leaf (Node Payload)). l.sides ≡ ss)) (sym (c.in_ok-leaf.ensures.sides ∙ c.deref.ensures.value)) c.in_ok-sides.ensures) c.in-Empty.kept came.0 came.1
 
 pub returns-then-is_dear-clause-planned : goal.returns-then-is_dear-clause-planned
 returns-then-is_dear-clause-planned c =
-    let came : IsOutcome (history c.args.search.now c.improved_by_step.new.tables) c.in_ok-leaf.leaf.sides c.args.old (outcome.Open c.in-Open.kept c.in-Open.walks) =
-    subst (IsOutcome (history c.args.search.now c.improved_by_step.new.tables) c.in_ok-leaf.leaf.sides c.args.old) c.in-Open.is c.in_ok-kept.ensures.outcome in
-    dear-move c.args.search.now c.args.tables.now c.improved_by_step.new.tables c.args.number c.in_ok-leaf.leaf.sides c.args.old c.requires.old
+    let came : IsOutcome (history c.args.search.now c.improved_by_step.new.prices) c.in_ok-leaf.leaf.sides c.args.old (outcome.Open c.in-Open.kept c.in-Open.walks) =
+    subst (IsOutcome (history c.args.search.now c.improved_by_step.new.prices) c.in_ok-leaf.leaf.sides c.args.old) c.in-Open.is c.in_ok-kept.ensures.outcome in
+    dear-move c.args.search.now c.args.prices.now c.improved_by_step.new.prices c.args.number c.in_ok-leaf.leaf.sides c.args.old c.requires.old
     (subst (λ (ss : List Side). IsSomeAnd (leaf_at c.args.search.now.tree c.args.number) (λ (l : Leaf (Node Payload)). l.sides ≡ ss)) (sym (c.in_ok-leaf.ensures.sides ∙ c.deref.ensures.value)) c.in_ok-sides.ensures) c.in-Open.kept c.in-Open.walks.items came.0 came.1 (c.is_dear.ensures.0 c.if-is_dear.true)
 
 pub move_at-requires-clause-search : goal.move_at-requires-clause-search
-move_at-requires-clause-search c = IsSearch-grown c.args.search.now c.args.tables.now c.improved_by_step.new.tables c.requires.search c.requires.going c.improved_by_step.ensures.grown
+move_at-requires-clause-search c = IsSearch-grown c.args.search.now c.args.prices.now c.improved_by_step.new.prices c.improved_by_step.ensures.grown c.requires.going c.requires.search
 
 pub returns-clause-planned : goal.returns-clause-planned
 returns-clause-planned c =
-    let came : IsOutcome (history c.args.search.now c.improved_by_step.new.tables) c.in_ok-leaf.leaf.sides c.args.old (outcome.Open c.in-Open.kept c.in-Open.walks) =
-    subst (IsOutcome (history c.args.search.now c.improved_by_step.new.tables) c.in_ok-leaf.leaf.sides c.args.old) c.in-Open.is c.in_ok-kept.ensures.outcome in
-    let below : div_ceil c.in-Open.kept.value c.args.search.now.instance.scale < c.args.search.now.cost =
-    ⊎_elim (λ (less : div_ceil c.in-Open.kept.value c.args.search.now.instance.scale < c.args.search.now.cost). less)
-    (λ (more : c.args.search.now.cost ≤ div_ceil c.in-Open.kept.value c.args.search.now.instance.scale). absurd (false≢true (sym c.if-is_dear.false ∙ c.is_dear.ensures.1 more)))
-    (cases_lt (div_ceil c.in-Open.kept.value c.args.search.now.instance.scale) c.args.search.now.cost) in
-    found-move c.args.search.now c.args.tables.now c.move_at.new.tables c.args.number c.in_ok-leaf.leaf.sides c.args.old c.requires.old
-    (subst (λ (ss : List Side). IsSomeAnd (leaf_at c.args.search.now.tree c.args.number) (λ (l : Leaf (Node Payload)). l.sides ≡ ss)) (sym (c.in_ok-leaf.ensures.sides ∙ c.deref.ensures.value)) c.in_ok-sides.ensures) c.improved_by_step.new.tables c.in-Open.kept c.in-Open.walks.items c.in_ok-planned-in-Open.planned came.0 c.move_at.ensures.grown came.1 below
-    (subst (λ (ss : List Side). IsOpenMove c.args.search.now c.move_at.new.tables c.args.number ss c.in_ok-planned-in-Open.planned)
+    let came : IsOutcome (history c.args.search.now c.improved_by_step.new.prices) c.in_ok-leaf.leaf.sides c.args.old (outcome.Open c.in-Open.kept c.in-Open.walks) =
+    subst (IsOutcome (history c.args.search.now c.improved_by_step.new.prices) c.in_ok-leaf.leaf.sides c.args.old) c.in-Open.is c.in_ok-kept.ensures.outcome in
+    let worth : ℕ = worth_of (history c.args.search.now c.improved_by_step.new.prices) c.in-Open.kept.value in
+    let below : worth < c.args.search.now.cost =
+    ⊎_elim (λ (less : worth < c.args.search.now.cost). less)
+    (λ (more : c.args.search.now.cost ≤ worth). absurd (false≢true (sym c.if-is_dear.false ∙ c.is_dear.ensures.1 more)))
+    (cases_lt worth c.args.search.now.cost) in
+    found-move c.args.search.now c.args.prices.now c.move_at.new.prices c.args.number c.in_ok-leaf.leaf.sides c.args.old c.requires.old
+    (subst (λ (ss : List Side). IsSomeAnd (leaf_at c.args.search.now.tree c.args.number) (λ (l : Leaf (Node Payload)). l.sides ≡ ss)) (sym (c.in_ok-leaf.ensures.sides ∙ c.deref.ensures.value)) c.in_ok-sides.ensures) c.improved_by_step.new.prices c.in-Open.kept c.in-Open.walks.items c.in_ok-planned-in-Open.planned came.0 c.improved_by_step.ensures.grown.prices c.move_at.ensures.grown came.1 below
+    (subst (λ (ss : List Side). IsOpenMove c.args.search.now c.move_at.new.prices c.args.number ss c.in_ok-planned-in-Open.planned)
     (c.deref-in-Open.ensures.value ∙ sym (c.in_ok-leaf.ensures.sides ∙ c.deref.ensures.value)) c.in_ok-planned-in-Open.ensures.planned)

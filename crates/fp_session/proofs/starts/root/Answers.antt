@@ -5,7 +5,6 @@ use Rattle.fp_flatnet.specs.Tables.{WindowTable}
 use Rattle.fp_longestarcs.specs.Networks.{TimedNetwork}
 use Rattle.fp_tree.specs.declared.sides.Side.{Side}
 use Rattle.fp_allowed.specs.Settings.{Setting}
-use Rattle.fp_prices.specs.declared.leaf_prices.Kind.TheVariants.{Linear}
 use Rattle.fp_prices.specs.Rounds.{RoundModel}
 use Rattle.fp_session.specs.declared.kept.Kept.{Kept}
 use Rattle.fp_session.specs.Nodes.{IsKept}
@@ -23,16 +22,16 @@ setting-root x p table net copy r is of same =
 
 pub returns-in-Empty-clause-kept : goal.returns-in-Empty-clause-kept
 returns-in-Empty-clause-kept c =
-    subst (λ (k : Kept). IsKept (start_of c.args.instance.now c.args.windows.now c.improve_leaf.new.tables) [] k.payload k.value) (sym c.emptied.ensures)
-    (root-empty c.args.instance.now c.args.windows.now c.args.network.now c.requires.belongs.valid c.requires.points c.args.tables.now c.improve_leaf.new.tables c.in_ok-improve_leaf.field-0 c.in_ok-leaf.leaf.setting
-    (setting-root c.in_ok-leaf.leaf.setting c.args.instance.now c.args.windows.now c.args.network.now c.in_ok-copy.field-0 c.in_ok-round.round c.in_ok-leaf.ensures.setting c.in_ok-round.ensures c.in_ok-copy.ensures) c.requires.tables
-    (subst (λ (l : List Side). ImprovedIn c.in_ok-leaf.leaf.setting l c.args.tables.now c.improve_leaf.new.tables Linear 0 c.in_ok-improve_leaf.field-0) c.in_ok-leaf.ensures.sides c.in_ok-improve_leaf.ensures.improved) c.in-Empty.shipment
+    subst (λ (k : Kept). IsKept (start_of c.args.instance.now c.args.windows.now c.improve.new.prices) [] k.payload k.value) (sym c.emptied.ensures)
+    (root-empty c.args.instance.now c.args.windows.now c.args.network.now c.requires.belongs.valid c.requires.points c.improve.new.prices c.in_ok-improve.field-0 c.in_ok-leaf.leaf.setting
+    (setting-root c.in_ok-leaf.leaf.setting c.args.instance.now c.args.windows.now c.args.network.now c.in_ok-copy.field-0 c.in_ok-round.round c.in_ok-leaf.ensures.setting c.in_ok-round.ensures c.in_ok-copy.ensures)
+    (subst (λ (l : List Side). ImprovedIn c.in_ok-leaf.leaf.setting l c.improve.new.prices 0 c.in_ok-improve.field-0) c.in_ok-leaf.ensures.sides c.in_ok-improve.ensures.improved) c.in-Empty.shipment
     c.in-Empty.is)
 
 pub returns-clause-kept : goal.returns-clause-kept
 returns-clause-kept c =
-    subst (λ (k : Kept). IsKept (start_of c.args.instance.now c.args.windows.now c.improve_leaf.new.tables) [] k.payload k.value) (sym c.priced.ensures)
-    (root-priced c.args.instance.now c.args.windows.now c.args.network.now c.requires.belongs.valid c.requires.points c.args.tables.now c.improve_leaf.new.tables c.in_ok-improve_leaf.field-0 c.in_ok-leaf.leaf.setting
-    (setting-root c.in_ok-leaf.leaf.setting c.args.instance.now c.args.windows.now c.args.network.now c.in_ok-copy.field-0 c.in_ok-round.round c.in_ok-leaf.ensures.setting c.in_ok-round.ensures c.in_ok-copy.ensures) c.requires.tables
-    (subst (λ (l : List Side). ImprovedIn c.in_ok-leaf.leaf.setting l c.args.tables.now c.improve_leaf.new.tables Linear 0 c.in_ok-improve_leaf.field-0) c.in_ok-leaf.ensures.sides c.in_ok-improve_leaf.ensures.improved) c.in-Priced.price
+    subst (λ (k : Kept). IsKept (start_of c.args.instance.now c.args.windows.now c.improve.new.prices) [] k.payload k.value) (sym c.priced.ensures)
+    (root-priced c.args.instance.now c.args.windows.now c.args.network.now c.requires.belongs.valid c.requires.points c.improve.new.prices c.in_ok-improve.field-0 c.in_ok-leaf.leaf.setting
+    (setting-root c.in_ok-leaf.leaf.setting c.args.instance.now c.args.windows.now c.args.network.now c.in_ok-copy.field-0 c.in_ok-round.round c.in_ok-leaf.ensures.setting c.in_ok-round.ensures c.in_ok-copy.ensures)
+    (subst (λ (l : List Side). ImprovedIn c.in_ok-leaf.leaf.setting l c.improve.new.prices 0 c.in_ok-improve.field-0) c.in_ok-leaf.ensures.sides c.in_ok-improve.ensures.improved) c.in-Priced.price
     c.in-Priced.value c.in-Priced.walks c.in-Priced.is)

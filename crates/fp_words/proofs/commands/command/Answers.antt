@@ -15,5 +15,5 @@ returns c =
     let trial = app_of-subcommand _ _ _ _ _ c.in_ok-subcommand-5.ensures plan c.in_ok-trial_command.ensures.shape c.in_ok-trial_command.ensures.local in
     let yard = app_of-subcommand _ _ _ _ _ c.in_ok-subcommand-6.ensures trial c.in_ok-yard_command.ensures.shape c.in_ok-yard_command.ensures.local in
     let fleet = app_of-subcommand _ _ _ _ _ c.in_ok-subcommand-7.ensures yard (top_of _ _ c.new-4.ensures.app) c.new-4.ensures.local in
-    let replan = app_of-subcommand _ _ _ _ _ c.in_ok-subcommand-8.ensures fleet (top_of _ _ c.in_ok-budget_command.ensures.shape) c.in_ok-budget_command.ensures.local in
-    app_of-subcommand _ _ _ _ _ c.in_ok-command.ensures replan (top_of _ _ c.in_ok-budget_command-2.ensures.shape) c.in_ok-budget_command-2.ensures.local
+    let replan = app_of-subcommand _ _ _ _ _ c.in_ok-subcommand-8.ensures fleet c.in_ok-search_command.ensures.shape c.in_ok-search_command.ensures.local in
+    app_of-subcommand _ _ _ _ _ c.in_ok-command.ensures replan c.in_ok-search_command-2.ensures.shape c.in_ok-search_command-2.ensures.local

@@ -3,39 +3,39 @@ use Rattle.fp_session.proofs.StepsTaken.{better-cheaper, close-settled, divide-d
 use Rattle.fp_session.proofs.searches.Search.apply.Goals as goal
 
 pub close-requires-clause-settled : goal.close-requires-clause-settled
-close-requires-clause-settled c = close-settled c.args.self.now c.args.tables.now c.args.leaf c.args.planned.kept c.args.planned.planned c.requires.planned c.in-Close.is
+close-requires-clause-settled c = close-settled c.args.self.now c.args.prices.now c.args.leaf c.args.planned.kept c.args.planned.planned c.requires.planned c.in-Close.is
 
 pub take-requires-clause-going : goal.take-requires-clause-going
 take-requires-clause-going c =
     kept-going c.args.self.now c.keep.new.self c.args.self.now c.in-Better.cheaper
-    (better-cheaper c.args.self.now c.args.tables.now c.args.leaf c.args.planned.kept c.args.planned.planned c.requires.planned c.in-Better.cheaper c.in-Better.is) c.keep.ensures.others c.requires.going
+    (better-cheaper c.args.self.now c.args.prices.now c.args.leaf c.args.planned.kept c.args.planned.planned c.requires.planned c.in-Better.cheaper c.in-Better.is) c.keep.ensures.others c.requires.going
 
 pub take-requires-clause-cheaper : goal.take-requires-clause-cheaper
 take-requires-clause-cheaper c =
     rw c.in-Better.is (kept-cheaper c.args.self.now c.keep.new.self c.args.self.now c.in-Better.cheaper
-    (better-cheaper c.args.self.now c.args.tables.now c.args.leaf c.args.planned.kept c.args.planned.planned c.requires.planned c.in-Better.cheaper c.in-Better.is) c.keep.ensures.others)
+    (better-cheaper c.args.self.now c.args.prices.now c.args.leaf c.args.planned.kept c.args.planned.planned c.requires.planned c.in-Better.cheaper c.in-Better.is) c.keep.ensures.others)
 
 pub refine-requires-clause-round : goal.refine-requires-clause-round
 refine-requires-clause-round c =
-    rw c.in-Refine.is (refine-next c.args.self.now c.args.tables.now c.args.leaf c.args.planned.kept c.args.planned.planned c.requires.planned c.in-Refine.note c.in-Refine.refined c.in-Refine.is)
+    rw c.in-Refine.is (refine-next c.args.self.now c.args.prices.now c.args.leaf c.args.planned.kept c.args.planned.planned c.requires.planned c.in-Refine.note c.in-Refine.refined c.in-Refine.is)
 
 pub divide-requires-clause-left : goal.divide-requires-clause-left
-divide-requires-clause-left c = divide-left c.args.self.now c.args.tables.now c.args.leaf c.args.planned.kept c.args.planned.planned c.requires.planned c.in-Divide.division c.in-Divide.is
+divide-requires-clause-left c = divide-left c.args.self.now c.args.prices.now c.args.leaf c.args.planned.kept c.args.planned.planned c.requires.planned c.in-Divide.division c.in-Divide.is
 
 pub divide-requires-clause-unsettled : goal.divide-requires-clause-unsettled
-divide-requires-clause-unsettled c = divide-unsettled c.args.self.now c.args.tables.now c.args.leaf c.args.planned.kept c.args.planned.planned c.requires.planned c.in-Divide.division c.in-Divide.is
+divide-requires-clause-unsettled c = divide-unsettled c.args.self.now c.args.prices.now c.args.leaf c.args.planned.kept c.args.planned.planned c.requires.planned c.in-Divide.division c.in-Divide.is
 
 pub divide-requires-clause-division : goal.divide-requires-clause-division
-divide-requires-clause-division c = divide-division c.args.self.now c.args.tables.now c.args.leaf c.args.planned.kept c.args.planned.planned c.requires.planned c.in-Divide.division c.in-Divide.is
+divide-requires-clause-division c = divide-division c.args.self.now c.args.prices.now c.args.leaf c.args.planned.kept c.args.planned.planned c.requires.planned c.in-Divide.division c.in-Divide.is
 
 pub stop-requires-clause-unsettled : goal.stop-requires-clause-unsettled
-stop-requires-clause-unsettled c = stop-unsettled c.args.self.now c.args.tables.now c.args.leaf c.args.planned.kept c.args.planned.planned c.requires.planned c.in-Stop.left c.in-Stop.is
+stop-requires-clause-unsettled c = stop-unsettled c.args.self.now c.args.prices.now c.args.leaf c.args.planned.kept c.args.planned.planned c.requires.planned c.in-Stop.left c.in-Stop.is
 
 pub stop-requires-clause-left : goal.stop-requires-clause-left
-stop-requires-clause-left c = rw c.in-Stop.is (stop-left c.args.self.now c.args.tables.now c.args.leaf c.args.planned.kept c.args.planned.planned c.requires.planned c.in-Stop.left c.in-Stop.is)
+stop-requires-clause-left c = rw c.in-Stop.is (stop-left c.args.self.now c.args.prices.now c.args.leaf c.args.planned.kept c.args.planned.planned c.requires.planned c.in-Stop.left c.in-Stop.is)
 
 pub keep-requires-in-Refine-clause-kept : goal.keep-requires-in-Refine-clause-kept
 keep-requires-in-Refine-clause-kept c =
-    round-kept c.args.self.now c.refine.new.self c.args.tables.now c.in-Refine.note c.in-Refine.refined
-    (refine-next c.args.self.now c.args.tables.now c.args.leaf c.args.planned.kept c.args.planned.planned c.requires.planned c.in-Refine.note c.in-Refine.refined c.in-Refine.is)
+    round-kept c.args.self.now c.refine.new.self c.args.prices.now c.in-Refine.note c.in-Refine.refined
+    (refine-next c.args.self.now c.args.prices.now c.args.leaf c.args.planned.kept c.args.planned.planned c.requires.planned c.in-Refine.note c.in-Refine.refined c.in-Refine.is)
     (rw c.in-Refine.is at c.in_ok-refine-in-Refine.ensures.refined) c.args.leaf c.args.planned.kept c.requires.planned.kept

@@ -34,9 +34,9 @@ returns-else-is_err-clause-search c =
     OnOk-two c.split_leaf-divided.result
     (divided
     ≡ with_leaf fork_of (divide_leaf (fork_in c.args.division) (open_leaf c.args.division.first.payload c.args.division.first.value) (open_leaf c.args.division.second.payload c.args.division.second.value)) c.args.leaf c.put.new.self)
-    (split_count divided ≡ split_count c.put.new.self + 1) (IsSearch (record s { tree = divided }) c.args.tables.now)
+    (split_count divided ≡ split_count c.put.new.self + 1) (IsSearch (record s { tree = divided }) c.args.prices.now)
     (λ parted more.
-    divide-applied s c.args.tables.now c.requires.search c.requires.going c.args.leaf c.args.kept c.args.division c.put.new.self divided c.requires.kept c.requires.unsettled c.requires.division c.requires.left
+    divide-applied s c.args.prices.now c.requires.search c.requires.going c.args.leaf c.args.kept c.args.division c.put.new.self divided c.requires.kept c.requires.unsettled c.requires.division c.requires.left
     c.put.ensures.changed c.put.ensures.splits parted more) c.split_leaf-divided.ensures.ok c.split_leaf-divided.ensures.splits
 
 pub returns-then-is_err-clause-err : goal.returns-then-is_err-clause-err
@@ -61,11 +61,11 @@ returns-else-is_err-clause-branched c =
     (λ parted more.
     let noted : Payload = record c.args.kept.payload { incumbent = s.cost } in
     let split =
-    branches-divided s.tree c.put.new.self c.args.leaf noted c.args.kept.value (λ (l : Leaf (Node Payload)). IsKept (history s c.args.tables.now) l.sides c.args.kept.payload c.args.kept.value) c.requires.kept
+    branches-divided s.tree c.put.new.self c.args.leaf noted c.args.kept.value (λ (l : Leaf (Node Payload)). IsKept (history s c.args.prices.now) l.sides c.args.kept.payload c.args.kept.value) c.requires.kept
     c.put.ensures.changed (fork_in d) d.first.payload d.second.payload d.first.value d.second.value divided parted in record {
       going = c.requires.going;
       leaves = leaves-divided s.tree c.put.new.self c.args.leaf (record c.args.kept.payload { incumbent = s.cost }) c.args.kept.value
-          (λ (l : Leaf (Node Payload)). IsKept (history s c.args.tables.now) l.sides c.args.kept.payload c.args.kept.value) c.requires.kept c.put.ensures.changed (fork_in d) d.first.payload d.second.payload
+          (λ (l : Leaf (Node Payload)). IsKept (history s c.args.prices.now) l.sides c.args.kept.payload c.args.kept.value) c.requires.kept c.put.ensures.changed (fork_in d) d.first.payload d.second.payload
           d.first.value d.second.value divided parted;
       splits = more ∙ ap (λ (n : ℕ). n + 1) c.put.ensures.splits;
       cost = refl;

@@ -8,7 +8,7 @@ use Rattle.fp_session.proofs.searches.Search.refine.Goals as goal
 
 pub returns-clause-search : goal.returns-clause-search
 returns-clause-search c =
-    IsSearch-refine c.args.self.now c.args.tables.now c.requires.search c.requires.going c.args.round.note c.args.round.refined c.push.new.self c.in_ok-push.ensures.items c.requires.round
+    IsSearch-refine c.args.self.now c.args.prices.now c.requires.search c.requires.going c.args.round.note c.args.round.refined c.push.new.self c.in_ok-push.ensures.items c.requires.round
 
 pub returns-in_err-push-clause-err : goal.returns-in_err-push-clause-err
 returns-in_err-push-clause-err c =

@@ -1,0 +1,53 @@
+-- The bounds of leaves with spans beside their tables, or without.
+use Rattle.std.proofs.Common.{◌≡◌, ℕ, ◌-◌, ◌<◌, Bool, List, [], length, sym, subst, rules}
+use Rattle.std.specs.Prelude.{All, Option, slice_index_or}
+use Rattle.std.proofs.lemmas.List.Elements.{All-get_or, All-weaker}
+use Rattle.fp_model.specs.Problem.{Problem}
+use Rattle.fp_flatnet.specs.declared.window_tables.Window.{Window}
+use Rattle.fp_tree.specs.declared.sides.Side.{Side}
+use Rattle.fp_prices.specs.declared.bounds.LeafBound.{LeafBound}
+use Rattle.fp_prices.specs.declared.bounds.LeafBound.TheVariants.{Empty, Value}
+use Rattle.fp_prices.specs.declared.leaf_prices.Kind.{Kind}
+use Rattle.fp_prices.specs.declared.leaf_prices.Kind.TheVariants.{Linear, Even, Table}
+use Rattle.fp_prices.specs.Leaves.{IsBoundOf}
+use Rattle.fp_prices.specs.Shares.{ClassShare}
+use Rattle.fp_spans.specs.SpanCharges.{ArePaidSpans}
+use Rattle.fp_spans.specs.SpanKinds.{spans_beside}
+use Rattle.fp_spans.specs.SpanLeaves.{IsSpanBoundOf}
+use Rattle.fp_spans.specs.SpanLists.{AreSpans, IsSpanOf}
+use Rattle.fp_spans.specs.Spans.{ClassSpan}
+use Rattle.fp_spans.proofs.SpanlessValues.{spanless-values}
+use Rattle.fp_lines.specs.Ranges.{IsInRange, IsSpanInRange}
+use Rattle.fp_lines.specs.Statements.{Statement}
+use Rattle.fp_acceptance.specs.Prices.{HasPrices}
+use Rattle.fp_lines.proofs.SpanRanges.{IsSpanInRange-of}
+use Rattle.fp_acceptance.proofs.KeptPrices.{All-both}
+use Rattle.fp_acceptance.proofs.UnitCosts.{at-all}
+
+-- without spans, the bound is that by the tables
+spanless-bound : (p : Problem) (windows : ℕ → ℕ → Option Window) (points : ℕ → List ℕ) (sides : List Side) (tables : List (List ClassShare)) (kind : Kind) (forced : Bool) (bound : LeafBound) →
+    IsBoundOf p windows points sides tables kind forced bound → IsSpanBoundOf p windows points sides tables [] kind forced bound
+spanless-bound p windows points sides tables kind forced (Empty shipment) is = is
+spanless-bound p windows points sides tables kind forced (Value value) is = (spanless-values p windows points sides tables kind forced value).1 is
+
+-- so it is where the list of spans is found to be empty
+pub unspanned-bound : (p : Problem) (windows : ℕ → ℕ → Option Window) (points : ℕ → List ℕ) (sides : List Side) (tables : List (List ClassShare)) (spans : List ClassSpan) (kind : Kind) (forced : Bool) (bound : LeafBound) → spans ≡ [] →
+    IsBoundOf p windows points sides tables kind forced bound → IsSpanBoundOf p windows points sides tables spans kind forced bound
+unspanned-bound p windows points sides tables spans kind forced bound none is =
+    subst (λ (s : List ClassSpan). IsSpanBoundOf p windows points sides tables s kind forced bound) (sym none) (spanless-bound p windows points sides tables kind forced bound is)
+
+-- paid spans in range can price leaves
+paid-spans : (p : Problem) (spans : List ClassSpan) → All (IsSpanInRange p) spans → ArePaidSpans p spans → AreSpans p spans
+paid-spans p spans range are = record { ordered = are.list.ordered; exist = All-weaker (IsSpanInRange p) (IsSpanOf p) (IsSpanInRange-of p) spans range; light = are.list.light }
+
+-- no spans can
+no-spans : (p : Problem) → AreSpans p []
+no-spans p = record { ordered = record { ascend = search rules; weights = search rules }; exist = search rules; light = search rules }
+
+-- so can those beside each table of a certificate whose prices hold
+pub beside-spans : (p : Problem) (c : Statement) → IsInRange p c → HasPrices p c → (kind : Kind) → AreSpans p (spans_beside c.spans kind)
+beside-spans p c range has Linear = no-spans p
+beside-spans p c range has Even = no-spans p
+beside-spans p c range has (Table id) =
+    at-all (AreSpans p) c.spans (id - 1) [] (no-spans p)
+    (All-both (All (IsSpanInRange p)) (ArePaidSpans p) (AreSpans p) [] (λ s r h. paid-spans p s r h) c.spans range.spans has.spans)
