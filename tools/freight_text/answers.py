@@ -58,7 +58,8 @@ def spent_words(words, spent):
     if used == most:
         return f"all {used:,} {spent} were used, as many as there may be: {effect}; a smaller instance is searched further"
     more = min(most, 2 * used or without)
-    return f"all {used:,} {spent} were used: {effect}; with --{spent} {more} (at most {most}) it takes longer, and the cost may fall or the bound rise"
+    spans = "" if "--spans" in words else "--spans or "
+    return f"all {used:,} {spent} were used: {effect}; with {spans}--{spent} {more} (at most {most}) it takes longer, and the cost may fall or the bound rise"
 
 
 def unfinished_words(words, cost, bound, spent):

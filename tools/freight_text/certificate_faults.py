@@ -18,18 +18,24 @@ LINES = {
     "answer,unfinished": (("COST", (0, GREATEST)), ("BOUND", (0, GREATEST)), ("SPENT", ("rounds", "branches"))),
     "answer,infeasible": (("SHIPMENT", "shipment"), ("TIME", (0, FASTEST, "none"))),
     "scale": (("N", (1, GREATEST_SCALE)),),
+    "unit": (("Q", (1, GREATEST)),),
     "leg": (("SHIPMENT", "shipment"), ("FROM", "arc"), ("TO", "arc"), ("DEPART", (0, LATEST_TIME)), ("ARRIVE", (0, LATEST_TIME))),
     "truck": (("FROM", "arc"), ("TO", "arc"), ("DEPART", (0, LATEST_TIME)), ("TRUCKS", (0, GREATEST)), ("LOAD", (0, GREATEST))),
     "point": (("TERMINAL", "terminal"), ("TIME", (0, LATEST_TIME)), ("ROUND", (1, LATEST_ROUND))),
     "table": (("ID", (0, GREATEST)),),
     "share": (("FROM", "arc"), ("TO", "arc"), ("POINT", (0, LATEST_TIME)), ("V", (0, GREATEST))),
+    "span": (
+        ("FROM", "arc"), ("TO", "arc"), ("POINT", (0, LATEST_TIME)), ("UNTIL", (0, LATEST_TIME + 1)), ("MONEY", (0, GREATEST)), ("CHARGE", (0, GREATEST)),
+    ),
     "weight": (("SHIPMENT", "shipment"), ("W", (0, GREATEST))),
     "split,arc": (("SHIPMENT", "shipment"), ("FROM", "arc"), ("TO", "arc")),
     "split,time": (("SHIPMENT", "shipment"), ("TERMINAL", "terminal"), ("AT", (0, LATEST_TIME))),
     "leaf": (("KIND", (1, GREATEST, "linear", "even")), ("ROUND", (0, LATEST_ROUND)), ("MODE", ("plain", "forced"))),
     "end": (),
 }  # fmt: skip
-GROUPS = {"answer": 0, "scale": 1, "leg": 2, "truck": 3, "point": 4, "table": 5, "share": 5, "weight": 5, "split": 6, "leaf": 6, "end": 7}
+GROUPS = {
+    "answer": 0, "scale": 1, "unit": 2, "leg": 3, "truck": 4, "point": 5, "table": 6, "share": 6, "span": 6, "weight": 6, "split": 7, "leaf": 7, "end": 8,
+}  # fmt: skip
 
 
 def form_of(record):
@@ -72,15 +78,17 @@ def order_fault(instance, before, record):
     later = [it for it in before if GROUPS[it.kind] > GROUPS[record.kind]]
     if later:
         return f"a {record.kind} can't stand after the {later[0].kind} of line {later[0].line}"
-    if record.kind == "scale":
-        return "there is a scale already" if "scale" in kinds else f"a {answer} answer has no scale"
+    if record.kind in ("scale", "unit"):
+        return f"there is a {record.kind} already" if record.kind in kinds else f"a {answer} answer has no {record.kind}"
     if answer in ("direct", "infeasible"):
         return f"a {answer} answer has no {record.kind}"
     if record.kind == "table":
         return f"tables are numbered 1, 2, 3: this has to be table {kinds.count('table') + 1}"
+    if record.kind in ("share", "span") and "table" not in kinds:
+        return f"a {record.kind} stands in a table, and there is none before it"
     if record.kind == "share":
-        return "a share stands in a table, and there is none before it"
-    return "a weight stands in a share of its table, and there is none before it"
+        return "the shares of a table stand before its spans"
+    return "a weight stands in a share or a span of its table, and there is none before it"
 
 
 def name_fault(instance, before, record):
@@ -89,6 +97,8 @@ def name_fault(instance, before, record):
 
 def range_fault(instance, before, record):
     fault = line_fields.range_fault(listed(record))
+    if fault is None and record.kind == "span":
+        return "UNTIL isn't after POINT"
     if fault is None and record.kind == "leaf":
         return f"there is no table {shown(record.fields[1])}"
     return fault or "the scale doesn't fit: the weight of the instance at it is above 2^127 - 1"

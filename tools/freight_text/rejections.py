@@ -7,7 +7,7 @@ PARTS = {
     2: "COST isn't the plan's",
     3: "the truck lines aren't the plan's departures",
     4: "the points aren't in order, too many in a round, initial, or twice",
-    5: "a table isn't in order, or a share breaks the price rule",
+    5: "a table isn't in order, a share or a span breaks its rule, or the unit doesn't divide what plans cost",
     6: "the splits and leaves aren't one tree",
     7: "some leaf is worth less than the claim",
     8: "the shipment isn't too late, or its fastest time is another",
@@ -136,19 +136,22 @@ def scale_of(certificate):
 
 
 class TableReader:
-    """Goes over the lines of tables and keeps the share in hand."""
+    """Goes over the lines of tables and keeps the share in hand, and the spans of the table."""
 
     def __init__(self, instance, scale):
         self.instance, self.scale = instance, scale
         self.arc_place = {ends: place for place, ends in enumerate(instance.arcs)}
         self.shipment_place = {name: place for place, name in enumerate(instance.shipments)}
-        self.share, self.last_share, self.last_weight = None, None, None
+        self.share, self.last_share, self.last_weight, self.spans = None, None, None, []
 
     def take(self, it):
         """Takes a line, and says what is wrong with it or with the share before it."""
-        fault = self.rule_fault() if it.kind in ("table", "share") else None
+        fault = self.rule_fault() if it.kind in ("table", "share", "span") else None
         if it.kind == "table":
-            self.share, self.last_share = None, None
+            self.share, self.last_share, self.spans = None, None, []
+        elif it.kind == "span":
+            fault = fault or self.span_fault(it)
+            self.share, self.last_weight = None, None
         elif it.kind == "share":
             key = (self.arc_place[it.fields[1], it.fields[2]], int(it.fields[3]))
             if self.last_share is not None and key <= self.last_share:
@@ -159,8 +162,20 @@ class TableReader:
             if self.last_weight is not None and place <= self.last_weight:
                 fault = fault or f"line {it.line}: weights ascend by the shipment's place in the input"
             self.last_weight = place
-            self.share[1] += int(it.fields[2])
+            if self.share is not None:
+                self.share[1] += int(it.fields[2])
         return fault
+
+    def span_fault(self, it):
+        """What is wrong with the place of a span and its money; it is kept."""
+        arc, (point, until, money) = self.arc_place[it.fields[1], it.fields[2]], map(int, it.fields[3:6])
+        before = self.spans[-1][:3] if self.spans else None
+        self.spans.append((arc, point, until, money))
+        if before is not None and (arc, point, until) <= before:
+            return f"line {it.line}: spans ascend by the arc's place in the input, then by POINT and then by UNTIL"
+        held = sum(it[3] for it in self.spans if it[0] == arc and it[2] > point)
+        most = self.scale * self.instance.arcs[it.fields[1], it.fields[2]].truck
+        return f"line {it.line}: at {point} the spans of the arc have {held:,}, and scale times TRUCK is {most:,}" if held > most else None
 
     def rule_fault(self):
         if self.share is None:
@@ -174,11 +189,23 @@ class TableReader:
 def table_fault(instance, certificate):
     reader = TableReader(instance, scale_of(certificate))
     for it in certificate:
-        if it.kind in ("table", "share", "weight"):
+        if it.kind in ("table", "share", "span", "weight"):
             fault = reader.take(it)
             if fault:
                 return fault
-    return reader.rule_fault()
+    return reader.rule_fault() or unit_fault(instance, certificate) or "the CHARGE of a span doesn't pay for all its weights together"
+
+
+def unit_fault(instance, certificate):
+    """The first cost that the unit doesn't divide."""
+    for unit in lines_of(certificate, "unit"):
+        number = int(unit.fields[1])
+        for (tail, head), arc in instance.arcs.items():
+            costs = [arc.truck] + [arc.freight * it.size for it in instance.shipments.values()]
+            for cost in costs:
+                if cost % number:
+                    return f"line {unit.line}: {number:,} doesn't divide {cost:,}, a cost from {tail} to {head}"
+    return None
 
 
 def tree_fault(instance, certificate):

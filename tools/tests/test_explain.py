@@ -55,6 +55,11 @@ LINES = (
     (2, ("leg,S1,B,A,0,5",), "6,25", 'no arc leads from "B" to "A"'),
     (2, ("leg,S1,A,B,100001,5",), "6,28", 'field DEPART is "100001"'),
     (4, ("leaf,7,0,plain",), "8,28", 'there is no table "7"'),
+    (2, ("unit,4", "unit,4", "leg,S1,A,B,0,5"), "7,24", "there is a unit already"),
+    (2, ("unit,0", "leg,S1,A,B,0,5"), "6,28", 'field Q is "0"'),
+    (4, ("span,A,B,0,5,1,0", "leaf,linear,0,forced"), "8,24", "a span stands in a table"),
+    (4, ("table,1", "span,A,B,0,5,1,0", "share,A,B,0,0", "leaf,1,0,plain"), "10,24", "the shares of a table stand before its spans"),
+    (4, ("table,1", "span,A,B,5,5,1,0", "leaf,1,0,plain"), "9,28", "UNTIL isn't after POINT"),
     (5, (), "9,26", 'the line "end" is missing'),
     (5, ("end", "end"), "10,27", "stands after the certificate's end"),
 )
@@ -73,6 +78,8 @@ PARTS = (
     (5, "truck,A,B,0,2,4", 3, "line 12: the next departure is truck,A,B,0,1,4"),
     (8, "point,C,8,1", 4, "line 15: 8 is an initial point of C"),
     (11, "weight,S1,100000001", 5, "line 17: the share pays 100,000,001"),
+    (10, "span,B,C,4,5,100000001,0", 5, "line 17: at 4 the spans of the arc have 100,000,001"),
+    (10, "span,B,C,4,5,99999999,0", 5, "the CHARGE of a span doesn't pay"),
     (12, "split,arc,S1,A,B", 6, "2 more leaves are wanted"),
     (12, "leaf,linear,0,forced", 7, "isn't looked for here"),
 )
@@ -150,9 +157,10 @@ class Explanations(unittest.TestCase):
     def test_unfinished(self):
         text = said("plan --rounds 50", 10, ONE_ARC.encode(), "answer,unfinished,300,200,rounds")
         self.holds(text, "no plan costs less than 200, and the one printed costs 300: at most 100 more than the cheapest, 33.3 %")
-        self.holds(text, "all 50 rounds were used: a round adds time points", "with --rounds 100 (at most 4000)")
-        self.holds(said("plan", 10, ONE_ARC.encode(), "answer,unfinished,300,200,rounds"), "all 400 rounds", "with --rounds 800")
-        self.holds(said("plan --branches=0", 10, ONE_ARC.encode(), "answer,unfinished,180,150,branches"), "with --branches 4000")
+        self.holds(text, "all 50 rounds were used: a round adds time points", "with --spans or --rounds 100 (at most 4000)")
+        self.holds(said("plan", 10, ONE_ARC.encode(), "answer,unfinished,300,200,rounds"), "all 400 rounds", "or --rounds 800")
+        self.holds(said("plan --branches=0", 10, ONE_ARC.encode(), "answer,unfinished,180,150,branches"), "or --branches 4000")
+        self.holds(said("plan --spans --branches 0", 10, ONE_ARC.encode(), "answer,unfinished,180,150,branches"), "with --branches 4000")
         text = said("plan --branches 100000", 10, ONE_ARC.encode(), "answer,unfinished,180,150,branches")
         self.holds(text, "all 100,000 branches were used, as many as there may be", "the bound can rise")
 
