@@ -3,10 +3,12 @@
 without `--spans`, with it, and with it and no branches.
 
     bench/plan.py [PROGRAM [OTHER ..]]
+    ONLY=WORD bench/plan.py ..      the rows alone whose names have the word
 
 PROGRAM is the built program; without it the proved one in crates/freight/out is taken, or the one in dist/. OTHER, with words of its
-own, is another program that takes the same words and input; its figures stand beside. Each answer of PROGRAM is handed back to its
-`check`. The ending is `optimal`, or what was used up.
+own, is another program that takes the same words and input, but for `--spans`: whether it seeks spans is for its own words to say, so
+its figures stand beside the rows with spans alone. Each answer of PROGRAM is handed back to its `check`. The ending is `optimal`, or
+what was used up.
 """
 import os
 import sys
@@ -15,34 +17,41 @@ sys.path.insert(0, os.path.dirname(os.path.abspath(__file__)))
 from instances import cases, generated
 from kit import HEADS, TOP, built_program, measured, planned, row_of
 
+SPANS = "--spans"
 SHORT = ["--rounds", "40", "--branches", "100"]
-ROOT = ["--rounds", "40", "--branches", "0", "--spans"]
+ROOT = ["--rounds", "40", "--branches", "0", SPANS]
 
 
 def all_cases():
     """What each case is called, its records, and the options that it is planned with."""
     for name, text in cases():
         yield name, text, SHORT
-        yield f"{name}, spans", text, SHORT + ["--spans"]
+        yield f"{name}, spans", text, SHORT + [SPANS]
         yield f"{name}, root", text, ROOT
     for seed in (1, 2, 3):
         yield f"6x15 seed {seed}, defaults", generated(seed, 6, 15), []
     with open(os.path.join(TOP, "examples", "france-day.csv")) as file:
         day = file.read()
     yield "france-day.csv", day, SHORT
-    yield "france-day.csv, spans", day, SHORT + ["--spans"]
+    yield "france-day.csv, spans", day, SHORT + [SPANS]
 
 
 def main():
     program = built_program()
     others = [sys.argv[2:]] if len(sys.argv) > 2 else []
     print(" | ".join([f"{'instance':34} {HEADS}"] + [HEADS] * len(others)))
+    only = os.environ.get("ONLY", "")
     for name, text, options in all_cases():
+        if only not in name:
+            continue
         figures, printed = planned([program, "plan"] + options, text)
         checked, _, _ = measured([program, "check"], text + printed)
         if not checked.startswith("accepted,"):
             sys.exit(f"{name}: check says {checked!r}")
-        rows = [row_of(*figures)] + [row_of(*planned(other + ["plan"] + options, text)[0]) for other in others]
+        rows = [row_of(*figures)]
+        if SPANS in options:
+            words = ["plan"] + [word for word in options if word != SPANS]
+            rows += [row_of(*planned(other + words, text)[0]) for other in others]
         print(" | ".join([f"{name:34} {rows[0]}"] + rows[1:]), flush=True)
 
 

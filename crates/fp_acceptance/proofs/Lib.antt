@@ -3,4 +3,5 @@ pub mod AddedPoints
 pub mod Multiples
 pub mod UnitCosts
 pub mod KeptPrices
+pub mod GreatestUnits
 pub mod Claims

@@ -11,6 +11,17 @@ pub record IsUnit (p : Problem) (unit : ℕ) : Type 0 where
   pub trucks : All (λ (a : Arc). a.truck % unit ≡ 0) p.arcs
   pub freights : All (λ (a : Arc). All (λ (s : Shipment). a.freight * s.size % unit ≡ 0) p.shipments) p.arcs
 
+-- nothing costs anything: neither a truck of an arc nor the freight of a shipment over an arc
+pub record CostsNothing (p : Problem) : Type 0 where
+  pub trucks : All (λ (a : Arc). a.truck ≡ 0) p.arcs
+  pub freights : All (λ (a : Arc). All (λ (s : Shipment). a.freight * s.size ≡ 0) p.shipments) p.arcs
+
+-- the greatest unit of a problem: a unit that each unit divides; or 1 where nothing costs anything, so that each number is a unit
+pub record IsGreatestUnit (p : Problem) (unit : ℕ) : Type 0 where
+  pub is : IsUnit p unit
+  pub greatest : ¬ CostsNothing p → (other : ℕ) → IsUnit p other → unit % other ≡ 0
+  pub free : CostsNothing p → unit ≡ 1
+
 -- an amount of money, rounded up to a multiple of the unit where there is one
 abbrev pub rounded_up : Option ℕ → ℕ → ℕ
 rounded_up None amount = amount

@@ -1,14 +1,12 @@
-//! Units: whether they divide what plans cost, the one of an instance, and amounts rounded up by them.
-ghost use Rattle.std.specs.Prelude.{◌≡◌, ◌*◌, ◌%◌, ◌<◌, ◌≤◌, ◌↔◌, All, IfSome, IsTrue, MatchOption};
+//! Units, which divide what plans cost: the test, the greatest, and amounts rounded up by them.
+ghost use Rattle.std.specs.Prelude.{ℕ, ◌≡◌, ◌*◌, ◌%◌, ◌<◌, ◌≤◌, ◌↔◌, All, IfSome, IsTrue, MatchOption};
 ghost use Rattle.std.specs.Int.{IsGcd};
 ghost use Rattle.fp_model.specs.declared.parts.Shipment.{Shipment as ShipmentParts};
+ghost use Rattle.fp_model.specs.Problem.{IsValid};
 ghost use Rattle.fp_lines.specs.Ranges.{IsUnitInRange};
-ghost use Rattle.fp_acceptance.specs.Units.{IsUnit, rounded_up};
+ghost use Rattle.fp_acceptance.specs.Units.{IsGreatestUnit, IsUnit, rounded_up};
 
 use fp_model::{Arc, Instance, Shipment};
-
-// The largest unit that a certificate may name.
-const LARGEST_UNIT: u128 = u128::MAX / 2;
 
 // Whether a unit divides what the freight of each shipment costs, where a unit of size costs so much.
 fn divides_freight(unit: u128, freight: u64, shipments: &[Shipment]) -> bool
@@ -45,8 +43,12 @@ fn divisor_of(mut first: u128, mut second: u128) -> u128
     first
 }
 
-// The same of a number and of what the freight of each shipment costs over an arc.
-fn freight_divisor(number: u128, arc: &Arc, shipments: &[Shipment]) -> u128 {
+// The greatest common divisor of a number and of what the freight of each shipment costs over an
+// arc: a unit divides it exactly where it divides these.
+fn freight_divisor(number: u128, arc: &Arc, shipments: &[Shipment]) -> u128
+    ensures { (unit : ℕ) → (result % unit ≡ 0) ↔ ((number % unit ≡ 0)
+        × All (λ (s : ShipmentParts). arc.now.freight * s.size % unit ≡ 0) shipments.now) }
+{
     let mut divisor = number;
     for shipment in shipments {
         divisor = divisor_of(divisor, u128::from(arc.freight) * u128::from(shipment.size));
@@ -54,22 +56,32 @@ fn freight_divisor(number: u128, arc: &Arc, shipments: &[Shipment]) -> u128 {
     divisor
 }
 
-/// A unit of an instance: the greatest number that divides what a truck of each arc costs, and what
-/// the freight of each shipment costs over each arc, and 1 where nothing costs anything. Contracts
-/// see that it divides these, not that it's the greatest. Takes no memory.
-pub fn unit_of(instance: &Instance) -> u128
-    ensures unit { IsUnit instance.now result }
-    ensures range { IsUnitInRange result }
+// The greatest common divisor of what a truck of each arc costs, and of what the freight of each
+// shipment costs over each arc, 0 where nothing costs anything: its divisors are the units.
+fn costs_divisor(instance: &Instance) -> u128
+    ensures units { (unit : ℕ) → (result % unit ≡ 0) ↔ IsUnit instance.now unit }
+    ensures valid { IsValid instance.now }
 {
     let shipments = instance.shipments();
     let mut divisor = 0;
     for arc in instance.arcs() {
         divisor = freight_divisor(divisor_of(divisor, u128::from(arc.truck)), arc, shipments);
     }
-    if divisor != 0 && divisor <= LARGEST_UNIT && is_unit(instance, divisor) {
-        divisor
-    } else {
-        1
+    divisor
+}
+
+/// The greatest unit of an instance: the greatest number that divides what a truck of each arc
+/// costs, and what the freight of each shipment costs over each arc, and 1 where nothing costs
+/// anything. Each unit divides it where something costs something. It is at least 1, and no larger
+/// than a certificate may name. Takes no memory.
+pub fn unit_of(instance: &Instance) -> u128
+    ensures greatest { IsGreatestUnit instance.now result }
+    ensures unit { IsUnit instance.now result }
+    ensures range { IsUnitInRange result }
+{
+    match costs_divisor(instance) {
+        0 => 1,
+        divisor => divisor,
     }
 }
 

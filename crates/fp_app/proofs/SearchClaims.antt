@@ -1,6 +1,6 @@
 -- What a search says of all plans, from what it has earned.
 use Rattle.std.proofs.Common.{◌≡◌, ◌∙◌, ℕ, ◌≤◌, ◌^◌, Bool, true, false, List, [], ◌∷◌, length, refl, sym, ap, subst, inl, inr, arith}
-use Rattle.std.specs.Prelude.{◌⊎◌, ◌≢◌, IfSome, MatchBool, None, Option}
+use Rattle.std.specs.Prelude.{◌⊎◌, IfSome, IsSomeAnd, MatchBool, None, Option}
 use Rattle.std.specs.Int.{div_ceil}
 use Rattle.std.specs.List.{AllByRecursion}
 use Rattle.std.proofs.lemmas.Option.{IfSome_then}
@@ -31,6 +31,7 @@ use Rattle.fp_lines.specs.Statements.{Statement}
 use Rattle.fp_acceptance.specs.Accepted.{Applies, Part}
 use Rattle.fp_acceptance.specs.Claims.{ClaimsWithin, NoPlanWithinCheaper}
 use Rattle.fp_acceptance.specs.Plans.{HasPlan, routes_of, stated_cost}
+use Rattle.fp_acceptance.specs.Units.{IsGreatestUnit}
 use Rattle.fp_acceptance.proofs.Claims.{AcceptedClaims_hold}
 use Rattle.fp_acceptance.proofs.Multiples.{rounded_up-more}
 use Rattle.fp_certificate.specs.Readable.{Allows, WrittenReadsBack}
@@ -146,7 +147,7 @@ is-wanted p (keeping kept) table c windows has = let some : 1 ≤ 1 = omega arit
 
 -- what a search shows that began with the first plan
 solved-searched : (p : Problem) (wanted : Wanted) (table : WindowTable) (budget : Budget) (spans : Bool) (first : List (List Leg)) (s : Solution) → AreWindowsFor p wanted table → IsFirstPlan p wanted first → WrittenReadsBack p →
-    IsSolved p table budget (cost p first) s → IsPricedAs spans s.certificate → IsSearched p wanted budget spans s
+    IsSolved p table budget (cost p first) s → IsPricedAs p spans s.certificate → IsSearched p wanted budget spans s
 solved-searched p wanted table budget spans first s windows begins back solved priced =
     let belongs : BelongsTo p table = windows-belong p wanted table windows in
     let claims : ClaimsWithin p (windows_in table) s.certificate.answer = AcceptedClaims_hold.within p table s.certificate belongs.valid solved.range solved.accepted in
@@ -168,15 +169,15 @@ solved-searched p wanted table budget spans first s windows begins back solved p
       says = says;
     }
 
--- a session that has made no step, which has a unit with the option of spans, and none without it
+-- a session that has made no step, which has the greatest unit with the option of spans, and none without it
 pub record IsChosen (p : Problem) (table : WindowTable) (first : List (List Leg)) (budget : Budget) (spans : Bool) (m : SessionModel) : Type 0 where
   pub of : IsSessionOf p table first budget m
-  pub unit : MatchBool spans (m.prices.unit ≢ None) (m.prices.unit ≡ None)
+  pub unit : MatchBool spans (IsSomeAnd m.prices.unit (IsGreatestUnit p)) (m.prices.unit ≡ None)
 
 -- so what it shows is priced as the option says
-priced-as : (spans : Bool) (own : Option ℕ) (c : Statement) → MatchBool spans (own ≢ None) (own ≡ None) → IsPricedBy own c → IsPricedAs spans c
-priced-as true own c some priced = λ none. some (sym priced.unit ∙ none)
-priced-as false own c none priced = subst (λ (o : Option ℕ). IsPricedBy o c) none priced
+priced-as : (p : Problem) (spans : Bool) (own : Option ℕ) (c : Statement) → MatchBool spans (IsSomeAnd own (IsGreatestUnit p)) (own ≡ None) → IsPricedBy own c → IsPricedAs p spans c
+priced-as p true own c some priced = subst (λ (o : Option ℕ). IsSomeAnd o (IsGreatestUnit p)) (sym priced.unit) some
+priced-as p false own c none priced = subst (λ (o : Option ℕ). IsPricedBy o c) none priced
 
 -- what a session of the instance shows
 pub session-searched : (p q : Problem) (wanted : Wanted) (table : WindowTable) (budget : Budget) (spans : Bool) (first : List (List Leg)) (m : SessionModel) (s : Solution) → AreWindowsFor p wanted table → IsFirstPlan p wanted first →
@@ -188,7 +189,8 @@ session-searched p q wanted table budget spans first m s windows begins back sam
     let three : IsSolved p table budget m.started s = subst (λ (x : Budget). IsSolved p table x m.started s) of.budget two in
     let begun : m.started ≡ cost p first = of.started ∙ ap (λ (x : Problem). cost x first) same in
     solved-searched p wanted table budget spans first s windows begins back (subst (λ (n : ℕ). IsSolved p table budget n s) begun three)
-    (priced-as spans m.prices.unit s.certificate chosen.unit priced)
+    (priced-as p spans m.prices.unit s.certificate
+    (subst (λ (x : Problem). MatchBool spans (IsSomeAnd m.prices.unit (IsGreatestUnit x)) (m.prices.unit ≡ None)) same chosen.unit) priced)
 
 -- a wanted plan exists where a search shows one
 pub searched-exists : (p : Problem) (wanted : Wanted) (budget : Budget) (spans : Bool) (s : Solution) → IsSearched p wanted budget spans s → WantedExists p wanted

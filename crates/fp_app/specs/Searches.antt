@@ -1,7 +1,7 @@
 -- What a search shows of an instance of which there is a plan that it looks for.
 -- The problem and its network: Boland, Hewitt, Marshall and Savelsbergh, "The Continuous-Time
 -- Service Network Design Problem", Operations Research 65, 2017.
-use Rattle.std.specs.Prelude.{ℕ, ◌+◌, ◌*◌, ◌^◌, ◌<◌, ◌≤◌, ◌≡◌, ◌≢◌, Bool, true, false, List, [], All, length, None}
+use Rattle.std.specs.Prelude.{ℕ, ◌+◌, ◌*◌, ◌^◌, ◌<◌, ◌≤◌, ◌≡◌, Bool, true, false, List, [], All, IsSomeAnd, length, None}
 use Rattle.fp_model.specs.declared.parts.Leg.{Leg}
 use Rattle.fp_model.specs.Costs.{cost}
 use Rattle.fp_model.specs.Problem.{Problem, horizon}
@@ -16,6 +16,7 @@ use Rattle.fp_lines.specs.declared.certificates.Spent.TheVariants.{Branches, Rou
 use Rattle.fp_lines.specs.Statements.{Statement}
 use Rattle.fp_acceptance.specs.Accepted.{IsAccepted}
 use Rattle.fp_acceptance.specs.Plans.{HasTimetable, routes_of}
+use Rattle.fp_acceptance.specs.Units.{IsGreatestUnit}
 use Rattle.fp_certificate.specs.Readable.{ReadsBack}
 use Rattle.fp_history.specs.declared.budgets.Budget.{Budget}
 use Rattle.fp_history.specs.Solutions.{IsEarnedSolution, Solution}
@@ -54,11 +55,11 @@ pub record AreInTime (p : Problem) (points : List AddedPoint) : Type 0 where
   pub each : All (λ (q : AddedPoint). (q.terminal < length p.terminals) × (1 ≤ q.at) × (q.at ≤ horizon p.shipments)) points
   pub few : length points ≤ length p.terminals * horizon p.shipments
 
--- how the certificate of a search is priced: with the option of spans it names a unit, and without it, it
--- names no unit and has no spans
-abbrev pub IsPricedAs : (spans : Bool) → Statement → Type 0
-IsPricedAs true c = c.unit ≢ None
-IsPricedAs false c = IsPricedBy None c
+-- how the certificate of a search is priced: with the option of spans it names the greatest unit, and
+-- without it, it names no unit and has no spans
+abbrev pub IsPricedAs : Problem → (spans : Bool) → Statement → Type 0
+IsPricedAs p true c = IsSomeAnd c.unit (IsGreatestUnit p)
+IsPricedAs p false c = IsPricedBy None c
 
 -- What a search shows of an instance. Its legs are a wanted plan in whole units, its cost is that
 -- plan's, and its trucks are that plan's departures. Its certificate is accepted under the windows of
@@ -73,7 +74,7 @@ pub record IsSearched (p : Problem) (wanted : Wanted) (budget : Budget) (spans :
   pub accepted : IsAccepted p table s.certificate
   pub back : ReadsBack p s.certificate
   pub scale : s.certificate.scale ≡ named_scale p.scale
-  pub priced : IsPricedAs spans s.certificate
+  pub priced : IsPricedAs p spans s.certificate
   pub first : List (List Leg)
   pub begins : IsFirstPlan p wanted first
   pub earned : IsEarnedSolution p table budget (cost p first) s

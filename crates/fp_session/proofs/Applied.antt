@@ -6,7 +6,7 @@ use Rattle.std.proofs.lemmas.Option.{none-some, same_Some}
 use Rattle.fp_tree.specs.Nodes.{Node, close_leaf, closed_of, divide_leaf, fork_of, leaf_at, open_leaf, put_leaf, split_count}
 use Rattle.fp_tree.specs.Trees.{Leaf, tree_leaves, with_leaf}
 use Rattle.fp_tree.proofs.LeafChange.{leaves_of-with_leaf, with_element}
-use Rattle.fp_session.specs.Prices.{PriceLists}
+use Rattle.fp_pricing.specs.Prices.{PriceLists}
 use Rattle.fp_history.specs.declared.endings.Left.{Left}
 use Rattle.fp_history.specs.declared.endings.Left.TheVariants.{Nothing, Several, Timing}
 use Rattle.fp_history.specs.PrintedLeaves.{IsOpenBelow}

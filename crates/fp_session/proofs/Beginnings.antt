@@ -21,7 +21,7 @@ use Rattle.fp_allowed.specs.Settings.{Setting}
 use Rattle.fp_prices.specs.declared.leaf_prices.LeafPrice.{LeafPrice}
 use Rattle.fp_duals.specs.declared.improvements.Improved.{Improved}
 use Rattle.fp_duals.specs.declared.improvements.Improved.TheVariants as improved
-use Rattle.fp_session.specs.Prices.{ArePrices, PriceLists, no_prices}
+use Rattle.fp_pricing.specs.Prices.{ArePrices, PriceLists, no_prices}
 use Rattle.fp_history.specs.Notes.{History, Refinement, last_round, points_of}
 use Rattle.fp_history.specs.Points.{BeginWith}
 use Rattle.fp_history.specs.Traces.{IsEarnedTrace}

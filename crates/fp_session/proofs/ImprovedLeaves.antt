@@ -31,7 +31,7 @@ use Rattle.fp_session.specs.declared.kept.Kept.{Kept}
 use Rattle.fp_session.specs.declared.payloads.Payload.{Payload}
 use Rattle.fp_session.specs.Nodes.{IsEarnedAs, IsKept}
 use Rattle.fp_session.specs.Outcomes.{IsAtLeastStarts, IsFound}
-use Rattle.fp_session.specs.Pricing.{IsPriceFound}
+use Rattle.fp_pricing.specs.Pricing.{IsPriceFound}
 
 -- what is kept of a leaf stays true with more prices
 pub IsKept-with_tables : (h : History) (more : List (List ClassShare)) (spans : List (List ClassSpan)) (sides : List Side) (payload : Payload) (value : ℕ) → length h.spans ≡ length h.tables → IsKept h sides payload value → IsKept (with_tables h more spans) sides payload value
@@ -44,6 +44,30 @@ IsKept-with_tables h more spans sides payload value beside kept = record {
         MatchBool b (IsEmptyAt (with_tables h more spans) sides payload.price) (IsEarnedAs (with_tables h more spans) sides payload.price value)
     by_mark true is = record { empty = is.empty; linear = is.linear; plain = is.plain }
     by_mark false is = record { earned = IsEarnedAt-with_tables h more spans sides payload.price beside kept.price.kind is.earned; is = is.is }
+
+-- a leaf whose price was improved as of a round that there was is earned by the price
+pub kept-as-of : (h : History) (net : TimedNetwork) (sides : List Side) (valid : IsValid h.problem) (round : ℕ) → round ≤ last_round h → AgreeOnPoints h.problem (points_in net) (points_of h round) →
+    (price : LeafPrice) (value : ℕ) (walks : List (List Leg)) →
+    IsPriceFound h.problem (windows_in h.windows) (points_in net) sides (record { tables = h.tables; spans = h.spans; unit = h.unit }) round (record { price = price; value = value }) walks → (incumbent : ℕ) →
+    IsKept h sides (record { price = price; empty = false; incumbent = incumbent; improved = None }) value
+kept-as-of h net sides valid round had same price value walks is incumbent = record {
+  price = record { round = omega (arith, had, is.worth.of_round); kind = is.worth.kind };
+  worth = record {
+    earned = record {
+      value = value;
+      is = at (λ points. IsPricedValue h.problem (windows_in h.windows) points sides h.tables h.spans price.kind price.forced value)
+          (span_value-same h.problem valid (windows_in h.windows) (points_in net) (points_of h round) same sides h.tables (spans_beside h.spans price.kind) price.kind price.forced value is.worth.is);
+      linear = at (λ points. (f : Bool) (other : ℕ) → IsLeafValue h.problem (windows_in h.windows) points sides [] Linear f other → other ≤ value)
+          (EachValue_same h.problem valid (windows_in h.windows) (points_in net) (points_of h round) same sides [] Linear value is.linear);
+      even = at (λ points. (f : Bool) (other : ℕ) → IsLeafValue h.problem (windows_in h.windows) points sides [] Even f other → other ≤ value)
+          (EachValue_same h.problem valid (windows_in h.windows) (points_in net) (points_of h round) same sides [] Even value is.even);
+    };
+    is = refl;
+  };
+}
+  where
+    at : (P : (ℕ → List ℕ) → Type 0) → P (points_of h round) → P (points_of h price.round)
+    at P = subst (λ (r : ℕ). P (points_of h r)) (sym is.worth.of_round)
 
 module _ (h : History) (net : TimedNetwork) (sides : List Side) (valid : IsValid h.problem) (same : AgreeOnPoints h.problem (points_in net) (points_of h (last_round h))) where
   -- the price of a leaf that is empty as of the last round
@@ -72,22 +96,7 @@ module _ (h : History) (net : TimedNetwork) (sides : List Side) (valid : IsValid
 
     -- the leaf is earned by the price
     pub kept-priced : (incumbent : ℕ) → IsKept h sides (record { price = price; empty = false; incumbent = incumbent; improved = None }) value
-    kept-priced incumbent = record {
-      price = record { round = omega (arith, is.worth.of_round); kind = is.worth.kind };
-      worth = record {
-        earned = record {
-          value = value;
-          is = at (λ points. IsPricedValue h.problem (windows_in h.windows) points sides h.tables h.spans price.kind price.forced value)
-              (span_value-same h.problem valid (windows_in h.windows) (points_in net) (points_of h (last_round h)) same sides h.tables (spans_beside h.spans price.kind) price.kind price.forced value is.worth.is);
-          linear = at (λ points. (f : Bool) (other : ℕ) → IsLeafValue h.problem (windows_in h.windows) points sides [] Linear f other → other ≤ value) starts-priced.linear;
-          even = at (λ points. (f : Bool) (other : ℕ) → IsLeafValue h.problem (windows_in h.windows) points sides [] Even f other → other ≤ value) starts-priced.even;
-        };
-        is = refl;
-      };
-    }
-      where
-        at : (P : (ℕ → List ℕ) → Type 0) → P (points_of h (last_round h)) → P (points_of h price.round)
-        at P = subst (λ (round : ℕ). P (points_of h round)) (sym is.worth.of_round)
+    kept-priced incumbent = kept-as-of h net sides valid (last_round h) (omega arith) same price value walks is incumbent
 
     -- and this is found of it, whichever price is kept that has no less value
     pub found-priced : (kept : Kept) → IsKept h sides kept.payload kept.value → kept.payload.empty ≡ false → value ≤ kept.value → IsFound h sides kept walks

@@ -17,8 +17,8 @@ use Rattle.fp_session.specs.declared.outcomes.Outcome.TheVariants as outcome
 use Rattle.fp_session.specs.declared.searches.Search.{Search}
 use Rattle.fp_session.specs.Nodes.{IsKept}
 use Rattle.fp_session.specs.Outcomes.{IsFound, IsGreater, IsOutcome, empty_kept, noted_kept, noted_outcome, priced_kept}
-use Rattle.fp_session.specs.Prices.{ArePrices, HaveGrown, PriceLists}
-use Rattle.fp_session.specs.Pricing.{IsImprovedBy, IsPriceFound}
+use Rattle.fp_pricing.specs.Prices.{ArePrices, HaveGrown, PriceLists}
+use Rattle.fp_pricing.specs.Pricing.{IsImprovedBy, IsPriceFound}
 use Rattle.fp_session.specs.Searches.{IsSearch, history}
 use Rattle.fp_session.proofs.ImprovedLeaves.{IsKept-with_tables, found-priced, kept-empty, kept-priced}
 use Rattle.fp_session.proofs.NextRounds.{agree-now}

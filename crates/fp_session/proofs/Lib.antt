@@ -1,7 +1,5 @@
 pub mod RefinedPoints
-pub mod GrownPrices
-pub mod Worths
-pub mod ImprovedPrices
+pub mod GrownWorths
 pub mod ImprovedLeaves
 pub mod TreeChanges
 pub mod SearchChanges
@@ -20,6 +18,7 @@ pub mod EarnedSplits
 pub mod ReachedWalks
 pub mod NextRounds
 pub mod Improvements
+pub mod EarlierPrices
 pub mod Applied
 pub mod Divisions
 pub mod RepairedPlans
@@ -28,6 +27,7 @@ pub mod SameHands
 pub mod StepsLeft
 pub mod LaterSearches
 pub mod OpenMoves
+pub mod CheaperWalks
 pub mod OpenCounts
 pub mod StepsTaken
 pub mod PointLimits

@@ -21,7 +21,7 @@ use Rattle.fp_allowed.proofs.SamePoints.{AgreeOnPoints_sym}
 use Rattle.fp_relaxmodel.specs.Relaxed.{IsRelaxedPlan}
 use Rattle.fp_relaxmodel.proofs.PlansCoarsen.{HasRoutes-relaxed}
 use Rattle.fp_relaxmodel.proofs.RelaxedWalks.{IsRelaxedPlan_same}
-use Rattle.fp_session.specs.Prices.{PriceLists}
+use Rattle.fp_pricing.specs.Prices.{PriceLists}
 use Rattle.fp_shortarcs.specs.declared.shorts.Short.{Short}
 use Rattle.fp_shortarcs.specs.TooShort.{AreTooShort, CanBePoint, IsShort}
 use Rattle.fp_shortarcs.proofs.SamePoints.{AreTooShort_same, CanBePoint_same}

@@ -41,10 +41,11 @@ use Rattle.fp_session.specs.Dividing.{IsSeveral, NoneSeveral}
 use Rattle.fp_session.specs.Moves.{AtOpenLeaf, IsMove, IsMoveAt, IsOpenMove, IsUnsettled, points_now}
 use Rattle.fp_session.specs.Nodes.{IsKept, IsKeptAs, IsLeafOf, IsSettled}
 use Rattle.fp_session.specs.Outcomes.{IsFound}
-use Rattle.fp_session.specs.Prices.{ArePrices, HaveGrown, PriceLists}
+use Rattle.fp_pricing.specs.Prices.{ArePrices, HaveGrown, PriceLists}
 use Rattle.fp_session.specs.Searches.{IsSearch, history}
 use Rattle.fp_session.proofs.Applied.{of-value, some-value}
-use Rattle.fp_session.proofs.GrownPrices.{unit-some, worth-grown}
+use Rattle.fp_session.proofs.GrownWorths.{worth-grown}
+use Rattle.fp_pricing.proofs.GrownPrices.{unit-some}
 use Rattle.fp_session.proofs.Improvements.{IsKept-grown, setting_of}
 use Rattle.fp_session.proofs.NextRounds.{agree-now}
 use Rattle.fp_session.proofs.ReachedWalks.{NoneSeveral-cheaper, NoneSeveral-routes}

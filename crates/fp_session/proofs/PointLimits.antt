@@ -1,23 +1,31 @@
--- The network of a search has few points.
-use Rattle.std.proofs.Common.{◌≤◌, arith}
+-- The networks of a search have few points.
+use Rattle.std.proofs.Common.{ℕ, ◌+◌, ◌≤◌, length, arith}
 use Rattle.fp_timenodes.specs.declared.places.TheConstants.{MOST_POINTS}
 use Rattle.fp_longestarcs.specs.Networks.{point_count}
 use Rattle.fp_longestarcs.proofs.PointCounts.{count-made}
 use Rattle.fp_acceptance.specs.Points.{ArePointsOf}
-use Rattle.fp_session.specs.Prices.{PriceLists}
+use Rattle.fp_pricing.specs.Prices.{PriceLists}
 use Rattle.fp_history.specs.Notes.{added_of, last_round}
 use Rattle.fp_history.proofs.HistoryPoints.{ArePointsOf-history}
 use Rattle.fp_session.specs.declared.searches.Search.{Search}
 use Rattle.fp_session.specs.Searches.{IsSearch, history}
 
-pub few-points : (s : Search) (prices : PriceLists) → IsSearch s prices → point_count s.network ≤ MOST_POINTS
-few-points s prices is =
-    let are : ArePointsOf s.instance s.windows.anchors (added_of s.trace.items) s.points =
-    ArePointsOf-history (history s prices) s.started s.cost is.belongs is.trace (omega (arith, is.rounds, is.budget.rounds)) s.points is.points is.added in
-    omega (
-      arith,
-      count-made s.points (last_round (history s prices)) s.network is.network.whole.valid (λ t h. is.network.points t (omega (arith, h, is.network.whole.arcs.terminals))),
-      is.network.whole.arcs.terminals,
-      are.terminals,
-      are.few,
-    )
+module _ (s : Search) (prices : PriceLists) (is : IsSearch s prices) where
+  -- its points are those of its instance, with those that its rounds added
+  pub points-of : ArePointsOf s.instance s.windows.anchors (added_of s.trace.items) s.points
+  points-of = ArePointsOf-history (history s prices) s.started s.cost is.belongs is.trace (omega (arith, is.rounds, is.budget.rounds)) s.points is.points is.added
+
+  -- the network as of the last round
+  pub few-points : point_count s.network ≤ MOST_POINTS
+  few-points =
+      omega (
+        arith,
+        count-made s.points (last_round (history s prices)) s.network is.network.whole.valid (λ t h. is.network.points t (omega (arith, h, is.network.whole.arcs.terminals))),
+        is.network.whole.arcs.terminals,
+        points-of.terminals,
+        points-of.few,
+      )
+
+  -- and one that has at most all points
+  pub few-of : (n : ℕ) → n ≤ s.points.terminals + length s.points.first + length s.points.added → n ≤ MOST_POINTS
+  few-of n least = omega (arith, least, points-of.few)

@@ -9,7 +9,7 @@ use Rattle.fp_spans.specs.SpanCharges.{ArePaidSpans}
 use Rattle.fp_lines.specs.Ranges.{IsSpanInRange, IsUnitInRange}
 use Rattle.fp_spanduals.specs.SoundSpans.{AreSoundSpans}
 use Rattle.fp_acceptance.specs.Units.{IsUnit}
-use Rattle.fp_session.specs.Prices.{ArePrices, IsUnitOf, PriceLists}
+use Rattle.fp_pricing.specs.Prices.{ArePrices, IsUnitOf, PriceLists}
 
 -- what holds of a unit
 of-unit : (p : Problem) (P : ℕ → Type 0) → ((u : ℕ) → IsUnitOf p u → P u) → (o : Option ℕ) → IfSome o (IsUnitOf p) → IfSome o P

@@ -18,7 +18,7 @@ use Rattle.fp_history.specs.Solutions.{AreWalksUnder, HasSeveral}
 use Rattle.fp_history.specs.Traces.{IsEarnedTrace}
 use Rattle.fp_session.specs.declared.searches.Search.{Search}
 use Rattle.fp_session.specs.Nodes.{IsLeafOf, IsSplitOf}
-use Rattle.fp_session.specs.Prices.{ArePrices, HaveGrown, PriceLists, first_prices}
+use Rattle.fp_pricing.specs.Prices.{ArePrices, HaveGrown, PriceLists, first_prices}
 use Rattle.fp_session.specs.Searches.{InHand, IsLeft, IsLeftOpen, IsSearch, history, in_hand}
 use Rattle.fp_session.proofs.SearchChanges.{IsSearch-with_more}
 

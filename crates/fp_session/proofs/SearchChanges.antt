@@ -33,7 +33,7 @@ use Rattle.fp_session.specs.declared.payloads.Payload.{Payload}
 use Rattle.fp_session.specs.declared.searches.Search.{Search}
 use Rattle.fp_session.specs.Moves.{IsCheaper, IsDivision, IsNextRound, fork_in}
 use Rattle.fp_session.specs.Nodes.{IsEarnedAs, IsKept, IsLeafOf, IsPriceOf, IsSettled, IsSplitOf, split_note}
-use Rattle.fp_session.specs.Prices.{ArePrices, PriceLists, with_more}
+use Rattle.fp_pricing.specs.Prices.{ArePrices, PriceLists, with_more}
 use Rattle.fp_session.specs.Searches.{IsLeft, IsSearch, history}
 use Rattle.fp_session.proofs.ImprovedLeaves.{IsKept-with_tables}
 use Rattle.fp_session.proofs.TreeChanges.{branches-close, branches-divide, branches-put, leaves-close, leaves-divide, leaves-put, tails-close, tails-divide, tails-put}

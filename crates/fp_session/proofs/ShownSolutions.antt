@@ -42,7 +42,7 @@ use Rattle.fp_session.specs.declared.payloads.Payload.{Payload}
 use Rattle.fp_session.specs.declared.searches.Search.{Search}
 use Rattle.fp_session.specs.Certificates.{IsAnswer, IsCertificate, IsShown, named_scale}
 use Rattle.fp_session.specs.Nodes.{IsLeafOf, IsSplitOf, split_note}
-use Rattle.fp_session.specs.Prices.{PriceLists}
+use Rattle.fp_pricing.specs.Prices.{PriceLists}
 use Rattle.fp_session.specs.Searches.{IsLeft, IsSearch, history}
 use Rattle.fp_session.specs.TreeLines.{lines_of, notes_of}
 use Rattle.fp_session.proofs.LeafWorths.{bound-le, bound-lt, leaf-of, least-worth, leaves-shown, left-shown, settled-worth, worth-kept}

@@ -17,7 +17,7 @@ use Rattle.fp_history.specs.declared.endings.Left.{Left}
 use Rattle.fp_history.specs.declared.endings.Left.TheVariants.{Nothing, Several, Timing}
 use Rattle.fp_history.specs.Solutions.{IsEarnedSolution, Solution}
 use Rattle.fp_session.specs.declared.searches.Search.{Search}
-use Rattle.fp_session.specs.Prices.{PriceLists}
+use Rattle.fp_pricing.specs.Prices.{PriceLists}
 use Rattle.fp_session.specs.Searches.{history}
 use Rattle.fp_session.specs.TreeLines.{IsLeastBelow, lines_of, notes_of}
 

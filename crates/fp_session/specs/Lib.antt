@@ -1,10 +1,9 @@
-pub mod Prices
-pub mod Pricing
 pub mod Nodes
 pub mod Searches
 pub mod Refining
 pub mod Outcomes
 pub mod Moves
+pub mod Walks
 pub mod Timing
 pub mod Dividing
 pub mod StepCauses

@@ -9,7 +9,7 @@ use Rattle.fp_tree.specs.Trees.{Leaf}
 use Rattle.fp_allowed.specs.Allowed.{tails_of}
 use Rattle.fp_allowed.specs.Slack.{DividesSome}
 use Rattle.fp_lines.specs.Ranges.{IsSplitInRange}
-use Rattle.fp_session.specs.Prices.{PriceLists, no_prices}
+use Rattle.fp_pricing.specs.Prices.{PriceLists, no_prices}
 use Rattle.fp_history.specs.declared.endings.Left.{Left}
 use Rattle.fp_history.specs.declared.endings.Left.TheVariants.{Nothing, Several, Timing}
 use Rattle.fp_history.specs.Clashes.{ClashesBelow}

@@ -27,7 +27,7 @@ use Rattle.fp_history.specs.Traces.{IsEarnedTrace}
 use Rattle.fp_session.specs.declared.payloads.Payload.{Payload}
 use Rattle.fp_session.specs.declared.searches.Search.{Search}
 use Rattle.fp_session.specs.Nodes.{IsLeafOf, IsSplitOf}
-use Rattle.fp_session.specs.Prices.{ArePrices, PriceLists}
+use Rattle.fp_pricing.specs.Prices.{ArePrices, PriceLists}
 
 -- a plan in whole units within the windows, with what it costs
 pub record IsIncumbent (p : Problem) (table : WindowTable) (legs : List (List Leg)) (n : ℕ) : Type 0 where

@@ -4,7 +4,7 @@ use Rattle.fp_model.specs.declared.parts.Leg.{Leg}
 use Rattle.fp_model.specs.Costs.{cost}
 use Rattle.fp_model.specs.Problem.{Problem}
 use Rattle.fp_flatnet.specs.Tables.{WindowTable}
-use Rattle.fp_session.specs.Prices.{PriceLists}
+use Rattle.fp_pricing.specs.Prices.{PriceLists}
 use Rattle.fp_tree.specs.Nodes.{split_count}
 use Rattle.fp_history.specs.declared.budgets.Budget.{Budget}
 use Rattle.fp_history.specs.Notes.{History}

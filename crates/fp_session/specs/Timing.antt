@@ -7,7 +7,7 @@ use Rattle.fp_session.specs.declared.searches.Search.{Search}
 use Rattle.fp_session.specs.declared.timing.Timing.{Timing}
 use Rattle.fp_session.specs.declared.timing.Timing.TheVariants.{Better, Refine, Spent}
 use Rattle.fp_session.specs.Moves.{IsCheaper, IsNextRound, points_now}
-use Rattle.fp_session.specs.Prices.{no_prices}
+use Rattle.fp_pricing.specs.Prices.{no_prices}
 use Rattle.fp_session.specs.Searches.{history}
 
 -- a cheaper plan; or one more round; or the relaxed plan calls for one, and none is left

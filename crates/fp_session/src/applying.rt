@@ -13,12 +13,12 @@ use crate::kept::Kept;
 use crate::moves::{Cheaper, Division, Move};
 use crate::payloads::Payload;
 use crate::planning::Planned;
-use crate::prices::Prices;
 use crate::searches::Search;
 use crate::steps::Step;
 use crate::timing::NextRound;
 use fp_history::{Ending, Left};
 use fp_lines::Spent;
+use fp_pricing::Prices;
 use std::alloc::Global;
 
 // How a search ended that left this.

@@ -4,12 +4,12 @@ ghost use Rattle.fp_model.specs.Plans.{IsPlan};
 ghost use Rattle.fp_session.specs.Certificates.{IsCertificate, named_scale};
 
 use crate::NoMemory;
-use crate::prices::Prices;
 use crate::searches::Search;
 use crate::tree_lines::tree_lines;
 use fp_lines::{Answer, Certificate};
 use fp_model::Instance;
 use fp_model::limits::SCALE;
+use fp_pricing::Prices;
 use fp_timetable::{legs, trucks};
 use std::alloc::Global;
 

@@ -1,26 +1,25 @@
 //! What is kept of the two leaves below a leaf that is split.
-ghost use Rattle.std.specs.Prelude.{[], ◌∷◌, ◌++◌, ◌≡◌, None, IfOk, false};
+ghost use Rattle.std.specs.Prelude.{[], ◌∷◌, ◌++◌, ◌≡◌, ◌≤◌, None, IfOk, false, length};
 ghost use Rattle.fp_prices.specs.Tables.{HasKind};
 ghost use Rattle.fp_session.specs.Nodes.{IsKept};
-ghost use Rattle.fp_session.specs.Prices.{HaveGrown};
+ghost use Rattle.fp_pricing.specs.Prices.{HaveGrown};
 ghost use Rattle.fp_session.specs.Searches.{IsSearch, history};
 
 use crate::NoMemory;
-use crate::efforts::PriceEffort;
-use crate::improving::{emptied, improved, priced};
+use crate::improving::{emptied, greater, improved, priced};
 use crate::kept::Kept;
 use crate::outcomes::Outcome;
-use crate::prices::Prices;
-use crate::pricing::improve;
 use crate::searches::Search;
 use fp_duals::Improved;
+use fp_longestarcs::Network;
 use fp_prices::{Leaf, LeafPrice, RoundNetwork};
+use fp_pricing::{PriceEffort, Prices, improve};
 use fp_tree::Side;
 use std::alloc::Global;
 
 // What is kept of the leaf on one side of a split, improved with little effort from a price of the
 // leaf above.
-#[tactic(auto, using(crate::proofs::GrownPrices::HaveGrown_none))]
+#[tactic(auto, using(fp_pricing::proofs::GrownPrices::HaveGrown_none))]
 pub(crate) fn new_child(
     alloc: Global,
     search: &Search,
@@ -49,7 +48,7 @@ pub(crate) fn new_child(
 }
 
 // What is kept of such a leaf of which this was kept, improved with more effort.
-#[tactic(auto, using(crate::proofs::GrownPrices::HaveGrown_none))]
+#[tactic(auto, using(fp_pricing::proofs::GrownPrices::HaveGrown_none))]
 fn better_child(
     alloc: Global,
     search: &Search,
@@ -77,8 +76,40 @@ fn better_child(
     }
 }
 
+// What is kept of such a leaf of which this was kept, where a price of the leaf above is worth more to
+// it as of the round that the price is of: points that were added since can make a table worth less.
+#[tactic(auto, using(fp_pricing::proofs::GrownPrices::HaveGrown_none))]
+fn as_above(
+    alloc: Global,
+    search: &Search,
+    sides: &[Side],
+    side: Side,
+    above: LeafPrice,
+    old: Kept,
+    prices: &mut Prices,
+) -> Result<Kept, NoMemory>
+    requires search { IsSearch search.now prices.old }
+    requires kind { HasKind prices.old.tables above.kind }
+    requires round { above.round ≤ length search.now.trace.items }
+    requires kept { IsKept (history search.now prices.old) (sides.now ++ (side ∷ [])) old.payload old.value }
+    ensures grown { HaveGrown search.now.instance prices.old prices.new }
+    ensures kept { IfOk result (λ kept.
+        IsKept (history search.now prices.new) (sides.now ++ (side ∷ [])) kept.payload kept.value) }
+{
+    let network = Network::of(alloc, &search.instance, &search.points, above.round)?;
+    let round = RoundNetwork::over(alloc, &search.instance, network)?;
+    let mut below = sides.to_vec(alloc)?;
+    below.push(side)?;
+    let leaf = Leaf::of(alloc, &round, &search.windows, &below)?;
+    match improve(alloc, &leaf, above.round, above, &PriceEffort::NONE, prices)? {
+        Improved::Empty { .. } => Ok(old),
+        Improved::Priced { price, value, .. } => Ok(greater(old, price, value)),
+    }
+}
+
 // What is kept of the leaf on one side of a split, below a leaf of which this is kept: improved with
-// little effort, and with more where it is worth less than the leaf above.
+// little effort, with more where it is worth less than the leaf above, and at last, where spans are
+// sought, by the price of that leaf as of its round.
 pub(crate) fn child(
     alloc: Global,
     search: &Search,
@@ -93,6 +124,7 @@ pub(crate) fn child(
     requires search { IsSearch search.now prices.old }
     requires going { search.now.left ≡ None }
     requires kind { HasKind prices.old.tables above.payload.price.kind }
+    requires round { above.payload.price.round ≤ length search.now.trace.items }
     ensures grown { HaveGrown search.now.instance prices.old prices.new }
     ensures kept { IfOk result (λ kept.
         IsKept (history search.now prices.new) (sides.now ++ (side ∷ [])) kept.payload kept.value) }
@@ -102,5 +134,10 @@ pub(crate) fn child(
     if kept.payload.empty || kept.value >= above.value {
         return Ok(kept);
     }
-    better_child(alloc, search, round, sides, side, kept, prices)
+    let kept = better_child(alloc, search, round, sides, side, kept, prices)?;
+    let earlier = (price.round as usize) < search.trace.len();
+    if kept.payload.empty || kept.value >= above.value || !earlier || prices.unit().is_none() {
+        return Ok(kept);
+    }
+    as_above(alloc, search, sides, side, price, kept, prices)
 }

@@ -3,18 +3,18 @@ ghost use Rattle.std.specs.Prelude.{◌≡◌, ◌<◌, ◌≤◌, All, IfOk, le
 ghost use Rattle.fp_prices.specs.Tables.{HasKind};
 ghost use Rattle.fp_branching.specs.Candidates.{IsCandidate};
 ghost use Rattle.fp_session.specs.Dividing.{IsSeveral};
-ghost use Rattle.fp_session.specs.Prices.{HaveGrown};
+ghost use Rattle.fp_pricing.specs.Prices.{HaveGrown};
 ghost use Rattle.fp_session.specs.Searches.{IsSearch};
 
 use crate::NoMemory;
 use crate::children::new_child;
 use crate::dividing::Several;
 use crate::kept::Kept;
-use crate::prices::Prices;
 use crate::searches::Search;
 use fp_branching::{Candidate, candidates};
 use fp_model::Leg;
 use fp_prices::{ClassWalk, Leaf, LeafPrice, RoundNetwork};
+use fp_pricing::Prices;
 use fp_relaxmodel::TimedWalk;
 use fp_tree::Side;
 use std::alloc::Global;

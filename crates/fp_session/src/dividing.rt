@@ -1,21 +1,21 @@
 //! A leaf is divided where a shipment has several ways to go.
-ghost use Rattle.std.specs.Prelude.{None, ◌≡◌, IfOk, MatchOption, length};
+ghost use Rattle.std.specs.Prelude.{None, ◌≡◌, ◌≤◌, IfOk, MatchOption, length};
 ghost use Rattle.fp_branching.specs.Candidates.{IsCandidate};
 ghost use Rattle.fp_prices.specs.Tables.{HasKind};
 ghost use Rattle.fp_session.specs.Dividing.{IsSeveral, NoneSeveral, several_terminal};
 ghost use Rattle.fp_session.specs.Moves.{IsDivision};
-ghost use Rattle.fp_session.specs.Prices.{HaveGrown};
+ghost use Rattle.fp_pricing.specs.Prices.{HaveGrown};
 ghost use Rattle.fp_session.specs.Searches.{IsSearch, history};
 
 use crate::NoMemory;
 use crate::children::child;
 use crate::kept::Kept;
 use crate::moves::Division;
-use crate::prices::Prices;
 use crate::searches::Search;
 use fp_allowed::ChainEnd;
 use fp_branching::Candidate;
 use fp_prices::{Leaf, RoundNetwork};
+use fp_pricing::Prices;
 use fp_tree::Side;
 use std::alloc::Global;
 
@@ -77,6 +77,7 @@ pub(crate) fn division(
     requires sides { leaf.now.sides ≡ sides.now }
     requires candidate { IsCandidate leaf.now candidate }
     requires kind { HasKind prices.old.tables above.payload.price.kind }
+    requires round { above.payload.price.round ≤ length search.now.trace.items }
     ensures grown { HaveGrown search.now.instance prices.old prices.new }
     ensures division { IfOk result (IsDivision (history search.now prices.new) sides.now) }
 {

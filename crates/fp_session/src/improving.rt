@@ -2,20 +2,18 @@
 ghost use Rattle.std.specs.Prelude.{◌≡◌, ◌≤◌, IfOk, false};
 ghost use Rattle.fp_prices.specs.Tables.{HasKind};
 ghost use Rattle.fp_session.specs.Nodes.{IsKept};
-ghost use Rattle.fp_session.specs.Prices.{HaveGrown};
+ghost use Rattle.fp_pricing.specs.Prices.{HaveGrown};
 ghost use Rattle.fp_session.specs.Outcomes.{IsGreater, IsOutcome, empty_kept, noted_outcome, priced_kept};
 ghost use Rattle.fp_session.specs.Searches.{IsSearch, history};
 
 use crate::NoMemory;
-use crate::efforts::PriceEffort;
 use crate::kept::Kept;
 use crate::outcomes::Outcome;
 use crate::payloads::Payload;
-use crate::prices::Prices;
-use crate::pricing::improve;
 use crate::searches::Search;
-use fp_duals::{Effort, Improved};
+use fp_duals::Improved;
 use fp_prices::{Kind, Leaf, LeafPrice};
+use fp_pricing::{PriceEffort, Prices, improve};
 use fp_tree::Side;
 use std::alloc::Global;
 
@@ -55,7 +53,7 @@ pub(crate) fn priced(price: LeafPrice, value: u128) -> Kept
 
 // What is kept of a leaf of which this was kept, where another price gives this value: the other
 // price only where its value is greater.
-fn greater(old: Kept, price: LeafPrice, value: u128) -> Kept
+pub(crate) fn greater(old: Kept, price: LeafPrice, value: u128) -> Kept
     ensures { IsGreater old price value result }
 {
     if value > old.value {
@@ -102,22 +100,12 @@ pub(crate) fn improved(
 // The effort at a leaf that a step has chosen: more at the root. One that was improved before over
 // the same points keeps its price, and its walks alone are found again.
 fn effort_at(sides: &[Side], again: bool) -> PriceEffort {
-    let effort = if sides.is_empty() {
+    if again {
+        PriceEffort::NONE
+    } else if sides.is_empty() {
         PriceEffort::ROOT
     } else {
         PriceEffort::CHOSEN
-    };
-    if again {
-        PriceEffort {
-            tables: Effort {
-                turns: 0,
-                settle_passes: 0,
-                ..effort.tables
-            },
-            spans: None,
-        }
-    } else {
-        effort
     }
 }
 

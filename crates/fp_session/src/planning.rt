@@ -1,5 +1,5 @@
 //! What a step is going to do at an open leaf.
-ghost use Rattle.std.specs.Prelude.{◌≡◌, ◌<◌, ◌≤◌, None, All, IfOk, IsTrue, ◌↔◌, IsSomeAnd, false};
+ghost use Rattle.std.specs.Prelude.{◌≡◌, ◌<◌, ◌≤◌, None, IfOk, IsTrue, ◌↔◌, IsSomeAnd, false, length};
 ghost use Rattle.fp_lists.specs.Distinct.{AreDistinct};
 ghost use Rattle.fp_model.specs.Costs.{cost as cost_of};
 ghost use Rattle.fp_model.specs.Routes.{ArcsExist};
@@ -14,7 +14,7 @@ ghost use Rattle.fp_session.specs.Dividing.{IsSeveral};
 ghost use Rattle.fp_session.specs.Moves.{AtOpenLeaf, IsMove, IsOpenMove, points_now};
 ghost use Rattle.fp_session.specs.Nodes.{IsKeptAs};
 ghost use Rattle.fp_session.specs.Outcomes.{IsFound};
-ghost use Rattle.fp_session.specs.Prices.{ArePrices, HaveGrown};
+ghost use Rattle.fp_pricing.specs.Prices.{ArePrices, HaveGrown};
 ghost use Rattle.fp_session.specs.Searches.{IsSearch, history};
 
 use crate::NoMemory;
@@ -24,14 +24,15 @@ use crate::improving::improved_by_step;
 use crate::kept::Kept;
 use crate::moves::Move;
 use crate::outcomes::Outcome;
-use crate::prices::Prices;
+use crate::redrawing::unless_cheaper;
 use crate::searches::Search;
 use crate::timing::{Timing, timed};
+use crate::walks::{are_cheaper, cheaper_walks};
 use fp_acceptance::reaches;
 use fp_history::Left;
-use fp_model::Instance;
 use fp_prices::{Leaf, RoundNetwork};
-use fp_relaxmodel::{RelaxedPlan, TimedWalk, is_route, relaxed_cost};
+use fp_pricing::Prices;
+use fp_relaxmodel::{RelaxedPlan, TimedWalk};
 use fp_tree::Side;
 use std::alloc::Global;
 
@@ -40,35 +41,6 @@ use std::alloc::Global;
 pub(crate) struct Planned {
     pub kept: Kept,
     pub planned: Move,
-}
-
-// Whether no walk meets a terminal twice.
-fn are_routes(instance: &Instance, walks: &[TimedWalk]) -> bool
-    requires { All (ArcsExist instance.now) walks.now }
-    ensures { IsTrue result ↔ All (λ walk. AreDistinct (terminals_on instance.now walk)) walks.now }
-{
-    for walk in walks {
-        if !is_route(instance, walk) {
-            return false;
-        }
-    }
-    true
-}
-
-// Whether walks of the shipments are routes and cost less than the incumbent.
-fn are_cheaper(search: &Search, relaxed: &RelaxedPlan) -> bool
-    requires exist { All (ArcsExist search.now.instance) relaxed.now }
-    requires routes { All (λ walk. AreDistinct (terminals_on search.now.instance walk)) relaxed.now
-        → HasRoutes search.now.instance relaxed.now }
-    ensures { IsTrue result
-        ↔ (All (λ walk. AreDistinct (terminals_on search.now.instance walk)) relaxed.now
-        × (cost_of search.now.instance relaxed.now < search.now.cost)) }
-{
-    if are_routes(&search.instance, &relaxed.walks) {
-        relaxed_cost(&search.instance, relaxed) < search.cost
-    } else {
-        false
-    }
 }
 
 // Whether a leaf with this value is worth at least what the incumbent costs.
@@ -115,7 +87,7 @@ fn timed_move(
 
 // What a step is going to do at a leaf in which a shipment has several ways to go: it divides the
 // leaf, where a branch is left.
-#[tactic(auto, using(crate::proofs::GrownPrices::HaveGrown_none))]
+#[tactic(auto, using(fp_pricing::proofs::GrownPrices::HaveGrown_none))]
 fn several_move(
     alloc: Global,
     search: &Search,
@@ -136,6 +108,7 @@ fn several_move(
     requires sides { leaf.now.sides ≡ sides.now }
     requires several { IsSeveral leaf.now several }
     requires kind { HasKind prices.old.tables kept.payload.price.kind }
+    requires round { kept.payload.price.round ≤ length search.now.trace.items }
     ensures grown { HaveGrown search.now.instance prices.old prices.new }
     ensures planned { IfOk result (IsOpenMove search.now prices.new number sides.now) }
 {
@@ -156,7 +129,7 @@ fn several_move(
 }
 
 // What a step is going to do at an open leaf that is worth less than the incumbent costs.
-#[tactic(auto, using(crate::proofs::GrownPrices::HaveGrown_none))]
+#[tactic(auto, using(fp_pricing::proofs::GrownPrices::HaveGrown_none))]
 fn move_at(
     alloc: Global,
     search: &Search,
@@ -182,6 +155,15 @@ fn move_at(
     let relaxed = RelaxedPlan { walks };
     if are_cheaper(search, &relaxed) {
         return timed_move(alloc, search, prices, sides, number, relaxed);
+    }
+    let least = &relaxed.walks;
+    let priced = kept.payload.price.round;
+    if let Some(cheaper) = cheaper_walks(alloc, search, leaf, sides, least, priced, prices)? {
+        match timed_move(alloc, search, prices, sides, number, cheaper)? {
+            // No round is left, but there may be a branch.
+            Move::Stop { .. } => {}
+            planned => return Ok(planned),
+        }
     }
     let shipments = search.instance.shipments().len() as u32;
     match first_several(alloc, leaf, shipments)? {
@@ -209,7 +191,7 @@ fn kept_at(search: &Search, number: u32) -> Kept
 
 // What a step is going to do at an open leaf of which this was kept and which isn't known to be
 // empty, and what it keeps of it.
-#[tactic(auto, using(crate::proofs::GrownPrices::HaveGrown_none))]
+#[tactic(auto, using(fp_pricing::proofs::GrownPrices::HaveGrown_none))]
 fn open_move(
     alloc: Global,
     search: &Search,
@@ -245,6 +227,7 @@ fn open_move(
             let planned = move_at(
                 alloc, search, &round, &leaf, &sides, number, kept, walks, prices,
             )?;
+            let planned = unless_cheaper(alloc, search, prices, &sides, number, planned)?;
             Ok(Planned { kept, planned })
         }
     }
@@ -252,7 +235,7 @@ fn open_move(
 
 // What a step is going to do at an open leaf, and what it keeps of it. Also without memory the
 // prices have only grown.
-#[tactic(auto, using(crate::proofs::GrownPrices::HaveGrown_none))]
+#[tactic(auto, using(fp_pricing::proofs::GrownPrices::HaveGrown_none))]
 pub(crate) fn next_move(
     alloc: Global,
     search: &Search,

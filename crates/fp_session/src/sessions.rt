@@ -1,5 +1,5 @@
 //! A search, step by step.
-ghost use Rattle.std.specs.Prelude.{◌≡◌, ◌≢◌, None, Ok, IfOk, IfSome, OnErr};
+ghost use Rattle.std.specs.Prelude.{◌≡◌, None, Ok, IfOk, IfSome, IsSomeAnd, OnErr};
 ghost use Rattle.fp_model.specs.Plans.{IsPlan};
 ghost use Rattle.fp_flatnet.specs.Belonging.{BelongsTo};
 ghost use Rattle.fp_flatnet.specs.Tables.{windows_in};
@@ -7,7 +7,8 @@ ghost use Rattle.fp_flatnet.specs.Windows.{PlanLiesWithin};
 ghost use Rattle.fp_session.specs.declared.steps.Step.TheVariants.{Done};
 ghost use Rattle.fp_history.specs.Budgets.{IsBudget};
 ghost use Rattle.fp_session.specs.Certificates.{IsPricedBy};
-ghost use Rattle.fp_session.specs.Prices.{ArePrices};
+ghost use Rattle.fp_acceptance.specs.Units.{IsGreatestUnit};
+ghost use Rattle.fp_pricing.specs.Prices.{ArePrices};
 ghost use Rattle.fp_session.specs.Sessions.{IsSound, hand_of};
 ghost use Rattle.fp_session.specs.Solved.{GoesOnFrom, IsSolved};
 ghost use Rattle.fp_session.specs.Starts.{IsSessionOf};
@@ -16,7 +17,6 @@ ghost use Rattle.fp_session.specs.Steps.{IsStep, StayFixed};
 
 use crate::NoMemory;
 use crate::advances::{advance, finish};
-use crate::prices::Prices;
 use crate::searches::Search;
 use crate::solutions::{Solved, solution};
 use crate::starts::started;
@@ -25,6 +25,7 @@ use fp_acceptance::unit_of;
 use fp_flatnet::Windows;
 use fp_history::Budget;
 use fp_model::{Instance, Plan};
+use fp_pricing::Prices;
 use std::alloc::Global;
 use std::marker::Model;
 
@@ -98,7 +99,7 @@ impl Session {
     }
 
     /// The same of a search that seeks spans, by which leaves are worth more, and rounds up what
-    /// they are worth to multiples of a unit that divides what each plan costs.
+    /// they are worth to multiples of the greatest unit that divides what each plan costs.
     pub fn with_spans(
         alloc: Global,
         instance: Instance,
@@ -111,7 +112,7 @@ impl Session {
         requires within { PlanLiesWithin (windows_in windows) 1 start }
         requires budget { IsBudget budget }
         ensures of { IfOk result (IsSessionOf instance windows start budget) }
-        ensures unit { IfOk result (λ s. s.prices.unit ≢ None) }
+        ensures unit { IfOk result (λ s. IsSomeAnd s.prices.unit (IsGreatestUnit instance)) }
     {
         let prices = Prices::new(alloc, Some(unit_of(&instance)));
         Session::of(alloc, instance, windows, start, budget, prices)

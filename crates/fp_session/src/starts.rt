@@ -12,16 +12,13 @@ ghost use Rattle.fp_allowed.specs.SamePoints.{AgreeOnPoints};
 ghost use Rattle.fp_history.specs.Notes.{points_of};
 ghost use Rattle.fp_session.specs.Nodes.{IsKept};
 ghost use Rattle.fp_history.specs.Budgets.{IsBudget};
-ghost use Rattle.fp_session.specs.Prices.{ArePrices, HaveGrown, no_prices};
+ghost use Rattle.fp_pricing.specs.Prices.{ArePrices, HaveGrown, no_prices};
 ghost use Rattle.fp_session.specs.Searches.{IsSearch, in_hand};
 ghost use Rattle.fp_session.specs.Starts.{HasBegun, start_of};
 
 use crate::NoMemory;
-use crate::efforts::PriceEffort;
 use crate::improving::{emptied, priced};
 use crate::kept::Kept;
-use crate::prices::Prices;
-use crate::pricing::improve;
 use crate::searches::Search;
 use fp_duals::Improved;
 use fp_flatnet::{Windows, initial};
@@ -29,12 +26,13 @@ use fp_history::Budget;
 use fp_longestarcs::Network;
 use fp_model::{Instance, Plan};
 use fp_prices::{Kind, Leaf, LeafPrice, RoundNetwork};
+use fp_pricing::{PriceEffort, Prices, improve};
 use fp_timetable::cost;
 use fp_tree::Tree;
 use std::alloc::Global;
 
 // What is kept of the root before any round, priced with little effort.
-#[tactic(auto, using(crate::proofs::GrownPrices::HaveGrown_none))]
+#[tactic(auto, using(fp_pricing::proofs::GrownPrices::HaveGrown_none))]
 fn root(
     alloc: Global,
     instance: &Instance,

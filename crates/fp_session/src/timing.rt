@@ -11,10 +11,10 @@ ghost use Rattle.fp_history.specs.Notes.{last_round};
 
 use crate::NoMemory;
 use crate::moves::{Cheaper, Refined};
-use crate::prices::Prices;
 use crate::refining::{places_of, refined};
 use crate::searches::Search;
 use fp_history::RoundNote;
+use fp_pricing::Prices;
 use fp_relaxmodel::RelaxedPlan;
 use fp_repair::repair;
 use fp_shortarcs::too_short;

@@ -1,5 +1,5 @@
 -- What is kept of the leaf on one side of a split.
-use Rattle.std.proofs.Common.{◌≡◌, List, [], ◌∷◌, ◌++◌, sym, ap, ap₂, ◌∙◌, subst, arith}
+use Rattle.std.proofs.Common.{◌≡◌, List, [], ◌∷◌, ◌++◌, sym, ap₂, ◌∙◌, subst, arith}
 use Rattle.fp_model.specs.Problem.{Problem}
 use Rattle.fp_longestarcs.specs.Networks.{TimedNetwork}
 use Rattle.fp_tree.specs.declared.sides.Side.{Side}
@@ -9,16 +9,13 @@ use Rattle.fp_session.specs.declared.searches.Search.{Search}
 use Rattle.fp_session.specs.Nodes.{IsKept}
 use Rattle.fp_session.specs.Outcomes.{empty_kept, priced_kept}
 use Rattle.fp_session.specs.Searches.{history}
+use Rattle.fp_session.proofs.Divisions.{sides-are}
 use Rattle.fp_session.proofs.Improvements.{empty-here, priced-here, setting_of}
 use Rattle.fp_session.proofs.children.new_child.Goals as goal
 
 -- the setting of a leaf over a network of the search's
 setting-is : (s : Search) (p : Problem) (net : TimedNetwork) (x : Setting) → x ≡ record { problem = p; windows = s.windows; network = net } → p ≡ s.instance → net ≡ s.network → x ≡ setting_of s
 setting-is s p net x is problem network = is ∙ ap₂ (λ (q : Problem) (n : TimedNetwork). let y : Setting = record { problem = q; windows = s.windows; network = n } in y) problem network
-
--- the sides of the leaf
-sides-are : (sides below pushed now leaf : List Side) (side : Side) → below ≡ sides → pushed ≡ below ++ (side ∷ []) → now ≡ pushed → leaf ≡ now → leaf ≡ sides ++ (side ∷ [])
-sides-are sides below pushed now leaf side copied more read of = of ∙ read ∙ more ∙ ap (λ (l : List Side). l ++ (side ∷ [])) copied
 
 pub returns-in-Empty-clause-kept : goal.returns-in-Empty-clause-kept
 returns-in-Empty-clause-kept c =

@@ -1,14 +1,16 @@
 -- Walks that are a relaxed plan and cost less are timed; where they aren't, a shipment has several
 -- ways to go.
 use Rattle.std.proofs.Common.{◌∙◌, List, ap, arith, length, subst, sym}
-use Rattle.std.specs.Prelude.{MatchOption, Option}
+use Rattle.std.specs.Prelude.{IfSome, MatchOption, Option}
 use Rattle.std.proofs.lemmas.Bool.{false≢true}
+use Rattle.fp_model.specs.declared.parts.Leg.{Leg}
 use Rattle.fp_model.specs.declared.parts.Shipment.{Shipment}
 use Rattle.fp_flatnet.specs.Tables.{windows_in}
 use Rattle.fp_relaxmodel.proofs.PlansCoarsen.{HasRoutes-relaxed}
 use Rattle.fp_session.specs.declared.dividing.Several.{Several}
 use Rattle.fp_session.specs.Dividing.{IsSeveral, NoneSeveral}
 use Rattle.fp_session.specs.Moves.{points_now}
+use Rattle.fp_session.specs.Walks.{AreCheaperWalks}
 use Rattle.fp_session.proofs.OpenMoves.{NoneSeveral-found, under-exist, under-relaxed}
 use Rattle.fp_session.proofs.planning.move_at.Goals as goal
 
@@ -26,6 +28,12 @@ timed_move-requires-clause-relaxed c =
 
 pub timed_move-requires-clause-cheaper : goal.timed_move-requires-clause-cheaper
 timed_move-requires-clause-cheaper c = (c.are_cheaper.ensures.0 c.if-are_cheaper.true).1
+
+pub timed_move-requires-in-Some-clause-relaxed : goal.timed_move-requires-in-Some-clause-relaxed
+timed_move-requires-in-Some-clause-relaxed c =
+    let found : AreCheaperWalks c.args.search.now c.args.sides.now c.in-Some.cheaper =
+    subst (λ (o : Option (List (List Leg))). IfSome o (AreCheaperWalks c.args.search.now c.args.sides.now)) c.in-Some.is c.in_ok-cheaper.ensures in
+    under-relaxed c.args.search.now c.args.sides.now c.in-Some.cheaper found.under c.args.prices.now c.requires.search found.apart
 
 pub unreachable-requires : goal.unreachable-requires
 unreachable-requires c =

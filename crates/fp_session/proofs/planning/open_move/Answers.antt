@@ -47,6 +47,11 @@ returns-then-is_dear-clause-planned c =
 pub move_at-requires-clause-search : goal.move_at-requires-clause-search
 move_at-requires-clause-search c = IsSearch-grown c.args.search.now c.args.prices.now c.improved_by_step.new.prices c.improved_by_step.ensures.grown c.requires.going c.requires.search
 
+pub unless_cheaper-requires-clause-search : goal.unless_cheaper-requires-clause-search
+unless_cheaper-requires-clause-search c =
+    IsSearch-grown c.args.search.now c.improved_by_step.new.prices c.move_at.new.prices c.move_at.ensures.grown c.requires.going
+    (IsSearch-grown c.args.search.now c.args.prices.now c.improved_by_step.new.prices c.improved_by_step.ensures.grown c.requires.going c.requires.search)
+
 pub returns-clause-planned : goal.returns-clause-planned
 returns-clause-planned c =
     let came : IsOutcome (history c.args.search.now c.improved_by_step.new.prices) c.in_ok-leaf.leaf.sides c.args.old (outcome.Open c.in-Open.kept c.in-Open.walks) =
@@ -57,6 +62,6 @@ returns-clause-planned c =
     (λ (more : c.args.search.now.cost ≤ worth). absurd (false≢true (sym c.if-is_dear.false ∙ c.is_dear.ensures.1 more)))
     (cases_lt worth c.args.search.now.cost) in
     found-move c.args.search.now c.args.prices.now c.move_at.new.prices c.args.number c.in_ok-leaf.leaf.sides c.args.old c.requires.old
-    (subst (λ (ss : List Side). IsSomeAnd (leaf_at c.args.search.now.tree c.args.number) (λ (l : Leaf (Node Payload)). l.sides ≡ ss)) (sym (c.in_ok-leaf.ensures.sides ∙ c.deref.ensures.value)) c.in_ok-sides.ensures) c.improved_by_step.new.prices c.in-Open.kept c.in-Open.walks.items c.in_ok-planned-in-Open.planned came.0 c.improved_by_step.ensures.grown.prices c.move_at.ensures.grown came.1 below
-    (subst (λ (ss : List Side). IsOpenMove c.args.search.now c.move_at.new.prices c.args.number ss c.in_ok-planned-in-Open.planned)
-    (c.deref-in-Open.ensures.value ∙ sym (c.in_ok-leaf.ensures.sides ∙ c.deref.ensures.value)) c.in_ok-planned-in-Open.ensures.planned)
+    (subst (λ (ss : List Side). IsSomeAnd (leaf_at c.args.search.now.tree c.args.number) (λ (l : Leaf (Node Payload)). l.sides ≡ ss)) (sym (c.in_ok-leaf.ensures.sides ∙ c.deref.ensures.value)) c.in_ok-sides.ensures) c.improved_by_step.new.prices c.in-Open.kept c.in-Open.walks.items c.in_ok-planned-in-Open-2.planned came.0 c.improved_by_step.ensures.grown.prices c.move_at.ensures.grown came.1 below
+    (subst (λ (ss : List Side). IsOpenMove c.args.search.now c.move_at.new.prices c.args.number ss c.in_ok-planned-in-Open-2.planned)
+    (c.deref-in-Open-2.ensures.value ∙ sym (c.in_ok-leaf.ensures.sides ∙ c.deref.ensures.value)) c.in_ok-planned-in-Open-2.ensures)

@@ -1,0 +1,3 @@
+pub mod GrownPrices
+pub mod Worths
+pub mod ImprovedPrices

@@ -1,0 +1,73 @@
+//! Before a search that seeks spans ends unfinished, local searches with draws of their own look once
+//! more for a plan that is cheaper than the incumbent.
+ghost use Rattle.std.specs.Prelude.{IfOk, IfSome};
+ghost use Rattle.fp_session.specs.Moves.{IsCheaper, IsOpenMove};
+ghost use Rattle.fp_session.specs.Searches.{IsSearch};
+
+use crate::NoMemory;
+use crate::moves::{Cheaper, Move};
+use crate::searches::Search;
+use fp_localsearch::{Search as LocalSearch, local_search};
+use fp_pricing::Prices;
+use fp_timetable::cost;
+use fp_tree::Side;
+use std::alloc::Global;
+
+// How much dearer than the best the state of each search may get, in parts of 1024.
+const LOOSENESS: [u32; 8] = [30, 60, 30, 60, 30, 60, 30, 60];
+
+// How many turns each makes.
+const TURNS: u32 = 4_000;
+
+// The cheapest plan that these searches find, one after the other from the cheapest so far, where it
+// is cheaper than the incumbent. Their draws come from what the incumbent costs, so a call repeats,
+// and draws are others once a cheaper plan is in hand.
+fn redrawn(alloc: Global, search: &Search, prices: &Prices) -> Result<Option<Cheaper>, NoMemory>
+    requires { IsSearch search.now prices.now }
+    ensures { IfOk result (λ found. IfSome found (IsCheaper search.now)) }
+{
+    let seed = (search.cost % (1 << 64)) as u64;
+    let mut best: Option<Cheaper> = None;
+    for (number, loose) in LOOSENESS.iter().enumerate() {
+        let draws = LocalSearch {
+            seed: seed.wrapping_add(1 << 32).wrapping_add(number as u64),
+            turns: TURNS,
+            loose: *loose,
+        };
+        let (start, least) = match &best {
+            Some(cheaper) => (&cheaper.plan, cheaper.cost),
+            None => (&search.incumbent, search.cost),
+        };
+        let plan = local_search(alloc, &search.instance, &search.windows, start, draws)?;
+        let cost = cost(alloc, &search.instance, &plan)?;
+        if cost < least {
+            best = Some(Cheaper { plan, cost });
+        }
+    }
+    Ok(best)
+}
+
+// What a step is going to do in place of what was planned: it takes a cheaper plan where it would
+// end the search, spans are sought, and such a plan is found. The sides and the number of the leaf
+// serve the contract alone.
+pub(crate) fn unless_cheaper(
+    alloc: Global,
+    search: &Search,
+    prices: &Prices,
+    sides: &[Side],
+    number: u32,
+    planned: Move,
+) -> Result<Move, NoMemory>
+    requires search { IsSearch search.now prices.now }
+    requires planned { IsOpenMove search.now prices.now number sides.now planned }
+    ensures { IfOk result (IsOpenMove search.now prices.now number sides.now) }
+{
+    let ends = matches!(&planned, Move::Stop { .. });
+    if !ends || prices.unit().is_none() {
+        return Ok(planned);
+    }
+    match redrawn(alloc, search, prices)? {
+        Some(cheaper) => Ok(Move::Better { cheaper }),
+        None => Ok(planned),
+    }
+}

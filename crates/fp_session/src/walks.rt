@@ -1,0 +1,101 @@
+//! Walks under the sides of a leaf that cost less than the incumbent.
+ghost use Rattle.std.specs.Prelude.{◌≡◌, ◌<◌, All, IfOk, IfSome, IsTrue, ◌↔◌};
+ghost use Rattle.fp_lists.specs.Distinct.{AreDistinct};
+ghost use Rattle.fp_model.specs.Costs.{cost as cost_of};
+ghost use Rattle.fp_model.specs.Routes.{ArcsExist};
+ghost use Rattle.fp_relaxmodel.specs.Relaxed.{HasRoutes};
+ghost use Rattle.fp_relaxmodel.specs.Terminals.{terminals_on};
+ghost use Rattle.fp_session.specs.Searches.{IsSearch};
+ghost use Rattle.fp_session.specs.Walks.{AreCheaperWalks};
+
+use crate::NoMemory;
+use crate::searches::Search;
+use fp_model::Instance;
+use fp_prices::Leaf;
+use fp_pricing::Prices;
+use fp_relaxedsearch::cheap_walks;
+use fp_relaxmodel::{RelaxedPlan, TimedWalk, coarsen, is_route, relaxed_cost};
+use fp_tree::Side;
+use std::alloc::Global;
+
+// How many turns a local search for walks makes from each of its starts.
+const TURNS: u32 = 1_000;
+
+// At most so many shipments are few.
+const FEW: usize = 50;
+
+// After so many rounds that didn't raise what a leaf is worth no more are sought by it: each costs a
+// long search for prices, which takes longer among many shipments.
+fn most_fruitless(instance: &Instance) -> u32 {
+    if instance.shipments().len() <= FEW {
+        3
+    } else {
+        2
+    }
+}
+
+// Whether no walk meets a terminal twice.
+fn are_routes(instance: &Instance, walks: &[TimedWalk]) -> bool
+    requires { All (ArcsExist instance.now) walks.now }
+    ensures { IsTrue result ↔ All (λ walk. AreDistinct (terminals_on instance.now walk)) walks.now }
+{
+    for walk in walks {
+        if !is_route(instance, walk) {
+            return false;
+        }
+    }
+    true
+}
+
+// Whether walks of the shipments are routes and cost less than the incumbent.
+pub(crate) fn are_cheaper(search: &Search, relaxed: &RelaxedPlan) -> bool
+    requires exist { All (ArcsExist search.now.instance) relaxed.now }
+    requires routes { All (λ walk. AreDistinct (terminals_on search.now.instance walk)) relaxed.now
+        → HasRoutes search.now.instance relaxed.now }
+    ensures { IsTrue result
+        ↔ (All (λ walk. AreDistinct (terminals_on search.now.instance walk)) relaxed.now
+        × (cost_of search.now.instance relaxed.now < search.now.cost)) }
+{
+    if are_routes(&search.instance, &relaxed.walks) {
+        relaxed_cost(&search.instance, relaxed) < search.cost
+    } else {
+        false
+    }
+}
+
+// Walks under the sides of a leaf that are routes and cost less than the incumbent, where spans are
+// sought, the price of the leaf is of one of the last rounds, and a local search finds such walks:
+// from the classes of the incumbent, and from the given walks. The sides serve the contract alone.
+pub(crate) fn cheaper_walks(
+    alloc: Global,
+    search: &Search,
+    leaf: &Leaf,
+    sides: &[Side],
+    least: &[TimedWalk],
+    priced: u32,
+    prices: &Prices,
+) -> Result<Option<RelaxedPlan>, NoMemory>
+    requires search { IsSearch search.now prices.now }
+    requires setting { leaf.now.setting ≡ record { problem = search.now.instance; windows = search.now.windows; network = search.now.network } }
+    requires sides { leaf.now.sides ≡ sides.now }
+    ensures { IfOk result (λ found. IfSome found (AreCheaperWalks search.now sides.now)) }
+{
+    let instance = &search.instance;
+    let fruitless = (search.trace.len() as u32).saturating_sub(priced);
+    if prices.unit().is_none() || fruitless >= most_fruitless(instance) {
+        return Ok(None);
+    }
+    let incumbent = &search.incumbent;
+    let coarse = coarsen(alloc, instance, &search.windows, &search.network, incumbent)?;
+    match cheap_walks(alloc, leaf, &[&coarse.walks, least], TURNS)? {
+        Some(walks) => {
+            let relaxed = RelaxedPlan { walks };
+            if are_cheaper(search, &relaxed) {
+                Ok(Some(relaxed))
+            } else {
+                Ok(None)
+            }
+        }
+        None => Ok(None),
+    }
+}
