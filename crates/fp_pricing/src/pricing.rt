@@ -77,8 +77,10 @@ fn by_spans(
         (points_in leaf.now.setting.network) leaf.now.sides prices.new round first) }
 {
     let Worth { price, value } = first;
+    let LeafPrice { kind, forced, .. } = price;
     let tables = prices.tables();
-    let found = better_spans(alloc, leaf, tables, price.kind, price.forced, value, effort)?;
+    let inherited = prices.spans_beside(kind);
+    let found = better_spans(alloc, leaf, tables, kind, forced, inherited, value, effort)?;
     let Some(found) = found else {
         return Ok(first);
     };

@@ -4,6 +4,7 @@ ghost use Rattle.fp_prices.specs.Tables.{AreTables, HasKind};
 
 use crate::NoMemory;
 use crate::efforts::SpanEffort;
+use crate::inherited_spans::{joined_runs, put_spans};
 use crate::searches::Search;
 use crate::starts::Start;
 use fp_leafnets::LeafNets;
@@ -49,7 +50,8 @@ impl<'a> SpanAscent<'a> {
 
     /// Spans for the mode plain, in order, each with the least charge that pays; none where nothing
     /// better than prices by size alone is found. The search starts from the prices of a kind, which
-    /// may name one of the tables, in the mode `forced`. `NoMemory` only where no memory is found.
+    /// may name one of the tables, in the mode `forced`, and from `inherited`, spans in order that
+    /// stand beside its table. `NoMemory` only where no memory is found.
     ///
     /// One search over each net for each turn of the effort, and one over the sets of each span
     /// whose prices move. Takes memory that grows with the edges of the nets.
@@ -59,6 +61,7 @@ impl<'a> SpanAscent<'a> {
         tables: &[Table],
         kind: Kind,
         forced: bool,
+        inherited: &[Span],
         effort: &SpanEffort,
     ) -> Result<Vec<Span>, NoMemory>
         requires tables { AreTables self.old.setting.problem tables.now }
@@ -66,7 +69,9 @@ impl<'a> SpanAscent<'a> {
         ensures { self.new ≡ self.old }
     {
         let model = &mut self.model;
-        let layout = Layout::of(alloc, &mut model.nets, &model.classes, &model.arcs)?;
+        let mut layout = Layout::of(alloc, &mut model.nets, &model.classes, &model.arcs)?;
+        let runs = joined_runs(alloc, &layout, inherited)?;
+        layout.join(alloc, &model.nets, &runs)?;
         let mut prices = SpanPrices::of(alloc, &layout)?;
         let pricing = self.leaf.pricing(alloc, tables, kind, forced)?;
         let start = Start {
@@ -75,6 +80,7 @@ impl<'a> SpanAscent<'a> {
             unit: model.unit,
         };
         start.put_all(&layout.payers, &model.nets, &mut prices);
+        put_spans(&layout, inherited, model.unit, &mut prices);
         let mut search = Search {
             layout,
             prices,

@@ -20,6 +20,7 @@ mod averages;
 mod directions;
 mod efforts;
 mod exact_ascent;
+mod inherited_spans;
 mod keeping;
 mod proposals;
 mod searches;

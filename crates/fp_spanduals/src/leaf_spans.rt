@@ -41,7 +41,7 @@ fn price_by(
 /// Spans by which a leaf is worth more than a value, where such are found.
 ///
 /// They are sought from the prices of a kind, which may name one of the tables, plain or with forced
-/// classes paid whole. What is found keeps both rules of spans, so no plan of the leaf costs less
+/// classes paid whole, and from spans that stand beside that table, in order. What is found keeps both rules of spans, so no plan of the leaf costs less
 /// than it's worth by them. Nothing is promised of when spans are found. `NoMemory` only where no
 /// memory is found.
 pub fn better_spans(
@@ -50,6 +50,7 @@ pub fn better_spans(
     tables: &[Table],
     kind: Kind,
     forced: bool,
+    inherited: &[Span],
     value: u128,
     effort: &SpanEffort,
 ) -> Result<Option<SpanPrice>, NoMemory>
@@ -60,7 +61,7 @@ pub fn better_spans(
         (points_in leaf.now.setting.network) leaf.now.sides value)) }
 {
     let mut ascent = SpanAscent::of(alloc, leaf)?;
-    let spans = ascent.spans(alloc, tables, kind, forced, effort)?;
+    let spans = ascent.spans(alloc, tables, kind, forced, inherited, effort)?;
     if spans.is_empty() {
         return Ok(None);
     }

@@ -45,5 +45,6 @@ pub fn better_spans_of(
 {
     let network = RoundNetwork::of(alloc, instance, points, round)?;
     let leaf = Leaf::of(alloc, &network, windows, sides)?;
-    better_spans(alloc, &leaf, tables, kind, forced, value, &SpanEffort::ROOT)
+    let effort = SpanEffort::ROOT;
+    better_spans(alloc, &leaf, tables, kind, forced, &[], value, &effort)
 }

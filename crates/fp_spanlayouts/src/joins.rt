@@ -16,8 +16,7 @@ impl Layout {
     pub fn join(&mut self, alloc: Global, nets: &Nets, runs: &[Run]) -> Result<(), NoMemory> {
         let mut priced = Vec::new(alloc);
         for run in runs {
-            let first_single = self.single_from(run.arc, run.point);
-            let end_single = self.single_from(run.arc, run.until);
+            let (first_single, end_single) = self.singles_of(run);
             if let Some(single) = self.spans.get(first_single).copied()
                 && first_single < end_single
             {
@@ -37,6 +36,13 @@ impl Layout {
         self.group_payers(alloc, nets.list.len())?;
         self.group_covers(alloc)?;
         self.group_links(alloc, nets.edges.len())
+    }
+
+    /// The spans of single classes within a run: the first, and the end.
+    pub fn singles_of(&self, run: &Run) -> (usize, usize) {
+        let first = self.single_from(run.arc, run.point);
+        let end = self.single_from(run.arc, run.until);
+        (first, end)
     }
 
     // The first span of a single class that doesn't stand before a point of an arc.
