@@ -97,4 +97,5 @@ def cases():
             yield f"{terminals}x{shipments} seed {seed}", generated(seed, terminals, shipments)
     for slack in (120, 720):
         yield f"line 6 with 20, slack {slack}", line(6, 20, slack)
+        yield f"hub of 10 with 30, slack {slack}", hubs(1, 9, 30, slack)
         yield f"hubs 2x6 with 30, slack {slack}", hubs(2, 6, 30, slack)
