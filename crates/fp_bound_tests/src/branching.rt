@@ -5,42 +5,72 @@ ghost use Rattle.std.specs.Prelude.{◌≤◌, length};
 use fp_branching::{Candidate, candidates};
 use fp_examples::{DETOUR, LINE, TRIO, instance_of};
 use fp_flatnet::{Windows, initial};
-use fp_model::Instance;
-use fp_prices::{Kind, Leaf, NoMemory, RoundNetwork};
+use fp_model::{Instance, Leg};
+use fp_prices::{ClassWalk, Kind, Leaf, NoMemory, RoundNetwork};
 use fp_tree::Split;
 use std::alloc::Global;
 use std::test::Fail;
 
-// The candidates of a leaf without sides over the initial points, by linear prices, at most so
-// many.
-fn proposed(alloc: Global, instance: &Instance, most: usize) -> Result<Vec<Candidate>, NoMemory>
+// Two shipments that go from A to C, and might go to B and back before.
+const RETURN: &str =
+    "terminal,A\nterminal,B\nterminal,C\narc,A,B,5,6,60,0\narc,B,A,5,6,60,0\narc,A,C,5,6,60,0\nshipment,S1,A,C,5,0,40\nshipment,S2,A,C,5,0,40\n";
+
+// A walk by these arcs, which leaves at 0 everywhere.
+fn walk_by(alloc: Global, arcs: &[u32]) -> Result<ClassWalk, NoMemory> {
+    let mut classes = Vec::new(alloc);
+    for arc in arcs {
+        classes.push(Leg {
+            arc: *arc,
+            depart: 0,
+        })?;
+    }
+    Ok(ClassWalk { classes })
+}
+
+// The candidates of a leaf without sides over the initial points, by linear prices and walks of least
+// cost, at most so many. The last shipment goes by these arcs instead, if there are any.
+fn proposed(
+    alloc: Global,
+    instance: &Instance,
+    most: usize,
+    arcs: &[u32],
+) -> Result<Vec<Candidate>, NoMemory>
     requires { length instance.now.terminals ≤ 100 }
 {
     let windows = Windows::of(alloc, instance)?;
     let points = initial(alloc, instance, &windows)?;
     let round = RoundNetwork::of(alloc, instance, &points, 0)?;
     let leaf = Leaf::of(alloc, &round, &windows, &[])?;
-    match leaf.walks(alloc, &[], Kind::Linear, false)? {
-        Some(walks) => candidates(alloc, &leaf, &[], Kind::Linear, false, &walks, most),
-        None => Ok(Vec::new(alloc)),
+    let mut walks = match leaf.walks(alloc, &[], Kind::Linear, false)? {
+        Some(walks) => walks,
+        None => return Ok(Vec::new(alloc)),
+    };
+    if !arcs.is_empty() {
+        let _ = walks.pop();
+        walks.push(walk_by(alloc, arcs)?)?;
     }
+    candidates(alloc, &leaf, &[], Kind::Linear, false, &walks, most)
 }
 
 #[test]
 fn proposals(rt: HostRuntime) -> Result<(), Fail> {
     let alloc = rt.alloc();
-    for (text, most, shipments) in [
+    for (text, arcs, most, shipments) in [
         // Each chain reaches its destination.
-        (LINE, 4, [].as_slice()),
-        (DETOUR, 4, &[0]),
-        (DETOUR, 0, &[]),
-        (TRIO, 4, &[0, 1, 2]),
-        (TRIO, 2, &[0, 1]),
+        (LINE, [].as_slice(), 4, [].as_slice()),
+        (DETOUR, &[], 4, &[0]),
+        (DETOUR, &[], 0, &[]),
+        (TRIO, &[], 4, &[0, 1, 2]),
+        (TRIO, &[], 2, &[0, 1]),
+        (RETURN, &[], 4, &[0, 1]),
+        // A walk that returns to A comes first.
+        (RETURN, &[0, 1, 2], 4, &[1, 0]),
+        (RETURN, &[0, 1, 2], 1, &[1]),
     ] {
         assert!(rt; text.len() < 2000);
         let instance = instance_of(alloc, text)?;
         assert!(rt; instance.terminals().len() <= 100);
-        let list = proposed(alloc, &instance, most)?;
+        let list = proposed(alloc, &instance, most, arcs)?;
         assert!(rt; list.len() == shipments.len(), "{most}: {text}");
         for (candidate, shipment) in list.iter().zip(shipments) {
             let is = matches!(candidate.split, Split::ByArc { .. });

@@ -7,8 +7,8 @@ ghost use Rattle.fp_prices.specs.Tables.{AreTables, HasKind};
 
 use crate::NoMemory;
 use crate::class_uses::{ClassUse, class_uses};
-use crate::gaps::greatest_gap;
-use crate::ranks::{Rank, Ranked, is_left_out, put_in};
+use crate::losses::loss_on;
+use crate::ranks::{Loss, Rank, Ranked, is_left_out, put_in};
 use crate::rises::rise;
 use fp_allowed::ChainEnd;
 use fp_prices::{ClassWalk, Kind, Leaf, LeafPricing, Table};
@@ -45,12 +45,12 @@ fn candidate_of(alloc: Global, leaf: &Leaf, shipment: u32) -> Result<Option<Cand
     }
 }
 
-// The greatest gap on the walk of each shipment that has one.
-fn walk_gaps(
+// The loss on the walk of each shipment that has one.
+fn losses_of(
     alloc: Global,
     pricing: &LeafPricing,
     walks: &[ClassWalk],
-) -> Result<Vec<u128>, NoMemory> {
+) -> Result<Vec<Loss>, NoMemory> {
     let leaf = pricing.leaf();
     let count = leaf.round().instance().shipments().len() as u32;
     let mut chains = Vec::new(alloc);
@@ -58,20 +58,26 @@ fn walk_gaps(
         chains.push(leaf.chain(alloc, shipment)?.classes.len())?;
     }
     let uses: Vec<ClassUse> = class_uses(alloc, pricing, &chains, walks)?;
-    let mut gaps = Vec::new(alloc);
+    let mut losses = Vec::new(alloc);
     for (walk, chain) in walks.iter().zip(&chains) {
-        gaps.push(greatest_gap(pricing, &uses, *chain, walk))?;
+        losses.push(loss_on(pricing, &uses, *chain, walk))?;
     }
-    Ok(gaps)
+    Ok(losses)
 }
 
-// The candidates of the leaf that rank best, at most so many, where these are the greatest gaps on
-// the walks of the shipments. How much a split raises is looked for only where the gap isn't too
-// small already.
+// No loss.
+const NO_LOSS: Loss = Loss {
+    returns: false,
+    gap: 0,
+};
+
+// The candidates of the leaf that rank best, at most so many, where these are the losses on the
+// walks of the shipments. How much a split raises is looked for only where the loss isn't too small
+// already.
 fn best_ranked(
     alloc: Global,
     pricing: &LeafPricing,
-    gaps: &[u128],
+    losses: &[Loss],
     most: usize,
 ) -> Result<Vec<Ranked>, NoMemory>
     ensures { IfOk result (λ ranked. AreBest pricing.now.leaf (length pricing.now.leaf.setting.problem.shipments) most ranked.items) }
@@ -83,12 +89,12 @@ fn best_ranked(
             Some(candidate) => candidate,
             None => continue,
         };
-        let gap = gaps.get(shipment as usize).copied().unwrap_or(0);
-        if is_left_out(&ranked, gap, most) {
+        let loss = losses.get(shipment as usize).copied().unwrap_or(NO_LOSS);
+        if is_left_out(&ranked, loss, most) {
             continue;
         }
         let rise = rise(alloc, pricing, candidate)?;
-        let rank = Rank { gap, rise };
+        let rank = Rank { loss, rise };
         put_in(&mut ranked, Ranked { rank, candidate }, most)?;
     }
     Ok(ranked)
@@ -99,11 +105,11 @@ fn best_ranked(
 /// with the split there that [`Leaf::choice`] gives. Where there are some, the list isn't empty, if
 /// one may be in it.
 ///
-/// The walks, numbered by their shipments, tell where the leaf loses bound under its prices: a
-/// shipment comes first on whose walk the trucks of a class cost most more than is paid for them,
-/// for each leg that isn't forced yet; at equal gaps the one that the dearer side of its split
-/// raises most, and then the one with the least number. Any walks may be handed in; they decide the
-/// order alone. Prices, tables and kind are taken as by [`Leaf::bound`]. `NoMemory` only where no
+/// The walks, numbered by their shipments, tell where the leaf loses bound under its prices: first
+/// come shipments whose walks return to a terminal, and then a shipment on whose walk the trucks of a
+/// class cost most more than is paid for them, for each leg that isn't forced yet; at equal losses
+/// the one that the dearer side of its split raises most, and then the one with the least number.
+/// Any walks may be handed in; they decide the order alone. Prices, tables and kind are taken as by [`Leaf::bound`]. `NoMemory` only where no
 /// memory is found. Three searches over the points for each shipment that may stand in the list.
 pub fn candidates(
     alloc: Global,
@@ -122,8 +128,8 @@ pub fn candidates(
     ensures some { IfOk result (λ list. 1 ≤ most → (k terminal : ℕ) → EndsInSeveral leaf.now k terminal → 1 ≤ length list.items) }
 {
     let pricing = leaf.pricing(alloc, tables, kind, forced)?;
-    let gaps = walk_gaps(alloc, &pricing, walks)?;
-    let ranked = best_ranked(alloc, &pricing, &gaps, most)?;
+    let losses = losses_of(alloc, &pricing, walks)?;
+    let ranked = best_ranked(alloc, &pricing, &losses, most)?;
     let mut list = Vec::with_capacity(alloc, ranked.len())?;
     for one in &ranked {
         list.push(one.candidate)?;

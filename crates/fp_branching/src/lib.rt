@@ -1,15 +1,16 @@
 //! Which shipment a leaf of a search is split by, and how: proposals, the most promising first.
 //!
-//! A leaf loses bound at the classes whose shipments pay less than the trucks cost that they need
-//! together. A shipment is proposed by the greatest such gap on its walk, for each leg that is
+//! A leaf loses bound where a walk returns to a terminal, which no route does, and at the classes
+//! whose shipments pay less than the trucks cost that they need together. Shipments are proposed
+//! first whose walks return, and others by the greatest such gap on their walks, for each leg that is
 //! still to be forced until the gap closes (a form of branching on the most fractional variable: T.
 //! Achterberg, T. Koch and A. Martin, "Branching rules revisited", Operations Research Letters 33,
 //! 2005); at equal gaps by how much the dearer side of its split raises its cost.
 #![tactic(auto)]
 
 mod class_uses;
-mod gaps;
 mod leaf_candidates;
+mod losses;
 mod ranks;
 mod rises;
 

@@ -5,12 +5,19 @@ ghost use Rattle.fp_branching.specs.declared.ranks.Ranked.{Ranked};
 use crate::NoMemory;
 use crate::leaf_candidates::Candidate;
 
-/// By what a candidate is ranked: the greatest gap on its shipment's walk for each leg that is
-/// still to be forced, and how much the dearer side of its split raises the shipment's cost. The
-/// greater one comes first.
+/// Where a shipment's walk loses bound: whether it returns to a terminal, which no plan lets it do,
+/// and the greatest gap on it for each leg that is still to be forced.
+#[derive(Clone, Copy)]
+pub(crate) struct Loss {
+    pub(crate) returns: bool,
+    pub(crate) gap: u128,
+}
+
+/// By what a candidate is ranked: the loss on its shipment's walk, and how much the dearer side of
+/// its split raises the shipment's cost. The greater one comes first.
 #[derive(Clone, Copy)]
 pub(crate) struct Rank {
-    pub(crate) gap: u128,
+    pub(crate) loss: Loss,
     pub(crate) rise: u128,
 }
 
@@ -21,18 +28,34 @@ pub(crate) struct Ranked {
     pub(crate) candidate: Candidate,
 }
 
-// Whether a rank is above another one.
-fn is_above(rank: Rank, other: Rank) -> bool {
-    rank.gap > other.gap || (rank.gap == other.gap && rank.rise > other.rise)
+// Whether a loss is greater than another one: by a return, and of two walks that are the same in
+// this by the gap.
+fn is_more(loss: Loss, other: Loss) -> bool {
+    if loss.returns == other.returns {
+        loss.gap > other.gap
+    } else {
+        loss.returns
+    }
 }
 
-/// Whether a candidate with this gap has no place among so many, which are there already and all
-/// have greater gaps.
-pub(crate) fn is_left_out(ranked: &[Ranked], gap: u128, most: usize) -> bool
+// Whether a rank is above another one.
+fn is_above(rank: Rank, other: Rank) -> bool {
+    if is_more(rank.loss, other.loss) {
+        true
+    } else if is_more(other.loss, rank.loss) {
+        false
+    } else {
+        rank.rise > other.rise
+    }
+}
+
+/// Whether a candidate with this loss has no place among so many, which are there already and all
+/// have greater losses.
+pub(crate) fn is_left_out(ranked: &[Ranked], loss: Loss, most: usize) -> bool
     ensures { IsTrue result → most ≤ length ranked.now }
 {
     match ranked.last() {
-        Some(last) => ranked.len() >= most && gap < last.rank.gap,
+        Some(last) => ranked.len() >= most && is_more(last.rank.loss, loss),
         None => false,
     }
 }

@@ -8,10 +8,12 @@
 mod efforts;
 mod prices;
 mod pricing;
+mod walks;
 
 pub use efforts::PriceEffort;
 pub use prices::Prices;
 pub use pricing::{Worth, improve};
+pub use walks::walks_by_spans;
 
 /// The error of a call that finds no memory.
 pub type NoMemory = std::alloc::AllocError;

@@ -18,10 +18,12 @@ use Rattle.fp_relaxmodel.specs.Terminals.{terminals_on}
 use Rattle.fp_prices.specs.Rounds.{LeafModel}
 use Rattle.fp_relaxedsearch.specs.AllowedWalks.{AreAllowedWalks}
 use Rattle.fp_history.specs.Solutions.{AreWalksUnder}
+use Rattle.fp_session.specs.declared.kept.Kept.{Kept}
 use Rattle.fp_session.specs.declared.searches.Search.{Search}
 use Rattle.fp_session.specs.Moves.{points_now}
 use Rattle.fp_pricing.specs.Prices.{PriceLists}
-use Rattle.fp_session.specs.Searches.{IsSearch}
+use Rattle.fp_session.specs.Outcomes.{IsFound}
+use Rattle.fp_session.specs.Searches.{IsSearch, history}
 use Rattle.fp_session.specs.Walks.{AreCheaperWalks}
 use Rattle.fp_session.proofs.Improvements.{setting_of}
 use Rattle.fp_session.proofs.NextRounds.{agree-now}
@@ -42,3 +44,9 @@ allowed-under s prices leaf sides walks is setting are allowed =
 pub under-cheaper : (s : Search) (sides : List Side) (walks : List (List Leg)) → AreWalksUnder s.instance s.windows (points_now s) sides walks →
     All (λ walk. AreDistinct (terminals_on s.instance walk)) walks × (cost s.instance walks < s.cost) → AreCheaperWalks s sides walks
 under-cheaper s sides walks under told = record { under = under; apart = told.0; cheaper = told.1 }
+
+-- what was found of a leaf is so with other walks that are allowed there
+pub found-other : (s : Search) (prices : PriceLists) (leaf : LeafModel) (sides : List Side) (kept : Kept) (before walks : List (List Leg)) → IsSearch s prices → leaf.setting ≡ setting_of s → leaf.sides ≡ sides →
+    IsFound (history s prices) sides kept before → AreAllowedWalks leaf walks → IsFound (history s prices) sides kept walks
+found-other s prices leaf sides kept before walks is setting are found allowed =
+    record { kept = found.kept; some = found.some; starts = found.starts; walks = allowed-under s prices leaf sides walks is setting are allowed; reached = found.reached }

@@ -27,7 +27,7 @@ use crate::outcomes::Outcome;
 use crate::redrawing::unless_cheaper;
 use crate::searches::Search;
 use crate::timing::{Timing, timed};
-use crate::walks::{are_cheaper, cheaper_walks};
+use crate::walks::{are_cheaper, cheaper_walks, walks_by_price};
 use fp_acceptance::reaches;
 use fp_history::Left;
 use fp_prices::{Leaf, RoundNetwork};
@@ -152,10 +152,8 @@ fn move_at(
     ensures grown { HaveGrown search.now.instance prices.old prices.new }
     ensures planned { IfOk result (IsOpenMove search.now prices.new number sides.now) }
 {
+    let walks = walks_by_price(alloc, search, leaf, sides, kept, walks, prices)?;
     let relaxed = RelaxedPlan { walks };
-    if are_cheaper(search, &relaxed) {
-        return timed_move(alloc, search, prices, sides, number, relaxed);
-    }
     let least = &relaxed.walks;
     let priced = kept.payload.price.round;
     if let Some(cheaper) = cheaper_walks(alloc, search, leaf, sides, least, priced, prices)? {
@@ -164,6 +162,9 @@ fn move_at(
             Move::Stop { .. } => {}
             planned => return Ok(planned),
         }
+    }
+    if are_cheaper(search, &relaxed) {
+        return timed_move(alloc, search, prices, sides, number, relaxed);
     }
     let shipments = search.instance.shipments().len() as u32;
     match first_several(alloc, leaf, shipments)? {

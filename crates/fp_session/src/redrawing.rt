@@ -1,5 +1,5 @@
-//! Before a search that seeks spans ends unfinished, local searches with draws of their own look once
-//! more for a plan that is cheaper than the incumbent.
+//! Before a search ends unfinished, local searches with draws of their own look once more for a plan
+//! that is cheaper than the incumbent.
 ghost use Rattle.std.specs.Prelude.{IfOk, IfSome};
 ghost use Rattle.fp_session.specs.Moves.{IsCheaper, IsOpenMove};
 ghost use Rattle.fp_session.specs.Searches.{IsSearch};
@@ -48,8 +48,8 @@ fn redrawn(alloc: Global, search: &Search, prices: &Prices) -> Result<Option<Che
 }
 
 // What a step is going to do in place of what was planned: it takes a cheaper plan where it would
-// end the search, spans are sought, and such a plan is found. The sides and the number of the leaf
-// serve the contract alone.
+// end the search and such a plan is found. The prices, the sides and the number of the leaf serve the
+// contract alone.
 pub(crate) fn unless_cheaper(
     alloc: Global,
     search: &Search,
@@ -63,7 +63,7 @@ pub(crate) fn unless_cheaper(
     ensures { IfOk result (IsOpenMove search.now prices.now number sides.now) }
 {
     let ends = matches!(&planned, Move::Stop { .. });
-    if !ends || prices.unit().is_none() {
+    if !ends {
         return Ok(planned);
     }
     match redrawn(alloc, search, prices)? {

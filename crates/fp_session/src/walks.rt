@@ -5,14 +5,16 @@ ghost use Rattle.fp_model.specs.Costs.{cost as cost_of};
 ghost use Rattle.fp_model.specs.Routes.{ArcsExist};
 ghost use Rattle.fp_relaxmodel.specs.Relaxed.{HasRoutes};
 ghost use Rattle.fp_relaxmodel.specs.Terminals.{terminals_on};
-ghost use Rattle.fp_session.specs.Searches.{IsSearch};
+ghost use Rattle.fp_session.specs.Outcomes.{IsFound};
+ghost use Rattle.fp_session.specs.Searches.{IsSearch, history};
 ghost use Rattle.fp_session.specs.Walks.{AreCheaperWalks};
 
 use crate::NoMemory;
+use crate::kept::Kept;
 use crate::searches::Search;
 use fp_model::Instance;
 use fp_prices::Leaf;
-use fp_pricing::Prices;
+use fp_pricing::{Prices, walks_by_spans};
 use fp_relaxedsearch::cheap_walks;
 use fp_relaxmodel::{RelaxedPlan, TimedWalk, coarsen, is_route, relaxed_cost};
 use fp_tree::Side;
@@ -97,5 +99,28 @@ pub(crate) fn cheaper_walks(
             }
         }
         None => Ok(None),
+    }
+}
+
+// Walks under the sides of a leaf of which this is kept: by the spans of its price, where there are
+// such, and otherwise the given ones. The sides serve the contract alone.
+pub(crate) fn walks_by_price(
+    alloc: Global,
+    search: &Search,
+    leaf: &Leaf,
+    sides: &[Side],
+    kept: Kept,
+    walks: Vec<TimedWalk>,
+    prices: &Prices,
+) -> Result<Vec<TimedWalk>, NoMemory>
+    requires search { IsSearch search.now prices.now }
+    requires setting { leaf.now.setting ≡ record { problem = search.now.instance; windows = search.now.windows; network = search.now.network } }
+    requires sides { leaf.now.sides ≡ sides.now }
+    requires found { IsFound (history search.now prices.now) sides.now kept walks.items }
+    ensures { IfOk result (λ walks. IsFound (history search.now prices.now) sides.now kept walks.items) }
+{
+    match walks_by_spans(alloc, leaf, kept.payload.price, prices)? {
+        Some(walks) => Ok(walks),
+        None => Ok(walks),
     }
 }

@@ -28,6 +28,7 @@ mod separation;
 mod shared_walks;
 mod starts;
 mod subgradients;
+mod timed_walks;
 
 pub use ascents::SpanAscent;
 pub use efforts::SpanEffort;

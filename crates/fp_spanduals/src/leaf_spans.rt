@@ -41,9 +41,9 @@ fn price_by(
 /// Spans by which a leaf is worth more than a value, where such are found.
 ///
 /// They are sought from the prices of a kind, which may name one of the tables, plain or with forced
-/// classes paid whole, and from spans that stand beside that table, in order. What is found keeps both rules of spans, so no plan of the leaf costs less
-/// than it's worth by them. Nothing is promised of when spans are found. `NoMemory` only where no
-/// memory is found.
+/// classes paid whole, and from spans that stand beside that table; any spans may be handed in. What
+/// is found keeps both rules of spans, so no plan of the leaf costs less than it's worth by them.
+/// Nothing is promised of when spans are found. `NoMemory` only where no memory is found.
 pub fn better_spans(
     alloc: Global,
     leaf: &Leaf,

@@ -15,25 +15,25 @@ use Rattle.fp_session.proofs.OpenMoves.{NoneSeveral-found, under-exist, under-re
 use Rattle.fp_session.proofs.planning.move_at.Goals as goal
 
 pub are_cheaper-requires-clause-exist : goal.are_cheaper-requires-clause-exist
-are_cheaper-requires-clause-exist c = under-exist c.args.search.now c.args.sides.now c.args.walks.items c.requires.found.walks
+are_cheaper-requires-clause-exist c = under-exist c.args.search.now c.args.sides.now c.in_ok-walks.walks.items c.in_ok-walks.ensures.walks
 
 pub are_cheaper-requires-clause-routes : goal.are_cheaper-requires-clause-routes
 are_cheaper-requires-clause-routes c = λ apart.
-    HasRoutes-relaxed c.args.search.now.instance (windows_in c.args.search.now.windows) (points_now c.args.search.now) c.args.walks.items
-    (under-relaxed c.args.search.now c.args.sides.now c.args.walks.items c.requires.found.walks c.args.prices.now c.requires.search apart)
+    HasRoutes-relaxed c.args.search.now.instance (windows_in c.args.search.now.windows) (points_now c.args.search.now) c.in_ok-walks.walks.items
+    (under-relaxed c.args.search.now c.args.sides.now c.in_ok-walks.walks.items c.in_ok-walks.ensures.walks c.args.prices.now c.requires.search apart)
 
 pub timed_move-requires-clause-relaxed : goal.timed_move-requires-clause-relaxed
 timed_move-requires-clause-relaxed c =
-    under-relaxed c.args.search.now c.args.sides.now c.args.walks.items c.requires.found.walks c.args.prices.now c.requires.search (c.are_cheaper.ensures.0 c.if-are_cheaper.true).0
-
-pub timed_move-requires-clause-cheaper : goal.timed_move-requires-clause-cheaper
-timed_move-requires-clause-cheaper c = (c.are_cheaper.ensures.0 c.if-are_cheaper.true).1
-
-pub timed_move-requires-in-Some-clause-relaxed : goal.timed_move-requires-in-Some-clause-relaxed
-timed_move-requires-in-Some-clause-relaxed c =
     let found : AreCheaperWalks c.args.search.now c.args.sides.now c.in-Some.cheaper =
     subst (λ (o : Option (List (List Leg))). IfSome o (AreCheaperWalks c.args.search.now c.args.sides.now)) c.in-Some.is c.in_ok-cheaper.ensures in
     under-relaxed c.args.search.now c.args.sides.now c.in-Some.cheaper found.under c.args.prices.now c.requires.search found.apart
+
+pub timed_move-requires-then-are_cheaper-clause-relaxed : goal.timed_move-requires-then-are_cheaper-clause-relaxed
+timed_move-requires-then-are_cheaper-clause-relaxed c =
+    under-relaxed c.args.search.now c.args.sides.now c.in_ok-walks.walks.items c.in_ok-walks.ensures.walks c.args.prices.now c.requires.search (c.are_cheaper.ensures.0 c.if-are_cheaper.true).0
+
+pub timed_move-requires-then-are_cheaper-clause-cheaper : goal.timed_move-requires-then-are_cheaper-clause-cheaper
+timed_move-requires-then-are_cheaper-clause-cheaper c = (c.are_cheaper.ensures.0 c.if-are_cheaper.true).1
 
 pub unreachable-requires : goal.unreachable-requires
 unreachable-requires c =
@@ -43,5 +43,5 @@ unreachable-requires c =
     (false≢true
     (sym c.if-are_cheaper.false
     ∙ c.are_cheaper.ensures.1
-    (NoneSeveral-found c.args.search.now c.args.prices.now c.args.leaf.now c.args.sides.now c.args.kept c.args.walks.items (length c.shipments.result.now) c.requires.search c.requires.setting c.requires.sides
-    c.requires.found c.requires.below (omega (arith, ap (λ (ss : List Shipment). length ss) c.shipments.ensures.same)) none)))
+    (NoneSeveral-found c.args.search.now c.args.prices.now c.args.leaf.now c.args.sides.now c.args.kept c.in_ok-walks.walks.items (length c.shipments.result.now) c.requires.search c.requires.setting c.requires.sides
+    c.in_ok-walks.ensures c.requires.below (omega (arith, ap (λ (ss : List Shipment). length ss) c.shipments.ensures.same)) none)))
