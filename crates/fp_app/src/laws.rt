@@ -5,8 +5,8 @@ ghost use Rattle.fp_app.specs.Laws.{CheckAcceptsPlans};
 /// after them those of the text that `plan` prints of it, the status that `check` has for the input
 /// is 0, with memory and without a fault of its source and its sink.
 ///
-/// The instance may be at any scale that fits it: the text names it. The search may be with the option
-/// of spans or without it.
+/// The instance may be at any scale that fits it: the text names it. The search may be with the
+/// option of spans or without it.
 pub fn check_accepts_plans()
     ensures { CheckAcceptsPlans }
 {}

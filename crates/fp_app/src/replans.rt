@@ -33,8 +33,8 @@ pub enum KeptInput {
     Fault { ordinal: u32, code: u32 },
 }
 
-/// What `replan` shows for the bytes of an input, with a budget within its limits, and with the option
-/// of spans or without it.
+/// What `replan` shows for the bytes of an input, with a budget within its limits, and with the
+/// option of spans or without it.
 pub fn replan_shown(
     alloc: Global,
     bytes: Vec<u8>,

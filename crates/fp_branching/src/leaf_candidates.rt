@@ -109,8 +109,9 @@ fn best_ranked(
 /// come shipments whose walks return to a terminal, and then a shipment on whose walk the trucks of a
 /// class cost most more than is paid for them, for each leg that isn't forced yet; at equal losses
 /// the one that the dearer side of its split raises most, and then the one with the least number.
-/// Any walks may be handed in; they decide the order alone. Prices, tables and kind are taken as by [`Leaf::bound`]. `NoMemory` only where no
-/// memory is found. Three searches over the points for each shipment that may stand in the list.
+/// Any walks may be handed in; they decide the order alone. Prices, tables and kind are taken as by
+/// [`Leaf::bound`]. `NoMemory` only where no memory is found. Three searches over the points for each
+/// shipment that may stand in the list.
 pub fn candidates(
     alloc: Global,
     leaf: &Leaf,

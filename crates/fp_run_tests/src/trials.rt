@@ -29,8 +29,8 @@ fn a_trial_is_the_same_at_each_run(rt: HostRuntime) -> Result<(), Fail> {
     Ok(())
 }
 
-// Two terminals and twelve shipments. A search with some thousand branches finds that the cheapest plan
-// costs 955, and a trial has 100.
+// Two terminals and twelve shipments. A search with some thousand branches finds that the cheapest
+// plan costs 955, and a trial has 100.
 #[test]
 fn a_trial_ends_with_a_bound_once_its_branches_are_used(rt: HostRuntime) -> Result<(), Fail> {
     let (status, text) = run_on(rt.alloc(), "trial 59 2 12", "")?;

@@ -45,8 +45,8 @@ pub under-cheaper : (s : Search) (sides : List Side) (walks : List (List Leg)) �
     All (λ walk. AreDistinct (terminals_on s.instance walk)) walks × (cost s.instance walks < s.cost) → AreCheaperWalks s sides walks
 under-cheaper s sides walks under told = record { under = under; apart = told.0; cheaper = told.1 }
 
--- what was found of a leaf is so with other walks that are allowed there
-pub found-other : (s : Search) (prices : PriceLists) (leaf : LeafModel) (sides : List Side) (kept : Kept) (before walks : List (List Leg)) → IsSearch s prices → leaf.setting ≡ setting_of s → leaf.sides ≡ sides →
-    IsFound (history s prices) sides kept before → AreAllowedWalks leaf walks → IsFound (history s prices) sides kept walks
-found-other s prices leaf sides kept before walks is setting are found allowed =
-    record { kept = found.kept; some = found.some; starts = found.starts; walks = allowed-under s prices leaf sides walks is setting are allowed; reached = found.reached }
+-- what was found of a leaf is so with other walks under its sides
+pub found-other : (s : Search) (prices : PriceLists) (sides : List Side) (kept : Kept) (before walks : List (List Leg)) → IsFound (history s prices) sides kept before →
+    AreWalksUnder s.instance s.windows (points_now s) sides walks → IsFound (history s prices) sides kept walks
+found-other s prices sides kept before walks found under =
+    record { kept = found.kept; some = found.some; starts = found.starts; walks = under; reached = found.reached }

@@ -76,8 +76,9 @@ fn better_child(
     }
 }
 
-// What is kept of such a leaf of which this was kept, where a price of the leaf above is worth more to
-// it as of the round that the price is of: points that were added since can make a table worth less.
+// What is kept of such a leaf of which this was kept, where a price of the leaf above is worth more
+// to it as of the round that the price is of: points that were added since can make a table worth
+// less.
 #[tactic(auto, using(fp_pricing::proofs::GrownPrices::HaveGrown_none))]
 fn as_above(
     alloc: Global,

@@ -27,7 +27,7 @@ use crate::outcomes::Outcome;
 use crate::redrawing::unless_cheaper;
 use crate::searches::Search;
 use crate::timing::{Timing, timed};
-use crate::walks::{are_cheaper, cheaper_walks, walks_by_price};
+use crate::walks::{are_cheaper, cheaper_walks, walks_by_price, walks_to_split_by};
 use fp_acceptance::reaches;
 use fp_history::Left;
 use fp_prices::{Leaf, RoundNetwork};
@@ -128,7 +128,59 @@ fn several_move(
     Ok(Move::Divide { division })
 }
 
-// What a step is going to do at an open leaf that is worth less than the incumbent costs.
+// What a step is going to do at an open leaf that is worth less than the incumbent costs, where these
+// are walks under its sides. It is split by them, or by its walks by tables, where these are others.
+#[tactic(auto, using(fp_pricing::proofs::GrownPrices::HaveGrown_none))]
+fn move_by(
+    alloc: Global,
+    search: &Search,
+    round: &RoundNetwork,
+    leaf: &Leaf,
+    sides: &[Side],
+    number: u32,
+    kept: Kept,
+    relaxed: RelaxedPlan,
+    by_tables: Option<&[TimedWalk]>,
+    prices: &mut Prices,
+) -> Result<Move, NoMemory>
+    requires search { IsSearch search.now prices.old }
+    requires going { search.now.left ≡ None }
+    requires problem { round.now.problem ≡ search.now.instance }
+    requires network { round.now.network ≡ search.now.network }
+    requires setting { leaf.now.setting ≡ record { problem = search.now.instance; windows = search.now.windows; network = search.now.network } }
+    requires sides { leaf.now.sides ≡ sides.now }
+    requires found { IsFound (history search.now prices.old) sides.now kept relaxed }
+    requires below { worth_of (history search.now prices.old) kept.value < search.now.cost }
+    ensures grown { HaveGrown search.now.instance prices.old prices.new }
+    ensures planned { IfOk result (IsOpenMove search.now prices.new number sides.now) }
+{
+    let least = &relaxed.walks;
+    let priced = kept.payload.price.round;
+    if let Some(cheaper) = cheaper_walks(alloc, search, leaf, sides, least, priced, prices)? {
+        match timed_move(alloc, search, prices, sides, number, cheaper)? {
+            // No round is left, but there may be a branch.
+            Move::Stop { .. } => {}
+            planned => return Ok(planned),
+        }
+    }
+    if are_cheaper(search, &relaxed) {
+        return timed_move(alloc, search, prices, sides, number, relaxed);
+    }
+    let shipments = search.instance.shipments().len() as u32;
+    match first_several(alloc, leaf, shipments)? {
+        // Where no shipment has several ways to go, the walks are routes and cost less.
+        None => unreachable!(),
+        Some(several) => {
+            let walks = walks_to_split_by(&search.instance, &relaxed, by_tables);
+            several_move(
+                alloc, search, round, leaf, sides, number, several, kept, walks, prices,
+            )
+        }
+    }
+}
+
+// What a step is going to do at an open leaf that is worth less than the incumbent costs, by its walks
+// by spans, where there are such, and otherwise by those by tables.
 #[tactic(auto, using(fp_pricing::proofs::GrownPrices::HaveGrown_none))]
 fn move_at(
     alloc: Global,
@@ -152,28 +204,18 @@ fn move_at(
     ensures grown { HaveGrown search.now.instance prices.old prices.new }
     ensures planned { IfOk result (IsOpenMove search.now prices.new number sides.now) }
 {
-    let walks = walks_by_price(alloc, search, leaf, sides, kept, walks, prices)?;
-    let relaxed = RelaxedPlan { walks };
-    let least = &relaxed.walks;
-    let priced = kept.payload.price.round;
-    if let Some(cheaper) = cheaper_walks(alloc, search, leaf, sides, least, priced, prices)? {
-        match timed_move(alloc, search, prices, sides, number, cheaper)? {
-            // No round is left, but there may be a branch.
-            Move::Stop { .. } => {}
-            planned => return Ok(planned),
+    match walks_by_price(alloc, search, leaf, sides, kept.payload.price, prices)? {
+        Some(by_spans) => {
+            let relaxed = RelaxedPlan { walks: by_spans };
+            let by_tables = Some(walks.as_slice());
+            move_by(
+                alloc, search, round, leaf, sides, number, kept, relaxed, by_tables, prices,
+            )
         }
-    }
-    if are_cheaper(search, &relaxed) {
-        return timed_move(alloc, search, prices, sides, number, relaxed);
-    }
-    let shipments = search.instance.shipments().len() as u32;
-    match first_several(alloc, leaf, shipments)? {
-        // Where no shipment has several ways to go, the walks are routes and cost less.
-        None => unreachable!(),
-        Some(several) => {
-            let walks = &relaxed.walks;
-            several_move(
-                alloc, search, round, leaf, sides, number, several, kept, walks, prices,
+        None => {
+            let relaxed = RelaxedPlan { walks };
+            move_by(
+                alloc, search, round, leaf, sides, number, kept, relaxed, None, prices,
             )
         }
     }

@@ -5,15 +5,16 @@ ghost use Rattle.fp_model.specs.Costs.{cost as cost_of};
 ghost use Rattle.fp_model.specs.Routes.{ArcsExist};
 ghost use Rattle.fp_relaxmodel.specs.Relaxed.{HasRoutes};
 ghost use Rattle.fp_relaxmodel.specs.Terminals.{terminals_on};
-ghost use Rattle.fp_session.specs.Outcomes.{IsFound};
-ghost use Rattle.fp_session.specs.Searches.{IsSearch, history};
+ghost use Rattle.fp_prices.specs.Tables.{HasKind};
+ghost use Rattle.fp_history.specs.Solutions.{AreWalksUnder};
+ghost use Rattle.fp_session.specs.Moves.{points_now};
+ghost use Rattle.fp_session.specs.Searches.{IsSearch};
 ghost use Rattle.fp_session.specs.Walks.{AreCheaperWalks};
 
 use crate::NoMemory;
-use crate::kept::Kept;
 use crate::searches::Search;
 use fp_model::Instance;
-use fp_prices::Leaf;
+use fp_prices::{Leaf, LeafPrice};
 use fp_pricing::{Prices, walks_by_spans};
 use fp_relaxedsearch::cheap_walks;
 use fp_relaxmodel::{RelaxedPlan, TimedWalk, coarsen, is_route, relaxed_cost};
@@ -102,25 +103,40 @@ pub(crate) fn cheaper_walks(
     }
 }
 
-// Walks under the sides of a leaf of which this is kept: by the spans of its price, where there are
-// such, and otherwise the given ones. The sides serve the contract alone.
+// Walks under the sides of a leaf by the spans of its price, where there are such. The sides serve
+// the contract alone.
 pub(crate) fn walks_by_price(
     alloc: Global,
     search: &Search,
     leaf: &Leaf,
     sides: &[Side],
-    kept: Kept,
-    walks: Vec<TimedWalk>,
+    price: LeafPrice,
     prices: &Prices,
-) -> Result<Vec<TimedWalk>, NoMemory>
+) -> Result<Option<Vec<TimedWalk>>, NoMemory>
     requires search { IsSearch search.now prices.now }
     requires setting { leaf.now.setting ≡ record { problem = search.now.instance; windows = search.now.windows; network = search.now.network } }
     requires sides { leaf.now.sides ≡ sides.now }
-    requires found { IsFound (history search.now prices.now) sides.now kept walks.items }
-    ensures { IfOk result (λ walks. IsFound (history search.now prices.now) sides.now kept walks.items) }
+    requires kind { HasKind prices.now.tables price.kind }
+    ensures { IfOk result (λ found. IfSome found
+        (λ walks. AreWalksUnder search.now.instance search.now.windows (points_now search.now) sides.now walks.items)) }
 {
-    match walks_by_spans(alloc, leaf, kept.payload.price, prices)? {
-        Some(walks) => Ok(walks),
-        None => Ok(walks),
+    match walks_by_spans(alloc, leaf, price, prices)? {
+        Some(walks) => Ok(Some(walks)),
+        None => Ok(None),
+    }
+}
+
+// The walks that show where a leaf loses bound: its walks where one of them meets a terminal twice,
+// and otherwise those by tables, where these are others: they share fewer trucks.
+pub(crate) fn walks_to_split_by<'a>(
+    instance: &Instance,
+    relaxed: &'a RelaxedPlan,
+    by_tables: Option<&'a [TimedWalk]>,
+) -> &'a [TimedWalk]
+    requires { All (ArcsExist instance.now) relaxed.now }
+{
+    match by_tables {
+        Some(by_tables) if are_routes(instance, &relaxed.walks) => by_tables,
+        _ => &relaxed.walks,
     }
 }

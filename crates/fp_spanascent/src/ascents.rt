@@ -69,8 +69,8 @@ impl<'a> SpanAscent<'a> {
         Ok(SpanAscent { leaf, model })
     }
 
-    // The spans of a layout with the prices of a kind in the mode `forced`, and in their place those of
-    // spans in order that stand beside its table.
+    // The spans of a layout with the prices of a kind in the mode `forced`, and in their place those
+    // of spans in order that stand beside its table.
     fn laid(
         &mut self,
         alloc: Global,
@@ -99,8 +99,8 @@ impl<'a> SpanAscent<'a> {
         Ok(Laid { layout, prices })
     }
 
-    /// A walk of each shipment, by their numbers, of least cost by spans in order that stand beside the
-    /// table of a kind, in the mode `forced`: of the many that such prices leave, walks that share
+    /// A walk of each shipment, by their numbers, of least cost by spans in order that stand beside
+    /// the table of a kind, in the mode `forced`: of the many that such prices leave, walks that share
     /// trucks. Nothing is promised of them. `NoMemory` only where no memory is found. Takes a few
     /// searches over each net.
     pub fn walks(

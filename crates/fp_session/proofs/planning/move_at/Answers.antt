@@ -1,47 +1,16 @@
--- Walks that are a relaxed plan and cost less are timed; where they aren't, a shipment has several
--- ways to go.
-use Rattle.std.proofs.Common.{◌∙◌, List, ap, arith, length, subst, sym}
-use Rattle.std.specs.Prelude.{IfSome, MatchOption, Option}
-use Rattle.std.proofs.lemmas.Bool.{false≢true}
+-- What was found of a leaf, with its walks by spans.
+use Rattle.std.proofs.Common.{subst}
+use Rattle.std.specs.declared.alloc.Global.{Global}
+use Rattle.std.specs.declared.vec.Vec.{Vec}
+use Rattle.std.specs.Prelude.{IfSome, List, Option}
 use Rattle.fp_model.specs.declared.parts.Leg.{Leg}
-use Rattle.fp_model.specs.declared.parts.Shipment.{Shipment}
-use Rattle.fp_flatnet.specs.Tables.{windows_in}
-use Rattle.fp_relaxmodel.proofs.PlansCoarsen.{HasRoutes-relaxed}
-use Rattle.fp_session.specs.declared.dividing.Several.{Several}
-use Rattle.fp_session.specs.Dividing.{IsSeveral, NoneSeveral}
+use Rattle.fp_history.specs.Solutions.{AreWalksUnder}
 use Rattle.fp_session.specs.Moves.{points_now}
-use Rattle.fp_session.specs.Walks.{AreCheaperWalks}
-use Rattle.fp_session.proofs.OpenMoves.{NoneSeveral-found, under-exist, under-relaxed}
+use Rattle.fp_session.proofs.CheaperWalks.{found-other}
 use Rattle.fp_session.proofs.planning.move_at.Goals as goal
 
-pub are_cheaper-requires-clause-exist : goal.are_cheaper-requires-clause-exist
-are_cheaper-requires-clause-exist c = under-exist c.args.search.now c.args.sides.now c.in_ok-walks.walks.items c.in_ok-walks.ensures.walks
-
-pub are_cheaper-requires-clause-routes : goal.are_cheaper-requires-clause-routes
-are_cheaper-requires-clause-routes c = λ apart.
-    HasRoutes-relaxed c.args.search.now.instance (windows_in c.args.search.now.windows) (points_now c.args.search.now) c.in_ok-walks.walks.items
-    (under-relaxed c.args.search.now c.args.sides.now c.in_ok-walks.walks.items c.in_ok-walks.ensures.walks c.args.prices.now c.requires.search apart)
-
-pub timed_move-requires-clause-relaxed : goal.timed_move-requires-clause-relaxed
-timed_move-requires-clause-relaxed c =
-    let found : AreCheaperWalks c.args.search.now c.args.sides.now c.in-Some.cheaper =
-    subst (λ (o : Option (List (List Leg))). IfSome o (AreCheaperWalks c.args.search.now c.args.sides.now)) c.in-Some.is c.in_ok-cheaper.ensures in
-    under-relaxed c.args.search.now c.args.sides.now c.in-Some.cheaper found.under c.args.prices.now c.requires.search found.apart
-
-pub timed_move-requires-then-are_cheaper-clause-relaxed : goal.timed_move-requires-then-are_cheaper-clause-relaxed
-timed_move-requires-then-are_cheaper-clause-relaxed c =
-    under-relaxed c.args.search.now c.args.sides.now c.in_ok-walks.walks.items c.in_ok-walks.ensures.walks c.args.prices.now c.requires.search (c.are_cheaper.ensures.0 c.if-are_cheaper.true).0
-
-pub timed_move-requires-then-are_cheaper-clause-cheaper : goal.timed_move-requires-then-are_cheaper-clause-cheaper
-timed_move-requires-then-are_cheaper-clause-cheaper c = (c.are_cheaper.ensures.0 c.if-are_cheaper.true).1
-
-pub unreachable-requires : goal.unreachable-requires
-unreachable-requires c =
-    let none : NoneSeveral c.args.leaf.now (length c.shipments.result.now) =
-    subst (λ (o : Option Several). MatchOption o (NoneSeveral c.args.leaf.now (length c.shipments.result.now)) (IsSeveral c.args.leaf.now)) c.in-None.is c.in_ok-first_several.ensures in
-    absurd
-    (false≢true
-    (sym c.if-are_cheaper.false
-    ∙ c.are_cheaper.ensures.1
-    (NoneSeveral-found c.args.search.now c.args.prices.now c.args.leaf.now c.args.sides.now c.args.kept c.in_ok-walks.walks.items (length c.shipments.result.now) c.requires.search c.requires.setting c.requires.sides
-    c.in_ok-walks.ensures c.requires.below (omega (arith, ap (λ (ss : List Shipment). length ss) c.shipments.ensures.same)) none)))
+pub move_by-requires-clause-found : goal.move_by-requires-clause-found
+move_by-requires-clause-found c =
+    let under : AreWalksUnder c.args.search.now.instance c.args.search.now.windows (points_now c.args.search.now) c.args.sides.now c.in-Some.by_spans.items =
+    subst (λ (o : Option (Vec (List Leg) Global)). IfSome o (λ walks. AreWalksUnder c.args.search.now.instance c.args.search.now.windows (points_now c.args.search.now) c.args.sides.now walks.items)) c.in-Some.is c.in_ok-by_spans.ensures in
+    found-other c.args.search.now c.args.prices.now c.args.sides.now c.args.kept c.args.walks.items c.in-Some.by_spans.items c.requires.found under

@@ -1,0 +1,50 @@
+-- Walks that are a relaxed plan and cost less are timed; where they aren't, a shipment has several
+-- ways to go.
+use Rattle.std.proofs.Common.{◌∙◌, List, ap, arith, length, subst, sym}
+use Rattle.std.specs.Prelude.{IfSome, MatchOption, Option}
+use Rattle.std.proofs.lemmas.Bool.{false≢true}
+use Rattle.fp_model.specs.declared.parts.Leg.{Leg}
+use Rattle.fp_model.specs.declared.parts.Shipment.{Shipment}
+use Rattle.fp_flatnet.specs.Tables.{windows_in}
+use Rattle.fp_relaxmodel.proofs.PlansCoarsen.{HasRoutes-relaxed}
+use Rattle.fp_session.specs.declared.dividing.Several.{Several}
+use Rattle.fp_session.specs.Dividing.{IsSeveral, NoneSeveral}
+use Rattle.fp_session.specs.Moves.{points_now}
+use Rattle.fp_session.specs.Walks.{AreCheaperWalks}
+use Rattle.fp_session.proofs.OpenMoves.{NoneSeveral-found, under-exist, under-relaxed}
+use Rattle.fp_session.proofs.planning.move_by.Goals as goal
+
+pub are_cheaper-requires-clause-exist : goal.are_cheaper-requires-clause-exist
+are_cheaper-requires-clause-exist c = under-exist c.args.search.now c.args.sides.now c.args.relaxed c.requires.found.walks
+
+pub are_cheaper-requires-clause-routes : goal.are_cheaper-requires-clause-routes
+are_cheaper-requires-clause-routes c = λ apart.
+    HasRoutes-relaxed c.args.search.now.instance (windows_in c.args.search.now.windows) (points_now c.args.search.now) c.args.relaxed
+    (under-relaxed c.args.search.now c.args.sides.now c.args.relaxed c.requires.found.walks c.args.prices.now c.requires.search apart)
+
+pub timed_move-requires-clause-relaxed : goal.timed_move-requires-clause-relaxed
+timed_move-requires-clause-relaxed c =
+    let found : AreCheaperWalks c.args.search.now c.args.sides.now c.in-Some.cheaper =
+    subst (λ (o : Option (List (List Leg))). IfSome o (AreCheaperWalks c.args.search.now c.args.sides.now)) c.in-Some.is c.in_ok-cheaper.ensures in
+    under-relaxed c.args.search.now c.args.sides.now c.in-Some.cheaper found.under c.args.prices.now c.requires.search found.apart
+
+pub timed_move-requires-then-are_cheaper-clause-relaxed : goal.timed_move-requires-then-are_cheaper-clause-relaxed
+timed_move-requires-then-are_cheaper-clause-relaxed c =
+    under-relaxed c.args.search.now c.args.sides.now c.args.relaxed c.requires.found.walks c.args.prices.now c.requires.search (c.are_cheaper.ensures.0 c.if-are_cheaper.true).0
+
+pub timed_move-requires-then-are_cheaper-clause-cheaper : goal.timed_move-requires-then-are_cheaper-clause-cheaper
+timed_move-requires-then-are_cheaper-clause-cheaper c = (c.are_cheaper.ensures.0 c.if-are_cheaper.true).1
+
+pub unreachable-requires : goal.unreachable-requires
+unreachable-requires c =
+    let none : NoneSeveral c.args.leaf.now (length c.shipments.result.now) =
+    subst (λ (o : Option Several). MatchOption o (NoneSeveral c.args.leaf.now (length c.shipments.result.now)) (IsSeveral c.args.leaf.now)) c.in-None.is c.in_ok-first_several.ensures in
+    absurd
+    (false≢true
+    (sym c.if-are_cheaper.false
+    ∙ c.are_cheaper.ensures.1
+    (NoneSeveral-found c.args.search.now c.args.prices.now c.args.leaf.now c.args.sides.now c.args.kept c.args.relaxed (length c.shipments.result.now) c.requires.search c.requires.setting c.requires.sides
+    c.requires.found c.requires.below (omega (arith, ap (λ (ss : List Shipment). length ss) c.shipments.ensures.same)) none)))
+
+pub walks_to_split_by-walks-requires : goal.walks_to_split_by-walks-requires
+walks_to_split_by-walks-requires c = under-exist c.args.search.now c.args.sides.now c.args.relaxed c.requires.found.walks
