@@ -16,21 +16,21 @@ from kit import proved
 SIZES = ((1, 6, 15), (2, 6, 15), (3, 6, 15), (1, 8, 30), (2, 8, 30), (1, 10, 40), (1, 12, 50), (2, 12, 50), (1, 20, 60), (1, 50, 200))
 
 CRATES = [
-    "fp_lists:",
+    "fp_base_lists:",
     "fp_ends: thiserror",
-    "fp_model: fp_lists",
-    "fp_records: fp_lists csv itoa",
-    "fp_labels: fp_lists",
-    "fp_timenodes: fp_lists",
-    "fp_fields: fp_lists fp_model fp_records indexmap",
-    "fp_reader: fp_lists fp_model fp_records fp_fields thiserror",
-    "fp_flatnet: fp_lists fp_model fp_labels fp_timenodes",
-    "fp_timetable: fp_lists fp_model",
-    "fp_consolidation: fp_lists fp_model fp_timenodes fp_flatnet",
-    "fp_localsearch: fp_lists fp_model fp_timenodes fp_flatnet fp_timetable fp_consolidation",
+    "fp_model: fp_base_lists",
+    "fp_records: fp_base_lists csv itoa",
+    "fp_labels: fp_base_lists",
+    "fp_timenodes: fp_base_lists",
+    "fp_records_fields: fp_base_lists fp_model fp_records indexmap",
+    "fp_reader: fp_base_lists fp_model fp_records fp_records_fields thiserror",
+    "fp_flatnet: fp_base_lists fp_model fp_labels fp_timenodes",
+    "fp_timetable: fp_base_lists fp_model",
+    "fp_repair_groups: fp_base_lists fp_model fp_timenodes fp_flatnet",
+    "fp_repair_search: fp_base_lists fp_model fp_timenodes fp_flatnet fp_timetable fp_repair_groups",
 ]
 
-USES = ["fp_ends", "fp_model", "fp_records", "fp_reader", "fp_flatnet", "fp_timetable", "fp_localsearch", "anyhow"]
+USES = ["fp_ends", "fp_model", "fp_records", "fp_reader", "fp_flatnet", "fp_timetable", "fp_repair_search", "anyhow"]
 
 SOURCE = """//! Local searches from the direct plan of an instance on standard input. The words are the turns and the allowances.
 #![tactic(auto)]
@@ -38,7 +38,7 @@ SOURCE = """//! Local searches from the direct plan of an instance on standard i
 use anyhow::{Result, bail};
 use fp_ends::{StdSource, read_all};
 use fp_flatnet::{Verdict, Windows, direct, feasible};
-use fp_localsearch::{Search, local_search};
+use fp_repair_search::{Search, local_search};
 use fp_model::Instance;
 use fp_reader::{Tail, instance};
 use fp_records::records;

@@ -1,7 +1,10 @@
 """What an answer of the program says beside itself, in words, for standard error."""
 
-from . import certificate_faults, input_faults, kept_faults, rejections
-from .instances import certificate_part, instance_of, least_times
+from . import rejections
+from .faults import readings
+from .instances import instance_of, least_times
+from .kept_legs import stuck_words
+from .options import option
 from .records import records_of
 
 STATUSES = {
@@ -20,22 +23,6 @@ BUDGETS = {
     "rounds": (4_000, 400, "a round adds time points, so that more departures are told apart"),
     "branches": (100_000, 4_000, "a branch parts the plans of a leaf into two, so that the bound can rise"),
 }
-
-
-def option(words, name, without):
-    """The number that the words give to an option."""
-    parts = " ".join(words).replace("=", " ").split()
-    return int(parts[parts.index(name) + 1]) if name in parts else without
-
-
-def refused_words(words, records, data, ordinal, code):
-    if code >= 31:
-        return kept_faults.explanation(records, ordinal, code)
-    if code >= 21:
-        return certificate_faults.explanation(records, certificate_part(records), data, ordinal, code)
-    if code == 12 and not input_faults.is_too_large(records):
-        return input_faults.scale_fault(records, option(words, "--scale", 1_000_000))
-    return input_faults.explanation(records, data, ordinal, code)
 
 
 def infeasible_words(records, name, time):
@@ -102,13 +89,13 @@ def explanation(words, status, data, answer):
         return unread_words(fields)
     records = records_of(data)
     if fields[0] == "refused" and len(fields) == 3:
-        return refused_words(words, records, data, int(fields[1]), int(fields[2]))
+        return readings.explanation(words, records, data, int(fields[1]), int(fields[2]))
     if fields[0] == "rejected":
         return rejections.explanation(records, int(fields[1]))
     if fields[:2] == ["answer", "infeasible"]:
         return infeasible_words(records, fields[2], fields[3])
     if fields[:2] == ["answer", "stuck"]:
-        return kept_faults.stuck_words(records, fields[2])
+        return stuck_words(records, fields[2])
     if status == 0 and not any(it.kind == "shipment" for it in records):
         return ["the instance has no shipments"]
     return []

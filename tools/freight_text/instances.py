@@ -9,12 +9,20 @@ MOST = {"terminal": 100, "arc": 1000, "shipment": 500}
 AMOUNT = 10**18
 LATEST = 100_000
 
+# Beyond so many digits a number is above every limit.
+MANY_DIGITS = 60
+
 # The fields of each kind of record after the first: what it is called, and its least and greatest number (None: a name).
 FIELDS = {
     "terminal": (("NAME", None), ("HOLD", (0, 1000))),
     "arc": (("FROM", None), ("TO", None), ("TIME", (1, LATEST)), ("CAPACITY", (1, AMOUNT)), ("TRUCK", (0, AMOUNT)), ("FREIGHT", (0, AMOUNT))),
     "shipment": (("NAME", None), ("FROM", None), ("TO", None), ("SIZE", (1, AMOUNT)), ("RELEASE", (0, LATEST)), ("DUE", (0, LATEST))),
 }
+
+
+def number_of(digits):
+    """The number that digits write, of any count; where it is above every limit, some number that is too."""
+    return int(digits.lstrip("0")[:MANY_DIGITS] or "0")
 
 
 @dataclass(frozen=True)
@@ -50,11 +58,11 @@ class Instance:
     def add(self, record: Record):
         words = record.fields
         if record.kind == "terminal":
-            self.holds[words[1]] = int(words[2]) if len(words) > 2 else 0
+            self.holds[words[1]] = number_of(words[2]) if len(words) > 2 else 0
         elif record.kind == "arc":
-            self.arcs[words[1], words[2]] = Arc(words[1], words[2], *map(int, words[3:7]), record.line)
+            self.arcs[words[1], words[2]] = Arc(words[1], words[2], *map(number_of, words[3:7]), record.line)
         else:
-            self.shipments[words[1]] = Shipment(*words[1:4], *map(int, words[4:7]), record.line)
+            self.shipments[words[1]] = Shipment(*words[1:4], *map(number_of, words[4:7]), record.line)
 
 
 def instance_of(records):
@@ -83,14 +91,13 @@ def trucks_for(size, capacity):
     return -(-size // capacity)
 
 
-def scaled_alone_cost(instance):
-    """1,000,000 times what all shipments cost that go over every arc alone, which the weight multiplies by 65,536."""
-    total = sum(
+def alone_cost(instance):
+    """What all shipments cost that go over every arc alone, which the weight multiplies by 65,536 and the scale."""
+    return sum(
         arc.freight * it.size + arc.truck * trucks_for(it.size, arc.capacity)
         for it in instance.shipments.values()
         for arc in instance.arcs.values()
     )
-    return 1_000_000 * total
 
 
 def least_times(instance, origin, avoided=frozenset()):

@@ -5,6 +5,8 @@ import io
 from dataclasses import dataclass
 
 BYTE_ORDER_MARK = b"\xef\xbb\xbf"
+# What stands for a byte 0 while records are read: before Python 3.11 the library reads none.
+STAND_IN = "\u0100"
 csv.field_size_limit(1 << 30)
 
 
@@ -30,17 +32,12 @@ def stripped(fields):
 
 def records_of(data):
     """The records of some bytes. Each byte stands as the character of its number, so that none is lost."""
-    text = data.removeprefix(BYTE_ORDER_MARK).decode("latin-1")
+    text = data.removeprefix(BYTE_ORDER_MARK).decode("latin-1").replace("\0", STAND_IN)
     reader = csv.reader(io.StringIO(text, newline=""))
     found, before = [], 0
     for row in reader:
         line, before = before + 1, reader.line_num
-        fields = stripped(row)
+        fields = stripped(it.replace(STAND_IN, "\0") for it in row)
         if fields:
             found.append(Record(line, len(found) + 1, fields))
     return found
-
-
-def last_line(data):
-    """The number of the last line."""
-    return data.count(b"\n") + (not data.endswith(b"\n"))

@@ -13,6 +13,11 @@ PARTS = {
     8: "the shipment isn't too late, or its fastest time is another",
 }
 
+ALONE = (
+    "this is a timetable alone, without the lines that show its claim. Its legs are a plan, and its cost and its trucks are"
+    " right; to have the claim checked hand on the whole answer, which plan keeps with --certificate FILE"
+)
+
 
 def lines_of(certificate, kind):
     return [it for it in certificate if it.kind == kind]
@@ -237,7 +242,15 @@ PLACES = {
 }  # fmt: skip
 
 
+def is_alone(certificate):
+    """Whether the lines are a timetable without any that show its claim."""
+    return not any(it.kind in ("point", "table", "split", "leaf") for it in certificate)
+
+
 def explanation(records, number):
     """One or two lines on a rejected certificate: the part that fails, and where."""
-    place = PLACES[number](instance_of(records), certificate_part(records))
+    certificate = certificate_part(records)
+    if number == 6 and is_alone(certificate):
+        return [f"part 6 of the certificate fails: {ALONE}"]
+    place = PLACES[number](instance_of(records), certificate)
     return [f"part {number} of the certificate fails: {PARTS[number]}"] + ([place] if place else [])

@@ -30,9 +30,17 @@ class Departure:
         """The part of the trucks' capacity that is used, in percent."""
         return 100 * self.load // (self.trucks * self.capacity) if self.trucks else 0
 
+    @property
+    def key(self):
+        """What tells a departure from every other."""
+        return (self.tail, self.head, self.depart)
+
 
 class Timetable:
-    """An instance, the answer's kind and cost, and the legs and departures as they are printed."""
+    """An instance, the answer's kind and cost, and the legs and departures as they are printed.
+
+    Both are bytes without a fault: `page.inputs` looks for faults before.
+    """
 
     def __init__(self, instance_data, answer_data):
         self.instance = instance_of(records_of(instance_data))
@@ -41,11 +49,20 @@ class Timetable:
         self.legs = [Leg(*it.fields[1:4], int(it.fields[4]), int(it.fields[5])) for it in lines if it.kind == "leg"]
         self.departures = [self.departure(it.fields) for it in lines if it.kind == "truck"]
         self.claims = [it for it in lines if it.kind in ("point", "table", "split", "leaf")]
+        self.places = {it.key: place for place, it in enumerate(self.departures)}
+        self.freight, self.onward = {}, {}
+        for leg in self.legs:
+            self.freight.setdefault((leg.tail, leg.head, leg.depart), []).append(leg.shipment)
+            self.onward[leg.shipment, leg.tail] = leg
 
     def departure(self, fields):
         arc = self.instance.arcs[fields[1], fields[2]]
         depart, trucks, load = map(int, fields[3:6])
         return Departure(arc.tail, arc.head, depart, depart + arc.time, trucks, load, arc.capacity)
+
+    def departure_of(self, leg):
+        """The place among the departures of the one by which a leg goes."""
+        return self.places[leg.tail, leg.head, leg.depart]
 
     def legs_by_shipment(self):
         found = {name: [] for name in self.instance.shipments}
@@ -55,8 +72,24 @@ class Timetable:
 
     def aboard(self, departure):
         """The shipments that leave by a departure."""
-        key = (departure.tail, departure.head, departure.depart)
-        return [it.shipment for it in self.legs if (it.tail, it.head, it.depart) == key]
+        return self.freight.get(departure.key, [])
+
+    def leaving(self, terminal):
+        """The departures from a terminal, by the moment at which they leave."""
+        return sorted((it for it in self.departures if it.tail == terminal), key=lambda it: it.depart)
+
+    def arriving(self, terminal):
+        """The departures to a terminal, by the moment at which they arrive."""
+        return sorted((it for it in self.departures if it.head == terminal), key=lambda it: it.arrive)
+
+    def next_leg(self, shipment, terminal):
+        """The leg by which a shipment leaves a terminal; None at its destination."""
+        return self.onward.get((shipment, terminal))
+
+    def used_terminals(self):
+        """The terminals where a truck leaves or arrives, in the instance's order."""
+        used = {name for it in self.departures for name in (it.tail, it.head)}
+        return [name for name in self.instance.holds if name in used]
 
     def costs_by_arc(self):
         """For each arc that is used: its trucks, what they cost, and what the flow over it costs."""

@@ -4,7 +4,7 @@ use Rattle.std.proofs.Common.{◌≡◌, ℕ, ◌+◌, ◌*◌, ◌/◌, ◌<◌
 use Rattle.std.specs.Prelude.{nat_eq, nat_lt, nat_le, Option, Some, None, IsSomeAnd}
 use Rattle.std.proofs.Math.Nat.{le-div_iff_mul-le, div-lt_iff_lt-mul}
 use Rattle.std.proofs.lemmas.Bool.{and_parts, and_from, le-leb, lt-ltb, leb-true, ltb-true, eq-eqb, eqb-true, false≢true}
-use Rattle.fp_lists.proofs.CountsBelow.{some_below-true, some_below-witness}
+use Rattle.fp_base_lists.proofs.CountsBelow.{some_below-true, some_below-witness}
 use Rattle.fp_model.specs.declared.parts.Leg.{Leg}
 use Rattle.fp_model.specs.Problem.{Problem}
 use Rattle.fp_timenodes.specs.Floor.{floor_point}

@@ -5,14 +5,14 @@ use Rattle.std.specs.List.{AllPairs}
 use Rattle.std.proofs.lemmas.Bool.{cases_lt, cases_order, eq-eqb, le-leb, le-ltb, lt-leb, lt-ltb, ne_eqb}
 use Rattle.fp_model.specs.declared.parts.Leg.{Leg}
 use Rattle.fp_timenodes.specs.Floor.{floor_point}
-use Rattle.fp_lists.specs.Membership.{list_has}
+use Rattle.fp_base_lists.specs.Membership.{list_has}
 use Rattle.fp_timenodes.proofs.Floors.{IsFloorPoint-floor_point, floor_mono}
 use Rattle.fp_flatnet.specs.declared.window_tables.Window.{Window}
 use Rattle.fp_longestarcs.specs.Ascending.{ArePoints}
-use Rattle.fp_lists.specs.Ascending.{place_in}
+use Rattle.fp_base_lists.specs.Ascending.{place_in}
 use Rattle.fp_longestarcs.specs.Networks.{IsClass, IsNetwork, TimedNetwork, class_count, class_number, first_class, points_in, tail_in}
 use Rattle.fp_longestarcs.proofs.ClassNumbers.{first-mono, number-below, number-within, tail-points}
-use Rattle.fp_lists.proofs.Places.{place_in-lt, place_in_mono}
+use Rattle.fp_base_lists.proofs.Places.{place_in-lt, place_in_mono}
 use Rattle.fp_rows.specs.Bits.{with_range}
 use Rattle.fp_allowed.specs.Bits.{FillsArc, bit_of}
 use Rattle.fp_allowed.specs.Moments.{in_range, is_between}

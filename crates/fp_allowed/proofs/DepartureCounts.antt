@@ -13,9 +13,9 @@ use Rattle.fp_flatnet.specs.Tables.{WindowTable, windows_in}
 use Rattle.fp_tree.specs.declared.sides.Side.{Side}
 use Rattle.fp_allowed.specs.Allowed.{exit_of, tails_of}
 use Rattle.fp_allowed.specs.Departures.{departures_below, departures_in, is_departure}
-use Rattle.fp_lists.specs.Below.{count_below}
+use Rattle.fp_base_lists.specs.Below.{count_below}
 use Rattle.fp_allowed.specs.Moments.{all_let, concerned}
-use Rattle.fp_lists.proofs.CountsBelow.{count_below-same, count_below-le}
+use Rattle.fp_base_lists.proofs.CountsBelow.{count_below-same, count_below-le}
 use Rattle.fp_allowed.proofs.OpenMoments.{meets_all-concerned}
 
 -- the window is some time up to the latest

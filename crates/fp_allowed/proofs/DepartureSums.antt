@@ -14,7 +14,7 @@ use Rattle.fp_tree.specs.Sides.{Exit, first_of_split, second_of_split}
 use Rattle.fp_allowed.specs.Allowed.{exit_of, meets, meets_all, tails_of}
 use Rattle.fp_allowed.specs.Departures.{IsSplitAt, departures_below, departures_in, departures_left, is_departure}
 use Rattle.fp_allowed.proofs.AllowedClasses.{HasMoment}
-use Rattle.fp_lists.proofs.CountsBelow.{count_below-divided, count_below-some, one_if}
+use Rattle.fp_base_lists.proofs.CountsBelow.{count_below-divided, count_below-some, one_if}
 
 -- what meets sides and one more
 pub meets_all_push : (k : ℕ) (sides : List Side) (side : Side) (e : Exit) → meets_all k (sides ++ (side ∷ [])) e ≡ (meets_all k sides e && meets k e side)

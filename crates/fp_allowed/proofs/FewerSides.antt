@@ -1,5 +1,5 @@
--- What is allowed under sides is so under fewer of them, and so is a timed walk.
-use Rattle.std.proofs.Common.{◌≡◌, ℕ, Bool, true, List, [], ◌∷◌, ◌++◌, get_or, ◌∙◌, subst, arith, length-append}
+-- What is allowed under sides is so under fewer of them, and so is a timed walk; without sides all routes obey.
+use Rattle.std.proofs.Common.{◌≡◌, ℕ, Bool, true, List, [], ◌∷◌, ◌++◌, get_or, ◌∙◌, subst, arith, length-append, ◌+◌}
 use Rattle.std.specs.Prelude.{Contains, IsSomeAnd, Option, Some, None}
 use Rattle.std.specs.List.{AllByRecursion}
 use Rattle.std.proofs.lemmas.List.{get_or_append_left, get_or_default}
@@ -9,10 +9,11 @@ use Rattle.fp_model.specs.declared.parts.Shipment.{Shipment}
 use Rattle.fp_model.specs.Problem.{Problem}
 use Rattle.fp_flatnet.specs.declared.window_tables.Window.{Window}
 use Rattle.fp_tree.specs.declared.sides.Side.{Side}
-use Rattle.fp_tree.specs.Sides.{Exit}
-use Rattle.fp_allowed.specs.Allowed.{AreAmong, exit_of, is_allowed, meets, meets_all}
+use Rattle.fp_tree.specs.Sides.{Exit, MeetsAll}
+use Rattle.fp_allowed.specs.Allowed.{AreAmong, exit_of, is_allowed, meets, meets_all, PlanObeys}
 use Rattle.fp_allowed.specs.Walks.{IsTimedWalk}
 use Rattle.fp_allowed.proofs.AllowedClasses.{HasMoment, is_allowed_from, is_allowed_parts}
+use Rattle.fp_base_lists.specs.Numbered.{AllFrom}
 
 -- no sides are among any
 pub AreAmong_none : (sides : List Side) → AreAmong [] sides
@@ -65,3 +66,15 @@ IsTimedWalk_fewer p windows points fewer sides k s walk among =
 pub IsTimedWalk_without_sides : (p : Problem) (windows : ℕ → ℕ → Option Window) (points : ℕ → List ℕ) (sides : List Side) (k : ℕ) (s : Shipment) (walk : List Leg) →
     IsTimedWalk p points (is_allowed p windows points sides k) s walk → IsTimedWalk p points (is_allowed p windows points [] k) s walk
 IsTimedWalk_without_sides p windows points sides k s walk = IsTimedWalk_fewer p windows points [] sides k s walk (AreAmong_none sides)
+
+legs-obey : (p : Problem) (d k : ℕ) (legs : List Leg) → AllByRecursion (λ (l : Leg). MeetsAll d k [] (exit_of p l)) legs
+legs-obey p d k [] = tt
+legs-obey p d k (l ∷ legs) = (tt, legs-obey p d k legs)
+
+obey-from : (p : Problem) (d k : ℕ) (routes : List (List Leg)) → AllFrom (λ j r. AllByRecursion (λ (l : Leg). MeetsAll d j [] (exit_of p l)) r) k routes
+obey-from p d k [] = tt
+obey-from p d k (r ∷ routes) = (legs-obey p d k r, obey-from p d (k + 1) routes)
+
+-- routes over any denominator obey no sides
+pub PlanObeys-none : (p : Problem) (d : ℕ) (routes : List (List Leg)) → PlanObeys p d [] routes
+PlanObeys-none p d routes = obey-from p d 0 routes

@@ -1,22 +1,22 @@
 -- A forced chain, class by class, and how it ends.
-use Rattle.std.proofs.Common.{◌≡◌, ◌≢◌, ℕ, ◌+◌, ◌<◌, Bool, true, false, ◌||◌, cond, List, [], ◌∷◌, ◌++◌, length, get_or, set, replicate, ⊎_elim, inl, inr, refl, sym, ap, ◌∙◌, subst, arith, add-one, append_assoc}
-use Rattle.std.specs.Prelude.{All, Contains, count_by, nat_eq, not}
+use Rattle.std.proofs.Common.{◌≡◌, ◌≢◌, ℕ, ◌+◌, ◌<◌, Bool, true, false, ◌||◌, List, [], ◌∷◌, ◌++◌, length, get_or, set, replicate, ⊎_elim, inl, inr, refl, sym, ap, ◌∙◌, subst, arith, add-one, append_assoc}
+use Rattle.std.specs.Prelude.{All, Contains, nat_eq}
 use Rattle.std.specs.List.{AllByRecursion}
 use Rattle.std.proofs.Math.Bool.{or-false, or_comm}
-use Rattle.std.proofs.lemmas.Bool.{both_ways, cases_eq, eq-eqb, eqb-true, false≢true, ne_eqb, or_cases, or_parts}
+use Rattle.std.proofs.lemmas.Bool.{cases_eq, eq-eqb, eqb-true, false≢true, ne_eqb, or_cases}
 use Rattle.std.proofs.lemmas.List.{append-nil, get_or-replicate, get_or-set_other, get_or-set_same, length-replicate, length-set, map-append}
 use Rattle.std.proofs.lemmas.List.Elements.{All-push}
 use Rattle.std.proofs.lemmas.List.Folds.{list_any-append}
-use Rattle.std.proofs.lemmas.List.Sums.{sum_by-set}
 use Rattle.fp_model.specs.declared.parts.Leg.{Leg}
 use Rattle.fp_model.specs.declared.parts.Shipment.{Shipment}
 use Rattle.fp_model.specs.Problem.{Problem, arc_at}
-use Rattle.fp_lists.specs.Membership.{list_has}
+use Rattle.fp_base_lists.specs.Membership.{list_has}
 use Rattle.fp_longestarcs.specs.Networks.{TimedNetwork, class_count}
 use Rattle.fp_allowed.specs.declared.chain_ends.ChainEnd.TheVariants.{Reached, Several, Stuck}
 use Rattle.fp_allowed.specs.Allowed.{AreForced, IsForcedChain, IsOnly, tails_of}
 use Rattle.fp_allowed.specs.Chains.{IsForced, NoneLeaves, SeveralLeave, chain_stop, terminals_left}
 use Rattle.fp_allowed.specs.Listing.{class_at, classes_at}
+use Rattle.fp_base_lists.proofs.Membership.{list_has-apart}
 
 -- whether a number is in a list
 Contains-list_has : (xs : List ℕ) (t : ℕ) → list_has xs t ≡ true → Contains xs t
@@ -26,10 +26,6 @@ Contains-list_has (x ∷ xs) t h =
     (λ (here : nat_eq x t ≡ true). (0, omega arith, eqb-true x t here))
     (λ (later : list_has xs t ≡ true). let at = Contains-list_has xs t later in (at.0 + 1, omega (arith, at.1), rw add-one at.2))
     (or_cases (nat_eq x t) (list_has xs t) h)
-
-has_point_outside : (xs : List ℕ) (t : ℕ) → list_has xs t ≡ false → AllByRecursion (λ x. x ≢ t) xs
-has_point_outside [] t h = tt
-has_point_outside (x ∷ xs) t h = let parts = or_parts (nat_eq x t) (list_has xs t) h in (λ same. both_ways (nat_eq x t) parts.0 (eq-eqb x t same), has_point_outside xs t parts.1)
 
 outside_list_has : (xs : List ℕ) (t : ℕ) → AllByRecursion (λ x. x ≢ t) xs → list_has xs t ≡ true → ⊥
 outside_list_has [] t all h = false≢true h
@@ -95,7 +91,7 @@ module _ (p : Problem) (net : TimedNetwork) (allowed : Leg → Bool) (s : Shipme
             (cases_eq here t);
         on = λ rest forced.
             let from : AreForced p allowed s.to (here ∷ so_far.seen) (arc_at p c.arc).to rest = subst (λ (n : ℕ). AreForced p allowed s.to (here ∷ so_far.seen) n rest) to_is forced in
-            let whole : AreForced p allowed s.to [] s.from (legs ++ (c ∷ rest)) = so_far.on (c ∷ rest) (away, has_point_outside so_far.seen here unseen, only, from) in
+            let whole : AreForced p allowed s.to [] s.from (legs ++ (c ∷ rest)) = so_far.on (c ∷ rest) (away, list_has-apart so_far.seen here unseen, only, from) in
             subst (λ (l : List Leg). AreForced p allowed s.to [] s.from l) (sym (joined_rest rest)) whole;
         back = λ rest forced.
             let whole : AreForced p allowed s.to [] s.from (legs ++ (c ∷ rest)) = subst (λ (l : List Leg). AreForced p allowed s.to [] s.from l) (joined_rest rest) forced in
@@ -153,7 +149,7 @@ module _ (p : Problem) (net : TimedNetwork) (allowed : Leg → Bool) (s : Shipme
       let unseen : list_has so_far.seen here ≡ false = sym (so_far.tells here (omega (arith, so_far.place, so_far.long))) ∙ unmet in
       record {
         forced = stops_at classes met here so_far (λ c other out only. several.differ (only.alone several.one several.one_allowed several.one_leaves ∙ sym (only.alone several.two several.two_allowed several.two_leaves)));
-        ends = (so_far.stop, away, has_point_outside (terminals_left p (classes_at net classes)) here (sym (so_far.same here) ∙ unseen), several);
+        ends = (so_far.stop, away, list_has-apart (terminals_left p (classes_at net classes)) here (sym (so_far.same here) ∙ unseen), several);
         within = so_far.within;
         terminal = so_far.place;
       }

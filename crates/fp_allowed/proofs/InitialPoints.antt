@@ -1,55 +1,26 @@
 -- Points with the initial ones of an instance and its windows stay so, and have each shipment's
 -- times and each anchor.
-use Rattle.std.proofs.Common.{◌≡◌, ◌≢◌, ℕ, ◌+◌, ◌<◌, true, ◌&&◌, List, [], ◌++◌, length, get_or, ⊎_elim, refl, sym, ap, ◌∙◌, subst, arith}
+use Rattle.std.proofs.Common.{◌≡◌, ◌≢◌, ℕ, ◌+◌, ◌<◌, true, List, ◌++◌, length, get_or, ⊎_elim, refl, sym, ap, ◌∙◌, subst, arith}
 use Rattle.std.specs.Prelude.{nat_eq, Contains, IfSome, Option, Some}
 use Rattle.std.proofs.lemmas.Bool.{cases_eq, cond-true, eq-eqb, or_left, or_right}
 use Rattle.fp_model.specs.declared.parts.Shipment.{Shipment}
 use Rattle.fp_model.specs.Numbered.{no_shipment, shipment_at}
 use Rattle.fp_model.specs.Problem.{IsValid, Problem, arc_at, hold_at, no_arc}
 use Rattle.fp_timenodes.specs.declared.places.Place.{Place}
-use Rattle.fp_lists.specs.Membership.{list_has}
-use Rattle.fp_timenodes.specs.Points.{TimePoints, points_at, times_at}
-use Rattle.fp_timenodes.proofs.Rounds.{points_at_mono}
-use Rattle.fp_lists.proofs.Membership.{list_has-append, list_has-rest, list_has-first, list_has-filter}
+use Rattle.fp_base_lists.specs.Membership.{list_has}
+use Rattle.fp_timenodes.specs.Points.{times_at}
+use Rattle.fp_base_lists.proofs.Membership.{list_has-append, list_has-rest, list_has-first, list_has-filter}
 use Rattle.fp_flatnet.specs.declared.window_tables.Window.{Window}
 use Rattle.fp_flatnet.specs.Belonging.{BelongsTo, IsNarrowed}
-use Rattle.fp_flatnet.specs.Initial.{BeginAt, dues_at, releases_at}
+use Rattle.fp_flatnet.specs.Initial.{dues_at, releases_at}
 use Rattle.fp_flatnet.specs.Tables.{WindowTable, windows_in}
-use Rattle.fp_longestarcs.specs.Changes.{extended_points}
-use Rattle.fp_longestarcs.specs.Networks.{TimedNetwork, points_in}
-use Rattle.fp_longestarcs.specs.Whole.{IsNetworkOf}
 use Rattle.fp_longestarcs.specs.Properties.{HasShipmentTimes}
-use Rattle.fp_longestarcs.proofs.EqualNetworks.{has-with}
 use Rattle.fp_allowed.specs.InitialPoints.{HasInitialPoints}
 use Rattle.fp_allowed.specs.SamePoints.{AgreeOnPoints}
-
--- the points as of the start have the initial ones
-pub HasInitialPoints-BeginAt : (p : Problem) (anchors : List Place) (v : TimePoints) → BeginAt p anchors v → HasInitialPoints p anchors (λ terminal. points_at v terminal 0)
-HasInitialPoints-BeginAt p anchors v begins = λ terminal at h has. begins.same terminal h at ∙ has
-
--- so do others that have all points of some that do
-pub HasInitialPoints_more : (p : Problem) (anchors : List Place) (points others : ℕ → List ℕ) → ((terminal at : ℕ) → terminal < length p.terminals → list_has (points terminal) at ≡ true → list_has (others terminal) at ≡ true) →
-    HasInitialPoints p anchors points → HasInitialPoints p anchors others
-HasInitialPoints_more p anchors points others more initial = λ terminal at h has. more terminal at h (initial terminal at h has)
 
 -- the same points, in whatever lists
 pub HasInitialPoints_same : (p : Problem) (anchors : List Place) (points others : ℕ → List ℕ) → AgreeOnPoints p points others → HasInitialPoints p anchors points → HasInitialPoints p anchors others
 HasInitialPoints_same p anchors points others same initial = λ terminal at h has. sym (same terminal h at) ∙ initial terminal at h has
-
--- a network with the points as of any round
-pub HasInitialPoints-IsNetworkOf : (p : Problem) (anchors : List Place) (v : TimePoints) (round : ℕ) (net : TimedNetwork) → BeginAt p anchors v → IsNetworkOf p v round net →
-    HasInitialPoints p anchors (points_in net)
-HasInitialPoints-IsNetworkOf p anchors v round net begins is =
-    HasInitialPoints_more p anchors (λ terminal. points_at v terminal 0) (points_in net)
-    (λ terminal at h has. is.points terminal h at ∙ points_at_mono v terminal 0 round at (omega arith) has)
-    (HasInitialPoints-BeginAt p anchors v begins)
-
--- and one with one more point, as `lengthen` leaves it
-pub HasInitialPoints-points_with : (p : Problem) (anchors : List Place) (old new : TimedNetwork) (terminal at : ℕ) → terminal < length old.points → new.points ≡ extended_points old terminal at →
-    HasInitialPoints p anchors (points_in old) → HasInitialPoints p anchors (points_in new)
-HasInitialPoints-points_with p anchors old new terminal at within grown =
-    HasInitialPoints_more p anchors (points_in old) (points_in new) (λ t q h has.
-    ap (λ (lists : List (List ℕ)). list_has (get_or lists t []) q) grown ∙ has-with old terminal at t q within ∙ or_right (nat_eq t terminal && nat_eq at q) (list_has (points_in old t) q) has)
 
 module _ (p : Problem) (anchors : List Place) (points : ℕ → List ℕ) (initial : HasInitialPoints p anchors points) where
   -- the time 0 is a point of each terminal

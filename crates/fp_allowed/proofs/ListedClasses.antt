@@ -5,11 +5,11 @@ use Rattle.std.proofs.lemmas.List.Sums.{sum_by-cons}
 use Rattle.fp_model.specs.declared.parts.Leg.{Leg}
 use Rattle.fp_model.specs.Numbered.{no_leg}
 use Rattle.fp_longestarcs.specs.Ascending.{ArePoints}
-use Rattle.fp_lists.specs.Ascending.{place_in}
+use Rattle.fp_base_lists.specs.Ascending.{place_in}
 use Rattle.fp_longestarcs.specs.Networks.{IsClass, IsNetwork, TimedNetwork, class_count, class_number, copy_count, first_class, points_in, tail_in}
 use Rattle.fp_longestarcs.proofs.ClassNumbers.{class-place, first-mono, first-more, tail-points}
-use Rattle.fp_lists.proofs.Places.{place_in-get_or, place_in-unique}
-use Rattle.fp_lists.proofs.Membership.{list_has-get_or}
+use Rattle.fp_base_lists.proofs.Places.{place_in-get_or, place_in-unique}
+use Rattle.fp_base_lists.proofs.Membership.{list_has-get_or}
 use Rattle.fp_allowed.specs.Listing.{all_classes, class_at, classes_from}
 
 -- the points of a terminal, none where there is no such terminal

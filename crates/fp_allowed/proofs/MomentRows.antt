@@ -9,9 +9,9 @@ use Rattle.fp_rows.specs.Bits.{count_true, with_range}
 use Rattle.fp_tree.specs.declared.sides.Side.{Side}
 use Rattle.fp_allowed.specs.declared.departures_left.TheConstants.{MOMENTS}
 use Rattle.fp_allowed.specs.Bits.{bit_of}
-use Rattle.fp_lists.specs.Below.{count_below}
+use Rattle.fp_base_lists.specs.Below.{count_below}
 use Rattle.fp_allowed.specs.Moments.{all_let, in_range, is_open, lets}
-use Rattle.fp_lists.proofs.CountsBelow.{count_below-more, count_below-same}
+use Rattle.fp_base_lists.proofs.CountsBelow.{count_below-more, count_below-same}
 use Rattle.fp_allowed.proofs.CountsBelow.{count_true-below}
 use Rattle.fp_allowed.proofs.OpenMoments.{all_let_step}
 use Rattle.fp_allowed.proofs.RowBits.{bit_of-with_range, length-with_range}

@@ -6,13 +6,13 @@ use Rattle.std.specs.List.{AllByRecursion, AllZip}
 use Rattle.fp_model.specs.declared.parts.Leg.{Leg}
 use Rattle.fp_model.specs.declared.parts.Shipment.{Shipment}
 use Rattle.fp_model.specs.Numbered.{no_shipment, route_at, shipment_at}
-use Rattle.fp_lists.specs.Numbered.{AllZipFrom, AllFrom}
+use Rattle.fp_base_lists.specs.Numbered.{AllZipFrom, AllFrom}
 use Rattle.fp_model.specs.Plans.{IsPlan}
 use Rattle.fp_model.specs.Problem.{Problem, arc_at}
 use Rattle.fp_model.specs.Routes.{Carries, Leads, LeavesReady, arcs_of, step}
 use Rattle.fp_model.proofs.Bounds.{Leads-exist}
-use Rattle.fp_lists.proofs.Maps.{get_or-map_default}
-use Rattle.fp_lists.proofs.Numbered.{AllZipFrom-get_or}
+use Rattle.fp_base_lists.proofs.Maps.{get_or-map_default}
+use Rattle.fp_base_lists.proofs.Numbered.{AllZipFrom-get_or}
 use Rattle.fp_timenodes.specs.Floor.{floor_point}
 use Rattle.fp_timenodes.proofs.Floors.{floor_le, floor_mono}
 use Rattle.fp_flatnet.specs.declared.window_tables.Window.{Window}

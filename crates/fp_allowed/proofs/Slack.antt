@@ -3,7 +3,7 @@
 use Rattle.std.proofs.Common.{◌≡◌, ℕ, zero, suc, ◌+◌, ◌<◌, ◌≤◌, Bool, true, false, List, [], ◌∷◌, ◌++◌, length, ⊎_elim, ap, subst, arith}
 use Rattle.std.specs.Prelude.{nat_eq, nat_le, Option, Some, None}
 use Rattle.std.proofs.lemmas.Bool.{and_from, and_parts, cases_Bool, cases_eq, cond-false, cond-true, eqb-true}
-use Rattle.fp_lists.specs.Below.{sum_below, count_below}
+use Rattle.fp_base_lists.specs.Below.{sum_below, count_below}
 use Rattle.fp_model.specs.Problem.{IsValid, Problem, no_arc}
 use Rattle.fp_flatnet.specs.declared.window_tables.Window.{Window}
 use Rattle.fp_tree.specs.declared.sides.Side.{Side}
@@ -12,8 +12,9 @@ use Rattle.fp_tree.specs.Sides.{Exit, first_of_split, second_of_split}
 use Rattle.fp_allowed.specs.Allowed.{AreAmong, exit_of, meets_all, tails_of}
 use Rattle.fp_allowed.specs.Departures.{DividesDepartures, departures_below, departures_in, departures_left, is_departure}
 use Rattle.fp_allowed.specs.Slack.{slack, slack_at}
-use Rattle.fp_lists.proofs.CountsBelow.{one_if}
+use Rattle.fp_base_lists.proofs.CountsBelow.{one_if}
 use Rattle.fp_allowed.proofs.FewerSides.{AreAmong_append, meets_all_fewer}
+use Rattle.fp_base_lists.proofs.SumsBelow.{sum_below-le}
 
 -- a test that passes wherever another does counts at least as many numbers
 count_below_mono : (n : ℕ) (narrow wide : ℕ → Bool) → ((m : ℕ) → narrow m ≡ true → wide m ≡ true) → count_below n narrow ≤ count_below n wide
@@ -24,17 +25,12 @@ count_below_mono (suc n) narrow wide widens =
     (λ (fails : narrow n ≡ false). omega (arith, ap one_if fails, count_below_mono n narrow wide widens))
     (cases_Bool (narrow n))
 
--- a function that is nowhere greater has no greater sum
-sum_below_mono : (n : ℕ) (f g : ℕ → ℕ) → ((i : ℕ) → i < n → f i ≤ g i) → sum_below n f ≤ sum_below n g
-sum_below_mono zero f g le = omega arith
-sum_below_mono (suc n) f g le = omega (arith, le n (omega arith), sum_below_mono n f g (λ i h. le i (omega (arith, h))))
-
 -- and where it is less somewhere, a smaller one
 sum_below_less : (n at : ℕ) (f g : ℕ → ℕ) → at < n → ((i : ℕ) → i < n → f i ≤ g i) → f at < g at → sum_below n f < sum_below n g
 sum_below_less zero at f g inside le less = absurd (omega (arith, inside))
 sum_below_less (suc n) at f g inside le less =
     ⊎_elim
-    (λ (here : at ≡ n). omega (arith, subst (λ (i : ℕ). f i < g i) here less, sum_below_mono n f g (λ i h. le i (omega (arith, h)))))
+    (λ (here : at ≡ n). omega (arith, subst (λ (i : ℕ). f i < g i) here less, sum_below-le n f g (λ i h. le i (omega (arith, h)))))
     (λ (other : at ≡ n → ⊥). omega (arith, le n (omega arith), sum_below_less n at f g (omega (arith, inside, other)) (λ i h. le i (omega (arith, h))) less))
     (cases_eq at n)
 
@@ -71,15 +67,15 @@ module _ (p : Problem) (windows : ℕ → ℕ → Option Window) where
     -- and the slack is at least as great
     pub slack_fewer : slack p windows sides ≤ slack p windows fewer
     slack_fewer =
-        sum_below_mono (length p.shipments) (λ k. sum_below (length p.terminals) (slack_at p windows sides k)) (λ k. sum_below (length p.terminals) (slack_at p windows fewer k))
-        (λ k h. sum_below_mono (length p.terminals) (slack_at p windows sides k) (slack_at p windows fewer k) (λ t within. slack_at_fewer k t))
+        sum_below-le (length p.shipments) (λ k. sum_below (length p.terminals) (slack_at p windows sides k)) (λ k. sum_below (length p.terminals) (slack_at p windows fewer k))
+        (λ k h. sum_below-le (length p.terminals) (slack_at p windows sides k) (slack_at p windows fewer k) (λ t within. slack_at_fewer k t))
 
     -- it is greater where one shipment has more departures at one terminal, of which some are left
     slack_less : (k terminal : ℕ) → k < length p.shipments → terminal < length p.terminals → 1 ≤ departures_left p windows sides k terminal →
         departures_left p windows sides k terminal < departures_left p windows fewer k terminal → slack p windows sides < slack p windows fewer
     slack_less k terminal shipment place some less =
         sum_below_less (length p.shipments) k (λ j. sum_below (length p.terminals) (slack_at p windows sides j)) (λ j. sum_below (length p.terminals) (slack_at p windows fewer j)) shipment
-        (λ j h. sum_below_mono (length p.terminals) (slack_at p windows sides j) (slack_at p windows fewer j) (λ t within. slack_at_fewer j t))
+        (λ j h. sum_below-le (length p.terminals) (slack_at p windows sides j) (slack_at p windows fewer j) (λ t within. slack_at_fewer j t))
         (sum_below_less (length p.terminals) terminal (slack_at p windows sides k) (slack_at p windows fewer k) place (λ t within. slack_at_fewer k t) (omega (arith, some, less)))
 
   -- one more side leaves no more departures, for each shipment at each terminal

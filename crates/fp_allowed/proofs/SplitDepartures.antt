@@ -6,7 +6,7 @@ use Rattle.fp_model.specs.declared.parts.Leg.{Leg}
 use Rattle.fp_model.specs.Problem.{Problem}
 use Rattle.fp_timenodes.specs.declared.places.TheConstants.{LATEST}
 use Rattle.fp_timenodes.specs.Floor.{floor_point}
-use Rattle.fp_lists.specs.Membership.{list_has}
+use Rattle.fp_base_lists.specs.Membership.{list_has}
 use Rattle.fp_timenodes.proofs.Floors.{floor_le, floor_greatest}
 use Rattle.fp_flatnet.specs.declared.window_tables.Window.{Window}
 use Rattle.fp_flatnet.specs.Tables.{windows_in}
@@ -14,7 +14,7 @@ use Rattle.fp_longestarcs.specs.Ascending.{ArePoints}
 use Rattle.fp_longestarcs.specs.Networks.{IsClass, TimedNetwork, points_in, tail_in}
 use Rattle.fp_longestarcs.proofs.ClassNumbers.{tail-points}
 use Rattle.fp_longestarcs.proofs.HeadLists.{arc-count, tail-of}
-use Rattle.fp_lists.proofs.Membership.{StandsAt-from_list_has, StandsAt}
+use Rattle.fp_base_lists.proofs.Membership.{StandsAt-from_list_has, StandsAt}
 use Rattle.fp_tree.specs.declared.sides.Side.{Side}
 use Rattle.fp_tree.specs.declared.sides.Side.TheVariants.{Without, Only, Before, From}
 use Rattle.fp_tree.specs.declared.sides.Split.{Split}

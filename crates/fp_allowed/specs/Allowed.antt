@@ -4,10 +4,10 @@
 -- Operations Research 65, 2017. Sides and forced chains are this project's own.
 use Rattle.std.specs.Prelude.{ℕ, ◌+◌, ◌≡◌, ◌≢◌, List, [], ◌∷◌, ◌++◌, length, Bool, true, false, ◌&&◌, ◌||◌, not, nat_eq, nat_lt, nat_le, Option, Some, None, All, Contains}
 use Rattle.std.specs.List.{AllByRecursion, list_all}
-use Rattle.fp_lists.specs.Below.{some_below}
+use Rattle.fp_base_lists.specs.Below.{some_below}
 use Rattle.fp_model.specs.declared.parts.Leg.{Leg}
 use Rattle.fp_model.specs.declared.parts.Shipment.{Shipment}
-use Rattle.fp_lists.specs.Numbered.{AllFrom}
+use Rattle.fp_base_lists.specs.Numbered.{AllFrom}
 use Rattle.fp_model.specs.Problem.{Problem, arc_at}
 use Rattle.fp_timenodes.specs.Floor.{floor_point}
 use Rattle.fp_flatnet.specs.declared.window_tables.Window.{Window}

@@ -3,7 +3,7 @@ use Rattle.std.specs.Prelude.{ℕ, ◌≡◌, ◌≤◌, List, length, map, Bool
 use Rattle.fp_model.specs.declared.parts.Leg.{Leg}
 use Rattle.fp_model.specs.Numbered.{route_at, shipment_at}
 use Rattle.fp_model.specs.Plans.{IsPlan}
-use Rattle.fp_lists.specs.Membership.{list_has}
+use Rattle.fp_base_lists.specs.Membership.{list_has}
 use Rattle.fp_flatnet.specs.Tables.{windows_in}
 use Rattle.fp_flatnet.specs.Windows.{PlanLiesWithin}
 use Rattle.fp_longestarcs.specs.Classes.{class_of}

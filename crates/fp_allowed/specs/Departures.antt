@@ -1,6 +1,6 @@
 -- The departures that a shipment has left at a terminal, and splits that divide them.
 use Rattle.std.specs.Prelude.{ℕ, zero, suc, ◌+◌, ◌≡◌, ◌<◌, ◌≤◌, List, [], ◌∷◌, ◌++◌, length, Bool, ◌&&◌, nat_eq, nat_le, Option, Some, None, if◌then◌else◌}
-use Rattle.fp_lists.specs.Below.{count_below}
+use Rattle.fp_base_lists.specs.Below.{count_below}
 use Rattle.fp_model.specs.Problem.{Problem}
 use Rattle.fp_timenodes.specs.declared.places.TheConstants.{LATEST}
 use Rattle.fp_flatnet.specs.declared.window_tables.Window.{Window}

@@ -1,7 +1,7 @@
 -- The slack of sides: how often departures that are left can still be divided.
 use Rattle.std.specs.Prelude.{ℕ, ◌-◌, ◌<◌, ◌≡◌, List, length, IfSome, Option}
 use Rattle.std.specs.List.{AllByRecursion}
-use Rattle.fp_lists.specs.Below.{sum_below}
+use Rattle.fp_base_lists.specs.Below.{sum_below}
 use Rattle.fp_model.specs.Problem.{Problem}
 use Rattle.fp_flatnet.specs.declared.window_tables.Window.{Window}
 use Rattle.fp_tree.specs.declared.sides.Side.{Side}

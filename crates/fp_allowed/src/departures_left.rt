@@ -7,7 +7,7 @@ ghost use Rattle.fp_flatnet.specs.Tables.{windows_in};
 ghost use Rattle.fp_tree.specs.declared.sides.Side.{Side};
 ghost use Rattle.fp_allowed.specs.Allowed.{tails_of};
 ghost use Rattle.fp_allowed.specs.Departures.{departures_in, departures_left};
-ghost use Rattle.fp_lists.specs.Below.{count_below};
+ghost use Rattle.fp_base_lists.specs.Below.{count_below};
 ghost use Rattle.fp_allowed.specs.Moments.{all_let, concerned as concerned_of, in_range, lets};
 
 use crate::NoMemory;

@@ -6,18 +6,18 @@ use Rattle.std.proofs.lemmas.Bool.{cases_Bool}
 use Rattle.std.proofs.lemmas.List.Sums.{take_while-cons}
 use Rattle.std.proofs.lemmas.Slice.Eq.{bytes_eq-Decides}
 use Rattle.fp_model.specs.Problem.{Problem}
-use Rattle.fp_fields.specs.Faults.{Fault, first_fault}
-use Rattle.fp_fields.specs.Fields.{field, is_kind}
-use Rattle.fp_fields.specs.Findings.{Finding, finding, first_code}
+use Rattle.fp_records_fields.specs.Faults.{Fault, first_fault}
+use Rattle.fp_records_fields.specs.Fields.{field, is_kind}
+use Rattle.fp_records_fields.specs.Findings.{Finding, finding, first_code}
 use Rattle.fp_reader.specs.Faults.{arc_faults, record_code, shipment_faults, terminal_faults}
 use Rattle.fp_reader.specs.Input.{is_answer, parts_from}
 use Rattle.fp_reader.specs.Parts.{with_record}
-use Rattle.fp_certificate.specs.declared.kinds.LineKind.{LineKind}
-use Rattle.fp_certificate.specs.declared.kinds.LineKind.TheVariants.{Direct, Optimal, Unfinished, Infeasible, Scale, Leg, Truck, Point, Table, Share, Span, Weight, ByArc, ByTime, Leaf, End}
-use Rattle.fp_certificate.specs.declared.kinds.LineKind.TheVariants as kind
+use Rattle.fp_certificate.specs.declared.lines.kinds.LineKind.{LineKind}
+use Rattle.fp_certificate.specs.declared.lines.kinds.LineKind.TheVariants.{Direct, Optimal, Unfinished, Infeasible, Scale, Leg, Truck, Point, Table, Share, Span, Weight, ByArc, ByTime, Leaf, End}
+use Rattle.fp_certificate.specs.declared.lines.kinds.LineKind.TheVariants as kind
 use Rattle.fp_certificate.specs.Kinds.{kind_of, split_kind}
 use Rattle.fp_certificate.specs.Reading.{certificate_from, faults_of, kind_code, line_code, nothing_read, with_line}
-use Rattle.fp_lines.specs.Statements.{Statement}
+use Rattle.fp_certificate_lines.specs.Statements.{Statement}
 
 -- where something was read, the first record has no fault, and what follows was read
 ok-none : {A : Type 0} (ordinal : ℕ) (code : Option ℕ) (rest : Result A Fault) (x : A) → first_fault ordinal code rest ≡ Ok x → code ≡ None

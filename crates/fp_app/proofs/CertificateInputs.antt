@@ -2,8 +2,8 @@
 use Rattle.std.proofs.Common.{◌≡◌, List, ℕ, refl, ap, ◌∙◌}
 use Rattle.std.specs.Prelude.{Some, Result, Ok, Err, MatchResult}
 use Rattle.fp_model.specs.Problem.{Problem}
-use Rattle.fp_fields.specs.Faults.{Fault}
-use Rattle.fp_lines.specs.Statements.{Statement}
+use Rattle.fp_records_fields.specs.Faults.{Fault}
+use Rattle.fp_certificate_lines.specs.Statements.{Statement}
 use Rattle.fp_app.specs.declared.shown.Shown.{Shown}
 use Rattle.fp_app.specs.declared.shown.Shown.TheVariants as shown
 use Rattle.fp_app.specs.Inputs.{OfCertificate, certificate_in, fault_of, input_fault, leading_instance_in}

@@ -4,14 +4,14 @@ use Rattle.std.specs.Prelude.{◌==◌, Option, Some, None, Result}
 use Rattle.std.proofs.lemmas.Bool.{cases_Bool}
 use Rattle.fp_model.specs.declared.limits.TheConstants.{SCALE}
 use Rattle.fp_model.specs.Problem.{Problem}
-use Rattle.fp_fields.specs.Faults.{Fault, first_fault}
+use Rattle.fp_records_fields.specs.Faults.{Fault, first_fault}
 use Rattle.fp_certificate.specs.declared.drafts.Draft.{Draft}
-use Rattle.fp_certificate.specs.declared.kinds.LineKind.{LineKind}
-use Rattle.fp_certificate.specs.declared.kinds.LineKind.TheVariants.{Direct, Optimal, Unfinished, Infeasible, Scale, Leg, Truck, Point, Table, Share, Span, Weight, ByArc, ByTime, Leaf, End}
-use Rattle.fp_certificate.specs.declared.kinds.LineKind.TheVariants as kind
+use Rattle.fp_certificate.specs.declared.lines.kinds.LineKind.{LineKind}
+use Rattle.fp_certificate.specs.declared.lines.kinds.LineKind.TheVariants.{Direct, Optimal, Unfinished, Infeasible, Scale, Leg, Truck, Point, Table, Share, Span, Weight, ByArc, ByTime, Leaf, End}
+use Rattle.fp_certificate.specs.declared.lines.kinds.LineKind.TheVariants as kind
 use Rattle.fp_certificate.specs.Kinds.{kind_of}
 use Rattle.fp_certificate.specs.Reading.{certificate_from, kind_code, line_code, with_kind_of, with_line}
-use Rattle.fp_lines.specs.Statements.{Statement}
+use Rattle.fp_certificate_lines.specs.Statements.{Statement}
 use Rattle.fp_session.specs.Certificates.{named_scale}
 use Rattle.fp_app.specs.Checks.{scale_of}
 

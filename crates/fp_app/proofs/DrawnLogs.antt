@@ -5,7 +5,7 @@ use Rattle.fp_model.specs.declared.parts.Leg.{Leg}
 use Rattle.std.proofs.lemmas.List.{length-map}
 use Rattle.fp_model.specs.Problem.{Problem, arc_at}
 use Rattle.fp_model.specs.Plans.{IsPlan}
-use Rattle.fp_lines.specs.Statements.{Statement}
+use Rattle.fp_certificate_lines.specs.Statements.{Statement}
 use Rattle.fp_timetable.specs.declared.lines.TruckLine.{TruckLine}
 use Rattle.fp_timetable.specs.Lines.{AreTruckLines}
 use Rattle.fp_timetable.proofs.DepartureLines.{AreTruckLines-unique}
@@ -17,7 +17,7 @@ use Rattle.fp_yard.specs.Schedules.{HasEnds, IsPlanSchedule, IsSound, Schedule}
 use Rattle.fp_yard.proofs.Departures.{stage-means}
 use Rattle.fp_yard.proofs.Histories.{arrived-departed}
 use Rattle.fp_yard.proofs.WholeRuns.{all-done, all-exist}
-use Rattle.fp_sheets.specs.Rows.{EventsExist}
+use Rattle.fp_yard_sheets.specs.Rows.{EventsExist}
 use Rattle.fp_app.specs.Plans.{IsToldPlan}
 use Rattle.fp_app.specs.Yards.{IsDrawnLog}
 

@@ -2,8 +2,8 @@
 use Rattle.std.proofs.Common.{◌≡◌, ℕ, List, refl, sym, ap, ◌∙◌, inl, inr}
 use Rattle.std.specs.Prelude.{Some, Ok}
 use Rattle.fp_model.specs.Problem.{Problem}
-use Rattle.fp_lines.specs.Statements.{Statement}
-use Rattle.fp_words.specs.declared.orders.Order.TheVariants as order
+use Rattle.fp_certificate_lines.specs.Statements.{Statement}
+use Rattle.fp_app_words.specs.declared.orders.Order.TheVariants as order
 use Rattle.fp_app.specs.declared.shown.Shown.{Shown}
 use Rattle.fp_app.specs.declared.shown.Shown.TheVariants as shown
 use Rattle.fp_app.specs.declared.shown.Status.{Status}

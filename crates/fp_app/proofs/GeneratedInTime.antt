@@ -8,14 +8,14 @@ use Rattle.std.proofs.lemmas.List.Elements.{All-map}
 use Rattle.std.proofs.lemmas.List.Folds.{list_any-append}
 use Rattle.std.proofs.lemmas.List.FromFn.{get_or-map-range_with_len, length-map-range_with_len}
 use Rattle.std.proofs.lemmas.Nat.{mod_below}
-use Rattle.fp_lists.proofs.Maps.{get_or-map_default}
+use Rattle.fp_base_lists.proofs.Maps.{get_or-map_default}
 use Rattle.fp_model.specs.declared.parts.Arc.{Arc}
 use Rattle.fp_model.specs.declared.parts.Shipment.{Shipment}
 use Rattle.fp_model.specs.Numbered.{shipment_at, no_shipment}
 use Rattle.fp_model.specs.Problem.{Problem, arc_at, hold_at, no_arc}
 use Rattle.fp_model.specs.Times.{IsFastest}
 use Rattle.fp_model.specs.Routes.{Leads, walk_time}
-use Rattle.fp_fields.specs.Indexes.{same_ends}
+use Rattle.fp_records_fields.specs.Indexes.{same_ends}
 use Rattle.fp_flatnet.specs.Verdicts.{IsBlocked}
 use Rattle.fp_reader.specs.Generator.{draw_after, drawn_arc, drawn_arcs, drawn_shipment, ends_from, generated, number_after, ring_ends}
 use Rattle.fp_reader.proofs.DrawnArcs.{arc_ends-drawn_arcs}

@@ -2,7 +2,7 @@
 use Rattle.std.proofs.Common.{◌≡◌, ℕ, ◌+◌, ◌<◌, List, [], length, refl, sym, ap, ◌∙◌, arith, rules}
 use Rattle.std.specs.Prelude.{Option, Some, None, All, slice_index_or}
 use Rattle.std.proofs.lemmas.List.{ext_get_or}
-use Rattle.fp_lists.proofs.Numbered.{AllFrom-get_or_zero}
+use Rattle.fp_base_lists.proofs.Numbered.{AllFrom-get_or_zero}
 use Rattle.fp_model.specs.declared.parts.Shipment.{Shipment}
 use Rattle.fp_model.specs.Numbered.{no_shipment, shipment_at}
 use Rattle.fp_model.specs.Problem.{Problem, arc_at}

@@ -3,7 +3,7 @@
 use Rattle.std.proofs.Common.{◌≡◌, ℕ, zero, suc, ◌+◌, ◌*◌, ◌<◌, ◌≤◌, Bool, false, List, [], ◌∷◌, refl, inl, inr, arith}
 use Rattle.std.specs.Prelude.{Option, map, sum_by}
 use Rattle.std.proofs.lemmas.Bool.{cases_lt}
-use Rattle.fp_lists.specs.Numbered.{AllZipFrom}
+use Rattle.fp_base_lists.specs.Numbered.{AllZipFrom}
 use Rattle.fp_model.specs.declared.parts.Leg.{Leg}
 use Rattle.fp_model.specs.declared.parts.Shipment.{Shipment}
 use Rattle.fp_model.specs.Costs.{all_legs, departures_cost}
@@ -18,9 +18,9 @@ use Rattle.fp_prices.specs.FlatBounds.{IsFlatBound}
 use Rattle.fp_prices.specs.Leaves.{IsChain, IsLeafValue, IsLeastCost, leaf_price, walk_cost}
 use Rattle.fp_prices.specs.Shares.{ClassShare}
 use Rattle.fp_prices.proofs.FlatBounds.{flat-le}
-use Rattle.fp_spans.specs.SpanLeaves.{IsSpanLeafValue}
-use Rattle.fp_spans.specs.SpanPrices.{leaf_span_price}
-use Rattle.fp_spans.specs.Spans.{ClassSpan}
+use Rattle.fp_prices_spans.specs.SpanLeaves.{IsSpanLeafValue}
+use Rattle.fp_prices_spans.specs.SpanPrices.{leaf_span_price}
+use Rattle.fp_prices_spans.specs.Spans.{ClassSpan}
 
 -- where no number with a property is the least, none below any number has it
 none-below : (P : ℕ → Type 0) → ((n : ℕ) → P n → ((m : ℕ) → P m → n ≤ m) → ⊥) → (n m : ℕ) → m < n → P m → ⊥

@@ -5,12 +5,12 @@ use Rattle.std.proofs.Math.Seq.{drop-append_seam}
 use Rattle.std.proofs.lemmas.Bool.{cases_Bool}
 use Rattle.fp_model.specs.Problem.{Problem, weight_at}
 use Rattle.fp_records.specs.Fields.{records_of}
-use Rattle.fp_fields.specs.Faults.{Fault}
+use Rattle.fp_records_fields.specs.Faults.{Fault}
 use Rattle.fp_reader.specs.Input.{is_answer, parts_from, weighed_parts}
 use Rattle.fp_reader.specs.Parts.{nothing_read as no_parts}
 use Rattle.fp_certificate.specs.Reading.{certificate_of, nothing_read}
-use Rattle.fp_lines.specs.Statements.{Statement}
-use Rattle.fp_words.specs.declared.orders.Order.TheVariants as order
+use Rattle.fp_certificate_lines.specs.Statements.{Statement}
+use Rattle.fp_app_words.specs.declared.orders.Order.TheVariants as order
 use Rattle.fp_app.specs.declared.shown.Status.{Status}
 use Rattle.fp_app.specs.declared.shown.Status.TheVariants as status
 use Rattle.fp_app.specs.Causes.{CheckStatus, InputStatus}

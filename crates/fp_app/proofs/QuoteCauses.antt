@@ -2,11 +2,11 @@
 use Rattle.std.proofs.Common.{◌≡◌, ◌∙◌, ℕ, Bool, List, refl, sym, ap, inl, inr}
 use Rattle.std.specs.Prelude.{Ok}
 use Rattle.fp_model.specs.Problem.{Problem}
-use Rattle.fp_history.specs.declared.budgets.Budget.{Budget}
-use Rattle.fp_history.specs.Solutions.{Solution}
-use Rattle.fp_lines.specs.declared.certificates.Answer.{Answer}
+use Rattle.fp_session_history.specs.declared.budgets.Budget.{Budget}
+use Rattle.fp_session_history.specs.Solutions.{Solution}
+use Rattle.fp_certificate_lines.specs.declared.certificates.Answer.{Answer}
 use Rattle.fp_replan.specs.Quotes.{without_last}
-use Rattle.fp_words.specs.declared.orders.Order.TheVariants.{Quote}
+use Rattle.fp_app_words.specs.declared.orders.Order.TheVariants.{Quote}
 use Rattle.fp_app.specs.declared.shown.Shown.{Shown}
 use Rattle.fp_app.specs.declared.shown.Shown.TheVariants as shown
 use Rattle.fp_app.specs.declared.shown.Status.TheVariants as status

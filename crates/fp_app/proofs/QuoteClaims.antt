@@ -2,12 +2,12 @@
 use Rattle.std.proofs.Common.{◌≡◌, ◌∙◌, ℕ, ◌-◌, ◌≤◌, Bool, length, sym, ap, subst, arith}
 use Rattle.fp_model.specs.Plans.{NoPlanCheaper}
 use Rattle.fp_model.specs.Problem.{Problem}
-use Rattle.fp_lines.specs.declared.certificates.Answer.{Answer}
-use Rattle.fp_lines.specs.declared.certificates.Answer.TheVariants.{Optimal}
-use Rattle.fp_acceptance.specs.Accepted.{claim_of}
-use Rattle.fp_acceptance.specs.Plans.{routes_of, stated_cost}
-use Rattle.fp_history.specs.declared.budgets.Budget.{Budget}
-use Rattle.fp_history.specs.Solutions.{Solution}
+use Rattle.fp_certificate_lines.specs.declared.certificates.Answer.{Answer}
+use Rattle.fp_certificate_lines.specs.declared.certificates.Answer.TheVariants.{Optimal}
+use Rattle.fp_certificate_rules.specs.Accepted.{claim_of}
+use Rattle.fp_certificate_rules.specs.Plans.{routes_of, stated_cost}
+use Rattle.fp_session_history.specs.declared.budgets.Budget.{Budget}
+use Rattle.fp_session_history.specs.Solutions.{Solution}
 use Rattle.fp_replan.specs.Quotes.{AreFigures, IsBetween, IsCostOfPlan, IsExtraCost, IsLeastCost, without_last}
 use Rattle.fp_replan.proofs.PlansWithout.{low-le}
 use Rattle.fp_app.specs.Quotes.{IsQuoted, extra_of}

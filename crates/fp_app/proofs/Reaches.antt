@@ -3,13 +3,13 @@ use Rattle.std.proofs.Common.{◌≡◌, ℕ, Bool, true, false, List, length, n
 use Rattle.std.specs.Prelude.{Option, Some, None, Result, Ok, Err, MatchBool, MatchResult}
 use Rattle.std.specs.Io.KnownBytes.{Appends, IsAtEnd}
 use Rattle.fp_model.specs.Problem.{Problem}
-use Rattle.fp_fields.specs.Faults.{Fault}
-use Rattle.fp_lines.specs.declared.certificates.Answer.{Answer}
-use Rattle.fp_lines.specs.declared.certificates.Answer.TheVariants as answer
-use Rattle.fp_lines.specs.Statements.{Statement}
-use Rattle.fp_history.specs.declared.budgets.Budget.{Budget}
-use Rattle.fp_words.specs.declared.orders.Order.{Order}
-use Rattle.fp_words.specs.declared.orders.Order.TheVariants.{Direct, Check, Bound, Plan, Trial, Fleet, Replan, Quote, Yard}
+use Rattle.fp_records_fields.specs.Faults.{Fault}
+use Rattle.fp_certificate_lines.specs.declared.certificates.Answer.{Answer}
+use Rattle.fp_certificate_lines.specs.declared.certificates.Answer.TheVariants as answer
+use Rattle.fp_certificate_lines.specs.Statements.{Statement}
+use Rattle.fp_session_history.specs.declared.budgets.Budget.{Budget}
+use Rattle.fp_app_words.specs.declared.orders.Order.{Order}
+use Rattle.fp_app_words.specs.declared.orders.Order.TheVariants.{Direct, Check, Bound, Plan, Trial, Fleet, Replan, Quote, Yard}
 use Rattle.fp_app.specs.declared.shown.Shown.{Shown}
 use Rattle.fp_app.specs.declared.shown.Shown.TheVariants as shown
 use Rattle.fp_app.specs.declared.shown.Status.TheVariants as status

@@ -1,7 +1,7 @@
 -- What is shown of what was read, where it is no fault.
 use Rattle.std.proofs.Common.{◌≡◌, ◌∙◌, sym, ap}
 use Rattle.std.specs.Prelude.{Result, Ok, Err, MatchResult}
-use Rattle.fp_fields.specs.Faults.{Fault}
+use Rattle.fp_records_fields.specs.Faults.{Fault}
 use Rattle.fp_app.specs.declared.shown.Shown.{Shown}
 use Rattle.fp_app.specs.declared.shown.Shown.TheVariants as shown
 use Rattle.fp_app.specs.declared.shown.Status.{Status}

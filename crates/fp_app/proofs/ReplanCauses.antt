@@ -1,8 +1,8 @@
 -- What `replan` shows, by its status.
 use Rattle.std.proofs.Common.{◌≡◌, ◌∙◌, ℕ, Bool, List, refl, sym, ap, subst, inl, inr}
 use Rattle.std.specs.Prelude.{Ok}
-use Rattle.fp_history.specs.declared.budgets.Budget.{Budget}
-use Rattle.fp_history.specs.Solutions.{Solution}
+use Rattle.fp_session_history.specs.declared.budgets.Budget.{Budget}
+use Rattle.fp_session_history.specs.Solutions.{Solution}
 use Rattle.fp_model.specs.Problem.{Problem}
 use Rattle.fp_app.specs.declared.shown.Shown.{Shown}
 use Rattle.fp_app.specs.declared.shown.Shown.TheVariants as shown

@@ -4,8 +4,8 @@ use Rattle.std.specs.Prelude.{Option}
 use Rattle.std.specs.List.{AllByRecursion}
 use Rattle.std.specs.declared.alloc.Global.{Global}
 use Rattle.std.specs.declared.vec.Vec.{Vec}
-use Rattle.fp_lists.proofs.Ceilings.{div_ceil-least, div_ceil_mono}
-use Rattle.fp_lists.specs.Numbered.{AllFrom}
+use Rattle.fp_base_lists.proofs.Ceilings.{div_ceil-least, div_ceil_mono}
+use Rattle.fp_base_lists.specs.Numbered.{AllFrom}
 use Rattle.fp_model.specs.declared.parts.Leg.{Leg}
 use Rattle.fp_model.specs.Costs.{cost}
 use Rattle.fp_model.specs.Plans.{IsPlan, NoPlanCheaper, PlanExists}
@@ -20,7 +20,7 @@ use Rattle.fp_tree.specs.Sides.{MeetsAll}
 use Rattle.fp_allowed.specs.Allowed.{exit_of}
 use Rattle.fp_allowed.specs.SamePoints.{AgreeOnPoints}
 use Rattle.fp_allowed.proofs.SamePoints.{AgreeOnPoints_sym}
-use Rattle.fp_prices.specs.declared.bounds.LeafBound.TheVariants.{Value}
+use Rattle.fp_prices.specs.declared.values.bounds.LeafBound.TheVariants.{Value}
 use Rattle.fp_prices.specs.declared.leaf_prices.Kind.{Kind}
 use Rattle.fp_prices.specs.declared.leaf_prices.Kind.TheVariants.{Even, Linear}
 use Rattle.fp_prices.specs.declared.leaf_prices.LeafPrice.{LeafPrice}
@@ -29,15 +29,15 @@ use Rattle.fp_prices.specs.Shares.{ClassShare}
 use Rattle.fp_prices.specs.Tables.{AreTables, HasKind}
 use Rattle.fp_prices.proofs.PlanBounds.{leaf-empty}
 use Rattle.fp_prices.proofs.SamePoints.{bound-same}
-use Rattle.fp_spans.specs.SpanLeaves.{IsSpanLeafValue}
-use Rattle.fp_spans.specs.Spans.{ClassSpan}
-use Rattle.fp_spans.proofs.SameSpanValues.{span_value-same}
-use Rattle.fp_spans.proofs.SpanBounds.{span_leaf-bounds}
-use Rattle.fp_spans.proofs.SpanlessValues.{spanless-values}
-use Rattle.fp_spanduals.specs.declared.span_prices.SpanPrice.{SpanPrice}
-use Rattle.fp_spanduals.specs.SoundSpans.{AreSoundSpans}
-use Rattle.fp_spanduals.specs.SpanPrices.{IsBetterPrice}
-use Rattle.fp_spanduals.proofs.SoundSpans.{no_spans-sound}
+use Rattle.fp_prices_spans.specs.SpanLeaves.{IsSpanLeafValue}
+use Rattle.fp_prices_spans.specs.Spans.{ClassSpan}
+use Rattle.fp_prices_spans.proofs.SameSpanValues.{span_value-same}
+use Rattle.fp_prices_spans.proofs.SpanBounds.{span_leaf-bounds}
+use Rattle.fp_prices_spans.proofs.SpanlessValues.{spanless-values}
+use Rattle.fp_duals_leaves.specs.declared.span_prices.SpanPrice.{SpanPrice}
+use Rattle.fp_duals_leaves.specs.SoundSpans.{AreSoundSpans}
+use Rattle.fp_duals_leaves.specs.SpanPrices.{IsBetterPrice}
+use Rattle.fp_duals_leaves.proofs.SoundSpans.{no_spans-sound}
 use Rattle.fp_duals.specs.declared.improvements.Improved.{Improved}
 use Rattle.fp_duals.specs.declared.improvements.Improved.TheVariants.{Empty, Priced}
 use Rattle.fp_duals.specs.Improvements.{IsImproved, IsPriced}

@@ -4,8 +4,8 @@ use Rattle.std.specs.Prelude.{◌⊎◌, IfSome, IsSomeAnd, MatchBool, None, Opt
 use Rattle.std.specs.Int.{div_ceil}
 use Rattle.std.specs.List.{AllByRecursion}
 use Rattle.std.proofs.lemmas.Option.{IfSome_then}
-use Rattle.fp_lists.specs.Elements.{AnyByRecursion}
-use Rattle.fp_lists.proofs.Ceilings.{div_ceil_mono}
+use Rattle.fp_base_lists.specs.Elements.{AnyByRecursion}
+use Rattle.fp_base_lists.proofs.Ceilings.{div_ceil_mono}
 use Rattle.fp_model.specs.declared.parts.Leg.{Leg}
 use Rattle.fp_model.specs.Costs.{cost}
 use Rattle.fp_model.specs.Problem.{Problem, horizon}
@@ -19,31 +19,31 @@ use Rattle.fp_tree.specs.Trees.{Leaf}
 use Rattle.fp_allowed.specs.Slack.{slack}
 use Rattle.fp_prices.specs.declared.leaf_prices.LeafPrice.{LeafPrice}
 use Rattle.fp_prices.specs.FlatBounds.{IsFlatBound}
-use Rattle.fp_spans.specs.SpanKinds.{spans_beside}
-use Rattle.fp_spans.proofs.OneSpanValue.{span_leaves-have-one-value}
-use Rattle.fp_lines.specs.declared.certificates.Answer.{Answer}
-use Rattle.fp_lines.specs.declared.certificates.Answer.TheVariants.{Optimal, Unfinished}
-use Rattle.fp_lines.specs.declared.certificates.Node.{Node}
-use Rattle.fp_lines.specs.declared.certificates.Node.TheVariants as node
-use Rattle.fp_lines.specs.declared.certificates.Spent.TheVariants.{Branches, Rounds}
-use Rattle.fp_lines.specs.Ranges.{IsInRange}
-use Rattle.fp_lines.specs.Statements.{Statement}
-use Rattle.fp_acceptance.specs.Accepted.{Applies, Part}
-use Rattle.fp_acceptance.specs.Claims.{ClaimsWithin, NoPlanWithinCheaper}
-use Rattle.fp_acceptance.specs.Plans.{HasPlan, routes_of, stated_cost}
-use Rattle.fp_acceptance.specs.Units.{IsGreatestUnit}
-use Rattle.fp_acceptance.proofs.Claims.{AcceptedClaims_hold}
-use Rattle.fp_acceptance.proofs.Multiples.{rounded_up-more}
+use Rattle.fp_prices_spans.specs.SpanKinds.{spans_beside}
+use Rattle.fp_prices_spans.proofs.OneSpanValue.{span_leaves-have-one-value}
+use Rattle.fp_certificate_lines.specs.declared.certificates.Answer.{Answer}
+use Rattle.fp_certificate_lines.specs.declared.certificates.Answer.TheVariants.{Optimal, Unfinished}
+use Rattle.fp_certificate_lines.specs.declared.certificates.Node.{Node}
+use Rattle.fp_certificate_lines.specs.declared.certificates.Node.TheVariants as node
+use Rattle.fp_certificate_lines.specs.declared.certificates.Spent.TheVariants.{Branches, Rounds}
+use Rattle.fp_certificate_lines.specs.Ranges.{IsInRange}
+use Rattle.fp_certificate_lines.specs.Statements.{Statement}
+use Rattle.fp_certificate_rules.specs.Accepted.{Applies, Part}
+use Rattle.fp_certificate_rules.specs.Claims.{ClaimsWithin, NoPlanWithinCheaper}
+use Rattle.fp_certificate_rules.specs.Plans.{HasPlan, routes_of, stated_cost}
+use Rattle.fp_certificate_rules.specs.Units.{IsGreatestUnit}
+use Rattle.fp_certificate_rules.proofs.Claims.{AcceptedClaims_hold}
+use Rattle.fp_certificate_rules.proofs.Multiples.{rounded_up-more}
 use Rattle.fp_certificate.specs.Readable.{Allows, WrittenReadsBack}
-use Rattle.fp_history.specs.declared.budgets.Budget.{Budget}
-use Rattle.fp_history.specs.declared.endings.Left.{Left}
-use Rattle.fp_history.specs.declared.endings.Left.TheVariants.{Nothing, Several, Timing}
-use Rattle.fp_history.specs.Notes.{History, added_of, points_of}
-use Rattle.fp_history.specs.PrintedLeaves.{IsEmptyAt, IsPrintedLeaf, IsWorth, OfLeaf}
-use Rattle.fp_history.specs.Solutions.{HasCause, IsEarnedSolution, Solution, branches_shown, history_of, leaves_shown}
-use Rattle.fp_history.specs.Splits.{IsEarnedAt, IsValueAt}
-use Rattle.fp_history.proofs.AddedPoints.{AreAddedPoints-IsEarnedTrace, points-in_time}
-use Rattle.fp_history.proofs.Enough.{EnoughBranches_hold, EnoughRounds_hold}
+use Rattle.fp_session_history.specs.declared.budgets.Budget.{Budget}
+use Rattle.fp_session_history.specs.declared.endings.Left.{Left}
+use Rattle.fp_session_history.specs.declared.endings.Left.TheVariants.{Nothing, Several, Timing}
+use Rattle.fp_session_history.specs.Notes.{History, added_of, points_of}
+use Rattle.fp_session_history.specs.PrintedLeaves.{IsEmptyAt, IsPrintedLeaf, IsWorth, OfLeaf}
+use Rattle.fp_session_history.specs.Solutions.{HasCause, IsEarnedSolution, Solution, branches_shown, history_of, leaves_shown}
+use Rattle.fp_session_history.specs.Splits.{IsEarnedAt, IsValueAt}
+use Rattle.fp_session_history.proofs.AddedPoints.{AreAddedPoints-IsEarnedTrace, points-in_time}
+use Rattle.fp_session_history.proofs.Enough.{EnoughBranches_hold, EnoughRounds_hold}
 use Rattle.fp_session.specs.Certificates.{IsPricedBy}
 use Rattle.fp_session.specs.Sessions.{SessionModel}
 use Rattle.fp_session.specs.Solved.{IsSolved}

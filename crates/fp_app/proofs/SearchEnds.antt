@@ -1,10 +1,10 @@
 -- How a search ended, by its answer.
 use Rattle.std.proofs.Common.{◌≡◌, ℕ, refl}
 use Rattle.fp_model.specs.Problem.{Problem}
-use Rattle.fp_lines.specs.declared.certificates.Answer.{Answer}
-use Rattle.fp_lines.specs.declared.certificates.Answer.TheVariants.{Optimal, Unfinished}
-use Rattle.fp_lines.specs.declared.certificates.Spent.{Spent}
-use Rattle.fp_history.specs.declared.budgets.Budget.{Budget}
+use Rattle.fp_certificate_lines.specs.declared.certificates.Answer.{Answer}
+use Rattle.fp_certificate_lines.specs.declared.certificates.Answer.TheVariants.{Optimal, Unfinished}
+use Rattle.fp_certificate_lines.specs.declared.certificates.Spent.{Spent}
+use Rattle.fp_session_history.specs.declared.budgets.Budget.{Budget}
 use Rattle.fp_app.specs.declared.shown.Status.{Status}
 use Rattle.fp_app.specs.declared.shown.Status.TheVariants as status
 use Rattle.fp_app.specs.Searches.{IsBoundBelow, SaysOfPlans}

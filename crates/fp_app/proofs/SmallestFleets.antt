@@ -4,7 +4,7 @@ use Rattle.fp_model.specs.declared.parts.Leg.{Leg}
 use Rattle.fp_model.specs.Problem.{Problem}
 use Rattle.fp_timetable.specs.declared.lines.TruckLine.{TruckLine}
 use Rattle.fp_timetable.specs.Lines.{AreTruckLines}
-use Rattle.fp_lines.specs.Statements.{Statement}
+use Rattle.fp_certificate_lines.specs.Statements.{Statement}
 use Rattle.fp_fleet.specs.Fleets.{Assignment, IsFewest}
 use Rattle.fp_fleet.proofs.SmallestRosters.{NoRosterSmaller-deficits}
 use Rattle.fp_app.specs.Fleets.{IsSmallestFleet}

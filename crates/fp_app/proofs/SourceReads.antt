@@ -1,7 +1,7 @@
 -- Orders that read the source, and one that doesn't.
 use Rattle.std.proofs.Common.{◌≡◌, Bool, true, false, refl}
 use Rattle.std.specs.Prelude.{Option, Some, None, MatchBool, ⊤}
-use Rattle.fp_words.specs.declared.orders.Order.{Order}
+use Rattle.fp_app_words.specs.declared.orders.Order.{Order}
 use Rattle.fp_app.specs.Inputs.{reads_source}
 use Rattle.fp_app.specs.Runs.{Leaves}
 

@@ -2,11 +2,11 @@
 use Rattle.std.proofs.Common.{◌≡◌, ℕ, ◌≤◌, sym, subst, arith}
 use Rattle.fp_model.specs.Problem.{Problem}
 use Rattle.fp_flatnet.specs.Tables.{WindowTable, windows_in}
-use Rattle.fp_lines.specs.declared.certificates.Answer.{Answer}
-use Rattle.fp_lines.specs.declared.certificates.Answer.TheVariants.{Infeasible}
-use Rattle.fp_lines.specs.Statements.{Statement}
-use Rattle.fp_acceptance.specs.Accepted.{Holds, Part}
-use Rattle.fp_acceptance.specs.Plans.{HasTimetable}
+use Rattle.fp_certificate_lines.specs.declared.certificates.Answer.{Answer}
+use Rattle.fp_certificate_lines.specs.declared.certificates.Answer.TheVariants.{Infeasible}
+use Rattle.fp_certificate_lines.specs.Statements.{Statement}
+use Rattle.fp_certificate_rules.specs.Accepted.{Holds, Part}
+use Rattle.fp_certificate_rules.specs.Plans.{HasTimetable}
 use Rattle.fp_checker.specs.Rejections.{IsFirstUnmet, IsPlanRejected, TellsPlan, part_number}
 use Rattle.fp_app.specs.Checks.{AreWindowsOf}
 use Rattle.fp_app.specs.Plans.{ShowsUntold}

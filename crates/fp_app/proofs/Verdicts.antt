@@ -4,8 +4,8 @@ use Rattle.fp_model.specs.Problem.{Problem}
 use Rattle.fp_flatnet.specs.Belonging.{BelongsTo}
 use Rattle.fp_flatnet.specs.Tables.{WindowTable, windows_in}
 use Rattle.fp_flatnet.specs.Windows.{AreWindows}
-use Rattle.fp_lines.specs.Statements.{Statement}
-use Rattle.fp_acceptance.specs.Accepted.{IsAccepted}
+use Rattle.fp_certificate_lines.specs.Statements.{Statement}
+use Rattle.fp_certificate_rules.specs.Accepted.{IsAccepted}
 use Rattle.fp_checker.specs.Rejections.{IsFirstFailed}
 use Rattle.fp_app.specs.Checks.{AreWindowsOf, IsAcceptedFor, ShowsRejected, scaled}
 use Rattle.fp_app.proofs.OneTable.{AreWindowsOf_unique}

@@ -12,9 +12,9 @@ use Rattle.fp_prices.specs.FlatBounds.{IsFlatBound}
 use Rattle.fp_prices.specs.Leaves.{IsLeafValue}
 use Rattle.fp_prices.specs.Shares.{ClassShare}
 use Rattle.fp_prices.specs.Tables.{AreTables, HasKind}
-use Rattle.fp_spans.specs.SpanLeaves.{IsSpanLeafValue}
-use Rattle.fp_spans.specs.Spans.{ClassSpan}
-use Rattle.fp_spanduals.specs.SoundSpans.{AreSoundSpans}
+use Rattle.fp_prices_spans.specs.SpanLeaves.{IsSpanLeafValue}
+use Rattle.fp_prices_spans.specs.Spans.{ClassSpan}
+use Rattle.fp_duals_leaves.specs.SoundSpans.{AreSoundSpans}
 use Rattle.fp_app.specs.Checks.{AreWindowsOf}
 
 -- a value in whole units of money, rounded up

@@ -2,13 +2,13 @@
 use Rattle.std.specs.Prelude.{ℕ, ◌+◌, ◌-◌, ◌^◌, ◌<◌, ◌≡◌, List, drop, length, All, Some, Ok, Err, ⊤}
 use Rattle.fp_model.specs.Problem.{Problem}
 use Rattle.fp_prices.specs.Tables.{AreCountable}
-use Rattle.fp_spans.specs.Spans.{ClassSpan}
-use Rattle.fp_lines.specs.Ranges.{IsInRange}
-use Rattle.fp_lines.specs.Statements.{Statement}
+use Rattle.fp_prices_spans.specs.Spans.{ClassSpan}
+use Rattle.fp_certificate_lines.specs.Ranges.{IsInRange}
+use Rattle.fp_certificate_lines.specs.Statements.{Statement}
 use Rattle.fp_certificate.specs.Reading.{certificate_of}
-use Rattle.fp_app.specs.declared.checks.CheckInput.{CheckInput}
-use Rattle.fp_app.specs.declared.checks.CheckInput.TheVariants.{Fault, Both}
-use Rattle.fp_words.specs.declared.orders.Order.TheVariants.{Check}
+use Rattle.fp_app.specs.declared.commands.checks.CheckInput.{CheckInput}
+use Rattle.fp_app.specs.declared.commands.checks.CheckInput.TheVariants.{Fault, Both}
+use Rattle.fp_app_words.specs.declared.orders.Order.TheVariants.{Check}
 use Rattle.fp_app.specs.Inputs.{certificate_in, fault_in, leading_instance_in}
 
 -- it is the instance and the certificate of the input, or the first fault

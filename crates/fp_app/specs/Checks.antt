@@ -5,12 +5,12 @@ use Rattle.fp_model.specs.Problem.{Problem}
 use Rattle.fp_flatnet.specs.Belonging.{BelongsTo}
 use Rattle.fp_flatnet.specs.Tables.{WindowTable, windows_in}
 use Rattle.fp_flatnet.specs.Windows.{AreWindows}
-use Rattle.fp_lines.specs.declared.certificates.Answer.{Answer}
-use Rattle.fp_lines.specs.declared.certificates.Answer.TheVariants as answer
-use Rattle.fp_lines.specs.Statements.{Statement}
-use Rattle.fp_acceptance.specs.Accepted.{IsAccepted}
+use Rattle.fp_certificate_lines.specs.declared.certificates.Answer.{Answer}
+use Rattle.fp_certificate_lines.specs.declared.certificates.Answer.TheVariants as answer
+use Rattle.fp_certificate_lines.specs.Statements.{Statement}
+use Rattle.fp_certificate_rules.specs.Accepted.{IsAccepted}
 use Rattle.fp_checker.specs.Rejections.{IsFirstFailed}
-use Rattle.fp_acceptance.specs.Claims.{Claims}
+use Rattle.fp_certificate_rules.specs.Claims.{Claims}
 use Rattle.fp_app.specs.declared.shown.AnswerKind.{AnswerKind}
 use Rattle.fp_app.specs.declared.shown.AnswerKind.TheVariants as kind
 use Rattle.fp_app.specs.declared.shown.Shown.{Shown}

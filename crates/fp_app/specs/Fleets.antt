@@ -4,7 +4,7 @@
 use Rattle.std.specs.Prelude.{◌≡◌, List}
 use Rattle.fp_model.specs.Problem.{Problem}
 use Rattle.fp_timetable.specs.declared.lines.TruckLine.{TruckLine}
-use Rattle.fp_lines.specs.Statements.{Statement}
+use Rattle.fp_certificate_lines.specs.Statements.{Statement}
 use Rattle.fp_fleet.specs.Fleets.{Assignment, IsFewest}
 use Rattle.fp_fleet.specs.Rosters.{NoRosterSmaller}
 use Rattle.fp_app.specs.declared.shown.Shown.{Shown}

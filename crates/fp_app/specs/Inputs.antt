@@ -4,18 +4,18 @@ use Rattle.fp_model.specs.Problem.{Problem, weight_at}
 use Rattle.fp_records.specs.Fields.{records_of}
 use Rattle.fp_reader.specs.declared.reading.Tail.TheVariants.{Alone, Certificate}
 use Rattle.fp_reader.specs.Input.{input_of, instance_records}
-use Rattle.fp_fields.specs.Faults.{Fault}
-use Rattle.fp_fields.specs.Fields.{is_kind}
+use Rattle.fp_records_fields.specs.Faults.{Fault}
+use Rattle.fp_records_fields.specs.Fields.{is_kind}
 use Rattle.fp_certificate.specs.Reading.{certificate_of}
-use Rattle.fp_lines.specs.Statements.{Statement}
+use Rattle.fp_certificate_lines.specs.Statements.{Statement}
 use Rattle.fp_replan.specs.declared.kept.Kept.{Kept}
 use Rattle.fp_replan.specs.Records.{kept_from}
 use Rattle.fp_app.specs.declared.limits.TheConstants.{CHECK_LIMIT, INSTANCE_LIMIT}
-use Rattle.fp_words.specs.declared.orders.Order.{Order}
-use Rattle.fp_words.specs.declared.orders.Order.TheVariants as order
+use Rattle.fp_app_words.specs.declared.orders.Order.{Order}
+use Rattle.fp_app_words.specs.declared.orders.Order.TheVariants as order
 use Rattle.fp_reader.specs.Generator.{generated}
-use Rattle.fp_app.specs.declared.instances.InstanceInput.{InstanceInput}
-use Rattle.fp_app.specs.declared.instances.InstanceInput.TheVariants as given
+use Rattle.fp_app.specs.declared.inputs.instances.InstanceInput.{InstanceInput}
+use Rattle.fp_app.specs.declared.inputs.instances.InstanceInput.TheVariants as given
 use Rattle.fp_app.specs.declared.shown.Shown.{Shown}
 use Rattle.fp_app.specs.declared.shown.Shown.TheVariants as shown
 

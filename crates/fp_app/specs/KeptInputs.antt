@@ -4,8 +4,8 @@ use Rattle.fp_model.specs.Problem.{Problem}
 use Rattle.fp_replan.specs.declared.kept.TheConstants.{MOST_KEPT}
 use Rattle.fp_replan.specs.KeptLegs.{AreKept}
 use Rattle.fp_replan.specs.Records.{kept_from}
-use Rattle.fp_app.specs.declared.replans.KeptInput.{KeptInput}
-use Rattle.fp_app.specs.declared.replans.KeptInput.TheVariants.{Both, Fault}
+use Rattle.fp_app.specs.declared.commands.replans.KeptInput.{KeptInput}
+use Rattle.fp_app.specs.declared.commands.replans.KeptInput.TheVariants.{Both, Fault}
 use Rattle.fp_app.specs.Inputs.{kept_in}
 
 -- it is the instance and the kept legs of the input, or the first fault

@@ -2,9 +2,9 @@
 use Rattle.std.specs.Prelude.{ℕ, ◌≡◌, Bool, List, ◌++◌, Ok}
 use Rattle.fp_model.specs.Problem.{Problem}
 use Rattle.fp_records.specs.Fields.{records_of}
-use Rattle.fp_history.specs.declared.budgets.Budget.{Budget}
-use Rattle.fp_history.specs.Solutions.{Solution}
-use Rattle.fp_words.specs.declared.orders.Order.TheVariants.{Check}
+use Rattle.fp_session_history.specs.declared.budgets.Budget.{Budget}
+use Rattle.fp_session_history.specs.Solutions.{Solution}
+use Rattle.fp_app_words.specs.declared.orders.Order.TheVariants.{Check}
 use Rattle.fp_app.specs.declared.shown.Status.{Status}
 use Rattle.fp_app.specs.declared.shown.Status.TheVariants.{Done}
 use Rattle.fp_app.specs.Causes.{InputStatus}

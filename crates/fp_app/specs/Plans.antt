@@ -4,8 +4,8 @@ use Rattle.std.specs.Prelude.{ℕ, ◌≡◌, List}
 use Rattle.fp_model.specs.declared.parts.Leg.{Leg}
 use Rattle.fp_model.specs.Problem.{Problem}
 use Rattle.fp_flatnet.specs.Tables.{WindowTable, windows_in}
-use Rattle.fp_lines.specs.Statements.{Statement}
-use Rattle.fp_acceptance.specs.Plans.{HasTimetable, routes_of}
+use Rattle.fp_certificate_lines.specs.Statements.{Statement}
+use Rattle.fp_certificate_rules.specs.Plans.{HasTimetable, routes_of}
 use Rattle.fp_checker.specs.Rejections.{IsPlanRejected, TellsPlan}
 use Rattle.fp_app.specs.Checks.{AreWindowsOf}
 

@@ -1,12 +1,12 @@
 -- What `quote` shows: what the last shipment of an instance adds to the cost.
 use Rattle.std.specs.Prelude.{ℕ, ◌-◌, ◌≡◌, Bool}
 use Rattle.fp_model.specs.Problem.{Problem}
-use Rattle.fp_lines.specs.declared.certificates.Answer.{Answer}
-use Rattle.fp_lines.specs.declared.certificates.Answer.TheVariants.{Optimal}
-use Rattle.fp_acceptance.specs.Accepted.{claim_of}
-use Rattle.fp_acceptance.specs.Plans.{stated_cost}
-use Rattle.fp_history.specs.declared.budgets.Budget.{Budget}
-use Rattle.fp_history.specs.Solutions.{Solution}
+use Rattle.fp_certificate_lines.specs.declared.certificates.Answer.{Answer}
+use Rattle.fp_certificate_lines.specs.declared.certificates.Answer.TheVariants.{Optimal}
+use Rattle.fp_certificate_rules.specs.Accepted.{claim_of}
+use Rattle.fp_certificate_rules.specs.Plans.{stated_cost}
+use Rattle.fp_session_history.specs.declared.budgets.Budget.{Budget}
+use Rattle.fp_session_history.specs.Solutions.{Solution}
 use Rattle.fp_replan.specs.declared.ranges.Bracket.{Bracket}
 use Rattle.fp_replan.specs.Quotes.{IsBetween, IsExtraCost, without_last}
 use Rattle.fp_app.specs.Searches.{IsSearched}

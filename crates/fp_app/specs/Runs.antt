@@ -9,12 +9,12 @@ use Rattle.fp_model.specs.Plans.{IsPlan, PlanExists}
 use Rattle.fp_model.specs.Problem.{Problem}
 use Rattle.fp_flatnet.specs.Directs.{IsDirectPlan}
 use Rattle.fp_flatnet.specs.Verdicts.{IsBlocked}
-use Rattle.fp_history.specs.declared.budgets.Budget.{Budget}
+use Rattle.fp_session_history.specs.declared.budgets.Budget.{Budget}
 use Rattle.fp_reader.specs.Generator.{generated}
 use Rattle.fp_replan.specs.KeptWindows.{CanBeKept}
 use Rattle.fp_replan.specs.Starts.{IsStuck}
-use Rattle.fp_words.specs.declared.orders.Order.{Order}
-use Rattle.fp_words.specs.declared.orders.Order.TheVariants as order
+use Rattle.fp_app_words.specs.declared.orders.Order.{Order}
+use Rattle.fp_app_words.specs.declared.orders.Order.TheVariants as order
 use Rattle.fp_app.specs.declared.shown.Shown.{Shown}
 use Rattle.fp_app.specs.declared.shown.Shown.TheVariants as shown
 use Rattle.fp_app.specs.declared.shown.Status.{Status}

@@ -9,17 +9,17 @@ use Rattle.fp_timenodes.specs.declared.places.AddedPoint.{AddedPoint}
 use Rattle.fp_flatnet.specs.Tables.{WindowTable, windows_in}
 use Rattle.fp_allowed.specs.Slack.{slack}
 use Rattle.fp_prices.specs.FlatBounds.{IsFlatBound}
-use Rattle.fp_lines.specs.declared.certificates.Answer.{Answer}
-use Rattle.fp_lines.specs.declared.certificates.Answer.TheVariants.{Optimal, Unfinished}
-use Rattle.fp_lines.specs.declared.certificates.Spent.{Spent}
-use Rattle.fp_lines.specs.declared.certificates.Spent.TheVariants.{Branches, Rounds}
-use Rattle.fp_lines.specs.Statements.{Statement}
-use Rattle.fp_acceptance.specs.Accepted.{IsAccepted}
-use Rattle.fp_acceptance.specs.Plans.{HasTimetable, routes_of}
-use Rattle.fp_acceptance.specs.Units.{IsGreatestUnit}
+use Rattle.fp_certificate_lines.specs.declared.certificates.Answer.{Answer}
+use Rattle.fp_certificate_lines.specs.declared.certificates.Answer.TheVariants.{Optimal, Unfinished}
+use Rattle.fp_certificate_lines.specs.declared.certificates.Spent.{Spent}
+use Rattle.fp_certificate_lines.specs.declared.certificates.Spent.TheVariants.{Branches, Rounds}
+use Rattle.fp_certificate_lines.specs.Statements.{Statement}
+use Rattle.fp_certificate_rules.specs.Accepted.{IsAccepted}
+use Rattle.fp_certificate_rules.specs.Plans.{HasTimetable, routes_of}
+use Rattle.fp_certificate_rules.specs.Units.{IsGreatestUnit}
 use Rattle.fp_certificate.specs.Readable.{ReadsBack}
-use Rattle.fp_history.specs.declared.budgets.Budget.{Budget}
-use Rattle.fp_history.specs.Solutions.{IsEarnedSolution, Solution}
+use Rattle.fp_session_history.specs.declared.budgets.Budget.{Budget}
+use Rattle.fp_session_history.specs.Solutions.{IsEarnedSolution, Solution}
 use Rattle.fp_session.specs.Certificates.{IsPricedBy, named_scale}
 use Rattle.fp_app.specs.Bounds.{whole_units}
 use Rattle.fp_app.specs.Wanted.{AreWindowsFor, IsFirstPlan, IsWanted, NoneWantedCheaper, Wanted}

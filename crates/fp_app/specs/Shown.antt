@@ -2,15 +2,15 @@
 use Rattle.std.specs.Prelude.{ℕ, ◌<◌, List, length, ⊤, ◌≤◌}
 use Rattle.fp_model.specs.Plans.{IsPlan}
 use Rattle.fp_model.specs.Problem.{Problem}
-use Rattle.fp_acceptance.specs.Accepted.{claim_of}
-use Rattle.fp_acceptance.specs.Plans.{stated_cost}
-use Rattle.fp_lines.specs.declared.certificates.Answer.{Answer}
-use Rattle.fp_lines.specs.declared.certificates.Answer.TheVariants as answer
-use Rattle.fp_lines.specs.Ranges.{AnswerExists, IsNamed}
+use Rattle.fp_certificate_rules.specs.Accepted.{claim_of}
+use Rattle.fp_certificate_rules.specs.Plans.{stated_cost}
+use Rattle.fp_certificate_lines.specs.declared.certificates.Answer.{Answer}
+use Rattle.fp_certificate_lines.specs.declared.certificates.Answer.TheVariants as answer
+use Rattle.fp_certificate_lines.specs.Ranges.{AnswerExists, IsNamed}
 use Rattle.fp_timetable.specs.declared.lines.TruckLine.{TruckLine}
 use Rattle.fp_timetable.specs.Lines.{AreTruckLines}
 use Rattle.fp_fleet.specs.Rows.{IsShowable}
-use Rattle.fp_sheets.specs.Rows.{EventsExist}
+use Rattle.fp_yard_sheets.specs.Rows.{EventsExist}
 use Rattle.fp_app.specs.declared.shown.Shown.{Shown}
 use Rattle.fp_app.specs.declared.shown.Shown.TheVariants as shown
 use Rattle.fp_app.specs.declared.shown.Status.{Status}

@@ -8,13 +8,13 @@ use Rattle.fp_model.specs.Problem.{Problem}
 use Rattle.fp_timetable.specs.declared.lines.LegLine.{LegLine}
 use Rattle.fp_timetable.specs.declared.lines.TruckLine.{TruckLine}
 use Rattle.fp_timetable.specs.Lines.{AreLegLines, AreTruckLines}
-use Rattle.fp_lines.specs.declared.certificates.Answer.{Answer}
-use Rattle.fp_lines.specs.declared.certificates.Answer.TheVariants as answer
-use Rattle.fp_lines.specs.Rows.{answer_fields, rows_of, shipment_name}
-use Rattle.fp_lines.specs.Statements.{Statement}
+use Rattle.fp_certificate_lines.specs.declared.certificates.Answer.{Answer}
+use Rattle.fp_certificate_lines.specs.declared.certificates.Answer.TheVariants as answer
+use Rattle.fp_certificate_lines.specs.Rows.{answer_fields, rows_of, shipment_name}
+use Rattle.fp_certificate_lines.specs.Statements.{Statement}
 use Rattle.fp_fleet.specs.Rows.{fleet_rows}
 use Rattle.fp_replan.specs.declared.ranges.Bracket.{Bracket}
-use Rattle.fp_sheets.specs.Rows.{IsYardText}
+use Rattle.fp_yard_sheets.specs.Rows.{IsYardText}
 use Rattle.fp_app.specs.Bounds.{whole_units}
 use Rattle.fp_app.specs.Quotes.{extra_of}
 use Rattle.fp_app.specs.declared.shown.AnswerKind.{AnswerKind}

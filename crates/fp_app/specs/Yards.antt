@@ -2,7 +2,7 @@
 use Rattle.std.specs.Prelude.{ℕ, ◌<◌, ◌≡◌, List, length, true}
 use Rattle.fp_model.specs.declared.parts.Leg.{Leg}
 use Rattle.fp_model.specs.Problem.{Problem}
-use Rattle.fp_lines.specs.Statements.{Statement}
+use Rattle.fp_certificate_lines.specs.Statements.{Statement}
 use Rattle.fp_yard.specs.declared.events.Event.{Event}
 use Rattle.fp_yard.specs.Choices.{IsChosen}
 use Rattle.fp_yard.specs.Events.{IsLegal, arrived, departed}

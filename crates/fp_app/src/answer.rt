@@ -1,24 +1,24 @@
 //! The answer to an order, from the source's bytes.
 ghost use Rattle.std.specs.Prelude.{◌≡◌, ◌+◌, ◌≤◌, IfOk, Some, IsErrOf, Ok, length, true};
 ghost use Rattle.fp_ends.specs.Causes.{Rose};
-ghost use Rattle.fp_words.specs.Settings.{IsWithinLimits};
-ghost use Rattle.fp_words.specs.Words.{order_of, texts};
+ghost use Rattle.fp_app_words.specs.Settings.{IsWithinLimits};
+ghost use Rattle.fp_app_words.specs.Words.{order_of, texts};
 ghost use Rattle.fp_app.specs.Inputs.{limit_of, reads_source};
 ghost use Rattle.fp_app.specs.Runs.{Answers, Leaves, ShowsInput, TakesOneMore, TakesWithin};
 ghost use Rattle.fp_app.specs.Shown.{IsPrintable};
 
-use crate::bounds::bound_shown;
-use crate::checks::check_shown;
-use crate::directs::direct_shown;
+use crate::commands::bounds::bound_shown;
+use crate::commands::checks::check_shown;
+use crate::commands::directs::direct_shown;
+use crate::commands::fleets::fleet_shown;
+use crate::commands::quotes::quote_shown;
+use crate::commands::replans::replan_shown;
+use crate::commands::searches::plan_shown;
+use crate::commands::trials::trial_shown;
+use crate::commands::yards::yard_shown;
 use crate::failures::Failure;
-use crate::fleets::fleet_shown;
-use crate::inputs::take_input;
+use crate::inputs::input_bytes::take_input;
 use crate::limits::limit_of;
-use crate::quotes::quote_shown;
-use crate::replans::replan_shown;
-use crate::searches::plan_shown;
-use crate::trials::trial_shown;
-use crate::yards::yard_shown;
 use crate::{NoMemory, Order, Shown, WordFault, read_words};
 use fp_ends::Source;
 use std::alloc::Global;

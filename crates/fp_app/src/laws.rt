@@ -1,5 +1,8 @@
 //! Laws on what runs answer, without a body.
+ghost use Rattle.std.specs.Prelude.{◌≡◌};
 ghost use Rattle.fp_app.specs.Laws.{CheckAcceptsPlans};
+
+use crate::limits::{CHECK_LIMIT, INSTANCE_LIMIT};
 
 /// `check` accepts what `plan` prints: where the records of an input are those of an instance and
 /// after them those of the text that `plan` prints of it, the status that `check` has for the input
@@ -9,4 +12,10 @@ ghost use Rattle.fp_app.specs.Laws.{CheckAcceptsPlans};
 /// option of spans or without it.
 pub fn check_accepts_plans()
     ensures { CheckAcceptsPlans }
+{}
+
+/// Each limit of inputs is this number of bytes.
+pub fn input_limits_are_numbers()
+    ensures instance { INSTANCE_LIMIT ≡ 16777216 }
+    ensures check { CHECK_LIMIT ≡ 134217728 }
 {}

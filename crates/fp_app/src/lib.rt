@@ -2,30 +2,19 @@
 #![tactic(auto)]
 
 mod answer;
-mod bounds;
-mod certificates;
-mod checks;
-mod directs;
+mod commands;
 mod failures;
-mod fleets;
 mod inputs;
-mod instances;
 mod laws;
 mod limits;
-mod plans;
-mod quotes;
-mod replans;
-mod searches;
 mod shown;
 mod texts;
 mod top;
-mod trials;
-mod yards;
 
+pub use fp_app_words::{Order, WordFault, read_words};
 pub use fp_replan::Kept;
 pub use fp_session::{Budget, Left, RoundNote, Solved, SplitNote};
-pub use fp_words::{Order, WordFault, read_words};
-pub use laws::check_accepts_plans;
+pub use laws::{check_accepts_plans, input_limits_are_numbers};
 pub use limits::{CHECK_LIMIT, INSTANCE_LIMIT};
 pub use shown::{AnswerKind, Ran, Shown, Status};
 pub use texts::text;

@@ -8,7 +8,7 @@ use fp_certificate::Answer;
 use fp_fleet::Fleet;
 use fp_model::{Instance, Plan};
 use fp_prices::{LeafPrice, Table};
-use fp_spans::Span;
+use fp_prices_spans::Span;
 use fp_yard::Event;
 
 /// How a run ended.

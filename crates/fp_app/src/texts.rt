@@ -1,23 +1,23 @@
 //! The text of an answer.
 ghost use Rattle.std.specs.Prelude.{◌≡◌, ◌-◌, ◌∷◌, ◌++◌, [], length, codes, decimal, false, IfOk, OnOk};
 ghost use Rattle.fp_records.specs.Text.{line_of};
-ghost use Rattle.fp_lines.specs.Ranges.{AnswerExists};
-ghost use Rattle.fp_lines.specs.Rows.{shipment_name};
-ghost use Rattle.fp_acceptance.specs.Accepted.{claim_of};
-ghost use Rattle.fp_acceptance.specs.Plans.{stated_cost};
+ghost use Rattle.fp_certificate_lines.specs.Ranges.{AnswerExists};
+ghost use Rattle.fp_certificate_lines.specs.Rows.{shipment_name};
+ghost use Rattle.fp_certificate_rules.specs.Accepted.{claim_of};
+ghost use Rattle.fp_certificate_rules.specs.Plans.{stated_cost};
 ghost use Rattle.fp_app.specs.Quotes.{extra_of};
 ghost use Rattle.fp_app.specs.Shown.{CanBeQuoted, IsBracketed, IsPrintable};
 ghost use Rattle.fp_app.specs.Texts.{IsText, bound_lines, kind_word, quote_lines, stuck_lines, trial_fields, trial_lines};
 
-use crate::certificates::{direct_certificate, infeasible_certificate};
+use crate::inputs::certificates::{direct_certificate, infeasible_certificate};
 use crate::{AnswerKind, NoMemory, Shown};
 use fp_certificate::{Answer, write};
+use fp_certificate_lines::write_answer;
 use fp_fleet::write as write_fleet;
-use fp_lines::write_answer;
 use fp_model::{Instance, Name};
 use fp_records::Line;
 use fp_replan::{Bracket, extra_range};
-use fp_sheets::write as write_yard;
+use fp_yard_sheets::write as write_yard;
 use std::alloc::Global;
 
 // `accepted` and the kind of an answer.

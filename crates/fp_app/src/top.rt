@@ -4,7 +4,7 @@ ghost use Rattle.fp_ends.specs.Causes.{Rose};
 ghost use Rattle.fp_app.specs.Causes.{ShowsDone, ShowsFault, ShowsInfeasible, ShowsOpen, ShowsRejection, StatusOf};
 ghost use Rattle.fp_app.specs.Inputs.{limit_of};
 ghost use Rattle.fp_app.specs.Runs.{Answers, Leaves, Settles, TakesOneMore, TakesWithin, Writes, reach_of};
-ghost use Rattle.fp_words.specs.Words.{order_of, texts};
+ghost use Rattle.fp_app_words.specs.Words.{order_of, texts};
 
 use crate::answer::answer;
 use crate::failures::Failure;

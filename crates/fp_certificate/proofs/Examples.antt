@@ -1,10 +1,10 @@
 -- What reading says of a worked certificate and of altered ones.
 use Rattle.std.proofs.Common.{◌≡◌, ℕ, List, [], ◌∷◌, ◌++◌, refl}
 use Rattle.std.specs.Prelude.{Result, Ok, Err, Some, codes}
-use Rattle.fp_fields.specs.Faults.{Fault}
+use Rattle.fp_records_fields.specs.Faults.{Fault}
 use Rattle.fp_certificate.specs.Reading.{certificate_of}
-use Rattle.fp_lines.specs.Statements.{Statement}
-use Rattle.fp_lines.proofs.Examples.{answer, best, last, leaf, leg, records, small, truck, whole}
+use Rattle.fp_certificate_lines.specs.Statements.{Statement}
+use Rattle.fp_certificate_lines.proofs.Examples.{answer, best, last, leaf, leg, records, small, truck, whole}
 
 -- what they give after four records of an instance
 abbrev read : List (List (List ℕ)) → Result Statement Fault

@@ -8,12 +8,12 @@ use Rattle.fp_model.specs.Problem.{IsValid, Problem}
 use Rattle.fp_timenodes.specs.declared.places.AddedPoint.{AddedPoint}
 use Rattle.fp_timetable.specs.declared.lines.LegLine.{LegLine}
 use Rattle.fp_timetable.specs.declared.lines.TruckLine.{TruckLine}
-use Rattle.fp_lines.specs.declared.certificates.Node.{Node}
-use Rattle.fp_certificate.specs.declared.groups.Group.TheVariants as group
+use Rattle.fp_certificate_lines.specs.declared.certificates.Node.{Node}
+use Rattle.fp_certificate.specs.declared.lines.groups.Group.TheVariants as group
 use Rattle.fp_certificate.specs.Groups.{is_forbidden}
-use Rattle.fp_lines.specs.Ranges.{IsLegInRange, IsNodeInRange, IsPointInRange, IsTruckInRange}
-use Rattle.fp_lines.specs.Rows.{leg_fields, node_fields, point_fields, truck_fields}
-use Rattle.fp_lines.specs.Statements.{Statement}
+use Rattle.fp_certificate_lines.specs.Ranges.{IsLegInRange, IsNodeInRange, IsPointInRange, IsTruckInRange}
+use Rattle.fp_certificate_lines.specs.Rows.{leg_fields, node_fields, point_fields, truck_fields}
+use Rattle.fp_certificate_lines.specs.Statements.{Statement}
 use Rattle.fp_certificate.proofs.LinesBack.{leg-step, node-step, point-step, truck-step}
 use Rattle.fp_certificate.proofs.SegmentsBack.{ReadsTo, at, segment, has_ended_at-before_end, is_misplaced_after-later}
 

@@ -10,11 +10,11 @@ use Rattle.std.proofs.lemmas.Slice.Eq.{bytes_eq-Decides}
 use Rattle.fp_model.specs.declared.parts.Shipment.{Shipment}
 use Rattle.fp_model.specs.Numbered.{no_shipment}
 use Rattle.fp_model.specs.Problem.{IsArc, IsValid, Problem, arc_at, no_arc}
-use Rattle.fp_fields.specs.Indexes.{shipment_names}
-use Rattle.fp_fields.specs.NamedParts.{joins}
-use Rattle.fp_fields.specs.Names.{number_of}
-use Rattle.fp_fields.specs.NamedParts.{arc_named, shipment_named, terminal_named}
-use Rattle.fp_lines.specs.Rows.{head_name, shipment_name, tail_name, terminal_name}
+use Rattle.fp_records_fields.specs.Indexes.{shipment_names}
+use Rattle.fp_records_fields.specs.NamedParts.{joins}
+use Rattle.fp_records_fields.specs.Names.{number_of}
+use Rattle.fp_records_fields.specs.NamedParts.{arc_named, shipment_named, terminal_named}
+use Rattle.fp_certificate_lines.specs.Rows.{head_name, shipment_name, tail_name, terminal_name}
 use Rattle.fp_model.proofs.Validity.{IsArc-valid}
 
 -- the first place that passes

@@ -10,10 +10,10 @@ use Rattle.std.proofs.lemmas.Fmt.{decimal_is_IsNumeral_wide}
 use Rattle.std.proofs.lemmas.Slice.Eq.{bytes_eq-Decides}
 use Rattle.std.proofs.lemmas.Str.Parse.{digit_from_value}
 use Rattle.fp_model.specs.declared.limits.TheConstants.{LATEST}
-use Rattle.fp_fields.specs.Fields.{is_number, is_within, number}
+use Rattle.fp_records_fields.specs.Fields.{is_number, is_within, number}
 use Rattle.fp_records.specs.Fields.{is_empty}
 use Rattle.fp_records.specs.Text.{is_plain, is_plain_field}
-use Rattle.fp_lines.specs.Ranges.{largest_figure}
+use Rattle.fp_certificate_lines.specs.Ranges.{largest_figure}
 
 -- digits are such by their bytes
 all-digits : (ds : List ℕ) → AllDigits 10 ds → list_all is_ascii_digit ds ≡ true

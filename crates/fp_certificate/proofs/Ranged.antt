@@ -10,35 +10,36 @@ use Rattle.fp_prices.specs.declared.leaf_prices.Kind.{Kind}
 use Rattle.fp_prices.specs.declared.leaf_prices.Kind.TheVariants as price
 use Rattle.fp_prices.specs.declared.tables.Weight.{Weight}
 use Rattle.fp_prices.specs.Shares.{ClassShare}
-use Rattle.fp_spans.specs.Spans.{ClassSpan}
+use Rattle.fp_prices_spans.specs.Spans.{ClassSpan}
 use Rattle.fp_prices.specs.Tables.{AreCountable, HasKind}
-use Rattle.fp_fields.specs.Findings.{first_code}
-use Rattle.fp_fields.specs.Fields.{has_number, is_between, number_at, has_word}
-use Rattle.fp_fields.specs.Faults.{first_fault, Fault}
-use Rattle.fp_fields.proofs.Numerals.{is_between-limits}
-use Rattle.fp_fields.proofs.FaultTables.{IsClear-from_none}
-use Rattle.fp_lines.specs.declared.certificates.Answer.{Answer}
-use Rattle.fp_lines.specs.declared.certificates.Node.{Node}
-use Rattle.fp_lines.specs.declared.certificates.Node.TheVariants.{Branch}
-use Rattle.fp_lines.specs.declared.certificates.Node.TheVariants as node
+use Rattle.fp_records_fields.specs.Findings.{first_code}
+use Rattle.fp_records_fields.specs.Fields.{has_number, is_between, number_at, has_word}
+use Rattle.fp_records_fields.specs.Faults.{first_fault, Fault}
+use Rattle.fp_records_fields.proofs.Numerals.{is_between-limits}
+use Rattle.fp_records_fields.proofs.FaultTables.{IsClear-from_none}
+use Rattle.fp_certificate_lines.specs.declared.certificates.Answer.{Answer}
+use Rattle.fp_certificate_lines.specs.declared.certificates.Node.{Node}
+use Rattle.fp_certificate_lines.specs.declared.certificates.Node.TheVariants.{Branch}
+use Rattle.fp_certificate_lines.specs.declared.certificates.Node.TheVariants as node
 use Rattle.fp_certificate.specs.declared.drafts.Draft.{Draft}
-use Rattle.fp_certificate.specs.declared.groups.Group.TheVariants as group
-use Rattle.fp_certificate.specs.declared.kinds.LineKind.{LineKind}
-use Rattle.fp_certificate.specs.declared.kinds.LineKind.TheVariants.{Direct, Optimal, Unfinished, Infeasible, Scale, Leg, Truck, Point, Table, Share, Span, ByArc, ByTime, Leaf, End}
-use Rattle.fp_certificate.specs.declared.kinds.LineKind.TheVariants as kind
+use Rattle.fp_certificate.specs.declared.lines.groups.Group.TheVariants as group
+use Rattle.fp_certificate.specs.declared.lines.kinds.LineKind.{LineKind}
+use Rattle.fp_certificate.specs.declared.lines.kinds.LineKind.TheVariants.{Direct, Optimal, Unfinished, Infeasible, Scale, Leg, Truck, Point, Table, Share, Span, ByArc, ByTime, Leaf, End}
+use Rattle.fp_certificate.specs.declared.lines.kinds.LineKind.TheVariants as kind
 use Rattle.fp_certificate.specs.Answers.{has_bad_scale, has_time, has_time_in_range, has_unfinished_digits, time_in, is_figure}
 use Rattle.fp_certificate.specs.Groups.{has_ended, is_misplaced}
 use Rattle.fp_certificate.specs.Kinds.{kind_of}
-use Rattle.fp_fields.specs.NamedParts.{lacks_arc, lacks_shipment, lacks_terminal}
+use Rattle.fp_records_fields.specs.NamedParts.{lacks_arc, lacks_shipment, lacks_terminal}
 use Rattle.fp_certificate.specs.Points.{point_in}
-use Rattle.fp_lines.specs.Ranges.{IsAnswerInRange, IsInRange, IsLegInRange, IsNodeInRange, IsPointInRange, IsScaleInRange, IsShareInRange, IsSpanInRange, IsTruckInRange, IsWeightInRange, largest_figure}
+use Rattle.fp_certificate_lines.specs.Ranges.{IsAnswerInRange, IsInRange, IsLegInRange, IsNodeInRange, IsPointInRange, IsScaleInRange, IsShareInRange, IsSpanInRange, IsTruckInRange, IsWeightInRange, largest_figure}
 use Rattle.fp_certificate.specs.Reading.{certificate_from, faults_of, finished, kind_code, line_code, nothing_read, with_kind, with_kind_of, with_line}
-use Rattle.fp_lines.specs.Statements.{Statement}
+use Rattle.fp_certificate_lines.specs.Statements.{Statement}
 use Rattle.fp_certificate.specs.Tables.{and_share, and_span, and_span_weight, and_weight, has_end_in_range, has_span, share_in, span_in, weight_in, with_last, with_weight}
 use Rattle.fp_certificate.specs.Timetables.{is_time, leg_in, truck_in}
 use Rattle.fp_certificate.specs.Trees.{has_kind_word, has_leaf_digits, has_leaf_ranges, kind_in, leaf_in}
-use Rattle.fp_certificate.proofs.LineRanges.{All-with_last, arc-there, in-time, shipment-there, small, terminal-there}
+use Rattle.fp_certificate.proofs.LineRanges.{All-with_last, in-time, small}
 use Rattle.fp_certificate.proofs.TableCounts.{AreCounted, counted-more, length-with_last, line-fewer}
+use Rattle.fp_records_fields.proofs.NamedParts.{arc_in-lt, shipment_in-lt, terminal_in-lt}
 
 -- with another answer
 with-answer : (p : Problem) (c : Statement) (a : Answer) → IsAnswerInRange p a → IsInRange p c → IsInRange p (record c { answer = a })
@@ -201,7 +202,7 @@ kind-ranged p before Infeasible fields h r =
     let order = IsClear-from_none 24 (is_misplaced before group.Answer) digits.later in
     let name = IsClear-from_none 25 (lacks_shipment p fields 2) order.later in
     let range = IsClear-from_none 28 (not (has_time_in_range fields)) name.later in
-    with-answer p before.certificate _ (shipment-there p fields 2 name.here, time-range fields (not-false (has_time_in_range fields) range.here)) r
+    with-answer p before.certificate _ (shipment_in-lt p fields 2 name.here, time-range fields (not-false (has_time_in_range fields) range.here)) r
 kind-ranged p before Scale fields h r =
     let count = IsClear-from_none 22 (not (length fields == 2)) h in
     let digits = IsClear-from_none 23 (not (has_number fields 1)) count.later in
@@ -246,7 +247,7 @@ kind-ranged p before Leg fields h r =
     let names = or_parts (lacks_shipment p fields 1) (lacks_arc p fields 2 3) name.here in
     let times = and_parts (is_time fields 4) (is_time fields 5) (not-false (is_time fields 4 && is_time fields 5) range.here) in
     let leg : IsLegInRange p (leg_in p fields) = record {
-      exists = (shipment-there p fields 1 names.0, arc-there p fields 2 3 names.1);
+      exists = (shipment_in-lt p fields 1 names.0, arc_in-lt p fields 2 3 names.1);
       depart = in-time fields 4 times.0;
       arrive = in-time fields 5 times.1;
     } in
@@ -271,7 +272,7 @@ kind-ranged p before Truck fields h r =
     let three = and_parts (is_time fields 3 && is_figure fields 4) (is_figure fields 5) (not-false (is_time fields 3 && is_figure fields 4 && is_figure fields 5) range.here) in
     let two = and_parts (is_time fields 3) (is_figure fields 4) three.0 in
     let truck : IsTruckInRange p (truck_in p fields) = record {
-      exists = arc-there p fields 1 2 name.here;
+      exists = arc_in-lt p fields 1 2 name.here;
       depart = in-time fields 3 two.0;
       trucks = small fields 4 two.1;
       load = small fields 5 three.1;
@@ -296,7 +297,7 @@ kind-ranged p before Point fields h r =
     let range = IsClear-from_none 28 (not (is_time fields 2 && is_between 1 LAST_ROUND fields 3)) name.later in
     let limits = and_parts (is_time fields 2) (is_between 1 LAST_ROUND fields 3) (not-false (is_time fields 2 && is_between 1 LAST_ROUND fields 3) range.here) in
     let point : IsPointInRange p (point_in p fields) = record {
-      terminal = terminal-there p fields 1 name.here;
+      terminal = terminal_in-lt p fields 1 name.here;
       time = in-time fields 2 limits.0;
       round = is_between-limits 1 LAST_ROUND fields 3 limits.1;
     } in
@@ -328,7 +329,7 @@ kind-ranged p before Share fields h r =
     let range = IsClear-from_none 28 (not (is_time fields 3 && is_figure fields 4)) name.later in
     let limits = and_parts (is_time fields 3) (is_figure fields 4) (not-false (is_time fields 3 && is_figure fields 4) range.here) in
     let fits : IsShareInRange p share = record {
-      arc = arc-there p fields 1 2 name.here;
+      arc = arc_in-lt p fields 1 2 name.here;
       point = in-time fields 3 limits.0;
       price = small fields 4 limits.1;
       weights = All-nil (IsWeightInRange p);
@@ -348,7 +349,7 @@ kind-ranged p before Span fields h r =
     let two = and_parts (is_time fields 3) (has_end_in_range fields) three.0 in
     let limits = end-range fields two.1 in
     let fits : IsSpanInRange p span = record {
-      arc = arc-there p fields 1 2 name.here;
+      arc = arc_in-lt p fields 1 2 name.here;
       point = in-time fields 3 two.0;
       some = limits.0;
       until = limits.1;
@@ -365,7 +366,7 @@ kind-ranged p before kind.Weight fields h r =
     let name = IsClear-from_none 25 (lacks_shipment p fields 1) order.later in
     let range = IsClear-from_none 28 (not (is_figure fields 2)) name.later in
     let fits : IsWeightInRange p weight = record {
-      shipment = shipment-there p fields 1 name.here;
+      shipment = shipment_in-lt p fields 1 name.here;
       small = small fields 2 (not-false (is_figure fields 2) range.here);
     } in
     weight-ranged p before weight fits r
@@ -374,7 +375,7 @@ kind-ranged p before ByArc fields h r =
     let order = IsClear-from_none 24 (is_misplaced before group.Tree) count.later in
     let name = IsClear-from_none 25 (lacks_shipment p fields 2 || lacks_arc p fields 3 4) order.later in
     let names = or_parts (lacks_shipment p fields 2) (lacks_arc p fields 3 4) name.here in
-    with-node p before.certificate _ (shipment-there p fields 2 names.0, arc-there p fields 3 4 names.1) r
+    with-node p before.certificate _ (shipment_in-lt p fields 2 names.0, arc_in-lt p fields 3 4 names.1) r
 kind-ranged p before ByTime fields h r =
     let count = IsClear-from_none 22 (not (length fields == 5)) h in
     let digits = IsClear-from_none 23 (not (has_number fields 4)) count.later in
@@ -382,7 +383,7 @@ kind-ranged p before ByTime fields h r =
     let name = IsClear-from_none 25 (lacks_shipment p fields 2 || lacks_terminal p fields 3) order.later in
     let range = IsClear-from_none 28 (not (is_time fields 4)) name.later in
     let names = or_parts (lacks_shipment p fields 2) (lacks_terminal p fields 3) name.here in
-    with-node p before.certificate _ (shipment-there p fields 2 names.0, terminal-there p fields 3 names.1, in-time fields 4 (not-false (is_time fields 4) range.here)) r
+    with-node p before.certificate _ (shipment_in-lt p fields 2 names.0, terminal_in-lt p fields 3 names.1, in-time fields 4 (not-false (is_time fields 4) range.here)) r
 kind-ranged p before Leaf fields h r =
     let tables = before.certificate.tables in
     let count = IsClear-from_none 22 (not (length fields == 4)) h in

@@ -4,15 +4,15 @@ use Rattle.std.specs.Prelude.{All, Result, Ok, Err, IfOk, MatchResult}
 use Rattle.std.proofs.lemmas.List.{length-drop, take_rest}
 use Rattle.fp_model.specs.Problem.{Problem}
 use Rattle.fp_prices.specs.Tables.{AreCountable}
-use Rattle.fp_spans.specs.Spans.{ClassSpan}
-use Rattle.fp_fields.specs.Faults.{Fault}
+use Rattle.fp_prices_spans.specs.Spans.{ClassSpan}
+use Rattle.fp_records_fields.specs.Faults.{Fault}
 use Rattle.fp_certificate.specs.declared.drafts.Draft.{Draft}
 use Rattle.fp_certificate.specs.declared.faults.CertFault.{CertFault}
 use Rattle.fp_certificate.specs.declared.faults.CertFault.TheVariants.{Bad, NoMemory}
 use Rattle.fp_certificate.specs.Outcomes.{IsFirst}
-use Rattle.fp_lines.specs.Ranges.{IsInRange}
+use Rattle.fp_certificate_lines.specs.Ranges.{IsInRange}
 use Rattle.fp_certificate.specs.Reading.{certificate_from, certificate_of, finished, nothing_read}
-use Rattle.fp_lines.specs.Statements.{Statement}
+use Rattle.fp_certificate_lines.specs.Statements.{Statement}
 use Rattle.fp_certificate.proofs.Ranged.{read-ranged}
 
 -- the lines from a place on give what the draft of all of them ends with

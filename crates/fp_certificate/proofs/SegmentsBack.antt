@@ -4,13 +4,13 @@ use Rattle.std.specs.Prelude.{Ok, Some}
 use Rattle.std.specs.List.{AllByRecursion, fold}
 use Rattle.std.proofs.lemmas.Bool.{le-ltb}
 use Rattle.fp_model.specs.Problem.{Problem}
-use Rattle.fp_lines.specs.declared.certificates.Answer.{Answer}
+use Rattle.fp_certificate_lines.specs.declared.certificates.Answer.{Answer}
 use Rattle.fp_certificate.specs.declared.drafts.Draft.{Draft}
-use Rattle.fp_certificate.specs.declared.groups.Group.{Group}
-use Rattle.fp_certificate.specs.declared.groups.Group.TheVariants as group
+use Rattle.fp_certificate.specs.declared.lines.groups.Group.{Group}
+use Rattle.fp_certificate.specs.declared.lines.groups.Group.TheVariants as group
 use Rattle.fp_certificate.specs.Groups.{has_ended_at, is_after_answer, is_forbidden, is_misplaced_after, place_of}
 use Rattle.fp_certificate.specs.Reading.{certificate_from}
-use Rattle.fp_lines.specs.Statements.{Statement}
+use Rattle.fp_certificate_lines.specs.Statements.{Statement}
 use Rattle.fp_certificate.proofs.LinesBack.{IsStep}
 
 -- a draft with a statement so far and the group of the latest line

@@ -7,11 +7,11 @@ use Rattle.std.proofs.lemmas.List.Elements.{All-push, All-weaker}
 use Rattle.fp_model.specs.Problem.{Problem}
 use Rattle.fp_prices.specs.declared.tables.Weight.{Weight}
 use Rattle.fp_prices.specs.Shares.{ClassShare}
-use Rattle.fp_spans.specs.Spans.{ClassSpan}
+use Rattle.fp_prices_spans.specs.Spans.{ClassSpan}
 use Rattle.fp_certificate.specs.declared.drafts.Draft.{Draft}
-use Rattle.fp_certificate.specs.declared.kinds.LineKind.{LineKind}
-use Rattle.fp_certificate.specs.declared.kinds.LineKind.TheVariants.{Direct, Optimal, Unfinished, Infeasible, Scale, Leg, Truck, Point, Table, Share, Span, ByArc, ByTime, Leaf, End}
-use Rattle.fp_certificate.specs.declared.kinds.LineKind.TheVariants as kind
+use Rattle.fp_certificate.specs.declared.lines.kinds.LineKind.{LineKind}
+use Rattle.fp_certificate.specs.declared.lines.kinds.LineKind.TheVariants.{Direct, Optimal, Unfinished, Infeasible, Scale, Leg, Truck, Point, Table, Share, Span, ByArc, ByTime, Leaf, End}
+use Rattle.fp_certificate.specs.declared.lines.kinds.LineKind.TheVariants as kind
 use Rattle.fp_certificate.specs.Kinds.{kind_of}
 use Rattle.fp_certificate.specs.Reading.{with_kind, with_kind_of, with_line}
 use Rattle.fp_certificate.specs.Tables.{and_share, and_span, and_span_weight, and_weight, has_span, share_in, span_in, weight_in, with_last, with_weight}

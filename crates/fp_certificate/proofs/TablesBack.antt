@@ -9,15 +9,15 @@ use Rattle.std.proofs.lemmas.List.Elements.{All-head, All-tail, recursion_from_A
 use Rattle.fp_model.specs.Problem.{IsValid, Problem}
 use Rattle.fp_prices.specs.declared.tables.Weight.{Weight}
 use Rattle.fp_prices.specs.Shares.{ClassShare}
-use Rattle.fp_spans.specs.SpanKinds.{spans_of_table}
-use Rattle.fp_spans.specs.Spans.{ClassSpan}
+use Rattle.fp_prices_spans.specs.SpanKinds.{spans_of_table}
+use Rattle.fp_prices_spans.specs.Spans.{ClassSpan}
 use Rattle.fp_records.specs.Fields.{is_empty}
-use Rattle.fp_certificate.specs.declared.groups.Group.{Group}
-use Rattle.fp_certificate.specs.declared.groups.Group.TheVariants as group
+use Rattle.fp_certificate.specs.declared.lines.groups.Group.{Group}
+use Rattle.fp_certificate.specs.declared.lines.groups.Group.TheVariants as group
 use Rattle.fp_certificate.specs.Groups.{is_forbidden, place_of}
-use Rattle.fp_lines.specs.Ranges.{IsShareInRange, IsSpanInRange, IsWeightInRange}
-use Rattle.fp_lines.specs.Rows.{share_fields, share_rows, span_fields, span_rows, table_fields, tables_rows, weight_fields}
-use Rattle.fp_lines.specs.Statements.{Statement}
+use Rattle.fp_certificate_lines.specs.Ranges.{IsShareInRange, IsSpanInRange, IsWeightInRange}
+use Rattle.fp_certificate_lines.specs.Rows.{share_fields, share_rows, span_fields, span_rows, table_fields, tables_rows, weight_fields}
+use Rattle.fp_certificate_lines.specs.Statements.{Statement}
 use Rattle.fp_certificate.specs.Tables.{and_share, and_span, and_span_weight, and_weight, has_span, lacks_last, with_last}
 use Rattle.fp_certificate.proofs.LinesBack.{IsStep, share-step, span-step, span-weight-step, table-step, weight-step}
 use Rattle.fp_certificate.proofs.SegmentsBack.{ReadsTo, at, one-line, has_ended_at-before_end, is_misplaced_after-later}

@@ -5,16 +5,16 @@ use Rattle.fp_model.specs.Problem.{IsValid, Problem}
 use Rattle.csv.specs.Reading.{strip_bom}
 use Rattle.fp_records.specs.Text.{lines_of}
 use Rattle.fp_records.proofs.RoundTrip.{records_of-lines_of}
-use Rattle.fp_lines.specs.declared.certificates.Answer.{Answer}
-use Rattle.fp_lines.specs.declared.certificates.Answer.TheVariants as answer
-use Rattle.fp_certificate.specs.declared.groups.Group.{Group}
-use Rattle.fp_certificate.specs.declared.groups.Group.TheVariants as group
+use Rattle.fp_certificate_lines.specs.declared.certificates.Answer.{Answer}
+use Rattle.fp_certificate_lines.specs.declared.certificates.Answer.TheVariants as answer
+use Rattle.fp_certificate.specs.declared.lines.groups.Group.{Group}
+use Rattle.fp_certificate.specs.declared.lines.groups.Group.TheVariants as group
 use Rattle.fp_certificate.specs.Groups.{is_forbidden, place_of}
-use Rattle.fp_lines.specs.Ranges.{IsInRange, IsScaleInRange, IsUnitInRange}
+use Rattle.fp_certificate_lines.specs.Ranges.{IsInRange, IsScaleInRange, IsUnitInRange}
 use Rattle.fp_certificate.specs.Readable.{Allows, HaveNames, IsReadable, WrittenReadsBack}
 use Rattle.fp_certificate.specs.Reading.{certificate_of, nothing_read}
-use Rattle.fp_lines.specs.Rows.{answer_fields, end_fields, leg_fields, node_fields, point_fields, rows_of, scale_fields, scale_rows, tables_rows, truck_fields, unit_fields, unit_rows}
-use Rattle.fp_lines.specs.Statements.{Statement}
+use Rattle.fp_certificate_lines.specs.Rows.{answer_fields, end_fields, leg_fields, node_fields, point_fields, rows_of, scale_fields, scale_rows, tables_rows, truck_fields, unit_fields, unit_rows}
+use Rattle.fp_certificate_lines.specs.Statements.{Statement}
 use Rattle.fp_certificate.proofs.LinesBack.{IsStep, answer-step, end-step, scale-step, unit-step}
 use Rattle.fp_certificate.proofs.ListsBack.{Free, legs-back, points-back, tree-back, trucks-back}
 use Rattle.fp_certificate.proofs.PlainRows.{rows-plain}

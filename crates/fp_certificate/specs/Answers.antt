@@ -3,18 +3,18 @@
 use Rattle.std.specs.Prelude.{ℕ, ◌^◌, List, [], ◌∷◌, length, Bool, ◌&&◌, ◌||◌, not, ◌==◌, nat_lt, is_some, if◌then◌else◌, Option, Some, None, codes}
 use Rattle.fp_model.specs.declared.limits.TheConstants.{GREATEST_SCALE, LONGEST_FASTEST}
 use Rattle.fp_model.specs.Problem.{Problem, weight_at}
-use Rattle.fp_fields.specs.Findings.{finding}
-use Rattle.fp_fields.specs.Findings.{Finding}
-use Rattle.fp_fields.specs.Fields.{field, has_number, has_word, is_between, number_at}
-use Rattle.fp_lines.specs.declared.certificates.Answer.{Answer}
-use Rattle.fp_lines.specs.declared.certificates.Answer.TheVariants as answer
-use Rattle.fp_lines.specs.declared.certificates.Spent.{Spent}
-use Rattle.fp_lines.specs.declared.certificates.Spent.TheVariants.{Rounds, Branches}
+use Rattle.fp_records_fields.specs.Findings.{finding}
+use Rattle.fp_records_fields.specs.Findings.{Finding}
+use Rattle.fp_records_fields.specs.Fields.{field, has_number, has_word, is_between, number_at}
+use Rattle.fp_certificate_lines.specs.declared.certificates.Answer.{Answer}
+use Rattle.fp_certificate_lines.specs.declared.certificates.Answer.TheVariants as answer
+use Rattle.fp_certificate_lines.specs.declared.certificates.Spent.{Spent}
+use Rattle.fp_certificate_lines.specs.declared.certificates.Spent.TheVariants.{Rounds, Branches}
 use Rattle.fp_certificate.specs.declared.drafts.Draft.{Draft}
-use Rattle.fp_certificate.specs.declared.groups.Group.TheVariants as group
+use Rattle.fp_certificate.specs.declared.lines.groups.Group.TheVariants as group
 use Rattle.fp_certificate.specs.Groups.{is_misplaced}
-use Rattle.fp_lines.specs.Ranges.{largest_figure}
-use Rattle.fp_fields.specs.NamedParts.{lacks_shipment, shipment_in}
+use Rattle.fp_certificate_lines.specs.Ranges.{largest_figure}
+use Rattle.fp_records_fields.specs.NamedParts.{lacks_shipment, shipment_in}
 
 -- whether the number in the field at a place is no larger
 abbrev pub is_figure : List (List ℕ) → ℕ → Bool

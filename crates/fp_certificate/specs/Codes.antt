@@ -1,7 +1,7 @@
 -- The codes of the faults that a line may have.
 use Rattle.std.specs.Prelude.{ℕ}
-use Rattle.fp_certificate.specs.declared.line_faults.LineFault.{LineFault}
-use Rattle.fp_certificate.specs.declared.line_faults.LineFault.TheVariants.{Kind, Fields, Digits, Order, Name, AfterEnd, Range}
+use Rattle.fp_certificate.specs.declared.lines.faults.LineFault.{LineFault}
+use Rattle.fp_certificate.specs.declared.lines.faults.LineFault.TheVariants.{Kind, Fields, Digits, Order, Name, AfterEnd, Range}
 
 -- the code of a fault
 abbrev pub code_of : LineFault → ℕ

@@ -1,10 +1,10 @@
 -- Where a line of a group can stand.
 use Rattle.std.specs.Prelude.{ℕ, Bool, true, false, ◌||◌, not, nat_lt, Option, Some, None}
-use Rattle.fp_lines.specs.declared.certificates.Answer.{Answer}
-use Rattle.fp_lines.specs.declared.certificates.Answer.TheVariants as answer
+use Rattle.fp_certificate_lines.specs.declared.certificates.Answer.{Answer}
+use Rattle.fp_certificate_lines.specs.declared.certificates.Answer.TheVariants as answer
 use Rattle.fp_certificate.specs.declared.drafts.Draft.{Draft}
-use Rattle.fp_certificate.specs.declared.groups.Group.{Group}
-use Rattle.fp_certificate.specs.declared.groups.Group.TheVariants as group
+use Rattle.fp_certificate.specs.declared.lines.groups.Group.{Group}
+use Rattle.fp_certificate.specs.declared.lines.groups.Group.TheVariants as group
 
 -- the place of a group among the groups
 abbrev pub place_of : Group → ℕ

@@ -1,9 +1,9 @@
 -- The kinds of a certificate's lines, told by their first fields.
 use Rattle.std.specs.Prelude.{ℕ, List, if◌then◌else◌, Option, Some, None, codes}
 use Rattle.std.specs.Str.{bytes_eq}
-use Rattle.fp_fields.specs.Fields.{field, is_kind}
-use Rattle.fp_certificate.specs.declared.kinds.LineKind.{LineKind}
-use Rattle.fp_certificate.specs.declared.kinds.LineKind.TheVariants as kind
+use Rattle.fp_records_fields.specs.Fields.{field, is_kind}
+use Rattle.fp_certificate.specs.declared.lines.kinds.LineKind.{LineKind}
+use Rattle.fp_certificate.specs.declared.lines.kinds.LineKind.TheVariants as kind
 
 -- the kind of an answer, told by its second field
 abbrev pub answer_kind : List ℕ → Option LineKind

@@ -3,14 +3,14 @@
 use Rattle.std.specs.Prelude.{ℕ, List, [], ◌∷◌, ◌++◌, length, ◌&&◌, not, ◌==◌, Some}
 use Rattle.fp_model.specs.declared.limits.TheConstants.{LAST_ROUND}
 use Rattle.fp_model.specs.Problem.{Problem}
-use Rattle.fp_fields.specs.Findings.{finding}
-use Rattle.fp_fields.specs.Findings.{Finding}
-use Rattle.fp_fields.specs.Fields.{has_number, is_between, number_at}
+use Rattle.fp_records_fields.specs.Findings.{finding}
+use Rattle.fp_records_fields.specs.Findings.{Finding}
+use Rattle.fp_records_fields.specs.Fields.{has_number, is_between, number_at}
 use Rattle.fp_timenodes.specs.declared.places.AddedPoint.{AddedPoint}
 use Rattle.fp_certificate.specs.declared.drafts.Draft.{Draft}
-use Rattle.fp_certificate.specs.declared.groups.Group.TheVariants as group
+use Rattle.fp_certificate.specs.declared.lines.groups.Group.TheVariants as group
 use Rattle.fp_certificate.specs.Groups.{is_misplaced}
-use Rattle.fp_fields.specs.NamedParts.{lacks_terminal, terminal_in}
+use Rattle.fp_records_fields.specs.NamedParts.{lacks_terminal, terminal_in}
 use Rattle.fp_certificate.specs.Timetables.{is_time}
 
 -- the faults of `point,TERMINAL,TIME,ROUND`

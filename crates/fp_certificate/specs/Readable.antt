@@ -6,12 +6,12 @@ use Rattle.fp_model.specs.Problem.{Problem}
 use Rattle.fp_prices.specs.Tables.{AreCountable}
 use Rattle.fp_records.specs.Fields.{records_of}
 use Rattle.fp_records.specs.Text.{lines_of}
-use Rattle.fp_lines.specs.declared.certificates.Answer.{Answer}
-use Rattle.fp_lines.specs.declared.certificates.Answer.TheVariants.{Direct, Optimal, Unfinished, Infeasible}
-use Rattle.fp_lines.specs.Ranges.{IsInRange}
+use Rattle.fp_certificate_lines.specs.declared.certificates.Answer.{Answer}
+use Rattle.fp_certificate_lines.specs.declared.certificates.Answer.TheVariants.{Direct, Optimal, Unfinished, Infeasible}
+use Rattle.fp_certificate_lines.specs.Ranges.{IsInRange}
 use Rattle.fp_certificate.specs.Reading.{certificate_of}
-use Rattle.fp_lines.specs.Rows.{rows_of}
-use Rattle.fp_lines.specs.Statements.{Statement}
+use Rattle.fp_certificate_lines.specs.Rows.{rows_of}
+use Rattle.fp_certificate_lines.specs.Statements.{Statement}
 
 -- there is nothing beside an answer, legs and trucks
 pub record HasTimetableAlone (c : Statement) : Type 0 where

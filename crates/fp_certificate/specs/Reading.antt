@@ -1,19 +1,19 @@
 -- The certificate that records give, or their first fault.
 use Rattle.std.specs.Prelude.{ℕ, ◌+◌, List, [], ◌∷◌, if◌then◌else◌, Option, Some, None, Result, Ok, Err}
 use Rattle.fp_model.specs.Problem.{Problem}
-use Rattle.fp_fields.specs.Findings.{Finding, first_code}
-use Rattle.fp_fields.specs.Fields.{number_at}
-use Rattle.fp_fields.specs.Faults.{first_fault, Fault}
-use Rattle.fp_lines.specs.declared.certificates.Answer.TheVariants as answer
+use Rattle.fp_records_fields.specs.Findings.{Finding, first_code}
+use Rattle.fp_records_fields.specs.Fields.{number_at}
+use Rattle.fp_records_fields.specs.Faults.{first_fault, Fault}
+use Rattle.fp_certificate_lines.specs.declared.certificates.Answer.TheVariants as answer
 use Rattle.fp_certificate.specs.declared.drafts.Draft.{Draft}
-use Rattle.fp_certificate.specs.declared.kinds.LineKind.{LineKind}
-use Rattle.fp_certificate.specs.declared.kinds.LineKind.TheVariants.{Direct, Optimal, Unfinished, Infeasible, Scale, Leg, Truck, Point, Table, Share, Span, Weight, ByArc, ByTime, Leaf, End}
-use Rattle.fp_certificate.specs.declared.kinds.LineKind.TheVariants as kind
+use Rattle.fp_certificate.specs.declared.lines.kinds.LineKind.{LineKind}
+use Rattle.fp_certificate.specs.declared.lines.kinds.LineKind.TheVariants.{Direct, Optimal, Unfinished, Infeasible, Scale, Leg, Truck, Point, Table, Share, Span, Weight, ByArc, ByTime, Leaf, End}
+use Rattle.fp_certificate.specs.declared.lines.kinds.LineKind.TheVariants as kind
 use Rattle.fp_certificate.specs.Answers.{cost_faults, infeasible_faults, infeasible_in, scale_faults, unfinished_faults, unfinished_in, unit_faults, with_answer, with_scale, with_unit}
 use Rattle.fp_certificate.specs.Groups.{has_ended}
 use Rattle.fp_certificate.specs.Kinds.{kind_of}
 use Rattle.fp_certificate.specs.Points.{point_faults, point_in, with_point}
-use Rattle.fp_lines.specs.Statements.{Statement}
+use Rattle.fp_certificate_lines.specs.Statements.{Statement}
 use Rattle.fp_certificate.specs.Tables.{share_faults, share_in, span_faults, span_in, table_faults, weight_faults, weight_in, with_share, with_span, with_table, with_weight}
 use Rattle.fp_certificate.specs.Timetables.{leg_faults, leg_in, truck_faults, truck_in, with_leg, with_truck}
 use Rattle.fp_certificate.specs.Trees.{by_arc_faults, by_arc_in, by_time_faults, by_time_in, end_faults, leaf_faults, leaf_in, with_end, with_node}

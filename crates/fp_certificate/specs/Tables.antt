@@ -5,16 +5,16 @@ use Rattle.fp_model.specs.declared.limits.TheConstants.{LATEST}
 use Rattle.fp_model.specs.Problem.{Problem}
 use Rattle.fp_prices.specs.declared.tables.Weight.{Weight}
 use Rattle.fp_prices.specs.Shares.{ClassShare}
-use Rattle.fp_spans.specs.Spans.{ClassSpan}
-use Rattle.fp_fields.specs.Findings.{finding}
-use Rattle.fp_fields.specs.Findings.{Finding}
-use Rattle.fp_fields.specs.Fields.{has_number, is_between, number_at}
+use Rattle.fp_prices_spans.specs.Spans.{ClassSpan}
+use Rattle.fp_records_fields.specs.Findings.{finding}
+use Rattle.fp_records_fields.specs.Findings.{Finding}
+use Rattle.fp_records_fields.specs.Fields.{has_number, is_between, number_at}
 use Rattle.fp_records.specs.Fields.{is_empty}
 use Rattle.fp_certificate.specs.declared.drafts.Draft.{Draft}
-use Rattle.fp_certificate.specs.declared.groups.Group.TheVariants as group
+use Rattle.fp_certificate.specs.declared.lines.groups.Group.TheVariants as group
 use Rattle.fp_certificate.specs.Answers.{is_figure}
 use Rattle.fp_certificate.specs.Groups.{is_misplaced}
-use Rattle.fp_fields.specs.NamedParts.{arc_in, lacks_arc, lacks_shipment, shipment_in}
+use Rattle.fp_records_fields.specs.NamedParts.{arc_in, lacks_arc, lacks_shipment, shipment_in}
 use Rattle.fp_certificate.specs.Timetables.{is_time}
 
 -- a list with what a function makes of its last element

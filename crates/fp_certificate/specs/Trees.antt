@@ -5,16 +5,16 @@ use Rattle.fp_model.specs.declared.limits.TheConstants.{LAST_ROUND}
 use Rattle.fp_model.specs.Problem.{Problem}
 use Rattle.fp_prices.specs.declared.leaf_prices.Kind.{Kind}
 use Rattle.fp_prices.specs.declared.leaf_prices.Kind.TheVariants.{Linear, Even, Table}
-use Rattle.fp_fields.specs.Findings.{finding}
-use Rattle.fp_fields.specs.Findings.{Finding}
-use Rattle.fp_fields.specs.Fields.{has_number, is_between, number_at, has_word}
+use Rattle.fp_records_fields.specs.Findings.{finding}
+use Rattle.fp_records_fields.specs.Findings.{Finding}
+use Rattle.fp_records_fields.specs.Fields.{has_number, is_between, number_at, has_word}
 use Rattle.fp_tree.specs.declared.sides.Split.TheVariants.{ByArc, ByTime}
-use Rattle.fp_lines.specs.declared.certificates.Node.{Node}
-use Rattle.fp_lines.specs.declared.certificates.Node.TheVariants.{Branch, Leaf}
+use Rattle.fp_certificate_lines.specs.declared.certificates.Node.{Node}
+use Rattle.fp_certificate_lines.specs.declared.certificates.Node.TheVariants.{Branch, Leaf}
 use Rattle.fp_certificate.specs.declared.drafts.Draft.{Draft}
-use Rattle.fp_certificate.specs.declared.groups.Group.TheVariants as group
+use Rattle.fp_certificate.specs.declared.lines.groups.Group.TheVariants as group
 use Rattle.fp_certificate.specs.Groups.{is_misplaced}
-use Rattle.fp_fields.specs.NamedParts.{arc_in, lacks_arc, lacks_shipment, lacks_terminal, shipment_in, terminal_in}
+use Rattle.fp_records_fields.specs.NamedParts.{arc_in, lacks_arc, lacks_shipment, lacks_terminal, shipment_in, terminal_in}
 use Rattle.fp_certificate.specs.Timetables.{is_time}
 
 -- the faults of `split,arc,SHIPMENT,FROM,TO`

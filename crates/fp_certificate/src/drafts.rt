@@ -11,12 +11,12 @@ ghost use Rattle.fp_certificate.specs.Trees.{with_end, with_node};
 
 use crate::NoMemory;
 use crate::faults::CertFault;
-use crate::groups::Group;
+use crate::lines::groups::Group;
 use crate::open_spans::{has_span, push_span, push_span_weight};
 use crate::open_tables::{push_share, push_weight};
-use fp_lines::{Answer, Certificate, Node};
+use fp_certificate_lines::{Answer, Certificate, Node};
 use fp_prices::{Share, Table, Weight};
-use fp_spans::{Span, TableSpans};
+use fp_prices_spans::{Span, TableSpans};
 use fp_timenodes::AddedPoint;
 use fp_timetable::{LegLine, TruckLine};
 use std::alloc::Global;

@@ -19,7 +19,7 @@ fn read_names(shipments: &[Shipment])
 ///
 /// The certificate is in range, its tables can be counted in 32 bits, and its parts are those that
 /// reading takes under its answer: legs and trucks alone under a direct answer, nothing under an
-/// infeasible one. Then the records of the text that [`fp_lines::write`] gives of it are without a
+/// infeasible one. Then the records of the text that [`fp_certificate_lines::write`] gives of it are without a
 /// fault, and [`read`](crate::read) gives it back. The call does nothing.
 pub fn written_reads_back(instance: &Instance)
     ensures { WrittenReadsBack instance.now }

@@ -4,7 +4,7 @@ ghost use Rattle.fp_certificate.specs.Tables.{and_last_span_weight, and_span, an
 
 use crate::NoMemory;
 use fp_prices::Weight;
-use fp_spans::{Span, TableSpans};
+use fp_prices_spans::{Span, TableSpans};
 
 /// Whether a span stands in the last table.
 pub fn has_span(spans: &[TableSpans]) -> bool

@@ -1,35 +1,35 @@
 //! Reads a certificate.
 ghost use Rattle.std.specs.Prelude.{◌≡◌, ◌≤◌, ◌+◌, ◌-◌, ◌^◌, ◌<◌, ℕ, List, drop, length, All, Err, IfOk, MatchResult, None, Ok};
 ghost use Rattle.fp_prices.specs.Tables.{AreCountable};
-ghost use Rattle.fp_spans.specs.Spans.{ClassSpan};
-ghost use Rattle.fp_fields.specs.Indexes.{entries_of};
-ghost use Rattle.fp_fields.specs.Findings.{IsFirstFault, first_code};
+ghost use Rattle.fp_prices_spans.specs.Spans.{ClassSpan};
+ghost use Rattle.fp_records_fields.specs.Indexes.{entries_of};
+ghost use Rattle.fp_records_fields.specs.Findings.{IsFirstFault, first_code};
 ghost use Rattle.fp_certificate.specs.Codes.{code_of};
 ghost use Rattle.fp_certificate.specs.Outcomes.{IsFirst};
-ghost use Rattle.fp_lines.specs.Ranges.{IsInRange};
+ghost use Rattle.fp_certificate_lines.specs.Ranges.{IsInRange};
 ghost use Rattle.fp_certificate.specs.Reading.{certificate_from, certificate_of, faults_of, finished, line_code, nothing_read, with_kind, with_line};
 
-use crate::answer_lines::{read_direct, read_infeasible, read_optimal, read_unfinished};
 use crate::drafts::Draft;
-use crate::end_lines::read_end;
 use crate::faults::CertFault;
-use crate::kinds::{LineKind, kind_of};
-use crate::leaf_lines::read_leaf;
-use crate::leg_lines::read_leg;
-use crate::line_faults::LineFault;
-use crate::point_lines::read_point;
-use crate::scale_lines::read_scale;
-use crate::share_lines::read_share;
-use crate::span_lines::read_span;
-use crate::split_lines::{read_by_arc, read_by_time};
-use crate::table_lines::read_table;
-use crate::truck_lines::read_truck;
-use crate::unit_lines::read_unit;
-use crate::weight_lines::read_weight;
-use fp_fields::{Index, Lookup, RecordError};
-use fp_lines::Certificate;
+use crate::lines::answers::{read_direct, read_infeasible, read_optimal, read_unfinished};
+use crate::lines::ends::read_end;
+use crate::lines::faults::LineFault;
+use crate::lines::kinds::{LineKind, kind_of};
+use crate::lines::leaves::read_leaf;
+use crate::lines::legs::read_leg;
+use crate::lines::points::read_point;
+use crate::lines::scales::read_scale;
+use crate::lines::shares::read_share;
+use crate::lines::spans::read_span;
+use crate::lines::splits::{read_by_arc, read_by_time};
+use crate::lines::tables::read_table;
+use crate::lines::trucks::read_truck;
+use crate::lines::units::read_unit;
+use crate::lines::weights::read_weight;
+use fp_certificate_lines::Certificate;
 use fp_model::Instance;
 use fp_records::Record;
+use fp_records_fields::{Index, Lookup, RecordError};
 use std::alloc::Global;
 
 // Adds what a line of a kind gives, or tells the first of the line's faults.
@@ -118,7 +118,7 @@ fn draft_of(
 /// The certificate of an instance that the records from place `from` on give, or the first fault.
 ///
 /// There are fewer than `2^32 - 1` records, and `from` is at most their number. Ordinals count from
-/// 1 over all records. The records are the lines that [`fp_lines::write`] tells of, in that order;
+/// 1 over all records. The records are the lines that [`fp_certificate_lines::write`] tells of, in that order;
 /// legs, trucks, shares, spans and weights may stand in any order among themselves. A number is one
 /// or more ASCII digits, leading zeros allowed. A certificate that was read is in range: times are
 /// at most 100,000, a span ends after its point and at most at 100,001, rounds are at most 4,000, a

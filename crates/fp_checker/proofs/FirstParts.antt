@@ -5,16 +5,16 @@ use Rattle.fp_model.specs.Numbered.{shipment_at}
 use Rattle.fp_model.specs.Problem.{Problem}
 use Rattle.std.specs.Prelude.{Option}
 use Rattle.fp_flatnet.specs.Tables.{WindowTable, windows_in}
-use Rattle.fp_lines.specs.declared.certificates.Answer.{Answer}
-use Rattle.fp_lines.specs.declared.certificates.Answer.TheVariants.{Direct, Optimal, Unfinished, Infeasible}
-use Rattle.fp_lines.specs.declared.certificates.Spent.{Spent}
-use Rattle.fp_lines.specs.Statements.{Statement}
-use Rattle.fp_acceptance.specs.Accepted.{Applies, Holds, IsBlockedAs, IsTooLate, Part}
+use Rattle.fp_certificate_lines.specs.declared.certificates.Answer.{Answer}
+use Rattle.fp_certificate_lines.specs.declared.certificates.Answer.TheVariants.{Direct, Optimal, Unfinished, Infeasible}
+use Rattle.fp_certificate_lines.specs.declared.certificates.Spent.{Spent}
+use Rattle.fp_certificate_lines.specs.Statements.{Statement}
+use Rattle.fp_certificate_rules.specs.Accepted.{Applies, Holds, IsBlockedAs, IsTooLate, Part}
 use Rattle.fp_checker.specs.Rejections.{IsFirstUnmet, HoldBelow, IsFirstFailed, part_number}
-use Rattle.fp_acceptance.specs.Leaves.{HasTree}
-use Rattle.fp_acceptance.specs.Plans.{HasCost, HasPlan, HasTimetable}
-use Rattle.fp_acceptance.specs.Points.{HasPoints}
-use Rattle.fp_acceptance.specs.Prices.{HasPrices}
+use Rattle.fp_certificate_rules.specs.Leaves.{HasTree}
+use Rattle.fp_certificate_rules.specs.Plans.{HasCost, HasPlan, HasTimetable}
+use Rattle.fp_certificate_rules.specs.Points.{HasPoints}
+use Rattle.fp_certificate_rules.specs.Prices.{HasPrices}
 
 -- the part with a number
 part_at : ℕ → Part

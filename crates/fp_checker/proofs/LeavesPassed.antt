@@ -3,7 +3,6 @@ use Rattle.std.proofs.Common.{◌≡◌, ℕ, ◌+◌, ◌<◌, ◌≤◌, false
 use Rattle.std.specs.Prelude.{◌↔◌}
 use Rattle.std.specs.List.{AllByRecursion}
 use Rattle.std.specs.Int.{div_ceil}
-use Rattle.std.proofs.lemmas.List.{drop_all}
 use Rattle.fp_model.specs.Problem.{IsValid, Problem}
 use Rattle.fp_timenodes.specs.Points.{TimePoints, points_at}
 use Rattle.fp_flatnet.specs.Tables.{WindowTable, windows_in}
@@ -13,22 +12,22 @@ use Rattle.fp_tree.specs.declared.ways.Step.{Step}
 use Rattle.fp_tree.specs.Trees.{Leaf, leaves_of}
 use Rattle.fp_tree.specs.Ways.{leaves_on, pending_on, way_sides}
 use Rattle.fp_tree.proofs.Walks.{leaves_of-none, leaves_on-leaf, leaves_on-split}
-use Rattle.fp_prices.specs.declared.bounds.LeafBound.{LeafBound}
-use Rattle.fp_prices.specs.declared.bounds.LeafBound.TheVariants.{Empty, Value}
+use Rattle.fp_prices.specs.declared.values.bounds.LeafBound.{LeafBound}
+use Rattle.fp_prices.specs.declared.values.bounds.LeafBound.TheVariants.{Empty, Value}
 use Rattle.fp_prices.specs.declared.leaf_prices.LeafPrice.{LeafPrice}
 use Rattle.fp_prices.specs.Leaves.{IsLeafEmpty}
-use Rattle.fp_spans.specs.SpanKinds.{IsPricedValue, spans_beside}
-use Rattle.fp_spans.specs.SpanLeaves.{IsSpanBoundOf}
-use Rattle.fp_spans.proofs.OneSpanValue.{span_leaves-have-one-value}
-use Rattle.fp_spans.proofs.SameSpanValues.{span_bound-same}
-use Rattle.fp_lines.specs.declared.certificates.Node.{Node}
-use Rattle.fp_lines.specs.declared.certificates.Node.TheVariants as node
-use Rattle.fp_lines.specs.Statements.{Statement}
-use Rattle.fp_acceptance.specs.Accepted.{claim_of}
-use Rattle.fp_acceptance.specs.Leaves.{IsLeafWorth, fork_of, split_tail}
+use Rattle.fp_prices_spans.specs.SpanKinds.{IsPricedValue, spans_beside}
+use Rattle.fp_prices_spans.specs.SpanLeaves.{IsSpanBoundOf}
+use Rattle.fp_prices_spans.proofs.OneSpanValue.{span_leaves-have-one-value}
+use Rattle.fp_prices_spans.proofs.SameSpanValues.{span_bound-same}
+use Rattle.fp_certificate_lines.specs.declared.certificates.Node.{Node}
+use Rattle.fp_certificate_lines.specs.declared.certificates.Node.TheVariants as node
+use Rattle.fp_certificate_lines.specs.Statements.{Statement}
+use Rattle.fp_certificate_rules.specs.Accepted.{claim_of}
+use Rattle.fp_certificate_rules.specs.Leaves.{IsLeafWorth, fork_of, split_tail}
 use Rattle.fp_checker.specs.Bounds.{IsBoundWorth}
-use Rattle.fp_acceptance.specs.Points.{ArePointsOf, points_as_of}
-use Rattle.fp_acceptance.specs.Units.{rounded_up}
+use Rattle.fp_certificate_rules.specs.Points.{ArePointsOf, points_as_of}
+use Rattle.fp_certificate_rules.specs.Units.{rounded_up}
 use Rattle.fp_checker.proofs.TreeNodes.{nodes-from}
 
 -- a leaf is worth what a certificate claims

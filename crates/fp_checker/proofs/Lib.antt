@@ -6,3 +6,6 @@ pub mod SharesInOrder
 pub mod LeavesPassed
 pub mod FirstParts
 pub mod Spanned
+pub mod NarrowSides
+pub mod LeafWays
+pub mod SameSides

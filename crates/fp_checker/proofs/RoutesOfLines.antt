@@ -4,13 +4,13 @@ use Rattle.std.specs.Prelude.{All, IsSomeAnd, Option, nat_eq}
 use Rattle.std.specs.List.{AllByRecursion}
 use Rattle.std.specs.declared.alloc.Global.{Global}
 use Rattle.std.specs.declared.vec.Vec.{Vec}
-use Rattle.std.proofs.lemmas.Bool.{cases_Bool, cond-false, cond-true, eqb-false}
+use Rattle.std.proofs.lemmas.Bool.{cases_Bool, eqb-false}
 use Rattle.std.proofs.lemmas.List.{get_or-set_other, get_or-set_same, length-set, take_more}
 use Rattle.fp_model.specs.declared.parts.Leg.{Leg}
 use Rattle.fp_model.specs.declared.parts.Shipment.{Shipment}
-use Rattle.fp_lists.specs.Vectors.{lists_of}
+use Rattle.fp_base_lists.specs.Vectors.{lists_of}
 use Rattle.fp_model.specs.Numbered.{route_at}
-use Rattle.fp_lists.specs.Numbered.{AllFrom}
+use Rattle.fp_base_lists.specs.Numbered.{AllFrom}
 use Rattle.fp_flatnet.specs.declared.window_tables.Window.{Window}
 use Rattle.fp_flatnet.specs.Windows.{IsInside, LiesWithin, PlanLiesWithin}
 use Rattle.fp_timetable.specs.declared.lines.LegLine.{LegLine}

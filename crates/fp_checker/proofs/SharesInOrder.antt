@@ -3,7 +3,7 @@ use Rattle.std.proofs.Common.{◌≡◌, ◌-◌, List, [], refl, arith}
 use Rattle.std.specs.Prelude.{Result, Ok, Err, IfErr, OnOk, ◌↔◌, is_ok, true}
 use Rattle.std.specs.List.{AllByRecursion}
 use Rattle.fp_model.specs.Problem.{Problem, arc_at}
-use Rattle.fp_lists.proofs.Elements.{AllByRecursion-get_or}
+use Rattle.fp_base_lists.proofs.Elements.{AllByRecursion-get_or}
 use Rattle.fp_prices.specs.declared.tables.TableFault.{TableFault}
 use Rattle.fp_prices.specs.Prices.{AllKeepRule, KeepsRule, table_at}
 use Rattle.fp_prices.specs.Shares.{ClassShare}

@@ -1,28 +1,28 @@
 -- The bounds of leaves with spans beside their tables, or without.
-use Rattle.std.proofs.Common.{◌≡◌, ℕ, ◌-◌, ◌<◌, Bool, List, [], length, sym, subst, rules}
-use Rattle.std.specs.Prelude.{All, Option, slice_index_or}
-use Rattle.std.proofs.lemmas.List.Elements.{All-get_or, All-weaker}
+use Rattle.std.proofs.Common.{◌≡◌, ℕ, ◌-◌, Bool, List, [], sym, subst, rules}
+use Rattle.std.specs.Prelude.{All, Option}
+use Rattle.std.proofs.lemmas.List.Elements.{All-weaker}
 use Rattle.fp_model.specs.Problem.{Problem}
 use Rattle.fp_flatnet.specs.declared.window_tables.Window.{Window}
 use Rattle.fp_tree.specs.declared.sides.Side.{Side}
-use Rattle.fp_prices.specs.declared.bounds.LeafBound.{LeafBound}
-use Rattle.fp_prices.specs.declared.bounds.LeafBound.TheVariants.{Empty, Value}
+use Rattle.fp_prices.specs.declared.values.bounds.LeafBound.{LeafBound}
+use Rattle.fp_prices.specs.declared.values.bounds.LeafBound.TheVariants.{Empty, Value}
 use Rattle.fp_prices.specs.declared.leaf_prices.Kind.{Kind}
 use Rattle.fp_prices.specs.declared.leaf_prices.Kind.TheVariants.{Linear, Even, Table}
 use Rattle.fp_prices.specs.Leaves.{IsBoundOf}
 use Rattle.fp_prices.specs.Shares.{ClassShare}
-use Rattle.fp_spans.specs.SpanCharges.{ArePaidSpans}
-use Rattle.fp_spans.specs.SpanKinds.{spans_beside}
-use Rattle.fp_spans.specs.SpanLeaves.{IsSpanBoundOf}
-use Rattle.fp_spans.specs.SpanLists.{AreSpans, IsSpanOf}
-use Rattle.fp_spans.specs.Spans.{ClassSpan}
-use Rattle.fp_spans.proofs.SpanlessValues.{spanless-values}
-use Rattle.fp_lines.specs.Ranges.{IsInRange, IsSpanInRange}
-use Rattle.fp_lines.specs.Statements.{Statement}
-use Rattle.fp_acceptance.specs.Prices.{HasPrices}
-use Rattle.fp_lines.proofs.SpanRanges.{IsSpanInRange-of}
-use Rattle.fp_acceptance.proofs.KeptPrices.{All-both}
-use Rattle.fp_acceptance.proofs.UnitCosts.{at-all}
+use Rattle.fp_prices_spans.specs.SpanCharges.{ArePaidSpans}
+use Rattle.fp_prices_spans.specs.SpanKinds.{spans_beside}
+use Rattle.fp_prices_spans.specs.SpanLeaves.{IsSpanBoundOf}
+use Rattle.fp_prices_spans.specs.SpanLists.{AreSpans, IsSpanOf}
+use Rattle.fp_prices_spans.specs.Spans.{ClassSpan}
+use Rattle.fp_prices_spans.proofs.SpanlessValues.{spanless-values}
+use Rattle.fp_certificate_lines.specs.Ranges.{IsInRange, IsSpanInRange}
+use Rattle.fp_certificate_lines.specs.Statements.{Statement}
+use Rattle.fp_certificate_rules.specs.Prices.{HasPrices}
+use Rattle.fp_certificate_lines.proofs.SpanRanges.{IsSpanInRange-of}
+use Rattle.fp_certificate_rules.proofs.KeptPrices.{All-both}
+use Rattle.fp_certificate_rules.proofs.UnitCosts.{at-all}
 
 -- without spans, the bound is that by the tables
 spanless-bound : (p : Problem) (windows : ℕ → ℕ → Option Window) (points : ℕ → List ℕ) (sides : List Side) (tables : List (List ClassShare)) (kind : Kind) (forced : Bool) (bound : LeafBound) →

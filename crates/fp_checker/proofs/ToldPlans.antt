@@ -7,10 +7,10 @@ use Rattle.fp_model.specs.Problem.{Problem, arc_at}
 use Rattle.fp_flatnet.specs.declared.window_tables.Window.{Window}
 use Rattle.fp_timetable.specs.declared.lines.LegLine.{LegLine}
 use Rattle.fp_timetable.specs.Lines.{routes_from}
-use Rattle.fp_lists.specs.Order.{Precedes}
-use Rattle.fp_lines.specs.Ranges.{IsLegInRange}
-use Rattle.fp_lines.specs.Statements.{Statement}
-use Rattle.fp_acceptance.specs.Plans.{HasPlan}
+use Rattle.fp_base_lists.specs.Order.{Precedes}
+use Rattle.fp_certificate_lines.specs.Ranges.{IsLegInRange}
+use Rattle.fp_certificate_lines.specs.Statements.{Statement}
+use Rattle.fp_certificate_rules.specs.Plans.{HasPlan}
 use Rattle.fp_checker.specs.Lines.{LeavesInside}
 use Rattle.fp_checker.proofs.RoutesOfLines.{inside-routes, routes-inside}
 

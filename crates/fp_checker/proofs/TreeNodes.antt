@@ -6,9 +6,9 @@ use Rattle.fp_model.specs.Problem.{Problem}
 use Rattle.fp_prices.specs.declared.leaf_prices.LeafPrice.{LeafPrice}
 use Rattle.fp_tree.specs.declared.sides.Split.{Split}
 use Rattle.fp_tree.specs.Trees.{AreTrees}
-use Rattle.fp_lines.specs.declared.certificates.Node.{Node}
-use Rattle.fp_lines.specs.declared.certificates.Node.TheVariants.{Branch, Leaf}
-use Rattle.fp_acceptance.specs.Leaves.{fork_of}
+use Rattle.fp_certificate_lines.specs.declared.certificates.Node.{Node}
+use Rattle.fp_certificate_lines.specs.declared.certificates.Node.TheVariants.{Branch, Leaf}
+use Rattle.fp_certificate_rules.specs.Leaves.{fork_of}
 
 -- the nodes from a place on, where the node there is known
 pub nodes-from : (nodes : List Node) (i : ℕ) (d x : Node) → i < length nodes → get_or nodes i d ≡ x → drop i nodes ≡ x ∷ drop (i + 1) nodes

@@ -1,9 +1,9 @@
 -- What a bound tells of the leaf that it is of.
 use Rattle.std.specs.Prelude.{ℕ, ◌≤◌, Option}
 use Rattle.std.specs.Int.{div_ceil}
-use Rattle.fp_prices.specs.declared.bounds.LeafBound.{LeafBound}
-use Rattle.fp_prices.specs.declared.bounds.LeafBound.TheVariants.{Empty, Value}
-use Rattle.fp_acceptance.specs.Units.{rounded_up}
+use Rattle.fp_prices.specs.declared.values.bounds.LeafBound.{LeafBound}
+use Rattle.fp_prices.specs.declared.values.bounds.LeafBound.TheVariants.{Empty, Value}
+use Rattle.fp_certificate_rules.specs.Units.{rounded_up}
 
 -- a bound tells that a leaf is empty, or that it is worth the claim in whole units of money, rounded up
 -- to a multiple of the unit where there is one

@@ -5,18 +5,9 @@
 //! Network Design Problem", Operations Research 65, 2017. Certificates are this project's own.
 #![tactic(auto)]
 
-mod added_points;
 mod checks;
-mod departures;
-mod fastest_times;
-mod leaves;
-mod orders;
-mod plans;
-mod price_spans;
-mod price_tables;
-mod prices;
 mod rejections;
-mod trees;
+mod rules;
 
 pub use checks::{check, plan_of};
 pub use rejections::Rejected;

@@ -3,7 +3,7 @@ use Rattle.std.proofs.Common.{◌≡◌, ◌∙◌, ℕ, zero, suc, ◌+◌, ◌
 use Rattle.std.specs.Prelude.{All, AllPairs, Contains, IsSomeAnd, MatchOption}
 use Rattle.std.proofs.lemmas.Bool.{cases_eq, cases_lt}
 use Rattle.std.proofs.lemmas.List.Elements.{All-cons, All-nil}
-use Rattle.fp_lists.proofs.Membership.{Contains-cons_cases, Contains-first}
+use Rattle.fp_base_lists.proofs.Membership.{Contains-cons_cases, Contains-first}
 use Rattle.fp_model.specs.declared.parts.Member.{Member}
 use Rattle.fp_model.specs.Members.{AreDisjoint, IsMemberOf, member_arc}
 use Rattle.fp_model.specs.Problem.{Problem}

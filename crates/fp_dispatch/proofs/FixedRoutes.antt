@@ -5,9 +5,9 @@ use Rattle.std.specs.List.{AllByRecursion, AllZip}
 use Rattle.std.proofs.Math.ListN.{length-map}
 use Rattle.std.proofs.Math.Nat.{mul-le-mul_left}
 use Rattle.std.proofs.lemmas.List.Elements.{All-cons, All-from_recursion, All-nil}
-use Rattle.fp_lists.specs.Distinct.{AreDistinct}
-use Rattle.fp_lists.proofs.DistinctSums.{length-distinct-le}
-use Rattle.fp_lists.proofs.Elements.{AllByRecursion-map, AllByRecursion-weaker}
+use Rattle.fp_base_lists.specs.Distinct.{AreDistinct}
+use Rattle.fp_base_lists.proofs.DistinctSums.{length-distinct-le}
+use Rattle.fp_base_lists.proofs.Elements.{AllByRecursion-map, AllByRecursion-weaker}
 use Rattle.fp_model.specs.declared.limits.TheConstants.{LATEST, MOST_TERMINALS}
 use Rattle.fp_model.specs.declared.parts.Member.{Member}
 use Rattle.fp_model.specs.declared.parts.Shipment.{Shipment}

@@ -1,5 +1,5 @@
 -- The table of the numbers of the groups, group by group.
-use Rattle.std.proofs.Common.{◌≡◌, ◌∙◌, ℕ, zero, suc, ◌+◌, ◌*◌, ◌<◌, Option, Some, None, List, [], length, get_or, replicate, ⊎_elim, refl, sym, subst, arith}
+use Rattle.std.proofs.Common.{◌≡◌, ◌∙◌, ℕ, ◌+◌, ◌*◌, ◌<◌, Option, Some, None, List, [], length, get_or, refl, sym, subst, arith, ⊎_elim}
 use Rattle.std.specs.Prelude.{All, Contains, MatchOption}
 use Rattle.std.proofs.lemmas.Bool.{cases_eq}
 use Rattle.fp_model.specs.declared.parts.Member.{Member}
@@ -7,24 +7,6 @@ use Rattle.fp_model.specs.Members.{IsMemberOf}
 use Rattle.fp_dispatch.specs.Rising.{AreGroupNumbers, IsWide, place_of, set_each}
 use Rattle.fp_dispatch.proofs.TableEntries.{place_of-lt, place_of-same, set_each-at, set_each-cases}
 use Rattle.std.proofs.lemmas.List.Elements.{All-contains}
-
--- no number
-abbrev no_number : Option ℕ
-no_number = None
-
--- what stands in a table of nothing
-nothing-at : (n i : ℕ) → get_or (replicate n no_number) i None ≡ None
-nothing-at zero i = refl
-nothing-at (suc n) zero = refl
-nothing-at (suc n) (suc i) = nothing-at n i
-
--- no group has a number yet
-pub AreGroupNumbers-none : (routes : List (List ℕ)) (groups : List (List Member)) (width count : ℕ) → AreGroupNumbers routes groups width 0 (replicate count no_number)
-AreGroupNumbers-none routes groups width count m is = by (get_or (replicate count no_number) (place_of width m) None) (nothing-at count (place_of width m))
-  where
-    by : (o : Option ℕ) → o ≡ None → MatchOption o ((g : ℕ) → g < 0 → Contains (get_or groups g []) m → ⊥) (λ g. (g < 0) × Contains (get_or groups g []) m)
-    by None e = λ g lt has. absurd (omega (arith, lt))
-    by (Some g) e = absurd (let h : ◌≡◌ {A = Option ℕ} (Some g) None = e in cc)
 
 module _ (routes : List (List ℕ)) (groups : List (List Member)) (width number : ℕ) (table : List (Option ℕ)) (wide : IsWide routes width)
     (long : length table ≡ length routes * width) (members : All (IsMemberOf routes) (get_or groups number [])) where

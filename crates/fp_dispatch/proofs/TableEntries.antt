@@ -3,7 +3,7 @@ use Rattle.std.proofs.Common.{◌≡◌, ◌∙◌, ℕ, suc, ◌+◌, ◌*◌, 
 use Rattle.std.specs.Prelude.{Contains}
 use Rattle.std.proofs.lemmas.Bool.{cases_eq, cases_lt}
 use Rattle.std.proofs.lemmas.Nat.{mul-add-lt}
-use Rattle.fp_lists.proofs.Membership.{Contains-cons_cases, Contains-first}
+use Rattle.fp_base_lists.proofs.Membership.{Contains-cons_cases, Contains-first}
 use Rattle.fp_model.specs.declared.parts.Member.{Member}
 use Rattle.fp_model.specs.Members.{IsMemberOf}
 use Rattle.fp_dispatch.specs.Rising.{IsWide, place_of, set_each}

@@ -1,5 +1,5 @@
 -- Legs and routes that are added, one after the other.
-use Rattle.std.proofs.Common.{◌≡◌, ◌∙◌, ℕ, zero, suc, ◌+◌, ◌*◌, ◌<◌, ◌≤◌, List, [], ◌∷◌, ◌++◌, length, get_or, take, ⊎_elim, refl, sym, ap, ap₂, subst, arith}
+use Rattle.std.proofs.Common.{◌≡◌, ◌∙◌, ℕ, zero, suc, ◌+◌, ◌*◌, ◌<◌, ◌≤◌, List, [], ◌∷◌, ◌++◌, length, get_or, take, refl, sym, ap, ap₂, subst, arith, ⊎_elim}
 use Rattle.std.specs.Prelude.{All, Contains}
 use Rattle.std.proofs.lemmas.Bool.{cases_eq}
 use Rattle.std.proofs.lemmas.List.{map-append, take_more}
@@ -7,7 +7,7 @@ use Rattle.std.proofs.lemmas.List.Elements.{All-append, All-cons, All-nil, Conta
 use Rattle.fp_model.specs.declared.parts.Leg.{Leg}
 use Rattle.fp_model.specs.declared.parts.Member.{Member}
 use Rattle.fp_model.specs.Members.{IsMemberOf, arc_lists}
-use Rattle.fp_model.specs.Numbered.{leg_at, no_leg}
+use Rattle.fp_model.specs.Numbered.{leg_at}
 use Rattle.fp_model.specs.Routes.{arcs_of}
 use Rattle.fp_dispatch.specs.Rising.{legs_below, value_at}
 use Rattle.fp_dispatch.specs.Times.{departure}
@@ -34,19 +34,6 @@ push-last : {X : Type 0} (xs : List X) (x : X) (i : ℕ) (d : X) → i ≡ lengt
 push-last [] x i d is = ap (λ (k : ℕ). get_or (x ∷ []) k d) is
 push-last (y ∷ xs) x zero d is = absurd (omega (arith, is))
 push-last (y ∷ xs) x (suc i) d is = push-last xs x i d (omega (arith, is))
-
--- the departures of one more leg
-pub departs-push : (legs : List Leg) (l : Leg) (values : List ℕ) (first n : ℕ) → length legs ≡ n →
-    ((i : ℕ) → i < n → (leg_at legs i).depart ≡ get_or values (first + i) 0) → l.depart ≡ get_or values (first + n) 0 →
-    (i : ℕ) → i < n + 1 → (leg_at (legs ++ l ∷ []) i).depart ≡ get_or values (first + i) 0
-departs-push legs l values first n long before now i lt =
-    ⊎_elim
-    (λ (same : i ≡ n).
-    ap (λ (x : Leg). x.depart) (push-last legs l i no_leg (omega (arith, same, long))) ∙ now ∙ ap (λ (k : ℕ). get_or values (first + k) 0) (sym same))
-    (λ (other : i ≡ n → ⊥).
-    let earlier : i < n = omega (arith, lt, other) in
-    ap (λ (x : Leg). x.depart) (push-before legs l i no_leg (omega (arith, earlier, long))) ∙ before i earlier)
-    (cases_eq i n)
 
 -- the departures of one more route
 pub departures-push : (plan : List (List Leg)) (legs : List Leg) (routes : List (List ℕ)) (values : List ℕ) (width k : ℕ) → length plan ≡ k →

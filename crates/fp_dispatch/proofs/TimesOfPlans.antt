@@ -1,17 +1,16 @@
 -- Times that are kept by routes are those of a plan, and back.
-use Rattle.std.proofs.Common.{◌≡◌, ◌≢◌, ◌∙◌, ℕ, zero, suc, ◌+◌, ◌-◌, ◌*◌, ◌<◌, ◌≤◌, Option, Some, None, List, [], ◌∷◌, length, get_or, ⊎_elim, refl, sym, ap, subst, arith}
+use Rattle.std.proofs.Common.{◌≡◌, ◌≢◌, ◌∙◌, ℕ, zero, suc, ◌+◌, ◌-◌, ◌*◌, ◌<◌, ◌≤◌, Option, Some, None, List, [], ◌∷◌, length, get_or, refl, sym, ap, subst, arith}
 use Rattle.std.specs.Prelude.{All, IfSome, IsSomeAnd}
 use Rattle.std.specs.List.{AllZip}
 use Rattle.std.proofs.Math.ListN.{length-map}
 use Rattle.std.proofs.Math.Nat.{mul-le-mul_left}
-use Rattle.std.proofs.lemmas.Bool.{cases_lt}
-use Rattle.fp_lists.proofs.Elements.{AllByRecursion-from_get_or, AllByRecursion-get_or}
-use Rattle.fp_lists.proofs.Maps.{get_or-map_default}
-use Rattle.fp_lists.proofs.Numbered.{AllFrom-from_get_or, AllFrom-get_or_zero, AllZip-from_get_or, AllZip-get_or}
+use Rattle.fp_base_lists.proofs.Elements.{AllByRecursion-from_get_or, AllByRecursion-get_or}
+use Rattle.fp_base_lists.proofs.Maps.{get_or-map_default}
+use Rattle.fp_base_lists.proofs.Numbered.{AllFrom-from_get_or, AllFrom-get_or_zero, AllZip-from_get_or, AllZip-get_or}
 use Rattle.fp_model.specs.declared.parts.Leg.{Leg}
 use Rattle.fp_model.specs.declared.parts.Member.{Member}
 use Rattle.fp_model.specs.declared.parts.Shipment.{Shipment}
-use Rattle.fp_model.specs.Members.{IsMemberOf, LeaveAsOne, arc_lists, member_arc, member_leg}
+use Rattle.fp_model.specs.Members.{IsMemberOf, arc_lists, member_arc, member_leg}
 use Rattle.fp_model.specs.Numbered.{leg_at, no_leg, no_shipment, route_at, shipment_at}
 use Rattle.fp_model.specs.Plans.{IsPlan}
 use Rattle.fp_model.specs.Problem.{Problem, arc_at}
@@ -191,24 +190,3 @@ module _ (p : Problem) (windows : ℕ → ℕ → Option Window) (groups : List 
       plan-shipment (s ∷ ss) [] k all lt = absurd (omega (arith, lt))
       plan-shipment (s ∷ ss) (r ∷ rs) zero all lt = omega arith
       plan-shipment (s ∷ ss) (r ∷ rs) (suc k) all lt = omega (arith, plan-shipment ss rs k all.1 (omega (arith, lt)))
-
--- legs of which each and each later one leave together have one time
-pub HaveOneTime-LeaveAsOne : (plan : List (List Leg)) (group : List Member) → LeaveAsOne plan group → HaveOneTime (departure plan) group
-HaveOneTime-LeaveAsOne plan group pairs m n first second =
-    ⊎_elim
-    (λ (less : first.0 < second.0).
-    ap (departure plan) (sym first.2) ∙ pairs first.0 second.0 m less second.1 ∙ ap (departure plan) (read group second.0 m n second.1 ∙ second.2))
-    (λ (until : second.0 ≤ first.0).
-    ⊎_elim
-    (λ (more : second.0 < first.0).
-    sym (ap (departure plan) (sym second.2) ∙ pairs second.0 first.0 n more first.1 ∙ ap (departure plan) (read group first.0 n m first.1 ∙ first.2)))
-    (λ (same : first.0 ≤ second.0).
-    let one : first.0 ≡ second.0 = omega (arith, until, same) in
-    ap (departure plan) (sym first.2 ∙ read group first.0 m n first.1 ∙ ap (λ (k : ℕ). get_or group k n) one ∙ second.2))
-    (cases_lt second.0 first.0))
-    (cases_lt first.0 second.0)
-  where
-    read : (ms : List Member) (k : ℕ) (d e : Member) → k < length ms → get_or ms k d ≡ get_or ms k e
-    read [] k d e lt = absurd (omega (arith, lt))
-    read (x ∷ ms) zero d e lt = refl
-    read (x ∷ ms) (suc k) d e lt = read ms k d e (omega (arith, lt))

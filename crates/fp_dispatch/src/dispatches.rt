@@ -2,7 +2,7 @@
 ghost use Rattle.std.specs.Prelude.{◌≡◌, ◌<◌, ◌↔◌, IfOk, length};
 ghost use Rattle.std.specs.List.{AllZip};
 ghost use Rattle.std.specs.Option.{option_map};
-ghost use Rattle.fp_lists.specs.Vectors.{lists_of};
+ghost use Rattle.fp_base_lists.specs.Vectors.{lists_of};
 ghost use Rattle.fp_model.specs.Members.{AreGroupsOf, IsMemberOf, member_arc};
 ghost use Rattle.fp_model.specs.Routes.{IsRoute};
 ghost use Rattle.fp_flatnet.specs.Belonging.{BelongsTo};

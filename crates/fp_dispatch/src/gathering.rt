@@ -1,6 +1,6 @@
 //! Where all legs wait, and those of each group leave together.
 ghost use Rattle.std.specs.Prelude.{◌≡◌, ◌*◌, ◌+◌, ◌<◌, ◌≤◌, ◌^◌, ◌⊎◌, ◌++◌, All, Contains, IfOk, MatchOption, OnOk, length};
-ghost use Rattle.fp_lists.specs.Vectors.{lists_of};
+ghost use Rattle.fp_base_lists.specs.Vectors.{lists_of};
 ghost use Rattle.fp_model.specs.declared.parts.Member.{Member};
 ghost use Rattle.fp_model.specs.Members.{IsMemberOf};
 ghost use Rattle.fp_flatnet.specs.Tables.{windows_in};

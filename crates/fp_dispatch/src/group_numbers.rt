@@ -1,6 +1,6 @@
 //! The number of the group of each leg.
 ghost use Rattle.std.specs.Prelude.{◌≡◌, ◌<◌, ◌≤◌, ◌*◌, ◌^◌, Some, All, IfOk, length};
-ghost use Rattle.fp_lists.specs.Vectors.{lists_of};
+ghost use Rattle.fp_base_lists.specs.Vectors.{lists_of};
 ghost use Rattle.fp_model.specs.Members.{AreGroupsOf, IsMemberOf};
 ghost use Rattle.fp_dispatch.specs.Rising.{AreGroupNumbers, IsWide, place_of, set_each};
 

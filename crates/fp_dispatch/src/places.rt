@@ -1,7 +1,7 @@
 //! Where the legs of routes stand in flat tables, and when they can leave at the latest.
 ghost use Rattle.std.specs.Prelude.{◌≡◌, ◌≤◌, ◌<◌, ◌^◌, true, false, All, IfSome, IsSomeAnd, length};
 ghost use Rattle.std.specs.Option.{option_map};
-ghost use Rattle.fp_lists.specs.Vectors.{lists_of};
+ghost use Rattle.fp_base_lists.specs.Vectors.{lists_of};
 ghost use Rattle.fp_model.specs.declared.limits.TheConstants.{MOST_TERMINALS};
 ghost use Rattle.fp_model.specs.Members.{IsMemberOf, member_arc};
 ghost use Rattle.fp_flatnet.specs.Tables.{windows_in};

@@ -1,6 +1,6 @@
 //! Moments that rise until the steps of the routes are kept, or one passes its leg's latest.
 ghost use Rattle.std.specs.Prelude.{◌≡◌, ◌*◌, ◌<◌, ◌≤◌, ◌^◌, [], ◌∷◌, All, Contains, IfOk, MatchOption, IfSome, IsSomeAnd, OnOk, length};
-ghost use Rattle.fp_lists.specs.Vectors.{lists_of};
+ghost use Rattle.fp_base_lists.specs.Vectors.{lists_of};
 ghost use Rattle.fp_model.specs.declared.parts.Member.{Member};
 ghost use Rattle.fp_model.specs.Members.{IsMemberOf};
 ghost use Rattle.fp_model.specs.Problem.{Problem};

@@ -6,8 +6,8 @@ use Rattle.std.specs.List.{AllByRecursion}
 use Rattle.std.proofs.lemmas.Bool.{and_left, or_from, ne_eqb}
 use Rattle.std.proofs.lemmas.List.{append-nil}
 use Rattle.std.proofs.lemmas.List.Elements.{All-get_or, All-head, All-tail}
-use Rattle.fp_lists.specs.Numbered.{AllFrom, AllZipFrom}
-use Rattle.fp_lists.proofs.Numbered.{AllFrom-from_get_or}
+use Rattle.fp_base_lists.specs.Numbered.{AllFrom, AllZipFrom}
+use Rattle.fp_base_lists.proofs.Numbered.{AllFrom-from_get_or}
 use Rattle.fp_model.specs.declared.parts.Leg.{Leg}
 use Rattle.fp_model.specs.declared.parts.Shipment.{Shipment}
 use Rattle.fp_model.specs.Numbered.{no_shipment, shipment_at}
@@ -31,27 +31,10 @@ use Rattle.fp_prices.proofs.TakenByClasses.{NoneTwice, NoneTwiceInAny, paid}
 use Rattle.fp_prices.proofs.Users.{AgreesFrom, users-few}
 use Rattle.fp_prices.proofs.ClassPrices.{AreWalks}
 use Rattle.fp_prices.proofs.LeafSums.{bases-and-paid, costs-le}
-use Rattle.fp_prices.proofs.PlanBounds.{size_at}
+use Rattle.fp_prices.proofs.PlanBounds.{size_at, sizes-agree, sizes-some}
 use Rattle.fp_prices.proofs.ForcedValues.{IsReached, value-reached}
 use Rattle.fp_prices.proofs.WalkClasses.{AreTimedWalks, used-allowed, used-exist, chains-among}
 use Rattle.fp_duals.specs.Improvements.{IsReachedChain}
-
-agrees-on : (size : ℕ → ℕ) (i : ℕ) (shipments : List Shipment) → ((k : ℕ) → size (i + k) ≡ (slice_index_or shipments k no_shipment).size) → AgreesFrom size i shipments
-agrees-on size i [] h = tt
-agrees-on size i (s ∷ shipments) h =
-    let same : i + 0 ≡ i = omega arith in (
-      subst (λ (n : ℕ). size n ≡ s.size) same (h 0),
-      agrees-on size (i + 1) shipments (λ k.
-          let on : i + suc k ≡ i + 1 + k = omega arith in
-          subst (λ (n : ℕ). size n ≡ (slice_index_or shipments k no_shipment).size) on (h (suc k))),
-    )
-
-sizes-agree : (p : Problem) → AgreesFrom (size_at p) 0 p.shipments
-sizes-agree p = agrees-on (size_at p) 0 p.shipments (λ k. ap (size_at p) (let e : 0 + k ≡ k = omega arith in e))
-
-sizes-some : (n : ℕ) (shipments : List Shipment) → All (IsShipment n) shipments → AllByRecursion (λ (s : Shipment). 1 ≤ s.size) shipments
-sizes-some n [] all = tt
-sizes-some n (s ∷ shipments) all = ((All-head (IsShipment n) s shipments all).within.size.0, sizes-some n shipments (All-tail (IsShipment n) s shipments all))
 
 -- the value of a leaf is at most the scaled cost of allowed timed walks, one for each shipment, none of which has a class twice
 pub value-le_walks : (p : Problem) (windows : ℕ → ℕ → Option Window) (points : ℕ → List ℕ) (sides : List Side) (tables : List (List ClassShare)) (kind : Kind) (forced : Bool) (value : ℕ) (walks : List (List Leg)) →

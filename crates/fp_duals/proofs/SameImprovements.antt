@@ -2,9 +2,9 @@
 use Rattle.std.proofs.Common.{◌≡◌, ℕ, ◌<◌, ◌≤◌, Bool, false, List, [], ◌∷◌, ⊎_elim, inl, inr, refl, sym, ap, ◌∙◌, subst}
 use Rattle.std.specs.Prelude.{Option, IfOk, Result, Ok, Err, if◌then◌else◌}
 use Rattle.std.specs.declared.alloc.AllocError.{AllocError}
-use Rattle.fp_lists.specs.Distinct.{AreDistinct}
-use Rattle.fp_lists.specs.Numbered.{AllZipFrom}
-use Rattle.fp_lists.proofs.Numbered.{AllZipFrom-weaker}
+use Rattle.fp_base_lists.specs.Distinct.{AreDistinct}
+use Rattle.fp_base_lists.specs.Numbered.{AllZipFrom}
+use Rattle.fp_base_lists.proofs.Numbered.{AllZipFrom-weaker}
 use Rattle.fp_model.specs.declared.parts.Leg.{Leg}
 use Rattle.fp_model.specs.declared.parts.Shipment.{Shipment}
 use Rattle.fp_model.specs.Problem.{IsValid, Problem, arc_at}
@@ -17,7 +17,7 @@ use Rattle.fp_tree.specs.declared.sides.Side.{Side}
 use Rattle.fp_allowed.specs.Allowed.{is_allowed}
 use Rattle.fp_allowed.specs.SamePoints.{AgreeOnPoints}
 use Rattle.fp_allowed.proofs.SamePoints.{AgreeOnPoints_sym, IsTimedWalk_same, head_of_same, is_allowed_same}
-use Rattle.fp_prices.specs.declared.bounds.LeafBound.TheVariants.{Empty, Value}
+use Rattle.fp_prices.specs.declared.values.bounds.LeafBound.TheVariants.{Empty, Value}
 use Rattle.fp_prices.specs.declared.leaf_prices.Kind.{Kind}
 use Rattle.fp_prices.specs.declared.leaf_prices.Kind.TheVariants.{Even, Linear}
 use Rattle.fp_prices.specs.declared.leaf_prices.LeafPrice.{LeafPrice}

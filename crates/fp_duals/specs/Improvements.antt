@@ -1,6 +1,6 @@
 -- What comes of improving the price of a leaf.
 use Rattle.std.specs.Prelude.{ℕ, ◌*◌, ◌<◌, ◌≤◌, ◌≡◌, ◌⊎◌, List, [], ◌∷◌, ◌++◌, length, Bool, Option}
-use Rattle.fp_lists.specs.Numbered.{AllZipFrom}
+use Rattle.fp_base_lists.specs.Numbered.{AllZipFrom}
 use Rattle.fp_model.specs.declared.parts.Leg.{Leg}
 use Rattle.fp_model.specs.declared.parts.Shipment.{Shipment}
 use Rattle.fp_model.specs.Costs.{cost}
@@ -10,7 +10,7 @@ use Rattle.fp_tree.specs.declared.sides.Side.{Side}
 use Rattle.fp_allowed.specs.declared.chain_ends.ChainEnd.TheVariants.{Reached}
 use Rattle.fp_allowed.specs.Allowed.{IsForcedChain, is_allowed}
 use Rattle.fp_allowed.specs.Chains.{EndsAs}
-use Rattle.fp_prices.specs.declared.bounds.LeafBound.TheVariants.{Value}
+use Rattle.fp_prices.specs.declared.values.bounds.LeafBound.TheVariants.{Value}
 use Rattle.fp_prices.specs.declared.leaf_prices.Kind.{Kind}
 use Rattle.fp_prices.specs.declared.leaf_prices.Kind.TheVariants.{Table}
 use Rattle.fp_prices.specs.declared.leaf_prices.LeafPrice.{LeafPrice}

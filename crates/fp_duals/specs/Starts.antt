@@ -6,7 +6,7 @@ use Rattle.fp_flatnet.specs.declared.window_tables.Window.{Window}
 use Rattle.fp_flatnet.specs.Tables.{windows_in}
 use Rattle.fp_longestarcs.specs.Networks.{points_in}
 use Rattle.fp_tree.specs.declared.sides.Side.{Side}
-use Rattle.fp_prices.specs.declared.bounds.LeafBound.TheVariants.{Value}
+use Rattle.fp_prices.specs.declared.values.bounds.LeafBound.TheVariants.{Value}
 use Rattle.fp_prices.specs.declared.leaf_prices.Kind.{Kind}
 use Rattle.fp_prices.specs.declared.leaf_prices.Kind.TheVariants.{Linear, Even}
 use Rattle.fp_prices.specs.Leaves.{IsLeafValue, IsSmallBound}

@@ -1,6 +1,6 @@
 //! What comes of improving a leaf.
+use fp_longestarcs::TimedWalk;
 use fp_prices::LeafPrice;
-use fp_relaxmodel::TimedWalk;
 
 /// The price of a leaf after an improvement.
 #[derive(Drop)]

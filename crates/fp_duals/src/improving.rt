@@ -18,12 +18,12 @@ use crate::improvements::Improved;
 use crate::run_tables::Tables;
 use crate::searches::Search;
 use crate::starts::Start;
-use crate::timed_walks::timed_walks;
-use fp_ascent::Effort;
+use fp_duals_nets::LentNets;
+use fp_duals_shares::Effort;
 use fp_flatnet::Windows;
+use fp_longestarcs::TimedWalk;
 use fp_model::Instance;
 use fp_prices::{Kind, Leaf, LeafBound, LeafPrice, RoundNetwork, Table};
-use fp_relaxmodel::TimedWalk;
 use fp_timenodes::{MOST_POINTS, Points};
 use fp_tree::Side;
 use std::alloc::Global;
@@ -45,7 +45,7 @@ fn least_walks(
 {
     let preferred = search.walks(alloc, tables, start)?;
     match leaf.walks_preferring(alloc, tables, start.kind, start.forced, &preferred)? {
-        Some(walks) => timed_walks(alloc, &walks),
+        Some(walks) => Ok(walks),
         None => unreachable!(),
     }
 }
@@ -119,10 +119,10 @@ fn priced(
 fn improve_from(
     alloc: Global,
     leaf: &Leaf,
+    search: &mut Search,
     round: u32,
     inherited: Kind,
     first: Start,
-    effort: &Effort,
     tables: &mut Tables,
 ) -> Result<Improved, NoMemory>
     requires tables { ArePriceTables leaf.now.setting.problem tables.old }
@@ -137,11 +137,11 @@ fn improve_from(
     ensures err { OnErr result (tables.new ≡ tables.old) }
 {
     let start = first.best(alloc, leaf, tables.list(), inherited)?;
-    let mut search = Search::of(alloc, leaf, effort)?;
-    priced(alloc, leaf, &mut search, round, inherited, start, tables)
+    priced(alloc, leaf, search, round, inherited, start, tables)
 }
 
-/// Improves the price of a leaf over the network of a round, with so much effort.
+/// Improves the price of a leaf over the network of a round, with so much effort, and with the nets of
+/// the leaf, which it makes where it needs them and they aren't made yet.
 ///
 /// It is [`Improved::Empty`] exactly where some shipment has no allowed timed walk; the first is
 /// named, and the tables stay. Otherwise the price has this number of a round, which is used for
@@ -159,6 +159,7 @@ fn improve_from(
 pub fn improve_leaf(
     alloc: Global,
     leaf: &Leaf,
+    nets: &mut LentNets,
     round: u32,
     inherited: LeafPrice,
     effort: &Effort,
@@ -181,7 +182,16 @@ pub fn improve_leaf(
                 forced: true,
                 value,
             };
-            improve_from(alloc, leaf, round, inherited.kind, first, effort, tables)
+            let mut search = Search::of(alloc, leaf, nets, effort)?;
+            improve_from(
+                alloc,
+                leaf,
+                &mut search,
+                round,
+                inherited.kind,
+                first,
+                tables,
+            )
         }
     }
 }
@@ -215,5 +225,7 @@ pub fn improve(
 {
     let network = RoundNetwork::of(alloc, instance, points, round)?;
     let leaf = Leaf::of(alloc, &network, windows, sides)?;
-    improve_leaf(alloc, &leaf, round, inherited, &Effort::ROOT, tables)
+    let mut nets = LentNets::new();
+    let effort = &Effort::ROOT;
+    improve_leaf(alloc, &leaf, &mut nets, round, inherited, effort, tables)
 }

@@ -9,16 +9,17 @@
 mod candidates;
 mod improvements;
 mod improving;
+mod laws;
 mod limits;
 mod run_tables;
 mod searches;
 mod starts;
 mod table_tests;
-mod timed_walks;
 
-pub use fp_ascent::Effort;
+pub use fp_duals_shares::Effort;
 pub use improvements::Improved;
 pub use improving::{improve, improve_leaf};
+pub use laws::price_line_limit_is_a_number;
 pub use limits::MOST_PRICE_LINES;
 pub use run_tables::Tables;
 

@@ -5,8 +5,10 @@ ghost use Rattle.std.specs.Bool.{OnTrue};
 use crate::NoMemory;
 use crate::starts::Start;
 use fp_allowed::ChainEnd;
-use fp_ascent::{Ascent, Effort};
-use fp_prices::{ClassWalk, Leaf, Table};
+use fp_duals_nets::LentNets;
+use fp_duals_shares::{Ascent, Effort};
+use fp_longestarcs::TimedWalk;
+use fp_prices::{Leaf, Table};
 use std::alloc::Global;
 
 // What is known of the forced chains of a leaf.
@@ -35,20 +37,26 @@ fn chains_of(alloc: Global, leaf: &Leaf) -> Result<Chains, NoMemory> {
 /// A search for tables and walks of a leaf, with so much effort.
 #[derive(Drop)]
 pub(crate) struct Search<'a> {
-    ascent: Ascent<'a>,
+    // None where each chain reaches its destination, so that there's nothing to seek.
+    ascent: Option<Ascent<'a>>,
     effort: &'a Effort,
     chains: Chains,
 }
 
 impl<'a> Search<'a> {
-    /// The search at a leaf. `NoMemory` only where no memory is found.
+    /// The search at a leaf, over the leaf's nets. `NoMemory` only where no memory is found.
     pub(crate) fn of(
         alloc: Global,
         leaf: &'a Leaf<'a>,
+        nets: &'a mut LentNets,
         effort: &'a Effort,
     ) -> Result<Search<'a>, NoMemory> {
         let chains = chains_of(alloc, leaf)?;
-        let ascent = Ascent::of(alloc, leaf)?;
+        let ascent = if chains.all_reached {
+            None
+        } else {
+            Some(Ascent::of(leaf, nets.at(alloc, leaf)?))
+        };
         Ok(Search {
             ascent,
             effort,
@@ -86,18 +94,18 @@ impl<'a> Search<'a> {
         lines: u32,
     ) -> Result<Option<Table>, NoMemory> {
         let effort = self.effort;
-        if self.chains.all_reached || (effort.turns == 0 && effort.settle_passes == 0) {
-            return Ok(None);
+        match &mut self.ascent {
+            Some(ascent) if effort.turns > 0 || effort.settle_passes > 0 => ascent.table(
+                alloc,
+                tables,
+                start.kind,
+                start.forced,
+                forced,
+                effort,
+                lines,
+            ),
+            _ => Ok(None),
         }
-        self.ascent.table(
-            alloc,
-            tables,
-            start.kind,
-            start.forced,
-            forced,
-            effort,
-            lines,
-        )
     }
 
     /// Walks of least cost under the prices of a start that share trucks, where they are sought.
@@ -106,11 +114,13 @@ impl<'a> Search<'a> {
         alloc: Global,
         tables: &[Table],
         start: Start,
-    ) -> Result<Vec<ClassWalk>, NoMemory> {
-        if self.chains.all_reached || self.effort.share_passes == 0 {
-            return Ok(Vec::new(alloc));
+    ) -> Result<Vec<TimedWalk>, NoMemory> {
+        let effort = self.effort;
+        match &mut self.ascent {
+            Some(ascent) if effort.share_passes > 0 => {
+                ascent.walks(alloc, tables, start.kind, start.forced, effort)
+            }
+            _ => Ok(Vec::new(alloc)),
         }
-        self.ascent
-            .walks(alloc, tables, start.kind, start.forced, self.effort)
     }
 }

@@ -1,7 +1,7 @@
 //! Whether a table may be added to those of a run.
 ghost use Rattle.std.specs.Prelude.{◌≡◌, ◌+◌, ◌<◌, ◌≤◌, ◌↔◌, [], ◌∷◌, All, AllPairs, IsTrue, length};
 ghost use Rattle.std.specs.Bool.{OnTrue};
-ghost use Rattle.fp_lists.specs.Order.{Precedes};
+ghost use Rattle.fp_base_lists.specs.Order.{Precedes};
 ghost use Rattle.fp_model.specs.declared.limits.TheConstants.{LATEST};
 ghost use Rattle.fp_prices.specs.declared.tables.Weight.{Weight};
 ghost use Rattle.fp_prices.specs.Shares.{ClassShare};

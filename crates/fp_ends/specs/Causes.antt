@@ -1,5 +1,5 @@
 -- When a fault may be answered.
-use Rattle.std.specs.Prelude.{◌≡◌, ℕ, ◌+◌, ◌-◌, ◌^◌, ◌≤◌, min, OnErr, Result, Ok, Err}
+use Rattle.std.specs.Prelude.{◌≡◌, ℕ, ◌+◌, ◌-◌, ◌^◌, ◌≤◌, min, OnErr, OnOk, Result, Ok, Err}
 
 -- A count that rises by one, and stands still at the end of its type.
 abbrev pub next_count : ℕ → ℕ
@@ -9,9 +9,11 @@ next_count n = min (n + 1) (2 ^ 64 - 1)
 abbrev pub Rose : ℕ → ℕ → Type 0
 Rose before now = next_count before ≤ now
 
--- The count has not fallen, and an error comes only where it rose.
+-- The count has not fallen, it is as before where there is no error, and an error comes only where it
+-- rose.
 pub record HasCause {T E : Type 0} (before now : ℕ) (result : Result T E) : Type 0 where
   pub later : before ≤ now
+  pub same : OnOk result (now ≡ before)
   pub failed : OnErr result (Rose before now)
 
 -- One call counts its own fault and no other.

@@ -1,5 +1,5 @@
 -- What contracts see of the sources and sinks in memory.
-use Rattle.std.specs.Prelude.{◌≡◌, ◌⊎◌, ◌<◌, ◌≤◌, ◌-◌, ℕ, List, ◌++◌, drop, take, min, length, Contains, Result, Ok, Err}
+use Rattle.std.specs.Prelude.{◌≡◌, ◌⊎◌, ◌<◌, ◌≤◌, ◌-◌, ℕ, Bool, true, false, List, [], ◌∷◌, ◌++◌, drop, take, min, length, Contains, Result, Ok, Err}
 use Rattle.fp_ends.specs.Causes.{next_count}
 use Rattle.fp_ends.specs.declared.source.Failed.{Failed}
 use Rattle.fp_ends.specs.declared.memory_source.MemSource.{MemSource}
@@ -9,6 +9,11 @@ use Rattle.fp_ends.specs.declared.sure.SureSource.{SureSource}
 -- The bytes that a source which never fails has left.
 abbrev pub bytes_left : SureSource → List ℕ
 bytes_left s = drop s.at s.bytes.items
+
+-- No call was chosen to fail.
+abbrev pub fails_never : List ℕ → Bool
+fails_never [] = true
+fails_never (call ∷ calls) = false
 
 -- A source in memory: what is left, the most that a call gives, which calls fail, how many calls
 -- and faults there were.
@@ -68,3 +73,13 @@ WritesMemory old new piece (Ok n) =
 WritesMemory old new piece (Err _) =
     IsRefused old piece
     × (new ≡ record old { calls = next_count old.calls; faults = next_count old.faults })
+
+-- So much room where no call was chosen to fail, and none elsewhere.
+abbrev pub room_unless : List ℕ → ℕ → ℕ
+room_unless [] free = free
+room_unless (call ∷ calls) free = 0
+
+-- How many bytes so many calls that don't fail may still bring: those that there is room for, where
+-- no call was chosen to fail.
+abbrev pub room_left : SinkState → ℕ
+room_left state = room_unless state.fails (state.room - length state.bytes)

@@ -1,6 +1,7 @@
 //! A sink in memory, with limited room and with faults at chosen calls.
 
-ghost use Rattle.std.specs.Prelude.{◌≡◌, ◌^◌, ◌<◌, ◌≤◌, [], length, vec_capacity, Some, IfOk};
+ghost use Rattle.std.specs.Result.{IsOk};
+ghost use Rattle.std.specs.Prelude.{◌≡◌, ◌+◌, ◌^◌, ◌<◌, ◌≤◌, [], length, vec_capacity, Some, IfOk};
 ghost use Rattle.std.specs.Io.{WritesAtMost};
 ghost use Rattle.std.specs.Io.KnownBytes.{WriteAppends};
 ghost use Rattle.fp_ends.specs.Causes.{HasCause};
@@ -64,15 +65,19 @@ impl Sink for MemSink {
 
     ghost faults = { λ s. s.faults };
 
+    ghost sure_room = { λ s. room_left (sink_state s) };
+
     ghost counted = { λ s. s.in_range };
 
-    ghost use Rattle.fp_ends.specs.Memory.{WritesMemory, sink_state};
+    ghost use Rattle.fp_ends.specs.Memory.{WritesMemory, room_left, sink_state};
 
     fn write(&mut self, piece: &[u8]) -> Result<usize, Failed>
         ensures bound { WritesAtMost result piece.now }
         ensures bytes { WriteAppends (Some (sink_state self.old).bytes) (Some (sink_state self.new).bytes) result piece.now }
         ensures moves { IfOk result (λ n. n ≡ 0 → piece.now ≡ []) }
         ensures cause { HasCause (sink_state self.old).faults (sink_state self.new).faults result }
+        ensures sure { 1 ≤ length piece.now → length piece.now ≤ room_left (sink_state self.old) → IsOk result }
+        ensures room { IfOk result (λ n. room_left (sink_state self.old) ≤ room_left (sink_state self.new) + n) }
         // Which calls fail, and how many bytes the others take.
         ensures exact { WritesMemory (sink_state self.old) (sink_state self.new) piece.now result }
     {

@@ -1,6 +1,7 @@
 //! A source in memory, with faults at chosen calls.
 
-ghost use Rattle.std.specs.Prelude.{◌≡◌, ◌^◌, ◌<◌, ◌≤◌, length, drop, Some};
+ghost use Rattle.std.specs.Result.{IsOk};
+ghost use Rattle.std.specs.Prelude.{◌≡◌, ◌^◌, ◌<◌, ◌≤◌, length, drop, true, Some};
 ghost use Rattle.std.specs.Io.{ReadsAtMost};
 ghost use Rattle.std.specs.Io.KnownBytes.{ReadConsumes};
 ghost use Rattle.fp_ends.specs.Causes.{HasCause};
@@ -48,14 +49,18 @@ impl Source for MemSource {
 
     ghost faults = { λ s. s.faults };
 
+    ghost is_sure = { λ s. fails_never s.fails.items };
+
     ghost counted = { λ s. s.in_range };
 
-    ghost use Rattle.fp_ends.specs.Memory.{ReadsMemory, source_state};
+    ghost use Rattle.fp_ends.specs.Memory.{ReadsMemory, fails_never, source_state};
 
     fn read(&mut self, into: &mut [u8]) -> Result<usize, Failed>
         ensures bound { ReadsAtMost result into.new }
         ensures bytes { ReadConsumes (Some (source_state self.old).left) (Some (source_state self.new).left) result into.new }
         ensures cause { HasCause (source_state self.old).faults (source_state self.new).faults result }
+        ensures sure { fails_never (source_state self.old).fails ≡ true → IsOk result }
+        ensures stays { fails_never (source_state self.new).fails ≡ fails_never (source_state self.old).fails }
         // Which calls fail, and how many bytes the others give.
         ensures exact { ReadsMemory (source_state self.old) (source_state self.new) (length into.old) result }
     {

@@ -1,6 +1,6 @@
 //! Reads a source to its end.
 
-ghost use Rattle.std.specs.Prelude.{◌≡◌, ◌≤◌};
+ghost use Rattle.std.specs.Prelude.{◌≡◌, ◌≤◌, true};
 ghost use Rattle.fp_ends.specs.Causes.{Rose};
 ghost use Rattle.fp_ends.specs.Moves.{ReadsAll, ReadsPiece, IsWholeInput};
 
@@ -29,7 +29,8 @@ const PIECE: usize = 4096;
 /// last takes at least one byte, and the call takes at most `limit + 1`.
 ///
 /// # Errors
-/// `ReadFault` only where the source's count of faults rose in this call, `TooLong` exactly where
+/// `ReadFault` only where the source's count of faults rose in this call, and never over a source
+/// that is sure; the count stays as it was otherwise. `TooLong` exactly where
 /// more than `limit` bytes came before the end. `NoMemory` only where no memory is found. The source
 /// may have given bytes before each of them.
 pub fn read_all<S: Source>(alloc: Global, source: &mut S, limit: usize) -> Result<Vec<u8>, ReadEnd>
@@ -39,6 +40,8 @@ pub fn read_all<S: Source>(alloc: Global, source: &mut S, limit: usize) -> Resul
     ensures whole { IsWholeInput limit (S.left source.old) (S.left source.new) result }
     ensures later { S.faults source.old ≤ S.faults source.new }
     ensures fault { result ≡ Err ReadEnd.ReadFault → Rose (S.faults source.old) (S.faults source.new) }
+    ensures same { (result ≡ Err ReadEnd.ReadFault → ⊥) → S.faults source.new ≡ S.faults source.old }
+    ensures sure { S.is_sure source.old ≡ true → result ≡ Err ReadEnd.ReadFault → ⊥ }
 {
     let mut bytes = Vec::new(alloc);
     while bytes.len() <= limit {
@@ -56,6 +59,9 @@ fn read_piece<S: Source>(source: &mut S, bytes: &mut Vec<u8>, room: usize) -> Re
     ensures bytes { ReadsPiece room (S.left source.old) (S.left source.new) bytes.old.items bytes.new.items result }
     ensures later { S.faults source.old ≤ S.faults source.new }
     ensures fault { result ≡ Err ReadEnd.ReadFault → Rose (S.faults source.old) (S.faults source.new) }
+    ensures same { (result ≡ Err ReadEnd.ReadFault → ⊥) → S.faults source.new ≡ S.faults source.old }
+    ensures sure { S.is_sure source.old ≡ true → result ≡ Err ReadEnd.ReadFault → ⊥ }
+    ensures stays { S.is_sure source.new ≡ S.is_sure source.old }
 {
     let mut piece = [0; PIECE];
     let want = room.min(PIECE - 1) + 1;

@@ -1,6 +1,7 @@
 //! Sources and sinks over std's readers and writers, as over the standard streams of a program.
 
-ghost use Rattle.std.specs.Prelude.{◌≡◌, ◌^◌, ◌<◌, [], None, IfOk};
+ghost use Rattle.std.specs.Result.{IsOk};
+ghost use Rattle.std.specs.Prelude.{◌≡◌, ◌+◌, ◌^◌, ◌<◌, ◌≤◌, [], length, false, true, None, IfOk};
 ghost use Rattle.std.specs.Io.{ReadsAtMost, WritesAtMost};
 ghost use Rattle.std.specs.Io.KnownBytes.{ReadConsumes, WriteAppends};
 ghost use Rattle.fp_ends.specs.Causes.{CountsFaults, HasCause};
@@ -34,6 +35,8 @@ impl<R: Read> Source for StdSource<R> {
 
     ghost faults = { λ s. s.faults };
 
+    ghost is_sure = { λ _. false };
+
     ghost counted = { λ s. s.in_range };
 
     ghost use Rattle.fp_ends.specs.Standard.{read_faults, reader_of};
@@ -42,6 +45,8 @@ impl<R: Read> Source for StdSource<R> {
         ensures bound { ReadsAtMost result into.new }
         ensures bytes { ReadConsumes None None result into.new }
         ensures cause { HasCause (read_faults self.old) (read_faults self.new) result }
+        ensures sure { false ≡ true → IsOk result }
+        ensures stays { false ≡ false }
         // The bytes are the reader's next ones, and the end is its end.
         ensures reader { ReadConsumes (R.remaining (reader_of self.old)) (R.remaining (reader_of self.new)) result into.new }
         ensures counts { CountsFaults (read_faults self.old) (read_faults self.new) result }
@@ -82,6 +87,8 @@ impl<W: Write> Sink for StdSink<W> {
 
     ghost faults = { λ s. s.faults };
 
+    ghost sure_room = { λ _. 0 };
+
     ghost counted = { λ s. s.in_range };
 
     ghost use Rattle.fp_ends.specs.Standard.{write_faults, writer_of};
@@ -91,6 +98,8 @@ impl<W: Write> Sink for StdSink<W> {
         ensures bytes { WriteAppends None None result piece.now }
         ensures moves { IfOk result (λ n. n ≡ 0 → piece.now ≡ []) }
         ensures cause { HasCause (write_faults self.old) (write_faults self.new) result }
+        ensures sure { 1 ≤ length piece.now → length piece.now ≤ 0 → IsOk result }
+        ensures room { IfOk result (λ n. 0 ≤ 0 + n) }
         // The writer has the bytes that were taken, and no others.
         ensures writer { WriteAppends (W.contents (writer_of self.old)) (W.contents (writer_of self.new)) result piece.now }
         ensures counts { CountsFaults (write_faults self.old) (write_faults self.new) result }

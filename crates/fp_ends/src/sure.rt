@@ -1,6 +1,7 @@
 //! A source and a sink that never fail.
 
-ghost use Rattle.std.specs.Prelude.{◌≡◌, ◌≤◌, [], length, drop, min, None, Some, Ok, IfOk};
+ghost use Rattle.std.specs.Result.{IsOk};
+ghost use Rattle.std.specs.Prelude.{◌≡◌, ◌+◌, ◌^◌, ◌≤◌, [], length, drop, min, true, None, Some, Ok, IfOk};
 ghost use Rattle.std.specs.Io.{ReadsAtMost, WritesAtMost};
 ghost use Rattle.std.specs.Io.KnownBytes.{ReadConsumes, WriteAppends};
 ghost use Rattle.std.proofs.Common.{lit<};
@@ -33,6 +34,8 @@ impl Source for SureSource {
 
     ghost faults = { λ _. 0 };
 
+    ghost is_sure = { λ _. true };
+
     ghost counted = { λ _. lit< tt };
 
     ghost use Rattle.fp_ends.specs.Memory.{bytes_left};
@@ -41,6 +44,8 @@ impl Source for SureSource {
         ensures bound { ReadsAtMost result into.new }
         ensures bytes { ReadConsumes (Some (bytes_left self.old)) (Some (bytes_left self.new)) result into.new }
         ensures cause { HasCause 0 0 result }
+        ensures sure { true ≡ true → IsOk result }
+        ensures stays { true ≡ true }
         ensures exact { result ≡ Ok (min (length into.old) (length (bytes_left self.old))) }
     {
         let count = copy_front(self.bytes.split_at(self.at).1, into, usize::MAX);
@@ -67,6 +72,8 @@ impl Sink for SureSink {
 
     ghost faults = { λ _. 0 };
 
+    ghost sure_room = { λ _. 2 ^ 64 };
+
     ghost counted = { λ _. lit< tt };
 
     fn write(&mut self, piece: &[u8]) -> Result<usize, Failed>
@@ -74,6 +81,8 @@ impl Sink for SureSink {
         ensures bytes { WriteAppends None None result piece.now }
         ensures moves { IfOk result (λ n. n ≡ 0 → piece.now ≡ []) }
         ensures cause { HasCause 0 0 result }
+        ensures sure { 1 ≤ length piece.now → length piece.now ≤ 2 ^ 64 → IsOk result }
+        ensures room { IfOk result (λ n. 2 ^ 64 ≤ 2 ^ 64 + n) }
         ensures exact { result ≡ Ok (length piece.now) }
     {
         Ok(piece.len())

@@ -17,14 +17,16 @@ use Rattle.fp_model.proofs.Bounds.{Leads-exist}
 use Rattle.fp_flatnet.specs.ArcGraphs.{forward_edge, backward_edge, forward_shape, backward_shape, arc_step, step_costs}
 use Rattle.fp_flatnet.proofs.LeastWalks.{steps, steps-append, steps-small, time-steps, Leads-append, IsLeastWalk, IsLeastTime-from_walk}
 
-reverse-cons : (a : ℕ) (walk : List ℕ) → reverse (a ∷ walk) ≡ reverse walk ++ (a ∷ [])
+-- a walk with one more arc in front, turned round
+pub reverse-cons : (a : ℕ) (walk : List ℕ) → reverse (a ∷ walk) ≡ reverse walk ++ (a ∷ [])
 reverse-cons a walk = reverse-append (a ∷ []) walk
 
 -- the edges and the cost of an arc
 forward-at : (p : Problem) (a : ℕ) → a < length p.arcs → edge_at (map forward_edge p.arcs) a ≡ forward_edge (arc_at p a)
 forward-at p a lt = get_or-map forward_edge p.arcs a no_arc no_edge lt
 
-backward-at : (p : Problem) (a : ℕ) → a < length p.arcs → edge_at (map backward_edge p.arcs) a ≡ backward_edge (arc_at p a)
+-- and those of an arc turned round
+pub backward-at : (p : Problem) (a : ℕ) → a < length p.arcs → edge_at (map backward_edge p.arcs) a ≡ backward_edge (arc_at p a)
 backward-at p a lt = get_or-map backward_edge p.arcs a no_arc no_edge lt
 
 pub cost-at : (p : Problem) (a : ℕ) → a < length p.arcs → cost_of (step_costs p) a ≡ Some (step p a)
@@ -78,7 +80,8 @@ backward-leads p there here (a ∷ walk) leads =
     let before : Leads p here (reverse walk) (arc_at p a).from = backward-leads p (arc_at p a).from here walk there_on.1 in
     rw reverse-cons (Leads-append p here (arc_at p a).from there (reverse walk) (a ∷ []) before (lt, refl, there_on.0))
 
-edges-append : (edges : List Edge) (here mid there : ℕ) (xs ys : List ℕ) → EdgesLead edges here xs mid → EdgesLead edges mid ys there → EdgesLead edges here (xs ++ ys) there
+-- a walk that goes on with another
+pub edges-append : (edges : List Edge) (here mid there : ℕ) (xs ys : List ℕ) → EdgesLead edges here xs mid → EdgesLead edges mid ys there → EdgesLead edges here (xs ++ ys) there
 edges-append edges here mid there [] ys first later = subst (λ (n : ℕ). EdgesLead edges n ys there) (sym first) later
 edges-append edges here mid there (e ∷ xs) ys first later = (first.0, first.1, edges-append edges (edge_at edges e).to mid there xs ys first.2 later)
 

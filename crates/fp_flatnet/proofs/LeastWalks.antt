@@ -1,20 +1,18 @@
 -- Walks of least time: their steps, that they visit no terminal twice, and that they are short.
-use Rattle.std.proofs.Common.{◌≡◌, ◌≢◌, ℕ, ◌+◌, ◌*◌, ◌<◌, ◌≤◌, min, List, [], ◌∷◌, ◌++◌, length, get_or, refl, sym, ap, subst, arith, ⊎_elim}
+use Rattle.std.proofs.Common.{◌≡◌, ◌≢◌, ℕ, ◌+◌, ◌*◌, ◌<◌, ◌≤◌, min, List, [], ◌∷◌, ◌++◌, length, get_or, refl, sym, ap, subst, arith}
 use Rattle.std.specs.Prelude.{sum_by, All, Option, Some}
 use Rattle.std.specs.List.{AllByRecursion}
-use Rattle.std.proofs.lemmas.Bool.{cases_lt}
-use Rattle.std.proofs.lemmas.List.{get_or_past}
 use Rattle.std.proofs.lemmas.List.Sums.{sum_by-cons, sum_by-le}
 use Rattle.fp_model.specs.declared.limits.TheConstants.{GREATEST_HOLD, LONGEST_STEP}
 use Rattle.fp_flatnet.specs.declared.least_times.TheConstants.{LONGEST_LEAST_TIME}
 use Rattle.fp_model.specs.declared.parts.Arc.{Arc}
-use Rattle.fp_model.specs.Problem.{Problem, IsValid, IsArc, no_arc, arc_at, hold_at}
+use Rattle.fp_model.specs.Problem.{Problem, IsValid, no_arc, arc_at, hold_at}
 use Rattle.fp_model.specs.Routes.{Leads, walk_time, step, ends_of}
-use Rattle.fp_lists.specs.Distinct.{AreDistinct}
+use Rattle.fp_base_lists.specs.Distinct.{AreDistinct}
 use Rattle.fp_model.specs.Times.{IsLeastTime, IsDistance}
 use Rattle.fp_model.proofs.Bounds.{Leads-exist}
-use Rattle.fp_lists.proofs.Distinct.{AreDistinct-from_map, AreDistinct-cons, AreDistinct-nil, AreDistinct-tail}
-use Rattle.fp_lists.proofs.DistinctSums.{sum_by-places-le}
+use Rattle.fp_base_lists.proofs.Distinct.{AreDistinct-from_map, AreDistinct-cons, AreDistinct-nil, AreDistinct-tail}
+use Rattle.fp_base_lists.proofs.DistinctSums.{sum_by-places-le}
 use Rattle.fp_model.proofs.Validity.{IsArc-valid, hold_at-le}
 
 -- the sum of the steps of a walk: so long after its first departure a shipment can leave the walk's

@@ -11,7 +11,7 @@ use Rattle.fp_model.specs.Plans.{PlanExists}
 use Rattle.fp_model.specs.Problem.{Problem, IsValid, IsShipment}
 use Rattle.fp_model.specs.Routes.{Leads, LeavesReady, ArrivesBy, Carries, walk_time, step, arcs_of}
 use Rattle.fp_model.specs.Times.{IsLeastTime, IsDistance}
-use Rattle.fp_lists.proofs.Numbered.{AllZip-get_or}
+use Rattle.fp_base_lists.proofs.Numbered.{AllZip-get_or}
 use Rattle.fp_flatnet.specs.Verdicts.{IsInTime, AllInTime, IsBlocked}
 use Rattle.fp_flatnet.proofs.LeastWalks.{IsLeastWalk-from_time, IsLeastTime-unique}
 use Rattle.fp_flatnet.proofs.PromptLegs.{at_once, carries-at_once}

@@ -2,13 +2,13 @@
 use Rattle.std.proofs.Common.{◌≡◌, ◌≢◌, ℕ, ◌+◌, ◌*◌, ◌<◌, ◌≤◌, List, [], ◌∷◌, ◌++◌, length, refl, sym, ap, ◌∙◌, subst, arith}
 use Rattle.std.specs.Prelude.{Option}
 use Rattle.std.specs.List.{AllByRecursion, AllZip}
-use Rattle.fp_lists.proofs.Distinct.{AreDistinct-head, AreDistinct-tail}
+use Rattle.fp_base_lists.proofs.Distinct.{AreDistinct-head, AreDistinct-tail}
 use Rattle.fp_model.specs.declared.parts.Leg.{Leg}
 use Rattle.fp_model.specs.declared.parts.Shipment.{Shipment}
-use Rattle.fp_lists.specs.Numbered.{AllFrom}
+use Rattle.fp_base_lists.specs.Numbered.{AllFrom}
 use Rattle.fp_model.specs.Problem.{Problem, arc_at}
 use Rattle.fp_model.specs.Routes.{Leads, Carries, LeavesReady, ArrivesBy, step, arcs_of, ends_of}
-use Rattle.fp_lists.specs.Distinct.{AreDistinct}
+use Rattle.fp_base_lists.specs.Distinct.{AreDistinct}
 use Rattle.fp_flatnet.specs.declared.window_tables.Window.{Window}
 use Rattle.fp_flatnet.specs.Windows.{IsWindowOrNone, AreWindows, LiesWithin, CoverPlans}
 use Rattle.fp_flatnet.proofs.PlanExistence.{arrives-after}

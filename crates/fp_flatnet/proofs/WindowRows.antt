@@ -8,7 +8,7 @@ use Rattle.std.proofs.lemmas.List.Elements.{All-nil}
 use Rattle.fp_model.specs.declared.parts.Shipment.{Shipment}
 use Rattle.fp_model.specs.Numbered.{no_shipment, shipment_at}
 use Rattle.fp_model.specs.Problem.{Problem, IsValid}
-use Rattle.fp_lists.proofs.Numbered.{AllFrom-from_get_or}
+use Rattle.fp_base_lists.proofs.Numbered.{AllFrom-from_get_or}
 use Rattle.fp_timenodes.specs.declared.places.Place.{Place}
 use Rattle.fp_timenodes.specs.Points.{IsPlace}
 use Rattle.fp_flatnet.specs.declared.window_tables.Window.{Window}

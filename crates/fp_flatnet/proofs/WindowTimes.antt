@@ -1,6 +1,6 @@
 -- When a shipment can leave by an arc, and be at its head, where the windows belong to the
 -- instance.
-use Rattle.std.proofs.Common.{◌≡◌, ◌≢◌, ℕ, zero, suc, ◌+◌, ◌<◌, ◌≤◌, Some, None, Option, List, [], ◌∷◌, length, get_or, refl, sym, ap, subst, arith}
+use Rattle.std.proofs.Common.{◌≡◌, ◌≢◌, ℕ, zero, suc, ◌+◌, ◌<◌, ◌≤◌, Some, Option, List, [], ◌∷◌, length, get_or, refl, sym, ap, subst, arith}
 use Rattle.std.specs.Prelude.{IfSome, IsSomeAnd, nat_eq}
 use Rattle.std.proofs.lemmas.Bool.{cond-false, cond-true, eq-eqb, ne_eqb}
 use Rattle.fp_model.specs.declared.parts.Shipment.{Shipment}
@@ -98,11 +98,3 @@ module _ (p : Problem) (table : WindowTable) (k a : ℕ) (w : Window) (belongs :
   -- so what it reaches is no later than the horizon
   pub BelongsTo_horizon : (arc_at p a).to ≢ (shipment_at p k).to → w.hi + step p a ≤ horizon p.shipments
   BelongsTo_horizon onward = omega (arith, BelongsTo_onward onward, due_le_horizon p.shipments k IsBelonging-BelongsTo.shipment)
-
--- no window that belongs is one of an arc out of the shipment's destination
-pub windows_in_destination : (p : Problem) (table : WindowTable) (k a : ℕ) → BelongsTo p table → (arc_at p a).from ≡ (shipment_at p k).to → windows_in table k a ≡ None
-windows_in_destination p table k a belongs out = none_of (windows_in table k a) refl
-  where
-    none_of : (o : Option Window) → windows_in table k a ≡ o → windows_in table k a ≡ None
-    none_of None is = is
-    none_of (Some w) is = absurd (BelongsTo_leaves p table k a w belongs is out)

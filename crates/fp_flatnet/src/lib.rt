@@ -8,6 +8,7 @@
 mod arc_graphs;
 mod direct_routes;
 mod first_points;
+mod laws;
 mod least_times;
 mod verdicts;
 mod window_rows;
@@ -15,6 +16,7 @@ mod window_tables;
 
 pub use direct_routes::direct;
 pub use first_points::initial;
+pub use laws::anchor_limit_is_a_number;
 pub use verdicts::{Verdict, fastest, feasible};
 pub use window_tables::{MOST_ANCHORS, Window, Windows};
 

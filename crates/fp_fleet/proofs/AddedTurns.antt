@@ -5,7 +5,7 @@ use Rattle.std.proofs.lemmas.Bool.{cases_Bool, cases_eq, cond-false, cond-true, 
 use Rattle.std.proofs.lemmas.List.Elements.{All-push, recursion_from_All}
 use Rattle.std.proofs.lemmas.List.Quantifiers.{all_pairs_push}
 use Rattle.std.proofs.lemmas.List.Sums.{sum_by-append, sum_by-cons}
-use Rattle.fp_lists.proofs.Sums.{sum_by-const, sum_by-same_each}
+use Rattle.fp_base_lists.proofs.Sums.{sum_by-const, sum_by-same_each}
 use Rattle.fp_fleet.specs.declared.fleets.Turn.{Turn}
 use Rattle.fp_fleet.specs.Sweeps.{AddsTurn}
 

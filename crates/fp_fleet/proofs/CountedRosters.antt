@@ -1,13 +1,13 @@
 -- Lists of begins and of turns are a roster exactly where their counts are those of one.
-use Rattle.std.proofs.Common.{◌≡◌, ℕ, ◌+◌, ◌<◌, ◌≤◌, Bool, true, false, List, [], ◌∷◌, length, get_or, ⊎_elim, refl, ◌∙◌, subst, arith}
+use Rattle.std.proofs.Common.{◌≡◌, ℕ, ◌+◌, ◌<◌, ◌≤◌, Bool, true, false, List, [], ◌∷◌, length, get_or, refl, ◌∙◌, subst, arith, ⊎_elim}
 use Rattle.std.specs.Prelude.{◌==◌, All, sum_by, if◌then◌else◌}
 use Rattle.std.specs.List.{AllByRecursion}
 use Rattle.std.proofs.lemmas.Bool.{cases_Bool, cases_lt, cond-false, cond-true, eq-eqb, eqb-true}
 use Rattle.std.proofs.lemmas.List.Elements.{All-weaker, recursion_from_All}
 use Rattle.std.proofs.lemmas.List.Sums.{sum_by-cons, sum_by_more_le}
-use Rattle.fp_lists.specs.Below.{sum_below}
-use Rattle.fp_lists.proofs.Sums.{sum_by-same}
-use Rattle.fp_lists.proofs.SumsBelow.{sum_below-same}
+use Rattle.fp_base_lists.specs.Below.{sum_below}
+use Rattle.fp_base_lists.proofs.Sums.{sum_by-same}
+use Rattle.fp_base_lists.proofs.SumsBelow.{sum_below-same, sum_below-le}
 use Rattle.fp_model.specs.Problem.{Problem}
 use Rattle.fp_timetable.specs.declared.lines.TruckLine.{TruckLine}
 use Rattle.fp_fleet.specs.declared.fleets.Begin.{Begin}
@@ -16,7 +16,7 @@ use Rattle.fp_fleet.specs.Counts.{begin_count, into_count, out_count, turn_count
 use Rattle.fp_fleet.specs.Fits.{TurnMeets}
 use Rattle.fp_fleet.specs.Fleets.{AreRoster, BeginExists, TurnExists}
 use Rattle.fp_fleet.specs.Rosters.{CanTurn, IsRoster, line_at, roster_size, truck_total}
-use Rattle.fp_fleet.proofs.NumberSums.{sum_below-gathered_all, sum_below-le}
+use Rattle.fp_fleet.proofs.NumberSums.{sum_below-gathered_all}
 
 -- the trucks that begin, line by line
 pub roster_size-begins : (lines : ℕ) (begins : List Begin) → All (BeginExists lines) begins →

@@ -1,13 +1,12 @@
 -- Trucks that leave or arrive at terminals, each up to a moment of its own, counted line by line.
-use Rattle.std.proofs.Common.{◌≡◌, ℕ, suc, ◌+◌, ◌-◌, ◌<◌, ◌≤◌, Bool, true, false, ◌&&◌, List, length, get_or, set, ⊎_elim, sym, ap, ◌∙◌, arith, get_or-set_other, get_or-set_same}
+use Rattle.std.proofs.Common.{◌≡◌, ℕ, suc, ◌+◌, ◌-◌, ◌<◌, ◌≤◌, Bool, true, false, ◌&&◌, List, length, get_or, set, sym, ap, ◌∙◌, arith, get_or-set_other, get_or-set_same, ⊎_elim}
 use Rattle.std.specs.Prelude.{◌==◌, nat_le, if◌then◌else◌}
 use Rattle.std.proofs.lemmas.Bool.{and_from, and_left, and_right, cases_eq, cond-false, cond-true, eq-eqb, le-leb, lt-leb, ne_eqb}
-use Rattle.fp_lists.specs.Below.{sum_below}
-use Rattle.fp_lists.proofs.SumsBelow.{sum_below-has}
+use Rattle.fp_base_lists.specs.Below.{sum_below}
+use Rattle.fp_base_lists.proofs.SumsBelow.{sum_below-has, sum_below-le}
 use Rattle.fp_model.specs.Problem.{Problem}
 use Rattle.fp_timetable.specs.declared.lines.TruckLine.{TruckLine}
 use Rattle.fp_fleet.specs.Rosters.{arrival_of, head_of, line_at, tail_of, truck_total}
-use Rattle.fp_fleet.proofs.NumberSums.{sum_below-le}
 
 -- the terminals and the moments of lines by their numbers
 abbrev pub tail_at : Problem → List TruckLine → ℕ → ℕ

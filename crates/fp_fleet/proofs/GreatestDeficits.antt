@@ -1,11 +1,11 @@
 -- Where trucks turn whenever they can, the trucks that begin at a terminal are its greatest deficit,
 -- and the last moment when some begin is the least that has it.
-use Rattle.std.proofs.Common.{◌≡◌, ℕ, ◌<◌, ◌≤◌, Bool, true, false, ◌&&◌, List, length, get_or, ⊎_elim, refl, sym, ap, ◌∙◌, arith}
+use Rattle.std.proofs.Common.{◌≡◌, ℕ, ◌<◌, ◌≤◌, Bool, true, false, ◌&&◌, List, length, get_or, refl, sym, ap, ◌∙◌, arith, ⊎_elim}
 use Rattle.std.specs.Prelude.{◌==◌, nat_le, sum_by, All, if◌then◌else◌}
 use Rattle.std.proofs.lemmas.Bool.{and_from, and_left, and_parts, and_right, cases_Bool, cond-false, cond-true, eq-eqb, eqb-true, le-leb, leb-true, leb-false, lt-leb, ne_eqb}
 use Rattle.std.proofs.lemmas.List.Elements.{All-weaker}
 use Rattle.std.proofs.lemmas.List.Sums.{sum_by_more_le}
-use Rattle.fp_lists.proofs.SumsBelow.{sum_below-same}
+use Rattle.fp_base_lists.proofs.SumsBelow.{sum_below-same, sum_below-le}
 use Rattle.fp_model.specs.Problem.{Problem}
 use Rattle.fp_timetable.specs.declared.lines.TruckLine.{TruckLine}
 use Rattle.fp_fleet.specs.declared.fleets.Begin.{Begin}
@@ -20,7 +20,6 @@ use Rattle.fp_fleet.specs.Rosters.{CanTurn, IsRoster, arrival_of, head_of, line_
 use Rattle.fp_fleet.specs.Sweeps.{IsAssigned, IsBeginBelow, IsTimetable, IsTurnTo, until_count}
 use Rattle.fp_fleet.proofs.AddedTurns.{kept-zero, sum-none}
 use Rattle.fp_fleet.proofs.CountedRosters.{AreRoster-counted, CountAsRoster, turn_count-after}
-use Rattle.fp_fleet.proofs.NumberSums.{sum_below-le}
 use Rattle.fp_fleet.proofs.RosterBounds.{begun_by, leaving-le, leaving-parts, turned-le-arriving, turned_by, turned_from}
 use Rattle.fp_fleet.proofs.SmallestRosters.{begun_at, begun_by-le}
 use Rattle.fp_fleet.proofs.StrictSums.{sum_below-lt, sum_below-where, sum_by-le_each}

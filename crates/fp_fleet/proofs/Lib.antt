@@ -11,7 +11,6 @@ pub mod SortedArrivals
 pub mod AddedTurns
 pub mod TurningLines
 pub mod ServedLines
-pub mod FleetTexts
 pub mod StrictSums
 pub mod GreatestDeficits
 pub mod NeedsInTables

@@ -1,5 +1,5 @@
 -- A plan has few truck lines, and few trucks: their numbers and their sums fit.
-use Rattle.std.proofs.Common.{◌≡◌, ℕ, zero, suc, ◌+◌, ◌-◌, ◌*◌, ◌^◌, ◌<◌, ◌≤◌, Bool, true, false, List, [], ◌∷◌, length, map, get_or, ⊎_elim, refl, sym, ap, ◌∙◌, subst, arith}
+use Rattle.std.proofs.Common.{◌≡◌, ℕ, zero, suc, ◌+◌, ◌-◌, ◌*◌, ◌^◌, ◌<◌, ◌≤◌, Bool, true, false, List, [], ◌∷◌, length, map, get_or, refl, sym, ap, ◌∙◌, subst, arith, ⊎_elim}
 use Rattle.std.specs.Prelude.{All, AllPairs, if◌then◌else◌}
 use Rattle.std.specs.Int.{div_ceil}
 use Rattle.std.specs.List.{AllByRecursion, AllZip}
@@ -8,17 +8,17 @@ use Rattle.std.proofs.Math.Nat.{eq-or-lt_of_le, mul-le-mul_left}
 use Rattle.std.proofs.lemmas.Bool.{cases_eq}
 use Rattle.std.proofs.lemmas.List.{get_or-map as get_or_map}
 use Rattle.std.proofs.lemmas.List.Elements.{All-head, All-tail}
-use Rattle.fp_lists.specs.Below.{sum_below}
-use Rattle.fp_lists.proofs.Ceilings.{div_ceil-least}
-use Rattle.fp_lists.proofs.Elements.{AllByRecursion-append, AllByRecursion-weaker}
-use Rattle.fp_lists.proofs.Places.{place-le-get_or}
+use Rattle.fp_base_lists.specs.Below.{sum_below}
+use Rattle.fp_base_lists.proofs.Ceilings.{div_ceil-least}
+use Rattle.fp_base_lists.proofs.Elements.{AllByRecursion-append, AllByRecursion-weaker}
+use Rattle.fp_base_lists.proofs.Places.{place-le-get_or}
 use Rattle.fp_model.specs.declared.limits.TheConstants.{LATEST}
 use Rattle.fp_model.specs.declared.parts.Leg.{Leg}
 use Rattle.fp_model.specs.declared.parts.Shipment.{Shipment}
 use Rattle.fp_model.specs.Costs.{all_legs, has_leg, load}
 use Rattle.fp_model.specs.Plans.{IsPlan}
 use Rattle.fp_model.specs.Problem.{IsArc, IsShipment, IsValid, Problem, arc_at, no_arc}
-use Rattle.fp_model.specs.Routes.{ArrivesBy, Carries, LeavesReady, step}
+use Rattle.fp_model.specs.Routes.{Carries}
 use Rattle.fp_timetable.specs.declared.lines.TruckLine.{TruckLine}
 use Rattle.fp_timetable.specs.Lines.{AreTruckLines, TruckExists, departure}
 use Rattle.fp_timetable.specs.Order.{no_line}
@@ -26,14 +26,7 @@ use Rattle.fp_timetable.proofs.AllLines.{has_leg-get_or}
 use Rattle.fp_timetable.proofs.OrderedLines.{has-each}
 use Rattle.fp_fleet.specs.Rosters.{line_at, truck_total}
 use Rattle.fp_fleet.specs.Sweeps.{IsTimetable}
-
--- legs that arrive by a due time depart by it
-depart-by : (p : Problem) (ready due : ℕ) (legs : List Leg) → LeavesReady p 1 ready legs → ArrivesBy p 1 due legs → AllByRecursion (λ (l : Leg). l.depart ≤ due) legs
-depart-by p ready due [] leaves arrives = tt
-depart-by p ready due (l ∷ []) leaves arrives = (omega (arith, arrives), tt)
-depart-by p ready due (l ∷ m ∷ legs) leaves arrives =
-    let rest : AllByRecursion (λ (k : Leg). k.depart ≤ due) (m ∷ legs) = depart-by p (l.depart + 1 * step p l.arc) due (m ∷ legs) leaves.1 arrives in
-    (omega (arith, rest.0, leaves.1.0), rest)
+use Rattle.fp_model.proofs.LastArrivals.{legs-depart_by}
 
 -- so the legs of a plan depart by the latest time
 plan-departs : (p : Problem) (n : ℕ) (shipments : List Shipment) (routes : List (List Leg)) → All (IsShipment n) shipments → AllZip (Carries p 1) shipments routes →
@@ -45,7 +38,7 @@ plan-departs p n (s ∷ shipments) (r ∷ routes) sound plan =
     let here : IsShipment n s = All-head (IsShipment n) s shipments sound in
     AllByRecursion-append (λ (l : Leg). l.depart ≤ LATEST) r (all_legs routes)
     (AllByRecursion-weaker (λ (l : Leg). l.depart ≤ s.due) (λ (l : Leg). l.depart ≤ LATEST) (λ l h. omega (arith, h, here.within.due)) r
-    (depart-by p (1 * s.release) s.due r plan.0.ready plan.0.due))
+    (legs-depart_by p (1 * s.release) s.due r plan.0.ready plan.0.due))
     (plan-departs p n shipments routes (All-tail (IsShipment n) s shipments sound) plan.1)
 
 -- and so do its truck lines

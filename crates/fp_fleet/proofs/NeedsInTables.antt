@@ -7,7 +7,7 @@ use Rattle.std.proofs.lemmas.List.{get_or-take, get_or_default, length-take-le}
 use Rattle.std.proofs.lemmas.List.Elements.{All-filter, All-more, Contains-append_right, filter_passes}
 use Rattle.std.proofs.lemmas.List.Kept.{AllPairs-filter}
 use Rattle.std.proofs.lemmas.List.Sums.{sum_by-set, sum_by_more}
-use Rattle.fp_lists.proofs.Membership.{Contains-first}
+use Rattle.fp_base_lists.proofs.Membership.{Contains-first}
 use Rattle.fp_model.specs.Problem.{Problem}
 use Rattle.fp_timetable.specs.declared.lines.TruckLine.{TruckLine}
 use Rattle.fp_fleet.specs.declared.fleets.Begin.{Begin}

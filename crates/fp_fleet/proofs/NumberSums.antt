@@ -1,24 +1,19 @@
 -- Sums over the numbers below a bound: of two functions, the other way round, of what a test keeps,
 -- and of what a list has for each number.
-use Rattle.std.proofs.Common.{◌≡◌, ℕ, zero, suc, ◌+◌, ◌<◌, ◌≤◌, true, false, List, [], ◌∷◌, ⊎_elim, refl, sym, ◌∙◌, arith}
+use Rattle.std.proofs.Common.{◌≡◌, ℕ, zero, suc, ◌+◌, ◌<◌, true, false, List, [], ◌∷◌, refl, sym, ◌∙◌, arith, ⊎_elim}
 use Rattle.std.specs.Prelude.{◌==◌, nat_lt, sum_by, All, if◌then◌else◌}
 use Rattle.std.proofs.lemmas.Bool.{cases_Bool, cond-false, cond-true, eq-eqb, lt-ltb, ltb-false, ltb-true, ne_eqb}
 use Rattle.std.proofs.lemmas.List.Sums.{sum_by-cons}
 use Rattle.std.proofs.lemmas.List.Elements.{recursion_from_All}
-use Rattle.fp_lists.specs.Below.{sum_below}
-use Rattle.fp_lists.proofs.Elements.{AllByRecursion-weaker}
-use Rattle.fp_lists.proofs.Sums.{sum_by-same_each}
-use Rattle.fp_lists.proofs.SumsBelow.{sum_below-changed, sum_below-same, sum_below-zero}
+use Rattle.fp_base_lists.specs.Below.{sum_below}
+use Rattle.fp_base_lists.proofs.Elements.{AllByRecursion-weaker}
+use Rattle.fp_base_lists.proofs.Sums.{sum_by-same_each}
+use Rattle.fp_base_lists.proofs.SumsBelow.{sum_below-changed, sum_below-same, sum_below-zero}
 
 -- the sum of two functions
 pub sum_below-both : (n : ℕ) (f g : ℕ → ℕ) → sum_below n (λ i. f i + g i) ≡ sum_below n f + sum_below n g
 sum_below-both zero f g = refl
 sum_below-both (suc n) f g = omega (arith, sum_below-both n f g)
-
--- a function that is nowhere greater has no greater sum
-pub sum_below-le : (n : ℕ) (f g : ℕ → ℕ) → ((i : ℕ) → i < n → f i ≤ g i) → sum_below n f ≤ sum_below n g
-sum_below-le zero f g le = omega arith
-sum_below-le (suc n) f g le = omega (arith, le n (omega arith), sum_below-le n f g (λ i h. le i (omega arith)))
 
 -- a function that is 0 below the bound adds up to nothing
 pub sum_below-none : (n : ℕ) (f : ℕ → ℕ) → ((i : ℕ) → i < n → f i ≡ 0) → sum_below n f ≡ 0

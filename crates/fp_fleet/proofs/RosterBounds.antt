@@ -1,15 +1,15 @@
 -- No roster is smaller than deficits of distinct terminals sum to: trucks that leave a terminal up to
 -- a moment began there or had arrived there by then.
-use Rattle.std.proofs.Common.{◌≡◌, ℕ, ◌+◌, ◌<◌, ◌≤◌, Bool, true, false, List, length, ⊎_elim, sym, ◌∙◌, arith}
+use Rattle.std.proofs.Common.{◌≡◌, ℕ, ◌+◌, ◌<◌, ◌≤◌, Bool, true, false, List, length, sym, ◌∙◌, arith, ⊎_elim}
 use Rattle.std.specs.Prelude.{◌==◌, nat_le, if◌then◌else◌}
 use Rattle.std.proofs.lemmas.Bool.{and_from, and_parts, cases_Bool, cases_lt, cond-false, cond-true, eq-eqb, eqb-true, le-leb, leb-true, true≢false}
-use Rattle.fp_lists.specs.Below.{sum_below}
-use Rattle.fp_lists.proofs.SumsBelow.{sum_below-same, sum_below-zero}
+use Rattle.fp_base_lists.specs.Below.{sum_below}
+use Rattle.fp_base_lists.proofs.SumsBelow.{sum_below-same, sum_below-zero, sum_below-le}
 use Rattle.fp_model.specs.Problem.{Problem}
 use Rattle.fp_timetable.specs.declared.lines.TruckLine.{TruckLine}
 use Rattle.fp_fleet.specs.Deficits.{arrives_by, arriving, leaves_by, leaving}
 use Rattle.fp_fleet.specs.Rosters.{CanTurn, IsRoster, arrival_of, head_of, line_at, tail_of}
-use Rattle.fp_fleet.proofs.NumberSums.{sum_below-both, sum_below-le, sum_below-none, sum_below-swap}
+use Rattle.fp_fleet.proofs.NumberSums.{sum_below-both, sum_below-none, sum_below-swap}
 
 -- the trucks that begin with lines that leave the terminal up to and with the moment
 abbrev pub begun_by : Problem → List TruckLine → (ℕ → ℕ) → (terminal moment : ℕ) → ℕ

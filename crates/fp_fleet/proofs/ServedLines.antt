@@ -3,7 +3,7 @@ use Rattle.std.proofs.Common.{◌≡◌, ◌≢◌, ℕ, ◌+◌, ◌<◌, ◌�
 use Rattle.std.specs.Prelude.{◌==◌, nat_le, All, if◌then◌else◌}
 use Rattle.std.proofs.lemmas.Bool.{cases_eq, cases_lt, cond-false, cond-true, eq-eqb, le-leb, ne_eqb}
 use Rattle.std.proofs.lemmas.List.Elements.{All-weaker, recursion_from_All}
-use Rattle.fp_lists.proofs.Sums.{sum_by-same_each}
+use Rattle.fp_base_lists.proofs.Sums.{sum_by-same_each}
 use Rattle.fp_model.specs.Problem.{Problem}
 use Rattle.fp_timetable.specs.declared.lines.TruckLine.{TruckLine}
 use Rattle.fp_fleet.specs.declared.arrivals.Arrival.{Arrival}

@@ -5,18 +5,19 @@ use Rattle.std.specs.Prelude.{◌==◌, nat_le, All, sum_by, if◌then◌else◌
 use Rattle.std.proofs.lemmas.List.{get_or-map as get_or_map}
 use Rattle.std.proofs.lemmas.List.Elements.{All-head, All-tail}
 use Rattle.std.proofs.lemmas.List.Sums.{sum_by-cons}
-use Rattle.fp_lists.specs.Below.{sum_below}
-use Rattle.fp_lists.specs.Distinct.{AreDistinct}
-use Rattle.fp_lists.proofs.DistinctSums.{sum_by-one-le}
-use Rattle.fp_lists.proofs.Sums.{sum_by-map}
+use Rattle.fp_base_lists.specs.Below.{sum_below}
+use Rattle.fp_base_lists.specs.Distinct.{AreDistinct}
+use Rattle.fp_base_lists.proofs.DistinctSums.{sum_by-one-le}
+use Rattle.fp_base_lists.proofs.Sums.{sum_by-map}
 use Rattle.fp_model.specs.Problem.{Problem}
 use Rattle.fp_timetable.specs.declared.lines.TruckLine.{TruckLine}
 use Rattle.fp_fleet.specs.declared.fleets.Need.{Need}
 use Rattle.fp_fleet.specs.Deficits.{IsDeficit, leaves_by}
 use Rattle.fp_fleet.specs.Fleets.{AreDeficits, NeedsAscend}
 use Rattle.fp_fleet.specs.Rosters.{IsRoster, NoRosterSmaller, line_at, roster_size, tail_of}
-use Rattle.fp_fleet.proofs.NumberSums.{sum_below-le, sum_by-sum_below}
+use Rattle.fp_fleet.proofs.NumberSums.{sum_by-sum_below}
 use Rattle.fp_fleet.proofs.RosterBounds.{begun_by, leaving-le}
+use Rattle.fp_base_lists.proofs.SumsBelow.{sum_below-le}
 
 -- the trucks that begin with lines that leave the terminal
 abbrev pub begun_at : Problem → List TruckLine → (ℕ → ℕ) → ℕ → ℕ

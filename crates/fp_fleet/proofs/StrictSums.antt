@@ -1,14 +1,14 @@
 -- Sums that are less, and sums over numbers that pass a test.
-use Rattle.std.proofs.Common.{◌≡◌, ℕ, zero, suc, ◌*◌, ◌<◌, ◌≤◌, Bool, true, false, List, [], ◌∷◌, length, ⊎_elim, refl, sym, ap, ◌∙◌, subst, arith}
+use Rattle.std.proofs.Common.{◌≡◌, ℕ, zero, suc, ◌*◌, ◌<◌, ◌≤◌, Bool, true, false, List, [], ◌∷◌, length, refl, sym, ap, ◌∙◌, subst, arith, ⊎_elim}
 use Rattle.std.specs.Prelude.{◌==◌, nat_lt, sum_by, All, if◌then◌else◌}
 use Rattle.std.specs.List.{filter}
 use Rattle.std.proofs.lemmas.Bool.{cases_Bool, cases_eq, cond-false, cond-true, eqb-true, ltb-false}
 use Rattle.std.proofs.lemmas.List.Elements.{All-head, All-tail}
 use Rattle.std.proofs.lemmas.List.Sums.{sum_by-cons}
-use Rattle.fp_lists.specs.Below.{sum_below}
-use Rattle.fp_lists.proofs.Sums.{sum_by-const, sum_by-same}
-use Rattle.fp_lists.proofs.SumsBelow.{sum_below-same}
-use Rattle.fp_fleet.proofs.NumberSums.{sum_below-gathered_all, sum_below-le}
+use Rattle.fp_base_lists.specs.Below.{sum_below}
+use Rattle.fp_base_lists.proofs.Sums.{sum_by-const, sum_by-same}
+use Rattle.fp_base_lists.proofs.SumsBelow.{sum_below-same, sum_below-le}
+use Rattle.fp_fleet.proofs.NumberSums.{sum_below-gathered_all}
 
 -- a function that is nowhere greater and somewhere less has a smaller sum
 pub sum_below-lt : (n : ℕ) (f g : ℕ → ℕ) (at : ℕ) → at < n → ((i : ℕ) → i < n → f i ≤ g i) → f at < g at → sum_below n f < sum_below n g

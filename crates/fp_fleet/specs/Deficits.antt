@@ -1,7 +1,7 @@
 -- How many more trucks leave a terminal up to a moment than arrive there: so many have to begin
 -- there.
 use Rattle.std.specs.Prelude.{ℕ, ◌+◌, ◌<◌, ◌≤◌, ◌≡◌, ◌==◌, ◌&&◌, Bool, List, length, nat_le, if◌then◌else◌}
-use Rattle.fp_lists.specs.Below.{sum_below}
+use Rattle.fp_base_lists.specs.Below.{sum_below}
 use Rattle.fp_model.specs.Problem.{Problem}
 use Rattle.fp_timetable.specs.declared.lines.TruckLine.{TruckLine}
 use Rattle.fp_fleet.specs.declared.fleets.Need.{Need}

@@ -3,7 +3,7 @@
 -- The source: Dantzig and Fulkerson, "Minimizing the number of tankers to meet a fixed schedule",
 -- Naval Research Logistics Quarterly 1, 1954, for trips that a vehicle runs one after the other.
 use Rattle.std.specs.Prelude.{ℕ, ◌+◌, ◌<◌, ◌≤◌, ◌≡◌, List, length, slice_index_or}
-use Rattle.fp_lists.specs.Below.{sum_below}
+use Rattle.fp_base_lists.specs.Below.{sum_below}
 use Rattle.fp_model.specs.Problem.{Problem, arc_at}
 use Rattle.fp_timetable.specs.declared.lines.TruckLine.{TruckLine}
 use Rattle.fp_timetable.specs.Order.{no_line}

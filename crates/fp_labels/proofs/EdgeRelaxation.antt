@@ -14,13 +14,13 @@ use Rattle.fp_labels.specs.declared.walks.Label.{Label}
 use Rattle.fp_labels.specs.declared.walks.Step.{Step}
 use Rattle.fp_labels.specs.Graphs.{Shape, edge_at}
 use Rattle.fp_labels.specs.Walks.{cost_of, nodes_on, IsWalk}
-use Rattle.fp_lists.specs.Distinct.{AreDistinct}
+use Rattle.fp_base_lists.specs.Distinct.{AreDistinct}
 use Rattle.fp_labels.specs.Rows.{IsRow}
 use Rattle.fp_labels.specs.Labels.{label_at, step_to, traced, greatest_cost, IsSmallFor}
 use Rattle.fp_labels.specs.Searches.{Entry, entry_cmp, is_settled, settled_count, IsWithin, AreBehind, IsQueue, Improves, IsTraced, AreWalked, IsRelaxed, AreRelaxed, IsSearch, IsLast}
-use Rattle.fp_lists.proofs.Distinct.{AreDistinct-push}
-use Rattle.fp_lists.proofs.Elements.{AllByRecursion-weaker, AllByRecursion-push}
-use Rattle.fp_lists.proofs.Membership.{Contains-cons_cases}
+use Rattle.fp_base_lists.proofs.Distinct.{AreDistinct-push}
+use Rattle.fp_base_lists.proofs.Elements.{AllByRecursion-weaker, AllByRecursion-push}
+use Rattle.fp_base_lists.proofs.Membership.{Contains-cons_cases}
 use Rattle.fp_labels.proofs.LongerWalks.{nodes_push, walk_push}
 use Rattle.fp_labels.proofs.WalksBack.{traced_step, traced_elsewhere}
 

@@ -8,7 +8,7 @@ use Rattle.std.proofs.lemmas.List.{get_or-replicate, get_or_past, length-replica
 use Rattle.std.proofs.lemmas.List.Elements.{All-nil, All-cons}
 use Rattle.std.proofs.lemmas.List.Sorted.{All-permutation, Contains-permutation}
 use Rattle.std.proofs.lemmas.List.Folds.{sum_by-replicate}
-use Rattle.fp_lists.proofs.Distinct.{AreDistinct-cons, AreDistinct-nil}
+use Rattle.fp_base_lists.proofs.Distinct.{AreDistinct-cons, AreDistinct-nil}
 use Rattle.fp_labels.specs.declared.walks.Label.{Label}
 use Rattle.fp_labels.specs.declared.walks.Step.{Step}
 use Rattle.fp_labels.specs.Graphs.{Shape}

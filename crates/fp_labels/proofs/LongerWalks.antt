@@ -4,11 +4,11 @@ use Rattle.std.specs.Prelude.{IsSome, unwrap_or}
 use Rattle.std.specs.List.{AllByRecursion}
 use Rattle.std.proofs.lemmas.List.{map_push}
 use Rattle.std.proofs.lemmas.List.Sums.{sum_by_push}
-use Rattle.fp_lists.proofs.Elements.{AllByRecursion-push}
+use Rattle.fp_base_lists.proofs.Elements.{AllByRecursion-push}
 use Rattle.fp_labels.specs.declared.graphs.Edge.{Edge}
 use Rattle.fp_labels.specs.Graphs.{edge_at}
 use Rattle.fp_labels.specs.Walks.{Leads, cost_of, nodes_on, IsWalk}
-use Rattle.fp_lists.specs.Distinct.{AreDistinct}
+use Rattle.fp_base_lists.specs.Distinct.{AreDistinct}
 
 -- the nodes on a walk with one more edge
 pub nodes_push : (edges : List Edge) (here : ℕ) (walk : List ℕ) (e : ℕ) → nodes_on edges here (walk ++ (e ∷ [])) ≡ nodes_on edges here walk ++ ((edge_at edges e).to ∷ [])

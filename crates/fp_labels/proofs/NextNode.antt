@@ -10,7 +10,7 @@ use Rattle.fp_labels.specs.Graphs.{Shape, edge_at}
 use Rattle.fp_labels.specs.Walks.{nodes_on}
 use Rattle.fp_labels.specs.Labels.{label_at, greatest_cost}
 use Rattle.fp_labels.specs.Searches.{Entry, is_settled, settled_count, AreSettled, SettlesNext, IsTraced, IsRelaxed, IsSearch, IsLast}
-use Rattle.fp_lists.proofs.Elements.{AllByRecursion-weaker}
+use Rattle.fp_base_lists.proofs.Elements.{AllByRecursion-weaker}
 use Rattle.fp_labels.proofs.Queues.{label_inside}
 
 -- no more nodes are settled than there are

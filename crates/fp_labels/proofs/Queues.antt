@@ -10,7 +10,7 @@ use Rattle.std.proofs.lemmas.Option.{same_Some, none-some}
 use Rattle.std.proofs.lemmas.List.{get_or_past, get_or-set_same, get_or-set_other}
 use Rattle.std.proofs.lemmas.List.Elements.{All-nil, All-cons, All-head, All-tail, All-weaker, All-contains}
 use Rattle.std.proofs.lemmas.List.Sorted.{All-permutation, Contains-permutation}
-use Rattle.fp_lists.proofs.Membership.{Contains-cons_cases}
+use Rattle.fp_base_lists.proofs.Membership.{Contains-cons_cases}
 use Rattle.fp_labels.specs.declared.walks.Label.{Label}
 use Rattle.fp_labels.specs.Labels.{label_at}
 use Rattle.fp_labels.specs.Searches.{Entry, entry_cmp, is_settled, IsWithin, AreBehind, IsQueue, SettlesNext}

@@ -7,7 +7,7 @@ use Rattle.fp_labels.specs.declared.walks.Label.{Label}
 use Rattle.fp_labels.specs.declared.walks.Step.{Step}
 use Rattle.fp_labels.specs.Graphs.{Shape}
 use Rattle.fp_labels.specs.Walks.{IsDistance, IsWalk, nodes_on}
-use Rattle.fp_lists.specs.Distinct.{AreDistinct}
+use Rattle.fp_base_lists.specs.Distinct.{AreDistinct}
 
 -- for each node the least cost from the start, where there is a walk, and a walk of that cost
 pub record Distances : Type 0 where

@@ -8,15 +8,15 @@ use Rattle.std.proofs.lemmas.List.Sums.{sum_by_more, sum_by-cons, sum_by-take-le
 use Rattle.fp_model.specs.declared.parts.Leg.{Leg}
 use Rattle.fp_model.specs.Problem.{Problem, arc_at}
 use Rattle.fp_timenodes.specs.declared.places.TheConstants.{LATEST}
-use Rattle.fp_lists.specs.Membership.{list_has}
+use Rattle.fp_base_lists.specs.Membership.{list_has}
 use Rattle.fp_longestarcs.specs.declared.networks.TheConstants.{MOST_CLASSES}
 use Rattle.fp_longestarcs.specs.Classes.{head_of}
 use Rattle.fp_longestarcs.specs.Ascending.{ArePoints}
-use Rattle.fp_lists.specs.Ascending.{IsCut, place_in}
+use Rattle.fp_base_lists.specs.Ascending.{IsCut, place_in}
 use Rattle.fp_longestarcs.specs.Networks.{TimedNetwork, points_in, tail_in, heads_in, kept_head, IsArcOfClass, IsClass, copy_count, class_count, first_class, class_number, IsNetwork}
 use Rattle.fp_longestarcs.specs.Vectors.{AreOffsets}
 use Rattle.fp_longestarcs.specs.Whole.{HasArcsOf, IsWholeNetwork}
-use Rattle.fp_lists.proofs.Places.{place_in-get_or, get_or-place_in, place-le-get_or}
+use Rattle.fp_base_lists.proofs.Places.{place_in-get_or, get_or-place_in, place-le-get_or}
 use Rattle.fp_longestarcs.proofs.HeadLists.{arc-count, tail-of, whole-heads}
 
 -- the points of an arc's tail

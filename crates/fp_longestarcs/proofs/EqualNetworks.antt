@@ -6,15 +6,15 @@ use Rattle.std.proofs.lemmas.Bool.{cases_eq, eq-eqb, ne_eqb}
 use Rattle.std.proofs.lemmas.List.{same_lists, get_or_default}
 use Rattle.fp_model.specs.Problem.{Problem}
 use Rattle.fp_timenodes.specs.Floor.{HaveSamePoints}
-use Rattle.fp_lists.specs.Membership.{list_has}
+use Rattle.fp_base_lists.specs.Membership.{list_has}
 use Rattle.fp_timenodes.specs.Points.{TimePoints}
-use Rattle.fp_lists.proofs.Membership.{list_has-rest, list_has-cons_cases, list_has-insert}
+use Rattle.fp_base_lists.proofs.Membership.{list_has-rest, list_has-cons_cases, list_has-insert}
 use Rattle.fp_longestarcs.specs.Ascending.{ArePoints}
-use Rattle.fp_lists.specs.Ascending.{place_in}
+use Rattle.fp_base_lists.specs.Ascending.{place_in}
 use Rattle.fp_longestarcs.specs.Networks.{TimedNetwork, points_in}
 use Rattle.fp_longestarcs.specs.Whole.{HasArcsOf, IsNetworkOf, heads_of, IsWholeNetwork}
 use Rattle.fp_longestarcs.specs.Changes.{refined, restored, HasAlso, extended_points}
-use Rattle.fp_lists.proofs.Places.{first-lt, ascending-unique}
+use Rattle.fp_base_lists.proofs.Places.{first-lt, ascending-unique}
 use Rattle.fp_longestarcs.proofs.HeadLists.{points-same, points-other}
 
 -- what is a point of both lists beside their equal first ones is a point of the rest

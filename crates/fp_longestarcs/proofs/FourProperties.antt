@@ -5,7 +5,7 @@ use Rattle.fp_model.specs.declared.parts.Shipment.{Shipment}
 use Rattle.fp_model.specs.Problem.{Problem, arc_at, no_arc, IsArc, IsShipment, IsValid}
 use Rattle.fp_model.specs.Routes.{step}
 use Rattle.fp_timenodes.specs.Floor.{floor_point}
-use Rattle.fp_lists.specs.Membership.{list_has}
+use Rattle.fp_base_lists.specs.Membership.{list_has}
 use Rattle.fp_timenodes.specs.Points.{TimePoints, points_at}
 use Rattle.fp_timenodes.proofs.Floors.{floor_le, floor_greatest, IsFloorPoint-floor_point}
 use Rattle.fp_longestarcs.specs.Classes.{head_of}
@@ -13,7 +13,7 @@ use Rattle.fp_longestarcs.specs.Ascending.{ArePoints}
 use Rattle.fp_longestarcs.specs.Networks.{TimedNetwork, points_in, heads_in}
 use Rattle.fp_longestarcs.specs.Whole.{IsNetworkOf, IsWholeNetwork}
 use Rattle.fp_longestarcs.specs.Properties.{IsTimedArc, HasProperties}
-use Rattle.fp_lists.proofs.Membership.{list_has-get_or, StandsAt-from_list_has, StandsAt}
+use Rattle.fp_base_lists.proofs.Membership.{list_has-get_or, StandsAt-from_list_has, StandsAt}
 use Rattle.fp_longestarcs.proofs.HeadLists.{whole-heads}
 
 -- a timed arc of a whole network ends at the greatest point that is not after its start and the

@@ -10,11 +10,11 @@ use Rattle.fp_model.specs.Problem.{Problem, arc_at, no_arc}
 use Rattle.fp_model.specs.Routes.{step}
 use Rattle.fp_timenodes.specs.Floor.{floor_point}
 use Rattle.fp_longestarcs.specs.Classes.{head_of}
-use Rattle.fp_lists.specs.Ascending.{place_in}
+use Rattle.fp_base_lists.specs.Ascending.{place_in}
 use Rattle.fp_longestarcs.specs.Networks.{TimedNetwork, points_in, tail_in, heads_in}
 use Rattle.fp_longestarcs.specs.Whole.{HasArcsOf, heads_from, heads_of, IsWholeNetwork}
 use Rattle.fp_longestarcs.specs.Changes.{heads_with, refined, lifted, heads_to, restored, extended_points}
-use Rattle.fp_lists.proofs.Maps.{map-same_on_range, map-insert}
+use Rattle.fp_base_lists.proofs.Maps.{map-same_on_range, map-insert}
 use Rattle.fp_longestarcs.proofs.Places.{floor-with, floor-without}
 
 -- the arcs of a network are as many as the instance's

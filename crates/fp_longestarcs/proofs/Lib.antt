@@ -11,5 +11,4 @@ pub mod WholeNetworks
 pub mod PointCounts
 pub mod ClassCosts
 mod Examples
-pub mod HeadBounds
 pub mod NetworkRounds

@@ -12,17 +12,17 @@ use Rattle.std.proofs.lemmas.List.FromFn.{get_or-map-range_with_len, length-map-
 use Rattle.fp_model.specs.Problem.{Problem, arc_at}
 use Rattle.fp_model.specs.Routes.{step}
 use Rattle.fp_timenodes.specs.declared.places.TheConstants.{LATEST}
-use Rattle.fp_lists.specs.Membership.{list_has}
+use Rattle.fp_base_lists.specs.Membership.{list_has}
 use Rattle.fp_longestarcs.specs.Classes.{head_of}
 use Rattle.fp_longestarcs.specs.Ascending.{ArePoints}
-use Rattle.fp_lists.specs.Ascending.{place_in, IsPlaceIn}
+use Rattle.fp_base_lists.specs.Ascending.{place_in, IsPlaceIn}
 use Rattle.fp_longestarcs.specs.Networks.{TimedNetwork, points_in, tail_in, heads_in, IsNetwork}
 use Rattle.fp_longestarcs.specs.Vectors.{network_of}
-use Rattle.fp_lists.specs.Vectors.{lists_of}
+use Rattle.fp_base_lists.specs.Vectors.{lists_of}
 use Rattle.fp_longestarcs.specs.Whole.{IsWholeNetwork}
 use Rattle.fp_longestarcs.specs.Changes.{heads_with, refined, lifted_head, lifted, heads_to, restored, extended_points}
 use Rattle.fp_longestarcs.proofs.Places.{insert-points}
-use Rattle.fp_lists.proofs.Places.{IsPlaceIn-place_in}
+use Rattle.fp_base_lists.proofs.Places.{IsPlaceIn-place_in}
 use Rattle.fp_longestarcs.proofs.HeadLists.{points-same, points-other, all-restored}
 
 -- the points of a terminal of a network

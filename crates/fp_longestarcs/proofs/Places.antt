@@ -5,14 +5,14 @@ use Rattle.std.specs.List.{insert}
 use Rattle.std.proofs.lemmas.Bool.{cases_lt, cases_eq, le-leb, lt-leb, eq-eqb, ne_eqb, cond-true, cond-false}
 use Rattle.std.proofs.lemmas.List.Sorted.{All-permutation, IsPermutation-insert}
 use Rattle.std.proofs.lemmas.List.Elements.{All-cons}
-use Rattle.fp_lists.proofs.Membership.{StandsAt, StandsAt-from_list_has, list_has-get_or, list_has-insert, list_has-rest}
-use Rattle.fp_lists.proofs.Places.{ascending-insert, list_has-not_at_place, StandsAt-before_place}
+use Rattle.fp_base_lists.proofs.Membership.{StandsAt, StandsAt-from_list_has, list_has-get_or, list_has-insert, list_has-rest}
+use Rattle.fp_base_lists.proofs.Places.{ascending-insert, list_has-not_at_place, StandsAt-before_place}
 use Rattle.fp_timenodes.specs.Floor.{floor_point}
-use Rattle.fp_lists.specs.Membership.{list_has}
+use Rattle.fp_base_lists.specs.Membership.{list_has}
 use Rattle.fp_timenodes.specs.declared.places.TheConstants.{LATEST}
 use Rattle.fp_timenodes.proofs.Floors.{floor_is, floor_same}
 use Rattle.fp_longestarcs.specs.Ascending.{ArePoints}
-use Rattle.fp_lists.specs.Ascending.{IsPlaceIn, place_in}
+use Rattle.fp_base_lists.specs.Ascending.{IsPlaceIn, place_in}
 
 -- with a point that is early enough the greatest is at least that point
 pub floor-with : (qs : List ℕ) (k at n : ℕ) → at ≤ n → floor_point (insert qs k at) 1 n ≡ max at (floor_point qs 1 n)

@@ -6,19 +6,19 @@ use Rattle.std.proofs.lemmas.Bool.{cases_Bool, cases_eq, eq-eqb, ne_eqb, eqb-tru
 use Rattle.std.proofs.lemmas.List.{length-append, length-map}
 use Rattle.std.proofs.lemmas.List.Edits.{length-insert}
 use Rattle.std.proofs.lemmas.List.Sums.{sum_by-set, sum_by-cons, sum_by-le-sum_by}
-use Rattle.fp_lists.proofs.Pairs.{AllPairs-tail}
-use Rattle.fp_lists.proofs.Sums.{sum_by-both}
+use Rattle.fp_base_lists.proofs.Pairs.{AllPairs-tail}
+use Rattle.fp_base_lists.proofs.Sums.{sum_by-both}
 use Rattle.fp_timenodes.specs.declared.places.Place.{Place}
 use Rattle.fp_timenodes.specs.declared.places.AddedPoint.{AddedPoint}
 use Rattle.fp_timenodes.specs.declared.places.TheConstants.{LATEST}
 use Rattle.fp_timenodes.specs.Floor.{HaveSamePoints}
-use Rattle.fp_lists.specs.Membership.{list_has}
+use Rattle.fp_base_lists.specs.Membership.{list_has}
 use Rattle.fp_timenodes.specs.Points.{TimePoints, points_at, times_at, added_at}
 use Rattle.fp_longestarcs.specs.Ascending.{ArePoints}
-use Rattle.fp_lists.specs.Ascending.{IsPlaceIn, place_in}
+use Rattle.fp_base_lists.specs.Ascending.{IsPlaceIn, place_in}
 use Rattle.fp_longestarcs.specs.Networks.{TimedNetwork, IsNetwork, points_in, point_count}
 use Rattle.fp_longestarcs.specs.Changes.{extended_points}
-use Rattle.fp_lists.proofs.Places.{IsPlaceIn-place_in, first-lt}
+use Rattle.fp_base_lists.proofs.Places.{IsPlaceIn-place_in, first-lt}
 
 -- a new point is one more
 pub count-with : (net : TimedNetwork) (terminal at : ℕ) → IsNetwork net → terminal < length net.points → sum_by (λ (qs : List ℕ). length qs) (extended_points net terminal at) ≡ point_count net + 1

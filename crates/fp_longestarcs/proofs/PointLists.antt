@@ -8,9 +8,9 @@ use Rattle.std.proofs.lemmas.List.Folds.{list_any-append}
 use Rattle.std.proofs.Math.Bool.{or-false}
 use Rattle.fp_timenodes.specs.declared.places.TheConstants.{LATEST}
 use Rattle.fp_timenodes.specs.Floor.{IsNextPoint, HaveSamePoints}
-use Rattle.fp_lists.specs.Membership.{list_has}
+use Rattle.fp_base_lists.specs.Membership.{list_has}
 use Rattle.fp_longestarcs.specs.Ascending.{ArePoints}
-use Rattle.fp_lists.proofs.Membership.{list_has-get_or, StandsAt-from_list_has}
+use Rattle.fp_base_lists.proofs.Membership.{list_has-get_or, StandsAt-from_list_has}
 
 -- the times are the points up to the last one
 pub record AreUntil (qs times : List ℕ) (last : ℕ) : Type 0 where

@@ -4,7 +4,7 @@ use Rattle.std.proofs.lemmas.Bool.{false_from_ne_true}
 use Rattle.fp_model.specs.Problem.{Problem, arc_at, no_arc, IsArc, IsValid}
 use Rattle.fp_model.specs.Routes.{step}
 use Rattle.fp_timenodes.specs.declared.places.TheConstants.{LATEST}
-use Rattle.fp_lists.specs.Membership.{list_has}
+use Rattle.fp_base_lists.specs.Membership.{list_has}
 use Rattle.fp_timenodes.proofs.Floors.{floor_greatest}
 use Rattle.fp_longestarcs.specs.Networks.{TimedNetwork, points_in, kept_head, IsClass}
 use Rattle.fp_longestarcs.specs.Whole.{IsWholeNetwork}

@@ -7,8 +7,8 @@ use Rattle.std.proofs.Math.Seq.{map-set_same}
 use Rattle.std.proofs.lemmas.Bool.{cases_eq}
 use Rattle.std.proofs.lemmas.List.{get_or-set_same, get_or-set_other, length-map, get_or_default, same_lists}
 use Rattle.std.proofs.lemmas.List.FromFn.{get_or-map-range_with_len, length-map-range_with_len}
-use Rattle.fp_lists.specs.Vectors.{lists_of}
-use Rattle.fp_lists.proofs.Maps.{lists_of-get_or}
+use Rattle.fp_base_lists.specs.Vectors.{lists_of}
+use Rattle.fp_base_lists.proofs.Maps.{lists_of-get_or}
 
 -- the first vectors hold what a function gives at their places, and the others are as they were
 pub record AreWritten (f : ℕ → List ℕ) (old now : List (Vec ℕ Global)) (n : ℕ) : Type 0 where

@@ -2,7 +2,7 @@
 use Rattle.std.specs.Prelude.{ℕ, ◌<◌, ◌≤◌, ◌≡◌, true, List, All}
 use Rattle.std.specs.List.{AllPairs}
 use Rattle.fp_timenodes.specs.declared.places.TheConstants.{LATEST}
-use Rattle.fp_lists.specs.Membership.{list_has}
+use Rattle.fp_base_lists.specs.Membership.{list_has}
 
 -- the points of a terminal: in ascending order and each once, 0 among them, none too late
 pub record ArePoints (qs : List ℕ) : Type 0 where

@@ -1,3 +1,4 @@
+pub mod Stops
 pub mod Classes
 pub mod Ascending
 pub mod Networks

@@ -4,9 +4,9 @@
 use Rattle.std.specs.Prelude.{ℕ, ◌+◌, ◌<◌, ◌≤◌, ◌≡◌, true, List, [], length, take, sum_by, slice_index, slice_index_or, All}
 use Rattle.fp_model.specs.declared.limits.TheConstants.{MOST_ARCS}
 use Rattle.fp_model.specs.declared.parts.Leg.{Leg}
-use Rattle.fp_lists.specs.Membership.{list_has}
+use Rattle.fp_base_lists.specs.Membership.{list_has}
 use Rattle.fp_longestarcs.specs.Ascending.{ArePoints}
-use Rattle.fp_lists.specs.Ascending.{place_in}
+use Rattle.fp_base_lists.specs.Ascending.{place_in}
 
 -- the tail of each arc, the points of each terminal, and for each arc the heads of its timed copies
 -- in the order of its tail's points

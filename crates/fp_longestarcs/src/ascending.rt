@@ -1,10 +1,10 @@
 //! Look-ups among points in ascending order.
 ghost use Rattle.std.specs.Prelude.{◌≡◌};
 ghost use Rattle.fp_timenodes.specs.Floor.{floor_point};
-ghost use Rattle.fp_lists.specs.Membership.{list_has};
+ghost use Rattle.fp_base_lists.specs.Membership.{list_has};
 ghost use Rattle.fp_longestarcs.specs.Ascending.{ArePoints};
 
-use fp_lists::place_among;
+use fp_base_lists::place_among;
 
 // Whether the time is one of the points.
 pub(crate) fn is_among(points: &[u32], at: u32) -> bool

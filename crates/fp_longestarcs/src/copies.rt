@@ -1,16 +1,16 @@
 //! A new point in a network: its outgoing copies, and the heads that are lifted to it.
 ghost use Rattle.std.specs.Prelude.{◌≡◌, ◌+◌, ◌<◌, ◌≤◌, All, OnErr, OnOk, false, length};
-ghost use Rattle.fp_lists.specs.Membership.{list_has};
+ghost use Rattle.fp_base_lists.specs.Membership.{list_has};
 ghost use Rattle.fp_longestarcs.specs.Networks.{IsNetwork, TimedNetwork, points_in};
 ghost use Rattle.fp_longestarcs.specs.Vectors.{HasRoom, network_of, IsIndexedNetwork};
-ghost use Rattle.fp_lists.specs.Vectors.{lists_of};
+ghost use Rattle.fp_base_lists.specs.Vectors.{lists_of};
 ghost use Rattle.fp_longestarcs.specs.Changes.{lifted, refined, restored};
 
 use crate::NoMemory;
 use crate::ascending::floor_among;
 use crate::listing::count_classes;
 use crate::lists::{list_at, put};
-use fp_lists::place_among;
+use fp_base_lists::place_among;
 use fp_model::Instance;
 use fp_model::limits::LONGEST_STEP;
 use fp_timenodes::{LATEST, Place};

@@ -13,8 +13,12 @@ mod copies;
 mod listing;
 mod lists;
 mod networks;
+mod stops;
+mod timed_walks;
 
 pub use networks::{MOST_CLASSES, Network};
+pub use stops::Stop;
+pub use timed_walks::TimedWalk;
 
 /// The error of a call that finds no memory.
 pub type NoMemory = std::alloc::AllocError;

@@ -5,7 +5,7 @@ ghost use Rattle.fp_timenodes.specs.Floor.{HaveSamePoints, floor_point};
 ghost use Rattle.fp_timenodes.specs.Points.{points_at};
 ghost use Rattle.fp_longestarcs.specs.Ascending.{ArePoints};
 ghost use Rattle.fp_longestarcs.specs.Vectors.{AreOffsets};
-ghost use Rattle.fp_lists.specs.Vectors.{lists_of};
+ghost use Rattle.fp_base_lists.specs.Vectors.{lists_of};
 ghost use Rattle.fp_longestarcs.specs.Whole.{heads_of, arc_tails};
 
 use crate::NoMemory;

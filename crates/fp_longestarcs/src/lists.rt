@@ -1,6 +1,6 @@
 //! Lists of times that a network holds.
 ghost use Rattle.std.specs.Prelude.{◌≡◌, ◌<◌, ◌≤◌, [], IfOk, insert, length, slice_index_or, vec_capacity, vec_len};
-ghost use Rattle.fp_lists.specs.Vectors.{lists_of};
+ghost use Rattle.fp_base_lists.specs.Vectors.{lists_of};
 
 use crate::NoMemory;
 use std::alloc::Global;

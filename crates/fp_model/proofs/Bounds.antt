@@ -1,5 +1,5 @@
 -- A plan costs at most the sum of its shipments alone over every arc, so it fits its type.
-use Rattle.std.proofs.Common.{◌≡◌, ◌≢◌, ℕ, ◌+◌, ◌*◌, ◌<◌, ◌≤◌, ◌^◌, true, false, List, [], ◌∷◌, ◌++◌, length, get_or, set, map, ⊎_elim, refl, sym, ap, ◌∙◌, subst, arith, le_refl, get_or-set_other, length-set}
+use Rattle.std.proofs.Common.{◌≡◌, ℕ, ◌+◌, ◌*◌, ◌<◌, ◌≤◌, ◌^◌, true, false, List, [], ◌∷◌, ◌++◌, length, get_or, ⊎_elim, refl, sym, ap, ◌∙◌, subst, arith, le_refl}
 use Rattle.std.specs.Prelude.{sum_by, if◌then◌else◌, All}
 use Rattle.std.specs.List.{AllZip, AllByRecursion}
 use Rattle.std.specs.declared.alloc.Global.{Global}
@@ -9,23 +9,21 @@ use Rattle.std.proofs.Math.Nat.{mul-le-mul_left}
 use Rattle.std.proofs.lemmas.Bool.{cases_Bool, cond-true, cond-false, or_parts}
 use Rattle.std.proofs.lemmas.List.Elements.{All-cons, All-nil}
 use Rattle.std.proofs.lemmas.List.Folds.{list_any-append}
-use Rattle.std.proofs.lemmas.List.Sums.{sum_by-cons, sum_by-le-sum_by, sum_by-set}
+use Rattle.std.proofs.lemmas.List.Sums.{sum_by-cons, sum_by-le-sum_by}
 use Rattle.std.proofs.lemmas.Slice.Zip.{AllZip-long}
-use Rattle.fp_lists.proofs.Distinct.{AreDistinct-from_map, AreDistinct-tail}
-use Rattle.fp_lists.proofs.DistinctSums.{sum_by-places-le}
+use Rattle.fp_base_lists.proofs.Distinct.{AreDistinct-from_map, AreDistinct-tail}
+use Rattle.fp_base_lists.proofs.DistinctSums.{sum_by-places-le}
 use Rattle.fp_model.specs.declared.parts.Arc.{Arc}
 use Rattle.fp_model.specs.declared.parts.Leg.{Leg}
 use Rattle.fp_model.specs.declared.parts.Shipment.{Shipment}
 use Rattle.fp_model.specs.Problem.{Problem, IsValid, no_arc, arc_at, truck_cost, alone_cost, alone_total}
 use Rattle.fp_model.specs.Routes.{Leads, ArcsExist, Carries, arcs_of, ends_of}
-use Rattle.fp_lists.specs.Distinct.{AreDistinct}
 use Rattle.fp_model.specs.Costs.{same_leg, has_leg, distinct, all_legs, load, flow_cost, flow_total, cost}
-use Rattle.fp_lists.specs.Vectors.{lists_of}
+use Rattle.fp_base_lists.specs.Vectors.{lists_of}
 use Rattle.fp_model.specs.Plans.{IsPlan}
 use Rattle.fp_model.proofs.Distinct.{distinct_sum, distinct_sum-le, distinct_sum-le-sum_by}
-use Rattle.fp_lists.proofs.Sums.{sum_by-both, sum_by-map, sum_by-same_each}
-use Rattle.fp_lists.proofs.Elements.{AllByRecursion-weaker}
-use Rattle.fp_lists.proofs.Ceilings.{div_ceil-add, div_ceil-zero}
+use Rattle.fp_base_lists.proofs.Sums.{sum_by-both, sum_by-map}
+use Rattle.fp_base_lists.proofs.Ceilings.{div_ceil-add, div_ceil-zero}
 
 -- a departure that no route has carries nothing
 pub load-outside : (ss : List Shipment) (R : List (List Leg)) (k : Leg) → has_leg k (all_legs R) ≡ false → load ss R k ≡ 0
@@ -38,6 +36,15 @@ load-outside (s ∷ ss) (r ∷ R) k h =
 -- the trucks of a departure, for those shipments
 abbrev pub departure_of : Problem → List Shipment → List (List Leg) → Leg → ℕ
 departure_of p ss R k = truck_cost (arc_at p k.arc) (load ss R k)
+
+-- where no route has it, they cost nothing
+pub departure-outside : (p : Problem) (ss : List Shipment) (R : List (List Leg)) (k : Leg) → has_leg k (all_legs R) ≡ false → departure_of p ss R k ≡ 0
+departure-outside p ss R k h =
+    let arc : Arc = arc_at p k.arc in
+    let none : departure_of p ss R k ≡ arc.truck * 0 =
+    ap (λ (n : ℕ). arc.truck * div_ceil n arc.capacity) (load-outside ss R k h)
+    ∙ ap (λ (n : ℕ). arc.truck * n) (div_ceil-zero arc.capacity) in
+    omega (arith, none)
 
 -- the trucks of a leg alone
 abbrev pub alone_trucks : Problem → ℕ → Leg → ℕ
@@ -97,12 +104,7 @@ departures-le-alone p (s ∷ ss) (r ∷ R) long =
     (λ (h : has_leg k r ≡ false). omega (arith, cond-false (has_leg k r) (alone_trucks p s.size k) 0 h))
     (cases_Bool (has_leg k r))) in
     let others_there : distinct_sum others all ≤ distinct_sum others (all_legs R) =
-    distinct_sum-le all (all_legs R) others (λ k h.
-    let arc : Arc = arc_at p k.arc in
-    let none : departure_of p ss R k ≡ arc.truck * 0 =
-    ap (λ (n : ℕ). arc.truck * div_ceil n arc.capacity) (load-outside ss R k h)
-    ∙ ap (λ (n : ℕ). arc.truck * n) (div_ceil-zero arc.capacity) in
-    omega (arith, none)) in
+    distinct_sum-le all (all_legs R) others (departure-outside p ss R) in
     let short : length R ≡ length ss = omega arith in
     let later : distinct_sum others (all_legs R) ≤ alone_routes p ss R = departures-le-alone p ss R short in
     omega (arith, apart, split, own_here, own_each, own_alone, others_there, later)
@@ -136,7 +138,7 @@ routes-le-alone p d (s ∷ ss) (r ∷ R) plan =
     omega (arith, route-le-alone p d s r plan.0, routes-le-alone p d ss R plan.1, sum_by-cons (λ (t : Shipment). sum_by (alone_cost t.size) p.arcs) s ss)
 
 -- a plan costs at most every shipment alone over every arc
-cost-le-alone_total : (p : Problem) (d : ℕ) (R : List (List Leg)) → IsPlan p d R → cost p R ≤ alone_total p.arcs p.shipments
+pub cost-le-alone_total : (p : Problem) (d : ℕ) (R : List (List Leg)) → IsPlan p d R → cost p R ≤ alone_total p.arcs p.shipments
 cost-le-alone_total p d R plan =
     let long : length R ≡ length p.shipments = AllZip-long (Carries p d) p.shipments R plan in
     omega (arith, departures-le-alone p p.shipments R long, routes-le-alone p d p.shipments R plan)

@@ -1,6 +1,6 @@
 -- The definitions, worked on small instances.
 use Rattle.std.proofs.Common.{◌≡◌, ℕ, ◌*◌, ◌≤◌, List, [], ◌∷◌, inl, inr, refl, lit≤, lit<}
-use Rattle.fp_lists.proofs.Distinct.{AreDistinct-cons, AreDistinct-nil}
+use Rattle.fp_base_lists.proofs.Distinct.{AreDistinct-cons, AreDistinct-nil}
 use Rattle.fp_model.specs.declared.faults.PlanKind.TheVariants.{Count, NotRoute, TerminalTwice, BeforeRelease, BeforeArrival, AfterDue}
 use Rattle.fp_model.specs.declared.parts.Arc.{Arc}
 use Rattle.fp_model.specs.declared.parts.Leg.{Leg}

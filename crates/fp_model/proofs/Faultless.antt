@@ -1,11 +1,8 @@
 -- Routes are a plan exactly where they have no fault.
-use Rattle.std.proofs.Common.{◌≡◌, ◌≢◌, ℕ, zero, suc, ◌+◌, ◌*◌, ◌-◌, ◌<◌, ◌≤◌, true, false, List, [], ◌∷◌, length, take, inl, inr, ⊎_elim, refl, sym, ◌∙◌, ap, subst, arith, eqb-true}
-use Rattle.std.specs.List.{AllByRecursion, IsDistinct, list_any}
-use Rattle.std.proofs.Math.Dec.{eqb}
-use Rattle.std.proofs.lemmas.Bool.{ne_eqb, or_cases, false≢true}
+use Rattle.std.proofs.Common.{◌≡◌, ◌≢◌, ℕ, zero, suc, ◌+◌, ◌*◌, ◌-◌, ◌<◌, ◌≤◌, List, [], ◌∷◌, length, take, inl, inr, ⊎_elim, refl, sym, ◌∙◌, ap, subst, arith}
+use Rattle.std.specs.List.{AllByRecursion}
 use Rattle.std.proofs.lemmas.Bool.Decides.{eqb_tells}
 use Rattle.std.proofs.lemmas.List.{get_or-take, length-take-le}
-use Rattle.std.proofs.lemmas.Map.Steps.{length-le_from_distinct_below}
 use Rattle.std.proofs.lemmas.Slice.Zip.{AllZip-long}
 use Rattle.fp_model.specs.declared.faults.PlanKind.{PlanKind}
 use Rattle.fp_model.specs.declared.faults.PlanKind.TheVariants.{Count, NotRoute, TerminalTwice, BeforeRelease, BeforeArrival, AfterDue}
@@ -13,16 +10,15 @@ use Rattle.fp_model.specs.declared.parts.Leg.{Leg}
 use Rattle.fp_model.specs.declared.parts.Shipment.{Shipment}
 use Rattle.fp_model.specs.Problem.{Problem, arc_at}
 use Rattle.fp_model.specs.Routes.{Carries, arcs_of, step, ends_of}
-use Rattle.fp_lists.specs.Distinct.{AreDistinct}
+use Rattle.fp_base_lists.specs.Distinct.{AreDistinct}
 use Rattle.fp_model.specs.Numbered.{leg_at, no_leg, route_at, shipment_at, no_shipment}
 use Rattle.fp_model.specs.Faults.{place_before, HasLegFault, AreFaultless, HasFault, IsFaultless}
 use Rattle.fp_model.specs.Plans.{IsPlan}
-use Rattle.fp_lists.proofs.Distinct.{AreDistinct-from_map, AreDistinct-tail}
-use Rattle.fp_lists.proofs.Elements.{AllByRecursion-weaker}
+use Rattle.fp_base_lists.proofs.Distinct.{AreDistinct-from_map, AreDistinct-tail}
 use Rattle.fp_model.proofs.LegByLeg.{GoesOn, Leads-from_legs, Leads-legs, Leads-last, NeverReturns, AreDistinct-from_legs, AreDistinct-legs, StartsFrom, KeepsSteps, LeavesReady-from_legs, LeavesReady-first, LeavesReady-legs}
-use Rattle.fp_lists.proofs.Numbered.{AllZip-get_or}
-use Rattle.fp_lists.proofs.DistinctSums.{length-distinct-le}
-use Rattle.fp_lists.proofs.Numbered.{AllZip-from_get_or}
+use Rattle.fp_base_lists.proofs.Numbered.{AllZip-get_or}
+use Rattle.fp_base_lists.proofs.DistinctSums.{length-distinct-le}
+use Rattle.fp_base_lists.proofs.Numbered.{AllZip-from_get_or}
 use Rattle.fp_model.proofs.LastArrivals.{arrives_at_last}
 
 -- the legs below a number have no fault

@@ -1,17 +1,17 @@
 -- The first fault of routes, from the first faults of their legs.
-use Rattle.std.proofs.Common.{◌≡◌, ℕ, zero, suc, ◌+◌, ◌<◌, List, [], ◌∷◌, length, ◌≤◌, ◌≢◌, ⊎_elim, refl, subst, arith}
+use Rattle.std.proofs.Common.{◌≡◌, ℕ, zero, suc, ◌+◌, ◌<◌, List, [], ◌∷◌, length, ⊎_elim, refl, subst, arith}
 use Rattle.std.specs.Prelude.{slice_index_or}
 use Rattle.std.proofs.Math.Nat.{eq-or-lt_of_le}
 use Rattle.std.specs.declared.alloc.Global.{Global}
 use Rattle.std.specs.declared.vec.Vec.{Vec}
 use Rattle.fp_model.specs.declared.faults.PlanKind.{PlanKind}
-use Rattle.fp_model.specs.declared.faults.PlanKind.TheVariants.{Count, NotRoute, TerminalTwice, BeforeRelease, BeforeArrival, AfterDue}
+use Rattle.fp_model.specs.declared.faults.PlanKind.TheVariants.{NotRoute}
 use Rattle.fp_model.specs.declared.parts.Leg.{Leg}
 use Rattle.fp_model.specs.declared.parts.Shipment.{Shipment}
 use Rattle.fp_model.specs.Problem.{Problem}
-use Rattle.fp_lists.specs.Vectors.{lists_of}
+use Rattle.fp_base_lists.specs.Vectors.{lists_of}
 use Rattle.fp_model.specs.Numbered.{leg_at, route_at, shipment_at}
-use Rattle.fp_model.specs.Faults.{HasLegFault, AreFaultless, HasFault, IsFirstFault, IsFirstLegFault, kind_number}
+use Rattle.fp_model.specs.Faults.{HasLegFault, AreFaultless, HasFault, IsFirstFault, IsFirstLegFault}
 use Rattle.fp_model.specs.Plans.{IsPlan}
 use Rattle.fp_model.proofs.Faultless.{AreFaultlessBelow, goes_on, HasFault-leg, HasLegFault-fault, IsPlan-from_faultless, IsPlan-faultless}
 

@@ -12,8 +12,8 @@ use Rattle.fp_model.specs.declared.parts.Shipment.{Shipment}
 use Rattle.fp_model.specs.Problem.{Problem, arc_at, truck_cost}
 use Rattle.fp_model.specs.Costs.{same_leg, has_leg, distinct, all_legs, load, cost, flow_cost, flow_total}
 use Rattle.fp_model.proofs.Distinct.{same_leg-true, same_leg-refl, distinct_sum, term-le, one-le}
-use Rattle.fp_lists.proofs.Sums.{sum_by-scaled, sum_by-swap, sum_by-same, sum_by-both, sum_by-map}
-use Rattle.fp_lists.proofs.Ceilings.{div_ceil_mono, div_ceil-sum_by, div_ceil-zero}
+use Rattle.fp_base_lists.proofs.Sums.{sum_by-scaled, sum_by-swap, sum_by-same, sum_by-both, sum_by-map}
+use Rattle.fp_base_lists.proofs.Ceilings.{div_ceil_mono, div_ceil-sum_by, div_ceil-zero}
 use Rattle.fp_model.proofs.Bounds.{departure_of}
 
 -- the legs that a map takes to c, summed over

@@ -1,11 +1,11 @@
 -- What the rules on routes and times say, leg by leg.
 use Rattle.std.proofs.Common.{◌≡◌, ◌≢◌, ℕ, zero, suc, ◌+◌, ◌*◌, ◌<◌, ◌≤◌, List, [], ◌∷◌, length, refl, sym, subst, arith}
 use Rattle.std.specs.List.{AllByRecursion}
-use Rattle.fp_lists.proofs.Distinct.{AreDistinct-cons, AreDistinct-head, AreDistinct-nil, AreDistinct-tail}
+use Rattle.fp_base_lists.proofs.Distinct.{AreDistinct-cons, AreDistinct-head, AreDistinct-nil, AreDistinct-tail}
 use Rattle.fp_model.specs.declared.parts.Leg.{Leg}
 use Rattle.fp_model.specs.Problem.{Problem, arc_at}
 use Rattle.fp_model.specs.Routes.{Leads, LeavesReady, arcs_of, ends_of, step}
-use Rattle.fp_lists.specs.Distinct.{AreDistinct}
+use Rattle.fp_base_lists.specs.Distinct.{AreDistinct}
 use Rattle.fp_model.specs.Numbered.{leg_at}
 use Rattle.fp_model.specs.Faults.{place_before}
 

@@ -191,18 +191,17 @@ has_leg-place [] i lt = absurd (omega (arith, lt))
 has_leg-place (l ∷ legs) zero lt = or_left (same_leg l l) (has_leg l legs) (same_leg-refl l)
 has_leg-place (l ∷ legs) (suc i) lt = or_right (same_leg (leg_at legs i) l) (has_leg (leg_at legs i) legs) (has_leg-place legs i (omega (arith, lt)))
 
-has_leg-places : (routes : List (List Leg)) (k i : ℕ) → k < length routes → i < length (route_at routes k) → has_leg (leg_at (route_at routes k) i) (all_legs routes) ≡ true
-has_leg-places [] k i lt there = absurd (omega (arith, lt))
-has_leg-places (r ∷ routes) zero i lt there =
-    let l : Leg = leg_at r i in
-    list_any-append (same_leg l) r (all_legs routes) ∙ or_left (has_leg l r) (has_leg l (all_legs routes)) (has_leg-place r i there)
-has_leg-places (r ∷ routes) (suc k) i lt there =
-    let l : Leg = leg_at (route_at routes k) i in
-    list_any-append (same_leg l) r (all_legs routes) ∙ or_right (has_leg l r) (has_leg l (all_legs routes)) (has_leg-places routes k i (omega (arith, lt)) there)
+-- a leg of one route is a leg of all routes
+pub has_leg-all_legs : (routes : List (List Leg)) (k : ℕ) (l : Leg) → has_leg l (route_at routes k) ≡ true → has_leg l (all_legs routes) ≡ true
+has_leg-all_legs [] k l has = has
+has_leg-all_legs (r ∷ routes) zero l has = list_any-append (same_leg l) r (all_legs routes) ∙ or_left (has_leg l r) (has_leg l (all_legs routes)) has
+has_leg-all_legs (r ∷ routes) (suc k) l has =
+    list_any-append (same_leg l) r (all_legs routes) ∙ or_right (has_leg l r) (has_leg l (all_legs routes)) (has_leg-all_legs routes k l has)
 
 -- the leg of a member is among all legs
 pub has_leg-member : (routes : List (List Leg)) (m : Member) → IsMemberOf routes m → has_leg (member_leg routes m) (all_legs routes) ≡ true
-has_leg-member routes m is = has_leg-places routes m.shipment m.leg is.shipment is.leg
+has_leg-member routes m is =
+    has_leg-all_legs routes m.shipment (member_leg routes m) (has_leg-place (route_at routes m.shipment) m.leg is.leg)
 
 -- any two members of a group that leaves as one leave together
 pub LeaveAsOne-contains : (routes : List (List Leg)) (group : List Member) (m n : Member) → LeaveAsOne routes group → Contains group m → Contains group n →

@@ -3,7 +3,7 @@ ghost use Rattle.std.specs.Prelude.{ℕ, ◌≡◌, ◌+◌, ◌<◌, ◌≤◌,
 ghost use Rattle.std.specs.declared.alloc.Global.{Global};
 ghost use Rattle.std.specs.declared.vec.Vec.{Vec};
 ghost use Rattle.fp_model.specs.Costs.{all_legs, cost as cost_of, cost_with, departure_cost, departures_cost, has_leg, load as load_of, trucks as trucks_of};
-ghost use Rattle.fp_lists.specs.Vectors.{lists_of};
+ghost use Rattle.fp_base_lists.specs.Vectors.{lists_of};
 ghost use Rattle.fp_model.specs.Plans.{IsPlan};
 ghost use Rattle.fp_model.specs.Routes.{ArcsExist};
 

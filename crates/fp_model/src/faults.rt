@@ -1,6 +1,6 @@
 //! Whether legs are a plan, and else their first fault.
 ghost use Rattle.std.specs.Prelude.{ℕ, ◌≡◌, ◌<◌, ◌≤◌, ◌↔◌, length, IfErr, IfOk, IfSome, IsNone, IsOk};
-ghost use Rattle.fp_lists.specs.Vectors.{lists_of};
+ghost use Rattle.fp_base_lists.specs.Vectors.{lists_of};
 ghost use Rattle.fp_model.specs.Faults.{AreFaultless, HasLegFault, IsFirstFault, IsFirstLegFault, kind_number};
 ghost use Rattle.fp_model.specs.Numbered.{leg_at, route_at, shipment_at};
 ghost use Rattle.fp_model.specs.Plans.{IsPlan};

@@ -9,6 +9,7 @@
 mod costs;
 mod faults;
 mod instances;
+mod laws;
 pub mod limits;
 mod names;
 mod parts;
@@ -19,6 +20,7 @@ mod weights;
 pub use costs::{cost, load, trucks};
 pub use faults::{PlanFault, PlanKind, test_plan};
 pub use instances::Instance;
+pub use laws::limits_are_numbers;
 pub use limits::SCALE;
 pub use names::{Name, is_name};
 pub use parts::{Arc, Leg, Member, Shipment};

@@ -19,7 +19,7 @@ pub struct Plan {
 impl Model for Plan {
     ghost use Rattle.std.specs.Prelude.{List};
     ghost use Rattle.fp_model.specs.declared.parts.Leg.{Leg};
-    ghost use Rattle.fp_lists.specs.Vectors.{lists_of};
+    ghost use Rattle.fp_base_lists.specs.Vectors.{lists_of};
 
     ghost Value = { List (List Leg) };
 

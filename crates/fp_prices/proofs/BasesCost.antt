@@ -5,7 +5,7 @@ use Rattle.std.specs.Int.{div_ceil}
 use Rattle.std.specs.List.{AllByRecursion}
 use Rattle.std.proofs.lemmas.Bool.{cases_Bool, cond-false, cond-true, false_from_ne_true, or_right}
 use Rattle.std.proofs.lemmas.List.Sums.{sum_by-cons}
-use Rattle.fp_lists.proofs.SumsBelow.{sum_below-same, sum_below-zero, sum_below-changed}
+use Rattle.fp_base_lists.proofs.SumsBelow.{sum_below-same, sum_below-zero, sum_below-changed}
 use Rattle.fp_model.specs.declared.parts.Leg.{Leg}
 use Rattle.fp_model.specs.Costs.{all_legs, departure_cost, departures_cost, distinct, has_leg, load, same_leg}
 use Rattle.fp_model.specs.Problem.{Problem, arc_at}
@@ -15,9 +15,9 @@ use Rattle.fp_longestarcs.proofs.ClassNumbers.{number-within}
 use Rattle.fp_allowed.specs.Bits.{bit_of}
 use Rattle.fp_allowed.specs.Listing.{class_at}
 use Rattle.fp_allowed.proofs.ListedClasses.{class_at-number}
-use Rattle.fp_prices.specs.declared.bases.ForcedClasses.{ForcedClasses}
+use Rattle.fp_prices.specs.declared.classes.bases.ForcedClasses.{ForcedClasses}
 use Rattle.fp_prices.specs.Forced.{AreForcedClasses, row_cost, truck_cost_at}
-use Rattle.fp_lists.specs.Below.{sum_below}
+use Rattle.fp_base_lists.specs.Below.{sum_below}
 use Rattle.fp_prices.proofs.NumberedClasses.{number-class}
 
 module _ (net : TimedNetwork) (valid : IsNetwork net) (cost : Leg → ℕ) where

@@ -4,10 +4,10 @@ use Rattle.std.specs.Prelude.{if◌then◌else◌, nat_eq}
 use Rattle.std.proofs.Math.Bool.{or-false}
 use Rattle.std.proofs.lemmas.Bool.{cases_eq, cond-false, cond-true, eq-eqb, ne_eqb, or_right}
 use Rattle.std.proofs.lemmas.List.{get_or-set_other, get_or-set_same, length-set}
-use Rattle.fp_lists.proofs.Distinct.{list_has-take_distinct}
-use Rattle.fp_lists.proofs.Membership.{list_has-take_more}
-use Rattle.fp_lists.specs.Distinct.{AreDistinct}
-use Rattle.fp_lists.specs.Membership.{list_has}
+use Rattle.fp_base_lists.proofs.Distinct.{list_has-take_distinct}
+use Rattle.fp_base_lists.proofs.Membership.{list_has-take_more}
+use Rattle.fp_base_lists.specs.Distinct.{AreDistinct}
+use Rattle.fp_base_lists.specs.Membership.{list_has}
 use Rattle.fp_allowed.specs.Bits.{bit_of}
 
 -- loads and bits with those of the classes with some numbers added

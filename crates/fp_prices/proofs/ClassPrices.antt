@@ -5,16 +5,16 @@ use Rattle.std.specs.List.{AllByRecursion, AllZip}
 use Rattle.std.specs.Int.{div_ceil}
 use Rattle.std.proofs.Math.Nat.{mul-le-mul_left}
 use Rattle.std.proofs.lemmas.Bool.{cases_Bool, cond-true, cond-false, and_parts, eqb-true}
-use Rattle.fp_lists.proofs.Elements.{AllByRecursion-get_or_default}
+use Rattle.fp_base_lists.proofs.Elements.{AllByRecursion-get_or_default}
 use Rattle.fp_model.specs.declared.parts.Arc.{Arc}
 use Rattle.fp_model.specs.declared.parts.Leg.{Leg}
 use Rattle.fp_model.specs.declared.parts.Shipment.{Shipment}
 use Rattle.fp_model.specs.Problem.{Problem, arc_at, truck_cost}
-use Rattle.fp_lists.specs.Distinct.{AreDistinct}
+use Rattle.fp_base_lists.specs.Distinct.{AreDistinct}
 use Rattle.fp_model.specs.Costs.{has_leg, all_legs, load}
-use Rattle.fp_model.proofs.Bounds.{departure_of, load-outside}
-use Rattle.fp_lists.proofs.Ceilings.{div_ceil-zero}
-use Rattle.fp_lists.proofs.Sums.{sum_by-same, sum_by-const}
+use Rattle.fp_model.proofs.Bounds.{departure_of, load-outside, departure-outside}
+use Rattle.fp_base_lists.proofs.Ceilings.{div_ceil-zero}
+use Rattle.fp_base_lists.proofs.Sums.{sum_by-same, sum_by-const}
 use Rattle.fp_prices.specs.declared.leaf_prices.Kind.{Kind}
 use Rattle.fp_prices.specs.declared.leaf_prices.Kind.TheVariants.{Linear, Even, Table}
 use Rattle.fp_prices.specs.Shares.{ClassShare}
@@ -71,13 +71,6 @@ pub record AreWalks (p : Problem) (allowed : ℕ → Leg → Bool) (size : ℕ �
   pub few : (c : Leg) → length (users 0 walks c) ≤ allowed_count (λ j. allowed j c) 0 p.shipments
   pub among : AllZip AreAmong chains walks
 
--- what nobody is forced to use has no base
-no-base : (p : Problem) (shipments : List Shipment) (chains : List (List Leg)) (c : Leg) → has_leg c (all_legs chains) ≡ false → departure_of p shipments chains c ≡ 0
-no-base p shipments chains c outside =
-    let arc : Arc = arc_at p c.arc in
-    ap (λ (n : ℕ). arc.truck * div_ceil n arc.capacity) (load-outside shipments chains c outside) ∙ ap (λ (n : ℕ). arc.truck * n) (div_ceil-zero arc.capacity)
-    ∙ (let e : arc.truck * 0 ≡ 0 = omega arith in e)
-
 -- what the users of a class pay by its truck prices is at most what its trucks cost
 users-fit : (p : Problem) (tables : List (List ClassShare)) (allowed : ℕ → Leg → Bool) (kind : Kind) (size : ℕ → ℕ) (chains walks : List (List Leg)) (c : Leg) → AllKeepRule p tables →
     AreWalks p allowed size chains walks → sum_by (λ k. truck_price p tables allowed kind c k (size k)) (users 0 walks c) ≤ p.scale * departure_of p p.shipments walks c
@@ -111,6 +104,6 @@ class-fits p tables allowed kind size chains walks c keep are =
     omega (arith, base, free, sum_by-const 0 set))
     (λ (not_forced : has_leg c (all_legs chains) ≡ false).
     let priced : sum_by of_leaf set ≡ sum_by of_trucks set = sum_by-same of_leaf of_trucks (λ k. cond-false (has_leg c (all_legs chains)) 0 (of_trucks k) not_forced) set in
-    let none : p.scale * departure_of p p.shipments chains c ≡ p.scale * 0 = ap (λ (n : ℕ). p.scale * n) (no-base p p.shipments chains c not_forced) in
+    let none : p.scale * departure_of p p.shipments chains c ≡ p.scale * 0 = ap (λ (n : ℕ). p.scale * n) (departure-outside p p.shipments chains c not_forced) in
     omega (arith, priced, none, users-fit p tables allowed kind size chains walks c keep are))
     (cases_Bool (has_leg c (all_legs chains)))

@@ -10,7 +10,7 @@ use Rattle.fp_model.specs.declared.parts.Leg.{Leg}
 use Rattle.fp_model.specs.Problem.{Problem, arc_at}
 use Rattle.fp_longestarcs.specs.Networks.{TimedNetwork, IsClass, class_count, class_number}
 use Rattle.fp_prices.specs.PointGraphs.{IsPointGraph}
-use Rattle.fp_prices.specs.declared.point_graphs.PointGraph.{PointGraph}
+use Rattle.fp_prices.specs.declared.graphs.point_graphs.PointGraph.{PointGraph}
 use Rattle.fp_prices.proofs.GraphWalks.{AreCosts}
 use Rattle.fp_prices.proofs.PointEdges.{class-numbered, length-edges}
 

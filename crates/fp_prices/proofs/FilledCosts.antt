@@ -9,7 +9,7 @@ use Rattle.fp_longestarcs.proofs.ClassNumbers.{number-within}
 use Rattle.fp_allowed.specs.Bits.{bit_of}
 use Rattle.fp_allowed.specs.Listing.{class_at}
 use Rattle.fp_allowed.proofs.ListedClasses.{class_at-number}
-use Rattle.fp_prices.specs.declared.class_prices.ClassPricing.{ClassPricing}
+use Rattle.fp_prices.specs.declared.classes.class_prices.ClassPricing.{ClassPricing}
 use Rattle.fp_prices.specs.declared.leaf_prices.Kind.{Kind}
 use Rattle.fp_prices.specs.ClassCosts.{HoldsClassCosts}
 use Rattle.fp_prices.specs.Leaves.{leaf_price}

@@ -10,7 +10,7 @@ use Rattle.fp_model.specs.Problem.{Problem, arc_at}
 use Rattle.fp_model.specs.Routes.{Leads, arcs_of}
 use Rattle.fp_model.specs.Costs.{same_leg, has_leg, load}
 use Rattle.fp_model.proofs.Bounds.{departure_of}
-use Rattle.fp_lists.proofs.Ceilings.{div_ceil_mono}
+use Rattle.fp_base_lists.proofs.Ceilings.{div_ceil_mono}
 use Rattle.fp_allowed.specs.Allowed.{AreForced}
 use Rattle.fp_prices.specs.Leaves.{IsChain}
 

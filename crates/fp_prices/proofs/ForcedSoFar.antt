@@ -8,17 +8,17 @@ use Rattle.std.proofs.lemmas.Bool.{cases_eq, cases_lt, eq-eqb, false_from_ne_tru
 use Rattle.std.proofs.lemmas.List.{get_or-replicate, get_or_past, length-append, length-replicate, length-take, take_all, take_more}
 use Rattle.std.proofs.lemmas.List.Elements.{recursion_from_All}
 use Rattle.std.proofs.lemmas.List.Folds.{list_any-append}
-use Rattle.fp_lists.proofs.Numbered.{AllZipFrom-push}
+use Rattle.fp_base_lists.proofs.Numbered.{AllZipFrom-push}
 use Rattle.fp_model.specs.declared.parts.Leg.{Leg}
 use Rattle.fp_model.specs.declared.parts.Shipment.{Shipment}
 use Rattle.fp_model.specs.Costs.{all_legs, has_leg, load, same_leg}
 use Rattle.fp_model.specs.Numbered.{no_shipment, shipment_at}
-use Rattle.fp_lists.specs.Numbered.{AllZipFrom}
+use Rattle.fp_base_lists.specs.Numbered.{AllZipFrom}
 use Rattle.fp_model.specs.Routes.{arcs_of}
-use Rattle.fp_lists.specs.Distinct.{AreDistinct}
-use Rattle.fp_lists.proofs.Distinct.{AreDistinct-from_map}
+use Rattle.fp_base_lists.specs.Distinct.{AreDistinct}
+use Rattle.fp_base_lists.proofs.Distinct.{AreDistinct-from_map}
 use Rattle.fp_model.proofs.Distinct.{same_leg-refl, same_leg-true}
-use Rattle.fp_lists.specs.Membership.{list_has}
+use Rattle.fp_base_lists.specs.Membership.{list_has}
 use Rattle.fp_flatnet.specs.Tables.{windows_in}
 use Rattle.fp_longestarcs.specs.Networks.{IsClass, IsNetwork, TimedNetwork, class_count, class_number, points_in}
 use Rattle.fp_tree.specs.declared.sides.Side.{Side}
@@ -30,7 +30,7 @@ use Rattle.fp_allowed.specs.Listing.{class_at, classes_at}
 use Rattle.fp_allowed.specs.Settings.{Setting}
 use Rattle.fp_allowed.proofs.AllowedClasses.{is_allowed_parts}
 use Rattle.fp_allowed.proofs.ListedClasses.{class_at-number}
-use Rattle.fp_prices.specs.declared.bases.ForcedClasses.{ForcedClasses}
+use Rattle.fp_prices.specs.declared.classes.bases.ForcedClasses.{ForcedClasses}
 use Rattle.fp_prices.specs.Forced.{AreForcedOf, AreRowsUnder}
 use Rattle.fp_prices.specs.Leaves.{IsChain}
 use Rattle.fp_prices.proofs.NumberedClasses.{number-class}

@@ -3,12 +3,12 @@ use Rattle.std.proofs.Common.{◌≡◌, ℕ, suc, ◌+◌, ◌*◌, ◌-◌, �
 use Rattle.std.specs.Prelude.{if◌then◌else◌}
 use Rattle.std.proofs.lemmas.Bool.{cond-false, cond-true}
 use Rattle.std.proofs.Math.Nat.{mul-le-mul_left}
-use Rattle.fp_lists.proofs.SumsBelow.{sum_below-more, sum_below-has}
+use Rattle.fp_base_lists.proofs.SumsBelow.{sum_below-more, sum_below-has}
 use Rattle.fp_model.specs.Problem.{Problem}
 use Rattle.fp_longestarcs.specs.Networks.{TimedNetwork}
 use Rattle.fp_allowed.specs.Bits.{bit_of}
 use Rattle.fp_prices.specs.Forced.{row_cost, truck_cost_at}
-use Rattle.fp_lists.specs.Below.{sum_below}
+use Rattle.fp_base_lists.specs.Below.{sum_below}
 use Rattle.fp_prices.proofs.SetBits.{IsNextSet}
 
 -- what the class with a number adds

@@ -6,8 +6,8 @@ use Rattle.std.specs.List.{AllByRecursion}
 use Rattle.std.proofs.lemmas.Bool.{cond-true, or_left, or_right}
 use Rattle.std.proofs.lemmas.List.Folds.{list_any-append}
 use Rattle.std.proofs.lemmas.List.Sums.{sum_by-cons}
-use Rattle.fp_lists.specs.Numbered.{AllZipFrom}
-use Rattle.fp_lists.proofs.Elements.{AllByRecursion-weaker}
+use Rattle.fp_base_lists.specs.Numbered.{AllZipFrom}
+use Rattle.fp_base_lists.proofs.Elements.{AllByRecursion-weaker}
 use Rattle.fp_model.specs.declared.parts.Leg.{Leg}
 use Rattle.fp_model.specs.declared.parts.Shipment.{Shipment}
 use Rattle.fp_model.specs.Costs.{all_legs, cost, flow_total, has_leg, same_leg}

@@ -11,7 +11,7 @@ use Rattle.fp_labels.specs.Walks.{IsOpen, cost_of, Leads as LeadsOver, walk_cost
 use Rattle.fp_model.specs.declared.parts.Leg.{Leg}
 use Rattle.fp_model.specs.Problem.{Problem, arc_at}
 use Rattle.fp_model.specs.Routes.{Leads, arcs_of}
-use Rattle.fp_lists.specs.Ascending.{place_in}
+use Rattle.fp_base_lists.specs.Ascending.{place_in}
 use Rattle.fp_longestarcs.specs.Classes.{head_of}
 use Rattle.fp_longestarcs.specs.Networks.{TimedNetwork, IsClass, class_count, class_number, points_in}
 use Rattle.fp_longestarcs.proofs.NewPoints.{points-of}

@@ -16,10 +16,10 @@ use Rattle.fp_longestarcs.specs.Whole.{IsWholeNetwork}
 use Rattle.fp_allowed.specs.Bits.{bit_of}
 use Rattle.fp_allowed.specs.Moments.{in_range}
 use Rattle.fp_allowed.proofs.RowBits.{bit_of-with_range, length-with_range}
-use Rattle.fp_prices.specs.declared.class_prices.ClassPricing.{ClassPricing}
-use Rattle.fp_prices.specs.declared.class_prices.Rule.{Rule}
-use Rattle.fp_prices.specs.declared.class_prices.Rule.TheVariants.{BySize, InParts, ByShares}
-use Rattle.fp_prices.specs.declared.known_costs.KnownCost.{KnownCost}
+use Rattle.fp_prices.specs.declared.classes.class_prices.ClassPricing.{ClassPricing}
+use Rattle.fp_prices.specs.declared.classes.class_prices.Rule.{Rule}
+use Rattle.fp_prices.specs.declared.classes.class_prices.Rule.TheVariants.{BySize, InParts, ByShares}
+use Rattle.fp_prices.specs.declared.values.known_costs.KnownCost.{KnownCost}
 use Rattle.fp_prices.specs.declared.leaf_prices.Kind.{Kind}
 use Rattle.fp_prices.specs.declared.leaf_prices.Kind.TheVariants.{Linear, Even, Table}
 use Rattle.fp_prices.specs.ClassCosts.{AllowsClasses, IsLeastOver}

@@ -6,7 +6,7 @@ use Rattle.std.proofs.Math.Nat.{mul-le-mul_left}
 use Rattle.std.proofs.lemmas.List.Elements.{All-from_get_or}
 use Rattle.fp_model.specs.declared.parts.Leg.{Leg}
 use Rattle.fp_model.specs.Costs.{all_legs, departures_cost}
-use Rattle.fp_lists.specs.Numbered.{AllZipFrom}
+use Rattle.fp_base_lists.specs.Numbered.{AllZipFrom}
 use Rattle.fp_model.specs.Numbered.{shipment_at}
 use Rattle.fp_model.specs.Problem.{Problem, alone_total}
 use Rattle.fp_flatnet.specs.declared.window_tables.Window.{Window}
@@ -15,11 +15,11 @@ use Rattle.fp_longestarcs.specs.Networks.{TimedNetwork, class_count, points_in}
 use Rattle.fp_tree.specs.declared.sides.Side.{Side}
 use Rattle.fp_allowed.specs.Settings.{Setting}
 use Rattle.fp_allowed.proofs.RowClasses.{allowed_in-IsClass}
-use Rattle.fp_prices.specs.declared.bases.ForcedClasses.{ForcedClasses}
-use Rattle.fp_prices.specs.declared.bounds.LeafBound.{LeafBound}
-use Rattle.fp_prices.specs.declared.bounds.LeafBound.TheVariants.{Empty, Value}
-use Rattle.fp_prices.specs.declared.class_prices.ClassPricing.{ClassPricing}
-use Rattle.fp_prices.specs.declared.known_costs.KnownCost.{KnownCost}
+use Rattle.fp_prices.specs.declared.classes.bases.ForcedClasses.{ForcedClasses}
+use Rattle.fp_prices.specs.declared.values.bounds.LeafBound.{LeafBound}
+use Rattle.fp_prices.specs.declared.values.bounds.LeafBound.TheVariants.{Empty, Value}
+use Rattle.fp_prices.specs.declared.classes.class_prices.ClassPricing.{ClassPricing}
+use Rattle.fp_prices.specs.declared.values.known_costs.KnownCost.{KnownCost}
 use Rattle.fp_prices.specs.ClassCosts.{AllowsClasses}
 use Rattle.fp_prices.specs.Forced.{AreForcedClasses, AreForcedOf, AreRowsUnder, row_cost}
 use Rattle.fp_prices.specs.Found.{IsFoundAtLeaf, IsFoundOver, IsPricedLeaf}

@@ -8,7 +8,7 @@ use Rattle.fp_model.specs.Problem.{Problem}
 use Rattle.fp_longestarcs.specs.Networks.{TimedNetwork, class_count}
 use Rattle.fp_allowed.specs.Bits.{IsRowUnder, bit_of}
 use Rattle.fp_allowed.specs.Listing.{class_at}
-use Rattle.fp_prices.specs.declared.class_prices.ClassPricing.{ClassPricing}
+use Rattle.fp_prices.specs.declared.classes.class_prices.ClassPricing.{ClassPricing}
 use Rattle.fp_prices.specs.ClassCosts.{HoldsClassCosts}
 use Rattle.fp_prices.specs.LeafPricings.{AreChainsOf, AreCostsOf, IsForcedLoadOf, IsLeafPricing, IsPriceOf, PricingModel, allowed_at, prices_at}
 use Rattle.fp_prices.specs.Leaves.{leaf_price}

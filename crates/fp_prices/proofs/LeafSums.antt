@@ -7,13 +7,13 @@ use Rattle.std.proofs.lemmas.List.Sums.{sum_by-cons, sum_by-le-sum_by}
 use Rattle.fp_model.specs.declared.parts.Arc.{Arc}
 use Rattle.fp_model.specs.declared.parts.Leg.{Leg}
 use Rattle.fp_model.specs.declared.parts.Shipment.{Shipment}
-use Rattle.fp_lists.specs.Numbered.{AllZipFrom}
+use Rattle.fp_base_lists.specs.Numbered.{AllZipFrom}
 use Rattle.fp_model.specs.Problem.{Problem, arc_at}
 use Rattle.fp_model.specs.Costs.{has_leg, distinct, all_legs, departures_cost, flow_cost, flow_total}
 use Rattle.fp_model.proofs.Bounds.{departure_of, load-outside}
-use Rattle.fp_lists.proofs.Ceilings.{div_ceil-zero}
+use Rattle.fp_base_lists.proofs.Ceilings.{div_ceil-zero}
 use Rattle.fp_model.proofs.Distinct.{distinct_sum, distinct_sum-le}
-use Rattle.fp_lists.proofs.Sums.{sum_by-scaled, sum_by-same, sum_by-both}
+use Rattle.fp_base_lists.proofs.Sums.{sum_by-scaled, sum_by-same, sum_by-both}
 use Rattle.fp_allowed.specs.Walks.{IsTimedWalk}
 use Rattle.fp_prices.specs.declared.leaf_prices.Kind.{Kind}
 use Rattle.fp_prices.specs.Shares.{ClassShare}

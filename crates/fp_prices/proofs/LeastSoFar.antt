@@ -7,13 +7,13 @@ use Rattle.std.proofs.lemmas.List.Sums.{sum_by-append, sum_by-cons, sum_by_more_
 use Rattle.fp_model.specs.declared.parts.Leg.{Leg}
 use Rattle.fp_model.specs.declared.parts.Shipment.{Shipment}
 use Rattle.fp_model.specs.Numbered.{no_shipment, shipment_at}
-use Rattle.fp_lists.specs.Numbered.{AllZipFrom}
+use Rattle.fp_base_lists.specs.Numbered.{AllZipFrom}
 use Rattle.fp_model.specs.Problem.{IsValid, Problem, alone_cost, alone_total}
-use Rattle.fp_lists.proofs.Numbered.{AllZipFrom-get_or, AllZipFrom-push}
+use Rattle.fp_base_lists.proofs.Numbered.{AllZipFrom-get_or, AllZipFrom-push}
 use Rattle.fp_longestarcs.specs.Networks.{points_in}
 use Rattle.fp_allowed.specs.Walks.{IsTimedWalk}
-use Rattle.fp_prices.specs.declared.bounds.LeafBound.TheVariants.{Empty, Value}
-use Rattle.fp_prices.specs.declared.class_prices.ClassPricing.{ClassPricing}
+use Rattle.fp_prices.specs.declared.values.bounds.LeafBound.TheVariants.{Empty, Value}
+use Rattle.fp_prices.specs.declared.classes.class_prices.ClassPricing.{ClassPricing}
 use Rattle.fp_prices.specs.declared.leaf_prices.Kind.{Kind}
 use Rattle.fp_prices.specs.ClassCosts.{AllowsClasses, IsLeastOver}
 use Rattle.fp_prices.specs.Found.{IsFoundOver, IsPricedLeaf, IsPricedRow, IsSmallCost, leaf_prices}

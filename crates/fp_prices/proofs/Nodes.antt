@@ -3,9 +3,9 @@ use Rattle.std.proofs.Common.{◌≡◌, ℕ, zero, suc, ◌+◌, ◌-◌, ◌<�
 use Rattle.std.proofs.lemmas.Bool.{cases_order}
 use Rattle.std.proofs.lemmas.List.Sums.{sum_by_more, sum_by-take-le}
 use Rattle.fp_longestarcs.specs.Ascending.{ArePoints}
-use Rattle.fp_lists.specs.Ascending.{place_in}
+use Rattle.fp_base_lists.specs.Ascending.{place_in}
 use Rattle.fp_longestarcs.specs.Networks.{TimedNetwork, point_count, points_in}
-use Rattle.fp_lists.proofs.Places.{get_or-place_in, place_in-unique}
+use Rattle.fp_base_lists.proofs.Places.{get_or-place_in, place_in-unique}
 use Rattle.fp_prices.specs.Points.{first_node}
 
 -- a terminal has as many nodes as it has points

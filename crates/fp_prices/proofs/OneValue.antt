@@ -5,17 +5,17 @@ use Rattle.std.proofs.lemmas.Bool.{cases_order}
 use Rattle.fp_model.specs.declared.parts.Leg.{Leg}
 use Rattle.fp_model.specs.declared.parts.Shipment.{Shipment}
 use Rattle.fp_model.specs.Numbered.{no_shipment, shipment_at}
-use Rattle.fp_lists.specs.Numbered.{AllZipFrom}
+use Rattle.fp_base_lists.specs.Numbered.{AllZipFrom}
 use Rattle.fp_model.specs.Problem.{Problem, arc_at}
 use Rattle.fp_model.specs.Costs.{all_legs, departures_cost}
-use Rattle.fp_lists.proofs.Numbered.{AllZipFrom-get_or}
+use Rattle.fp_base_lists.proofs.Numbered.{AllZipFrom-get_or}
 use Rattle.fp_flatnet.specs.declared.window_tables.Window.{Window}
 use Rattle.fp_tree.specs.declared.sides.Side.{Side}
 use Rattle.fp_allowed.specs.Allowed.{AreForced, is_allowed}
 use Rattle.fp_allowed.specs.Walks.{IsTimedWalk}
 use Rattle.fp_prices.specs.declared.leaf_prices.Kind.{Kind}
-use Rattle.fp_prices.specs.declared.bounds.LeafBound.{LeafBound}
-use Rattle.fp_prices.specs.declared.bounds.LeafBound.TheVariants.{Empty, Value}
+use Rattle.fp_prices.specs.declared.values.bounds.LeafBound.{LeafBound}
+use Rattle.fp_prices.specs.declared.values.bounds.LeafBound.TheVariants.{Empty, Value}
 use Rattle.fp_prices.specs.Shares.{ClassShare}
 use Rattle.fp_prices.specs.Leaves.{IsBoundOf, IsChain, IsLeafEmpty, IsLeafValue, IsLeastCost, LeavesHaveOneValue, leaf_price}
 

@@ -18,8 +18,8 @@ use Rattle.fp_tree.specs.declared.sides.Side.{Side}
 use Rattle.fp_allowed.specs.Allowed.{is_allowed}
 use Rattle.fp_allowed.proofs.PlanClasses.{plan_timed, route_timed}
 use Rattle.fp_prices.specs.declared.leaf_prices.Kind.{Kind}
-use Rattle.fp_prices.specs.declared.bounds.LeafBound.{LeafBound}
-use Rattle.fp_prices.specs.declared.bounds.LeafBound.TheVariants.{Empty, Value}
+use Rattle.fp_prices.specs.declared.values.bounds.LeafBound.{LeafBound}
+use Rattle.fp_prices.specs.declared.values.bounds.LeafBound.TheVariants.{Empty, Value}
 use Rattle.fp_prices.specs.Shares.{ClassShare}
 use Rattle.fp_prices.specs.Prices.{AllKeepRule}
 use Rattle.fp_prices.specs.Leaves.{BoundsPlans, IsBoundOf, IsLeafEmpty, IsLeafValue, IsPlanOfLeaf, LeavesBoundPlans, leaf_price}
@@ -43,10 +43,12 @@ agrees-on size i (s ∷ shipments) h =
           subst (λ (n : ℕ). size n ≡ (slice_index_or shipments k no_shipment).size) on (h (suc k))),
     )
 
-sizes-agree : (p : Problem) → AgreesFrom (size_at p) 0 p.shipments
+-- the sizes of the shipments are those at their numbers
+pub sizes-agree : (p : Problem) → AgreesFrom (size_at p) 0 p.shipments
 sizes-agree p = agrees-on (size_at p) 0 p.shipments (λ k. ap (size_at p) (let e : 0 + k ≡ k = omega arith in e))
 
-sizes-some : (n : ℕ) (shipments : List Shipment) → All (IsShipment n) shipments → AllByRecursion (λ (s : Shipment). 1 ≤ s.size) shipments
+-- and each is at least 1
+pub sizes-some : (n : ℕ) (shipments : List Shipment) → All (IsShipment n) shipments → AllByRecursion (λ (s : Shipment). 1 ≤ s.size) shipments
 sizes-some n [] all = tt
 sizes-some n (s ∷ shipments) all = ((All-head (IsShipment n) s shipments all).within.size.0, sizes-some n shipments (All-tail (IsShipment n) s shipments all))
 

@@ -2,20 +2,20 @@
 use Rattle.std.proofs.Common.{◌≡◌, ◌≢◌, ℕ, ◌+◌, List, [], ◌∷◌, map, refl, sym, subst, arith}
 use Rattle.std.specs.Prelude.{Option, slice_index_or}
 use Rattle.std.specs.List.{AllByRecursion, AllZip}
-use Rattle.fp_lists.proofs.Distinct.{AreDistinct-head, AreDistinct-tail}
+use Rattle.fp_base_lists.proofs.Distinct.{AreDistinct-head, AreDistinct-tail}
 use Rattle.fp_model.specs.declared.parts.Leg.{Leg}
 use Rattle.fp_model.specs.declared.parts.Shipment.{Shipment}
 use Rattle.fp_model.specs.Plans.{IsPlan}
 use Rattle.fp_model.specs.Problem.{Problem, arc_at}
 use Rattle.fp_model.specs.Routes.{Carries, Leads, arcs_of, ends_of}
-use Rattle.fp_lists.specs.Distinct.{AreDistinct}
-use Rattle.fp_lists.proofs.Elements.{AllByRecursion-from_map, AllByRecursion-get_or_default, AnyByRecursion-weaker}
-use Rattle.fp_lists.proofs.Maps.{get_or-map_default}
-use Rattle.fp_lists.proofs.Numbered.{AllFrom-from_get_or}
+use Rattle.fp_base_lists.specs.Distinct.{AreDistinct}
+use Rattle.fp_base_lists.proofs.Elements.{AllByRecursion-from_map, AllByRecursion-get_or_default, AnyByRecursion-weaker}
+use Rattle.fp_base_lists.proofs.Maps.{get_or-map_default}
+use Rattle.fp_base_lists.proofs.Numbered.{AllFrom-from_get_or}
 use Rattle.fp_tree.specs.declared.sides.Side.{Side}
 use Rattle.fp_tree.specs.Sides.{Exit, Fork, MeetsAll, Obeys}
 use Rattle.fp_tree.specs.Trees.{HaveTails, IsTree, Leaf, LeaveApart, tree_leaves}
-use Rattle.fp_lists.specs.Elements.{AnyByRecursion}
+use Rattle.fp_base_lists.specs.Elements.{AnyByRecursion}
 use Rattle.fp_tree.proofs.Cover.{CoversAll-tree_leaves}
 use Rattle.fp_allowed.specs.Allowed.{PlanObeys, exit_of, tails_of}
 

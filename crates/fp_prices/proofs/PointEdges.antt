@@ -9,14 +9,14 @@ use Rattle.fp_model.specs.declared.parts.Leg.{Leg}
 use Rattle.fp_model.specs.Problem.{Problem, arc_at, IsValid}
 use Rattle.fp_timenodes.proofs.Floors.{IsFloorPoint-floor_point}
 use Rattle.fp_longestarcs.specs.Ascending.{ArePoints}
-use Rattle.fp_lists.specs.Ascending.{place_in}
+use Rattle.fp_base_lists.specs.Ascending.{place_in}
 use Rattle.fp_longestarcs.specs.Classes.{head_of}
 use Rattle.fp_longestarcs.specs.Networks.{TimedNetwork, IsArcOfClass, IsClass, IsNetwork, class_count, class_number, copy_count, first_class, point_count, points_in, tail_in}
 use Rattle.fp_longestarcs.specs.Whole.{IsWholeNetwork}
 use Rattle.fp_longestarcs.proofs.ClassNumbers.{class-place, few-classes, first-more, number-within}
 use Rattle.fp_longestarcs.proofs.NewPoints.{points-of}
 use Rattle.fp_longestarcs.proofs.HeadLists.{arc-count, tail-of}
-use Rattle.fp_lists.proofs.Places.{get_or-place_in}
+use Rattle.fp_base_lists.proofs.Places.{get_or-place_in}
 use Rattle.fp_longestarcs.proofs.ShortCopies.{head-within}
 use Rattle.fp_allowed.specs.Listing.{class_at}
 use Rattle.fp_allowed.proofs.ListedClasses.{class_at-number, class_by, class_by-number, IsClass-class_by}

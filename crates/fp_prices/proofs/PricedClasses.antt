@@ -15,9 +15,9 @@ use Rattle.fp_longestarcs.specs.Whole.{IsWholeNetwork}
 use Rattle.fp_longestarcs.proofs.HeadLists.{arc-count}
 use Rattle.fp_allowed.specs.Bits.{bit_of}
 use Rattle.fp_allowed.specs.Listing.{class_at}
-use Rattle.fp_prices.specs.declared.class_prices.ClassPricing.{ClassPricing}
-use Rattle.fp_prices.specs.declared.class_prices.Rule.TheVariants.{InParts, ByShares}
-use Rattle.fp_prices.specs.declared.class_users.Users.{Users}
+use Rattle.fp_prices.specs.declared.classes.class_prices.ClassPricing.{ClassPricing}
+use Rattle.fp_prices.specs.declared.classes.class_prices.Rule.TheVariants.{InParts, ByShares}
+use Rattle.fp_prices.specs.declared.classes.class_users.Users.{Users}
 use Rattle.fp_prices.specs.declared.leaf_prices.Kind.{Kind}
 use Rattle.fp_prices.specs.declared.leaf_prices.Kind.TheVariants.{Linear, Even, Table}
 use Rattle.fp_prices.specs.declared.tables.Share.{Share}

@@ -1,12 +1,12 @@
 -- A leaf is the same over other lists of the same points.
 use Rattle.std.proofs.Common.{ℕ, Bool, List, subst}
 use Rattle.std.specs.Prelude.{Option, IfOk, Result, Ok, Err}
-use Rattle.fp_lists.proofs.Numbered.{AllZipFrom-weaker}
+use Rattle.fp_base_lists.proofs.Numbered.{AllZipFrom-weaker}
 use Rattle.std.specs.declared.alloc.AllocError.{AllocError}
 use Rattle.fp_model.specs.declared.parts.Leg.{Leg}
 use Rattle.fp_model.specs.declared.parts.Shipment.{Shipment}
 use Rattle.fp_model.specs.Numbered.{shipment_at}
-use Rattle.fp_lists.specs.Numbered.{AllZipFrom}
+use Rattle.fp_base_lists.specs.Numbered.{AllZipFrom}
 use Rattle.fp_model.specs.Problem.{IsValid, Problem}
 use Rattle.fp_flatnet.specs.declared.window_tables.Window.{Window}
 use Rattle.fp_timenodes.specs.Points.{TimePoints, points_at}
@@ -16,8 +16,8 @@ use Rattle.fp_tree.specs.declared.sides.Side.{Side}
 use Rattle.fp_allowed.specs.Allowed.{is_allowed}
 use Rattle.fp_allowed.specs.SamePoints.{AgreeOnPoints}
 use Rattle.fp_allowed.proofs.SamePoints.{AgreeOnPoints_sym, IsTimedWalk_same, allowed_walk_same, is_allowed_same}
-use Rattle.fp_prices.specs.declared.bounds.LeafBound.{LeafBound}
-use Rattle.fp_prices.specs.declared.bounds.LeafBound.TheVariants.{Empty, Value}
+use Rattle.fp_prices.specs.declared.values.bounds.LeafBound.{LeafBound}
+use Rattle.fp_prices.specs.declared.values.bounds.LeafBound.TheVariants.{Empty, Value}
 use Rattle.fp_prices.specs.declared.leaf_prices.Kind.{Kind}
 use Rattle.fp_prices.specs.Leaves.{HasNoWalk, IsBoundOf, IsChain, IsLeastCost, leaf_price}
 use Rattle.fp_prices.specs.Shares.{ClassShare}

@@ -5,12 +5,12 @@ use Rattle.std.specs.Int.{div_ceil}
 use Rattle.std.proofs.Math.Nat.{mul-le-mul_left, mul-le-mul_right, div-mul-le_self}
 use Rattle.std.proofs.lemmas.Bool.{cases_Bool, cond-true, cond-false}
 use Rattle.std.proofs.lemmas.List.Sums.{sum_by-cons, sum_by-le-sum_by}
-use Rattle.fp_lists.proofs.DistinctSums.{sum_by-one-le}
+use Rattle.fp_base_lists.proofs.DistinctSums.{sum_by-one-le}
 use Rattle.fp_model.specs.declared.parts.Arc.{Arc}
 use Rattle.fp_model.specs.Problem.{truck_cost}
-use Rattle.fp_lists.specs.Distinct.{AreDistinct}
-use Rattle.fp_lists.proofs.Ceilings.{div_ceil-holds, div_ceil-some}
-use Rattle.fp_lists.proofs.Sums.{sum_by-same, sum_by-both, sum_by-scaled_right, sum_by-const}
+use Rattle.fp_base_lists.specs.Distinct.{AreDistinct}
+use Rattle.fp_base_lists.proofs.Ceilings.{div_ceil-holds, div_ceil-some}
+use Rattle.fp_base_lists.proofs.Sums.{sum_by-same, sum_by-both, sum_by-scaled_right, sum_by-const}
 use Rattle.fp_prices.specs.declared.tables.Weight.{Weight}
 use Rattle.fp_prices.specs.Shares.{ClassShare}
 use Rattle.fp_prices.specs.Prices.{weight_in, KeepsRule, linear_price, even_price, share_price}

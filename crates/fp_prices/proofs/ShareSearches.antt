@@ -8,7 +8,7 @@ use Rattle.fp_prices.specs.declared.tables.Weight.{Weight}
 use Rattle.fp_prices.specs.Prices.{share_for, weight_in}
 use Rattle.fp_prices.specs.Searches.{is_share, precedes}
 use Rattle.fp_prices.specs.Shares.{ClassShare}
-use Rattle.fp_lists.specs.Order.{Precedes}
+use Rattle.fp_base_lists.specs.Order.{Precedes}
 
 -- a share that precedes a class isn't the class's
 before-other : (c : Leg) (share : ClassShare) → precedes c share ≡ true → is_share c share ≡ false

@@ -15,14 +15,14 @@ use Rattle.fp_tree.specs.declared.sides.Side.{Side}
 use Rattle.fp_allowed.specs.Bits.{IsRowUnder, bit_of}
 use Rattle.fp_allowed.specs.Listing.{class_at}
 use Rattle.fp_allowed.specs.Settings.{Setting}
-use Rattle.fp_prices.specs.declared.class_prices.ClassPricing.{ClassPricing}
+use Rattle.fp_prices.specs.declared.classes.class_prices.ClassPricing.{ClassPricing}
 use Rattle.fp_prices.specs.declared.leaf_prices.Kind.{Kind}
 use Rattle.fp_prices.specs.ClassCosts.{AllowsClasses, HoldsClassCosts, IsFree, IsLeastOver}
 use Rattle.fp_prices.specs.Forced.{AreRowsUnder}
 use Rattle.fp_prices.specs.Found.{IsPricedRow, IsSmallCost, leaf_prices}
 use Rattle.fp_prices.specs.Pricings.{IsPricedClass, IsPricing, RowAllows}
 use Rattle.fp_prices.specs.Shares.{ClassShare}
-use Rattle.fp_prices.specs.declared.point_graphs.PointGraph.{PointGraph}
+use Rattle.fp_prices.specs.declared.graphs.point_graphs.PointGraph.{PointGraph}
 use Rattle.fp_prices.specs.PointGraphs.{IsPointGraph}
 use Rattle.fp_prices.proofs.CostBounds.{all-at-most, all-small}
 use Rattle.fp_prices.proofs.NumberedClasses.{number-class}

@@ -6,21 +6,21 @@ use Rattle.std.proofs.Math.Nat.{mul-le-mul_left}
 use Rattle.std.proofs.lemmas.List.Sums.{sum_by-cons, sum_by-le-sum_by}
 use Rattle.fp_model.specs.declared.parts.Leg.{Leg}
 use Rattle.fp_model.specs.declared.parts.Shipment.{Shipment}
-use Rattle.fp_lists.specs.Numbered.{AllZipFrom}
+use Rattle.fp_base_lists.specs.Numbered.{AllZipFrom}
 use Rattle.fp_model.specs.Problem.{Problem, IsValid, alone_cost, alone_total, arc_at, no_arc}
 use Rattle.fp_model.specs.Routes.{arcs_of}
-use Rattle.fp_lists.specs.Distinct.{AreDistinct}
+use Rattle.fp_base_lists.specs.Distinct.{AreDistinct}
 use Rattle.fp_model.specs.Costs.{all_legs, departures_cost}
 use Rattle.fp_model.proofs.Bounds.{alone_routes, alone_trucks, departures-le-alone}
-use Rattle.fp_lists.proofs.Distinct.{AreDistinct-from_map, AreDistinct-cons, AreDistinct-nil}
-use Rattle.fp_lists.proofs.DistinctSums.{sum_by-places-le}
-use Rattle.fp_lists.proofs.Sums.{sum_by-map}
+use Rattle.fp_base_lists.proofs.Distinct.{AreDistinct-from_map, AreDistinct-cons, AreDistinct-nil}
+use Rattle.fp_base_lists.proofs.DistinctSums.{sum_by-places-le}
+use Rattle.fp_base_lists.proofs.Sums.{sum_by-map}
 use Rattle.fp_flatnet.specs.declared.window_tables.Window.{Window}
 use Rattle.fp_tree.specs.declared.sides.Side.{Side}
 use Rattle.fp_allowed.specs.Allowed.{AreForced, is_allowed, tails_of}
 use Rattle.fp_allowed.proofs.AllowedClasses.{is_allowed_parts}
 use Rattle.fp_prices.specs.declared.leaf_prices.Kind.{Kind}
-use Rattle.fp_prices.specs.declared.bounds.LeafBound.TheVariants.{Value}
+use Rattle.fp_prices.specs.declared.values.bounds.LeafBound.TheVariants.{Value}
 use Rattle.fp_prices.specs.Shares.{ClassShare}
 use Rattle.fp_prices.specs.Leaves.{IsChain, IsLeafValue, IsSmallBound}
 

@@ -5,8 +5,8 @@ use Rattle.std.specs.Prelude.{Option, if◌then◌else◌}
 use Rattle.std.specs.List.{AllByRecursion}
 use Rattle.std.proofs.lemmas.List.{get_or_append_left, length-append}
 use Rattle.std.proofs.lemmas.List.Elements.{All-append}
-use Rattle.fp_lists.specs.Numbered.{AllZipFrom}
-use Rattle.fp_lists.proofs.Elements.{AllByRecursion-append}
+use Rattle.fp_base_lists.specs.Numbered.{AllZipFrom}
+use Rattle.fp_base_lists.proofs.Elements.{AllByRecursion-append}
 use Rattle.fp_model.specs.declared.parts.Leg.{Leg}
 use Rattle.fp_model.specs.declared.parts.Shipment.{Shipment}
 use Rattle.fp_model.specs.Costs.{all_legs, has_leg}

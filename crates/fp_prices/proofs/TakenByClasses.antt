@@ -7,7 +7,7 @@ use Rattle.std.proofs.lemmas.List.Sums.{sum_by-cons}
 use Rattle.fp_model.specs.declared.parts.Leg.{Leg}
 use Rattle.fp_model.specs.Costs.{same_leg, has_leg, distinct, all_legs}
 use Rattle.fp_model.proofs.Distinct.{distinct_sum, distinct_sum_new, distinct_sum_same, distinct_sum-le}
-use Rattle.fp_lists.proofs.Sums.{sum_by-same, sum_by-both}
+use Rattle.fp_base_lists.proofs.Sums.{sum_by-same, sum_by-both}
 
 -- the shipments, numbered from i, whose walks have the class
 abbrev pub users : ℕ → List (List Leg) → Leg → List ℕ

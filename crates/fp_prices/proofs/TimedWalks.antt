@@ -6,7 +6,7 @@ use Rattle.std.specs.Option.{option_and_then}
 use Rattle.std.proofs.lemmas.Bool.{and_from, and_parts, cases_Bool, cond-true, cond-false, eq-eqb, eqb-true, false≢true, le-leb, leb-true, lt-ltb, ltb-true}
 use Rattle.std.proofs.lemmas.List.Sums.{sum_by-cons}
 use Rattle.std.proofs.lemmas.Option.{cond_some, none-some}
-use Rattle.fp_lists.specs.Membership.{list_has}
+use Rattle.fp_base_lists.specs.Membership.{list_has}
 use Rattle.fp_labels.specs.Walks.{cost_of}
 use Rattle.fp_model.specs.declared.parts.Leg.{Leg}
 use Rattle.fp_model.specs.declared.parts.Shipment.{Shipment}
@@ -16,12 +16,13 @@ use Rattle.fp_longestarcs.specs.Classes.{head_of}
 use Rattle.fp_longestarcs.specs.Networks.{IsClass, TimedNetwork, class_number, points_in, tail_in}
 use Rattle.fp_longestarcs.specs.Whole.{IsWholeNetwork}
 use Rattle.fp_allowed.specs.Walks.{IsTimedWalk}
-use Rattle.fp_prices.specs.declared.timed_walks.Progress.{Progress}
+use Rattle.fp_prices.specs.declared.graphs.timed_walks.Progress.{Progress}
 use Rattle.fp_prices.specs.ClassCosts.{AllowsClasses, HoldsClassCosts}
 use Rattle.fp_prices.specs.Leaves.{walk_cost}
 use Rattle.fp_prices.specs.TimedWalks.{after_class, can_take, open_cost, taken}
 use Rattle.fp_prices.proofs.GraphTimed.{IsTimedFrom}
 use Rattle.fp_prices.proofs.PricedClasses.{class-exists}
+use Rattle.fp_base_lists.proofs.Truth.{option-cases}
 
 -- what is told of how far it comes, and false where it comes no further
 abbrev goes_by : (Progress → Bool) → Option Progress → Bool
@@ -36,10 +37,6 @@ goes_on p net costs there (c ∷ walk) progress = goes_by (goes_on p net costs t
 -- a shipment at its origin, with a cost
 abbrev pub at_origin : Shipment → ℕ → Progress
 at_origin s cost = record { terminal = s.from; ready = 0; rest = cost }
-
-option-cases : {X : Type 0} (o : Option X) → (o ≡ None) ⊎ ((x : X) × (o ≡ Some x))
-option-cases None = inl refl
-option-cases (Some x) = inr (x, refl)
 
 module _ (p : Problem) (net : TimedNetwork) (costs : List (Option ℕ)) (there : ℕ) where
   pub goes-none : (c : Leg) (walk : List Leg) (progress : Progress) → after_class p net costs progress c ≡ None → goes_on p net costs there (c ∷ walk) progress ≡ false

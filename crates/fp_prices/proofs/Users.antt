@@ -5,13 +5,13 @@ use Rattle.std.specs.List.{AllByRecursion}
 use Rattle.std.proofs.lemmas.Bool.{cases_Bool, cond-true, cond-false, or_parts, or_cases, false≢true}
 use Rattle.std.proofs.lemmas.List.Folds.{list_any-append}
 use Rattle.std.proofs.lemmas.List.Sums.{sum_by-cons}
-use Rattle.fp_lists.proofs.Distinct.{AreDistinct-cons, AreDistinct-nil}
+use Rattle.fp_base_lists.proofs.Distinct.{AreDistinct-cons, AreDistinct-nil}
 use Rattle.fp_model.specs.declared.parts.Leg.{Leg}
 use Rattle.fp_model.specs.declared.parts.Shipment.{Shipment}
-use Rattle.fp_lists.specs.Numbered.{AllFrom}
-use Rattle.fp_lists.specs.Distinct.{AreDistinct}
+use Rattle.fp_base_lists.specs.Numbered.{AllFrom}
+use Rattle.fp_base_lists.specs.Distinct.{AreDistinct}
 use Rattle.fp_model.specs.Costs.{same_leg, has_leg, all_legs, load}
-use Rattle.fp_lists.proofs.Elements.{AllByRecursion-weaker}
+use Rattle.fp_base_lists.proofs.Elements.{AllByRecursion-weaker}
 use Rattle.fp_prices.specs.Prices.{allowed_count}
 use Rattle.fp_prices.proofs.TakenByClasses.{users}
 

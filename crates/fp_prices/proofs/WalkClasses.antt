@@ -6,15 +6,15 @@ use Rattle.std.proofs.lemmas.Bool.{and_left, or_from, or_cases, ne_eqb, false≢
 use Rattle.std.proofs.lemmas.List.Folds.{list_any-append}
 use Rattle.fp_model.specs.declared.parts.Leg.{Leg}
 use Rattle.fp_model.specs.declared.parts.Shipment.{Shipment}
-use Rattle.fp_lists.specs.Numbered.{AllZipFrom, AllFrom}
+use Rattle.fp_base_lists.specs.Numbered.{AllZipFrom, AllFrom}
 use Rattle.fp_model.specs.Problem.{Problem, arc_at}
 use Rattle.fp_model.specs.Routes.{Carries, arcs_of, ends_of}
-use Rattle.fp_lists.specs.Distinct.{AreDistinct}
+use Rattle.fp_base_lists.specs.Distinct.{AreDistinct}
 use Rattle.fp_model.specs.Costs.{same_leg, has_leg, all_legs}
 use Rattle.fp_model.proofs.Bounds.{Leads-exist}
-use Rattle.fp_lists.proofs.Distinct.{AreDistinct-from_map, AreDistinct-head, AreDistinct-tail}
+use Rattle.fp_base_lists.proofs.Distinct.{AreDistinct-from_map, AreDistinct-head, AreDistinct-tail}
 use Rattle.fp_model.proofs.Distinct.{same_leg-true}
-use Rattle.fp_lists.proofs.Elements.{AllByRecursion-from_map}
+use Rattle.fp_base_lists.proofs.Elements.{AllByRecursion-from_map}
 use Rattle.fp_longestarcs.specs.Classes.{class_of}
 use Rattle.fp_allowed.specs.Walks.{IsTimedWalk}
 use Rattle.fp_allowed.proofs.PlanClasses.{arcs_of-classes}

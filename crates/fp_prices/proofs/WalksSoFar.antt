@@ -8,7 +8,7 @@ use Rattle.fp_model.specs.declared.parts.Shipment.{Shipment}
 use Rattle.fp_model.specs.Numbered.{no_shipment, shipment_at}
 use Rattle.fp_model.specs.Problem.{Problem}
 use Rattle.fp_longestarcs.specs.Networks.{points_in}
-use Rattle.fp_prices.specs.declared.class_prices.ClassPricing.{ClassPricing}
+use Rattle.fp_prices.specs.declared.classes.class_prices.ClassPricing.{ClassPricing}
 use Rattle.fp_prices.specs.declared.leaf_prices.Kind.{Kind}
 use Rattle.fp_prices.specs.ClassCosts.{AllowsClasses, HoldsClassCosts}
 use Rattle.fp_prices.specs.Found.{leaf_prices}
@@ -17,7 +17,7 @@ use Rattle.fp_prices.specs.LeastWalks.{IsLeastWalk, IsLeastWalkOver}
 use Rattle.fp_prices.specs.Leaves.{leaf_price}
 use Rattle.fp_prices.specs.Pricings.{HoldsLeafCosts}
 use Rattle.fp_prices.specs.Shares.{ClassShare}
-use Rattle.fp_lists.proofs.Numbered.{AllZipFrom-push}
+use Rattle.fp_base_lists.proofs.Numbered.{AllZipFrom-push}
 use Rattle.fp_prices.proofs.LeastSoFar.{IsLeafOf, row-allows}
 
 -- a walk that is least under all costs that are held is one at each leaf

@@ -2,7 +2,7 @@
 -- part of a full truck. The relaxation by parts of trucks is that of the service network design literature: T. G. Crainic, "Service
 -- network design in freight transportation", European Journal of Operational Research 122, 2000.
 use Rattle.std.specs.Prelude.{ℕ, ◌+◌, ◌*◌, ◌≤◌, ◌≡◌, List, sum_by}
-use Rattle.fp_lists.specs.Numbered.{AllZipFrom}
+use Rattle.fp_base_lists.specs.Numbered.{AllZipFrom}
 use Rattle.fp_model.specs.declared.parts.Shipment.{Shipment}
 use Rattle.fp_model.specs.Problem.{Problem, arc_at}
 use Rattle.fp_model.specs.Routes.{Leads}

@@ -2,17 +2,17 @@
 use Rattle.std.specs.Prelude.{ℕ, ◌*◌, ◌≡◌, ◌<◌, List, length, Bool, slice_index, if◌then◌else◌}
 use Rattle.std.specs.Int.{div_ceil}
 use Rattle.std.specs.List.{AllByRecursion}
-use Rattle.fp_lists.specs.Below.{sum_below}
+use Rattle.fp_base_lists.specs.Below.{sum_below}
 use Rattle.fp_model.specs.declared.parts.Leg.{Leg}
 use Rattle.fp_model.specs.Costs.{all_legs, has_leg, load}
-use Rattle.fp_lists.specs.Numbered.{AllZipFrom}
+use Rattle.fp_base_lists.specs.Numbered.{AllZipFrom}
 use Rattle.fp_model.specs.Problem.{Problem, arc_at}
 use Rattle.fp_longestarcs.specs.Networks.{TimedNetwork, IsClass, class_count, class_number}
 use Rattle.fp_tree.specs.declared.sides.Side.{Side}
 use Rattle.fp_allowed.specs.Bits.{IsRowUnder, allowed_in, bit_of}
 use Rattle.fp_allowed.specs.Listing.{class_at}
 use Rattle.fp_allowed.specs.Settings.{Setting}
-use Rattle.fp_prices.specs.declared.bases.ForcedClasses.{ForcedClasses}
+use Rattle.fp_prices.specs.declared.classes.bases.ForcedClasses.{ForcedClasses}
 use Rattle.fp_prices.specs.Leaves.{IsChain}
 use Rattle.fp_prices.specs.Rows.{row_at}
 

@@ -3,13 +3,13 @@ use Rattle.std.specs.Prelude.{ℕ, ◌+◌, ◌*◌, ◌≡◌, ◌<◌, ◌≤�
 use Rattle.fp_model.specs.declared.parts.Leg.{Leg}
 use Rattle.fp_model.specs.declared.parts.Shipment.{Shipment}
 use Rattle.fp_model.specs.Numbered.{shipment_at}
-use Rattle.fp_lists.specs.Numbered.{AllZipFrom}
+use Rattle.fp_base_lists.specs.Numbered.{AllZipFrom}
 use Rattle.fp_model.specs.Problem.{Problem, alone_cost}
 use Rattle.fp_longestarcs.specs.Networks.{points_in}
 use Rattle.fp_allowed.specs.Walks.{IsTimedWalk}
-use Rattle.fp_prices.specs.declared.bounds.LeafBound.{LeafBound}
-use Rattle.fp_prices.specs.declared.bounds.LeafBound.TheVariants.{Empty, Value}
-use Rattle.fp_prices.specs.declared.class_prices.ClassPricing.{ClassPricing}
+use Rattle.fp_prices.specs.declared.values.bounds.LeafBound.{LeafBound}
+use Rattle.fp_prices.specs.declared.values.bounds.LeafBound.TheVariants.{Empty, Value}
+use Rattle.fp_prices.specs.declared.classes.class_prices.ClassPricing.{ClassPricing}
 use Rattle.fp_prices.specs.declared.leaf_prices.Kind.{Kind}
 use Rattle.fp_prices.specs.ClassCosts.{AllowsClasses, IsLeastOver}
 use Rattle.fp_prices.specs.Leaves.{IsLeastCost, leaf_price}

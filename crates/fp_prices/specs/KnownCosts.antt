@@ -2,10 +2,10 @@
 use Rattle.std.specs.Prelude.{ℕ, ◌≡◌, List, [], Bool, false, Some, length, map, slice_get}
 use Rattle.fp_model.specs.Problem.{Problem}
 use Rattle.fp_longestarcs.specs.Networks.{TimedNetwork, class_count}
-use Rattle.fp_prices.specs.declared.class_prices.ClassPricing.{ClassPricing}
-use Rattle.fp_prices.specs.declared.class_prices.Rule.{Rule}
-use Rattle.fp_prices.specs.declared.class_prices.Rule.TheVariants.{BySize, ByShares}
-use Rattle.fp_prices.specs.declared.known_costs.KnownCost.{KnownCost}
+use Rattle.fp_prices.specs.declared.classes.class_prices.ClassPricing.{ClassPricing}
+use Rattle.fp_prices.specs.declared.classes.class_prices.Rule.{Rule}
+use Rattle.fp_prices.specs.declared.classes.class_prices.Rule.TheVariants.{BySize, ByShares}
+use Rattle.fp_prices.specs.declared.values.known_costs.KnownCost.{KnownCost}
 use Rattle.fp_prices.specs.declared.leaf_prices.Kind.{Kind}
 use Rattle.fp_prices.specs.declared.leaf_prices.Kind.TheVariants.{Linear, Even, Table}
 use Rattle.fp_prices.specs.Found.{IsLeastAtLeaf, IsSmallCost}

@@ -1,12 +1,12 @@
 -- What the classes cost each shipment at a leaf under prices of a kind, as contracts see it.
 use Rattle.std.specs.Prelude.{ℕ, ◌≡◌, List, Bool, false, true, Option, MatchOption}
-use Rattle.fp_lists.specs.Numbered.{AllZipFrom}
+use Rattle.fp_base_lists.specs.Numbered.{AllZipFrom}
 use Rattle.fp_model.specs.declared.parts.Leg.{Leg}
 use Rattle.fp_model.specs.Costs.{all_legs, has_leg, load}
 use Rattle.fp_model.specs.Numbered.{shipment_at}
 use Rattle.fp_allowed.specs.Bits.{allowed_in}
 use Rattle.fp_allowed.specs.Settings.{IsSetting}
-use Rattle.fp_prices.specs.declared.class_prices.ClassPricing.{ClassPricing}
+use Rattle.fp_prices.specs.declared.classes.class_prices.ClassPricing.{ClassPricing}
 use Rattle.fp_prices.specs.declared.leaf_prices.Kind.{Kind}
 use Rattle.fp_prices.specs.ClassCosts.{HoldsClassCosts}
 use Rattle.fp_prices.specs.Forced.{AreForcedClasses}

@@ -2,8 +2,8 @@
 -- Timed nodes and arcs: Boland, Hewitt, Marshall and Savelsbergh, "The Continuous-Time Service Network Design Problem",
 -- Operations Research 65, 2017.
 use Rattle.std.specs.Prelude.{ℕ, ◌≡◌, ◌<◌, ◌≤◌, List, [], ◌∷◌, length, slice_get, Bool, ◌&&◌, nat_eq, nat_lt, Option, Some, MatchOption, if◌then◌else◌}
-use Rattle.fp_lists.specs.Distinct.{AreDistinct}
-use Rattle.fp_lists.specs.Numbered.{AllZipFrom}
+use Rattle.fp_base_lists.specs.Distinct.{AreDistinct}
+use Rattle.fp_base_lists.specs.Numbered.{AllZipFrom}
 use Rattle.fp_model.specs.declared.parts.Leg.{Leg}
 use Rattle.fp_model.specs.declared.parts.Shipment.{Shipment}
 use Rattle.fp_model.specs.Numbered.{shipment_at}

@@ -6,7 +6,7 @@ use Rattle.fp_model.specs.Problem.{Problem}
 use Rattle.fp_timenodes.specs.declared.places.TheConstants.{MOST_POINTS}
 use Rattle.fp_longestarcs.specs.Networks.{TimedNetwork, point_count}
 use Rattle.fp_longestarcs.specs.Whole.{IsWholeNetwork}
-use Rattle.fp_prices.specs.declared.point_graphs.PointGraph.{PointGraph}
+use Rattle.fp_prices.specs.declared.graphs.point_graphs.PointGraph.{PointGraph}
 use Rattle.fp_prices.specs.Points.{AreFirstNodes, edges_of, first_node, shape_of}
 
 -- the graph of the points of a whole network that has few points

@@ -7,7 +7,7 @@ use Rattle.fp_labels.specs.declared.graphs.Edge.{Edge}
 use Rattle.fp_labels.specs.Graphs.{Shape}
 use Rattle.fp_model.specs.declared.parts.Leg.{Leg}
 use Rattle.fp_model.specs.Problem.{Problem, arc_at}
-use Rattle.fp_lists.specs.Ascending.{place_in}
+use Rattle.fp_base_lists.specs.Ascending.{place_in}
 use Rattle.fp_longestarcs.specs.Classes.{head_of}
 use Rattle.fp_longestarcs.specs.Networks.{TimedNetwork, class_count, point_count, points_in}
 use Rattle.fp_allowed.specs.Listing.{class_at}

@@ -10,9 +10,9 @@ use Rattle.fp_allowed.specs.Bits.{bit_of}
 use Rattle.fp_allowed.specs.Listing.{class_at}
 use Rattle.fp_prices.specs.declared.leaf_prices.Kind.{Kind}
 use Rattle.fp_prices.specs.declared.leaf_prices.Kind.TheVariants.{Linear, Even, Table}
-use Rattle.fp_prices.specs.declared.class_prices.ClassPricing.{ClassPricing}
-use Rattle.fp_prices.specs.declared.class_prices.Rule.{Rule}
-use Rattle.fp_prices.specs.declared.class_prices.Rule.TheVariants.{BySize, InParts, ByShares}
+use Rattle.fp_prices.specs.declared.classes.class_prices.ClassPricing.{ClassPricing}
+use Rattle.fp_prices.specs.declared.classes.class_prices.Rule.{Rule}
+use Rattle.fp_prices.specs.declared.classes.class_prices.Rule.TheVariants.{BySize, InParts, ByShares}
 use Rattle.fp_prices.specs.ClassCosts.{HoldsClassCosts}
 use Rattle.fp_prices.specs.Leaves.{leaf_price}
 use Rattle.fp_prices.specs.Prices.{AllKeepRule, table_at, truck_price}

@@ -3,7 +3,7 @@ use Rattle.std.specs.Prelude.{◌≡◌, List, false}
 use Rattle.fp_model.specs.Problem.{Problem}
 use Rattle.fp_timenodes.specs.Points.{TimePoints}
 use Rattle.fp_longestarcs.specs.Whole.{IsNetworkOf}
-use Rattle.fp_prices.specs.declared.round_bounds.RoundBounds.{RoundBounds}
+use Rattle.fp_prices.specs.declared.values.round_bounds.RoundBounds.{RoundBounds}
 use Rattle.fp_prices.specs.KnownCosts.{AreKnownCosts}
 use Rattle.fp_prices.specs.Shares.{ClassShare}
 

@@ -4,7 +4,7 @@ use Rattle.fp_model.specs.Problem.{IsValid, Problem}
 use Rattle.fp_longestarcs.specs.Networks.{TimedNetwork}
 use Rattle.fp_tree.specs.declared.sides.Side.{Side}
 use Rattle.fp_allowed.specs.Settings.{IsSetting, Setting}
-use Rattle.fp_prices.specs.declared.point_graphs.PointGraph.{PointGraph}
+use Rattle.fp_prices.specs.declared.graphs.point_graphs.PointGraph.{PointGraph}
 use Rattle.fp_prices.specs.Forced.{AreRowsUnder}
 use Rattle.fp_prices.specs.PointGraphs.{IsPointGraph}
 use Rattle.fp_prices.specs.Rates.{rate_of}

@@ -4,7 +4,7 @@ use Rattle.fp_model.specs.declared.parts.Leg.{Leg}
 use Rattle.fp_model.specs.Problem.{Problem}
 use Rattle.fp_longestarcs.specs.Networks.{TimedNetwork, IsClass, class_count, class_number}
 use Rattle.fp_allowed.specs.Bits.{bit_of}
-use Rattle.fp_prices.specs.declared.class_users.Users.{Users}
+use Rattle.fp_prices.specs.declared.classes.class_users.Users.{Users}
 use Rattle.fp_prices.specs.Prices.{allowed_count, allowed_size}
 
 -- the row of the shipment with a number

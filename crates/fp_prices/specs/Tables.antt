@@ -1,6 +1,6 @@
 -- What is asked of tables of prices, and the first share that breaks the price rule.
 use Rattle.std.specs.Prelude.{ℕ, ◌<◌, ◌≤◌, ◌-◌, List, length, take, All, AllPairs, slice_index_or, [], ◌^◌}
-use Rattle.fp_lists.specs.Order.{Precedes}
+use Rattle.fp_base_lists.specs.Order.{Precedes}
 use Rattle.fp_model.specs.Problem.{Problem, arc_at}
 use Rattle.fp_prices.specs.declared.leaf_prices.Kind.{Kind}
 use Rattle.fp_prices.specs.declared.leaf_prices.Kind.TheVariants.{Linear, Even, Table}

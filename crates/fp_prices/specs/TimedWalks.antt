@@ -1,14 +1,14 @@
 -- How far a shipment comes on a walk of classes, class by class.
 use Rattle.std.specs.Prelude.{ℕ, ◌-◌, List, Bool, ◌&&◌, nat_eq, nat_le, nat_lt, length, Option, None, Some, if◌then◌else◌}
 use Rattle.std.specs.Option.{option_and_then}
-use Rattle.fp_lists.specs.Membership.{list_has}
+use Rattle.fp_base_lists.specs.Membership.{list_has}
 use Rattle.fp_labels.specs.Walks.{cost_of}
 use Rattle.fp_model.specs.declared.parts.Leg.{Leg}
 use Rattle.fp_model.specs.Problem.{Problem, arc_at}
 use Rattle.fp_timenodes.specs.declared.places.Place.{Place}
 use Rattle.fp_longestarcs.specs.Classes.{head_of}
 use Rattle.fp_longestarcs.specs.Networks.{TimedNetwork, class_number, points_in, tail_in}
-use Rattle.fp_prices.specs.declared.timed_walks.Progress.{Progress}
+use Rattle.fp_prices.specs.declared.graphs.timed_walks.Progress.{Progress}
 
 -- the cost of a leg that is a class of the network, where the class has one
 abbrev pub open_cost : TimedNetwork → List (Option ℕ) → Leg → Option ℕ

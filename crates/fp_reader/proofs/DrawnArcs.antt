@@ -4,8 +4,8 @@ use Rattle.std.specs.List.{enumerate_from, flat_map, list_any, range_with_len}
 use Rattle.std.proofs.lemmas.Bool.{cases_Bool, cond-false, cond-true}
 use Rattle.std.proofs.lemmas.List.{map-append}
 use Rattle.fp_model.specs.declared.parts.Arc.{Arc}
-use Rattle.fp_fields.specs.Indexes.{arc_ends, same_ends}
-use Rattle.fp_fields.proofs.ArcEnds.{has_ends-arc_ends}
+use Rattle.fp_records_fields.specs.Indexes.{arc_ends, same_ends}
+use Rattle.fp_records_fields.proofs.ArcEnds.{has_ends-arc_ends}
 use Rattle.fp_reader.specs.ArcDraws.{is_joined, number_after_arc, with_drawn_arc}
 use Rattle.fp_reader.specs.Generator.{drawn_arc, drawn_arcs, ends_from, first_ends, number_after, ring_ends}
 use Rattle.fp_reader.proofs.FirstEnds.{first_ends-push, list_any-first_ends}

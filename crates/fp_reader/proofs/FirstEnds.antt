@@ -8,8 +8,8 @@ use Rattle.std.proofs.lemmas.List.Elements.{All-cons, All-filter, All-head, All-
 use Rattle.std.proofs.lemmas.List.Kept.{AllPairs-cons, AllPairs-filter}
 use Rattle.std.proofs.lemmas.List.Sums.{length-filter, count_by-le-length}
 use Rattle.std.proofs.lemmas.Map.Views.{any-filter_same}
-use Rattle.fp_fields.specs.Indexes.{same_ends}
-use Rattle.fp_lists.proofs.Pairs.{AllPairs-nil}
+use Rattle.fp_records_fields.specs.Indexes.{same_ends}
+use Rattle.fp_base_lists.proofs.Pairs.{AllPairs-nil}
 use Rattle.fp_reader.specs.Generator.{first_ends}
 
 -- ends that a test finds the same are the same

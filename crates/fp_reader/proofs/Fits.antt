@@ -5,16 +5,16 @@ use Rattle.std.proofs.lemmas.Bool.{and_parts, eqb-false, leb-false, ltb-false, n
 use Rattle.fp_model.specs.Names.{IsName}
 use Rattle.fp_model.specs.Problem.{Problem, IsArc, IsShipment}
 use Rattle.fp_reader.specs.Faults.{arc_faults, has_arc, has_arc_digits, has_arc_names, has_arc_ranges, has_bad_hold, has_same_ends, has_shipment_digits, has_shipment_names, has_shipment_ranges, has_terminal_fields, lacks_end, shipment_faults, terminal_faults}
-use Rattle.fp_fields.specs.Fields.{field, has_name, is_between, number_at}
-use Rattle.fp_fields.specs.Findings.{first_code}
-use Rattle.fp_fields.specs.Indexes.{shipment_names}
-use Rattle.fp_fields.specs.NamedParts.{lacks_terminal, terminal_in}
-use Rattle.fp_fields.specs.Names.{is_taken}
+use Rattle.fp_records_fields.specs.Fields.{field, has_name, is_between, number_at}
+use Rattle.fp_records_fields.specs.Findings.{first_code}
+use Rattle.fp_records_fields.specs.Indexes.{shipment_names}
+use Rattle.fp_records_fields.specs.NamedParts.{lacks_terminal, terminal_in}
+use Rattle.fp_records_fields.specs.Names.{is_taken}
 use Rattle.fp_reader.specs.Parts.{arc_in, hold_in, shipment_in}
-use Rattle.fp_fields.proofs.NameForm.{name-form}
-use Rattle.fp_fields.proofs.NameNumbers.{number_of-lt}
-use Rattle.fp_fields.proofs.Numerals.{is_between-limits}
-use Rattle.fp_fields.proofs.FaultTables.{IsClear-from_none}
+use Rattle.fp_records_fields.proofs.NameForm.{name-form}
+use Rattle.fp_records_fields.proofs.NameNumbers.{number_of-lt}
+use Rattle.fp_records_fields.proofs.Numerals.{is_between-limits}
+use Rattle.fp_records_fields.proofs.FaultTables.{IsClear-from_none}
 
 -- a terminal that may be added
 pub record IsTerminalFit (p : Problem) (fields : List (List ℕ)) : Type 0 where

@@ -11,15 +11,10 @@ first-draws : map (λ (n : ℕ). number_after 1 n / 65536) (range_with_len 1 13)
 first-draws = refl
 
 -- of two terminals each has one arc, of three each has two, and of four each has three
-two-terminals : ring_ends 2 ≡ (0, 1) ∷ (1, 0) ∷ []
-two-terminals = refl
-
-three-terminals : ring_ends 3 ≡ (0, 1) ∷ (0, 2) ∷ (1, 2) ∷ (1, 0) ∷ (2, 0) ∷ (2, 1) ∷ []
-three-terminals = refl
-
-four-terminals : ring_ends 4
-    ≡ (0, 1) ∷ (0, 3) ∷ (0, 2) ∷ (1, 2) ∷ (1, 0) ∷ (1, 3) ∷ (2, 3) ∷ (2, 1) ∷ (2, 0) ∷ (3, 0) ∷ (3, 2) ∷ (3, 1) ∷ []
-four-terminals = refl
+rings : (ring_ends 2 ≡ (0, 1) ∷ (1, 0) ∷ [])
+    × (ring_ends 3 ≡ (0, 1) ∷ (0, 2) ∷ (1, 2) ∷ (1, 0) ∷ (2, 0) ∷ (2, 1) ∷ [])
+    × (ring_ends 4 ≡ (0, 1) ∷ (0, 3) ∷ (0, 2) ∷ (1, 2) ∷ (1, 0) ∷ (1, 3) ∷ (2, 3) ∷ (2, 1) ∷ (2, 0) ∷ (3, 0) ∷ (3, 2) ∷ (3, 1) ∷ [])
+rings = (refl, refl, refl)
 
 -- its arcs and its shipment
 small : Problem

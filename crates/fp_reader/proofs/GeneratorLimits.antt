@@ -8,7 +8,7 @@ use Rattle.std.proofs.lemmas.List.{length-replicate}
 use Rattle.std.proofs.lemmas.List.Elements.{All-map, All-replicate, All-weaker}
 use Rattle.std.proofs.lemmas.List.FromFn.{get_or-map-range_with_len, get_or-range_with_len, length-map-range_with_len, length-range_with_len}
 use Rattle.std.proofs.lemmas.List.Sums.{sum_by-le}
-use Rattle.fp_lists.proofs.Ceilings.{div_ceil-least}
+use Rattle.fp_base_lists.proofs.Ceilings.{div_ceil-least}
 use Rattle.fp_model.specs.declared.limits.TheConstants.{GREATEST_HOLD, MOST_SHIPMENTS, MOST_TERMINALS, SCALE}
 use Rattle.fp_model.specs.declared.parts.Arc.{Arc}
 use Rattle.fp_model.specs.declared.parts.Shipment.{Shipment}

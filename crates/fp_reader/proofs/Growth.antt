@@ -12,12 +12,12 @@ use Rattle.fp_model.specs.declared.parts.Arc.{Arc}
 use Rattle.fp_model.specs.declared.parts.Shipment.{Shipment}
 use Rattle.fp_model.specs.Names.{IsName}
 use Rattle.fp_model.specs.Problem.{Problem, HasSoundParts, IsArc, IsShipment, EndsDiffer}
-use Rattle.fp_fields.specs.Indexes.{shipment_names}
-use Rattle.fp_fields.specs.NamedParts.{joins}
+use Rattle.fp_records_fields.specs.Indexes.{shipment_names}
+use Rattle.fp_records_fields.specs.NamedParts.{joins}
 use Rattle.fp_reader.specs.Faults.{has_arc}
-use Rattle.fp_fields.specs.Names.{is_taken}
+use Rattle.fp_records_fields.specs.Names.{is_taken}
 use Rattle.fp_reader.specs.Parts.{with_arc, with_shipment, with_terminal}
-use Rattle.fp_fields.proofs.MappedLists.{list_any-map}
+use Rattle.fp_records_fields.proofs.MappedLists.{list_any-map}
 
 -- a name that is not taken differs from each of the names
 fresh-name : (names : List (List ℕ)) (name : List ℕ) → is_taken names name ≡ false

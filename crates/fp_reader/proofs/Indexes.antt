@@ -6,8 +6,8 @@ use Rattle.fp_model.specs.declared.parts.Arc.{Arc}
 use Rattle.fp_model.specs.declared.parts.Shipment.{Shipment}
 use Rattle.fp_model.specs.Names.{IsName}
 use Rattle.fp_model.specs.Problem.{Problem, IsArc, IsShipment}
-use Rattle.fp_fields.specs.Indexes.{Entries, entries_of, shipment_names}
-use Rattle.fp_fields.specs.Names.{is_taken}
+use Rattle.fp_records_fields.specs.Indexes.{Entries, entries_of, shipment_names}
+use Rattle.fp_records_fields.specs.Names.{is_taken}
 use Rattle.fp_reader.specs.Drafts.{IsIndexed}
 use Rattle.fp_reader.specs.Faults.{has_arc}
 use Rattle.fp_reader.specs.Parts.{with_arc, with_shipment, with_terminal}

@@ -7,7 +7,7 @@ use Rattle.std.proofs.lemmas.List.Concat.{length-flat_map}
 use Rattle.std.proofs.lemmas.List.Elements.{All-cons, All-nil}
 use Rattle.std.proofs.lemmas.List.FromFn.{length-range_with_len}
 use Rattle.std.proofs.lemmas.Nat.{mod_below}
-use Rattle.fp_lists.proofs.Sums.{sum_by-const}
+use Rattle.fp_base_lists.proofs.Sums.{sum_by-const}
 use Rattle.fp_reader.specs.Generator.{ends_from, ring_ends}
 use Rattle.fp_reader.proofs.FirstEnds.{All-first_ends, length-first_ends}
 use Rattle.fp_reader.proofs.Ranges.{All-flat_map_range, flat_map-range_more}

@@ -6,10 +6,10 @@ use Rattle.std.proofs.lemmas.List.{length-map}
 use Rattle.std.proofs.lemmas.List.Elements.{All-cons, All-head, All-map, All-nil, All-tail, All-weaker}
 use Rattle.std.proofs.lemmas.List.FromFn.{length-enumerate_from}
 use Rattle.std.proofs.lemmas.Nat.{mod_below}
-use Rattle.fp_lists.proofs.Maps.{get_or-map_default}
+use Rattle.fp_base_lists.proofs.Maps.{get_or-map_default}
 use Rattle.fp_model.specs.declared.parts.Arc.{Arc}
 use Rattle.fp_model.specs.Problem.{EndsDiffer, IsArc}
-use Rattle.fp_fields.specs.Indexes.{arc_ends}
+use Rattle.fp_records_fields.specs.Indexes.{arc_ends}
 use Rattle.fp_reader.specs.Draws.{next_number}
 use Rattle.fp_reader.specs.Generator.{draw_after, drawn_arc, drawn_arcs, number_after}
 use Rattle.fp_reader.proofs.DrawnArcs.{arc_ends-drawn_arcs}

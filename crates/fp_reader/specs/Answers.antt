@@ -1,7 +1,7 @@
 -- What reading answers where it fails: a fault, or want of memory, of which nothing is said.
 use Rattle.std.specs.Prelude.{◌≡◌, Result, Err}
 use Rattle.fp_model.specs.Problem.{Problem}
-use Rattle.fp_fields.specs.Faults.{Fault}
+use Rattle.fp_records_fields.specs.Faults.{Fault}
 use Rattle.fp_reader.specs.declared.faults.InputFault.{InputFault}
 use Rattle.fp_reader.specs.declared.faults.InputFault.TheVariants as input
 

@@ -2,7 +2,7 @@
 use Rattle.std.specs.Prelude.{ℕ, List, [], ◌∷◌, ◌++◌, Bool, if◌then◌else◌}
 use Rattle.std.specs.List.{list_any}
 use Rattle.fp_model.specs.declared.parts.Arc.{Arc}
-use Rattle.fp_fields.specs.NamedParts.{joins}
+use Rattle.fp_records_fields.specs.NamedParts.{joins}
 use Rattle.fp_reader.specs.Generator.{drawn_arc, number_after}
 
 -- whether an arc between these ends exists already

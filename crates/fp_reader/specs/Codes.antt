@@ -1,7 +1,7 @@
 -- The codes of the faults that a record may have.
 use Rattle.std.specs.Prelude.{ℕ}
-use Rattle.fp_reader.specs.declared.codes.RecordFault.{RecordFault}
-use Rattle.fp_reader.specs.declared.codes.RecordFault.TheVariants.{Kind, Fields, Name, Digits, Range, NameTaken, NoTerminal, SameEnds, ArcTaken, DueBeforeRelease, TooMany}
+use Rattle.fp_reader.specs.declared.records.codes.RecordFault.{RecordFault}
+use Rattle.fp_reader.specs.declared.records.codes.RecordFault.TheVariants.{Kind, Fields, Name, Digits, Range, NameTaken, NoTerminal, SameEnds, ArcTaken, DueBeforeRelease, TooMany}
 
 -- the code of a fault
 abbrev pub code_of : RecordFault → ℕ

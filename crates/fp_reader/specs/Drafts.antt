@@ -3,7 +3,7 @@
 use Rattle.std.specs.Prelude.{◌≡◌}
 use Rattle.fp_model.specs.declared.limits.TheConstants.{SCALE}
 use Rattle.fp_model.specs.Problem.{Problem, HasSoundParts}
-use Rattle.fp_fields.specs.Indexes.{Entries, entries_of}
+use Rattle.fp_records_fields.specs.Indexes.{Entries, entries_of}
 use Rattle.fp_reader.specs.declared.drafts.Draft.TheInside.{Inside}
 
 -- sound parts, with the entries of their index

@@ -4,11 +4,11 @@ use Rattle.std.specs.Prelude.{ℕ, List, [], ◌∷◌, length, Bool, ◌&&◌, 
 use Rattle.std.specs.List.{list_any}
 use Rattle.fp_model.specs.declared.limits.TheConstants.{GREATEST_AMOUNT, GREATEST_HOLD, LATEST, MOST_ARCS, MOST_SHIPMENTS, MOST_TERMINALS}
 use Rattle.fp_model.specs.Problem.{Problem}
-use Rattle.fp_fields.specs.Fields.{field, has_name, has_number, is_between, is_kind, number_at}
-use Rattle.fp_fields.specs.Findings.{Finding, finding, first_code}
-use Rattle.fp_fields.specs.Indexes.{shipment_names}
-use Rattle.fp_fields.specs.NamedParts.{joins, lacks_terminal, terminal_in}
-use Rattle.fp_fields.specs.Names.{is_taken}
+use Rattle.fp_records_fields.specs.Fields.{field, has_name, has_number, is_between, is_kind, number_at}
+use Rattle.fp_records_fields.specs.Findings.{Finding, finding, first_code}
+use Rattle.fp_records_fields.specs.Indexes.{shipment_names}
+use Rattle.fp_records_fields.specs.NamedParts.{joins, lacks_terminal, terminal_in}
+use Rattle.fp_records_fields.specs.Names.{is_taken}
 use Rattle.fp_reader.specs.Parts.{hold_in}
 
 -- whether an earlier arc goes from the one terminal to the other

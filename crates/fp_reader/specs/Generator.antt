@@ -8,7 +8,7 @@ use Rattle.fp_model.specs.declared.limits.TheConstants.{SCALE}
 use Rattle.fp_model.specs.declared.parts.Arc.{Arc}
 use Rattle.fp_model.specs.declared.parts.Shipment.{Shipment}
 use Rattle.fp_model.specs.Problem.{Problem}
-use Rattle.fp_fields.specs.Indexes.{same_ends}
+use Rattle.fp_records_fields.specs.Indexes.{same_ends}
 use Rattle.fp_reader.specs.Draws.{drawn, next_number}
 
 -- the number after so many draws from the number x

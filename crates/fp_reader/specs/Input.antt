@@ -4,8 +4,8 @@ use Rattle.fp_model.specs.Problem.{Problem, weight}
 use Rattle.fp_reader.specs.declared.reading.Tail.{Tail}
 use Rattle.fp_reader.specs.declared.reading.Tail.TheVariants.{Alone, Certificate}
 use Rattle.fp_reader.specs.Faults.{record_code}
-use Rattle.fp_fields.specs.Faults.{Fault, first_fault}
-use Rattle.fp_fields.specs.Fields.{is_kind}
+use Rattle.fp_records_fields.specs.Faults.{Fault, first_fault}
+use Rattle.fp_records_fields.specs.Fields.{is_kind}
 use Rattle.fp_reader.specs.Parts.{nothing_read, with_record}
 
 -- what records give, where `ordinal` is that of the first of them and `before` is what those before

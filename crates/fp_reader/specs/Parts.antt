@@ -4,8 +4,8 @@ use Rattle.fp_model.specs.declared.limits.TheConstants.{SCALE}
 use Rattle.fp_model.specs.declared.parts.Arc.{Arc}
 use Rattle.fp_model.specs.declared.parts.Shipment.{Shipment}
 use Rattle.fp_model.specs.Problem.{Problem}
-use Rattle.fp_fields.specs.Fields.{field, is_kind, number_at}
-use Rattle.fp_fields.specs.NamedParts.{terminal_in}
+use Rattle.fp_records_fields.specs.Fields.{field, is_kind, number_at}
+use Rattle.fp_records_fields.specs.NamedParts.{terminal_in}
 
 -- nothing read so far; the scale of prices is the default
 abbrev pub nothing_read : Problem

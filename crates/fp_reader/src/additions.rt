@@ -1,25 +1,25 @@
 //! A draft with one more record.
 ghost use Rattle.std.specs.Prelude.{◌≡◌, MatchResult};
-ghost use Rattle.fp_fields.specs.Fields.{field};
-ghost use Rattle.fp_fields.specs.Findings.{IsFirstFault, first_code};
+ghost use Rattle.fp_records_fields.specs.Fields.{field};
+ghost use Rattle.fp_records_fields.specs.Findings.{IsFirstFault, first_code};
 ghost use Rattle.fp_reader.specs.Codes.{code_of};
 ghost use Rattle.fp_reader.specs.Faults.{arc_faults, record_code, shipment_faults, terminal_faults};
 ghost use Rattle.fp_reader.specs.Parts.{arc_in, hold_in, shipment_in, with_arc, with_record, with_shipment, with_terminal};
 
-use crate::arc_records::read_arc;
-use crate::codes::RecordFault;
 use crate::drafts::Draft;
-use crate::shipment_records::read_shipment;
-use crate::terminal_records::read_terminal;
-use fp_fields::RecordError;
-use fp_fields::fields::{field_at, is_of_kind};
+use crate::records::arcs::read_arc;
+use crate::records::codes::RecordFault;
+use crate::records::shipments::read_shipment;
+use crate::records::terminals::read_terminal;
 use fp_model::{Name, Shipment};
 use fp_records::Record;
+use fp_records_fields::RecordError;
+use fp_records_fields::fields::{field_at, is_of_kind};
 use std::alloc::Global;
 
 impl From<RecordFault> for RecordError<RecordFault> {
     ghost use Rattle.std.specs.Prelude.{◌≡◌};
-    ghost use Rattle.fp_fields.specs.declared.errors.RecordError.TheVariants as error;
+    ghost use Rattle.fp_records_fields.specs.declared.errors.RecordError.TheVariants as error;
 
     ghost from_gives = { λ fault e. e ≡ error.Fault fault };
 

@@ -4,14 +4,14 @@ ghost use Rattle.fp_model.specs.declared.limits.TheConstants.{GREATEST_HOLD, MOS
 ghost use Rattle.fp_model.specs.Names.{IsName};
 ghost use Rattle.fp_model.specs.Problem.{IsArc, IsShipment, weight};
 ghost use Rattle.fp_reader.specs.Faults.{has_arc};
-ghost use Rattle.fp_fields.specs.Indexes.{entries_of, shipment_names};
-ghost use Rattle.fp_fields.specs.Names.{is_taken, number_of};
+ghost use Rattle.fp_records_fields.specs.Indexes.{entries_of, shipment_names};
+ghost use Rattle.fp_records_fields.specs.Names.{is_taken, number_of};
 ghost use Rattle.fp_reader.specs.Parts.{nothing_read, with_arc, with_shipment, with_terminal};
 
 use crate::NoMemory;
-use fp_fields::Index;
 use fp_model::limits::{MOST_ARCS, MOST_SHIPMENTS, MOST_TERMINALS};
 use fp_model::{Arc, Instance, Name, Shipment, weight};
+use fp_records_fields::Index;
 use std::alloc::Global;
 use std::marker::Model;
 

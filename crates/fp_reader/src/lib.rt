@@ -2,21 +2,15 @@
 #![tactic(auto)]
 
 mod additions;
-mod arc_records;
-mod codes;
 mod drafts;
-mod draws;
-mod ends;
 mod faults;
-mod generator;
-mod ordinal_names;
+mod generation;
 mod reading;
-mod shipment_records;
-mod terminal_records;
+mod records;
 
-pub use draws::Draws;
 pub use faults::InputFault;
-pub use generator::generate;
+pub use generation::draws::Draws;
+pub use generation::generator::generate;
 pub use reading::{IndexedRead, Read, Tail, instance, instance_with_index};
 
 /// The error of a call that finds no memory.

@@ -1,7 +1,7 @@
 //! Reads an instance.
 ghost use Rattle.std.specs.Prelude.{◌≡◌, ◌≤◌, ◌-◌, ◌^◌, ◌<◌, ℕ, length, not, take, Ok, Err, IfOk, MatchResult};
 ghost use Rattle.std.specs.List.{prefix_len};
-ghost use Rattle.fp_fields.specs.Indexes.{entries_of};
+ghost use Rattle.fp_records_fields.specs.Indexes.{entries_of};
 ghost use Rattle.fp_reader.specs.Answers.{IsFirst};
 ghost use Rattle.fp_reader.specs.Input.{input_of, instance_records, is_answer, parts_from};
 ghost use Rattle.fp_reader.specs.Parts.{nothing_read};
@@ -9,10 +9,10 @@ ghost use Rattle.fp_reader.specs.Parts.{nothing_read};
 use crate::additions::add_record;
 use crate::drafts::Draft;
 use crate::faults::InputFault;
-use fp_fields::fields::is_of_kind;
-use fp_fields::{Index, RecordError};
 use fp_model::Instance;
 use fp_records::Record;
+use fp_records_fields::fields::is_of_kind;
+use fp_records_fields::{Index, RecordError};
 use std::alloc::Global;
 
 /// What may follow the records of an instance.

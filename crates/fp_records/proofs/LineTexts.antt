@@ -2,6 +2,7 @@
 use Rattle.std.proofs.Common.{◌≡◌, ◌∙◌, ℕ, true, false, List, [], ◌∷◌, ◌++◌, refl, ap, append_assoc}
 use Rattle.std.proofs.lemmas.List.{append-nil}
 use Rattle.fp_records.specs.Text.{Lines, comma, joined, line_feed, line_of, with_end, with_field}
+use Rattle.std.specs.Prelude.{Result, Ok, Err, OnOk}
 
 -- A line with more fields.
 abbrev pub with_fields : Lines → List (List ℕ) → Lines
@@ -26,3 +27,9 @@ built-line line f fields fresh =
     ap (λ (l : Lines). (with_fields l fields).text ++ line_feed) start
     ∙ ap (λ (t : List ℕ). t ++ line_feed) (joined-after line.text f fields)
     ∙ append_assoc line.text (joined (f ∷ fields)) line_feed
+
+-- Where the end was written, the text has the line.
+pub ended-line : {T E : Type 0} (r : Result T E) (line new : Lines) (f : List ℕ) (fields : List (List ℕ)) → line.begun ≡ false
+    → OnOk r (new ≡ with_end (with_fields line (f ∷ fields))) → OnOk r (new.text ≡ line.text ++ line_of (f ∷ fields))
+ended-line (Ok t) line new f fields fresh h = ap (λ (l : Lines). l.text) h ∙ built-line line f fields fresh
+ended-line (Err e) line new f fields fresh h = h

@@ -5,10 +5,10 @@ use Rattle.std.specs.declared.vec.Vec.{Vec}
 use Rattle.std.proofs.lemmas.List.{drop_all}
 use Rattle.fp_model.specs.declared.parts.Leg.{Leg}
 use Rattle.fp_model.specs.declared.parts.Member.{Member}
-use Rattle.fp_relaxmodel.specs.declared.stops.Stop.{Stop}
+use Rattle.fp_longestarcs.specs.declared.stops.Stop.{Stop}
 use Rattle.fp_relaxmodel.specs.Grouping.{Met, after, groups_so_far, with_member}
 use Rattle.fp_relaxmodel.specs.Groups.{AreGroups}
-use Rattle.fp_lists.specs.Vectors.{lists_of}
+use Rattle.fp_base_lists.specs.Vectors.{lists_of}
 use Rattle.fp_model.specs.Members.{named_from, named_on, NamedLeg}
 use Rattle.fp_relaxmodel.proofs.GroupLaws.{members_of}
 use Rattle.fp_relaxmodel.proofs.UniqueGroups.{groups-met}

@@ -10,9 +10,9 @@ use Rattle.fp_model.specs.declared.parts.Leg.{Leg}
 use Rattle.fp_model.specs.declared.parts.Member.{Member}
 use Rattle.fp_model.specs.Costs.{same_leg}
 use Rattle.fp_model.proofs.Distinct.{same_leg-refl, same_leg-true}
-use Rattle.fp_relaxmodel.specs.declared.stops.Stop.{Stop}
+use Rattle.fp_longestarcs.specs.declared.stops.Stop.{Stop}
 use Rattle.fp_relaxmodel.specs.Grouping.{Met, groups_so_far, with_member}
-use Rattle.fp_relaxmodel.specs.Stops.{leg_of}
+use Rattle.fp_longestarcs.specs.Stops.{leg_of}
 
 -- a test of two legs answers alike both ways
 pub same_leg-comm : (k l : Leg) → same_leg k l ≡ same_leg l k

@@ -2,15 +2,15 @@
 use Rattle.std.proofs.Common.{◌≡◌, ◌≢◌, ℕ, zero, suc, ◌+◌, ◌<◌, Bool, true, false, List, [], ◌∷◌, length, drop, get_or, set, replicate, refl, sym, ap, ◌∙◌, subst, arith, get_or-set_other, get_or-set_same, true≢false, add-one, drop-cons}
 use Rattle.std.specs.Prelude.{◌↔◌, Some, None, slice_get}
 use Rattle.std.specs.List.{AllByRecursion}
-use Rattle.fp_lists.proofs.Distinct.{AreDistinct-cons, AreDistinct-head, AreDistinct-tail}
+use Rattle.fp_base_lists.proofs.Distinct.{AreDistinct-cons, AreDistinct-head, AreDistinct-tail}
 use Rattle.fp_model.specs.declared.limits.TheConstants.{MOST_TERMINALS}
 use Rattle.fp_model.specs.declared.parts.Leg.{Leg}
 use Rattle.fp_model.specs.declared.parts.Shipment.{Shipment}
 use Rattle.fp_model.specs.Problem.{Problem, IsValid, arc_at, no_arc}
 use Rattle.fp_model.specs.Routes.{IsRoute, Leads, arcs_of, ends_of}
-use Rattle.fp_lists.specs.Distinct.{AreDistinct}
-use Rattle.fp_relaxmodel.specs.declared.stops.Stop.{Stop}
-use Rattle.fp_relaxmodel.specs.Stops.{legs_of}
+use Rattle.fp_base_lists.specs.Distinct.{AreDistinct}
+use Rattle.fp_longestarcs.specs.declared.stops.Stop.{Stop}
+use Rattle.fp_longestarcs.specs.Stops.{legs_of}
 use Rattle.fp_relaxmodel.specs.Terminals.{terminals_on}
 
 -- the terminals that classes enter

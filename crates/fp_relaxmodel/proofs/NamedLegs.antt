@@ -9,7 +9,7 @@ use Rattle.fp_model.specs.declared.parts.Leg.{Leg}
 use Rattle.fp_model.specs.Costs.{all_legs, has_leg, same_leg}
 use Rattle.fp_model.specs.Members.{named_from, named_on, NamedLeg}
 use Rattle.fp_relaxmodel.proofs.GroupLaws.{Before}
-use Rattle.fp_lists.proofs.Pairs.{AllPairs-append, AllPairs-nil}
+use Rattle.fp_base_lists.proofs.Pairs.{AllPairs-append, AllPairs-nil}
 
 -- a class is on the walk of the shipment with the number k exactly where one of its legs has it
 occurs-on : (c : Leg) (k i : ℕ) (walk : List Leg) → list_any (λ (x : NamedLeg). same_leg c x.leg) (named_on k i walk) ≡ has_leg c walk

@@ -3,38 +3,25 @@ use Rattle.std.proofs.Common.{◌≡◌, ◌∙◌, ℕ, ◌+◌, ◌<◌, ◌�
 use Rattle.std.specs.Prelude.{Option, All}
 use Rattle.std.specs.declared.alloc.Global.{Global}
 use Rattle.std.specs.declared.vec.Vec.{Vec}
-use Rattle.std.specs.List.{AllByRecursion, AllZip}
+use Rattle.std.specs.List.{AllZip}
 use Rattle.fp_model.specs.declared.parts.Leg.{Leg}
 use Rattle.fp_model.specs.declared.parts.Shipment.{Shipment}
 use Rattle.fp_model.specs.Costs.{cost}
-use Rattle.fp_lists.specs.Vectors.{lists_of}
-use Rattle.fp_lists.specs.Numbered.{AllZipFrom, AllFrom}
+use Rattle.fp_base_lists.specs.Vectors.{lists_of}
+use Rattle.fp_base_lists.specs.Numbered.{AllZipFrom}
 use Rattle.fp_model.specs.Plans.{IsPlan}
 use Rattle.fp_model.specs.Problem.{Problem}
 use Rattle.fp_model.specs.Routes.{ArcsExist, Carries, IsRoute, arcs_of}
 use Rattle.fp_model.proofs.Bounds.{length-lists_of}
-use Rattle.fp_lists.proofs.Maps.{get_or-map_default}
+use Rattle.fp_base_lists.proofs.Maps.{get_or-map_default}
 use Rattle.fp_flatnet.specs.declared.window_tables.Window.{Window}
 use Rattle.fp_flatnet.specs.Windows.{PlanLiesWithin}
 use Rattle.fp_longestarcs.proofs.ClassCosts.{cost-classes}
-use Rattle.fp_tree.specs.Sides.{MeetsAll}
-use Rattle.fp_allowed.specs.Allowed.{PlanObeys, exit_of, is_allowed}
+use Rattle.fp_allowed.specs.Allowed.{is_allowed}
 use Rattle.fp_allowed.specs.Walks.{IsTimedWalk}
 use Rattle.fp_allowed.proofs.PlanClasses.{arcs_of-classes, plan_timed}
 use Rattle.fp_relaxmodel.specs.Relaxed.{CoarsensPlans, HasRoutes, IsRelaxedPlan, IsRelaxedWalk, coarsened}
-
--- every leg meets no sides
-legs-obey : (p : Problem) (d k : ℕ) (legs : List Leg) → AllByRecursion (λ (l : Leg). MeetsAll d k [] (exit_of p l)) legs
-legs-obey p d k [] = tt
-legs-obey p d k (l ∷ legs) = (tt, legs-obey p d k legs)
-
-obey-from : (p : Problem) (d k : ℕ) (routes : List (List Leg)) → AllFrom (λ j r. AllByRecursion (λ (l : Leg). MeetsAll d j [] (exit_of p l)) r) k routes
-obey-from p d k [] = tt
-obey-from p d k (r ∷ routes) = (legs-obey p d k r, obey-from p d (k + 1) routes)
-
--- so routes over any denominator obey no sides
-obeys-none : (p : Problem) (d : ℕ) (routes : List (List Leg)) → PlanObeys p d [] routes
-obeys-none p d routes = obey-from p d 0 routes
+use Rattle.fp_allowed.proofs.FewerSides.{PlanObeys-none}
 
 -- timed walks over routes are relaxed walks
 relaxed-from : (p : Problem) (windows : ℕ → ℕ → Option Window) (points : ℕ → List ℕ) (k : ℕ) (ss : List Shipment) (walks : List (List Leg)) → AllZip (λ s walk. IsRoute p s (arcs_of walk)) ss walks →
@@ -83,7 +70,7 @@ pub relaxed-coarsened : (p : Problem) (windows : ℕ → ℕ → Option Window) 
     IsRelaxedPlan p windows points (coarsened p points d routes)
 relaxed-coarsened p windows points d routes h plan within =
     relaxed-from p windows points 0 p.shipments (coarsened p points d routes) (HasRoutes-coarsened p points d routes plan)
-    (plan_timed p windows points [] d routes h plan within (obeys-none p d routes))
+    (plan_timed p windows points [] d routes h plan within (PlanObeys-none p d routes))
 
 -- routes coarsen into walks that cost no more
 pub cost-coarsened : (p : Problem) (points : ℕ → List ℕ) (d : ℕ) (routes : List (List Leg)) → cost p (coarsened p points d routes) ≤ cost p routes

@@ -5,17 +5,14 @@ use Rattle.std.specs.List.{AllByRecursion}
 use Rattle.std.proofs.lemmas.List.Elements.{recursion_from_All}
 use Rattle.fp_model.specs.declared.parts.Leg.{Leg}
 use Rattle.fp_model.specs.declared.parts.Shipment.{Shipment}
-use Rattle.fp_lists.specs.Numbered.{AllZipFrom}
+use Rattle.fp_base_lists.specs.Numbered.{AllZipFrom}
 use Rattle.fp_model.specs.Problem.{IsShipment, IsValid, Problem}
-use Rattle.fp_lists.specs.Distinct.{AreDistinct}
-use Rattle.fp_timenodes.specs.Points.{TimePoints, points_at}
+use Rattle.fp_base_lists.specs.Distinct.{AreDistinct}
 use Rattle.fp_flatnet.specs.declared.window_tables.Window.{Window}
-use Rattle.fp_longestarcs.specs.Networks.{TimedNetwork, points_in}
-use Rattle.fp_longestarcs.specs.Whole.{IsNetworkOf}
 use Rattle.fp_allowed.specs.Allowed.{is_allowed}
 use Rattle.fp_allowed.specs.SamePoints.{AgreeOnPoints}
 use Rattle.fp_allowed.specs.Walks.{IsTimedWalk}
-use Rattle.fp_allowed.proofs.SamePoints.{AgreeOnPoints_sym, allowed_walk_same}
+use Rattle.fp_allowed.proofs.SamePoints.{allowed_walk_same}
 use Rattle.fp_relaxmodel.specs.Relaxed.{AreTimedWalks, IsRelaxedPlan, IsRelaxedWalk}
 use Rattle.fp_relaxmodel.specs.Terminals.{terminals_on}
 use Rattle.fp_relaxmodel.proofs.MetTerminals.{route-decides}
@@ -56,17 +53,3 @@ module _ (p : Problem) (valid : IsValid p) (windows : ℕ → ℕ → Option Win
   -- a relaxed plan over some points is one over others that agree
   pub IsRelaxedPlan_same : (walks : List (List Leg)) → IsRelaxedPlan p windows points walks → IsRelaxedPlan p windows others walks
   IsRelaxedPlan_same walks relaxed = same-from 0 p.shipments walks relaxed
-
--- a relaxed plan over the points of the network as of a round is one over the points as of that
--- round
-pub IsRelaxedPlan-as_of_round : (p : Problem) (windows : ℕ → ℕ → Option Window) (v : TimePoints) (round : ℕ) (net : TimedNetwork) (walks : List (List Leg)) → IsValid p → IsNetworkOf p v round net →
-    IsRelaxedPlan p windows (points_in net) walks → IsRelaxedPlan p windows (λ terminal. points_at v terminal round) walks
-IsRelaxedPlan-as_of_round p windows v round net walks valid network relaxed =
-    IsRelaxedPlan_same p valid windows (points_in net) (λ terminal. points_at v terminal round) network.points walks relaxed
-
--- and the other way round
-pub IsRelaxedPlan-in_network : (p : Problem) (windows : ℕ → ℕ → Option Window) (v : TimePoints) (round : ℕ) (net : TimedNetwork) (walks : List (List Leg)) → IsValid p → IsNetworkOf p v round net →
-    IsRelaxedPlan p windows (λ terminal. points_at v terminal round) walks → IsRelaxedPlan p windows (points_in net) walks
-IsRelaxedPlan-in_network p windows v round net walks valid network relaxed =
-    let points : ℕ → List ℕ = λ terminal. points_at v terminal round in
-    IsRelaxedPlan_same p valid windows points (points_in net) (AgreeOnPoints_sym p (points_in net) points network.points) walks relaxed

@@ -11,9 +11,9 @@ use Rattle.fp_model.specs.Costs.{cost, flow_cost, flow_total}
 use Rattle.fp_model.specs.Problem.{Problem, IsValid, alone_cost, alone_total, arc_at, no_arc}
 use Rattle.fp_model.specs.Routes.{ArcsExist, IsRoute, arcs_of, ends_of}
 use Rattle.fp_model.proofs.Bounds.{Leads-exist, alone_routes, alone_trucks, departures-le-alone, legs-exist}
-use Rattle.fp_lists.proofs.Distinct.{AreDistinct-from_map, AreDistinct-tail}
-use Rattle.fp_lists.proofs.DistinctSums.{sum_by-places-le}
-use Rattle.fp_lists.proofs.Sums.{sum_by-both, sum_by-map}
+use Rattle.fp_base_lists.proofs.Distinct.{AreDistinct-from_map, AreDistinct-tail}
+use Rattle.fp_base_lists.proofs.DistinctSums.{sum_by-places-le}
+use Rattle.fp_base_lists.proofs.Sums.{sum_by-both, sum_by-map}
 use Rattle.fp_relaxmodel.specs.Relaxed.{HasRoutes}
 
 -- a walk whose arcs are a route is of a shipment

@@ -6,16 +6,16 @@ use Rattle.std.proofs.Math.Dec.{eqb}
 use Rattle.std.proofs.lemmas.Bool.{ne_eqb, or_cases, false≢true}
 use Rattle.std.proofs.lemmas.List.Elements.{All-cons, All-nil}
 use Rattle.std.proofs.lemmas.Map.Steps.{length-le_from_distinct_below}
-use Rattle.fp_lists.proofs.DistinctSums.{length-distinct-le}
+use Rattle.fp_base_lists.proofs.DistinctSums.{length-distinct-le}
 use Rattle.fp_model.specs.declared.limits.TheConstants.{MOST_ARCS}
 use Rattle.fp_model.specs.declared.parts.Leg.{Leg}
 use Rattle.fp_model.specs.declared.parts.Shipment.{Shipment}
 use Rattle.fp_model.specs.Problem.{Problem, IsValid, arc_at}
 use Rattle.fp_model.specs.Routes.{IsRoute, arcs_of, ends_of}
-use Rattle.fp_lists.specs.Distinct.{AreDistinct}
+use Rattle.fp_base_lists.specs.Distinct.{AreDistinct}
 use Rattle.fp_model.proofs.Bounds.{Leads-exist}
-use Rattle.fp_lists.proofs.Distinct.{AreDistinct-from_map, AreDistinct-tail}
-use Rattle.fp_lists.proofs.Elements.{AllByRecursion-weaker}
+use Rattle.fp_base_lists.proofs.Distinct.{AreDistinct-from_map, AreDistinct-tail}
+use Rattle.fp_base_lists.proofs.Elements.{AllByRecursion-weaker}
 use Rattle.fp_relaxmodel.specs.Relaxed.{HasRoutes}
 use Rattle.fp_relaxmodel.proofs.RouteCosts.{HasRoutes-long}
 use Rattle.fp_model.proofs.Faultless.{length-arcs_of}

@@ -8,7 +8,7 @@ use Rattle.fp_relaxmodel.specs.Grouping.{Met, after}
 use Rattle.fp_relaxmodel.specs.Groups.{AreGroups, IsGroup, StartsBefore}
 use Rattle.fp_model.specs.Members.{MemberComesBefore, named_from, NamedLeg}
 use Rattle.fp_relaxmodel.proofs.GroupLaws.{IsMet, each-met, groups-ascend, groups-cover, members_of}
-use Rattle.fp_lists.proofs.Pairs.{AllPairs-tail, AllPairs-head, AllPairs-unique}
+use Rattle.fp_base_lists.proofs.Pairs.{AllPairs-tail, AllPairs-head, AllPairs-unique}
 use Rattle.fp_relaxmodel.proofs.NamedLegs.{occurs-placed, pairs-from}
 
 -- the groups that are met over all legs are the groups of the classes

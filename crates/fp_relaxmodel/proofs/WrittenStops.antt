@@ -5,9 +5,9 @@ use Rattle.std.proofs.lemmas.List.{length-map}
 use Rattle.std.proofs.lemmas.Option.{get_or_from_slice_get, slice_get_within}
 use Rattle.fp_model.specs.Problem.{Problem}
 use Rattle.fp_model.specs.Routes.{ArcsExist}
-use Rattle.fp_lists.proofs.Maps.{get_or-map_default}
-use Rattle.fp_relaxmodel.specs.declared.stops.Stop.{Stop}
-use Rattle.fp_relaxmodel.specs.Stops.{leg_of, legs_of}
+use Rattle.fp_base_lists.proofs.Maps.{get_or-map_default}
+use Rattle.fp_longestarcs.specs.declared.stops.Stop.{Stop}
+use Rattle.fp_longestarcs.specs.Stops.{leg_of, legs_of}
 
 -- the arc of a class exists where those of all do
 pub arc-exists : (p : Problem) (stops : List Stop) (i : ℕ) (d : Stop) → ArcsExist p (legs_of stops) → i < length stops → (get_or stops i d).arc < length p.arcs

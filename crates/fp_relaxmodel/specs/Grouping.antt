@@ -5,9 +5,9 @@ use Rattle.std.specs.declared.vec.Vec.{Vec}
 use Rattle.fp_model.specs.declared.parts.Leg.{Leg}
 use Rattle.fp_model.specs.declared.parts.Member.{Member}
 use Rattle.fp_model.specs.Costs.{same_leg}
-use Rattle.fp_relaxmodel.specs.declared.stops.Stop.{Stop}
+use Rattle.fp_longestarcs.specs.declared.stops.Stop.{Stop}
 use Rattle.fp_model.specs.Members.{NamedLeg}
-use Rattle.fp_relaxmodel.specs.Stops.{leg_of}
+use Rattle.fp_longestarcs.specs.Stops.{leg_of}
 
 -- a class and those of its members that were met
 pub record Met : Type 0 where

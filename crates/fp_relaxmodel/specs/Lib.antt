@@ -1,4 +1,3 @@
-pub mod Stops
 pub mod Relaxed
 pub mod Terminals
 pub mod Groups

@@ -10,13 +10,12 @@ ghost use Rattle.fp_longestarcs.specs.Classes.{class_of};
 ghost use Rattle.fp_longestarcs.specs.Networks.{points_in};
 ghost use Rattle.fp_longestarcs.specs.Whole.{HasArcsOf, IsWholeNetwork};
 ghost use Rattle.fp_relaxmodel.specs.Relaxed.{CoarsensPlans, IsRelaxedPlan, coarsened};
-ghost use Rattle.fp_relaxmodel.specs.Stops.{leg_of};
+ghost use Rattle.fp_longestarcs.specs.Stops.{leg_of};
 
 use crate::NoMemory;
-use crate::relaxed_plans::{RelaxedPlan, TimedWalk};
-use crate::stops::Stop;
+use crate::relaxed_plans::RelaxedPlan;
 use fp_flatnet::Windows;
-use fp_longestarcs::Network;
+use fp_longestarcs::{Network, Stop, TimedWalk};
 use fp_model::{Instance, Leg, Plan};
 use std::alloc::Global;
 

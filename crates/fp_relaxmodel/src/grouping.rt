@@ -4,13 +4,13 @@ ghost use Rattle.fp_model.specs.declared.parts.Leg.{Leg};
 ghost use Rattle.fp_model.specs.declared.parts.Member.{Member};
 ghost use Rattle.fp_relaxmodel.specs.Groups.{AreGroups};
 ghost use Rattle.fp_model.specs.Members.{named_on};
-ghost use Rattle.fp_lists.specs.Vectors.{lists_of};
+ghost use Rattle.fp_base_lists.specs.Vectors.{lists_of};
 ghost use Rattle.fp_relaxmodel.specs.Grouping.{after, groups_so_far, with_member};
-ghost use Rattle.fp_relaxmodel.specs.Stops.{leg_of, legs_of};
+ghost use Rattle.fp_longestarcs.specs.Stops.{leg_of, legs_of};
 
 use crate::NoMemory;
 use crate::relaxed_plans::RelaxedPlan;
-use crate::stops::Stop;
+use fp_longestarcs::Stop;
 use fp_model::Member;
 use indexmap::IndexSet;
 use std::alloc::Global;

@@ -11,14 +11,13 @@ mod coarsening;
 mod grouping;
 mod relaxed_costs;
 mod relaxed_plans;
-mod stops;
 mod terminals;
 
 pub use coarsening::coarsen;
+pub use fp_longestarcs::{Stop, TimedWalk};
 pub use grouping::groups;
 pub use relaxed_costs::relaxed_cost;
-pub use relaxed_plans::{RelaxedPlan, TimedWalk};
-pub use stops::Stop;
+pub use relaxed_plans::RelaxedPlan;
 pub use terminals::is_route;
 
 /// The error of a call that finds no memory.

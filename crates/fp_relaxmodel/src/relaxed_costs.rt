@@ -4,10 +4,10 @@ ghost use Rattle.fp_model.specs.Costs.{all_legs, cost, cost_with, departure_cost
 ghost use Rattle.fp_model.specs.Costs.{departures_cost, has_leg, load};
 ghost use Rattle.fp_model.specs.Routes.{ArcsExist};
 ghost use Rattle.fp_relaxmodel.specs.Relaxed.{HasRoutes};
-ghost use Rattle.fp_relaxmodel.specs.Stops.{leg_of, legs_of};
+ghost use Rattle.fp_longestarcs.specs.Stops.{leg_of, legs_of};
 
-use crate::relaxed_plans::{RelaxedPlan, TimedWalk};
-use crate::stops::Stop;
+use crate::relaxed_plans::RelaxedPlan;
+use fp_longestarcs::{Stop, TimedWalk};
 use fp_model::limits::MOST_SHIPMENTS;
 use fp_model::{Instance, Shipment};
 

@@ -1,43 +1,13 @@
 //! Timed walks and relaxed plans, and the arcs that they go by.
 ghost use Rattle.std.specs.Prelude.{◌≡◌, IfOk};
-ghost use Rattle.fp_lists.specs.Vectors.{lists_of};
+ghost use Rattle.fp_base_lists.specs.Vectors.{lists_of};
 ghost use Rattle.fp_model.specs.Members.{arc_lists};
 ghost use Rattle.fp_model.specs.Routes.{arcs_of};
 
 use crate::NoMemory;
-use crate::stops::Stop;
+use fp_longestarcs::TimedWalk;
 use std::alloc::Global;
 use std::marker::Model;
-
-/// The classes that a shipment goes by, in order. Contracts see each as a leg that leaves at its
-/// point.
-#[derive(Drop)]
-pub struct TimedWalk {
-    pub stops: Vec<Stop>,
-}
-
-impl Model for TimedWalk {
-    ghost use Rattle.std.specs.Prelude.{List};
-    ghost use Rattle.fp_model.specs.declared.parts.Leg.{Leg};
-    ghost use Rattle.fp_relaxmodel.specs.Stops.{legs_of};
-
-    ghost Value = { List Leg };
-
-    ghost view = { λ w. legs_of w.stops.items };
-}
-
-impl TimedWalk {
-    /// The arcs of the walk, by their numbers. `NoMemory` only where no memory is found.
-    pub fn arcs(&self, alloc: Global) -> Result<Vec<u32>, NoMemory>
-        ensures { IfOk result (λ arcs. arcs.items ≡ arcs_of self.now) }
-    {
-        let mut arcs = Vec::with_capacity(alloc, self.stops.len())?;
-        for stop in &self.stops {
-            arcs.push(stop.arc)?;
-        }
-        Ok(arcs)
-    }
-}
 
 /// For each shipment, in the order of the instance, a walk. Contracts see the list of the walks.
 ///

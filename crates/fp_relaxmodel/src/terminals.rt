@@ -2,12 +2,11 @@
 ghost use Rattle.std.specs.Prelude.{◌≡◌, ◌≢◌, ◌↔◌, ◌<◌, ◌∷◌, IsTrue, length};
 ghost use Rattle.fp_model.specs.declared.parts.Shipment.{Shipment};
 ghost use Rattle.fp_model.specs.Routes.{ArcsExist, IsRoute, Leads, arcs_of, ends_of};
-ghost use Rattle.fp_lists.specs.Distinct.{AreDistinct};
-ghost use Rattle.fp_relaxmodel.specs.Stops.{legs_of};
+ghost use Rattle.fp_base_lists.specs.Distinct.{AreDistinct};
+ghost use Rattle.fp_longestarcs.specs.Stops.{legs_of};
 ghost use Rattle.fp_relaxmodel.specs.Terminals.{terminals_on};
 
-use crate::relaxed_plans::TimedWalk;
-use crate::stops::Stop;
+use fp_longestarcs::{Stop, TimedWalk};
 use fp_model::Instance;
 use fp_model::limits::MOST_TERMINALS;
 

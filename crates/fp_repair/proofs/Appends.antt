@@ -3,7 +3,7 @@ use Rattle.std.proofs.Common.{List, [], ◌∷◌, ◌++◌}
 use Rattle.std.specs.Prelude.{All, AllPairs}
 use Rattle.std.proofs.lemmas.List.Elements.{All-cons, All-head, All-nil, All-tail}
 use Rattle.std.proofs.lemmas.List.Kept.{AllPairs-cons}
-use Rattle.fp_lists.proofs.Pairs.{AllPairs-head, AllPairs-nil, AllPairs-tail}
+use Rattle.fp_base_lists.proofs.Pairs.{AllPairs-head, AllPairs-nil, AllPairs-tail}
 
 module _ {X : Type 0} where
   -- of each element of the first list

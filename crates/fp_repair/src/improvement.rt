@@ -7,8 +7,8 @@ ghost use Rattle.fp_repair.specs.Candidates.{IsCandidate, IsPlanWithin};
 use crate::NoMemory;
 use crate::candidates::{Candidate, Starts, cheaper};
 use fp_flatnet::Windows;
-use fp_localsearch::{Search, local_search};
 use fp_model::{Instance, Plan};
+use fp_repair_search::{Search, local_search};
 use std::alloc::Global;
 
 // The search begins once the plan in hand is at most this part of the relaxed cost above it. Before

@@ -1,7 +1,7 @@
 //! The groups that are kept, where not all of them have times.
 ghost use Rattle.std.specs.Prelude.{[], IfOk};
 ghost use Rattle.std.specs.List.{AllZip};
-ghost use Rattle.fp_lists.specs.Vectors.{lists_of};
+ghost use Rattle.fp_base_lists.specs.Vectors.{lists_of};
 ghost use Rattle.fp_model.specs.Members.{AreGroupsOf};
 ghost use Rattle.fp_model.specs.Routes.{IsRoute};
 ghost use Rattle.fp_flatnet.specs.Belonging.{BelongsTo};

@@ -1,7 +1,7 @@
 //! The plans with the least times of routes: without any group, and with as many as can be kept.
 ghost use Rattle.std.specs.Prelude.{[], ◌↔◌, IfOk, IsTrue, MatchOption};
 ghost use Rattle.std.specs.List.{AllZip};
-ghost use Rattle.fp_lists.specs.Vectors.{lists_of};
+ghost use Rattle.fp_base_lists.specs.Vectors.{lists_of};
 ghost use Rattle.fp_model.specs.Members.{AreGroupsOf};
 ghost use Rattle.fp_model.specs.Routes.{IsRoute};
 ghost use Rattle.fp_flatnet.specs.Belonging.{BelongsTo};

@@ -6,9 +6,9 @@ use Rattle.std.specs.declared.alloc.Global.{Global}
 use Rattle.std.specs.declared.vec.Vec.{Vec}
 use Rattle.std.proofs.lemmas.List.{length-map}
 use Rattle.std.proofs.lemmas.Slice.Zip.{AllZip-long}
-use Rattle.fp_lists.specs.Vectors.{lists_of}
-use Rattle.fp_lists.proofs.Maps.{lists_of-get_or}
-use Rattle.fp_lists.proofs.Numbered.{AllFrom-get_or_zero, AllZip-from_get_or, AllZip-get_or}
+use Rattle.fp_base_lists.specs.Vectors.{lists_of}
+use Rattle.fp_base_lists.proofs.Maps.{lists_of-get_or}
+use Rattle.fp_base_lists.proofs.Numbered.{AllFrom-get_or_zero, AllZip-from_get_or, AllZip-get_or}
 use Rattle.fp_model.specs.declared.parts.Leg.{Leg}
 use Rattle.fp_model.specs.declared.parts.Shipment.{Shipment}
 use Rattle.fp_model.specs.Numbered.{no_shipment, route_at, shipment_at}

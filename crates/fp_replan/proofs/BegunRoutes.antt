@@ -6,11 +6,11 @@ use Rattle.std.specs.List.{AllByRecursion}
 use Rattle.std.proofs.Math.Nat.{le_of_mul-le-mul_left}
 use Rattle.std.proofs.lemmas.Bool.{cases_lt, false≢true, ne_eqb, or_parts}
 use Rattle.std.proofs.lemmas.List.{map-append}
-use Rattle.fp_lists.specs.Distinct.{AreDistinct}
-use Rattle.fp_lists.specs.Membership.{list_has}
-use Rattle.fp_lists.proofs.Distinct.{AreDistinct-cons, AreDistinct-head, AreDistinct-tail}
-use Rattle.fp_lists.proofs.Elements.{AllByRecursion-always, AllByRecursion-append, AllByRecursion-both, AllByRecursion-weaker}
-use Rattle.fp_lists.proofs.Membership.{list_has-first, list_has-rest}
+use Rattle.fp_base_lists.specs.Distinct.{AreDistinct}
+use Rattle.fp_base_lists.specs.Membership.{list_has}
+use Rattle.fp_base_lists.proofs.Distinct.{AreDistinct-cons, AreDistinct-head, AreDistinct-tail}
+use Rattle.fp_base_lists.proofs.Elements.{AllByRecursion-always, AllByRecursion-append, AllByRecursion-both, AllByRecursion-weaker}
+use Rattle.fp_base_lists.proofs.Membership.{list_has-first, list_has-rest}
 use Rattle.fp_model.specs.declared.parts.Leg.{Leg}
 use Rattle.fp_model.specs.declared.parts.Shipment.{Shipment}
 use Rattle.fp_model.specs.Problem.{IsValid, Problem, arc_at, hold_at}

@@ -1,26 +1,25 @@
 -- The kept legs of each shipment, as legs are kept one after the other.
-use Rattle.std.proofs.Common.{◌≡◌, ◌≢◌, ℕ, zero, suc, ◌+◌, ◌<◌, ◌≤◌, true, false, ◌||◌, List, [], ◌∷◌, ◌++◌, length, map, take, drop, inl, inr, ⊎_elim, refl, sym, ap, ◌∙◌, subst, arith, append-nil, append_assoc, eq-eqb, eqb-true, length-set, get_or-set_same, get_or-set_other, length-append}
+use Rattle.std.proofs.Common.{◌≡◌, ◌≢◌, ℕ, zero, suc, ◌+◌, ◌<◌, ◌≤◌, true, false, List, [], ◌∷◌, ◌++◌, length, map, take, refl, sym, ap, ◌∙◌, subst, arith, append-nil, eq-eqb, eqb-true, length-set, get_or-set_same, get_or-set_other, length-append, ⊎_elim}
 use Rattle.std.specs.Prelude.{filter, slice_index_or, slice_set, nat_eq, not, cond, ◌==◌, ◌&&◌}
-use Rattle.std.specs.List.{AllByRecursion}
-use Rattle.std.proofs.lemmas.Bool.{and_parts, cases_Bool, cases_lt, false≢true, not-true, or_parts}
+use Rattle.std.proofs.lemmas.Bool.{and_parts, cases_lt, false≢true, not-true}
 use Rattle.std.proofs.lemmas.Bool.Decides.{eqb_tells}
 use Rattle.std.proofs.lemmas.List.{get_or_append_left, get_or_push, map-append, take_more, take-append-le, take_all, take_at}
 use Rattle.std.proofs.lemmas.List.Elements.{filter-append}
-use Rattle.fp_lists.specs.Distinct.{AreDistinct}
-use Rattle.fp_lists.specs.Membership.{list_has}
-use Rattle.fp_lists.proofs.Distinct.{AreDistinct-cons, AreDistinct-nil, AreDistinct-push}
-use Rattle.fp_lists.proofs.Elements.{AllByRecursion-push}
+use Rattle.fp_base_lists.specs.Distinct.{AreDistinct}
+use Rattle.fp_base_lists.specs.Membership.{list_has}
+use Rattle.fp_base_lists.proofs.Distinct.{AreDistinct-cons, AreDistinct-nil, AreDistinct-push}
+use Rattle.fp_base_lists.proofs.Elements.{AllByRecursion-push}
 use Rattle.fp_model.specs.declared.parts.Leg.{Leg}
 use Rattle.fp_model.specs.declared.parts.Shipment.{Shipment}
 use Rattle.fp_model.specs.Numbered.{route_at, shipment_at}
 use Rattle.fp_model.specs.Problem.{Problem, arc_at}
-use Rattle.fp_model.specs.Routes.{ArcsExist, Leads, arcs_of, ends_of}
+use Rattle.fp_model.specs.Routes.{ArcsExist, arcs_of, ends_of}
 use Rattle.fp_model.proofs.Bounds.{Leads-exist, legs-exist}
 use Rattle.fp_flatnet.proofs.LeastWalks.{Leads-append}
 use Rattle.fp_replan.specs.declared.kept.Kept.{Kept}
 use Rattle.fp_replan.specs.Beginnings.{AreBeginnings, IsBeginning}
-use Rattle.fp_replan.proofs.ListParts.{list_has-apart}
 use Rattle.fp_replan.specs.KeptLegs.{AreKept, CanKeep, goes_on, kept_of, leg_of, no_kept, place_after, places_seen}
+use Rattle.fp_base_lists.proofs.Membership.{list_has-apart}
 
 -- one more kept leg of a shipment, and of another one
 kept_of-push : (kept : List Kept) (x : Kept) (k : ℕ) → kept_of (kept ++ (x ∷ [])) k ≡ kept_of kept k ++ map leg_of (cond (x.shipment == k) (x ∷ []) [])

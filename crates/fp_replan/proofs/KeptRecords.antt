@@ -1,40 +1,19 @@
 -- What a record of a kept leg without a fault gives.
-use Rattle.std.proofs.Common.{◌≡◌, ℕ, ◌+◌, ◌<◌, true, false, eqb, leb, List, [], ◌∷◌, ◌++◌, length, drop, refl, sym, ap, ◌∙◌, arith}
-use Rattle.std.specs.Prelude.{Option, Some, None, not, is_none, unwrap_or, position, slice_index_or, codes}
+use Rattle.std.proofs.Common.{◌≡◌, ℕ, ◌+◌, ◌<◌, eqb, leb, List, [], ◌∷◌, ◌++◌, length, drop, refl, sym, ap, ◌∙◌}
+use Rattle.std.specs.Prelude.{None, not, slice_index_or, codes}
 use Rattle.std.proofs.lemmas.Bool.{leb-false, not-false, or_parts}
-use Rattle.std.proofs.lemmas.List.{drop_more, length-map}
-use Rattle.std.proofs.lemmas.List.Quantifiers.{position-Some}
+use Rattle.std.proofs.lemmas.List.{drop_more}
 use Rattle.fp_model.specs.declared.limits.TheConstants.{LATEST}
-use Rattle.fp_model.specs.declared.parts.Shipment.{Shipment}
-use Rattle.fp_model.specs.Problem.{Problem, no_arc}
-use Rattle.fp_fields.specs.Fields.{field, has_number, is_between, is_kind}
-use Rattle.fp_fields.specs.Findings.{first_code}
-use Rattle.fp_fields.specs.Indexes.{shipment_names}
-use Rattle.fp_fields.specs.NamedParts.{arc_between, arc_in, joins, lacks_arc, lacks_shipment, shipment_in, terminal_named}
-use Rattle.fp_fields.proofs.FaultTables.{IsClear-from_none}
-use Rattle.fp_fields.proofs.NameNumbers.{number_of-lt}
+use Rattle.fp_model.specs.Problem.{Problem}
+use Rattle.fp_records_fields.specs.Fields.{has_number, is_between, is_kind}
+use Rattle.fp_records_fields.specs.Findings.{first_code}
+use Rattle.fp_records_fields.specs.NamedParts.{lacks_arc, lacks_shipment}
+use Rattle.fp_records_fields.proofs.FaultTables.{IsClear-from_none}
 use Rattle.fp_replan.specs.declared.kept.Kept.{Kept}
 use Rattle.fp_replan.specs.declared.kept.TheConstants.{MOST_KEPT}
 use Rattle.fp_replan.specs.KeptLegs.{CanKeep}
 use Rattle.fp_replan.specs.Records.{is_next, kept_faults, kept_from, kept_in, lacks_part}
-
--- a shipment that is named
-pub shipment_in-lt : (p : Problem) (fields : List (List ℕ)) (place : ℕ) → lacks_shipment p fields place ≡ false → shipment_in p fields place < length p.shipments
-shipment_in-lt p fields place named =
-    omega (arith, number_of-lt (shipment_names p.shipments) (field fields place) _ refl named, length-map p.shipments (λ (s : Shipment). s.name))
-
-found_lt : (p : Problem) (from to : ℕ) (number : Option ℕ) → position (joins from to) p.arcs ≡ number → is_none number ≡ false → unwrap_or number 0 < length p.arcs
-found_lt p from to None e named = absurd (cc named)
-found_lt p from to (Some i) e named = (position-Some (joins from to) p.arcs i no_arc e).0
-
-joined_lt : (p : Problem) (from to : Option ℕ) → is_none (arc_between p from to) ≡ false → unwrap_or (arc_between p from to) 0 < length p.arcs
-joined_lt p (Some from) (Some to) named = found_lt p from to _ refl named
-joined_lt p (Some from) None named = absurd (cc named)
-joined_lt p None to named = absurd (cc named)
-
--- an arc whose ends are named
-pub arc_in-lt : (p : Problem) (fields : List (List ℕ)) (from to : ℕ) → lacks_arc p fields from to ≡ false → arc_in p fields from to < length p.arcs
-arc_in-lt p fields from to named = joined_lt p (terminal_named p (field fields from)) (terminal_named p (field fields to)) named
+use Rattle.fp_records_fields.proofs.NamedParts.{arc_in-lt, shipment_in-lt}
 
 -- what a record without a fault gives can be kept, and there is room for it
 pub record IsFit (p : Problem) (before : List Kept) (x : Kept) : Type 0 where

@@ -5,11 +5,11 @@ use Rattle.std.specs.List.{AllByRecursion, AllZip}
 use Rattle.std.proofs.lemmas.Bool.Decides.{eqb_tells}
 use Rattle.std.proofs.lemmas.List.{map-append}
 use Rattle.std.proofs.lemmas.Slice.Zip.{AllZip-long}
-use Rattle.fp_lists.specs.Distinct.{AreDistinct}
-use Rattle.fp_lists.specs.Membership.{list_has}
-use Rattle.fp_lists.specs.Numbered.{AllFrom}
-use Rattle.fp_lists.proofs.Elements.{AllByRecursion-append, AllByRecursion-both, AllByRecursion-from_map, AllByRecursion-map, AllByRecursion-weaker}
-use Rattle.fp_lists.proofs.Numbered.{AllFrom-from_get_or, AllFrom-get_or_zero, AllZip-get_or}
+use Rattle.fp_base_lists.specs.Distinct.{AreDistinct}
+use Rattle.fp_base_lists.specs.Membership.{list_has}
+use Rattle.fp_base_lists.specs.Numbered.{AllFrom}
+use Rattle.fp_base_lists.proofs.Elements.{AllByRecursion-append, AllByRecursion-both, AllByRecursion-from_map, AllByRecursion-map, AllByRecursion-weaker}
+use Rattle.fp_base_lists.proofs.Numbered.{AllFrom-from_get_or, AllFrom-get_or_zero, AllZip-get_or}
 use Rattle.fp_model.specs.declared.parts.Leg.{Leg}
 use Rattle.fp_model.specs.declared.parts.Shipment.{Shipment}
 use Rattle.fp_model.specs.Numbered.{no_shipment, route_at, shipment_at}

@@ -1,37 +1,36 @@
 -- The rows of windows once arcs were shut off and the kept legs' windows narrowed.
-use Rattle.std.proofs.Common.{◌≡◌, ◌≢◌, ℕ, ◌+◌, ◌*◌, ◌<◌, ◌≤◌, true, false, ◌||◌, Bool, cond, List, [], ◌∷◌, ◌++◌, length, map, take, drop, ⊎_elim, refl, sym, ap, ◌∙◌, subst, arith, le_refl, eq-eqb, length-append}
+use Rattle.std.proofs.Common.{◌≡◌, ◌≢◌, ℕ, ◌+◌, ◌*◌, ◌<◌, ◌≤◌, true, false, Bool, cond, List, [], ◌∷◌, ◌++◌, length, map, take, drop, refl, sym, ap, ◌∙◌, subst, arith, le_refl, eq-eqb, ⊎_elim}
 use Rattle.std.specs.Prelude.{nat_eq, Option, Some, None, IsSomeAnd, slice_index, slice_index_or, not, ◌&&◌, ◌==◌, filter}
-use Rattle.std.specs.List.{AllByRecursion, AllZip, list_any}
+use Rattle.std.specs.List.{AllByRecursion, list_any}
 use Rattle.std.proofs.Math.Nat.{le_of_mul-le-mul_left}
 use Rattle.std.proofs.lemmas.Bool.{and_parts, cases_Bool, false≢true, ne_eqb, not-true, or_left, or_parts, or_right}
 use Rattle.std.proofs.lemmas.Bool.Decides.{eqb_tells}
-use Rattle.std.proofs.lemmas.List.{drop_more, get_or-map, map-append, take-append-drop, take_more}
+use Rattle.std.proofs.lemmas.List.{drop_more, get_or-map, map-append, take-append-drop}
 use Rattle.std.proofs.lemmas.List.Elements.{filter-append}
 use Rattle.std.proofs.lemmas.Slice.Zip.{AllZip-long}
-use Rattle.fp_lists.specs.Membership.{list_has}
-use Rattle.fp_lists.specs.Numbered.{AllFrom}
-use Rattle.fp_lists.proofs.Elements.{AllByRecursion-from_map, AllByRecursion-push, AllByRecursion-weaker}
-use Rattle.fp_lists.proofs.Membership.{list_has-append, list_has-cons_cases, list_has-first, list_has-rest}
-use Rattle.fp_lists.proofs.Numbered.{AllFrom-get_or_zero}
-use Rattle.fp_model.specs.declared.parts.Arc.{Arc}
+use Rattle.fp_base_lists.specs.Membership.{list_has}
+use Rattle.fp_base_lists.proofs.Elements.{AllByRecursion-from_map, AllByRecursion-push, AllByRecursion-weaker}
+use Rattle.fp_base_lists.proofs.Membership.{list_has-append, list_has-cons_cases, list_has-first, list_has-rest, list_has-apart}
+use Rattle.fp_base_lists.proofs.Numbered.{AllFrom-get_or_zero}
 use Rattle.fp_model.specs.declared.parts.Leg.{Leg}
 use Rattle.fp_model.specs.declared.parts.Shipment.{Shipment}
 use Rattle.fp_model.specs.Numbered.{no_shipment, route_at, shipment_at}
 use Rattle.fp_model.specs.Problem.{Problem, arc_at, no_arc}
-use Rattle.fp_model.specs.Routes.{Carries, Leads, arcs_of, ends_of}
+use Rattle.fp_model.specs.Routes.{Carries, arcs_of, ends_of}
 use Rattle.fp_flatnet.specs.declared.window_tables.Window.{Window}
 use Rattle.fp_flatnet.specs.Belonging.{BelongsTo}
-use Rattle.fp_flatnet.specs.Tables.{CanNarrow, WindowTable, narrowed, tail_of, windows_in, with_entry}
+use Rattle.fp_flatnet.specs.Tables.{CanNarrow, WindowTable, narrowed, tail_of, windows_in}
 use Rattle.fp_flatnet.specs.Windows.{AreWindows, CoverPlans, IsInside, IsWindowOrNone, LiesWithin}
 use Rattle.fp_flatnet.proofs.WindowEntries.{entry-exists, entry-set_other, entry-set_same}
 use Rattle.fp_replan.specs.declared.kept.Kept.{Kept}
 use Rattle.fp_replan.specs.Beginnings.{AreBeginnings, IsBeginning}
-use Rattle.fp_replan.specs.KeptLegs.{AreKept, BeginWith, CanKeep, goes_on, kept_of, leg_of, no_kept, place_after, places_seen, scaled}
-use Rattle.fp_replan.specs.KeptWindows.{AreNarrow, CanBeKept, CanNarrowAll, IsKeptRow, StaysOff, kept_place, shut_off, touches, window_at}
+use Rattle.fp_replan.specs.KeptLegs.{AreKept, BeginWith, CanKeep, kept_of, leg_of, no_kept, place_after, places_seen, scaled}
+use Rattle.fp_replan.specs.KeptWindows.{AreNarrow, CanBeKept, CanNarrowAll, IsKeptRow, StaysOff, shut_off, touches, window_at}
 use Rattle.fp_replan.proofs.KeptBeginnings.{IsBeginning-kept, kept_of-other, kept_of-same}
 use Rattle.fp_replan.proofs.KeptRoutes.{IsRowFrom}
-use Rattle.fp_replan.proofs.ListParts.{AllByRecursion-has, AllByRecursion-left, AllByRecursion-right, list_any-each, list_any-none, list_has-apart}
+use Rattle.fp_replan.proofs.ListParts.{AllByRecursion-left, AllByRecursion-right, list_any-each, list_any-none}
 use Rattle.fp_replan.proofs.RoutesOff.{off-no_arc, one-leaves}
+use Rattle.fp_base_lists.proofs.Distinct.{list_has-others}
 
 -- where a list has a number, the list of the images has its image
 list_has-map : (f : ℕ → ℕ) (numbers : List ℕ) (n : ℕ) → list_has numbers n ≡ true → list_has (map f numbers) (f n) ≡ true
@@ -179,11 +178,6 @@ off-touches p a [] off = tt
 off-touches p a (l ∷ legs) off =
     (rw (ne_eqb (arc_at p a).from (arc_at p l.arc).from off.0.0, ne_eqb (arc_at p a).to (arc_at p l.arc).from off.0.1) refl, off-touches p a legs off.1)
 
--- the arcs of legs are not among those of others from which they differ
-apart-has_not : (numbers : List ℕ) (n : ℕ) → AllByRecursion (λ m. m ≢ n) numbers → list_has numbers n ≡ false
-apart-has_not [] n apart = refl
-apart-has_not (m ∷ numbers) n apart = rw (ne_eqb m n apart.0, apart-has_not numbers n apart.1) refl
-
 -- a row whose other arcs were shut off, and whose kept legs' windows were narrowed
 pub IsRowFrom-narrow : (p : Problem) (kept : List Kept) (base shut windows : ℕ → ℕ → Option Window) → AreKept p kept →
     ((k a : ℕ) → k < length p.shipments → a < length p.arcs → shut k a ≡ cond (shut_off p (kept_of kept k) a) None (base k a)) → AreNarrow kept shut windows →
@@ -208,7 +202,7 @@ IsRowFrom-narrow p kept base shut windows are closed narrow k lt = record {
       (λ l some same. shut_so a exists none (some (or_right ((arc_at p a).from == (arc_at p l.arc).from) ((arc_at p a).to == (arc_at p l.arc).from) (eq-eqb (arc_at p a).to (arc_at p l.arc).from same))))
       (kept_of kept k) (list_any-each (touches p a) (kept_of kept k));
   other = λ a exists off.
-      let none : list_has (arcs_of (kept_of kept k)) a ≡ false = apart-has_not (arcs_of (kept_of kept k)) a (off-no_arc p (kept_of kept k) a off) in
+      let none : list_has (arcs_of (kept_of kept k)) a ≡ false = list_has-others (arcs_of (kept_of kept k)) a (off-no_arc p (kept_of kept k) a off) in
       let no_touch : list_any (touches p a) (kept_of kept k) ≡ false = list_any-none (touches p a) (kept_of kept k) (off-touches p a (kept_of kept k) off) in
       narrow.same k a none ∙ closed k a lt exists ∙ rw (none, no_touch) refl;
 }

@@ -1,18 +1,18 @@
 -- Walks of least steps among those that avoid terminals, and a shipment that goes on along one.
-use Rattle.std.proofs.Common.{◌≡◌, ◌≢◌, ℕ, zero, suc, ◌+◌, ◌*◌, ◌<◌, ◌≤◌, true, false, Some, None, Option, List, [], ◌∷◌, ◌++◌, length, map, reverse, take, ⊎_elim, refl, sym, ap, ◌∙◌, subst, arith, append_assoc, append-nil}
-use Rattle.std.specs.Prelude.{MatchOption, All, IfSome, IsSome, IsSomeAnd, cond, slice_index_or, unwrap_or}
+use Rattle.std.proofs.Common.{◌≡◌, ◌≢◌, ℕ, ◌+◌, ◌*◌, ◌<◌, ◌≤◌, true, false, Some, None, Option, List, [], ◌∷◌, ◌++◌, length, map, reverse, take, refl, sym, ap, ◌∙◌, subst, arith, append_assoc, append-nil, ⊎_elim}
+use Rattle.std.specs.Prelude.{MatchOption, All, IsSome, IsSomeAnd, cond, slice_index_or, unwrap_or}
 use Rattle.std.specs.List.{AllByRecursion}
 use Rattle.std.proofs.Math.Nat.{mul-le-mul}
-use Rattle.std.proofs.lemmas.Bool.{cases_Bool, cases_lt}
-use Rattle.std.proofs.lemmas.List.{get_or-map, length-map, reverse-append, take_more}
+use Rattle.std.proofs.lemmas.Bool.{cases_Bool}
+use Rattle.std.proofs.lemmas.List.{get_or-map, length-map, take_more}
 use Rattle.std.proofs.lemmas.List.Elements.{All-map}
 use Rattle.std.proofs.lemmas.List.Sums.{sum_by-cons}
-use Rattle.fp_lists.specs.Distinct.{AreDistinct}
-use Rattle.fp_lists.specs.Membership.{list_has}
-use Rattle.fp_lists.proofs.Distinct.{AreDistinct-cons, AreDistinct-nil}
-use Rattle.fp_lists.proofs.Elements.{AllByRecursion-append}
+use Rattle.fp_base_lists.specs.Distinct.{AreDistinct}
+use Rattle.fp_base_lists.specs.Membership.{list_has}
+use Rattle.fp_base_lists.proofs.Distinct.{AreDistinct-cons, AreDistinct-nil}
+use Rattle.fp_base_lists.proofs.Elements.{AllByRecursion-append}
 use Rattle.fp_labels.specs.declared.graphs.Edge.{Edge}
-use Rattle.fp_labels.specs.Graphs.{edge_at, no_edge}
+use Rattle.fp_labels.specs.Graphs.{edge_at}
 use Rattle.fp_labels.specs.Labels.{AreLabels, Distances, IsSmallFor, cost_to}
 use Rattle.fp_labels.specs.Walks.{Leads as EdgesLead, IsDistance as IsCostDistance, IsOpen, cost_of, walk_cost}
 use Rattle.fp_model.specs.declared.limits.TheConstants.{LONGEST_STEP, MOST_TERMINALS}
@@ -21,12 +21,12 @@ use Rattle.fp_model.specs.declared.parts.Leg.{Leg}
 use Rattle.fp_model.specs.declared.parts.Shipment.{Shipment}
 use Rattle.fp_model.specs.Problem.{IsShipment, IsValid, Problem, arc_at, hold_at, no_arc}
 use Rattle.fp_model.specs.Routes.{Leads, arcs_of, ends_of, step, walk_time}
-use Rattle.fp_model.proofs.Bounds.{Leads-exist}
 use Rattle.fp_model.proofs.Validity.{IsArc-valid, hold_at-le}
 use Rattle.fp_flatnet.specs.ArcGraphs.{arc_step, backward_edge, backward_shape}
-use Rattle.fp_flatnet.proofs.LeastWalks.{Leads-append, first-time, steps, steps-append, steps-held, time-steps}
+use Rattle.fp_flatnet.proofs.LeastWalks.{Leads-append, first-time, steps, steps-append, steps-held}
 use Rattle.fp_replan.specs.KeptLegs.{place_after, places_seen}
 use Rattle.fp_replan.specs.Starts.{AddsTo, Avoids, BeginsPast, BeginsPastFirst, GoesOnFrom, IsOnward, open_cost, open_costs, ready_after}
+use Rattle.fp_flatnet.proofs.ArcWalks.{backward-at, edges-append, reverse-cons}
 
 -- a walk that avoids terminals, of whose steps no other such walk has fewer
 pub record IsLeastPast (p : Problem) (gone : List ℕ) (here there : ℕ) (arcs : List ℕ) : Type 0 where
@@ -57,13 +57,7 @@ open-free p gone a lt some =
     (λ (free : list_has gone (arc_at p a).to ≡ false). free)
     (cases_Bool (list_has gone (arc_at p a).to))
 
--- walks along arcs turned round that are open, and walks that avoid the terminals
-reverse-cons : (a : ℕ) (walk : List ℕ) → reverse (a ∷ walk) ≡ reverse walk ++ (a ∷ [])
-reverse-cons a walk = reverse-append (a ∷ []) walk
-
-back-at : (p : Problem) (a : ℕ) → a < length p.arcs → edge_at (map backward_edge p.arcs) a ≡ backward_edge (arc_at p a)
-back-at p a lt = get_or-map backward_edge p.arcs a no_arc no_edge lt
-
+-- walks that avoid the terminals, one after the other
 ends-append : (p : Problem) (gone : List ℕ) (xs ys : List ℕ) → Avoids p gone xs → Avoids p gone ys → Avoids p gone (xs ++ ys)
 ends-append p gone [] ys first later = later
 ends-append p gone (a ∷ xs) ys first later = (first.0, ends-append p gone xs ys first.1 later)
@@ -79,7 +73,7 @@ turned : (p : Problem) (gone : List ℕ) (there here : ℕ) (walk : List ℕ) �
 turned p gone there here [] leads opens = record { leads = sym leads; avoids = tt; same = refl }
 turned p gone there here (a ∷ walk) leads opens =
     let lt : a < length p.arcs = omega (arith, leads.0, length-map p.arcs backward_edge) in
-    let edge : edge_at (map backward_edge p.arcs) a ≡ backward_edge (arc_at p a) = back-at p a lt in
+    let edge : edge_at (map backward_edge p.arcs) a ≡ backward_edge (arc_at p a) = backward-at p a lt in
     let P : Edge → Type 0 = λ x. (x.from ≡ there) × EdgesLead (map backward_edge p.arcs) x.to walk here in
     let on : P (backward_edge (arc_at p a)) = subst P edge (leads.1, leads.2) in
     let before : IsTurned p gone here (arc_at p a).from walk = turned p gone (arc_at p a).from here walk on.1 opens.1 in
@@ -94,10 +88,6 @@ turned p gone there here (a ∷ walk) leads opens =
           ∙ omega (arith, steps-append p (reverse walk) (a ∷ []), before.same, cost, sum_by-cons (λ e. unwrap_or (cost_of (open_costs p gone) e) 0) a walk);
     }
 
-edges-append : (edges : List Edge) (here mid there : ℕ) (xs ys : List ℕ) → EdgesLead edges here xs mid → EdgesLead edges mid ys there → EdgesLead edges here (xs ++ ys) there
-edges-append edges here mid there [] ys first later = subst (λ (n : ℕ). EdgesLead edges n ys there) (sym first) later
-edges-append edges here mid there (e ∷ xs) ys first later = (first.0, first.1, edges-append edges (edge_at edges e).to mid there xs ys first.2 later)
-
 -- and a walk that avoids the terminals, turned round
 pub record IsTurnedBack (p : Problem) (gone : List ℕ) (here there : ℕ) (arcs : List ℕ) : Type 0 where
   pub leads : EdgesLead (map backward_edge p.arcs) there (reverse arcs) here
@@ -109,7 +99,7 @@ turned-back p gone here there [] leads avoids = record { leads = sym leads; open
 turned-back p gone here there (a ∷ arcs) leads avoids =
     let edges : List Edge = map backward_edge p.arcs in
     let costs : List (Option ℕ) = open_costs p gone in
-    let edge : edge_at edges a ≡ backward_edge (arc_at p a) = back-at p a leads.0 in
+    let edge : edge_at edges a ≡ backward_edge (arc_at p a) = backward-at p a leads.0 in
     let P : Edge → Type 0 = λ x. (x.from ≡ (arc_at p a).to) × (x.to ≡ here) in
     let last : P (edge_at edges a) = subst P (sym edge) (refl, leads.1) in
     let before : IsTurnedBack p gone (arc_at p a).to there arcs = turned-back p gone (arc_at p a).to there arcs leads.2 avoids.1 in

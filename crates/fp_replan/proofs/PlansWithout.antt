@@ -1,20 +1,20 @@
 -- Plans of an instance without its last shipment.
-use Rattle.std.proofs.Common.{◌≡◌, ℕ, zero, suc, ◌+◌, ◌*◌, ◌-◌, ◌≤◌, false, List, [], ◌∷◌, length, take, refl, sym, ap, ◌∙◌, arith}
+use Rattle.std.proofs.Common.{◌≡◌, ℕ, zero, suc, ◌+◌, ◌*◌, ◌-◌, ◌≤◌, false, List, [], ◌∷◌, length, take, refl, sym, ◌∙◌, arith}
 use Rattle.std.specs.Prelude.{if◌then◌else◌}
 use Rattle.std.specs.List.{AllZip}
 use Rattle.std.proofs.Math.Nat.{mul-le-mul_left}
 use Rattle.std.proofs.lemmas.Bool.{or_parts}
 use Rattle.std.proofs.lemmas.List.Folds.{list_any-append}
 use Rattle.std.proofs.lemmas.List.Sums.{sum_by-le-sum_by}
-use Rattle.fp_lists.proofs.Ceilings.{div_ceil-zero, div_ceil_mono}
+use Rattle.fp_base_lists.proofs.Ceilings.{div_ceil_mono}
 use Rattle.fp_model.specs.declared.parts.Arc.{Arc}
 use Rattle.fp_model.specs.declared.parts.Leg.{Leg}
 use Rattle.fp_model.specs.declared.parts.Shipment.{Shipment}
 use Rattle.fp_model.specs.Costs.{all_legs, cost, distinct, flow_total, has_leg, load, same_leg}
 use Rattle.fp_model.specs.Plans.{IsPlan, NoPlanCheaper, PlanExists}
-use Rattle.fp_model.specs.Problem.{Problem, arc_at, truck_cost}
+use Rattle.fp_model.specs.Problem.{Problem, arc_at}
 use Rattle.fp_model.specs.Routes.{ArrivesBy, Carries, Leads, LeavesReady, arcs_of, step}
-use Rattle.fp_model.proofs.Bounds.{departure_of, load-outside}
+use Rattle.fp_model.proofs.Bounds.{departure_of, departure-outside}
 use Rattle.fp_model.proofs.Distinct.{distinct_sum, distinct_sum-le}
 use Rattle.fp_replan.specs.Quotes.{HasPlanAtMost, IsCostOfPlan, without_last}
 
@@ -48,21 +48,13 @@ departure-front p n ss R k =
     let arc : Arc = arc_at p k.arc in
     mul-le-mul_left arc.truck (div_ceil_mono (load (take n ss) (take n R) k) (load ss R k) arc.capacity (load-front n ss R k))
 
--- a departure that no route has costs nothing
-departure-none : (p : Problem) (ss : List Shipment) (R : List (List Leg)) (k : Leg) → has_leg k (all_legs R) ≡ false → departure_of p ss R k ≡ 0
-departure-none p ss R k none =
-    let arc : Arc = arc_at p k.arc in
-    let empty : truck_cost arc (load ss R k) ≡ truck_cost arc 0 = ap (truck_cost arc) (load-outside ss R k none) in
-    let no_trucks : truck_cost arc 0 ≡ arc.truck * 0 = ap (λ n. arc.truck * n) (div_ceil-zero arc.capacity) in
-    omega (arith, empty, no_trucks)
-
 -- shipments and routes taken away from the end of a plan make it no dearer
 pub cost-front : (p : Problem) (n : ℕ) (R : List (List Leg)) → cost (record p { shipments = take n p.shipments }) (take n R) ≤ cost p R
 cost-front p n R =
     let front : Leg → ℕ = departure_of p (take n p.shipments) (take n R) in
     let whole : Leg → ℕ = departure_of p p.shipments R in
     let fewer : distinct_sum front (all_legs (take n R)) ≤ distinct_sum front (all_legs R) =
-    distinct_sum-le (all_legs (take n R)) (all_legs R) front (λ k none. departure-none p (take n p.shipments) (take n R) k (has_leg-front k n R none)) in
+    distinct_sum-le (all_legs (take n R)) (all_legs R) front (λ k none. departure-outside p (take n p.shipments) (take n R) k (has_leg-front k n R none)) in
     let cheaper : distinct_sum front (all_legs R) ≤ distinct_sum whole (all_legs R) =
     sum_by-le-sum_by front whole (distinct (all_legs R)) (departure-front p n p.shipments R) in
     omega (arith, fewer, cheaper, flow-front p (take n p.shipments) n p.shipments R)

@@ -1,16 +1,16 @@
 -- A route that repeats no terminal stays off the tails of legs that it has gone by.
-use Rattle.std.proofs.Common.{◌≡◌, ◌≢◌, ℕ, ◌<◌, true, false, List, [], ◌∷◌, ◌++◌, length, ⊎_elim, refl, sym, ap, ◌∙◌, subst}
+use Rattle.std.proofs.Common.{◌≡◌, ◌≢◌, ℕ, true, List, [], ◌∷◌, ◌++◌, sym, ap, ◌∙◌, ⊎_elim}
 use Rattle.std.specs.List.{AllByRecursion}
-use Rattle.fp_lists.specs.Distinct.{AreDistinct}
-use Rattle.fp_lists.specs.Membership.{list_has}
-use Rattle.fp_lists.proofs.Distinct.{AreDistinct-head, AreDistinct-tail}
-use Rattle.fp_lists.proofs.Elements.{AllByRecursion-always, AllByRecursion-both, AllByRecursion-from_map, AllByRecursion-weaker}
-use Rattle.fp_lists.proofs.Membership.{list_has-cons_cases}
+use Rattle.fp_base_lists.specs.Distinct.{AreDistinct}
+use Rattle.fp_base_lists.specs.Membership.{list_has}
+use Rattle.fp_base_lists.proofs.Distinct.{AreDistinct-head, AreDistinct-tail}
+use Rattle.fp_base_lists.proofs.Elements.{AllByRecursion-always, AllByRecursion-both, AllByRecursion-from_map, AllByRecursion-weaker}
+use Rattle.fp_base_lists.proofs.Membership.{list_has-cons_cases, AllByRecursion-list_has}
 use Rattle.fp_model.specs.declared.parts.Leg.{Leg}
 use Rattle.fp_model.specs.Problem.{Problem, arc_at}
 use Rattle.fp_model.specs.Routes.{Leads, arcs_of, ends_of}
 use Rattle.fp_replan.specs.KeptWindows.{StaysOff}
-use Rattle.fp_replan.proofs.ListParts.{AllByRecursion-has, AllByRecursion-right}
+use Rattle.fp_replan.proofs.ListParts.{AllByRecursion-right}
 
 -- the arc neither leaves nor enters a terminal
 abbrev IsOff : Problem → ℕ → ℕ → Type 0
@@ -57,7 +57,7 @@ one-leaves p here (l ∷ legs) there a leads once has =
           (λ m is_off e. absurd (is_off.0 (sym e ∙ ap (λ b. (arc_at p b).from) (sym same) ∙ leads.1))) legs off_legs,
     ))
     (λ (later : list_has (arcs_of legs) a ≡ true). (
-      (λ e. absurd ((AllByRecursion-has (IsOff p here) (arcs_of legs) a off later).0 (e ∙ leads.1))),
+      (λ e. absurd ((AllByRecursion-list_has (IsOff p here) (arcs_of legs) a off later).0 (e ∙ leads.1))),
       one-leaves p (arc_at p l.arc).to legs there a leads.2 (AreDistinct-tail here (ends_of p (arcs_of (l ∷ legs))) once) later,
     ))
     (list_has-cons_cases l.arc (arcs_of legs) a has)

@@ -1,8 +1,8 @@
 -- Kept legs: legs that shipments go by in any case. Those of one shipment, in their order, begin its
 -- route. A plan over the denominator d leaves at `depart / d`.
 use Rattle.std.specs.Prelude.{ℕ, ◌*◌, ◌<◌, ◌≡◌, List, [], ◌∷◌, ◌++◌, length, map, filter, take, Bool, true, ◌==◌, ◌&&◌, not, slice_index_or}
-use Rattle.fp_lists.specs.Membership.{list_has}
-use Rattle.fp_lists.specs.Numbered.{AllFrom}
+use Rattle.fp_base_lists.specs.Membership.{list_has}
+use Rattle.fp_base_lists.specs.Numbered.{AllFrom}
 use Rattle.fp_model.specs.declared.parts.Leg.{Leg}
 use Rattle.fp_model.specs.declared.parts.Shipment.{Shipment}
 use Rattle.fp_model.specs.Numbered.{shipment_at}

@@ -1,7 +1,7 @@
 -- The windows in which exactly those plans lie that keep legs.
 use Rattle.std.specs.Prelude.{ℕ, ◌≡◌, ◌≢◌, ◌<◌, ◌≤◌, false, List, length, map, Option, Some, None, Bool, ◌&&◌, ◌||◌, ◌==◌, not, ◌↔◌, slice_index_or}
 use Rattle.std.specs.List.{AllByRecursion, list_any}
-use Rattle.fp_lists.specs.Membership.{list_has}
+use Rattle.fp_base_lists.specs.Membership.{list_has}
 use Rattle.fp_model.specs.declared.parts.Leg.{Leg}
 use Rattle.fp_model.specs.declared.parts.Shipment.{Shipment}
 use Rattle.fp_model.specs.Numbered.{shipment_at}

@@ -3,10 +3,10 @@ use Rattle.std.specs.Prelude.{ℕ, ◌+◌, List, [], ◌∷◌, ◌++◌, lengt
 use Rattle.fp_model.specs.declared.limits.TheConstants.{LATEST}
 use Rattle.fp_model.specs.Numbered.{shipment_at}
 use Rattle.fp_model.specs.Problem.{Problem}
-use Rattle.fp_fields.specs.Faults.{Fault, first_fault}
-use Rattle.fp_fields.specs.Fields.{has_number, is_between, is_kind, number_at}
-use Rattle.fp_fields.specs.Findings.{Finding, finding, first_code}
-use Rattle.fp_fields.specs.NamedParts.{arc_in, lacks_arc, lacks_shipment, shipment_in}
+use Rattle.fp_records_fields.specs.Faults.{Fault, first_fault}
+use Rattle.fp_records_fields.specs.Fields.{has_number, is_between, is_kind, number_at}
+use Rattle.fp_records_fields.specs.Findings.{Finding, finding, first_code}
+use Rattle.fp_records_fields.specs.NamedParts.{arc_in, lacks_arc, lacks_shipment, shipment_in}
 use Rattle.fp_replan.specs.declared.kept.Kept.{Kept}
 use Rattle.fp_replan.specs.declared.kept.TheConstants.{MOST_KEPT}
 use Rattle.fp_replan.specs.KeptLegs.{goes_on, kept_of}

@@ -1,7 +1,7 @@
 //! The kept legs of each shipment, with which its route begins.
 ghost use Rattle.std.specs.Prelude.{ℕ, ◌≡◌, ◌<◌, ◌++◌, ◌∷◌, List, [], length, IfOk, OnOk, All};
-ghost use Rattle.fp_lists.specs.Membership.{list_has};
-ghost use Rattle.fp_lists.specs.Vectors.{lists_of};
+ghost use Rattle.fp_base_lists.specs.Membership.{list_has};
+ghost use Rattle.fp_base_lists.specs.Vectors.{lists_of};
 ghost use Rattle.fp_model.specs.Routes.{ArcsExist};
 ghost use Rattle.fp_replan.specs.KeptLegs.{goes_on as goes_on_of, place_after as place_after_of, places_seen};
 ghost use Rattle.fp_replan.specs.Beginnings.{AreBeginnings};

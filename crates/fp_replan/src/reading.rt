@@ -1,8 +1,8 @@
 //! Reads kept legs.
 ghost use Rattle.std.specs.Prelude.{ℕ, ◌≡◌, ◌≤◌, ◌<◌, ◌+◌, ◌-◌, ◌^◌, ◌++◌, ◌∷◌, [], drop, length, Ok, Err, Some, None, IfOk, OnOk, MatchResult};
-ghost use Rattle.fp_lists.specs.Vectors.{lists_of};
-ghost use Rattle.fp_fields.specs.Findings.{first_code};
-ghost use Rattle.fp_fields.specs.Indexes.{entries_of};
+ghost use Rattle.fp_base_lists.specs.Vectors.{lists_of};
+ghost use Rattle.fp_records_fields.specs.Findings.{first_code};
+ghost use Rattle.fp_records_fields.specs.Indexes.{entries_of};
 ghost use Rattle.fp_replan.specs.declared.kept.TheConstants.{MOST_KEPT};
 ghost use Rattle.fp_replan.specs.Beginnings.{AreBeginnings};
 ghost use Rattle.fp_replan.specs.Codes.{code_of};
@@ -14,12 +14,12 @@ use crate::beginnings::{goes_on, keep, no_beginnings};
 use crate::codes::RecordFault;
 use crate::faults::KeptFault;
 use crate::kept::{Kept, MOST_KEPT};
-use fp_fields::digits::short_between;
-use fp_fields::fields::{field_at, has_fields, has_number, is_of_kind};
-use fp_fields::{Index, Lookup};
 use fp_model::limits::LATEST;
 use fp_model::{Instance, Leg};
 use fp_records::Record;
+use fp_records_fields::digits::short_between;
+use fp_records_fields::fields::{field_at, has_fields, has_number, is_of_kind};
+use fp_records_fields::{Index, Lookup};
 use std::alloc::Global;
 
 // The kept leg of a record, or the least of the record's faults.

@@ -71,11 +71,7 @@ pub record Changes (g : Bool → Bool → Bool) (from to : ℕ) (old now : List 
   pub done : (i : ℕ) → i < 64 * n → bit_in now i ≡ g (bit_in old i) (is_within from to i)
   pub left : (i : ℕ) → 64 * n ≤ i → bit_in now i ≡ bit_in old i
 
--- before the range nothing changes
-before-range : (from to i : ℕ) → i < from → is_within from to i ≡ false
-before-range from to i h = rw (lt-leb from i h) refl
-
--- nor after it
+-- after the range nothing changes
 pub after-range : (from to i : ℕ) → to ≤ i → is_within from to i ≡ false
 after-range from to i h = rw (le-ltb i to h) (and-false (nat_le from i))
 

@@ -6,11 +6,11 @@ use Rattle.std.proofs.lemmas.Option.{none-some, same_Some}
 use Rattle.fp_tree.specs.Nodes.{Node, close_leaf, closed_of, divide_leaf, fork_of, leaf_at, open_leaf, put_leaf, split_count}
 use Rattle.fp_tree.specs.Trees.{Leaf, tree_leaves, with_leaf}
 use Rattle.fp_tree.proofs.LeafChange.{leaves_of-with_leaf, with_element}
-use Rattle.fp_pricing.specs.Prices.{PriceLists}
-use Rattle.fp_history.specs.declared.endings.Left.{Left}
-use Rattle.fp_history.specs.declared.endings.Left.TheVariants.{Nothing, Several, Timing}
-use Rattle.fp_history.specs.PrintedLeaves.{IsOpenBelow}
-use Rattle.fp_history.specs.Solutions.{AreWalksUnder, HasSeveral}
+use Rattle.fp_duals_leaves.specs.Prices.{PriceLists}
+use Rattle.fp_session_history.specs.declared.endings.Left.{Left}
+use Rattle.fp_session_history.specs.declared.endings.Left.TheVariants.{Nothing, Several, Timing}
+use Rattle.fp_session_history.specs.PrintedLeaves.{IsOpenBelow}
+use Rattle.fp_session_history.specs.Solutions.{AreWalksUnder, HasSeveral}
 use Rattle.fp_session.specs.declared.kept.Kept.{Kept}
 use Rattle.fp_session.specs.declared.moves.Division.{Division}
 use Rattle.fp_session.specs.declared.payloads.Payload.{Payload}
@@ -18,7 +18,7 @@ use Rattle.fp_session.specs.declared.searches.Search.{Search}
 use Rattle.fp_session.specs.Moves.{AtOpenLeaf, IsDivision, IsLeftAt, IsUnsettled, fork_in, points_now}
 use Rattle.fp_session.specs.Nodes.{IsEarnedAs, IsKept, IsSettled}
 use Rattle.fp_session.specs.Searches.{IsLeft, IsSearch, history}
-use Rattle.fp_history.specs.Notes.{worth_of}
+use Rattle.fp_session_history.specs.Notes.{worth_of}
 use Rattle.fp_session.proofs.EarnedSplits.{IsEarnedAs-kept, IsEarnedSplit-kept, IsKept-noted}
 use Rattle.fp_session.proofs.SearchChanges.{IsSearch-close, IsSearch-divide, IsSearch-put, IsSearch-stop}
 use Rattle.fp_session.proofs.TreeChanges.{leaf_put}

@@ -21,16 +21,16 @@ use Rattle.fp_allowed.specs.Settings.{Setting}
 use Rattle.fp_prices.specs.declared.leaf_prices.LeafPrice.{LeafPrice}
 use Rattle.fp_duals.specs.declared.improvements.Improved.{Improved}
 use Rattle.fp_duals.specs.declared.improvements.Improved.TheVariants as improved
-use Rattle.fp_pricing.specs.Prices.{ArePrices, PriceLists, no_prices}
-use Rattle.fp_history.specs.Notes.{History, Refinement, last_round, points_of}
-use Rattle.fp_history.specs.Points.{BeginWith}
-use Rattle.fp_history.specs.Traces.{IsEarnedTrace}
-use Rattle.fp_history.proofs.HistoryPoints.{AgreeOnPoints-history}
+use Rattle.fp_duals_leaves.specs.Prices.{ArePrices, PriceLists, no_prices}
+use Rattle.fp_session_history.specs.Notes.{History, Refinement, last_round, points_of}
+use Rattle.fp_session_history.specs.Points.{BeginWith}
+use Rattle.fp_session_history.specs.Traces.{IsEarnedTrace}
+use Rattle.fp_session_history.proofs.HistoryPoints.{AgreeOnPoints-history}
 use Rattle.fp_session.specs.declared.payloads.Payload.{Payload}
 use Rattle.fp_session.specs.declared.searches.Search.{Search}
 use Rattle.fp_session.specs.Nodes.{IsKept, IsLeafOf, IsSplitOf}
 use Rattle.fp_session.specs.Outcomes.{empty_kept, priced_kept}
-use Rattle.fp_history.specs.Budgets.{IsBudget}
+use Rattle.fp_session_history.specs.Budgets.{IsBudget}
 use Rattle.fp_session.specs.Searches.{IsIncumbent, IsLeft, IsSearch, history}
 use Rattle.fp_session.specs.Starts.{start_of}
 use Rattle.fp_session.proofs.ImprovedLeaves.{kept-empty, kept-priced}
@@ -90,7 +90,7 @@ IsSearch-start s prices payload value belongs budget incumbent cheaper points ad
   trace = at (λ h. IsEarnedTrace h s.started s.cost) (trace-start s.instance s.windows prices s.started s.cost);
   rounds = at (λ h. last_round h ≤ s.budget.rounds) (omega arith);
   points = points;
-  added = added ∙ sym (ap Rattle.fp_history.specs.Notes.added_of trace);
+  added = added ∙ sym (ap Rattle.fp_session_history.specs.Notes.added_of trace);
   network = at (λ h. IsNetworkOf s.instance s.points (last_round h) s.network) network;
   prices = are;
   tails = subst (HaveTails (tails_of s.instance) fork_of) (sym tree) (tt, tt);
@@ -100,7 +100,7 @@ IsSearch-start s prices payload value belongs budget incumbent cheaper points ad
   leaves = at (λ h. All (IsLeafOf h s.cost) (tree_leaves fork_of s.tree))
       (subst (λ (ns : List (Node Payload)). All (IsLeafOf (start_of s.instance s.windows prices) s.cost) (tree_leaves fork_of ns)) (sym tree)
       (All-cons (IsLeafOf (start_of s.instance s.windows prices) s.cost) root [] (record { kept = kept; closed = λ shut. absurd (false≢true shut) }) (All-nil (IsLeafOf (start_of s.instance s.windows prices) s.cost))));
-  left = subst (λ (o : Option Rattle.fp_history.specs.declared.endings.Left.Left). IfSome o (IsLeft s prices)) (sym going) tt;
+  left = subst (λ (o : Option Rattle.fp_session_history.specs.declared.endings.Left.Left). IfSome o (IsLeft s prices)) (sym going) tt;
 }
   where
     root : Leaf (Node Payload)

@@ -2,8 +2,8 @@
 -- routes and cost less than the incumbent.
 use Rattle.std.proofs.Common.{◌≡◌, ◌<◌, List, subst}
 use Rattle.std.specs.Prelude.{All}
-use Rattle.fp_lists.specs.Distinct.{AreDistinct}
-use Rattle.fp_lists.proofs.Numbered.{AllZipFrom-weaker}
+use Rattle.fp_base_lists.specs.Distinct.{AreDistinct}
+use Rattle.fp_base_lists.proofs.Numbered.{AllZipFrom-weaker}
 use Rattle.fp_model.specs.declared.parts.Leg.{Leg}
 use Rattle.fp_model.specs.declared.parts.Shipment.{Shipment}
 use Rattle.fp_model.specs.Costs.{cost}
@@ -16,12 +16,12 @@ use Rattle.fp_allowed.specs.Walks.{IsTimedWalk}
 use Rattle.fp_allowed.proofs.SamePoints.{allowed_walk_same}
 use Rattle.fp_relaxmodel.specs.Terminals.{terminals_on}
 use Rattle.fp_prices.specs.Rounds.{LeafModel}
-use Rattle.fp_relaxedsearch.specs.AllowedWalks.{AreAllowedWalks}
-use Rattle.fp_history.specs.Solutions.{AreWalksUnder}
+use Rattle.fp_duals_walks.specs.AllowedWalks.{AreAllowedWalks}
+use Rattle.fp_session_history.specs.Solutions.{AreWalksUnder}
 use Rattle.fp_session.specs.declared.kept.Kept.{Kept}
 use Rattle.fp_session.specs.declared.searches.Search.{Search}
 use Rattle.fp_session.specs.Moves.{points_now}
-use Rattle.fp_pricing.specs.Prices.{PriceLists}
+use Rattle.fp_duals_leaves.specs.Prices.{PriceLists}
 use Rattle.fp_session.specs.Outcomes.{IsFound}
 use Rattle.fp_session.specs.Searches.{IsSearch, history}
 use Rattle.fp_session.specs.Walks.{AreCheaperWalks}

@@ -14,15 +14,15 @@ use Rattle.fp_allowed.specs.Allowed.{tails_of}
 use Rattle.fp_allowed.specs.Bits.{allowed_in}
 use Rattle.fp_allowed.specs.Chains.{SeveralLeave}
 use Rattle.fp_allowed.proofs.ClassTimes.{allowed_exists}
-use Rattle.fp_branching.specs.Candidates.{EndsInSeveral}
+use Rattle.fp_session_branching.specs.Candidates.{EndsInSeveral}
 use Rattle.fp_allowed.specs.Departures.{DividesDepartures, IsSplitAt}
 use Rattle.fp_allowed.specs.Slack.{DividesSome}
-use Rattle.fp_lines.specs.Ranges.{IsSplitInRange}
+use Rattle.fp_certificate_lines.specs.Ranges.{IsSplitInRange}
 use Rattle.fp_prices.specs.declared.leaf_prices.Kind.{Kind}
 use Rattle.fp_prices.specs.Tables.{HasKind}
 use Rattle.fp_prices.proofs.TableAppends.{HasKind-append}
 use Rattle.fp_session.specs.declared.searches.Search.{Search}
-use Rattle.fp_pricing.specs.Prices.{HaveGrown, PriceLists}
+use Rattle.fp_duals_leaves.specs.Prices.{HaveGrown, PriceLists}
 use Rattle.fp_session.specs.Searches.{IsSearch}
 use Rattle.fp_session.proofs.Improvements.{setting_of}
 

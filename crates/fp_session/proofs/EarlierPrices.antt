@@ -11,8 +11,8 @@ use Rattle.fp_prices.specs.declared.leaf_prices.LeafPrice.{LeafPrice}
 use Rattle.fp_prices.specs.Rounds.{RoundModel}
 use Rattle.fp_duals.specs.declared.improvements.Improved.{Improved}
 use Rattle.fp_duals.specs.declared.improvements.Improved.TheVariants as improved
-use Rattle.fp_pricing.specs.Prices.{PriceLists}
-use Rattle.fp_history.proofs.HistoryPoints.{AgreeOnPoints-history}
+use Rattle.fp_duals_leaves.specs.Prices.{PriceLists}
+use Rattle.fp_session_history.proofs.HistoryPoints.{AgreeOnPoints-history}
 use Rattle.fp_session.specs.declared.searches.Search.{Search}
 use Rattle.fp_session.specs.Nodes.{IsKept}
 use Rattle.fp_session.specs.Outcomes.{priced_kept}

@@ -2,9 +2,9 @@
 use Rattle.std.proofs.Common.{◌≡◌, ℕ, ◌<◌, ◌≤◌, Bool, false, List, subst, arith}
 use Rattle.std.specs.Prelude.{MatchBool}
 use Rattle.fp_tree.specs.declared.sides.Side.{Side}
-use Rattle.fp_history.specs.Notes.{History, worth_of}
-use Rattle.fp_history.specs.PrintedLeaves.{IsEmptyAt}
-use Rattle.fp_history.specs.Splits.{IsEarnedSplit}
+use Rattle.fp_session_history.specs.Notes.{History, worth_of}
+use Rattle.fp_session_history.specs.PrintedLeaves.{IsEmptyAt}
+use Rattle.fp_session_history.specs.Splits.{IsEarnedSplit}
 use Rattle.fp_session.specs.declared.payloads.Payload.{Payload}
 use Rattle.fp_session.specs.Nodes.{IsEarnedAs, IsKept, split_note}
 

@@ -1,7 +1,7 @@
 -- What values are worth once prices have grown.
 use Rattle.std.proofs.Common.{◌≡◌, ℕ, ap}
-use Rattle.fp_pricing.specs.Prices.{HaveGrown, PriceLists}
-use Rattle.fp_history.specs.Notes.{worth_of}
+use Rattle.fp_duals_leaves.specs.Prices.{HaveGrown, PriceLists}
+use Rattle.fp_session_history.specs.Notes.{worth_of}
 use Rattle.fp_session.specs.declared.searches.Search.{Search}
 use Rattle.fp_session.specs.Searches.{history}
 

@@ -1,8 +1,8 @@
 -- What is kept of a leaf whose price was improved.
 use Rattle.std.proofs.Common.{◌≡◌, ℕ, ◌*◌, ◌≤◌, Bool, true, false, List, [], length, refl, sym, subst, arith}
 use Rattle.std.specs.Prelude.{MatchBool, None}
-use Rattle.fp_lists.specs.Numbered.{AllZipFrom}
-use Rattle.fp_lists.proofs.Numbered.{AllZipFrom-weaker}
+use Rattle.fp_base_lists.specs.Numbered.{AllZipFrom}
+use Rattle.fp_base_lists.proofs.Numbered.{AllZipFrom-weaker}
 use Rattle.fp_model.specs.declared.parts.Leg.{Leg}
 use Rattle.fp_model.specs.declared.parts.Shipment.{Shipment}
 use Rattle.fp_model.specs.Costs.{cost}
@@ -19,19 +19,19 @@ use Rattle.fp_prices.specs.declared.leaf_prices.LeafPrice.{LeafPrice}
 use Rattle.fp_prices.specs.Leaves.{IsFirstWithout, IsLeafValue}
 use Rattle.fp_prices.specs.Shares.{ClassShare}
 use Rattle.fp_prices.proofs.TableAppends.{HasKind-append}
-use Rattle.fp_spans.specs.SpanKinds.{IsPricedValue, spans_beside}
-use Rattle.fp_spans.specs.Spans.{ClassSpan}
-use Rattle.fp_spans.proofs.SameSpanValues.{span_value-same}
+use Rattle.fp_prices_spans.specs.SpanKinds.{IsPricedValue, spans_beside}
+use Rattle.fp_prices_spans.specs.Spans.{ClassSpan}
+use Rattle.fp_prices_spans.proofs.SameSpanValues.{span_value-same}
 use Rattle.fp_duals.specs.Improvements.{IsReachedChain}
-use Rattle.fp_history.specs.Notes.{History, last_round, points_of, with_tables}
-use Rattle.fp_history.specs.PrintedLeaves.{IsEmptyAt}
-use Rattle.fp_history.proofs.SamePoints.{EachValue_same, IsLeafEmpty_same}
-use Rattle.fp_history.proofs.Stays.{IsEarnedAt-with_tables}
+use Rattle.fp_session_history.specs.Notes.{History, last_round, points_of, with_tables}
+use Rattle.fp_session_history.specs.PrintedLeaves.{IsEmptyAt}
+use Rattle.fp_session_history.proofs.SamePoints.{EachValue_same, IsLeafEmpty_same}
+use Rattle.fp_session_history.proofs.Stays.{IsEarnedAt-with_tables}
 use Rattle.fp_session.specs.declared.kept.Kept.{Kept}
 use Rattle.fp_session.specs.declared.payloads.Payload.{Payload}
 use Rattle.fp_session.specs.Nodes.{IsEarnedAs, IsKept}
 use Rattle.fp_session.specs.Outcomes.{IsAtLeastStarts, IsFound}
-use Rattle.fp_pricing.specs.Pricing.{IsPriceFound}
+use Rattle.fp_duals_leaves.specs.Pricing.{IsPriceFound}
 
 -- what is kept of a leaf stays true with more prices
 pub IsKept-with_tables : (h : History) (more : List (List ClassShare)) (spans : List (List ClassSpan)) (sides : List Side) (payload : Payload) (value : ℕ) → length h.spans ≡ length h.tables → IsKept h sides payload value → IsKept (with_tables h more spans) sides payload value

@@ -10,15 +10,15 @@ use Rattle.fp_allowed.specs.Settings.{Setting}
 use Rattle.fp_prices.specs.declared.leaf_prices.LeafPrice.{LeafPrice}
 use Rattle.fp_duals.specs.declared.improvements.Improved.{Improved}
 use Rattle.fp_duals.specs.declared.improvements.Improved.TheVariants as improved
-use Rattle.fp_history.specs.Notes.{History, last_round}
+use Rattle.fp_session_history.specs.Notes.{History, last_round}
 use Rattle.fp_session.specs.declared.kept.Kept.{Kept}
 use Rattle.fp_session.specs.declared.outcomes.Outcome.{Outcome}
 use Rattle.fp_session.specs.declared.outcomes.Outcome.TheVariants as outcome
 use Rattle.fp_session.specs.declared.searches.Search.{Search}
 use Rattle.fp_session.specs.Nodes.{IsKept}
 use Rattle.fp_session.specs.Outcomes.{IsFound, IsGreater, IsOutcome, empty_kept, noted_kept, noted_outcome, priced_kept}
-use Rattle.fp_pricing.specs.Prices.{ArePrices, HaveGrown, PriceLists}
-use Rattle.fp_pricing.specs.Pricing.{IsImprovedBy, IsPriceFound}
+use Rattle.fp_duals_leaves.specs.Prices.{ArePrices, HaveGrown, PriceLists}
+use Rattle.fp_duals_leaves.specs.Pricing.{IsImprovedBy, IsPriceFound}
 use Rattle.fp_session.specs.Searches.{IsSearch, history}
 use Rattle.fp_session.proofs.ImprovedLeaves.{IsKept-with_tables, found-priced, kept-empty, kept-priced}
 use Rattle.fp_session.proofs.NextRounds.{agree-now}

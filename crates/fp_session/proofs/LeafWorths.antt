@@ -10,14 +10,14 @@ use Rattle.fp_tree.specs.Trees.{HaveTails, IsTree, Leaf, tree_leaves}
 use Rattle.fp_allowed.specs.Allowed.{tails_of}
 use Rattle.fp_prices.specs.declared.leaf_prices.LeafPrice.{LeafPrice}
 use Rattle.fp_prices.specs.Leaves.{IsLeafEmpty}
-use Rattle.fp_spans.specs.SpanKinds.{spans_beside}
-use Rattle.fp_spans.proofs.OneSpanValue.{span_leaves-have-one-value}
-use Rattle.fp_lines.specs.declared.certificates.Node.{Node as Line}
-use Rattle.fp_acceptance.specs.Leaves.{fork_of}
-use Rattle.fp_history.specs.Notes.{History, points_of, worth_of}
-use Rattle.fp_history.specs.PrintedLeaves.{IsEmptyAt, IsLeastWorth, IsOpenBelow, IsPrintedLeaf, IsWorth, OfLeaf}
-use Rattle.fp_history.specs.Solutions.{AtLeaf}
-use Rattle.fp_history.specs.Splits.{IsEarnedAt, IsValueAt}
+use Rattle.fp_prices_spans.specs.SpanKinds.{spans_beside}
+use Rattle.fp_prices_spans.proofs.OneSpanValue.{span_leaves-have-one-value}
+use Rattle.fp_certificate_lines.specs.declared.certificates.Node.{Node as Line}
+use Rattle.fp_certificate_rules.specs.Leaves.{fork_of}
+use Rattle.fp_session_history.specs.Notes.{History, points_of, worth_of}
+use Rattle.fp_session_history.specs.PrintedLeaves.{IsEmptyAt, IsLeastWorth, IsOpenBelow, IsPrintedLeaf, IsWorth, OfLeaf}
+use Rattle.fp_session_history.specs.Solutions.{AtLeaf}
+use Rattle.fp_session_history.specs.Splits.{IsEarnedAt, IsValueAt}
 use Rattle.fp_session.specs.declared.payloads.Payload.{Payload}
 use Rattle.fp_session.specs.Nodes.{IsEarnedAs, IsKept, IsLeafOf, IsSettled}
 use Rattle.fp_session.specs.TreeLines.{IsLeastBelow, leaf_worth, lines_of}

@@ -6,8 +6,8 @@ use Rattle.std.specs.Int.{div_ceil}
 use Rattle.std.proofs.Math.Nat.{mul-le-mul_left}
 use Rattle.std.proofs.lemmas.Bool.{cases_Bool, cond-false, cond-true, or_left, or_right}
 use Rattle.std.proofs.lemmas.List.Elements.{All-get_or, All-head, All-tail}
-use Rattle.fp_lists.proofs.Ceilings.{div_ceil-least}
-use Rattle.fp_lists.proofs.Elements.{AllByRecursion-append, AllByRecursion-weaker}
+use Rattle.fp_base_lists.proofs.Ceilings.{div_ceil-least}
+use Rattle.fp_base_lists.proofs.Elements.{AllByRecursion-append, AllByRecursion-weaker}
 use Rattle.fp_model.specs.declared.limits.TheConstants.{GREATEST_AMOUNT, LATEST}
 use Rattle.fp_model.specs.declared.parts.Leg.{Leg}
 use Rattle.fp_model.specs.declared.parts.Shipment.{Shipment}
@@ -17,7 +17,7 @@ use Rattle.fp_model.specs.Plans.{IsPlan}
 use Rattle.fp_model.specs.Problem.{IsArc, IsShipment, IsValid, Problem, arc_at, no_arc}
 use Rattle.fp_model.specs.Routes.{ArrivesBy, Carries, LeavesReady, step}
 use Rattle.fp_model.proofs.Distinct.{same_leg-refl}
-use Rattle.fp_lines.specs.Ranges.{IsLegInRange, IsTruckInRange}
+use Rattle.fp_certificate_lines.specs.Ranges.{IsLegInRange, IsTruckInRange}
 use Rattle.fp_timetable.specs.declared.lines.LegLine.{LegLine}
 use Rattle.fp_timetable.specs.declared.lines.TruckLine.{TruckLine}
 use Rattle.fp_timetable.specs.Lines.{AreLegLines, AreTruckLines, IsLegLine, LegExists, TruckExists, departure, line_leg}

@@ -3,8 +3,8 @@ use Rattle.std.proofs.Common.{◌≡◌, ℕ, ◌+◌, ◌≤◌, false, List, l
 use Rattle.std.specs.Prelude.{All}
 use Rattle.std.proofs.lemmas.Bool.{or_left}
 use Rattle.std.proofs.lemmas.List.Elements.{All-contains, All-weaker}
-use Rattle.fp_lists.specs.Membership.{list_has}
-use Rattle.fp_lists.proofs.Membership.{list_has-append}
+use Rattle.fp_base_lists.specs.Membership.{list_has}
+use Rattle.fp_base_lists.proofs.Membership.{list_has-append}
 use Rattle.fp_model.specs.declared.parts.Leg.{Leg}
 use Rattle.fp_timenodes.specs.declared.places.Place.{Place}
 use Rattle.fp_timenodes.specs.Points.{added_at, greatest_round}
@@ -21,14 +21,14 @@ use Rattle.fp_allowed.proofs.SamePoints.{AgreeOnPoints_sym}
 use Rattle.fp_relaxmodel.specs.Relaxed.{IsRelaxedPlan}
 use Rattle.fp_relaxmodel.proofs.PlansCoarsen.{HasRoutes-relaxed}
 use Rattle.fp_relaxmodel.proofs.RelaxedWalks.{IsRelaxedPlan_same}
-use Rattle.fp_pricing.specs.Prices.{PriceLists}
+use Rattle.fp_duals_leaves.specs.Prices.{PriceLists}
 use Rattle.fp_shortarcs.specs.declared.shorts.Short.{Short}
 use Rattle.fp_shortarcs.specs.TooShort.{AreTooShort, CanBePoint, IsShort}
 use Rattle.fp_shortarcs.proofs.SamePoints.{AreTooShort_same, CanBePoint_same}
-use Rattle.fp_history.specs.Clashes.{ClashesBelow, IsShortPlace}
-use Rattle.fp_history.specs.Notes.{Refinement, added_of, last_round}
-use Rattle.fp_history.specs.Traces.{IsEarnedRound}
-use Rattle.fp_history.proofs.HistoryPoints.{AgreeOnPoints-history, greatest_round-history, horizon-in_time}
+use Rattle.fp_session_history.specs.Clashes.{ClashesBelow, IsShortPlace}
+use Rattle.fp_session_history.specs.Notes.{Refinement, added_of, last_round}
+use Rattle.fp_session_history.specs.Traces.{IsEarnedRound}
+use Rattle.fp_session_history.proofs.HistoryPoints.{AgreeOnPoints-history, greatest_round-history, horizon-in_time}
 use Rattle.fp_session.specs.declared.searches.Search.{Search}
 use Rattle.fp_session.specs.Moves.{points_now}
 use Rattle.fp_session.specs.Refining.{ArePlacesOf, CanAdd, IsPlaceAmong}
@@ -85,7 +85,7 @@ module _ (s : Search) (prices : PriceLists) (is : IsSearch s prices) where
       clashes = subst (ClashesBelow s.instance s.windows (points_now s) n.incumbent) (sym relaxed) clashes;
       some = subst (λ (qs : List Place). 1 ≤ length qs) (sym added) some;
       few = subst (λ (qs : List Place). length qs ≤ 8) (sym added) are.few;
-      distinct = subst (λ (qs : List Place). Rattle.fp_lists.specs.Distinct.AreDistinct qs) (sym added) are.distinct;
+      distinct = subst (λ (qs : List Place). Rattle.fp_base_lists.specs.Distinct.AreDistinct qs) (sym added) are.distinct;
       short = subst (λ (ws : List (List Leg)). All (IsShortPlace s.instance (points_now s) ws) n.added) (sym relaxed)
           (subst (λ (qs : List Place). All (IsShortPlace s.instance (points_now s) walks) qs) (sym added) (All-weaker (IsPlaceAmong shorts) (IsShortPlace s.instance (points_now s) walks) place places are.each));
       new = subst (λ (qs : List Place). All (λ (q : Place). list_has (points_now s q.terminal) q.at ≡ false) qs) (sym added)

@@ -3,9 +3,9 @@ use Rattle.std.proofs.Common.{◌≡◌, ℕ, ◌+◌, ◌<◌, ◌≤◌, inl, 
 use Rattle.std.specs.Prelude.{All, IsSomeAnd, None, Option, Some}
 use Rattle.std.proofs.lemmas.Bool.{false≢true}
 use Rattle.std.proofs.lemmas.List.Elements.{All-cons, All-nil}
-use Rattle.fp_lists.specs.Distinct.{AreDistinct}
-use Rattle.fp_lists.specs.Numbered.{AllZipFrom}
-use Rattle.fp_lists.proofs.Numbered.{AllZipFrom-weaker}
+use Rattle.fp_base_lists.specs.Distinct.{AreDistinct}
+use Rattle.fp_base_lists.specs.Numbered.{AllZipFrom}
+use Rattle.fp_base_lists.proofs.Numbered.{AllZipFrom-weaker}
 use Rattle.fp_model.specs.declared.parts.Leg.{Leg}
 use Rattle.fp_model.specs.declared.parts.Shipment.{Shipment}
 use Rattle.fp_model.specs.Costs.{cost}
@@ -29,8 +29,8 @@ use Rattle.fp_relaxmodel.specs.Relaxed.{AreTimedWalks, IsRelaxedPlan}
 use Rattle.fp_relaxmodel.specs.Terminals.{terminals_on}
 use Rattle.fp_relaxmodel.proofs.RelaxedWalks.{IsRelaxedPlan-timed}
 use Rattle.fp_prices.specs.Rounds.{LeafModel, RoundModel}
-use Rattle.fp_history.specs.Notes.{worth_of}
-use Rattle.fp_history.specs.Solutions.{AreWalksUnder, HasSeveral}
+use Rattle.fp_session_history.specs.Notes.{worth_of}
+use Rattle.fp_session_history.specs.Solutions.{AreWalksUnder, HasSeveral}
 use Rattle.fp_session.specs.declared.dividing.Several.{Several}
 use Rattle.fp_session.specs.declared.kept.Kept.{Kept}
 use Rattle.fp_session.specs.declared.moves.Move.{Move}
@@ -41,11 +41,11 @@ use Rattle.fp_session.specs.Dividing.{IsSeveral, NoneSeveral}
 use Rattle.fp_session.specs.Moves.{AtOpenLeaf, IsMove, IsMoveAt, IsOpenMove, IsUnsettled, points_now}
 use Rattle.fp_session.specs.Nodes.{IsKept, IsKeptAs, IsLeafOf, IsSettled}
 use Rattle.fp_session.specs.Outcomes.{IsFound}
-use Rattle.fp_pricing.specs.Prices.{ArePrices, HaveGrown, PriceLists}
+use Rattle.fp_duals_leaves.specs.Prices.{ArePrices, HaveGrown, PriceLists}
 use Rattle.fp_session.specs.Searches.{IsSearch, history}
 use Rattle.fp_session.proofs.Applied.{of-value, some-value}
 use Rattle.fp_session.proofs.GrownWorths.{worth-grown}
-use Rattle.fp_pricing.proofs.GrownPrices.{unit-some}
+use Rattle.fp_duals_leaves.proofs.GrownPrices.{unit-some}
 use Rattle.fp_session.proofs.Improvements.{IsKept-grown, setting_of}
 use Rattle.fp_session.proofs.NextRounds.{agree-now}
 use Rattle.fp_session.proofs.ReachedWalks.{NoneSeveral-cheaper, NoneSeveral-routes}

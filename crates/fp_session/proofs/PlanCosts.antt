@@ -4,9 +4,9 @@ use Rattle.std.specs.Prelude.{sum_by}
 use Rattle.std.specs.List.{AllZip}
 use Rattle.std.proofs.lemmas.List.Sums.{sum_by-cons}
 use Rattle.std.proofs.lemmas.Slice.Zip.{AllZip-long}
-use Rattle.fp_lists.proofs.Distinct.{AreDistinct-from_map, AreDistinct-tail}
-use Rattle.fp_lists.proofs.DistinctSums.{sum_by-places-le}
-use Rattle.fp_lists.proofs.Sums.{sum_by-both, sum_by-map}
+use Rattle.fp_base_lists.proofs.Distinct.{AreDistinct-from_map, AreDistinct-tail}
+use Rattle.fp_base_lists.proofs.DistinctSums.{sum_by-places-le}
+use Rattle.fp_base_lists.proofs.Sums.{sum_by-both, sum_by-map}
 use Rattle.fp_model.specs.declared.parts.Leg.{Leg}
 use Rattle.fp_model.specs.declared.parts.Shipment.{Shipment}
 use Rattle.fp_model.specs.Costs.{cost, flow_cost, flow_total}
@@ -45,5 +45,5 @@ cost-le-alone_total p d R plan =
     omega (arith, departures-le-alone p p.shipments R long, routes-le-alone p d p.shipments R plan)
 
 -- so the cost of a plan of a valid instance is no larger than a field may be
-pub cost-in_range : (p : Problem) (d : ℕ) (R : List (List Leg)) → IsValid p → IsPlan p d R → cost p R ≤ Rattle.fp_lines.specs.Ranges.largest_figure
+pub cost-in_range : (p : Problem) (d : ℕ) (R : List (List Leg)) → IsValid p → IsPlan p d R → cost p R ≤ Rattle.fp_certificate_lines.specs.Ranges.largest_figure
 cost-in_range p d R valid plan = omega (arith, cost-le-alone_total p d R plan, valid.weight)

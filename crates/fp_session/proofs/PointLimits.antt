@@ -3,10 +3,10 @@ use Rattle.std.proofs.Common.{ℕ, ◌+◌, ◌≤◌, length, arith}
 use Rattle.fp_timenodes.specs.declared.places.TheConstants.{MOST_POINTS}
 use Rattle.fp_longestarcs.specs.Networks.{point_count}
 use Rattle.fp_longestarcs.proofs.PointCounts.{count-made}
-use Rattle.fp_acceptance.specs.Points.{ArePointsOf}
-use Rattle.fp_pricing.specs.Prices.{PriceLists}
-use Rattle.fp_history.specs.Notes.{added_of, last_round}
-use Rattle.fp_history.proofs.HistoryPoints.{ArePointsOf-history}
+use Rattle.fp_certificate_rules.specs.Points.{ArePointsOf}
+use Rattle.fp_duals_leaves.specs.Prices.{PriceLists}
+use Rattle.fp_session_history.specs.Notes.{added_of, last_round}
+use Rattle.fp_session_history.proofs.HistoryPoints.{ArePointsOf-history}
 use Rattle.fp_session.specs.declared.searches.Search.{Search}
 use Rattle.fp_session.specs.Searches.{IsSearch, history}
 

@@ -2,17 +2,17 @@
 use Rattle.std.proofs.Common.{◌≡◌, ℕ, ◌+◌, ◌<◌, ◌≤◌, List, [], ◌∷◌, length, arith}
 use Rattle.std.specs.Prelude.{All}
 use Rattle.std.proofs.lemmas.List.Elements.{All-append, All-head, All-map, All-nil, All-tail, All-weaker}
-use Rattle.fp_lists.specs.Numbered.{AllFrom}
+use Rattle.fp_base_lists.specs.Numbered.{AllFrom}
 use Rattle.fp_model.specs.declared.limits.TheConstants.{LAST_ROUND, LATEST}
 use Rattle.fp_model.specs.declared.parts.Shipment.{Shipment}
 use Rattle.fp_model.specs.Problem.{IsShipment, horizon}
 use Rattle.fp_timenodes.specs.declared.places.AddedPoint.{AddedPoint}
 use Rattle.fp_timenodes.specs.declared.places.Place.{Place}
 use Rattle.fp_flatnet.specs.Belonging.{BelongsTo}
-use Rattle.fp_lines.specs.Ranges.{IsPointInRange}
-use Rattle.fp_history.specs.Notes.{History, Refinement, added_of, last_round, points_added}
-use Rattle.fp_history.specs.Traces.{IsEarnedTrace}
-use Rattle.fp_history.proofs.AddedPoints.{points-in_time}
+use Rattle.fp_certificate_lines.specs.Ranges.{IsPointInRange}
+use Rattle.fp_session_history.specs.Notes.{History, Refinement, added_of, last_round, points_added}
+use Rattle.fp_session_history.specs.Traces.{IsEarnedTrace}
+use Rattle.fp_session_history.proofs.AddedPoints.{points-in_time}
 
 -- the horizon is at most the latest time
 horizon-le : (n : ℕ) (ss : List Shipment) → All (IsShipment n) ss → horizon ss ≤ LATEST

@@ -4,12 +4,12 @@ use Rattle.std.specs.Prelude.{All, IfSome, Option, None, Some}
 use Rattle.std.proofs.lemmas.List.Elements.{All-weaker}
 use Rattle.fp_model.specs.Problem.{Problem}
 use Rattle.fp_prices.specs.Tables.{AreTables}
-use Rattle.fp_spans.specs.Spans.{ClassSpan}
-use Rattle.fp_spans.specs.SpanCharges.{ArePaidSpans}
-use Rattle.fp_lines.specs.Ranges.{IsSpanInRange, IsUnitInRange}
-use Rattle.fp_spanduals.specs.SoundSpans.{AreSoundSpans}
-use Rattle.fp_acceptance.specs.Units.{IsUnit}
-use Rattle.fp_pricing.specs.Prices.{ArePrices, IsUnitOf, PriceLists}
+use Rattle.fp_prices_spans.specs.Spans.{ClassSpan}
+use Rattle.fp_prices_spans.specs.SpanCharges.{ArePaidSpans}
+use Rattle.fp_certificate_lines.specs.Ranges.{IsSpanInRange, IsUnitInRange}
+use Rattle.fp_duals_leaves.specs.SoundSpans.{AreSoundSpans}
+use Rattle.fp_certificate_rules.specs.Units.{IsUnit}
+use Rattle.fp_duals_leaves.specs.Prices.{ArePrices, IsUnitOf, PriceLists}
 
 -- what holds of a unit
 of-unit : (p : Problem) (P : ℕ → Type 0) → ((u : ℕ) → IsUnitOf p u → P u) → (o : Option ℕ) → IfSome o (IsUnitOf p) → IfSome o P

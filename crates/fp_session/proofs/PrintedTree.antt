@@ -5,8 +5,8 @@ use Rattle.std.specs.List.{AllByRecursion, AllZip}
 use Rattle.std.proofs.lemmas.List.{length-map}
 use Rattle.std.proofs.lemmas.List.Elements.{All-filter, All-from_recursion, All-head, All-tail, recursion_from_All}
 use Rattle.std.proofs.lemmas.Option.{none-some, slice_get-map}
-use Rattle.fp_lists.specs.Elements.{AnyByRecursion}
-use Rattle.fp_lists.proofs.Elements.{AllByRecursion-always, AllByRecursion-both, AllByRecursion-from_map, AllByRecursion-map, AllByRecursion-weaker}
+use Rattle.fp_base_lists.specs.Elements.{AnyByRecursion}
+use Rattle.fp_base_lists.proofs.Elements.{AllByRecursion-always, AllByRecursion-both, AllByRecursion-from_map, AllByRecursion-map, AllByRecursion-weaker}
 use Rattle.fp_model.specs.Problem.{Problem}
 use Rattle.fp_flatnet.specs.declared.window_tables.Window.{Window}
 use Rattle.fp_tree.specs.declared.sides.Side.{Side}
@@ -19,9 +19,9 @@ use Rattle.fp_tree.proofs.Branches.{fork_of-leaf, length-branches_of, map-branch
 use Rattle.fp_tree.proofs.NodeMaps.{AreAlike, AreAlike_tails, AreTrees-map, branches_of-map, leaves_of-map, tree_splits-map}
 use Rattle.fp_allowed.specs.Allowed.{tails_of}
 use Rattle.fp_allowed.specs.Slack.{AllDivide, DividesSome}
-use Rattle.fp_lines.specs.declared.certificates.Node.{Node as Line}
-use Rattle.fp_lines.specs.declared.certificates.Node.TheVariants as line
-use Rattle.fp_acceptance.specs.Leaves.{fork_of, split_tail}
+use Rattle.fp_certificate_lines.specs.declared.certificates.Node.{Node as Line}
+use Rattle.fp_certificate_lines.specs.declared.certificates.Node.TheVariants as line
+use Rattle.fp_certificate_rules.specs.Leaves.{fork_of, split_tail}
 use Rattle.fp_session.specs.declared.payloads.Payload.{Payload}
 use Rattle.fp_session.specs.TreeLines.{line_of, lines_of}
 

@@ -6,9 +6,9 @@ use Rattle.std.specs.Int.{div_ceil}
 use Rattle.std.proofs.Math.Nat.{mul-le-mul_left}
 use Rattle.std.proofs.lemmas.Bool.{cases_lt}
 use Rattle.std.proofs.lemmas.List.Elements.{All-cons, All-nil}
-use Rattle.fp_lists.proofs.Ceilings.{div_ceil-holds}
-use Rattle.fp_lists.specs.Distinct.{AreDistinct}
-use Rattle.fp_lists.specs.Numbered.{AllZipFrom}
+use Rattle.fp_base_lists.proofs.Ceilings.{div_ceil-holds}
+use Rattle.fp_base_lists.specs.Distinct.{AreDistinct}
+use Rattle.fp_base_lists.specs.Numbered.{AllZipFrom}
 use Rattle.fp_model.specs.declared.parts.Leg.{Leg}
 use Rattle.fp_model.specs.declared.parts.Shipment.{Shipment}
 use Rattle.fp_model.specs.Costs.{cost}
@@ -30,8 +30,8 @@ use Rattle.fp_relaxmodel.specs.Terminals.{terminals_on}
 use Rattle.fp_relaxmodel.proofs.MetTerminals.{route-decides}
 use Rattle.fp_prices.specs.Rounds.{LeafModel}
 use Rattle.fp_duals.specs.Improvements.{IsReachedChain}
-use Rattle.fp_acceptance.proofs.Multiples.{rounded_up-more}
-use Rattle.fp_history.specs.Notes.{History, last_round, points_of, worth_of}
+use Rattle.fp_certificate_rules.proofs.Multiples.{rounded_up-more}
+use Rattle.fp_session_history.specs.Notes.{History, last_round, points_of, worth_of}
 use Rattle.fp_session.specs.declared.kept.Kept.{Kept}
 use Rattle.fp_session.specs.Dividing.{EndsElsewhere, NoneSeveral}
 use Rattle.fp_session.specs.Outcomes.{IsFound}

@@ -3,8 +3,8 @@ use Rattle.std.proofs.Common.{◌≡◌, ◌≢◌, ℕ, ◌+◌, ◌<◌, ◌�
 use Rattle.std.specs.Prelude.{◌==◌, nat_le}
 use Rattle.std.proofs.lemmas.Bool.{and_parts, false_from_ne_true}
 use Rattle.std.proofs.lemmas.List.{get_or_default, map-append, take_more}
-use Rattle.fp_lists.specs.Distinct.{AreDistinct}
-use Rattle.fp_lists.specs.Membership.{list_has}
+use Rattle.fp_base_lists.specs.Distinct.{AreDistinct}
+use Rattle.fp_base_lists.specs.Membership.{list_has}
 use Rattle.fp_model.specs.Problem.{Problem}
 use Rattle.fp_timenodes.specs.declared.places.AddedPoint.{AddedPoint}
 use Rattle.fp_timenodes.specs.declared.places.Place.{Place}
@@ -15,7 +15,7 @@ use Rattle.fp_longestarcs.specs.Networks.{TimedNetwork, points_in}
 use Rattle.fp_longestarcs.specs.Whole.{IsNetworkOf}
 use Rattle.fp_longestarcs.proofs.NetworkRounds.{IsNetworkOf-with_added}
 use Rattle.fp_longestarcs.proofs.NewPoints.{lengthened-whole}
-use Rattle.fp_history.specs.Notes.{points_added}
+use Rattle.fp_session_history.specs.Notes.{points_added}
 use Rattle.fp_session.specs.Refining.{CanAdd}
 
 -- a place as a point of a round

@@ -12,7 +12,7 @@ use Rattle.fp_relaxmodel.specs.Relaxed.{IsRelaxedPlan}
 use Rattle.fp_dispatch.specs.Answers.{IsEarliest}
 use Rattle.fp_dispatch.specs.Times.{HaveTimes}
 use Rattle.fp_repair.specs.KeptGroups.{AreKeptGroups}
-use Rattle.fp_history.specs.Clashes.{ClashesBelow}
+use Rattle.fp_session_history.specs.Clashes.{ClashesBelow}
 
 pub ClashesBelow-repaired : (p : Problem) (table : WindowTable) (points : ℕ → List ℕ) (incumbent : ℕ) (relaxed plan : List (List Leg)) (timed : Bool) → IsRelaxedPlan p (windows_in table) points relaxed → cost p relaxed < incumbent →
     ((groups : List (List Member)) → AreGroups relaxed groups → (IsTrue timed ↔ HaveTimes p (windows_in table) (arc_lists relaxed) groups)) → (IsTrue timed → cost p plan ≤ cost p relaxed) →

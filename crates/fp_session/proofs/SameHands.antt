@@ -9,16 +9,16 @@ use Rattle.fp_longestarcs.specs.Whole.{IsNetworkOf}
 use Rattle.fp_tree.specs.Nodes.{fork_of, split_count}
 use Rattle.fp_tree.specs.Trees.{tree_branches, tree_leaves}
 use Rattle.fp_prices.specs.Shares.{ClassShare}
-use Rattle.fp_spans.specs.Spans.{ClassSpan}
-use Rattle.fp_history.specs.declared.endings.Left.{Left}
-use Rattle.fp_history.specs.declared.endings.Left.TheVariants.{Nothing, Several, Timing}
-use Rattle.fp_history.specs.Clashes.{ClashesBelow}
-use Rattle.fp_history.specs.Notes.{History, Refinement, added_of, last_round, points_of}
-use Rattle.fp_history.specs.Solutions.{AreWalksUnder, HasSeveral}
-use Rattle.fp_history.specs.Traces.{IsEarnedTrace}
+use Rattle.fp_prices_spans.specs.Spans.{ClassSpan}
+use Rattle.fp_session_history.specs.declared.endings.Left.{Left}
+use Rattle.fp_session_history.specs.declared.endings.Left.TheVariants.{Nothing, Several, Timing}
+use Rattle.fp_session_history.specs.Clashes.{ClashesBelow}
+use Rattle.fp_session_history.specs.Notes.{History, Refinement, added_of, last_round, points_of}
+use Rattle.fp_session_history.specs.Solutions.{AreWalksUnder, HasSeveral}
+use Rattle.fp_session_history.specs.Traces.{IsEarnedTrace}
 use Rattle.fp_session.specs.declared.searches.Search.{Search}
 use Rattle.fp_session.specs.Nodes.{IsLeafOf, IsSplitOf}
-use Rattle.fp_pricing.specs.Prices.{ArePrices, HaveGrown, PriceLists, first_prices}
+use Rattle.fp_duals_leaves.specs.Prices.{ArePrices, HaveGrown, PriceLists, first_prices}
 use Rattle.fp_session.specs.Searches.{InHand, IsLeft, IsLeftOpen, IsSearch, history, in_hand}
 use Rattle.fp_session.proofs.SearchChanges.{IsSearch-with_more}
 

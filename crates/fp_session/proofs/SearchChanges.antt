@@ -17,15 +17,15 @@ use Rattle.fp_tree.specs.Nodes.{Node, close_leaf, closed_of, divide_leaf, fork_o
 use Rattle.fp_tree.specs.Trees.{Branch, Leaf, tree_branches, tree_leaves, with_leaf}
 use Rattle.fp_allowed.specs.Allowed.{tails_of}
 use Rattle.fp_prices.specs.Shares.{ClassShare}
-use Rattle.fp_spans.specs.Spans.{ClassSpan}
-use Rattle.fp_history.specs.declared.endings.Left.{Left}
-use Rattle.fp_history.specs.declared.endings.Left.TheVariants.{Nothing, Several, Timing}
-use Rattle.fp_history.specs.Notes.{History, Refinement, added_of, last_round, points_added, with_note, with_tables, worth_of}
-use Rattle.fp_history.specs.PrintedLeaves.{IsEmptyAt}
-use Rattle.fp_history.specs.Splits.{IsEarnedSplit}
-use Rattle.fp_history.specs.Traces.{IsEarnedTrace}
-use Rattle.fp_history.proofs.PointsKept.{added_of_push}
-use Rattle.fp_history.proofs.Stays.{IsEarnedAt-with_note, IsEarnedSplit-cheaper, IsEarnedSplit-with_note, IsEarnedSplit-with_tables, IsEarnedTrace-cheaper, IsEarnedTrace-with_note, IsEarnedTrace-with_tables, IsEmptyAt-with_note}
+use Rattle.fp_prices_spans.specs.Spans.{ClassSpan}
+use Rattle.fp_session_history.specs.declared.endings.Left.{Left}
+use Rattle.fp_session_history.specs.declared.endings.Left.TheVariants.{Nothing, Several, Timing}
+use Rattle.fp_session_history.specs.Notes.{History, Refinement, added_of, last_round, points_added, with_note, with_tables, worth_of}
+use Rattle.fp_session_history.specs.PrintedLeaves.{IsEmptyAt}
+use Rattle.fp_session_history.specs.Splits.{IsEarnedSplit}
+use Rattle.fp_session_history.specs.Traces.{IsEarnedTrace}
+use Rattle.fp_session_history.proofs.PointsKept.{added_of_push}
+use Rattle.fp_session_history.proofs.Stays.{IsEarnedAt-with_note, IsEarnedSplit-cheaper, IsEarnedSplit-with_note, IsEarnedSplit-with_tables, IsEarnedTrace-cheaper, IsEarnedTrace-with_note, IsEarnedTrace-with_tables, IsEmptyAt-with_note}
 use Rattle.fp_session.specs.declared.moves.Cheaper.{Cheaper}
 use Rattle.fp_session.specs.declared.moves.Division.{Division}
 use Rattle.fp_session.specs.declared.moves.Refined.{Refined}
@@ -33,7 +33,7 @@ use Rattle.fp_session.specs.declared.payloads.Payload.{Payload}
 use Rattle.fp_session.specs.declared.searches.Search.{Search}
 use Rattle.fp_session.specs.Moves.{IsCheaper, IsDivision, IsNextRound, fork_in}
 use Rattle.fp_session.specs.Nodes.{IsEarnedAs, IsKept, IsLeafOf, IsPriceOf, IsSettled, IsSplitOf, split_note}
-use Rattle.fp_pricing.specs.Prices.{ArePrices, PriceLists, with_more}
+use Rattle.fp_duals_leaves.specs.Prices.{ArePrices, PriceLists, with_more}
 use Rattle.fp_session.specs.Searches.{IsLeft, IsSearch, history}
 use Rattle.fp_session.proofs.ImprovedLeaves.{IsKept-with_tables}
 use Rattle.fp_session.proofs.TreeChanges.{branches-close, branches-divide, branches-put, leaves-close, leaves-divide, leaves-put, tails-close, tails-divide, tails-put}

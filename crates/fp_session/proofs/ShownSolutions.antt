@@ -18,31 +18,31 @@ use Rattle.fp_timetable.specs.declared.lines.LegLine.{LegLine}
 use Rattle.fp_timetable.specs.declared.lines.TruckLine.{TruckLine}
 use Rattle.fp_timetable.specs.Lines.{AreLegLines, AreTruckLines, LegExists, TruckExists, routes_from}
 use Rattle.fp_prices.specs.Shares.{ClassShare}
-use Rattle.fp_spans.specs.Spans.{ClassSpan}
-use Rattle.fp_lines.specs.declared.certificates.Answer.{Answer}
-use Rattle.fp_lines.specs.declared.certificates.Answer.TheVariants.{Direct, Infeasible, Optimal, Unfinished}
-use Rattle.fp_lines.specs.declared.certificates.Node.{Node as Line}
-use Rattle.fp_lines.specs.declared.certificates.Spent.TheVariants.{Branches, Rounds}
-use Rattle.fp_lines.specs.Ranges.{IsAnswerInRange, IsInRange, IsLeafInRange, IsScaleInRange, IsSplitInRange, largest_figure}
-use Rattle.fp_lines.specs.Statements.{Statement}
-use Rattle.fp_acceptance.specs.Accepted.{Applies, Holds, Part, claim_of}
-use Rattle.fp_acceptance.specs.Leaves.{AreLeavesWorth, IsLeafWorth}
-use Rattle.fp_acceptance.specs.Plans.{stated_cost}
+use Rattle.fp_prices_spans.specs.Spans.{ClassSpan}
+use Rattle.fp_certificate_lines.specs.declared.certificates.Answer.{Answer}
+use Rattle.fp_certificate_lines.specs.declared.certificates.Answer.TheVariants.{Direct, Infeasible, Optimal, Unfinished}
+use Rattle.fp_certificate_lines.specs.declared.certificates.Node.{Node as Line}
+use Rattle.fp_certificate_lines.specs.declared.certificates.Spent.TheVariants.{Branches, Rounds}
+use Rattle.fp_certificate_lines.specs.Ranges.{IsAnswerInRange, IsInRange, IsLeafInRange, IsScaleInRange, IsSplitInRange, largest_figure}
+use Rattle.fp_certificate_lines.specs.Statements.{Statement}
+use Rattle.fp_certificate_rules.specs.Accepted.{Applies, Holds, Part, claim_of}
+use Rattle.fp_certificate_rules.specs.Leaves.{AreLeavesWorth, IsLeafWorth}
+use Rattle.fp_certificate_rules.specs.Plans.{stated_cost}
 use Rattle.fp_duals.specs.PriceLines.{AreWithinLimits}
-use Rattle.fp_history.specs.declared.endings.Left.{Left}
-use Rattle.fp_history.specs.declared.endings.Left.TheVariants.{Nothing, Several, Timing}
-use Rattle.fp_history.specs.declared.notes.SplitNote.{SplitNote}
-use Rattle.fp_history.specs.Notes.{History, added_of, last_round, points_of, worth_of}
-use Rattle.fp_history.specs.PrintedLeaves.{IsOpenBelow}
-use Rattle.fp_history.specs.Solutions.{AreWalksUnder, HasCause, HasSeveral, IsEarnedSolution, Solution, branches_shown, leaves_shown}
-use Rattle.fp_history.specs.Splits.{IsEarnedSplit}
-use Rattle.fp_history.specs.Traces.{IsEarnedTrace}
-use Rattle.fp_history.proofs.AddedPoints.{AreAddedPoints-IsEarnedTrace}
+use Rattle.fp_session_history.specs.declared.endings.Left.{Left}
+use Rattle.fp_session_history.specs.declared.endings.Left.TheVariants.{Nothing, Several, Timing}
+use Rattle.fp_session_history.specs.declared.notes.SplitNote.{SplitNote}
+use Rattle.fp_session_history.specs.Notes.{History, added_of, last_round, points_of, worth_of}
+use Rattle.fp_session_history.specs.PrintedLeaves.{IsOpenBelow}
+use Rattle.fp_session_history.specs.Solutions.{AreWalksUnder, HasCause, HasSeveral, IsEarnedSolution, Solution, branches_shown, leaves_shown}
+use Rattle.fp_session_history.specs.Splits.{IsEarnedSplit}
+use Rattle.fp_session_history.specs.Traces.{IsEarnedTrace}
+use Rattle.fp_session_history.proofs.AddedPoints.{AreAddedPoints-IsEarnedTrace}
 use Rattle.fp_session.specs.declared.payloads.Payload.{Payload}
 use Rattle.fp_session.specs.declared.searches.Search.{Search}
 use Rattle.fp_session.specs.Certificates.{IsAnswer, IsCertificate, IsShown, named_scale}
 use Rattle.fp_session.specs.Nodes.{IsLeafOf, IsSplitOf, split_note}
-use Rattle.fp_pricing.specs.Prices.{PriceLists}
+use Rattle.fp_duals_leaves.specs.Prices.{PriceLists}
 use Rattle.fp_session.specs.Searches.{IsLeft, IsSearch, history}
 use Rattle.fp_session.specs.TreeLines.{lines_of, notes_of}
 use Rattle.fp_session.proofs.LeafWorths.{bound-le, bound-lt, leaf-of, least-worth, leaves-shown, left-shown, settled-worth, worth-kept}
@@ -186,7 +186,7 @@ module _ (s : Search) (prices : PriceLists) (search : IsSearch s prices) (whole 
       let lt : bound < s.cost = bound-lt h s.cost s.tree search.tails whole search.leaves bound is.1 leaf left.2.open_at in
       shown-of (Unfinished n bound Rounds) (Timing leaf relaxed) is.0 (λ none. none) (omega (arith, is.0, cost-small), omega (arith, lt, cost-small))
       (leaves-worth (Unfinished n bound Rounds) bound (bound-le h s.cost s.tree search.tails whole search.leaves bound is.1)) (
-        subst (λ (m : ℕ). Rattle.fp_history.specs.Solutions.HasUsedRounds h s.budget (leaves_shown s.instance (solution (Unfinished n bound Rounds) (Timing leaf relaxed))) m leaf relaxed) (sym is.0)
+        subst (λ (m : ℕ). Rattle.fp_session_history.specs.Solutions.HasUsedRounds h s.budget (leaves_shown s.instance (solution (Unfinished n bound Rounds) (Timing leaf relaxed))) m leaf relaxed) (sym is.0)
             (record {
               spent = left.0;
               leaf_left = left-shown h s.cost s.tree search.tails whole search.leaves (λ price sides. IsOpenBelow h s.cost sides price) leaf left.2.open_at;
@@ -200,7 +200,7 @@ module _ (s : Search) (prices : PriceLists) (search : IsSearch s prices) (whole 
       let lt : bound < s.cost = bound-lt h s.cost s.tree search.tails whole search.leaves bound is.1 leaf left.1.open_at in
       shown-of (Unfinished n bound Branches) (Several leaf shipment) is.0 (λ none. none) (omega (arith, is.0, cost-small), omega (arith, lt, cost-small))
       (leaves-worth (Unfinished n bound Branches) bound (bound-le h s.cost s.tree search.tails whole search.leaves bound is.1)) (
-        subst (λ (m : ℕ). Rattle.fp_history.specs.Solutions.HasUsedBranches h s.budget (leaves_shown s.instance (solution (Unfinished n bound Branches) (Several leaf shipment)))
+        subst (λ (m : ℕ). Rattle.fp_session_history.specs.Solutions.HasUsedBranches h s.budget (leaves_shown s.instance (solution (Unfinished n bound Branches) (Several leaf shipment)))
             (branches_shown s.instance (solution (Unfinished n bound Branches) (Several leaf shipment))) m leaf shipment) (sym is.0)
             (record {
               spent = length-branches s.instance s.tree search.tails whole ∙ left.0;

@@ -4,9 +4,9 @@ use Rattle.std.specs.Prelude.{IsSomeAnd, None, Option, Some}
 use Rattle.fp_tree.specs.declared.sides.Side.{Side}
 use Rattle.fp_tree.specs.Nodes.{Node, closed_of, fork_of, leaf_at, split_count}
 use Rattle.fp_tree.specs.Trees.{Leaf, tree_branches}
-use Rattle.fp_pricing.specs.Prices.{PriceLists}
-use Rattle.fp_history.specs.declared.endings.Left.{Left}
-use Rattle.fp_history.specs.Notes.{History, Refinement, last_round, with_note}
+use Rattle.fp_duals_leaves.specs.Prices.{PriceLists}
+use Rattle.fp_session_history.specs.declared.endings.Left.{Left}
+use Rattle.fp_session_history.specs.Notes.{History, Refinement, last_round, with_note}
 use Rattle.fp_session.specs.declared.kept.Kept.{Kept}
 use Rattle.fp_session.specs.declared.moves.Cheaper.{Cheaper}
 use Rattle.fp_session.specs.declared.moves.Division.{Division}

@@ -5,14 +5,14 @@ use Rattle.std.specs.List.{AllByRecursion}
 use Rattle.std.proofs.Math.Nat.{mul-le-mul_left}
 use Rattle.std.proofs.lemmas.List.Elements.{All-from_recursion, All-get_or}
 use Rattle.std.proofs.lemmas.List.Sums.{sum_by-cons}
-use Rattle.fp_lists.proofs.Elements.{AllByRecursion-weaker}
+use Rattle.fp_base_lists.proofs.Elements.{AllByRecursion-weaker}
 use Rattle.fp_model.specs.declared.limits.TheConstants.{GREATEST_AMOUNT, GREATEST_SCALE}
 use Rattle.fp_model.specs.Problem.{IsArc, IsValid, Problem, arc_at, no_arc}
 use Rattle.fp_prices.specs.declared.tables.Weight.{Weight}
 use Rattle.fp_prices.specs.Prices.{KeepsRule}
 use Rattle.fp_prices.specs.Shares.{ClassShare}
 use Rattle.fp_prices.specs.Tables.{AreCountable}
-use Rattle.fp_lines.specs.Ranges.{IsShareInRange}
+use Rattle.fp_certificate_lines.specs.Ranges.{IsShareInRange}
 use Rattle.fp_duals.specs.PriceLines.{AreWithinLimits, line_count, line_total}
 use Rattle.fp_duals.specs.PriceTables.{ArePriceTables, IsShareOf}
 use Rattle.fp_duals.proofs.PriceLines.{shares-le-lines, tables-le-lines}

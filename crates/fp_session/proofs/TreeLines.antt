@@ -7,8 +7,8 @@ use Rattle.fp_tree.specs.declared.sides.Split.{Split}
 use Rattle.fp_tree.specs.Nodes.{Node, fork_of, leaf_at, leaf_count, split_of}
 use Rattle.fp_tree.specs.Sides.{Fork}
 use Rattle.fp_tree.specs.Trees.{IsTree, Leaf}
-use Rattle.fp_lines.specs.declared.certificates.Node.{Node as Line}
-use Rattle.fp_lines.specs.declared.certificates.Node.TheVariants as line
+use Rattle.fp_certificate_lines.specs.declared.certificates.Node.{Node as Line}
+use Rattle.fp_certificate_lines.specs.declared.certificates.Node.TheVariants as line
 use Rattle.fp_session.specs.declared.payloads.Payload.{Payload}
 use Rattle.fp_session.specs.TreeLines.{line_of}
 use Rattle.fp_session.proofs.LeafNumbers.{after-leaf, after-split, leaf-at_place, leaves_before}

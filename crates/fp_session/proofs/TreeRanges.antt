@@ -5,14 +5,14 @@ use Rattle.std.specs.List.{AllByRecursion}
 use Rattle.std.proofs.lemmas.Bool.{cases_Bool, false≢true}
 use Rattle.std.proofs.lemmas.List.Elements.{All-head, All-map, All-tail}
 use Rattle.std.proofs.lemmas.Option.{get_or_from_slice_get, slice_get-get_or, slice_get_within}
-use Rattle.fp_lists.proofs.Elements.{AllByRecursion-get_or}
+use Rattle.fp_base_lists.proofs.Elements.{AllByRecursion-get_or}
 use Rattle.fp_model.specs.Problem.{Problem}
 use Rattle.fp_tree.specs.Nodes.{Divided, Node, Role, Undivided, fork_of}
 use Rattle.fp_tree.specs.Sides.{Fork}
 use Rattle.fp_tree.specs.Trees.{Branch, IsTree, Leaf, tree_branches, tree_leaves}
 use Rattle.fp_tree.proofs.Branches.{map-branches_of}
 use Rattle.fp_prices.specs.Shares.{ClassShare}
-use Rattle.fp_lines.specs.Ranges.{IsLeafInRange, IsNodeInRange, IsSplitInRange}
+use Rattle.fp_certificate_lines.specs.Ranges.{IsLeafInRange, IsNodeInRange, IsSplitInRange}
 use Rattle.fp_session.specs.declared.payloads.Payload.{Payload}
 use Rattle.fp_session.specs.TreeLines.{line_of, lines_of}
 use Rattle.fp_session.proofs.LeafNumbers.{leaf-at_place, leaves_before}

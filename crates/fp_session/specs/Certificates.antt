@@ -4,20 +4,20 @@ use Rattle.fp_model.specs.declared.limits.TheConstants.{SCALE}
 use Rattle.fp_tree.specs.Nodes.{leaf_count}
 use Rattle.fp_timetable.specs.Lines.{AreLegLines, AreTruckLines, LegExists, TruckExists, routes_from}
 use Rattle.fp_prices.specs.Tables.{AreCountable}
-use Rattle.fp_spans.specs.Spans.{ClassSpan}
-use Rattle.fp_lines.specs.declared.certificates.Answer.{Answer}
-use Rattle.fp_lines.specs.declared.certificates.Answer.TheVariants.{Optimal, Unfinished}
-use Rattle.fp_lines.specs.declared.certificates.Spent.TheVariants.{Branches, Rounds}
-use Rattle.fp_lines.specs.Ranges.{IsInRange}
-use Rattle.fp_lines.specs.Statements.{Statement}
-use Rattle.fp_acceptance.specs.Accepted.{IsAccepted}
-use Rattle.fp_acceptance.specs.Plans.{routes_of, stated_cost}
+use Rattle.fp_prices_spans.specs.Spans.{ClassSpan}
+use Rattle.fp_certificate_lines.specs.declared.certificates.Answer.{Answer}
+use Rattle.fp_certificate_lines.specs.declared.certificates.Answer.TheVariants.{Optimal, Unfinished}
+use Rattle.fp_certificate_lines.specs.declared.certificates.Spent.TheVariants.{Branches, Rounds}
+use Rattle.fp_certificate_lines.specs.Ranges.{IsInRange}
+use Rattle.fp_certificate_lines.specs.Statements.{Statement}
+use Rattle.fp_certificate_rules.specs.Accepted.{IsAccepted}
+use Rattle.fp_certificate_rules.specs.Plans.{routes_of, stated_cost}
 use Rattle.fp_duals.specs.PriceLines.{AreWithinLimits}
-use Rattle.fp_history.specs.declared.endings.Left.{Left}
-use Rattle.fp_history.specs.declared.endings.Left.TheVariants.{Nothing, Several, Timing}
-use Rattle.fp_history.specs.Solutions.{IsEarnedSolution, Solution}
+use Rattle.fp_session_history.specs.declared.endings.Left.{Left}
+use Rattle.fp_session_history.specs.declared.endings.Left.TheVariants.{Nothing, Several, Timing}
+use Rattle.fp_session_history.specs.Solutions.{IsEarnedSolution, Solution}
 use Rattle.fp_session.specs.declared.searches.Search.{Search}
-use Rattle.fp_pricing.specs.Prices.{PriceLists}
+use Rattle.fp_duals_leaves.specs.Prices.{PriceLists}
 use Rattle.fp_session.specs.Searches.{history}
 use Rattle.fp_session.specs.TreeLines.{IsLeastBelow, lines_of, notes_of}
 

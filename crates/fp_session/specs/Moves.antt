@@ -8,14 +8,14 @@ use Rattle.fp_tree.specs.Sides.{Fork, HasTail, first, second}
 use Rattle.fp_tree.specs.Trees.{Leaf}
 use Rattle.fp_allowed.specs.Allowed.{tails_of}
 use Rattle.fp_allowed.specs.Slack.{DividesSome}
-use Rattle.fp_lines.specs.Ranges.{IsSplitInRange}
-use Rattle.fp_pricing.specs.Prices.{PriceLists, no_prices}
-use Rattle.fp_history.specs.declared.endings.Left.{Left}
-use Rattle.fp_history.specs.declared.endings.Left.TheVariants.{Nothing, Several, Timing}
-use Rattle.fp_history.specs.Clashes.{ClashesBelow}
-use Rattle.fp_history.specs.Notes.{History, Refinement, last_round, points_of, worth_of}
-use Rattle.fp_history.specs.Solutions.{AreWalksUnder, HasSeveral}
-use Rattle.fp_history.specs.Traces.{IsEarnedRound}
+use Rattle.fp_certificate_lines.specs.Ranges.{IsSplitInRange}
+use Rattle.fp_duals_leaves.specs.Prices.{PriceLists, no_prices}
+use Rattle.fp_session_history.specs.declared.endings.Left.{Left}
+use Rattle.fp_session_history.specs.declared.endings.Left.TheVariants.{Nothing, Several, Timing}
+use Rattle.fp_session_history.specs.Clashes.{ClashesBelow}
+use Rattle.fp_session_history.specs.Notes.{History, Refinement, last_round, points_of, worth_of}
+use Rattle.fp_session_history.specs.Solutions.{AreWalksUnder, HasSeveral}
+use Rattle.fp_session_history.specs.Traces.{IsEarnedRound}
 use Rattle.fp_session.specs.declared.kept.Kept.{Kept}
 use Rattle.fp_session.specs.declared.moves.Cheaper.{Cheaper}
 use Rattle.fp_session.specs.declared.moves.Division.{Division}

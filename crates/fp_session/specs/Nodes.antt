@@ -8,11 +8,11 @@ use Rattle.fp_tree.specs.Trees.{Branch, Leaf}
 use Rattle.fp_allowed.specs.Slack.{DividesSome}
 use Rattle.fp_prices.specs.declared.leaf_prices.LeafPrice.{LeafPrice}
 use Rattle.fp_prices.specs.Tables.{HasKind}
-use Rattle.fp_lines.specs.Ranges.{IsSplitInRange}
-use Rattle.fp_history.specs.declared.notes.SplitNote.{SplitNote}
-use Rattle.fp_history.specs.Notes.{History, last_round, worth_of}
-use Rattle.fp_history.specs.PrintedLeaves.{IsEmptyAt}
-use Rattle.fp_history.specs.Splits.{IsEarnedAt, IsEarnedSplit}
+use Rattle.fp_certificate_lines.specs.Ranges.{IsSplitInRange}
+use Rattle.fp_session_history.specs.declared.notes.SplitNote.{SplitNote}
+use Rattle.fp_session_history.specs.Notes.{History, last_round, worth_of}
+use Rattle.fp_session_history.specs.PrintedLeaves.{IsEmptyAt}
+use Rattle.fp_session_history.specs.Splits.{IsEarnedAt, IsEarnedSplit}
 use Rattle.fp_session.specs.declared.kept.Kept.{Kept}
 use Rattle.fp_session.specs.declared.payloads.Payload.{Payload}
 

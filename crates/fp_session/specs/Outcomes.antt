@@ -1,6 +1,6 @@
 -- What comes of improving a leaf that is open.
 use Rattle.std.specs.Prelude.{ℕ, ◌*◌, ◌<◌, ◌≤◌, ◌≡◌, List, [], Bool, true, false, None, Some, ◌⊎◌}
-use Rattle.fp_lists.specs.Numbered.{AllZipFrom}
+use Rattle.fp_base_lists.specs.Numbered.{AllZipFrom}
 use Rattle.fp_model.specs.declared.parts.Leg.{Leg}
 use Rattle.fp_model.specs.Costs.{cost}
 use Rattle.fp_flatnet.specs.Tables.{windows_in}
@@ -10,8 +10,8 @@ use Rattle.fp_prices.specs.declared.leaf_prices.Kind.TheVariants.{Even, Linear}
 use Rattle.fp_prices.specs.declared.leaf_prices.LeafPrice.{LeafPrice}
 use Rattle.fp_prices.specs.Leaves.{IsLeafValue}
 use Rattle.fp_duals.specs.Improvements.{IsReachedChain}
-use Rattle.fp_history.specs.Notes.{History, last_round, points_of}
-use Rattle.fp_history.specs.Solutions.{AreWalksUnder}
+use Rattle.fp_session_history.specs.Notes.{History, last_round, points_of}
+use Rattle.fp_session_history.specs.Solutions.{AreWalksUnder}
 use Rattle.fp_session.specs.declared.kept.Kept.{Kept}
 use Rattle.fp_session.specs.declared.outcomes.Outcome.{Outcome}
 use Rattle.fp_session.specs.declared.outcomes.Outcome.TheVariants.{Empty, Open}

@@ -1,14 +1,14 @@
 -- The places at which a round adds points.
 use Rattle.std.specs.Prelude.{ℕ, ◌<◌, ◌≤◌, ◌≡◌, List, length, false, All, Contains}
-use Rattle.fp_lists.specs.Distinct.{AreDistinct}
-use Rattle.fp_lists.specs.Membership.{list_has}
+use Rattle.fp_base_lists.specs.Distinct.{AreDistinct}
+use Rattle.fp_base_lists.specs.Membership.{list_has}
 use Rattle.fp_model.specs.Problem.{Problem}
 use Rattle.fp_timenodes.specs.declared.places.Place.{Place}
 use Rattle.fp_timenodes.specs.Points.{TimePoints, points_at, with_added}
 use Rattle.fp_longestarcs.specs.Whole.{IsNetworkOf}
-use Rattle.fp_acceptance.specs.declared.limits.TheConstants.{MOST_IN_ROUND}
+use Rattle.fp_certificate_rules.specs.declared.limits.TheConstants.{MOST_IN_ROUND}
 use Rattle.fp_shortarcs.specs.declared.shorts.Short.{Short}
-use Rattle.fp_history.specs.Notes.{points_added}
+use Rattle.fp_session_history.specs.Notes.{points_added}
 use Rattle.fp_session.specs.declared.moves.Refined.{Refined}
 
 -- the place of a too short leg

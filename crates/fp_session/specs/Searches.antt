@@ -14,20 +14,20 @@ use Rattle.fp_tree.specs.declared.sides.Side.{Side}
 use Rattle.fp_tree.specs.Nodes.{Node, closed_of, fork_of, leaf_at, split_count}
 use Rattle.fp_tree.specs.Trees.{HaveTails, Leaf, tree_branches, tree_leaves}
 use Rattle.fp_allowed.specs.Allowed.{tails_of}
-use Rattle.fp_history.specs.declared.budgets.Budget.{Budget}
-use Rattle.fp_history.specs.declared.endings.Left.{Left}
-use Rattle.fp_history.specs.declared.endings.Left.TheVariants.{Nothing, Several, Timing}
-use Rattle.fp_history.specs.Budgets.{IsBudget}
-use Rattle.fp_history.specs.Clashes.{ClashesBelow}
-use Rattle.fp_history.specs.Notes.{History, Refinement, added_of, last_round, points_of}
-use Rattle.fp_history.specs.Points.{BeginWith}
-use Rattle.fp_history.specs.PrintedLeaves.{IsOpenBelow}
-use Rattle.fp_history.specs.Solutions.{AreWalksUnder, HasSeveral}
-use Rattle.fp_history.specs.Traces.{IsEarnedTrace}
+use Rattle.fp_session_history.specs.declared.budgets.Budget.{Budget}
+use Rattle.fp_session_history.specs.declared.endings.Left.{Left}
+use Rattle.fp_session_history.specs.declared.endings.Left.TheVariants.{Nothing, Several, Timing}
+use Rattle.fp_session_history.specs.Budgets.{IsBudget}
+use Rattle.fp_session_history.specs.Clashes.{ClashesBelow}
+use Rattle.fp_session_history.specs.Notes.{History, Refinement, added_of, last_round, points_of}
+use Rattle.fp_session_history.specs.Points.{BeginWith}
+use Rattle.fp_session_history.specs.PrintedLeaves.{IsOpenBelow}
+use Rattle.fp_session_history.specs.Solutions.{AreWalksUnder, HasSeveral}
+use Rattle.fp_session_history.specs.Traces.{IsEarnedTrace}
 use Rattle.fp_session.specs.declared.payloads.Payload.{Payload}
 use Rattle.fp_session.specs.declared.searches.Search.{Search}
 use Rattle.fp_session.specs.Nodes.{IsLeafOf, IsSplitOf}
-use Rattle.fp_pricing.specs.Prices.{ArePrices, PriceLists}
+use Rattle.fp_duals_leaves.specs.Prices.{ArePrices, PriceLists}
 
 -- a plan in whole units within the windows, with what it costs
 pub record IsIncumbent (p : Problem) (table : WindowTable) (legs : List (List Leg)) (n : ℕ) : Type 0 where

@@ -6,10 +6,10 @@ use Rattle.fp_timenodes.specs.Points.{TimePoints}
 use Rattle.fp_flatnet.specs.Tables.{WindowTable}
 use Rattle.fp_longestarcs.specs.Networks.{TimedNetwork}
 use Rattle.fp_tree.specs.Nodes.{Node}
-use Rattle.fp_pricing.specs.Prices.{PriceLists}
-use Rattle.fp_history.specs.declared.budgets.Budget.{Budget}
-use Rattle.fp_history.specs.declared.endings.Left.{Left}
-use Rattle.fp_history.specs.Notes.{Refinement}
+use Rattle.fp_duals_leaves.specs.Prices.{PriceLists}
+use Rattle.fp_session_history.specs.declared.budgets.Budget.{Budget}
+use Rattle.fp_session_history.specs.declared.endings.Left.{Left}
+use Rattle.fp_session_history.specs.Notes.{Refinement}
 use Rattle.fp_session.specs.declared.payloads.Payload.{Payload}
 use Rattle.fp_session.specs.declared.searches.Search.{Search}
 use Rattle.fp_session.specs.Searches.{InHand, IsSearch, in_hand}

@@ -3,14 +3,14 @@ use Rattle.std.specs.Prelude.{ℕ, ◌-◌, ◌^◌, ◌<◌, ◌≤◌, ◌≡�
 use Rattle.fp_model.specs.Problem.{Problem}
 use Rattle.fp_flatnet.specs.Tables.{WindowTable}
 use Rattle.fp_prices.specs.Tables.{AreCountable}
-use Rattle.fp_spans.specs.Spans.{ClassSpan}
-use Rattle.fp_lines.specs.Ranges.{IsInRange}
-use Rattle.fp_acceptance.specs.Accepted.{IsAccepted}
-use Rattle.fp_acceptance.specs.Plans.{stated_cost}
-use Rattle.fp_history.specs.declared.budgets.Budget.{Budget}
-use Rattle.fp_history.specs.declared.endings.Left.{Left}
-use Rattle.fp_history.specs.Notes.{Refinement}
-use Rattle.fp_history.specs.Solutions.{IsEarnedSolution, Solution}
+use Rattle.fp_prices_spans.specs.Spans.{ClassSpan}
+use Rattle.fp_certificate_lines.specs.Ranges.{IsInRange}
+use Rattle.fp_certificate_rules.specs.Accepted.{IsAccepted}
+use Rattle.fp_certificate_rules.specs.Plans.{stated_cost}
+use Rattle.fp_session_history.specs.declared.budgets.Budget.{Budget}
+use Rattle.fp_session_history.specs.declared.endings.Left.{Left}
+use Rattle.fp_session_history.specs.Notes.{Refinement}
+use Rattle.fp_session_history.specs.Solutions.{IsEarnedSolution, Solution}
 use Rattle.fp_session.specs.Certificates.{named_scale}
 use Rattle.fp_session.specs.Searches.{InHand}
 use Rattle.fp_session.specs.TreeLines.{notes_of}

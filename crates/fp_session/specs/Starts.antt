@@ -4,10 +4,10 @@ use Rattle.fp_model.specs.declared.parts.Leg.{Leg}
 use Rattle.fp_model.specs.Costs.{cost}
 use Rattle.fp_model.specs.Problem.{Problem}
 use Rattle.fp_flatnet.specs.Tables.{WindowTable}
-use Rattle.fp_pricing.specs.Prices.{PriceLists}
+use Rattle.fp_duals_leaves.specs.Prices.{PriceLists}
 use Rattle.fp_tree.specs.Nodes.{split_count}
-use Rattle.fp_history.specs.declared.budgets.Budget.{Budget}
-use Rattle.fp_history.specs.Notes.{History}
+use Rattle.fp_session_history.specs.declared.budgets.Budget.{Budget}
+use Rattle.fp_session_history.specs.Notes.{History}
 use Rattle.fp_session.specs.Searches.{InHand}
 use Rattle.fp_session.specs.Sessions.{IsSound, SessionModel, hand_of}
 use Rattle.fp_session.specs.StepCauses.{open_count}

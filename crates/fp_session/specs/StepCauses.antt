@@ -2,12 +2,12 @@
 use Rattle.std.specs.Prelude.{ℕ, List, [], ◌∷◌, ◌++◌, not, count_by}
 use Rattle.fp_tree.specs.Nodes.{Node, closed_of, fork_of}
 use Rattle.fp_tree.specs.Trees.{Leaf, tree_leaves}
-use Rattle.fp_lines.specs.declared.certificates.Spent.TheVariants.{Branches, Rounds}
-use Rattle.fp_history.specs.declared.endings.Ending.{Ending}
-use Rattle.fp_history.specs.declared.endings.Ending.TheVariants.{Optimal, Unfinished}
-use Rattle.fp_history.specs.declared.endings.Left.{Left}
-use Rattle.fp_history.specs.declared.endings.Left.TheVariants.{Nothing, Several, Timing}
-use Rattle.fp_history.specs.Notes.{Refinement}
+use Rattle.fp_certificate_lines.specs.declared.certificates.Spent.TheVariants.{Branches, Rounds}
+use Rattle.fp_session_history.specs.declared.endings.Ending.{Ending}
+use Rattle.fp_session_history.specs.declared.endings.Ending.TheVariants.{Optimal, Unfinished}
+use Rattle.fp_session_history.specs.declared.endings.Left.{Left}
+use Rattle.fp_session_history.specs.declared.endings.Left.TheVariants.{Nothing, Several, Timing}
+use Rattle.fp_session_history.specs.Notes.{Refinement}
 use Rattle.fp_session.specs.declared.moves.Cheaper.{Cheaper}
 use Rattle.fp_session.specs.declared.moves.Refined.{Refined}
 use Rattle.fp_session.specs.declared.payloads.Payload.{Payload}

@@ -3,9 +3,9 @@ use Rattle.std.specs.Prelude.{ℕ, ◌+◌, ◌*◌, ◌-◌, ◌<◌, ◌≤◌
 use Rattle.std.specs.List.{insert}
 use Rattle.fp_tree.specs.Nodes.{Node, fork_of, split_count}
 use Rattle.fp_tree.specs.Trees.{Branch, tree_branches}
-use Rattle.fp_history.specs.declared.endings.Ending.{Ending}
-use Rattle.fp_history.specs.declared.endings.Left.{Left}
-use Rattle.fp_history.specs.Notes.{Refinement}
+use Rattle.fp_session_history.specs.declared.endings.Ending.{Ending}
+use Rattle.fp_session_history.specs.declared.endings.Left.{Left}
+use Rattle.fp_session_history.specs.Notes.{Refinement}
 use Rattle.fp_session.specs.declared.payloads.Payload.{Payload}
 use Rattle.fp_session.specs.declared.steps.Step.{Step}
 use Rattle.fp_session.specs.declared.steps.Step.TheVariants as step

@@ -1,13 +1,13 @@
 -- What comes of a relaxed plan that costs less than the incumbent.
 use Rattle.std.specs.Prelude.{◌≡◌, List}
 use Rattle.fp_model.specs.declared.parts.Leg.{Leg}
-use Rattle.fp_history.specs.Clashes.{ClashesBelow}
-use Rattle.fp_history.specs.Notes.{last_round}
+use Rattle.fp_session_history.specs.Clashes.{ClashesBelow}
+use Rattle.fp_session_history.specs.Notes.{last_round}
 use Rattle.fp_session.specs.declared.searches.Search.{Search}
 use Rattle.fp_session.specs.declared.timing.Timing.{Timing}
 use Rattle.fp_session.specs.declared.timing.Timing.TheVariants.{Better, Refine, Spent}
 use Rattle.fp_session.specs.Moves.{IsCheaper, IsNextRound, points_now}
-use Rattle.fp_pricing.specs.Prices.{no_prices}
+use Rattle.fp_duals_leaves.specs.Prices.{no_prices}
 use Rattle.fp_session.specs.Searches.{history}
 
 -- a cheaper plan; or one more round; or the relaxed plan calls for one, and none is left

@@ -3,10 +3,10 @@
 use Rattle.std.specs.Prelude.{ℕ, ◌<◌, ◌≤◌, ◌≡◌, ◌⊎◌, List, map, true, false, Option, Some, None, IsSomeAnd}
 use Rattle.fp_tree.specs.Nodes.{Node, fork_of, leaf_at, split_of, value_of}
 use Rattle.fp_tree.specs.Trees.{Leaf, tree_splits}
-use Rattle.fp_lines.specs.declared.certificates.Node.{Node as Line}
-use Rattle.fp_lines.specs.declared.certificates.Node.TheVariants as line
-use Rattle.fp_history.specs.Notes.{History, worth_of}
-use Rattle.fp_history.specs.declared.notes.SplitNote.{SplitNote}
+use Rattle.fp_certificate_lines.specs.declared.certificates.Node.{Node as Line}
+use Rattle.fp_certificate_lines.specs.declared.certificates.Node.TheVariants as line
+use Rattle.fp_session_history.specs.Notes.{History, worth_of}
+use Rattle.fp_session_history.specs.declared.notes.SplitNote.{SplitNote}
 use Rattle.fp_session.specs.declared.payloads.Payload.{Payload}
 use Rattle.fp_session.specs.Nodes.{split_note}
 

@@ -1,11 +1,11 @@
 -- Walks under the sides of a leaf that cost less than the incumbent.
 use Rattle.std.specs.Prelude.{◌<◌, List, All}
-use Rattle.fp_lists.specs.Distinct.{AreDistinct}
+use Rattle.fp_base_lists.specs.Distinct.{AreDistinct}
 use Rattle.fp_model.specs.declared.parts.Leg.{Leg}
 use Rattle.fp_model.specs.Costs.{cost}
 use Rattle.fp_relaxmodel.specs.Terminals.{terminals_on}
 use Rattle.fp_tree.specs.declared.sides.Side.{Side}
-use Rattle.fp_history.specs.Solutions.{AreWalksUnder}
+use Rattle.fp_session_history.specs.Solutions.{AreWalksUnder}
 use Rattle.fp_session.specs.declared.searches.Search.{Search}
 use Rattle.fp_session.specs.Moves.{points_now}
 

@@ -2,7 +2,7 @@
 ghost use Rattle.std.specs.Prelude.{◌≡◌, ◌<◌, ⊤, None, Ok, IfOk, IfSome, IsSomeAnd, OnErr, OnOk, false};
 ghost use Rattle.fp_tree.specs.Nodes.{closed_of, leaf_at, leaf_count};
 ghost use Rattle.fp_session.specs.declared.steps.Step.TheVariants.{Done};
-ghost use Rattle.fp_pricing.specs.Prices.{HaveGrown};
+ghost use Rattle.fp_duals_leaves.specs.Prices.{HaveGrown};
 ghost use Rattle.fp_session.specs.Searches.{IsSearch, in_hand};
 ghost use Rattle.fp_session.specs.StepCauses.{ending_of as ending_in};
 ghost use Rattle.fp_session.specs.Steps.{HasGoneOn, IsStep, StayFixed};
@@ -12,8 +12,8 @@ use crate::applying::ending_of;
 use crate::planning::next_move;
 use crate::searches::Search;
 use crate::steps::Step;
-use fp_history::{Ending, Left};
-use fp_pricing::Prices;
+use fp_duals_leaves::Prices;
+use fp_session_history::{Ending, Left};
 use std::alloc::Global;
 
 // One step at an open leaf. Without memory the prices may have grown, and all else is as before.

@@ -1,13 +1,13 @@
 //! The answer of a search that has ended.
 ghost use Rattle.std.specs.Prelude.{◌≡◌};
 ghost use Rattle.fp_session.specs.Certificates.{IsAnswer, IsBound};
-ghost use Rattle.fp_pricing.specs.Prices.{ArePrices};
+ghost use Rattle.fp_duals_leaves.specs.Prices.{ArePrices};
 
 use crate::least_worth::least_worth;
 use crate::searches::Search;
-use fp_history::Left;
-use fp_lines::{Answer, Spent};
-use fp_pricing::Prices;
+use fp_certificate_lines::{Answer, Spent};
+use fp_duals_leaves::Prices;
+use fp_session_history::Left;
 
 // The bound of a search that is unfinished.
 fn bound(search: &Search, prices: &Prices) -> u128

@@ -16,9 +16,9 @@ use crate::planning::Planned;
 use crate::searches::Search;
 use crate::steps::Step;
 use crate::timing::NextRound;
-use fp_history::{Ending, Left};
-use fp_lines::Spent;
-use fp_pricing::Prices;
+use fp_certificate_lines::Spent;
+use fp_duals_leaves::Prices;
+use fp_session_history::{Ending, Left};
 use std::alloc::Global;
 
 // How a search ended that left this.

@@ -6,10 +6,10 @@ ghost use Rattle.fp_session.specs.Certificates.{IsCertificate, named_scale};
 use crate::NoMemory;
 use crate::searches::Search;
 use crate::tree_lines::tree_lines;
-use fp_lines::{Answer, Certificate};
+use fp_certificate_lines::{Answer, Certificate};
+use fp_duals_leaves::Prices;
 use fp_model::Instance;
 use fp_model::limits::SCALE;
-use fp_pricing::Prices;
 use fp_timetable::{legs, trucks};
 use std::alloc::Global;
 

@@ -2,7 +2,7 @@
 ghost use Rattle.std.specs.Prelude.{[], ◌∷◌, ◌++◌, ◌≡◌, ◌≤◌, None, IfOk, false, length};
 ghost use Rattle.fp_prices.specs.Tables.{HasKind};
 ghost use Rattle.fp_session.specs.Nodes.{IsKept};
-ghost use Rattle.fp_pricing.specs.Prices.{HaveGrown};
+ghost use Rattle.fp_duals_leaves.specs.Prices.{HaveGrown};
 ghost use Rattle.fp_session.specs.Searches.{IsSearch, history};
 
 use crate::NoMemory;
@@ -11,15 +11,16 @@ use crate::kept::Kept;
 use crate::outcomes::Outcome;
 use crate::searches::Search;
 use fp_duals::Improved;
+use fp_duals_leaves::{PriceEffort, Prices, improve};
+use fp_duals_nets::LentNets;
 use fp_longestarcs::Network;
 use fp_prices::{Leaf, LeafPrice, RoundNetwork};
-use fp_pricing::{PriceEffort, Prices, improve};
 use fp_tree::Side;
 use std::alloc::Global;
 
 // What is kept of the leaf on one side of a split, improved with little effort from a price of the
 // leaf above.
-#[tactic(auto, using(fp_pricing::proofs::GrownPrices::HaveGrown_none))]
+#[tactic(auto, using(fp_duals_leaves::proofs::GrownPrices::HaveGrown_none))]
 pub(crate) fn new_child(
     alloc: Global,
     search: &Search,
@@ -41,14 +42,16 @@ pub(crate) fn new_child(
     below.push(side)?;
     let leaf = Leaf::of(alloc, round, &search.windows, &below)?;
     let number = search.trace.len() as u32;
-    match improve(alloc, &leaf, number, inherited, &PriceEffort::CHILD, prices)? {
+    let mut nets = LentNets::new();
+    let effort = &PriceEffort::CHILD;
+    match improve(alloc, &leaf, &mut nets, number, inherited, effort, prices)? {
         Improved::Empty { .. } => Ok(emptied(number)),
         Improved::Priced { price, value, .. } => Ok(priced(price, value)),
     }
 }
 
 // What is kept of such a leaf of which this was kept, improved with more effort.
-#[tactic(auto, using(fp_pricing::proofs::GrownPrices::HaveGrown_none))]
+#[tactic(auto, using(fp_duals_leaves::proofs::GrownPrices::HaveGrown_none))]
 fn better_child(
     alloc: Global,
     search: &Search,
@@ -70,7 +73,9 @@ fn better_child(
     let mut below = sides.to_vec(alloc)?;
     below.push(side)?;
     let leaf = Leaf::of(alloc, round, &search.windows, &below)?;
-    match improved(alloc, search, &leaf, old, &PriceEffort::CHOSEN, prices)? {
+    let mut nets = LentNets::new();
+    let effort = &PriceEffort::CHOSEN;
+    match improved(alloc, search, &leaf, &mut nets, old, effort, prices)? {
         Outcome::Empty { kept } => Ok(kept),
         Outcome::Open { kept, .. } => Ok(kept),
     }
@@ -79,7 +84,7 @@ fn better_child(
 // What is kept of such a leaf of which this was kept, where a price of the leaf above is worth more
 // to it as of the round that the price is of: points that were added since can make a table worth
 // less.
-#[tactic(auto, using(fp_pricing::proofs::GrownPrices::HaveGrown_none))]
+#[tactic(auto, using(fp_duals_leaves::proofs::GrownPrices::HaveGrown_none))]
 fn as_above(
     alloc: Global,
     search: &Search,
@@ -102,7 +107,9 @@ fn as_above(
     let mut below = sides.to_vec(alloc)?;
     below.push(side)?;
     let leaf = Leaf::of(alloc, &round, &search.windows, &below)?;
-    match improve(alloc, &leaf, above.round, above, &PriceEffort::NONE, prices)? {
+    let mut nets = LentNets::new();
+    let effort = &PriceEffort::NONE;
+    match improve(alloc, &leaf, &mut nets, above.round, above, effort, prices)? {
         Improved::Empty { .. } => Ok(old),
         Improved::Priced { price, value, .. } => Ok(greater(old, price, value)),
     }

@@ -1,9 +1,9 @@
 //! By which shipment a leaf is split: of the first candidates the one whose sides promise most.
 ghost use Rattle.std.specs.Prelude.{◌≡◌, ◌<◌, ◌≤◌, All, IfOk, length};
 ghost use Rattle.fp_prices.specs.Tables.{HasKind};
-ghost use Rattle.fp_branching.specs.Candidates.{IsCandidate};
+ghost use Rattle.fp_session_branching.specs.Candidates.{IsCandidate};
 ghost use Rattle.fp_session.specs.Dividing.{IsSeveral};
-ghost use Rattle.fp_pricing.specs.Prices.{HaveGrown};
+ghost use Rattle.fp_duals_leaves.specs.Prices.{HaveGrown};
 ghost use Rattle.fp_session.specs.Searches.{IsSearch};
 
 use crate::NoMemory;
@@ -11,11 +11,10 @@ use crate::children::new_child;
 use crate::dividing::Several;
 use crate::kept::Kept;
 use crate::searches::Search;
-use fp_branching::{Candidate, candidates};
-use fp_model::Leg;
-use fp_prices::{ClassWalk, Leaf, LeafPrice, RoundNetwork};
-use fp_pricing::Prices;
+use fp_duals_leaves::Prices;
+use fp_prices::{Leaf, LeafPrice, RoundNetwork};
 use fp_relaxmodel::TimedWalk;
+use fp_session_branching::{Candidate, candidates};
 use fp_tree::Side;
 use std::alloc::Global;
 
@@ -147,27 +146,6 @@ fn best_place(
     Ok(best)
 }
 
-// The classes of a timed walk.
-fn class_walk(alloc: Global, walk: &TimedWalk) -> Result<ClassWalk, NoMemory> {
-    let mut classes = Vec::with_capacity(alloc, walk.stops.len())?;
-    for stop in &walk.stops {
-        classes.push(Leg {
-            arc: stop.arc,
-            depart: stop.point,
-        })?;
-    }
-    Ok(ClassWalk { classes })
-}
-
-// The classes of timed walks.
-fn class_walks(alloc: Global, walks: &[TimedWalk]) -> Result<Vec<ClassWalk>, NoMemory> {
-    let mut all = Vec::with_capacity(alloc, walks.len())?;
-    for walk in walks {
-        all.push(class_walk(alloc, walk)?)?;
-    }
-    Ok(all)
-}
-
 // By which candidate a leaf is split in which a shipment has several ways to go: of the first few,
 // by the leaf's price and by walks of least cost under it, the one whose sides promise most. One
 // alone isn't tried. The prices are as before.
@@ -192,14 +170,13 @@ pub(crate) fn choice(
     ensures same { prices.new ≡ prices.old }
     ensures candidate { IfOk result (IsCandidate leaf.now) }
 {
-    let walks = class_walks(alloc, walks)?;
     let list = candidates(
         alloc,
         leaf,
         prices.tables(),
         price.kind,
         price.forced,
-        &walks,
+        walks,
         MOST_TRIED,
     )?;
     if list.len() == 1 {

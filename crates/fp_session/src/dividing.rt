@@ -1,10 +1,10 @@
 //! A leaf is divided where a shipment has several ways to go.
 ghost use Rattle.std.specs.Prelude.{None, ◌≡◌, ◌≤◌, IfOk, MatchOption, length};
-ghost use Rattle.fp_branching.specs.Candidates.{IsCandidate};
+ghost use Rattle.fp_session_branching.specs.Candidates.{IsCandidate};
 ghost use Rattle.fp_prices.specs.Tables.{HasKind};
 ghost use Rattle.fp_session.specs.Dividing.{IsSeveral, NoneSeveral, several_terminal};
 ghost use Rattle.fp_session.specs.Moves.{IsDivision};
-ghost use Rattle.fp_pricing.specs.Prices.{HaveGrown};
+ghost use Rattle.fp_duals_leaves.specs.Prices.{HaveGrown};
 ghost use Rattle.fp_session.specs.Searches.{IsSearch, history};
 
 use crate::NoMemory;
@@ -13,9 +13,9 @@ use crate::kept::Kept;
 use crate::moves::Division;
 use crate::searches::Search;
 use fp_allowed::ChainEnd;
-use fp_branching::Candidate;
+use fp_duals_leaves::Prices;
 use fp_prices::{Leaf, RoundNetwork};
-use fp_pricing::Prices;
+use fp_session_branching::Candidate;
 use fp_tree::Side;
 use std::alloc::Global;
 

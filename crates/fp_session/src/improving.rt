@@ -2,7 +2,7 @@
 ghost use Rattle.std.specs.Prelude.{◌≡◌, ◌≤◌, IfOk, false};
 ghost use Rattle.fp_prices.specs.Tables.{HasKind};
 ghost use Rattle.fp_session.specs.Nodes.{IsKept};
-ghost use Rattle.fp_pricing.specs.Prices.{HaveGrown};
+ghost use Rattle.fp_duals_leaves.specs.Prices.{HaveGrown};
 ghost use Rattle.fp_session.specs.Outcomes.{IsGreater, IsOutcome, empty_kept, noted_outcome, priced_kept};
 ghost use Rattle.fp_session.specs.Searches.{IsSearch, history};
 
@@ -12,8 +12,9 @@ use crate::outcomes::Outcome;
 use crate::payloads::Payload;
 use crate::searches::Search;
 use fp_duals::Improved;
+use fp_duals_leaves::{PriceEffort, Prices, improve};
+use fp_duals_nets::LentNets;
 use fp_prices::{Kind, Leaf, LeafPrice};
-use fp_pricing::{PriceEffort, Prices, improve};
 use fp_tree::Side;
 use std::alloc::Global;
 
@@ -69,6 +70,7 @@ pub(crate) fn improved(
     alloc: Global,
     search: &Search,
     leaf: &Leaf,
+    nets: &mut LentNets,
     old: Kept,
     effort: &PriceEffort,
     prices: &mut Prices,
@@ -82,7 +84,8 @@ pub(crate) fn improved(
         (IsOutcome (history search.now prices.new) leaf.now.sides old) }
 {
     let round = search.trace.len() as u32;
-    match improve(alloc, leaf, round, old.payload.price, effort, prices)? {
+    let inherited = old.payload.price;
+    match improve(alloc, leaf, nets, round, inherited, effort, prices)? {
         Improved::Empty { .. } => Ok(Outcome::Empty {
             kept: emptied(round),
         }),
@@ -133,6 +136,7 @@ pub(crate) fn improved_by_step(
     alloc: Global,
     search: &Search,
     leaf: &Leaf,
+    nets: &mut LentNets,
     old: Kept,
     prices: &mut Prices,
 ) -> Result<Outcome, NoMemory>
@@ -146,6 +150,6 @@ pub(crate) fn improved_by_step(
 {
     let round = search.trace.len() as u32;
     let effort = effort_at(leaf.sides(), old.payload.improved == Some(round));
-    let outcome = improved(alloc, search, leaf, old, &effort, prices)?;
+    let outcome = improved(alloc, search, leaf, nets, old, &effort, prices)?;
     Ok(noted(outcome, round))
 }

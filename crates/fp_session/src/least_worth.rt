@@ -1,13 +1,13 @@
 //! The least that a leaf of a tree is worth.
 ghost use Rattle.std.specs.Prelude.{◌<◌, IsSomeAnd};
 ghost use Rattle.fp_tree.specs.Nodes.{leaf_at, leaf_count};
-ghost use Rattle.fp_pricing.specs.Prices.{ArePrices};
+ghost use Rattle.fp_duals_leaves.specs.Prices.{ArePrices};
 ghost use Rattle.fp_session.specs.Searches.{history};
 ghost use Rattle.fp_session.specs.TreeLines.{IsLeastBelow, IsWorthBelow};
 
 use crate::searches::Search;
-use fp_acceptance::rounded_below;
-use fp_pricing::Prices;
+use fp_certificate_rules::rounded_below;
+use fp_duals_leaves::Prices;
 
 // What a leaf is worth, in whole units of money, rounded up by the unit: none where it is empty, or
 // where that isn't below a ceiling.

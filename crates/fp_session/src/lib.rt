@@ -31,7 +31,7 @@ mod timing;
 mod tree_lines;
 mod walks;
 
-pub use fp_history::{Budget, Ending, Left, RoundNote, SplitNote};
+pub use fp_session_history::{Budget, Ending, Left, RoundNote, SplitNote};
 pub use sessions::Session;
 pub use solutions::Solved;
 pub use steps::Step;

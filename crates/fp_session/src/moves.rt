@@ -1,8 +1,8 @@
 //! What a step is going to do, worked out before anything changes.
 use crate::kept::Kept;
-use fp_history::{Left, RoundNote};
 use fp_longestarcs::Network;
 use fp_model::Plan;
+use fp_session_history::{Left, RoundNote};
 use fp_timenodes::Points;
 use fp_tree::Split;
 

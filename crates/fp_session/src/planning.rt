@@ -1,6 +1,6 @@
 //! What a step is going to do at an open leaf.
 ghost use Rattle.std.specs.Prelude.{◌≡◌, ◌<◌, ◌≤◌, None, IfOk, IsTrue, ◌↔◌, IsSomeAnd, false, length};
-ghost use Rattle.fp_lists.specs.Distinct.{AreDistinct};
+ghost use Rattle.fp_base_lists.specs.Distinct.{AreDistinct};
 ghost use Rattle.fp_model.specs.Costs.{cost as cost_of};
 ghost use Rattle.fp_model.specs.Routes.{ArcsExist};
 ghost use Rattle.fp_flatnet.specs.Tables.{windows_in};
@@ -8,13 +8,13 @@ ghost use Rattle.fp_relaxmodel.specs.Relaxed.{HasRoutes, IsRelaxedPlan};
 ghost use Rattle.fp_relaxmodel.specs.Terminals.{terminals_on};
 ghost use Rattle.fp_tree.specs.Nodes.{closed_of, leaf_at, leaf_count};
 ghost use Rattle.fp_prices.specs.Tables.{HasKind};
-ghost use Rattle.fp_history.specs.Notes.{worth_of};
-ghost use Rattle.fp_history.specs.Solutions.{AreWalksUnder};
+ghost use Rattle.fp_session_history.specs.Notes.{worth_of};
+ghost use Rattle.fp_session_history.specs.Solutions.{AreWalksUnder};
 ghost use Rattle.fp_session.specs.Dividing.{IsSeveral};
 ghost use Rattle.fp_session.specs.Moves.{AtOpenLeaf, IsMove, IsOpenMove, points_now};
 ghost use Rattle.fp_session.specs.Nodes.{IsKeptAs};
 ghost use Rattle.fp_session.specs.Outcomes.{IsFound};
-ghost use Rattle.fp_pricing.specs.Prices.{ArePrices, HaveGrown};
+ghost use Rattle.fp_duals_leaves.specs.Prices.{ArePrices, HaveGrown};
 ghost use Rattle.fp_session.specs.Searches.{IsSearch, history};
 
 use crate::NoMemory;
@@ -28,11 +28,12 @@ use crate::redrawing::unless_cheaper;
 use crate::searches::Search;
 use crate::timing::{Timing, timed};
 use crate::walks::{are_cheaper, cheaper_walks, walks_by_price, walks_to_split_by};
-use fp_acceptance::reaches;
-use fp_history::Left;
+use fp_certificate_rules::reaches;
+use fp_duals_leaves::Prices;
+use fp_duals_nets::LentNets;
 use fp_prices::{Leaf, RoundNetwork};
-use fp_pricing::Prices;
 use fp_relaxmodel::{RelaxedPlan, TimedWalk};
+use fp_session_history::Left;
 use fp_tree::Side;
 use std::alloc::Global;
 
@@ -87,7 +88,7 @@ fn timed_move(
 
 // What a step is going to do at a leaf in which a shipment has several ways to go: it divides the
 // leaf, where a branch is left.
-#[tactic(auto, using(fp_pricing::proofs::GrownPrices::HaveGrown_none))]
+#[tactic(auto, using(fp_duals_leaves::proofs::GrownPrices::HaveGrown_none))]
 fn several_move(
     alloc: Global,
     search: &Search,
@@ -130,7 +131,7 @@ fn several_move(
 
 // What a step is going to do at an open leaf that is worth less than the incumbent costs, where these
 // are walks under its sides. It is split by them, or by its walks by tables, where these are others.
-#[tactic(auto, using(fp_pricing::proofs::GrownPrices::HaveGrown_none))]
+#[tactic(auto, using(fp_duals_leaves::proofs::GrownPrices::HaveGrown_none))]
 fn move_by(
     alloc: Global,
     search: &Search,
@@ -181,7 +182,7 @@ fn move_by(
 
 // What a step is going to do at an open leaf that is worth less than the incumbent costs, by its walks
 // by spans, where there are such, and otherwise by those by tables.
-#[tactic(auto, using(fp_pricing::proofs::GrownPrices::HaveGrown_none))]
+#[tactic(auto, using(fp_duals_leaves::proofs::GrownPrices::HaveGrown_none))]
 fn move_at(
     alloc: Global,
     search: &Search,
@@ -234,7 +235,7 @@ fn kept_at(search: &Search, number: u32) -> Kept
 
 // What a step is going to do at an open leaf of which this was kept and which isn't known to be
 // empty, and what it keeps of it.
-#[tactic(auto, using(fp_pricing::proofs::GrownPrices::HaveGrown_none))]
+#[tactic(auto, using(fp_duals_leaves::proofs::GrownPrices::HaveGrown_none))]
 fn open_move(
     alloc: Global,
     search: &Search,
@@ -255,7 +256,8 @@ fn open_move(
     let round = RoundNetwork::over(alloc, &search.instance, network)?;
     let sides = search.tree.leaf_sides(alloc, number)?;
     let leaf = Leaf::of(alloc, &round, &search.windows, &sides)?;
-    match improved_by_step(alloc, search, &leaf, old, prices)? {
+    let mut nets = LentNets::new();
+    match improved_by_step(alloc, search, &leaf, &mut nets, old, prices)? {
         Outcome::Empty { kept } => Ok(Planned {
             kept,
             planned: Move::Close,
@@ -278,7 +280,7 @@ fn open_move(
 
 // What a step is going to do at an open leaf, and what it keeps of it. Also without memory the
 // prices have only grown.
-#[tactic(auto, using(fp_pricing::proofs::GrownPrices::HaveGrown_none))]
+#[tactic(auto, using(fp_duals_leaves::proofs::GrownPrices::HaveGrown_none))]
 pub(crate) fn next_move(
     alloc: Global,
     search: &Search,

@@ -1,13 +1,13 @@
 //! One more round: points where the legs of a relaxed plan are too short.
 ghost use Rattle.std.specs.Prelude.{[], ◌≡◌, ◌≢◌, ◌≤◌, ◌<◌, All, IfOk, length};
-ghost use Rattle.fp_lists.specs.Distinct.{AreDistinct};
+ghost use Rattle.fp_base_lists.specs.Distinct.{AreDistinct};
 ghost use Rattle.fp_longestarcs.specs.Whole.{IsNetworkOf};
 ghost use Rattle.fp_timenodes.specs.Points.{greatest_round};
 ghost use Rattle.fp_session.specs.Refining.{ArePlacesOf, CanAdd, IsRefined};
 
 use crate::NoMemory;
 use crate::moves::Refined;
-use fp_acceptance::MOST_IN_ROUND;
+use fp_certificate_rules::MOST_IN_ROUND;
 use fp_longestarcs::Network;
 use fp_model::Instance;
 use fp_shortarcs::Short;

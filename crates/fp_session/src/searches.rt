@@ -1,9 +1,9 @@
 //! What a search has in hand.
 use crate::payloads::Payload;
 use fp_flatnet::Windows;
-use fp_history::{Budget, Left, RoundNote};
 use fp_longestarcs::Network;
 use fp_model::{Instance, Plan};
+use fp_session_history::{Budget, Left, RoundNote};
 use fp_timenodes::Points;
 use fp_tree::Tree;
 

@@ -8,9 +8,9 @@ use crate::answers::answer;
 use crate::certificates::certificate;
 use crate::searches::Search;
 use crate::tree_lines::split_notes;
-use fp_history::{Left, RoundNote, SplitNote};
-use fp_lines::Certificate;
-use fp_pricing::Prices;
+use fp_certificate_lines::Certificate;
+use fp_duals_leaves::Prices;
+use fp_session_history::{Left, RoundNote, SplitNote};
 use fp_tree::leaves_cover_all;
 use std::alloc::Global;
 use std::marker::Model;
@@ -32,7 +32,7 @@ pub struct Solved {
 }
 
 impl Model for Solved {
-    ghost use Rattle.fp_history.specs.Solutions.{Solution};
+    ghost use Rattle.fp_session_history.specs.Solutions.{Solution};
 
     ghost Value = { Solution };
 

@@ -9,10 +9,10 @@ ghost use Rattle.fp_flatnet.specs.Windows.{PlanLiesWithin};
 ghost use Rattle.fp_longestarcs.specs.Networks.{point_count, points_in};
 ghost use Rattle.fp_longestarcs.specs.Whole.{IsWholeNetwork};
 ghost use Rattle.fp_allowed.specs.SamePoints.{AgreeOnPoints};
-ghost use Rattle.fp_history.specs.Notes.{points_of};
+ghost use Rattle.fp_session_history.specs.Notes.{points_of};
 ghost use Rattle.fp_session.specs.Nodes.{IsKept};
-ghost use Rattle.fp_history.specs.Budgets.{IsBudget};
-ghost use Rattle.fp_pricing.specs.Prices.{ArePrices, HaveGrown, no_prices};
+ghost use Rattle.fp_session_history.specs.Budgets.{IsBudget};
+ghost use Rattle.fp_duals_leaves.specs.Prices.{ArePrices, HaveGrown, no_prices};
 ghost use Rattle.fp_session.specs.Searches.{IsSearch, in_hand};
 ghost use Rattle.fp_session.specs.Starts.{HasBegun, start_of};
 
@@ -21,18 +21,19 @@ use crate::improving::{emptied, priced};
 use crate::kept::Kept;
 use crate::searches::Search;
 use fp_duals::Improved;
+use fp_duals_leaves::{PriceEffort, Prices, improve};
+use fp_duals_nets::LentNets;
 use fp_flatnet::{Windows, initial};
-use fp_history::Budget;
 use fp_longestarcs::Network;
 use fp_model::{Instance, Plan};
 use fp_prices::{Kind, Leaf, LeafPrice, RoundNetwork};
-use fp_pricing::{PriceEffort, Prices, improve};
+use fp_session_history::Budget;
 use fp_timetable::cost;
 use fp_tree::Tree;
 use std::alloc::Global;
 
 // What is kept of the root before any round, priced with little effort.
-#[tactic(auto, using(fp_pricing::proofs::GrownPrices::HaveGrown_none))]
+#[tactic(auto, using(fp_duals_leaves::proofs::GrownPrices::HaveGrown_none))]
 fn root(
     alloc: Global,
     instance: &Instance,
@@ -55,7 +56,9 @@ fn root(
         round: 0,
         forced: false,
     };
-    match improve(alloc, &leaf, 0, linear, &PriceEffort::CHILD, prices)? {
+    let mut nets = LentNets::new();
+    let effort = &PriceEffort::CHILD;
+    match improve(alloc, &leaf, &mut nets, 0, linear, effort, prices)? {
         Improved::Empty { .. } => Ok(emptied(0)),
         Improved::Priced { price, value, .. } => Ok(priced(price, value)),
     }

@@ -1,5 +1,5 @@
 //! What a step of a search did.
-use fp_history::Ending;
+use fp_session_history::Ending;
 
 /// What a step did.
 #[derive(Clone, Copy, Debug, PartialEq, Eq)]

@@ -4,8 +4,8 @@ ghost use Rattle.fp_session.specs.TreeLines.{lines_of, notes_of};
 
 use crate::NoMemory;
 use crate::payloads::Payload;
-use fp_history::SplitNote;
-use fp_lines::Node;
+use fp_certificate_lines::Node;
+use fp_session_history::SplitNote;
 use fp_tree::{Tree, leaves_cover_all};
 use std::alloc::Global;
 

@@ -1,22 +1,23 @@
 //! Walks under the sides of a leaf that cost less than the incumbent.
 ghost use Rattle.std.specs.Prelude.{◌≡◌, ◌<◌, All, IfOk, IfSome, IsTrue, ◌↔◌};
-ghost use Rattle.fp_lists.specs.Distinct.{AreDistinct};
+ghost use Rattle.fp_base_lists.specs.Distinct.{AreDistinct};
 ghost use Rattle.fp_model.specs.Costs.{cost as cost_of};
 ghost use Rattle.fp_model.specs.Routes.{ArcsExist};
 ghost use Rattle.fp_relaxmodel.specs.Relaxed.{HasRoutes};
 ghost use Rattle.fp_relaxmodel.specs.Terminals.{terminals_on};
 ghost use Rattle.fp_prices.specs.Tables.{HasKind};
-ghost use Rattle.fp_history.specs.Solutions.{AreWalksUnder};
+ghost use Rattle.fp_session_history.specs.Solutions.{AreWalksUnder};
 ghost use Rattle.fp_session.specs.Moves.{points_now};
 ghost use Rattle.fp_session.specs.Searches.{IsSearch};
 ghost use Rattle.fp_session.specs.Walks.{AreCheaperWalks};
 
 use crate::NoMemory;
 use crate::searches::Search;
+use fp_duals_leaves::{Prices, walks_by_spans};
+use fp_duals_nets::LentNets;
+use fp_duals_walks::cheap_walks;
 use fp_model::Instance;
 use fp_prices::{Leaf, LeafPrice};
-use fp_pricing::{Prices, walks_by_spans};
-use fp_relaxedsearch::cheap_walks;
 use fp_relaxmodel::{RelaxedPlan, TimedWalk, coarsen, is_route, relaxed_cost};
 use fp_tree::Side;
 use std::alloc::Global;
@@ -90,7 +91,8 @@ pub(crate) fn cheaper_walks(
     }
     let incumbent = &search.incumbent;
     let coarse = coarsen(alloc, instance, &search.windows, &search.network, incumbent)?;
-    match cheap_walks(alloc, leaf, &[&coarse.walks, least], TURNS)? {
+    let mut nets = LentNets::new();
+    match cheap_walks(alloc, leaf, &mut nets, &[&coarse.walks, least], TURNS)? {
         Some(walks) => {
             let relaxed = RelaxedPlan { walks };
             if are_cheaper(search, &relaxed) {
@@ -120,7 +122,8 @@ pub(crate) fn walks_by_price(
     ensures { IfOk result (λ found. IfSome found
         (λ walks. AreWalksUnder search.now.instance search.now.windows (points_now search.now) sides.now walks.items)) }
 {
-    match walks_by_spans(alloc, leaf, price, prices)? {
+    let mut nets = LentNets::new();
+    match walks_by_spans(alloc, leaf, &mut nets, price, prices)? {
         Some(walks) => Ok(Some(walks)),
         None => Ok(None),
     }

@@ -2,19 +2,17 @@
 use Rattle.std.proofs.Common.{◌≡◌, ◌≢◌, ◌∙◌, ℕ, zero, suc, ◌+◌, ◌<◌, ◌≤◌, true, List, [], ◌∷◌, length, sym, subst, arith}
 use Rattle.std.specs.Prelude.{All}
 use Rattle.std.proofs.lemmas.Bool.{false_from_ne_true}
-use Rattle.std.proofs.lemmas.List.Elements.{All-head, All-tail, All-weaker}
-use Rattle.fp_lists.specs.Membership.{list_has}
-use Rattle.fp_lists.proofs.Membership.{StandsAt, StandsAt-from_list_has}
+use Rattle.std.proofs.lemmas.List.Elements.{All-weaker}
+use Rattle.fp_base_lists.specs.Membership.{list_has}
+use Rattle.fp_base_lists.proofs.Membership.{StandsAt, StandsAt-from_list_has}
 use Rattle.fp_model.specs.declared.parts.Leg.{Leg}
 use Rattle.fp_model.specs.declared.parts.Member.{Member}
-use Rattle.fp_model.specs.declared.parts.Shipment.{Shipment}
 use Rattle.fp_model.specs.Members.{IsMemberOf, member_leg}
 use Rattle.fp_model.specs.Numbered.{leg_at, route_at, shipment_at}
-use Rattle.fp_model.specs.Problem.{IsArc, IsShipment, IsValid, Problem, arc_at, horizon}
+use Rattle.fp_model.specs.Problem.{IsArc, Problem, arc_at, horizon}
 use Rattle.fp_model.specs.Routes.{Leads, arcs_of}
 use Rattle.fp_model.proofs.Validity.{IsArc-valid}
 use Rattle.fp_timenodes.specs.declared.places.TheConstants.{LATEST}
-use Rattle.fp_timenodes.specs.Points.{IsPlace}
 use Rattle.fp_timenodes.proofs.Floors.{floor_greatest}
 use Rattle.fp_flatnet.specs.Belonging.{BelongsTo}
 use Rattle.fp_flatnet.specs.Tables.{WindowTable, windows_in}
@@ -105,12 +103,3 @@ module _ (p : Problem) (table : WindowTable) (points : ℕ → List ℕ) (walks 
   pub CanBePoint-IsShort : (shorts : List Short) → All (IsShort p points walks) shorts → All (CanBePoint p points) shorts
   CanBePoint-IsShort shorts each =
       All-weaker (IsShort p points walks) (CanBePoint p points) (λ s is. subst (λ (t : Short). CanBePoint p points t) (sym is.place) (can_be-leg (member_of s) is.leg)) shorts each
-
--- no shipment is due after the latest time
-horizon-le : (n : ℕ) (ss : List Shipment) → All (IsShipment n) ss → horizon ss ≤ LATEST
-horizon-le n [] all = omega arith
-horizon-le n (s ∷ ss) all = omega (arith, (All-head (IsShipment n) s ss all).within.due, horizon-le n ss (All-tail (IsShipment n) s ss all))
-
--- so the place is one at which points can be added
-pub IsPlace-CanBePoint : (p : Problem) (points : ℕ → List ℕ) (s : Short) → IsValid p → CanBePoint p points s → IsPlace (length p.terminals) (record { terminal = s.terminal; at = s.at })
-IsPlace-CanBePoint p points s valid can = (can.terminal, omega (arith, can.before, horizon-le (length p.terminals) p.shipments valid.parts.shipments))

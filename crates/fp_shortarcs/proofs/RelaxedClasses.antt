@@ -2,8 +2,8 @@
 use Rattle.std.proofs.Common.{◌≡◌, ℕ, ◌+◌, ◌<◌, true, List, [], length, subst, arith}
 use Rattle.std.specs.Prelude.{All, Option}
 use Rattle.std.proofs.lemmas.List.Elements.{All-from_get_or}
-use Rattle.fp_lists.proofs.Elements.{AllByRecursion-get_or}
-use Rattle.fp_lists.proofs.Numbered.{AllZipFrom-get_or}
+use Rattle.fp_base_lists.proofs.Elements.{AllByRecursion-get_or}
+use Rattle.fp_base_lists.proofs.Numbered.{AllZipFrom-get_or}
 use Rattle.fp_model.specs.declared.parts.Leg.{Leg}
 use Rattle.fp_model.specs.declared.parts.Member.{Member}
 use Rattle.fp_model.specs.Members.{IsMemberOf, member_leg}

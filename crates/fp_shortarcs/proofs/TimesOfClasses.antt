@@ -4,7 +4,7 @@ use Rattle.std.specs.Prelude.{All, IfSome, IsSomeAnd, Option, Some, None}
 use Rattle.std.proofs.Math.ListN.{length-map}
 use Rattle.std.proofs.lemmas.Bool.{cases_eq, cases_lt}
 use Rattle.std.proofs.lemmas.List.Elements.{All-contains, All-weaker}
-use Rattle.fp_lists.proofs.Maps.{get_or-map_default}
+use Rattle.fp_base_lists.proofs.Maps.{get_or-map_default}
 use Rattle.fp_model.specs.declared.parts.Leg.{Leg}
 use Rattle.fp_model.specs.declared.parts.Member.{Member}
 use Rattle.fp_model.specs.declared.parts.Shipment.{Shipment}

@@ -2,7 +2,7 @@
 use Rattle.std.proofs.Common.{◌≡◌, ℕ, List, [], ◌∷◌, sym, subst}
 use Rattle.std.specs.Prelude.{All, Contains}
 use Rattle.std.proofs.lemmas.List.Elements.{All-weaker}
-use Rattle.fp_lists.proofs.Pairs.{AllPairs-unique}
+use Rattle.fp_base_lists.proofs.Pairs.{AllPairs-unique}
 use Rattle.fp_model.specs.declared.parts.Leg.{Leg}
 use Rattle.fp_model.specs.Problem.{Problem}
 use Rattle.fp_relaxmodel.proofs.UniqueGroups.{StartsBefore-apart}

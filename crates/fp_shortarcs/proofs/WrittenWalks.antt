@@ -11,8 +11,8 @@ use Rattle.fp_model.specs.Problem.{Problem}
 use Rattle.fp_timenodes.specs.declared.places.Place.{Place}
 use Rattle.fp_longestarcs.specs.Classes.{head_of}
 use Rattle.fp_longestarcs.specs.Networks.{IsClass, TimedNetwork}
-use Rattle.fp_relaxmodel.specs.declared.stops.Stop.{Stop}
-use Rattle.fp_relaxmodel.specs.Stops.{leg_of, legs_of}
+use Rattle.fp_longestarcs.specs.declared.stops.Stop.{Stop}
+use Rattle.fp_longestarcs.specs.Stops.{leg_of, legs_of}
 use Rattle.fp_dispatch.specs.Times.{next}
 use Rattle.fp_shortarcs.specs.declared.shorts.Short.{Short}
 use Rattle.fp_shortarcs.specs.Listing.{AreTooShortBefore, IsMissed}

@@ -3,7 +3,7 @@
 -- The source of arcs that are too short, and of how they are lengthened: Boland, Hewitt, Marshall and
 -- Savelsbergh, "The Continuous-Time Service Network Design Problem", Operations Research 65, 2017.
 use Rattle.std.specs.Prelude.{ℕ, ◌+◌, ◌<◌, ◌≤◌, ◌≡◌, false, List, length, All, AllPairs, Contains}
-use Rattle.fp_lists.specs.Membership.{list_has}
+use Rattle.fp_base_lists.specs.Membership.{list_has}
 use Rattle.fp_model.specs.declared.parts.Leg.{Leg}
 use Rattle.fp_model.specs.declared.parts.Member.{Member}
 use Rattle.fp_model.specs.Members.{IsMemberOf, MemberComesBefore, member_leg}

@@ -10,7 +10,7 @@ ghost use Rattle.fp_longestarcs.specs.Whole.{IsWholeNetwork};
 ghost use Rattle.fp_allowed.specs.InitialPoints.{HasInitialPoints};
 ghost use Rattle.fp_relaxmodel.specs.Groups.{AreGroups};
 ghost use Rattle.fp_relaxmodel.specs.Relaxed.{IsRelaxedPlan};
-ghost use Rattle.fp_relaxmodel.specs.Stops.{leg_of};
+ghost use Rattle.fp_longestarcs.specs.Stops.{leg_of};
 ghost use Rattle.fp_dispatch.specs.Times.{HaveTimes};
 ghost use Rattle.fp_shortarcs.specs.declared.shorts.Short.{Short};
 ghost use Rattle.fp_shortarcs.specs.Listing.{AreTooShortBefore, IsMissed};

@@ -5,8 +5,8 @@ use Rattle.std.specs.Prelude.{nat_le}
 use Rattle.std.proofs.Math.Nat.{mul-le-mul_left, le-div_iff_mul-le}
 use Rattle.std.proofs.lemmas.Bool.{cases_lt, cond-true, cond-false, le-leb, lt-leb}
 use Rattle.fp_timenodes.specs.Floor.{floor_point, IsFloorPoint, HaveSamePoints}
-use Rattle.fp_lists.specs.Membership.{list_has}
-use Rattle.fp_lists.proofs.Membership.{list_has-rest, list_has-first, list_has-cons_cases}
+use Rattle.fp_base_lists.specs.Membership.{list_has}
+use Rattle.fp_base_lists.proofs.Membership.{list_has-rest, list_has-first, list_has-cons_cases}
 
 -- the first point counts where it is not after the moment
 floor-early : (q : ℕ) (qs : List ℕ) (d n : ℕ) → d * q ≤ n → floor_point (q ∷ qs) d n ≡ max q (floor_point qs d n)

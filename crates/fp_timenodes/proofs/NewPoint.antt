@@ -9,12 +9,12 @@ use Rattle.std.proofs.lemmas.List.Sorted.{IsNonDecreasingBy-push}
 use Rattle.fp_timenodes.specs.declared.places.Place.{Place}
 use Rattle.fp_timenodes.specs.declared.places.AddedPoint.{AddedPoint}
 use Rattle.fp_timenodes.specs.declared.timelines.Stamp.{Stamp}
-use Rattle.fp_lists.specs.Membership.{list_has}
+use Rattle.fp_base_lists.specs.Membership.{list_has}
 use Rattle.fp_timenodes.specs.Points.{IsAddedPoint, times_at, added_at, points_at, greatest_round}
 use Rattle.fp_timenodes.specs.Stamps.{AreUpTo, IncludesPoint, points_of}
 use Rattle.fp_timenodes.specs.Timelines.{Show}
-use Rattle.fp_lists.proofs.Truth.{or_right_comm}
-use Rattle.fp_lists.proofs.Membership.{list_has-filter_push, list_has-append}
+use Rattle.fp_base_lists.proofs.Truth.{or_right_comm}
+use Rattle.fp_base_lists.proofs.Membership.{list_has-filter_push, list_has-append}
 use Rattle.fp_timenodes.proofs.TimelinePoints.{seen_as}
 use Rattle.fp_timenodes.proofs.Rounds.{greatest_round_bound, greatest_round_push}
 

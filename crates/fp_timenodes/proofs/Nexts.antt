@@ -2,8 +2,8 @@
 use Rattle.std.proofs.Common.{◌≡◌, ℕ, ◌<◌, ◌≤◌, true, min, List, [], ◌∷◌, ⊎_elim, refl, sym, ap, ◌∙◌, subst, Option, Some, None, arith}
 use Rattle.std.proofs.lemmas.Bool.{cases_lt, lt-ltb, le-ltb}
 use Rattle.fp_timenodes.specs.Floor.{next_point, earlier, IsNextPoint, HaveSamePoints}
-use Rattle.fp_lists.specs.Membership.{list_has}
-use Rattle.fp_lists.proofs.Membership.{list_has-rest, list_has-first, list_has-cons_cases}
+use Rattle.fp_base_lists.specs.Membership.{list_has}
+use Rattle.fp_base_lists.proofs.Membership.{list_has-rest, list_has-first, list_has-cons_cases}
 
 -- what holds of two numbers holds of the lesser
 min-has : (P : ℕ → Type 0) (a b : ℕ) → P a → P b → P (min a b)

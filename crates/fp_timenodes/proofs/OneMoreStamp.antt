@@ -8,10 +8,10 @@ use Rattle.std.proofs.lemmas.List.{take-append-drop, map-append}
 use Rattle.std.proofs.lemmas.List.Edits.{length-insert, get_or-insert_below, get_or-insert_at, get_or-insert_above}
 use Rattle.std.proofs.lemmas.List.Elements.{filter-append}
 use Rattle.fp_timenodes.specs.declared.timelines.Stamp.{Stamp}
-use Rattle.fp_lists.specs.Membership.{list_has}
+use Rattle.fp_base_lists.specs.Membership.{list_has}
 use Rattle.fp_timenodes.specs.Stamps.{IsAscending, AreUpTo, points_of, IncludesPoint, IsStampCut}
-use Rattle.fp_lists.proofs.Truth.{or_right_comm}
-use Rattle.fp_lists.proofs.Membership.{list_has-append}
+use Rattle.fp_base_lists.proofs.Truth.{or_right_comm}
+use Rattle.fp_base_lists.proofs.Membership.{list_has-append}
 use Rattle.fp_timenodes.proofs.StampPlaces.{StandsAt, stamp-of, has-stamp}
 use Rattle.fp_timenodes.proofs.StampSearch.{no_stamp}
 

@@ -1,21 +1,17 @@
 -- How many distinct points can be added at all.
-use Rattle.std.proofs.Common.{◌≡◌, ℕ, zero, suc, ◌+◌, ◌-◌, ◌*◌, ◌<◌, ◌≤◌, ◌≢◌, true, false, List, [], ◌∷◌, ◌++◌, length, get_or, map, All, ◌||◌, ⊎_elim, ◌∙◌, subst, arith}
+use Rattle.std.proofs.Common.{◌≡◌, ℕ, ◌+◌, ◌-◌, ◌*◌, ◌<◌, ◌≤◌, ◌≢◌, true, List, [], ◌∷◌, length, get_or, map, All, ⊎_elim, arith}
 use Rattle.std.specs.Prelude.{AllPairs}
 use Rattle.std.specs.List.{list_any}
 use Rattle.std.proofs.Math.Dec.{eqb}
-use Rattle.std.proofs.lemmas.Bool.{both_ways, eqb-true, false≢true, or_cases, or_left, or_right}
+use Rattle.std.proofs.lemmas.Bool.{eqb-true, false≢true, or_cases}
 use Rattle.std.proofs.lemmas.Bool.Decides.{Decides-eqb}
 use Rattle.std.proofs.lemmas.List.{get_or-map, length-map}
 use Rattle.std.proofs.lemmas.List.Elements.{All-head, All-tail, All-weaker}
-use Rattle.std.proofs.lemmas.List.Quantifiers.{all_pairs_push}
 use Rattle.std.proofs.lemmas.Map.Made.{IsDistinct-from_AllPairs}
 use Rattle.std.proofs.lemmas.Map.Steps.{length-le_from_distinct_below}
 use Rattle.std.proofs.lemmas.Nat.{mul-add-lt, same_from_place}
 use Rattle.fp_timenodes.specs.declared.places.AddedPoint.{AddedPoint}
-use Rattle.fp_lists.specs.Membership.{list_has}
-use Rattle.fp_timenodes.specs.Points.{HaveDistinctPlaces, TimePoints, added_at, greatest_round, points_at, times_at}
-use Rattle.fp_timenodes.proofs.Rounds.{greatest_round_bound, list_has-added_at, list_has-points_at}
-use Rattle.fp_timenodes.proofs.TimelinePoints.{list_has-zero}
+use Rattle.fp_timenodes.specs.Points.{HaveDistinctPlaces}
 
 -- elements of which no two have the same number, all below n, are at most n
 length_le_numbers : {X : Type 0} (number : X → ℕ) (n : ℕ) (xs : List X) → AllPairs (λ x y. number x ≢ number y) xs → All (λ x. number x < n) xs → length xs ≤ n
@@ -59,14 +55,6 @@ length_distinct_places terminals start count added distinct within =
         let places = same_from_place (get_or added i d).terminal ((get_or added i d).at - start) (get_or added j d).terminal ((get_or added j d).at - start) count (omega (arith, one.1, one.2)) (omega (arith, two.1, two.2)) same in
         distinct i j d less lt places.0 (omega (arith, places.1, one.1, two.1))
 
--- points at distinct places up to a last time are at most (last + 1) for each terminal
-pub length_distinct_until : (terminals last : ℕ) (added : List AddedPoint) → HaveDistinctPlaces added → All (λ (p : AddedPoint). (p.terminal < terminals) × (p.at ≤ last)) added →
-    length added ≤ terminals * (last + 1)
-length_distinct_until terminals last added distinct within =
-    length_distinct_places terminals 0 (last + 1) added distinct
-    (All-weaker (λ (p : AddedPoint). (p.terminal < terminals) × (p.at ≤ last)) (λ (p : AddedPoint). (p.terminal < terminals) × (0 ≤ p.at) × (p.at < 0 + (last + 1)))
-    (λ p h. (h.0, omega arith, omega (arith, h.1))) added within)
-
 -- since 0 is always a point, those that were none before are at most `last` for each terminal
 pub length_distinct_new : (terminals last : ℕ) (added : List AddedPoint) → HaveDistinctPlaces added → All (λ (p : AddedPoint). (p.terminal < terminals) × (1 ≤ p.at) × (p.at ≤ last)) added →
     length added ≤ terminals * last
@@ -74,23 +62,3 @@ length_distinct_new terminals last added distinct within =
     length_distinct_places terminals 1 last added distinct
     (All-weaker (λ (p : AddedPoint). (p.terminal < terminals) × (1 ≤ p.at) × (p.at ≤ last)) (λ (p : AddedPoint). (p.terminal < terminals) × (1 ≤ p.at) × (p.at < 1 + last))
     (λ p h. (h.0, h.1, omega (arith, h.2))) added within)
-
--- a time that is no point isn't 0
-pub positive_new : (v : TimePoints) (terminal round at : ℕ) → list_has (points_at v terminal round) at ≡ false → 1 ≤ at
-positive_new v terminal round zero new = absurd (both_ways (list_has (points_at v terminal round) 0) new (list_has-zero v terminal round))
-positive_new v terminal round (suc at) new = omega arith
-
--- a point that is added where it wasn't there, as of the greatest round so far or a later one,
--- keeps the places distinct
-pub HaveDistinctPlaces_new : (v : TimePoints) (p : AddedPoint) → HaveDistinctPlaces v.added → greatest_round v.added ≤ p.round → list_has (points_at v p.terminal p.round) p.at ≡ false →
-    HaveDistinctPlaces (v.added ++ p ∷ [])
-HaveDistinctPlaces_new v p distinct order new =
-    all_pairs_push (λ (q r : AddedPoint). q.terminal ≡ r.terminal → q.at ≢ r.at) v.added p distinct
-    (λ k d lt own same.
-    let there : list_has (added_at v.added p.terminal p.round) (get_or v.added k d).at ≡ true =
-    list_has-added_at v.added p.terminal p.round k d lt own (omega (arith, greatest_round_bound v.added d k lt, order)) in
-    let here : list_has (added_at v.added p.terminal p.round) p.at ≡ true = subst (λ (n : ℕ). list_has (added_at v.added p.terminal p.round) n ≡ true) same there in
-    both_ways (list_has (points_at v p.terminal p.round) p.at) new
-    (list_has-points_at v p.terminal p.round p.at ∙
-    or_right (list_has (times_at v.first p.terminal) p.at) (list_has (added_at v.added p.terminal p.round) p.at || list_has (0 ∷ []) p.at)
-    (or_left (list_has (added_at v.added p.terminal p.round) p.at) (list_has (0 ∷ []) p.at) here)))

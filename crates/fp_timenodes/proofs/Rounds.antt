@@ -1,17 +1,16 @@
 -- Which points there are as of one round and another, and what one added point does at every round.
-use Rattle.std.proofs.Common.{◌≡◌, ℕ, zero, suc, ◌-◌, ◌<◌, ◌≤◌, ◌≢◌, Bool, true, false, ◌||◌, ◌&&◌, List, [], ◌∷◌, ◌++◌, length, get_or, map, filter, ⊎_elim, refl, sym, ap, ◌∙◌, arith, append-nil, max}
+use Rattle.std.proofs.Common.{◌≡◌, ℕ, zero, suc, ◌-◌, ◌<◌, ◌≤◌, Bool, true, false, ◌||◌, ◌&&◌, List, [], ◌∷◌, ◌++◌, length, get_or, map, filter, ⊎_elim, refl, sym, ap, ◌∙◌, arith, max}
 use Rattle.std.specs.Prelude.{nat_le, nat_eq}
 use Rattle.std.specs.List.Sorted.{IsNonDecreasingBy}
-use Rattle.std.proofs.Math.Bool.{or-false, or_assoc, or_comm}
-use Rattle.std.proofs.lemmas.Bool.{and_left, and_parts, and_right, cases_Bool, eq-eqb, le-leb, leb-true, lt-leb, ne_eqb, or_cases, or_left, or_right}
+use Rattle.std.proofs.Math.Bool.{or_assoc}
+use Rattle.std.proofs.lemmas.Bool.{and_parts, and_right, cases_Bool, eq-eqb, le-leb, leb-true, lt-leb, or_cases, or_left, or_right}
 use Rattle.std.proofs.lemmas.List.{map-append}
 use Rattle.std.proofs.lemmas.List.Elements.{All-head, All-tail, filter-append}
 use Rattle.fp_timenodes.specs.declared.places.AddedPoint.{AddedPoint}
-use Rattle.fp_timenodes.specs.Floor.{HaveSamePoints}
-use Rattle.fp_lists.specs.Membership.{list_has}
+use Rattle.fp_base_lists.specs.Membership.{list_has}
 use Rattle.fp_timenodes.specs.Points.{AreAfter, TimePoints, added_at, greatest_round, points_at, times_at, with_added}
-use Rattle.fp_lists.proofs.Truth.{or_right_comm}
-use Rattle.fp_lists.proofs.Membership.{list_has-filter_push, list_has-append, list_has-rest, list_has-first, list_has-cons_cases}
+use Rattle.fp_base_lists.proofs.Truth.{or_right_comm}
+use Rattle.fp_base_lists.proofs.Membership.{list_has-filter_push, list_has-append, list_has-rest, list_has-first, list_has-cons_cases}
 
 -- no round is later than the greatest
 pub greatest_round_bound : (added : List AddedPoint) (d : AddedPoint) (k : ℕ) → k < length added → (get_or added k d).round ≤ greatest_round added
@@ -55,12 +54,6 @@ added_at_after [] terminal round after = refl
 added_at_after (p ∷ added) terminal round after =
     let late : nat_le p.round round ≡ false = lt-leb p.round round (All-head (λ (q : AddedPoint). round < q.round) p added after) in
     rw (and_right (nat_eq p.terminal terminal) (nat_le p.round round) late) (added_at_after added terminal round (All-tail (λ (q : AddedPoint). round < q.round) p added after))
-
--- points added after all of them, of later rounds, leave the points as of a round as they are
-pub points_at-with_added : (v : TimePoints) (more : List AddedPoint) (terminal round : ℕ) → AreAfter round more → points_at (with_added v more) terminal round ≡ points_at v terminal round
-points_at-with_added v more terminal round after =
-    ap (λ (qs : List ℕ). times_at v.first terminal ++ (qs ++ 0 ∷ []))
-    (added_at-append v.added more terminal round ∙ ap (λ (qs : List ℕ). added_at v.added terminal round ++ qs) (added_at_after more terminal round after) ∙ append-nil (added_at v.added terminal round))
 
 -- from the greatest round on the added points stay
 pub added_at_from_greatest : (added : List AddedPoint) (terminal round later : ℕ) → greatest_round added ≤ round → round ≤ later → added_at added terminal later ≡ added_at added terminal round
@@ -148,23 +141,3 @@ list_has-with_added v p terminal round at =
     ap (λ (b : Bool). firsts || b) (or_right_comm others one zeros) ∙
     sym (or_assoc firsts (others || zeros) one) ∙
     ap (λ (b : Bool). b || one) (sym (list_has-points_at v terminal round at))
-
--- at other terminals, and as of earlier rounds, the points stay the same
-pub HaveSamePoints_unseen : (v : TimePoints) (p : AddedPoint) (terminal round : ℕ) → (nat_eq p.terminal terminal && nat_le p.round round) ≡ false →
-    HaveSamePoints (points_at (with_added v (p ∷ [])) terminal round) (points_at v terminal round)
-HaveSamePoints_unseen v p terminal round unseen at =
-    list_has-with_added v p terminal round at ∙ rw unseen (or-false (list_has (points_at v terminal round) at))
-
-pub HaveSamePoints_other_terminal : (v : TimePoints) (p : AddedPoint) (terminal round : ℕ) → p.terminal ≢ terminal → HaveSamePoints (points_at (with_added v (p ∷ [])) terminal round) (points_at v terminal round)
-HaveSamePoints_other_terminal v p terminal round other =
-    HaveSamePoints_unseen v p terminal round (and_left (nat_eq p.terminal terminal) (nat_le p.round round) (ne_eqb p.terminal terminal other))
-
-pub HaveSamePoints_earlier_round : (v : TimePoints) (p : AddedPoint) (terminal round : ℕ) → round < p.round → HaveSamePoints (points_at (with_added v (p ∷ [])) terminal round) (points_at v terminal round)
-HaveSamePoints_earlier_round v p terminal round early =
-    HaveSamePoints_unseen v p terminal round (and_right (nat_eq p.terminal terminal) (nat_le p.round round) (lt-leb p.round round early))
-
--- at its own terminal, from its round on, the new point stands before the others
-pub HaveSamePoints_own_terminal : (v : TimePoints) (p : AddedPoint) (round : ℕ) → p.round ≤ round → HaveSamePoints (points_at (with_added v (p ∷ [])) p.terminal round) (p.at ∷ points_at v p.terminal round)
-HaveSamePoints_own_terminal v p round from at =
-    list_has-with_added v p p.terminal round at ∙
-    rw (eq-eqb p.terminal p.terminal refl, le-leb p.round round from) (or_comm (list_has (points_at v p.terminal round) at) (nat_eq p.at at))

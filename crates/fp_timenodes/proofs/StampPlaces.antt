@@ -3,9 +3,9 @@ use Rattle.std.proofs.Common.{◌≡◌, ℕ, zero, suc, ◌<◌, ◌≤◌, tru
 use Rattle.std.specs.Prelude.{nat_le}
 use Rattle.std.proofs.lemmas.Bool.{cases_Bool, leb-true, le-leb}
 use Rattle.fp_timenodes.specs.declared.timelines.Stamp.{Stamp}
-use Rattle.fp_lists.specs.Membership.{list_has}
+use Rattle.fp_base_lists.specs.Membership.{list_has}
 use Rattle.fp_timenodes.specs.Stamps.{points_of}
-use Rattle.fp_lists.proofs.Membership.{list_has-rest, list_has-first, list_has-cons_cases}
+use Rattle.fp_base_lists.proofs.Membership.{list_has-rest, list_has-first, list_has-cons_cases}
 
 -- a stamp up to the round gives a point
 pub has-stamp : (stamps : List Stamp) (round k : ℕ) (d : Stamp) → k < length stamps → (get_or stamps k d).round ≤ round → list_has (points_of stamps round) (get_or stamps k d).at ≡ true

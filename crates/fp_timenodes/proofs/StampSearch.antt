@@ -8,7 +8,7 @@ use Rattle.std.proofs.lemmas.Bool.Decides.{same_from_decides, Decides-and, Decid
 use Rattle.std.proofs.lemmas.List.{get_or-reverse, length-reverse, get_or-take, length-take-le, get_or-drop, length-drop}
 use Rattle.fp_timenodes.specs.declared.timelines.Stamp.{Stamp}
 use Rattle.fp_timenodes.specs.Floor.{floor_point, next_point, IsNextPoint}
-use Rattle.fp_lists.specs.Membership.{list_has}
+use Rattle.fp_base_lists.specs.Membership.{list_has}
 use Rattle.fp_timenodes.specs.Stamps.{points_of, IsStampCut}
 use Rattle.fp_timenodes.proofs.Floors.{floor_below, floor_is}
 use Rattle.fp_timenodes.proofs.Nexts.{next_is}

@@ -10,12 +10,12 @@ use Rattle.std.proofs.lemmas.List.Elements.{All-set}
 use Rattle.std.proofs.lemmas.List.Sorted.{list_any-IsPermutation}
 use Rattle.fp_timenodes.specs.declared.places.Place.{Place}
 use Rattle.fp_timenodes.specs.declared.timelines.Stamp.{Stamp}
-use Rattle.fp_lists.specs.Membership.{list_has}
+use Rattle.fp_base_lists.specs.Membership.{list_has}
 use Rattle.fp_timenodes.specs.Points.{IsPlace, times_at}
 use Rattle.fp_timenodes.specs.Stamps.{AreUpTo, IncludesPoint, points_of}
 use Rattle.fp_timenodes.specs.Timelines.{Show, StartAt}
-use Rattle.fp_lists.proofs.Truth.{or_right_comm}
-use Rattle.fp_lists.proofs.Membership.{list_has-filter_push, list_has-append}
+use Rattle.fp_base_lists.proofs.Truth.{or_right_comm}
+use Rattle.fp_base_lists.proofs.Membership.{list_has-filter_push, list_has-append}
 use Rattle.fp_timenodes.proofs.TimelinePoints.{seen_as}
 
 -- one more place

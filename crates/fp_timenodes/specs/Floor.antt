@@ -1,7 +1,7 @@
 -- Looking up points in a list of them, whatever its order. A moment over the denominator d is n /
 -- d.
 use Rattle.std.specs.Prelude.{ℕ, ◌*◌, ◌≡◌, ◌<◌, ◌≤◌, true, List, [], ◌∷◌, Option, Some, None, MatchOption, cond, nat_le, nat_lt, max, min}
-use Rattle.fp_lists.specs.Membership.{list_has}
+use Rattle.fp_base_lists.specs.Membership.{list_has}
 
 -- the greatest of the points that is not after the moment n / d, and 0 where there is none
 abbrev pub floor_point : List ℕ → ℕ → ℕ → ℕ

@@ -2,7 +2,7 @@
 use Rattle.std.specs.Prelude.{ℕ, ◌≡◌, ◌<◌, ◌≤◌, ◌||◌, ◌&&◌, ◌==◌, List, map, filter, length, nat_le, All}
 use Rattle.std.specs.List.{AllPairs, AllWithin}
 use Rattle.fp_timenodes.specs.declared.timelines.Stamp.{Stamp}
-use Rattle.fp_lists.specs.Membership.{list_has}
+use Rattle.fp_base_lists.specs.Membership.{list_has}
 
 -- each stamp is before those that follow it
 abbrev pub IsAscending : List Stamp → Type 0

@@ -6,10 +6,12 @@
 //! [`LATEST`].
 #![tactic(auto)]
 
+mod laws;
 mod places;
 mod point_table;
 mod timelines;
 
+pub use laws::point_limits_are_numbers;
 pub use places::{Added, AddedPoint, LATEST, MOST_POINTS, Place};
 pub use point_table::Points;
 

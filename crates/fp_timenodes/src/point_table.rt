@@ -1,7 +1,7 @@
 //! The points of all terminals as of every round: look-ups, and one more point.
 ghost use Rattle.std.specs.Prelude.{ℕ, ◌≡◌, ◌<◌, ◌≤◌, ◌↔◌, ◌++◌, [], ◌∷◌, All, IsTrue, IfOk, IfSome, OnErr, length, replicate};
 ghost use Rattle.fp_timenodes.specs.Floor.{floor_point, next_point, IsFloorPoint, IsNextPoint};
-ghost use Rattle.fp_lists.specs.Membership.{list_has};
+ghost use Rattle.fp_base_lists.specs.Membership.{list_has};
 ghost use Rattle.fp_timenodes.specs.Points.{TimePoints, IsPlace, IsAddedPoint, points_at, greatest_round, HasValidPoints};
 ghost use Rattle.fp_timenodes.specs.Timelines.{StartAt, bare_timeline};
 

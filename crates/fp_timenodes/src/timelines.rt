@@ -1,7 +1,7 @@
 //! The points of one terminal in ascending order, and the search among them.
 ghost use Rattle.std.specs.Prelude.{◌≡◌, [], ◌∷◌, false, IfOk, OnOk, OnErr, find, option_map, reverse, nat_le};
 ghost use Rattle.fp_timenodes.specs.Floor.{floor_point, next_point};
-ghost use Rattle.fp_lists.specs.Membership.{list_has};
+ghost use Rattle.fp_base_lists.specs.Membership.{list_has};
 ghost use Rattle.fp_timenodes.specs.Stamps.{IsAscending, points_of, AreUpTo, IncludesPoint, IsStampCut};
 
 use crate::NoMemory;

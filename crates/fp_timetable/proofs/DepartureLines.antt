@@ -8,10 +8,10 @@ use Rattle.fp_model.specs.declared.parts.Leg.{Leg}
 use Rattle.fp_model.specs.Costs.{all_legs, departure_cost, departures_cost, distinct, has_leg, load, same_leg, trucks}
 use Rattle.fp_model.specs.Problem.{Problem, arc_at}
 use Rattle.fp_model.proofs.Distinct.{distinct_sum-occur, same_leg-refl, same_leg-true}
-use Rattle.fp_lists.proofs.Sums.{sum_by-map, sum_by-same_each}
+use Rattle.fp_base_lists.proofs.Sums.{sum_by-map, sum_by-same_each}
 use Rattle.fp_timetable.specs.declared.lines.TruckLine.{TruckLine}
 use Rattle.fp_timetable.specs.Lines.{AreTruckLines, departure, line_cost}
-use Rattle.fp_lists.specs.Order.{Precedes}
+use Rattle.fp_base_lists.specs.Order.{Precedes}
 use Rattle.fp_timetable.specs.Order.{no_line}
 use Rattle.fp_timetable.proofs.Pairs.{EachPair, EachPair-AllPairs}
 

@@ -10,7 +10,7 @@ use Rattle.fp_model.specs.Costs.{has_leg, load, same_leg}
 use Rattle.fp_model.specs.Numbered.{shipment_at}
 use Rattle.fp_model.specs.Problem.{Problem}
 use Rattle.fp_model.proofs.Distinct.{same_leg-true}
-use Rattle.fp_lists.proofs.Sums.{sum_by-map}
+use Rattle.fp_base_lists.proofs.Sums.{sum_by-map}
 use Rattle.fp_timetable.specs.declared.lines.LegLine.{LegLine}
 use Rattle.fp_timetable.specs.Lines.{leg_line, line_leg}
 use Rattle.fp_timetable.specs.Order.{lines_from, size_on}

@@ -1,13 +1,8 @@
 -- The lines of a plan's timetable are of shipments and arcs that exist.
-use Rattle.std.proofs.Common.{◌≡◌, ◌∙◌, ℕ, zero, suc, ◌<◌, Bool, true, false, List, [], ◌∷◌, ◌++◌, length, get_or, map, refl, sym, subst, arith}
+use Rattle.std.proofs.Common.{List, get_or, arith}
 use Rattle.std.specs.Prelude.{All}
-use Rattle.std.specs.List.{AllByRecursion}
-use Rattle.std.proofs.lemmas.Bool.{false≢true, or_left, or_right}
-use Rattle.std.proofs.lemmas.List.Folds.{list_any-append}
-use Rattle.std.proofs.lemmas.List.Elements.{All-get_or}
 use Rattle.fp_model.specs.declared.parts.Leg.{Leg}
-use Rattle.fp_model.specs.Costs.{all_legs, has_leg, same_leg}
-use Rattle.fp_model.specs.Numbered.{route_at}
+use Rattle.fp_model.specs.Costs.{all_legs}
 use Rattle.fp_model.specs.Plans.{IsPlan}
 use Rattle.fp_model.specs.Problem.{Problem, IsValid}
 use Rattle.fp_timetable.specs.declared.lines.LegLine.{LegLine}
@@ -15,13 +10,7 @@ use Rattle.fp_timetable.specs.declared.lines.TruckLine.{TruckLine}
 use Rattle.fp_timetable.specs.Lines.{AreLegLines, AreTruckLines, IsLegLine, LegExists, TruckExists, departure, line_leg}
 use Rattle.fp_timetable.proofs.PlanLegs.{GoesByArc, IsReady, IsReady-plan}
 use Rattle.fp_timetable.proofs.OrderedLines.{arcs-of, has-each}
-
--- a leg of one route is a leg of all routes
-in-all : (routes : List (List Leg)) (j : ℕ) (k : Leg) → has_leg k (route_at routes j) ≡ true → has_leg k (all_legs routes) ≡ true
-in-all [] j k has = has
-in-all (r ∷ routes) zero k has = list_any-append (same_leg k) r (all_legs routes) ∙ or_left (has_leg k r) (has_leg k (all_legs routes)) has
-in-all (r ∷ routes) (suc j) k has =
-    list_any-append (same_leg k) r (all_legs routes) ∙ or_right (has_leg k r) (has_leg k (all_legs routes)) (in-all routes j k has)
+use Rattle.fp_model.proofs.Members.{has_leg-all_legs}
 
 -- the shipment and the arc of each leg line exist
 pub LegExists-plan : (p : Problem) (routes : List (List Leg)) (lines : List LegLine) → IsValid p → IsPlan p 1 routes → AreLegLines p routes lines → All (LegExists p) lines
@@ -29,7 +18,7 @@ LegExists-plan p routes lines valid plan are = λ i d lt.
     let l : LegLine = get_or lines i d in
     let line : IsLegLine p routes l = are.legs i d lt in
     let ready : IsReady p routes = IsReady-plan p routes valid plan in
-    (omega (arith, line.shipment, ready.long), has-each (GoesByArc p) (line_leg l) (all_legs routes) ready.exist (in-all routes l.shipment (line_leg l) line.leg))
+    (omega (arith, line.shipment, ready.long), has-each (GoesByArc p) (line_leg l) (all_legs routes) ready.exist (has_leg-all_legs routes l.shipment (line_leg l) line.leg))
 
 -- the arc of each truck line exists
 pub TruckExists-plan : (p : Problem) (routes : List (List Leg)) (lines : List TruckLine) → IsValid p → IsPlan p 1 routes → AreTruckLines p routes lines → All (TruckExists p) lines

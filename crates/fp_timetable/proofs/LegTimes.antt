@@ -5,7 +5,7 @@ use Rattle.std.proofs.lemmas.List.Elements.{All-cons, All-nil, All-get_or}
 use Rattle.fp_model.specs.declared.parts.Leg.{Leg}
 use Rattle.fp_model.specs.Problem.{Problem, IsArc, IsValid, arc_at, no_arc}
 use Rattle.fp_model.specs.Routes.{Leads, LeavesReady, ArrivesBy, arcs_of, step}
-use Rattle.fp_lists.proofs.Elements.{AllByRecursion-weaker}
+use Rattle.fp_base_lists.proofs.Elements.{AllByRecursion-weaker}
 use Rattle.fp_timetable.specs.Order.{ArriveWithin, IsWithin}
 
 -- an arc takes at least one unit of time

@@ -9,7 +9,7 @@ use Rattle.std.proofs.lemmas.Bool.Decides.{eqb_tells}
 use Rattle.std.proofs.lemmas.Map.Keys.{IsDistinct-IsPermutation}
 use Rattle.fp_model.specs.declared.parts.Leg.{Leg}
 use Rattle.fp_model.specs.Problem.{Problem}
-use Rattle.fp_lists.proofs.Elements.{AllByRecursion-weaker, AllByRecursion-get_or, AllByRecursion-append, AllByRecursion-map, AllByRecursion-always}
+use Rattle.fp_base_lists.proofs.Elements.{AllByRecursion-weaker, AllByRecursion-get_or, AllByRecursion-append, AllByRecursion-map, AllByRecursion-always}
 use Rattle.fp_timetable.specs.declared.lines.LegLine.{LegLine}
 use Rattle.fp_timetable.specs.Lines.{leg_line}
 use Rattle.fp_timetable.specs.Order.{lines_from, rank_of}

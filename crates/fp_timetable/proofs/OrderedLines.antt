@@ -22,14 +22,14 @@ use Rattle.fp_model.proofs.Distinct.{same_leg-refl, same_leg-true}
 use Rattle.fp_timetable.specs.declared.lines.LegLine.{LegLine}
 use Rattle.fp_timetable.specs.declared.lines.TruckLine.{TruckLine}
 use Rattle.fp_timetable.specs.Lines.{AreLegLines, AreTruckLines, IsLegLine, departure, leg_line, line_leg}
-use Rattle.fp_lists.specs.Order.{Precedes}
+use Rattle.fp_base_lists.specs.Order.{Precedes}
 use Rattle.fp_timetable.specs.Order.{AreMerged, LineExists, lines_from, load_on, no_line, rank_of, size_on, truck_rank, with_trucks}
 use Rattle.fp_timetable.proofs.LineRanks.{leg_rank, rising-lines}
 use Rattle.fp_timetable.proofs.DepartureLoads.{AllRise, ShipmentsFrom, size_on-lines}
 use Rattle.fp_timetable.proofs.AllLines.{StandFrom-all, has_leg-get_or, lines_from-departures, lines_from-every, lines_from-legs}
 use Rattle.fp_timetable.proofs.PlanLegs.{GoesByArc, IsReady, IsReady-plan}
 use Rattle.fp_timetable.proofs.Pairs.{EachPair, EachPair-AllPairs}
-use Rattle.fp_lists.proofs.Elements.{AllByRecursion-get_or}
+use Rattle.fp_base_lists.proofs.Elements.{AllByRecursion-get_or}
 
 precedes : (a b c d : ℕ) → b < 2 ^ 32 → d < 2 ^ 32 → rank_of a b < rank_of c d → Precedes a b c d
 precedes a b c d small other less =

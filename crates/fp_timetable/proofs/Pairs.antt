@@ -2,7 +2,7 @@
 use Rattle.std.proofs.Common.{ℕ, zero, suc, ◌<◌, List, [], ◌∷◌, length, get_or, arith}
 use Rattle.std.specs.Prelude.{AllPairs}
 use Rattle.std.specs.List.{AllByRecursion}
-use Rattle.fp_lists.proofs.Elements.{AllByRecursion-from_get_or}
+use Rattle.fp_base_lists.proofs.Elements.{AllByRecursion-from_get_or}
 
 -- R of each element and each later one
 abbrev pub EachPair : {X : Type 0} → (X → X → Type 0) → List X → Type 0

@@ -10,13 +10,13 @@ use Rattle.fp_model.specs.declared.limits.TheConstants.{MOST_SHIPMENTS}
 use Rattle.fp_model.specs.declared.parts.Leg.{Leg}
 use Rattle.fp_model.specs.declared.parts.Shipment.{Shipment}
 use Rattle.fp_model.specs.Costs.{all_legs}
-use Rattle.fp_lists.specs.Vectors.{lists_of}
+use Rattle.fp_base_lists.specs.Vectors.{lists_of}
 use Rattle.fp_model.specs.Plans.{IsPlan}
 use Rattle.fp_model.specs.Problem.{Problem, IsShipment, IsValid}
 use Rattle.fp_model.specs.Routes.{Carries, arcs_of}
 use Rattle.fp_model.proofs.Bounds.{Leads-exist, length-lists_of}
 use Rattle.fp_timetable.specs.Order.{ArriveWithin}
-use Rattle.fp_lists.proofs.Elements.{AllByRecursion-append}
+use Rattle.fp_base_lists.proofs.Elements.{AllByRecursion-append}
 use Rattle.fp_timetable.proofs.DepartureLoads.{AllRise}
 use Rattle.fp_timetable.proofs.LegTimes.{ArriveWithin-ready, Rise-ready}
 

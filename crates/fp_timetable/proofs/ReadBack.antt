@@ -4,17 +4,17 @@ use Rattle.std.specs.Prelude.{AllPairs, if◌then◌else◌, nat_eq}
 use Rattle.std.specs.List.{AllByRecursion}
 use Rattle.std.proofs.lemmas.Bool.{cases_Bool, cond-true, cond-false, or_cases, or_left, or_right, both_ways, false≢true, true≢false}
 use Rattle.std.proofs.lemmas.List.Elements.{All-get_or}
-use Rattle.fp_lists.proofs.Truth.{Bool-from_both}
+use Rattle.fp_base_lists.proofs.Truth.{Bool-from_both}
 use Rattle.fp_model.specs.declared.parts.Leg.{Leg}
 use Rattle.fp_model.specs.declared.parts.Shipment.{Shipment}
 use Rattle.fp_model.specs.Costs.{has_leg, same_leg}
 use Rattle.fp_model.specs.Numbered.{leg_at, no_leg, route_at}
 use Rattle.fp_model.specs.Problem.{Problem}
 use Rattle.fp_model.proofs.Distinct.{same_leg-refl, same_leg-true}
-use Rattle.fp_lists.proofs.Elements.{AllByRecursion-weaker, AllByRecursion-from_get_or, AllByRecursion-get_or}
+use Rattle.fp_base_lists.proofs.Elements.{AllByRecursion-weaker, AllByRecursion-from_get_or, AllByRecursion-get_or}
 use Rattle.fp_timetable.specs.declared.lines.LegLine.{LegLine}
 use Rattle.fp_timetable.specs.Lines.{AreLegLines, IsLegLine, leg_line, line_leg, route_of, routes_from}
-use Rattle.fp_lists.specs.Order.{Precedes}
+use Rattle.fp_base_lists.specs.Order.{Precedes}
 use Rattle.fp_timetable.proofs.DepartureLoads.{AllRise, not-later}
 use Rattle.fp_timetable.proofs.AllLines.{StandFrom, StandFrom-all, StandFrom-next, has_leg-get_or}
 use Rattle.fp_timetable.proofs.MergedLegs.{no_leg_line}

@@ -4,14 +4,14 @@ use Rattle.std.specs.Prelude.{Option, Some, None, IfSome, slice_index_or, nat_eq
 use Rattle.std.specs.List.{AllByRecursion}
 use Rattle.std.proofs.lemmas.Bool.{cases_Bool, leb-true, leb-false}
 use Rattle.std.proofs.lemmas.Bool.Decides.{eqb_tells}
-use Rattle.fp_lists.proofs.Elements.{AllByRecursion-weaker, AllByRecursion-both}
+use Rattle.fp_base_lists.proofs.Elements.{AllByRecursion-weaker, AllByRecursion-both}
 use Rattle.fp_tree.specs.declared.sides.Split.{Split}
 use Rattle.fp_tree.specs.declared.sides.Split.TheVariants.{ByArc, ByTime}
 use Rattle.fp_tree.specs.declared.sides.Side.{Side}
 use Rattle.fp_tree.specs.declared.sides.Side.TheVariants.{Without, Only, Before, From}
 use Rattle.fp_tree.specs.Sides.{Exit, Fork, HasTail, IsTailOfSplit, Meets, MeetsAll, Obeys, first, second, first_of_split, second_of_split}
 use Rattle.fp_tree.specs.Trees.{Leaf, leaves_of, AreTrees, IsTree, tree_leaves, LeaveApart, HaveTails, CoversAll}
-use Rattle.fp_lists.specs.Elements.{AnyByRecursion}
+use Rattle.fp_base_lists.specs.Elements.{AnyByRecursion}
 
 -- two numbers are equal or not
 same_or_not : (a b : ℕ) → (a ≡ b) ⊎ (a ≢ b)

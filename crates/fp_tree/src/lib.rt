@@ -2,12 +2,14 @@
 #![tactic(auto)]
 
 mod edits;
+mod laws;
 mod layout;
 mod reads;
 mod sides;
 mod trees;
 mod ways;
 
+pub use laws::split_limit_is_a_number;
 pub use layout::MOST_SPLITS;
 pub use sides::{Side, Split};
 pub use trees::{Tree, leaves_cover_all};

@@ -6,7 +6,7 @@ use Rattle.std.proofs.Math.ListN.{get_or-append}
 use Rattle.std.proofs.Math.Seq.{take-append_seam}
 use Rattle.std.proofs.lemmas.List.{get_or_push, length_push, take-append-le}
 use Rattle.std.proofs.lemmas.List.Elements.{All-push, Contains-append_left, Contains-push}
-use Rattle.fp_lists.proofs.Pairs.{AllPairs-append}
+use Rattle.fp_base_lists.proofs.Pairs.{AllPairs-append}
 use Rattle.fp_reader.specs.Draws.{drawn, next_number}
 use Rattle.fp_yard.specs.declared.events.Event.{Event}
 use Rattle.fp_yard.specs.declared.events.EventKind.{EventKind}

@@ -4,9 +4,9 @@ use Rattle.std.specs.Prelude.{◌↔◌, AllPairs, Any, Contains, nat_eq}
 use Rattle.std.specs.List.{AllByRecursion}
 use Rattle.std.proofs.lemmas.Bool.{cases_Bool}
 use Rattle.std.proofs.lemmas.List.Elements.{Contains-append_left, Contains-append_right}
-use Rattle.fp_lists.proofs.Elements.{AllByRecursion-append, AllByRecursion-get_or, AllByRecursion-weaker}
-use Rattle.fp_lists.proofs.Membership.{Contains-first}
-use Rattle.fp_lists.proofs.Pairs.{AllPairs-append, AllPairs-nil, AllPairs-unique}
+use Rattle.fp_base_lists.proofs.Elements.{AllByRecursion-append, AllByRecursion-get_or, AllByRecursion-weaker}
+use Rattle.fp_base_lists.proofs.Membership.{Contains-first}
+use Rattle.fp_base_lists.proofs.Pairs.{AllPairs-append, AllPairs-nil, AllPairs-unique}
 use Rattle.fp_model.specs.declared.parts.Member.{Member}
 use Rattle.fp_yard.specs.Freight.{legs_by, members_by}
 use Rattle.fp_yard.specs.Schedules.{GoesBy, IsFreight, IsFreightOf, IsSound, Schedule}

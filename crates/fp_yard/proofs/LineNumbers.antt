@@ -5,8 +5,8 @@ use Rattle.std.specs.List.Sorted.{IsNonDecreasingBy, IsPartitionPoint}
 use Rattle.std.proofs.Math.ListN.{length-map}
 use Rattle.std.proofs.Math.Nat.{eq-or-lt_of_le}
 use Rattle.std.proofs.lemmas.Bool.{cases_lt, ltb-true, ltb-false}
-use Rattle.fp_lists.specs.Order.{Precedes}
-use Rattle.fp_lists.proofs.Maps.{get_or-map_default}
+use Rattle.fp_base_lists.specs.Order.{Precedes}
+use Rattle.fp_base_lists.proofs.Maps.{get_or-map_default}
 use Rattle.fp_model.specs.declared.parts.Leg.{Leg}
 use Rattle.fp_model.specs.Costs.{has_leg, same_leg}
 use Rattle.fp_model.proofs.Distinct.{same_leg-true}

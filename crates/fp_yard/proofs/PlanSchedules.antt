@@ -1,5 +1,5 @@
 -- The schedule of a plan is sound, and its journeys lead from origins to destinations.
-use Rattle.std.proofs.Common.{◌≡◌, ◌≢◌, ◌∙◌, ℕ, zero, suc, ◌+◌, ◌-◌, ◌*◌, ◌^◌, ◌<◌, ◌≤◌, true, List, [], ◌∷◌, length, map, get_or, ⊎_elim, refl, sym, ap, subst, arith}
+use Rattle.std.proofs.Common.{◌≡◌, ◌≢◌, ◌∙◌, ℕ, zero, suc, ◌+◌, ◌-◌, ◌*◌, ◌^◌, ◌<◌, ◌≤◌, true, List, [], ◌∷◌, length, map, get_or, refl, sym, ap, subst, arith, ⊎_elim}
 use Rattle.std.specs.Prelude.{All, AllPairs}
 use Rattle.std.specs.List.{AllByRecursion, AllZip}
 use Rattle.std.specs.declared.alloc.Global.{Global}
@@ -9,12 +9,12 @@ use Rattle.std.proofs.lemmas.Bool.{cases_lt}
 use Rattle.std.proofs.lemmas.List.{get_or-map, get_or_default, length-map}
 use Rattle.std.proofs.lemmas.List.Elements.{recursion_from_All}
 use Rattle.std.proofs.lemmas.Slice.Zip.{AllZip-long}
-use Rattle.fp_lists.specs.Order.{Precedes}
-use Rattle.fp_lists.specs.Vectors.{lists_of}
-use Rattle.fp_lists.proofs.DistinctSums.{length-distinct-le}
-use Rattle.fp_lists.proofs.Elements.{AllByRecursion-append, AllByRecursion-from_get_or, AllByRecursion-get_or, AllByRecursion-weaker}
-use Rattle.fp_lists.proofs.Maps.{get_or-map_default, lists_of-get_or}
-use Rattle.fp_lists.proofs.Numbered.{AllZip-get_or}
+use Rattle.fp_base_lists.specs.Order.{Precedes}
+use Rattle.fp_base_lists.specs.Vectors.{lists_of}
+use Rattle.fp_base_lists.proofs.DistinctSums.{length-distinct-le}
+use Rattle.fp_base_lists.proofs.Elements.{AllByRecursion-append, AllByRecursion-from_get_or, AllByRecursion-get_or, AllByRecursion-weaker}
+use Rattle.fp_base_lists.proofs.Maps.{get_or-map_default, lists_of-get_or}
+use Rattle.fp_base_lists.proofs.Numbered.{AllZip-get_or}
 use Rattle.fp_model.specs.declared.limits.TheConstants.{LATEST}
 use Rattle.fp_model.specs.declared.parts.Leg.{Leg}
 use Rattle.fp_model.specs.declared.parts.Shipment.{Shipment}
@@ -24,7 +24,7 @@ use Rattle.fp_model.specs.Members.{IsMemberOf}
 use Rattle.fp_model.specs.Numbered.{leg_at, no_leg, no_shipment, route_at, shipment_at}
 use Rattle.fp_model.specs.Plans.{IsPlan}
 use Rattle.fp_model.specs.Problem.{IsShipment, IsValid, Problem, arc_at}
-use Rattle.fp_model.specs.Routes.{ArrivesBy, Carries, LeavesReady, arcs_of, step}
+use Rattle.fp_model.specs.Routes.{Carries, arcs_of}
 use Rattle.fp_model.proofs.LegByLeg.{AreDistinct-legs, Leads-last, Leads-legs, NeverReturns}
 use Rattle.fp_model.proofs.Members.{has_leg-member}
 use Rattle.fp_timetable.specs.declared.lines.TruckLine.{TruckLine}
@@ -35,6 +35,7 @@ use Rattle.fp_timetable.proofs.OrderedLines.{has-each}
 use Rattle.fp_timetable.proofs.AllLines.{has_leg-get_or}
 use Rattle.fp_yard.specs.Journeys.{AreAmong}
 use Rattle.fp_yard.specs.Schedules.{HasEnds, IsJourney, IsScheduleOf, IsSound, Schedule, head_at, heads_of, journey_at, leg_of, line_at, tail_at, tails_of}
+use Rattle.fp_model.proofs.LastArrivals.{legs-depart_by}
 
 -- a leg departs before each later one
 rise-at : (legs : List Leg) (i j : ℕ) → Rise legs → i < j → j < length legs → (leg_at legs i).depart < (leg_at legs j).depart
@@ -187,14 +188,6 @@ short-journeys s sound few k d lt =
     let short : length (journey_at s k) < 2 ^ 32 = omega (arith, place-le (journey_at s k) last is.rising within, is.exist last within, few) in
     omega (arith, short, ap (λ (j : List ℕ). length j) (get_or_default s.journeys k d [] lt))
 
--- legs depart no later than they are due
-departs-by : (p : Problem) (ready due : ℕ) (legs : List Leg) → LeavesReady p 1 ready legs → ArrivesBy p 1 due legs → AllByRecursion (λ (l : Leg). l.depart ≤ due) legs
-departs-by p ready due [] leaves arrives = tt
-departs-by p ready due (l ∷ []) leaves arrives = (omega (arith, arrives), tt)
-departs-by p ready due (l ∷ m ∷ legs) leaves arrives =
-    let rest = departs-by p (l.depart + 1 * step p l.arc) due (m ∷ legs) leaves.1 arrives in
-    (omega (arith, rest.0, leaves.1.0), rest)
-
 all-depart : (p : Problem) (n : ℕ) (shipments : List Shipment) (routes : List (List Leg)) → AllByRecursion (IsShipment n) shipments → AllZip (Carries p 1) shipments routes →
     AllByRecursion (λ (l : Leg). l.depart ≤ LATEST) (all_legs routes)
 all-depart p n [] [] valid plan = tt
@@ -203,7 +196,7 @@ all-depart p n (s ∷ shipments) [] valid plan = absurd plan
 all-depart p n (s ∷ shipments) (r ∷ routes) valid plan =
     AllByRecursion-append (λ (l : Leg). l.depart ≤ LATEST) r (all_legs routes)
     (AllByRecursion-weaker (λ (l : Leg). l.depart ≤ s.due) (λ (l : Leg). l.depart ≤ LATEST) (λ l h. omega (arith, h, valid.0.within.due)) r
-    (departs-by p (1 * s.release) s.due r plan.0.ready plan.0.due))
+    (legs-depart_by p (1 * s.release) s.due r plan.0.ready plan.0.due))
     (all-depart p n shipments routes valid.1 plan.1)
 
 -- a line by one number, by its departure and then its arc

@@ -1,6 +1,6 @@
 -- Legs among the departures of lines.
 use Rattle.std.specs.Prelude.{◌≡◌, true, List, map, All, AllPairs}
-use Rattle.fp_lists.specs.Order.{Precedes}
+use Rattle.fp_base_lists.specs.Order.{Precedes}
 use Rattle.fp_model.specs.declared.parts.Leg.{Leg}
 use Rattle.fp_model.specs.Costs.{has_leg}
 use Rattle.fp_timetable.specs.declared.lines.TruckLine.{TruckLine}

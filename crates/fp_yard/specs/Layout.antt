@@ -1,6 +1,6 @@
 -- How a yard lies in memory.
 use Rattle.std.specs.Prelude.{ℕ, ◌<◌, ◌≡◌, length}
-use Rattle.fp_lists.specs.Vectors.{lists_of}
+use Rattle.fp_base_lists.specs.Vectors.{lists_of}
 use Rattle.fp_yard.specs.declared.sheets.Sheets.TheInside.{Inside}
 use Rattle.fp_yard.specs.Freight.{freight_at}
 use Rattle.fp_yard.specs.Schedules.{IsFreightOf, IsSound, Schedule}

@@ -1,6 +1,6 @@
 //! The legs that go by each line.
 ghost use Rattle.std.specs.Prelude.{ℕ, ◌≡◌, ◌<◌, ◌≤◌, ◌^◌, ◌∷◌, ◌++◌, [], All, IfOk, OnOk, if◌then◌else◌, length, nat_eq};
-ghost use Rattle.fp_lists.specs.Vectors.{lists_of};
+ghost use Rattle.fp_base_lists.specs.Vectors.{lists_of};
 ghost use Rattle.fp_yard.specs.Freight.{freight_at, legs_by, members_by};
 
 use crate::NoMemory;

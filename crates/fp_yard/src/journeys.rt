@@ -2,8 +2,8 @@
 ghost use Rattle.std.specs.Prelude.{ℕ, ◌≡◌, ◌<◌, ◌^◌, true, All, AllPairs, IfOk, length, map};
 ghost use Rattle.std.specs.declared.alloc.Global.{Global};
 ghost use Rattle.std.specs.declared.vec.Vec.{Vec};
-ghost use Rattle.fp_lists.specs.Order.{Precedes};
-ghost use Rattle.fp_lists.specs.Vectors.{lists_of};
+ghost use Rattle.fp_base_lists.specs.Order.{Precedes};
+ghost use Rattle.fp_base_lists.specs.Vectors.{lists_of};
 ghost use Rattle.fp_model.specs.Costs.{has_leg};
 ghost use Rattle.fp_model.specs.declared.parts.Leg.{Leg};
 ghost use Rattle.fp_timetable.specs.declared.lines.TruckLine.{TruckLine};

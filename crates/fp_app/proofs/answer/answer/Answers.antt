@@ -1,6 +1,6 @@
 use Rattle.std.proofs.Common.{◌≡◌}
 use Rattle.std.specs.Prelude.{Some}
-use Rattle.fp_words.specs.Words.{order_of, texts}
+use Rattle.fp_app_words.specs.Words.{order_of, texts}
 use Rattle.fp_app.proofs.SourceReads.{Leaves-same}
 use Rattle.fp_app.proofs.answer.answer.Goals as goal
 

@@ -7,7 +7,7 @@ use Rattle.fp_model.specs.Problem.{Problem}
 use Rattle.fp_timetable.specs.declared.lines.TruckLine.{TruckLine}
 use Rattle.fp_timetable.specs.Lines.{AreTruckLines}
 use Rattle.fp_yard.specs.declared.events.Event.{Event}
-use Rattle.fp_sheets.specs.Rows.{EventsExist, IsYardText}
+use Rattle.fp_yard_sheets.specs.Rows.{EventsExist, IsYardText}
 use Rattle.fp_app.specs.declared.shown.Shown.{Shown}
 use Rattle.fp_app.specs.declared.shown.Shown.TheVariants as shown
 use Rattle.fp_app.specs.Shown.{IsPrintable}

@@ -1,5 +1,5 @@
 use Rattle.std.proofs.Common.{inr, rules, subst, sym, ◌∙◌}
-use Rattle.fp_words.specs.Words.{order_of, texts}
+use Rattle.fp_app_words.specs.Words.{order_of, texts}
 use Rattle.fp_app.specs.Causes.{StatusOf}
 use Rattle.fp_app.specs.Runs.{Writes, reach_of}
 use Rattle.fp_app.specs.declared.shown.Status.{Status}

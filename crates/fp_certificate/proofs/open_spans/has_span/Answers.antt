@@ -1,7 +1,7 @@
 use Rattle.std.proofs.Common.{◌≡◌, ◌∙◌, ℕ, ◌-◌, Bool, List, length, sym, ap, arith}
 use Rattle.std.specs.Prelude.{◌==◌, not, vec_len}
 use Rattle.std.proofs.lemmas.Option.{get_or_from_slice_get, slice_get_within}
-use Rattle.fp_spans.specs.Spans.{ClassSpan}
+use Rattle.fp_prices_spans.specs.Spans.{ClassSpan}
 use Rattle.fp_records.specs.Fields.{is_empty}
 use Rattle.fp_certificate.proofs.LastElements.{lacks_last-last}
 use Rattle.fp_certificate.proofs.open_spans.has_span.Goals as goal

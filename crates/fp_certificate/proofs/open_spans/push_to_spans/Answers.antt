@@ -1,7 +1,7 @@
 use Rattle.std.proofs.Common.{◌∙◌, ◌-◌, List, length, ap}
 use Rattle.std.proofs.Math.ListN.{set}
 use Rattle.fp_prices.specs.declared.tables.Weight.{Weight}
-use Rattle.fp_spans.specs.Spans.{ClassSpan}
+use Rattle.fp_prices_spans.specs.Spans.{ClassSpan}
 use Rattle.fp_certificate.specs.Tables.{and_span_weight}
 use Rattle.fp_certificate.proofs.LastElements.{with_last-set}
 use Rattle.fp_certificate.proofs.open_spans.push_to_spans.Goals as goal

@@ -1,5 +1,5 @@
 use Rattle.std.proofs.lemmas.Result.{IfOk-weaker}
-use Rattle.fp_acceptance.proofs.Claims.{IsAccepted-ClaimsWithin, IsAccepted-Claims}
+use Rattle.fp_certificate_rules.proofs.Claims.{IsAccepted-ClaimsWithin, IsAccepted-Claims}
 use Rattle.fp_checker.proofs.checks.check.Goals as goal
 
 pub returns-clause-within : goal.returns-clause-within

@@ -2,11 +2,11 @@ use Rattle.std.proofs.Common.{◌≡◌, ◌≤◌, List, length, sym, ap, ◌�
 use Rattle.std.proofs.lemmas.Result.{err_from_is_err_and}
 use Rattle.fp_model.specs.Problem.{Problem}
 use Rattle.fp_tree.specs.Trees.{IsTree, tree_splits}
-use Rattle.fp_lines.specs.declared.certificates.Node.{Node}
-use Rattle.fp_lines.specs.Statements.{Statement}
-use Rattle.fp_acceptance.specs.Leaves.{HasTree, fork_of}
-use Rattle.fp_acceptance.specs.Points.{AreAddedPoints}
-use Rattle.fp_acceptance.specs.Prices.{HasPrices}
+use Rattle.fp_certificate_lines.specs.declared.certificates.Node.{Node}
+use Rattle.fp_certificate_lines.specs.Statements.{Statement}
+use Rattle.fp_certificate_rules.specs.Leaves.{HasTree, fork_of}
+use Rattle.fp_certificate_rules.specs.Points.{AreAddedPoints}
+use Rattle.fp_certificate_rules.specs.Prices.{HasPrices}
 use Rattle.fp_checker.proofs.Results.{Part_injective, false_refutes, Err_any}
 use Rattle.fp_checker.proofs.FirstParts.{points_unmet, prices_unmet, tree_unmet, leaves_unmet, HoldBelow_all}
 use Rattle.fp_checker.proofs.checks.test_bound.Goals as goal

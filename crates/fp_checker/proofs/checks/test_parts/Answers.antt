@@ -1,6 +1,6 @@
 use Rattle.std.proofs.Common.{sym, ap, ◌∙◌}
 use Rattle.std.proofs.lemmas.Result.{err_from_is_err_and}
-use Rattle.fp_lines.specs.Statements.{Statement}
+use Rattle.fp_certificate_lines.specs.Statements.{Statement}
 use Rattle.fp_checker.proofs.Results.{Err_any}
 use Rattle.fp_checker.proofs.FirstParts.{IsFirstFailed_direct, IsFirstFailed_claim, IsFirstFailed_infeasible}
 use Rattle.fp_checker.proofs.checks.test_parts.Goals as goal

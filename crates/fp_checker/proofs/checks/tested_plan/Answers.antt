@@ -5,8 +5,8 @@ use Rattle.fp_model.specs.Costs.{cost}
 use Rattle.fp_model.specs.Problem.{Problem}
 use Rattle.fp_timetable.specs.declared.lines.TruckLine.{TruckLine}
 use Rattle.fp_timetable.specs.Lines.{AreTruckLines}
-use Rattle.fp_lines.specs.Statements.{Statement}
-use Rattle.fp_acceptance.specs.Plans.{routes_of, stated_cost}
+use Rattle.fp_certificate_lines.specs.Statements.{Statement}
+use Rattle.fp_certificate_rules.specs.Plans.{routes_of, stated_cost}
 use Rattle.fp_timetable.proofs.DepartureLines.{AreTruckLines-unique}
 use Rattle.fp_checker.proofs.Results.{Part_injective, false_refutes}
 use Rattle.fp_checker.proofs.FirstParts.{plan_unmet, cost_unmet, trucks_unmet}

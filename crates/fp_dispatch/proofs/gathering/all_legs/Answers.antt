@@ -2,7 +2,7 @@ use Rattle.std.proofs.Common.{◌≡◌, ◌<◌, ℕ, List, [], ◌++◌, lengt
 use Rattle.std.specs.Prelude.{All, Contains}
 use Rattle.std.proofs.lemmas.Bool.{cases_eq}
 use Rattle.std.proofs.lemmas.List.Elements.{All-append, Contains-append_left, Contains-append_right}
-use Rattle.fp_lists.specs.Vectors.{lists_of}
+use Rattle.fp_base_lists.specs.Vectors.{lists_of}
 use Rattle.fp_model.specs.declared.parts.Member.{Member}
 use Rattle.fp_model.specs.Members.{IsMemberOf}
 use Rattle.fp_dispatch.specs.Rising.{legs_below}

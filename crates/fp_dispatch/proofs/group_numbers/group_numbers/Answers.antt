@@ -1,6 +1,6 @@
 use Rattle.std.proofs.Common.{◌≡◌, ◌∙◌, ◌+◌, ◌*◌, ◌<◌, ℕ, Some, Option, List, [], length, get_or, sym, ap, ap₂, subst, arith}
 use Rattle.std.specs.Prelude.{All}
-use Rattle.fp_lists.specs.Vectors.{lists_of}
+use Rattle.fp_base_lists.specs.Vectors.{lists_of}
 use Rattle.fp_model.specs.declared.parts.Member.{Member}
 use Rattle.fp_model.specs.Members.{IsMemberOf}
 use Rattle.fp_dispatch.specs.Rising.{AreGroupNumbers, set_each}

@@ -1,5 +1,5 @@
 use Rattle.std.proofs.Common.{◌≡◌, length}
-use Rattle.fp_lists.specs.Vectors.{lists_of}
+use Rattle.fp_base_lists.specs.Vectors.{lists_of}
 use Rattle.fp_dispatch.specs.Rising.{AreGroupNumbers}
 use Rattle.fp_dispatch.proofs.group_numbers.group_numbers.Given as goal
 

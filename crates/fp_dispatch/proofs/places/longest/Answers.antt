@@ -1,5 +1,5 @@
 use Rattle.std.proofs.Common.{◌≤◌, ◌<◌, arith, length}
-use Rattle.fp_lists.specs.Vectors.{lists_of}
+use Rattle.fp_base_lists.specs.Vectors.{lists_of}
 use Rattle.fp_model.specs.declared.limits.TheConstants.{MOST_TERMINALS}
 use Rattle.fp_dispatch.proofs.VectorItems.{length-lists_of, lists_of-item, short-next}
 use Rattle.fp_dispatch.proofs.places.longest.Goals as goal

@@ -1,5 +1,5 @@
 use Rattle.std.proofs.Common.{ℕ, ◌<◌, ◌≤◌, List, length, get_or}
-use Rattle.fp_lists.specs.Vectors.{lists_of}
+use Rattle.fp_base_lists.specs.Vectors.{lists_of}
 use Rattle.fp_model.specs.declared.limits.TheConstants.{MOST_TERMINALS}
 use Rattle.fp_dispatch.proofs.places.longest.Given as goal
 

@@ -1,8 +1,8 @@
 use Rattle.std.proofs.Common.{refl, arith}
 use Rattle.fp_prices.specs.Shares.{ClassShare}
-use Rattle.fp_lists.specs.Order.{Precedes}
-use Rattle.fp_lists.proofs.Order.{Precedes-trans}
-use Rattle.fp_lists.proofs.Pairs.{AllPairs-from_adjacent}
+use Rattle.fp_base_lists.specs.Order.{Precedes}
+use Rattle.fp_base_lists.proofs.Order.{Precedes-trans}
+use Rattle.fp_base_lists.proofs.Pairs.{AllPairs-from_adjacent}
 use Rattle.fp_duals.proofs.table_tests.shares_ascend.Goals as goal
 
 pub returns : goal.returns

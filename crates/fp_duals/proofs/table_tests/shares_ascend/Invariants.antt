@@ -1,6 +1,6 @@
 use Rattle.std.specs.List.{AllAdjacentBelow}
 use Rattle.fp_prices.specs.Shares.{ClassShare}
-use Rattle.fp_lists.specs.Order.{Precedes}
+use Rattle.fp_base_lists.specs.Order.{Precedes}
 use Rattle.fp_duals.proofs.table_tests.shares_ascend.Given as goal
 
 -- the shares before this place are in order

@@ -1,6 +1,6 @@
 use Rattle.std.proofs.Common.{refl, arith, ◌<◌}
 use Rattle.fp_prices.specs.declared.tables.Weight.{Weight}
-use Rattle.fp_lists.proofs.Pairs.{AllPairs-from_adjacent}
+use Rattle.fp_base_lists.proofs.Pairs.{AllPairs-from_adjacent}
 use Rattle.fp_duals.proofs.table_tests.weights_ascend.Goals as goal
 
 pub returns : goal.returns

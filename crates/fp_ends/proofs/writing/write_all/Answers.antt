@@ -6,5 +6,6 @@ pub loop-at-preserved : goal.loop-at-preserved
 loop-at-preserved g c = let h = c.in-Ok.ensures.bytes in let e = c.split_at.ensures.back in record {
   within = search rules;
   taken = Appends_more _ _ _ _ _ _ c.loop-at.invariant.taken (rw e at c.in-Ok.ensures.bytes);
-  later = search rules;
+  same = search rules;
+  room = search rules;
 }

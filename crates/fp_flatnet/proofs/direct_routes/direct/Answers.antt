@@ -3,9 +3,9 @@ use Rattle.std.specs.declared.alloc.Global.{Global}
 use Rattle.std.specs.declared.vec.Vec.{Vec}
 use Rattle.fp_model.specs.declared.parts.Leg.{Leg}
 use Rattle.fp_model.specs.declared.parts.Shipment.{Shipment}
-use Rattle.fp_lists.specs.Vectors.{lists_of}
+use Rattle.fp_base_lists.specs.Vectors.{lists_of}
 use Rattle.fp_model.specs.Numbered.{no_shipment, shipment_at}
-use Rattle.fp_lists.proofs.Numbered.{AllZip-from_get_or}
+use Rattle.fp_base_lists.proofs.Numbered.{AllZip-from_get_or}
 use Rattle.fp_flatnet.specs.Directs.{IsDirect, IsDirectPlan}
 use Rattle.fp_flatnet.specs.Verdicts.{IsInTime}
 use Rattle.fp_flatnet.proofs.DirectRoutes.{IsPlan-from_direct}

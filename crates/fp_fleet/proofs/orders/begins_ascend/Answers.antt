@@ -1,5 +1,5 @@
 use Rattle.std.proofs.Common.{◌<◌, refl, arith}
-use Rattle.fp_lists.proofs.Pairs.{AllPairs-from_adjacent}
+use Rattle.fp_base_lists.proofs.Pairs.{AllPairs-from_adjacent}
 use Rattle.fp_fleet.specs.declared.fleets.Begin.{Begin}
 use Rattle.fp_fleet.proofs.orders.begins_ascend.Goals as goal
 

@@ -1,5 +1,5 @@
 use Rattle.std.proofs.Common.{◌<◌, refl, arith}
-use Rattle.fp_lists.proofs.Pairs.{AllPairs-from_adjacent}
+use Rattle.fp_base_lists.proofs.Pairs.{AllPairs-from_adjacent}
 use Rattle.fp_fleet.specs.declared.fleets.Need.{Need}
 use Rattle.fp_fleet.proofs.orders.needs_ascend.Goals as goal
 

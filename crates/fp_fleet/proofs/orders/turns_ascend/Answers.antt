@@ -1,7 +1,7 @@
 use Rattle.std.proofs.Common.{refl, arith}
-use Rattle.fp_lists.specs.Order.{Precedes}
-use Rattle.fp_lists.proofs.Order.{Precedes-trans}
-use Rattle.fp_lists.proofs.Pairs.{AllPairs-from_adjacent}
+use Rattle.fp_base_lists.specs.Order.{Precedes}
+use Rattle.fp_base_lists.proofs.Order.{Precedes-trans}
+use Rattle.fp_base_lists.proofs.Pairs.{AllPairs-from_adjacent}
 use Rattle.fp_fleet.specs.declared.fleets.Turn.{Turn}
 use Rattle.fp_fleet.proofs.orders.turns_ascend.Goals as goal
 

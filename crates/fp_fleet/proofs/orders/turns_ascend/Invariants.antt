@@ -1,5 +1,5 @@
 use Rattle.std.specs.List.{AllAdjacentBelow}
-use Rattle.fp_lists.specs.Order.{Precedes}
+use Rattle.fp_base_lists.specs.Order.{Precedes}
 use Rattle.fp_fleet.specs.declared.fleets.Turn.{Turn}
 use Rattle.fp_fleet.proofs.orders.turns_ascend.Given as goal
 

@@ -1,8 +1,8 @@
 use Rattle.std.proofs.Common.{[], ◌∷◌}
 use Rattle.std.specs.Prelude.{codes, decimal}
 use Rattle.fp_fleet.specs.Rows.{depart_text, from_name, to_name}
-use Rattle.fp_fleet.proofs.FleetTexts.{ended-line}
 use Rattle.fp_fleet.proofs.writing.write_turn.Goals as goal
+use Rattle.fp_records.proofs.LineTexts.{ended-line}
 
 pub returns-clause-text : goal.returns-clause-text
 returns-clause-text c =

@@ -1,9 +1,9 @@
 -- The point at the place where it is the time, and else the one before.
 use Rattle.std.proofs.Common.{◌≡◌, ℕ, true, sym, subst, arith}
-use Rattle.fp_lists.specs.Membership.{list_has}
+use Rattle.fp_base_lists.specs.Membership.{list_has}
 use Rattle.fp_timenodes.proofs.Floors.{floor_itself}
 use Rattle.fp_longestarcs.proofs.Places.{floor-before}
-use Rattle.fp_lists.proofs.Membership.{list_has-get_or}
+use Rattle.fp_base_lists.proofs.Membership.{list_has-get_or}
 use Rattle.fp_longestarcs.proofs.ascending.floor_among.Goals as goal
 use Rattle.fp_longestarcs.proofs.ascending.floor_among.Goals.{else-place-points-via-then-place-points+else-points-place, else-place-points-via-else-place-points}
 

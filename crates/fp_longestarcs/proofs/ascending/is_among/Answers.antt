@@ -2,7 +2,7 @@
 use Rattle.std.proofs.Common.{sym, ◌∙◌, arith}
 use Rattle.std.proofs.lemmas.Bool.{le-ltb}
 use Rattle.fp_longestarcs.proofs.Places.{at-place-tells}
-use Rattle.fp_lists.proofs.Places.{list_has-not_at_place}
+use Rattle.fp_base_lists.proofs.Places.{list_has-not_at_place}
 use Rattle.fp_longestarcs.proofs.ascending.is_among.Goals as goal
 
 pub returns-then-place-points : goal.returns-then-place-points

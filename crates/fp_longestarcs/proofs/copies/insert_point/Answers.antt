@@ -4,12 +4,12 @@ use Rattle.std.specs.List.{insert}
 use Rattle.std.specs.declared.alloc.Global.{Global}
 use Rattle.std.specs.declared.vec.Vec.{Vec}
 use Rattle.std.proofs.lemmas.List.{map-set}
-use Rattle.fp_lists.specs.Ascending.{place_in}
+use Rattle.fp_base_lists.specs.Ascending.{place_in}
 use Rattle.fp_longestarcs.specs.Networks.{TimedNetwork, points_in}
 use Rattle.fp_longestarcs.specs.Vectors.{network_of}
-use Rattle.fp_lists.specs.Vectors.{lists_of}
+use Rattle.fp_base_lists.specs.Vectors.{lists_of}
 use Rattle.fp_longestarcs.specs.Changes.{extended_points}
-use Rattle.fp_lists.proofs.Maps.{lists_of-get_or}
+use Rattle.fp_base_lists.proofs.Maps.{lists_of-get_or}
 use Rattle.fp_longestarcs.proofs.copies.insert_point.Goals as goal
 
 pub returns : goal.returns

@@ -1,6 +1,6 @@
 use Rattle.std.proofs.Common.{◌≡◌, map, get_or, []}
 use Rattle.std.specs.List.{range_with_len}
-use Rattle.fp_lists.specs.Vectors.{lists_of}
+use Rattle.fp_base_lists.specs.Vectors.{lists_of}
 use Rattle.fp_longestarcs.specs.Whole.{heads_from}
 use Rattle.fp_longestarcs.proofs.listing.all_heads.Given as goal
 

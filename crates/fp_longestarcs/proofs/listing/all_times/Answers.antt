@@ -8,7 +8,7 @@ use Rattle.std.proofs.lemmas.List.Elements.{All-push}
 use Rattle.fp_timenodes.specs.Floor.{HaveSamePoints}
 use Rattle.fp_timenodes.specs.Points.{points_at}
 use Rattle.fp_longestarcs.specs.Ascending.{ArePoints}
-use Rattle.fp_lists.specs.Vectors.{lists_of}
+use Rattle.fp_base_lists.specs.Vectors.{lists_of}
 use Rattle.fp_longestarcs.proofs.listing.all_times.Goals as goal
 
 -- what holds of each list at its number, and of one more, holds of each of them

@@ -1,6 +1,6 @@
 use Rattle.std.proofs.Common.{◌≡◌, ℕ, ◌≤◌, get_or, take}
 use Rattle.fp_longestarcs.specs.Networks.{copy_count}
-use Rattle.fp_lists.specs.Vectors.{lists_of}
+use Rattle.fp_base_lists.specs.Vectors.{lists_of}
 use Rattle.fp_longestarcs.proofs.listing.count_classes.Given as goal
 
 abbrev pub invariant-loop-arc : goal.invariant-loop-arc

@@ -1,6 +1,6 @@
 use Rattle.std.proofs.Common.{◌≡◌, drop}
 use Rattle.fp_model.specs.Costs.{all_legs, has_leg}
-use Rattle.fp_lists.specs.Vectors.{lists_of}
+use Rattle.fp_base_lists.specs.Vectors.{lists_of}
 use Rattle.fp_model.proofs.costs.any_goes_by.Given as goal
 
 -- the routes that are left decide

@@ -1,6 +1,6 @@
 use Rattle.std.proofs.Common.{◌≡◌, ◌+◌, drop}
 use Rattle.fp_model.specs.Costs.{all_legs, cost_with}
-use Rattle.fp_lists.specs.Vectors.{lists_of}
+use Rattle.fp_base_lists.specs.Vectors.{lists_of}
 use Rattle.fp_model.proofs.costs.route_cost.Given as goal
 
 -- the total, and what the legs that are left add, are what the route adds

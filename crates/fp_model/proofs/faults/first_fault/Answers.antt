@@ -1,5 +1,5 @@
 use Rattle.std.proofs.Common.{arith, ap, length, refl}
-use Rattle.fp_lists.specs.Vectors.{lists_of}
+use Rattle.fp_base_lists.specs.Vectors.{lists_of}
 use Rattle.fp_model.proofs.Bounds.{length-lists_of}
 use Rattle.fp_model.proofs.FirstFaults.{first_of_all, faultless_more, plan_after_all}
 use Rattle.fp_model.proofs.faults.first_fault.Goals as goal

@@ -1,4 +1,4 @@
-use Rattle.fp_lists.specs.Vectors.{lists_of}
+use Rattle.fp_base_lists.specs.Vectors.{lists_of}
 use Rattle.fp_model.proofs.FirstFaults.{AreShipmentsFaultless}
 use Rattle.fp_model.proofs.faults.first_fault.Given as goal
 

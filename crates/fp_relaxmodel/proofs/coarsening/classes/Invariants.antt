@@ -1,7 +1,7 @@
 use Rattle.std.proofs.Common.{◌≡◌, map, take}
 use Rattle.fp_longestarcs.specs.Classes.{class_of}
 use Rattle.fp_longestarcs.specs.Networks.{points_in}
-use Rattle.fp_relaxmodel.specs.Stops.{legs_of}
+use Rattle.fp_longestarcs.specs.Stops.{legs_of}
 use Rattle.fp_relaxmodel.proofs.coarsening.classes.Given as goal
 
 -- the classes of the legs so far

@@ -1,5 +1,5 @@
 use Rattle.std.proofs.Common.{◌≡◌, take}
-use Rattle.fp_lists.specs.Vectors.{lists_of}
+use Rattle.fp_base_lists.specs.Vectors.{lists_of}
 use Rattle.fp_longestarcs.specs.Networks.{points_in}
 use Rattle.fp_relaxmodel.specs.Relaxed.{coarsened}
 use Rattle.fp_relaxmodel.proofs.coarsening.relaxed.Given as goal

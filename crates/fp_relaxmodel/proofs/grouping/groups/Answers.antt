@@ -2,9 +2,9 @@ use Rattle.std.proofs.Common.{◌≡◌, ◌∙◌, List, ap, rules, subst}
 use Rattle.fp_model.specs.declared.parts.Leg.{Leg}
 use Rattle.fp_relaxmodel.specs.Grouping.{Met, after, groups_so_far}
 use Rattle.fp_relaxmodel.specs.Groups.{AreGroups}
-use Rattle.fp_lists.specs.Vectors.{lists_of}
+use Rattle.fp_base_lists.specs.Vectors.{lists_of}
 use Rattle.fp_model.specs.Members.{named_on}
-use Rattle.fp_relaxmodel.specs.Stops.{legs_of}
+use Rattle.fp_longestarcs.specs.Stops.{legs_of}
 use Rattle.fp_relaxmodel.proofs.GroupsByWalk.{made-groups, one-walk}
 use Rattle.fp_relaxmodel.proofs.UniqueGroups.{groups-unique}
 use Rattle.fp_relaxmodel.proofs.grouping.groups.Goals as goal

@@ -1,6 +1,6 @@
 use Rattle.std.proofs.Common.{◌≡◌, drop}
 use Rattle.fp_model.specs.Costs.{all_legs, has_leg}
-use Rattle.fp_relaxmodel.specs.Stops.{leg_of}
+use Rattle.fp_longestarcs.specs.Stops.{leg_of}
 use Rattle.fp_relaxmodel.proofs.relaxed_costs.any_goes_by.Given as goal
 
 -- the walks that are left decide

@@ -1,6 +1,6 @@
 use Rattle.std.proofs.Common.{◌≡◌, drop}
 use Rattle.fp_model.specs.Costs.{has_leg}
-use Rattle.fp_relaxmodel.specs.Stops.{leg_of, legs_of}
+use Rattle.fp_longestarcs.specs.Stops.{leg_of, legs_of}
 use Rattle.fp_relaxmodel.proofs.relaxed_costs.goes_by.Given as goal
 
 -- the classes that are left decide

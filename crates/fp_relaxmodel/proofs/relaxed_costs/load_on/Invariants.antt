@@ -1,6 +1,6 @@
 use Rattle.std.proofs.Common.{◌≡◌, ◌≤◌, ◌+◌, ◌*◌, ◌^◌, drop}
 use Rattle.fp_model.specs.Costs.{load}
-use Rattle.fp_relaxmodel.specs.Stops.{leg_of}
+use Rattle.fp_longestarcs.specs.Stops.{leg_of}
 use Rattle.fp_relaxmodel.proofs.relaxed_costs.load_on.Given as goal
 
 -- the total and what is left are the load, and the total is small

@@ -1,6 +1,6 @@
 use Rattle.std.proofs.Common.{◌≡◌, ◌+◌, drop}
 use Rattle.fp_model.specs.Costs.{all_legs, cost_with}
-use Rattle.fp_relaxmodel.specs.Stops.{legs_of}
+use Rattle.fp_longestarcs.specs.Stops.{legs_of}
 use Rattle.fp_relaxmodel.proofs.relaxed_costs.walk_cost.Given as goal
 
 -- the total, and what the classes that are left add, are what the walk adds

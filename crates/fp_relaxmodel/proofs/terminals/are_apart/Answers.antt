@@ -2,7 +2,7 @@ use Rattle.std.proofs.Common.{◌≡◌, ◌∙◌, ◌<◌, ap, arith, false, g
 use Rattle.fp_model.specs.declared.limits.TheConstants.{MOST_TERMINALS}
 use Rattle.fp_model.specs.declared.parts.Arc.{Arc}
 use Rattle.fp_model.specs.Problem.{arc_at}
-use Rattle.fp_relaxmodel.specs.declared.stops.Stop.{Stop}
+use Rattle.fp_longestarcs.specs.declared.stops.Stop.{Stop}
 use Rattle.fp_relaxmodel.proofs.MetTerminals.{arc-within, decides-next, entered_by, new-first}
 use Rattle.fp_relaxmodel.proofs.WrittenStops.{arc-exists}
 use Rattle.fp_relaxmodel.proofs.terminals.are_apart.Goals as goal

@@ -1,7 +1,7 @@
 use Rattle.std.proofs.Common.{◌≡◌, ◌∷◌, drop, length}
 use Rattle.std.specs.Prelude.{◌↔◌}
 use Rattle.fp_model.specs.declared.limits.TheConstants.{MOST_TERMINALS}
-use Rattle.fp_lists.specs.Distinct.{AreDistinct}
+use Rattle.fp_base_lists.specs.Distinct.{AreDistinct}
 use Rattle.fp_relaxmodel.proofs.MetTerminals.{AreNew, entered_by}
 use Rattle.fp_relaxmodel.proofs.terminals.are_apart.Given as goal
 

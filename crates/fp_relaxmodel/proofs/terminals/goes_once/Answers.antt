@@ -1,6 +1,6 @@
 use Rattle.std.proofs.Common.{◌≡◌, ◌<◌, ℕ, List, ◌∷◌, ap, arith, length, rules, subst, sym}
 use Rattle.std.specs.Prelude.{IsTrue, Some, slice_get, ◌↔◌}
-use Rattle.fp_lists.specs.Distinct.{AreDistinct}
+use Rattle.fp_base_lists.specs.Distinct.{AreDistinct}
 use Rattle.fp_model.specs.declared.parts.Arc.{Arc}
 use Rattle.fp_model.specs.Problem.{arc_at}
 use Rattle.fp_relaxmodel.proofs.MetTerminals.{arc-within, entered_by, on-first}

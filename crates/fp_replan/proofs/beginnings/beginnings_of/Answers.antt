@@ -1,6 +1,6 @@
 use Rattle.std.proofs.Common.{List, sym, subst, take}
 use Rattle.std.proofs.lemmas.List.{take_more}
-use Rattle.fp_lists.specs.Vectors.{lists_of}
+use Rattle.fp_base_lists.specs.Vectors.{lists_of}
 use Rattle.fp_replan.specs.declared.kept.Kept.{Kept}
 use Rattle.fp_replan.specs.Beginnings.{AreBeginnings}
 use Rattle.fp_replan.specs.KeptLegs.{no_kept}

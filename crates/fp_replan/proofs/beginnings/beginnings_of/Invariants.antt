@@ -1,5 +1,5 @@
 use Rattle.std.proofs.Common.{take}
-use Rattle.fp_lists.specs.Vectors.{lists_of}
+use Rattle.fp_base_lists.specs.Vectors.{lists_of}
 use Rattle.fp_replan.specs.Beginnings.{AreBeginnings}
 use Rattle.fp_replan.proofs.beginnings.beginnings_of.Given as goal
 

@@ -3,8 +3,8 @@ use Rattle.std.specs.Prelude.{slice_index_or, slice_set}
 use Rattle.std.specs.declared.alloc.Global.{Global}
 use Rattle.std.specs.declared.vec.Vec.{Vec}
 use Rattle.std.proofs.lemmas.List.{length-map, map-set}
-use Rattle.fp_lists.specs.Vectors.{lists_of}
-use Rattle.fp_lists.proofs.Maps.{lists_of-get_or}
+use Rattle.fp_base_lists.specs.Vectors.{lists_of}
+use Rattle.fp_base_lists.proofs.Maps.{lists_of-get_or}
 use Rattle.fp_model.specs.declared.parts.Leg.{Leg}
 use Rattle.fp_model.specs.Numbered.{route_at}
 use Rattle.fp_replan.specs.Beginnings.{AreBeginnings}

@@ -1,4 +1,4 @@
-use Rattle.fp_lists.specs.Vectors.{lists_of}
+use Rattle.fp_base_lists.specs.Vectors.{lists_of}
 use Rattle.std.proofs.Common.{[]}
 use Rattle.fp_replan.specs.Beginnings.{AreBeginnings}
 use Rattle.fp_replan.proofs.beginnings.no_beginnings.Given as goal

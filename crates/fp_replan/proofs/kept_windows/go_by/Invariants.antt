@@ -1,5 +1,5 @@
 use Rattle.std.proofs.Common.{◌≡◌, drop}
-use Rattle.fp_lists.specs.Membership.{list_has}
+use Rattle.fp_base_lists.specs.Membership.{list_has}
 use Rattle.fp_model.specs.Routes.{arcs_of}
 use Rattle.fp_replan.proofs.kept_windows.go_by.Given as goal
 

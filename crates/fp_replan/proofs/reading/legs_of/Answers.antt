@@ -1,7 +1,7 @@
 use Rattle.std.proofs.Common.{◌≡◌, ◌∙◌, ◌+◌, ◌++◌, ◌∷◌, [], ℕ, List, sym, ap, subst, drop, length, length-append, arith}
 use Rattle.std.specs.Prelude.{None}
-use Rattle.fp_lists.specs.Vectors.{lists_of}
-use Rattle.fp_fields.specs.Findings.{first_code}
+use Rattle.fp_base_lists.specs.Vectors.{lists_of}
+use Rattle.fp_records_fields.specs.Findings.{first_code}
 use Rattle.fp_replan.specs.declared.kept.Kept.{Kept}
 use Rattle.fp_replan.specs.Beginnings.{AreBeginnings}
 use Rattle.fp_replan.specs.KeptLegs.{AreKept}

@@ -1,5 +1,5 @@
 use Rattle.std.proofs.Common.{◌≡◌, ◌≤◌, ◌+◌, [], drop, length}
-use Rattle.fp_lists.specs.Vectors.{lists_of}
+use Rattle.fp_base_lists.specs.Vectors.{lists_of}
 use Rattle.fp_replan.specs.declared.kept.TheConstants.{MOST_KEPT}
 use Rattle.fp_replan.specs.Beginnings.{AreBeginnings}
 use Rattle.fp_replan.specs.KeptLegs.{AreKept}

@@ -2,14 +2,14 @@ use Rattle.std.proofs.Common.{◌≡◌, ◌<◌, ◌∙◌, length, sym, ap, su
 use Rattle.std.specs.declared.alloc.Global.{Global}
 use Rattle.std.specs.declared.vec.Vec.{Vec}
 use Rattle.std.proofs.lemmas.List.{length-map}
-use Rattle.fp_lists.specs.Vectors.{lists_of}
-use Rattle.fp_lists.proofs.Maps.{lists_of-get_or}
+use Rattle.fp_base_lists.specs.Vectors.{lists_of}
+use Rattle.fp_base_lists.proofs.Maps.{lists_of-get_or}
 use Rattle.fp_model.specs.declared.parts.Leg.{Leg}
 use Rattle.fp_model.specs.Numbered.{route_at}
 use Rattle.fp_model.specs.Routes.{ArcsExist}
 use Rattle.fp_replan.proofs.KeptBeginnings.{beginning-arcs}
-use Rattle.fp_replan.proofs.KeptRecords.{shipment_in-lt}
 use Rattle.fp_replan.proofs.reading.read_leg.Goals as goal
+use Rattle.fp_records_fields.proofs.NamedParts.{shipment_in-lt}
 
 pub goes_on-requires-clause-legs : goal.goes_on-requires-clause-legs
 goes_on-requires-clause-legs c =

@@ -1,5 +1,5 @@
 use Rattle.std.proofs.Common.{◌≡◌, ◌<◌, ℕ, length}
-use Rattle.fp_lists.specs.Vectors.{lists_of}
+use Rattle.fp_base_lists.specs.Vectors.{lists_of}
 use Rattle.fp_model.specs.Numbered.{route_at}
 use Rattle.fp_replan.proofs.BegunPlans.{IsBegunRoute}
 use Rattle.fp_replan.proofs.starts.start.Given as goal

@@ -1,5 +1,5 @@
 use Rattle.std.proofs.Common.{refl}
-use Rattle.fp_history.specs.declared.endings.Left.TheVariants.{Nothing}
+use Rattle.fp_session_history.specs.declared.endings.Left.TheVariants.{Nothing}
 use Rattle.fp_session.proofs.BestOpen.{best-open}
 use Rattle.fp_session.proofs.SearchChanges.{IsSearch-stop}
 use Rattle.fp_session.proofs.advances.advance_open.Goals as goal

@@ -4,7 +4,7 @@ use Rattle.fp_model.specs.Problem.{Problem}
 use Rattle.fp_longestarcs.specs.Networks.{point_count}
 use Rattle.fp_tree.specs.declared.sides.Side.{Side}
 use Rattle.fp_allowed.specs.Settings.{Setting}
-use Rattle.fp_pricing.specs.Prices.{HaveGrown, PriceLists}
+use Rattle.fp_duals_leaves.specs.Prices.{HaveGrown, PriceLists}
 use Rattle.fp_session.specs.declared.kept.Kept.{Kept}
 use Rattle.fp_session.specs.declared.searches.Search.{Search}
 use Rattle.fp_session.specs.Nodes.{IsKept}

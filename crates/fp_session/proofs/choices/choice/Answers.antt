@@ -3,8 +3,8 @@ use Rattle.std.proofs.Common.{◌≤◌, List, length, sym, subst, arith}
 use Rattle.fp_model.specs.Problem.{Problem}
 use Rattle.fp_prices.specs.Rounds.{LeafModel}
 use Rattle.fp_prices.specs.Tables.{AreTables}
-use Rattle.fp_branching.specs.declared.leaf_candidates.Candidate.{Candidate}
-use Rattle.fp_branching.specs.Candidates.{EndsInSeveral}
+use Rattle.fp_session_branching.specs.declared.leaf_candidates.Candidate.{Candidate}
+use Rattle.fp_session_branching.specs.Candidates.{EndsInSeveral}
 use Rattle.fp_session.specs.declared.dividing.Several.{Several}
 use Rattle.fp_session.specs.Dividing.{IsSeveral}
 use Rattle.fp_session.proofs.choices.choice.Goals as goal
@@ -20,5 +20,5 @@ candidates-requires-clause-tables c =
 
 pub best_place-requires-clause-some : goal.best_place-requires-clause-some
 best_place-requires-clause-some c =
-    subst (λ (list : List Candidate). 1 ≤ length list) (sym c.deref-2.ensures.value)
+    subst (λ (list : List Candidate). 1 ≤ length list) (sym c.deref.ensures.value)
     (c.in_ok-list.ensures.some (omega arith) c.args.several.shipment c.args.several.terminal (EndsInSeveral-several c.args.leaf.now c.args.several c.requires.several))

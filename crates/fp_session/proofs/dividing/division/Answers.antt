@@ -5,8 +5,8 @@ use Rattle.fp_tree.specs.declared.sides.Side.{Side}
 use Rattle.fp_tree.specs.declared.sides.Split.{Split}
 use Rattle.fp_tree.specs.Sides.{first_of_split}
 use Rattle.fp_allowed.specs.Settings.{Setting}
-use Rattle.fp_branching.specs.Candidates.{IsCandidate}
-use Rattle.fp_pricing.specs.Prices.{PriceLists}
+use Rattle.fp_session_branching.specs.Candidates.{IsCandidate}
+use Rattle.fp_duals_leaves.specs.Prices.{PriceLists}
 use Rattle.fp_session.specs.declared.searches.Search.{Search}
 use Rattle.fp_session.specs.Nodes.{IsKept}
 use Rattle.fp_session.specs.Searches.{history}

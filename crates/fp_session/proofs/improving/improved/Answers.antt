@@ -1,7 +1,7 @@
 -- What came of the improvement is kept, or what was kept before.
 use Rattle.std.proofs.Common.{sym, ap, subst, arith}
 use Rattle.fp_allowed.specs.Settings.{Setting}
-use Rattle.fp_pricing.specs.Prices.{HaveGrown}
+use Rattle.fp_duals_leaves.specs.Prices.{HaveGrown}
 use Rattle.fp_session.specs.declared.kept.Kept.{Kept}
 use Rattle.fp_session.specs.Nodes.{IsKept}
 use Rattle.fp_session.specs.Searches.{history}

@@ -4,7 +4,7 @@ use Rattle.std.specs.declared.alloc.Global.{Global}
 use Rattle.std.specs.declared.vec.Vec.{Vec}
 use Rattle.std.specs.Prelude.{IfSome, List, Option}
 use Rattle.fp_model.specs.declared.parts.Leg.{Leg}
-use Rattle.fp_history.specs.Solutions.{AreWalksUnder}
+use Rattle.fp_session_history.specs.Solutions.{AreWalksUnder}
 use Rattle.fp_session.specs.Moves.{points_now}
 use Rattle.fp_session.proofs.CheaperWalks.{found-other}
 use Rattle.fp_session.proofs.planning.move_at.Goals as goal

@@ -8,7 +8,7 @@ use Rattle.fp_longestarcs.specs.Whole.{IsWholeNetwork}
 use Rattle.fp_tree.specs.declared.sides.Side.{Side}
 use Rattle.fp_tree.specs.Nodes.{Node, leaf_at}
 use Rattle.fp_tree.specs.Trees.{Leaf}
-use Rattle.fp_history.specs.Notes.{worth_of}
+use Rattle.fp_session_history.specs.Notes.{worth_of}
 use Rattle.fp_session.specs.declared.outcomes.Outcome.TheVariants as outcome
 use Rattle.fp_session.specs.declared.payloads.Payload.{Payload}
 use Rattle.fp_session.specs.Moves.{IsOpenMove}

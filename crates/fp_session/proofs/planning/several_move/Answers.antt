@@ -2,7 +2,7 @@
 use Rattle.std.proofs.Common.{refl, sym, ap, subst, arith}
 use Rattle.fp_allowed.specs.Settings.{Setting}
 use Rattle.fp_prices.specs.Tables.{HasKind}
-use Rattle.fp_pricing.specs.Prices.{HaveGrown, PriceLists}
+use Rattle.fp_duals_leaves.specs.Prices.{HaveGrown, PriceLists}
 use Rattle.fp_session.specs.Searches.{IsSearch}
 use Rattle.fp_session.proofs.OpenMoves.{IsSeveral-now}
 use Rattle.fp_session.proofs.planning.several_move.Goals as goal

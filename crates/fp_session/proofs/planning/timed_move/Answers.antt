@@ -1,8 +1,8 @@
 -- A relaxed plan whose timing is spent is left under the sides.
 use Rattle.std.proofs.Common.{List, refl, sym, subst}
 use Rattle.fp_model.specs.declared.parts.Leg.{Leg}
-use Rattle.fp_history.specs.Clashes.{ClashesBelow}
-use Rattle.fp_history.specs.Solutions.{AreWalksUnder}
+use Rattle.fp_session_history.specs.Clashes.{ClashesBelow}
+use Rattle.fp_session_history.specs.Solutions.{AreWalksUnder}
 use Rattle.fp_session.specs.Moves.{points_now}
 use Rattle.fp_session.specs.declared.timing.Timing.TheVariants as timing
 use Rattle.fp_session.specs.Timing.{IsTiming}

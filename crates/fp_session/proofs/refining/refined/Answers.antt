@@ -12,7 +12,7 @@ use Rattle.fp_timenodes.specs.Points.{TimePoints, greatest_round, with_added}
 use Rattle.fp_longestarcs.specs.Networks.{TimedNetwork}
 use Rattle.fp_longestarcs.specs.Changes.{refined, restored}
 use Rattle.fp_longestarcs.specs.Whole.{IsNetworkOf}
-use Rattle.fp_history.specs.Notes.{points_added}
+use Rattle.fp_session_history.specs.Notes.{points_added}
 use Rattle.fp_session.specs.declared.moves.Refined.{Refined}
 use Rattle.fp_session.specs.Refining.{CanAdd, IsRefined}
 use Rattle.fp_session.proofs.RefinedPoints.{CanAdd-later, IsNetworkOf-more, greatest_round-with_added, point_of, with_added_more}

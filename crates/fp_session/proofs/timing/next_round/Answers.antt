@@ -7,7 +7,7 @@ use Rattle.fp_longestarcs.specs.Networks.{TimedNetwork}
 use Rattle.fp_longestarcs.specs.Whole.{IsNetworkOf}
 use Rattle.fp_shortarcs.specs.declared.shorts.Short.{Short}
 use Rattle.fp_relaxmodel.proofs.UniqueGroups.{groups-met}
-use Rattle.fp_history.specs.Notes.{Refinement, last_round}
+use Rattle.fp_session_history.specs.Notes.{Refinement, last_round}
 use Rattle.fp_session.specs.declared.searches.Search.{Search}
 use Rattle.fp_session.specs.Refining.{ArePlacesOf, CanAdd, IsRefined}
 use Rattle.fp_session.specs.Searches.{history}

@@ -1,5 +1,5 @@
 use Rattle.std.proofs.Common.{ℕ, ◌<◌, List, get_or}
-use Rattle.fp_lists.specs.Distinct.{AreDistinct}
+use Rattle.fp_base_lists.specs.Distinct.{AreDistinct}
 use Rattle.fp_model.specs.declared.parts.Leg.{Leg}
 use Rattle.fp_relaxmodel.specs.Terminals.{terminals_on}
 use Rattle.fp_session.proofs.walks.are_routes.Given as goal

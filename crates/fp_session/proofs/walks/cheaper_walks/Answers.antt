@@ -6,7 +6,7 @@ use Rattle.std.specs.Prelude.{IfSome, List, Option}
 use Rattle.fp_model.specs.declared.parts.Leg.{Leg}
 use Rattle.fp_flatnet.specs.Tables.{windows_in}
 use Rattle.fp_relaxmodel.proofs.PlansCoarsen.{HasRoutes-relaxed}
-use Rattle.fp_relaxedsearch.specs.AllowedWalks.{AreAllowedWalks}
+use Rattle.fp_duals_walks.specs.AllowedWalks.{AreAllowedWalks}
 use Rattle.fp_session.specs.Moves.{points_now}
 use Rattle.fp_session.proofs.CheaperWalks.{allowed-under, under-cheaper}
 use Rattle.fp_session.proofs.OpenMoves.{under-exist, under-relaxed}

@@ -4,7 +4,7 @@ use Rattle.std.specs.declared.alloc.Global.{Global}
 use Rattle.std.specs.declared.vec.Vec.{Vec}
 use Rattle.std.specs.Prelude.{IfSome, List, Option}
 use Rattle.fp_model.specs.declared.parts.Leg.{Leg}
-use Rattle.fp_relaxedsearch.specs.AllowedWalks.{AreAllowedWalks}
+use Rattle.fp_duals_walks.specs.AllowedWalks.{AreAllowedWalks}
 use Rattle.fp_session.proofs.CheaperWalks.{allowed-under}
 use Rattle.fp_session.proofs.walks.walks_by_price.Goals as goal
 

@@ -1,7 +1,7 @@
 use Rattle.std.proofs.Common.{◌≡◌, ◌∙◌, ◌<◌, ◌-◌, ◌+◌, List, length, ap, sym, subst, rules}
 use Rattle.fp_model.specs.Numbered.{route_at}
 use Rattle.fp_longestarcs.specs.Networks.{points_in}
-use Rattle.fp_relaxmodel.specs.Stops.{legs_of}
+use Rattle.fp_longestarcs.specs.Stops.{legs_of}
 use Rattle.fp_shortarcs.specs.declared.shorts.Short.{Short}
 use Rattle.fp_shortarcs.specs.Listing.{AreTooShortBefore}
 use Rattle.fp_shortarcs.proofs.WrittenWalks.{class-read, missed-push, missed-skip, walk-end, walk-read}

@@ -1,6 +1,6 @@
 use Rattle.std.proofs.Common.{◌≤◌, arith}
 use Rattle.fp_model.specs.declared.limits.TheConstants.{LATEST}
-use Rattle.fp_relaxmodel.specs.Stops.{leg_of}
+use Rattle.fp_longestarcs.specs.Stops.{leg_of}
 use Rattle.fp_shortarcs.proofs.NewPlaces.{class-in_time}
 use Rattle.fp_shortarcs.proofs.listing.missed.Goals as goal
 

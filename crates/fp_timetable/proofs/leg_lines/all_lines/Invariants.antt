@@ -1,5 +1,5 @@
 use Rattle.std.proofs.Common.{◌≡◌, ◌++◌, drop}
-use Rattle.fp_lists.specs.Vectors.{lists_of}
+use Rattle.fp_base_lists.specs.Vectors.{lists_of}
 use Rattle.fp_timetable.specs.Order.{lines_from}
 use Rattle.fp_timetable.proofs.leg_lines.all_lines.Given as goal
 

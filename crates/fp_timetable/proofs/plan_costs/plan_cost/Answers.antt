@@ -1,7 +1,7 @@
 use Rattle.std.proofs.Common.{◌≡◌, List, ap, ◌∙◌, arith}
 use Rattle.fp_model.specs.declared.parts.Leg.{Leg}
 use Rattle.fp_model.specs.Costs.{flow_total}
-use Rattle.fp_lists.specs.Vectors.{lists_of}
+use Rattle.fp_base_lists.specs.Vectors.{lists_of}
 use Rattle.fp_model.proofs.Bounds.{AreReady, AreReady-plan, cost_fits}
 use Rattle.fp_timetable.proofs.DepartureLines.{sum-lines}
 use Rattle.fp_timetable.proofs.ExistingLines.{TruckExists-plan}

@@ -1,6 +1,6 @@
 use Rattle.std.proofs.Common.{◌≡◌, ◌+◌, drop}
 use Rattle.fp_model.specs.Costs.{flow_total}
-use Rattle.fp_lists.specs.Vectors.{lists_of}
+use Rattle.fp_base_lists.specs.Vectors.{lists_of}
 use Rattle.fp_timetable.proofs.plan_costs.routes_flow.Given as goal
 
 -- what the routes that were passed cost, and what those that are left do

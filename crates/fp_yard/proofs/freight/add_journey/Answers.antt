@@ -1,5 +1,5 @@
 use Rattle.std.proofs.Common.{rules}
-use Rattle.fp_lists.specs.Vectors.{lists_of}
+use Rattle.fp_base_lists.specs.Vectors.{lists_of}
 use Rattle.fp_yard.proofs.FreightLists.{all-legs, one-leg}
 use Rattle.fp_yard.proofs.freight.add_journey.Goals as goal
 

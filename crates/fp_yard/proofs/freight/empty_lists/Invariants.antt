@@ -1,5 +1,5 @@
 use Rattle.std.proofs.Common.{ℕ, ◌≡◌, [], length}
-use Rattle.fp_lists.specs.Vectors.{lists_of}
+use Rattle.fp_base_lists.specs.Vectors.{lists_of}
 use Rattle.fp_yard.specs.Freight.{freight_at}
 use Rattle.fp_yard.proofs.freight.empty_lists.Given as goal
 

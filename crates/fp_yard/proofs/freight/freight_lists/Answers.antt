@@ -1,6 +1,6 @@
 use Rattle.std.proofs.Common.{◌<◌, ◌∙◌, ◌+◌, ◌++◌, ℕ, List, [], length, rules, sym, ap, subst, arith}
 use Rattle.std.specs.Prelude.{All}
-use Rattle.fp_lists.specs.Vectors.{lists_of}
+use Rattle.fp_base_lists.specs.Vectors.{lists_of}
 use Rattle.fp_yard.specs.Freight.{freight_at, members_by}
 use Rattle.fp_yard.proofs.FreightLists.{all-journeys, journey-in, length-lists, lists_of-drop, one-journey}
 use Rattle.fp_yard.proofs.freight.freight_lists.Goals as goal

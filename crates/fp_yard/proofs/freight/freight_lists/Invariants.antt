@@ -1,5 +1,5 @@
 use Rattle.std.proofs.Common.{ℕ, ◌≡◌, ◌++◌, drop, length}
-use Rattle.fp_lists.specs.Vectors.{lists_of}
+use Rattle.fp_base_lists.specs.Vectors.{lists_of}
 use Rattle.fp_yard.specs.Freight.{freight_at, members_by}
 use Rattle.fp_yard.proofs.freight.freight_lists.Given as goal
 

@@ -1,6 +1,6 @@
 use Rattle.std.proofs.Common.{◌≡◌, ◌∙◌, ◌+◌, ◌<◌, ℕ, List, [], length, get_or, sym, subst, arith}
 use Rattle.std.specs.Prelude.{All}
-use Rattle.fp_lists.specs.Vectors.{lists_of}
+use Rattle.fp_base_lists.specs.Vectors.{lists_of}
 use Rattle.fp_model.specs.Members.{IsMemberOf}
 use Rattle.fp_dispatch.specs.Rising.{state_of}
 use Rattle.fp_dispatch.proofs.NextLegs.{AreRising-gathered}

@@ -1,4 +1,4 @@
-use Rattle.fp_lists.specs.Vectors.{lists_of}
+use Rattle.fp_base_lists.specs.Vectors.{lists_of}
 use Rattle.fp_flatnet.specs.Tables.{windows_in}
 use Rattle.fp_dispatch.specs.Rising.{AllWait, AreEqualUntil, AreLower, state_of}
 use Rattle.fp_dispatch.proofs.rising.Moments.gather.Given as goal

@@ -1,6 +1,6 @@
 use Rattle.std.proofs.Common.{◌≡◌, ℕ, ◌<◌, ◌≤◌, drop, get_or, length}
 use Rattle.std.specs.Prelude.{IsSomeAnd}
-use Rattle.fp_lists.specs.Vectors.{lists_of}
+use Rattle.fp_base_lists.specs.Vectors.{lists_of}
 use Rattle.fp_model.specs.declared.parts.Member.{Member}
 use Rattle.fp_flatnet.specs.Tables.{windows_in}
 use Rattle.fp_dispatch.specs.Rising.{raised, state_of}

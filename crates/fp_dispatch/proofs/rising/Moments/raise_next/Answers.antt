@@ -1,6 +1,6 @@
 use Rattle.std.proofs.Common.{◌≡◌, ◌∙◌, ℕ, ◌+◌, ◌<◌, List, [], length, get_or, sym, ap, arith}
 use Rattle.std.proofs.lemmas.List.{get_or_read}
-use Rattle.fp_lists.specs.Vectors.{lists_of}
+use Rattle.fp_base_lists.specs.Vectors.{lists_of}
 use Rattle.fp_model.specs.declared.parts.Member.{Member}
 use Rattle.fp_model.specs.Members.{IsMemberOf, member_arc}
 use Rattle.fp_model.specs.Routes.{step}

@@ -1,4 +1,4 @@
-use Rattle.fp_lists.specs.Vectors.{lists_of}
+use Rattle.fp_base_lists.specs.Vectors.{lists_of}
 use Rattle.fp_model.specs.declared.parts.Member.{Member}
 use Rattle.fp_flatnet.specs.Tables.{windows_in}
 use Rattle.fp_dispatch.specs.Rising.{AreRising, measure, state_of}

@@ -1,6 +1,6 @@
 -- The arc is the last one whose first class is not after the number.
 use Rattle.std.proofs.Common.{◌≡◌, ℕ, ◌-◌, ◌<◌, ◌≤◌, List, sym, subst, arith}
-use Rattle.fp_lists.specs.Ascending.{IsCut}
+use Rattle.fp_base_lists.specs.Ascending.{IsCut}
 use Rattle.fp_longestarcs.specs.Networks.{TimedNetwork, IsArcOfClass, class_count}
 use Rattle.fp_longestarcs.specs.Vectors.{AreOffsets, network_of}
 use Rattle.fp_longestarcs.proofs.ClassNumbers.{last-arc, offsets-rise}

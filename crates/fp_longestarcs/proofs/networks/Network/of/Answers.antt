@@ -6,7 +6,7 @@ use Rattle.std.proofs.lemmas.List.{take_at, length-map}
 use Rattle.fp_model.specs.Problem.{Problem}
 use Rattle.fp_longestarcs.specs.Networks.{TimedNetwork}
 use Rattle.fp_longestarcs.specs.Vectors.{AreOffsets, network_of}
-use Rattle.fp_lists.specs.Vectors.{lists_of}
+use Rattle.fp_base_lists.specs.Vectors.{lists_of}
 use Rattle.fp_longestarcs.specs.Whole.{heads_of, arc_tails}
 use Rattle.fp_longestarcs.proofs.FourProperties.{HasProperties-network}
 use Rattle.fp_longestarcs.proofs.WholeNetworks.{tails-within, IsWholeNetwork-parts}

@@ -1,7 +1,7 @@
 -- A point stands at its place.
 use Rattle.std.proofs.Common.{ℕ, List, ap, ◌∙◌, arith}
 use Rattle.fp_model.specs.declared.parts.Leg.{Leg}
-use Rattle.fp_lists.specs.Ascending.{place_in}
+use Rattle.fp_base_lists.specs.Ascending.{place_in}
 use Rattle.fp_longestarcs.specs.Networks.{points_in}
 use Rattle.fp_longestarcs.proofs.ClassNumbers.{class-place}
 use Rattle.fp_longestarcs.proofs.networks.Network.place.Goals as goal

@@ -1,7 +1,7 @@
 use Rattle.std.proofs.Common.{◌∙◌, ap}
 use Rattle.fp_model.specs.Problem.{Problem}
-use Rattle.fp_fields.specs.Indexes.{Entries, arc_ends, has_ends}
-use Rattle.fp_fields.proofs.ArcEnds.{has_ends-arc_ends}
+use Rattle.fp_records_fields.specs.Indexes.{Entries, arc_ends, has_ends}
+use Rattle.fp_records_fields.proofs.ArcEnds.{has_ends-arc_ends}
 use Rattle.fp_reader.proofs.drafts.Draft.has_arc.Goals as goal
 
 pub returns : goal.returns

@@ -1,7 +1,7 @@
 use Rattle.std.proofs.Common.{◌∙◌, ap, subst, sym, length, ◌≡◌, false}
 use Rattle.fp_model.specs.Problem.{Problem, IsArc}
-use Rattle.fp_fields.specs.Indexes.{Entries, arc_ends, has_ends}
-use Rattle.fp_fields.proofs.ArcEnds.{has_ends-arc_ends}
+use Rattle.fp_records_fields.specs.Indexes.{Entries, arc_ends, has_ends}
+use Rattle.fp_records_fields.proofs.ArcEnds.{has_ends-arc_ends}
 use Rattle.fp_reader.specs.Faults.{has_arc}
 use Rattle.fp_reader.proofs.Indexes.{index-arc}
 use Rattle.fp_reader.proofs.drafts.Draft.with_arc.Goals as goal

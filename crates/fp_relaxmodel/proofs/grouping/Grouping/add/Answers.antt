@@ -3,7 +3,7 @@ use Rattle.std.specs.declared.alloc.Global.{Global}
 use Rattle.std.specs.declared.vec.Vec.{Vec}
 use Rattle.fp_model.specs.declared.parts.Member.{Member}
 use Rattle.indexmap.specs.IndexSet.{insert_key}
-use Rattle.fp_relaxmodel.specs.declared.stops.Stop.{Stop}
+use Rattle.fp_longestarcs.specs.declared.stops.Stop.{Stop}
 use Rattle.fp_relaxmodel.proofs.MetClasses.{absent-new, grown-met, grown-new, present-met, same_stop}
 use Rattle.fp_relaxmodel.proofs.grouping.Grouping.add.Goals as goal
 use Rattle.fp_relaxmodel.proofs.grouping.Grouping.add.Goals.{then-is_new+in_ok-push, else-is_new}

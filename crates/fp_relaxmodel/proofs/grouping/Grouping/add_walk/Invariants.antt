@@ -1,7 +1,7 @@
 use Rattle.std.proofs.Common.{◌≡◌, drop, length}
 use Rattle.fp_relaxmodel.specs.Grouping.{after, groups_so_far}
 use Rattle.fp_model.specs.Members.{named_on}
-use Rattle.fp_relaxmodel.specs.Stops.{legs_of}
+use Rattle.fp_longestarcs.specs.Stops.{legs_of}
 use Rattle.fp_relaxmodel.proofs.grouping.Grouping.add_walk.Given as goal
 
 -- the groups so far and the legs that are left make the groups after all legs

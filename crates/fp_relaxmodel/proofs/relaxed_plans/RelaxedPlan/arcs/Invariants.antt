@@ -1,5 +1,5 @@
 use Rattle.std.proofs.Common.{◌≡◌, take}
-use Rattle.fp_lists.specs.Vectors.{lists_of}
+use Rattle.fp_base_lists.specs.Vectors.{lists_of}
 use Rattle.fp_model.specs.Members.{arc_lists}
 use Rattle.fp_relaxmodel.proofs.relaxed_plans.RelaxedPlan.arcs.Given as goal
 

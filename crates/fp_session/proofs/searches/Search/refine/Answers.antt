@@ -1,6 +1,6 @@
 -- A round is added, or nothing without memory.
 use Rattle.std.proofs.Common.{◌≡◌, List, ap}
-use Rattle.fp_history.specs.Notes.{Refinement}
+use Rattle.fp_session_history.specs.Notes.{Refinement}
 use Rattle.fp_session.specs.Searches.{InHand, in_hand}
 use Rattle.fp_session.proofs.Applied.{OnErr-any}
 use Rattle.fp_session.proofs.SearchChanges.{IsSearch-refine}

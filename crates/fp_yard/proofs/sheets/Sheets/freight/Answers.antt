@@ -1,7 +1,7 @@
 use Rattle.std.proofs.Common.{◌∙◌, ◌<◌, List, length, sym, ap, subst, arith}
 use Rattle.std.specs.declared.alloc.Global.{Global}
 use Rattle.std.specs.declared.vec.Vec.{Vec}
-use Rattle.fp_lists.proofs.Maps.{lists_of-get_or}
+use Rattle.fp_base_lists.proofs.Maps.{lists_of-get_or}
 use Rattle.fp_model.specs.declared.parts.Member.{Member}
 use Rattle.fp_yard.specs.Layout.{schedule_in}
 use Rattle.fp_yard.specs.Schedules.{IsFreightOf, Schedule}

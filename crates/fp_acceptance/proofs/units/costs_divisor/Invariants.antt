@@ -1,6 +1,0 @@
-use Rattle.fp_acceptance.proofs.GreatestUnits.{HasUnits, with_first}
-use Rattle.fp_acceptance.proofs.units.costs_divisor.Given as goal
-
--- the divisors are the units of the problem with the arcs alone that were passed
-abbrev pub invariant-loop-arc : goal.invariant-loop-arc
-invariant-loop-arc l = HasUnits (with_first l.arc-index l.instance) l.divisor

@@ -1,0 +1,11 @@
+//! What each command shows.
+pub(crate) mod bounds;
+pub(crate) mod checks;
+pub(crate) mod directs;
+pub(crate) mod fleets;
+pub(crate) mod plans;
+pub(crate) mod quotes;
+pub(crate) mod replans;
+pub(crate) mod searches;
+pub(crate) mod trials;
+pub(crate) mod yards;

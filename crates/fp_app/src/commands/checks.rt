@@ -1,0 +1,121 @@
+//! What `check` shows.
+ghost use Rattle.std.specs.Prelude.{ℕ, ◌≡◌, ◌-◌, ◌<◌, ◌≤◌, ◌^◌, drop, length, IfOk};
+ghost use Rattle.fp_records_fields.specs.Indexes.{entries_of};
+ghost use Rattle.fp_app.specs.Checks.{ShowsCheck, scale_of, scaled};
+ghost use Rattle.fp_app.specs.CheckInputs.{AreCheckable, CanBeChecked, IsCheckInput, IsCheckInputOf};
+ghost use Rattle.fp_app.specs.Inputs.{OfCertificate};
+ghost use Rattle.fp_app.specs.declared.limits.TheConstants.{CHECK_LIMIT};
+ghost use Rattle.fp_app.specs.Shown.{IsPrintable};
+
+use crate::{NoMemory, Shown};
+use fp_certificate::{CertFault, Certificate, read_with_index};
+use fp_checker::{Rejected, check};
+use fp_flatnet::Windows;
+use fp_model::{Instance, SCALE};
+use fp_reader::{IndexedRead, InputFault, Tail, instance_with_index};
+use fp_records::{Record, records};
+use fp_records_fields::Index;
+use std::alloc::{AllocError, Global};
+
+/// What an input gives.
+#[derive(Drop)]
+pub enum CheckInput {
+    /// An instance and a certificate.
+    Both {
+        instance: Instance,
+        certificate: Certificate,
+    },
+    /// The first fault of its records.
+    Fault {
+        ordinal: u32,
+        code: u32,
+    },
+}
+
+/// What `check` shows for the bytes of an input.
+pub fn check_shown(alloc: Global, bytes: Vec<u8>) -> Result<Shown, NoMemory>
+    requires { length bytes.items ≤ CHECK_LIMIT }
+    ensures shown { IfOk result (λ shown. OfCertificate bytes.items shown (λ p c. ShowsCheck (scaled p c) c shown)) }
+    ensures printable { IfOk result IsPrintable }
+{
+    match read_both(alloc, bytes)? {
+        CheckInput::Both {
+            instance,
+            certificate,
+        } => verdict(alloc, instance, &certificate),
+        CheckInput::Fault { ordinal, code } => Ok(Shown::BadInput { ordinal, code }),
+    }
+}
+
+/// The instance and the certificate of an input. Neither its bytes nor its records are kept; the
+/// index of names that reading the instance made serves the certificate too.
+pub fn read_both(alloc: Global, bytes: Vec<u8>) -> Result<CheckInput, NoMemory>
+    requires { length bytes.items ≤ CHECK_LIMIT }
+    ensures given { IfOk result (IsCheckInput bytes.items) }
+    ensures checkable { IfOk result AreCheckable }
+{
+    let lines = records(alloc, &bytes)?;
+    drop(bytes);
+    match instance_with_index(alloc, &lines, Tail::Certificate) {
+        Ok(
+            IndexedRead {
+                instance,
+                index,
+                used,
+            },
+        ) => read_certificate(alloc, instance, &index, &lines, used),
+        Err(InputFault::Bad { ordinal, code }) => Ok(CheckInput::Fault { ordinal, code }),
+        Err(InputFault::NoMemory) => Err(AllocError),
+    }
+}
+
+// The certificate of the records from a place on, with its instance, of which this is the index.
+fn read_certificate(
+    alloc: Global,
+    instance: Instance,
+    index: &Index<'_>,
+    lines: &[Record],
+    used: usize,
+) -> Result<CheckInput, NoMemory>
+    requires index { index.now ≡ entries_of instance }
+    requires used { used ≤ length lines.now }
+    requires few { length lines.now < 2 ^ 32 - 1 }
+    ensures read { IfOk result (IsCheckInputOf instance used lines.now) }
+    ensures checkable { IfOk result AreCheckable }
+{
+    match read_with_index(alloc, &instance, index, lines, used) {
+        Ok(certificate) => Ok(CheckInput::Both {
+            instance,
+            certificate,
+        }),
+        Err(CertFault::Bad { ordinal, code }) => Ok(CheckInput::Fault { ordinal, code }),
+        Err(CertFault::NoMemory) => Err(AllocError),
+    }
+}
+
+// Whether a certificate is accepted for an instance at its scale.
+fn verdict(alloc: Global, instance: Instance, certificate: &Certificate) -> Result<Shown, NoMemory>
+    requires { CanBeChecked instance certificate.now }
+    ensures shown { IfOk result (ShowsCheck (scaled instance certificate.now) certificate.now) }
+    ensures printable { IfOk result IsPrintable }
+{
+    let instance = instance.with_scale(scale_of(certificate));
+    let windows = Windows::of(alloc, &instance)?;
+    match check(alloc, &instance, &windows, certificate) {
+        Ok(()) => Ok(Shown::Accepted {
+            kind: certificate.answer.into(),
+        }),
+        Err(Rejected::Part { number }) => Ok(Shown::RejectedPart { number }),
+        Err(Rejected::NoMemory) => Err(AllocError),
+    }
+}
+
+// The scale that a certificate names, or the one that stands where it names none.
+fn scale_of(certificate: &Certificate) -> u32
+    ensures { result ≡ scale_of certificate.now.scale }
+{
+    match certificate.scale {
+        Some(scale) => scale,
+        None => SCALE as u32,
+    }
+}

@@ -1,0 +1,18 @@
+use Rattle.std.proofs.Common.{◌≡◌, ◌∙◌, sym, ap}
+use Rattle.std.specs.Prelude.{Some, option_and_then, option_map}
+use Rattle.clap.specs.Words.{found_of, rows_of, subcommand_rows_of}
+use Rattle.fp_app_words.specs.Commands.{entered_order}
+use Rattle.fp_app_words.proofs.EnteredRows.{entered-none, entered-rows}
+use Rattle.fp_app_words.proofs.commands.order_in.Goals as goal
+
+pub returns-in-Some-clause-order : goal.returns-in-Some-clause-order
+returns-in-Some-clause-order c =
+    let entered : subcommand_rows_of c.args.matches.now ≡ Some (c.in-Some.name.now, rows_of (found_of c.in-Some.entered.now)) =
+    entered-rows c.args.matches.now c.in-Some.name.now (rows_of (found_of c.in-Some.entered.now))
+    (sym c.subcommand.ensures.name ∙ ap (option_map (λ p. p.0.now)) c.in-Some.is)
+    (sym c.subcommand.ensures.rows ∙ ap (option_map (λ p. rows_of (found_of p.1.now))) c.in-Some.is) in
+    c.order_by.ensures.order ∙ ap (option_and_then entered_order) (sym entered)
+
+pub returns-in-None-clause-order : goal.returns-in-None-clause-order
+returns-in-None-clause-order c =
+    ap (option_and_then entered_order) (sym (entered-none c.args.matches.now (sym c.subcommand.ensures.name ∙ ap (option_map (λ p. p.0.now)) c.in-None.is)))

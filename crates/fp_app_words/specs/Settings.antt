@@ -1,0 +1,125 @@
+-- What words give a command: its options and places, the ranges of numbers, and what it orders by
+-- them.
+use Rattle.std.specs.Prelude.{ℕ, ◌≤◌, Bool, List, [], ◌∷◌, ◌++◌, ◌&&◌, length, nat_le, codes, map, if◌then◌else◌, None, Some, option_and_then, option_map}
+use Rattle.std.specs.declared.option.Option.{Option}
+use Rattle.fp_records_fields.specs.Fields.{is_number, is_within, number}
+use Rattle.fp_session_history.specs.declared.budgets.Budget.{Budget}
+use Rattle.fp_session_history.specs.Budgets.{IsBudget}
+use Rattle.fp_model.specs.declared.limits.TheConstants.{GREATEST_SCALE, LAST_ROUND, MOST_SHIPMENTS, MOST_TERMINALS, SCALE}
+use Rattle.fp_tree.specs.declared.layout.TheConstants.{MOST_SPLITS}
+use Rattle.fp_app_words.specs.declared.orders.Order.{Order}
+use Rattle.fp_app_words.specs.declared.orders.Order.TheVariants.{Bound, Plan, Quote, Replan, Trial, Yard}
+use Rattle.fp_app_words.specs.declared.orders.TheConstants.{FEWEST_TERMINALS, GREATEST_SEED}
+use Rattle.fp_app_words.specs.declared.settings.TheConstants.{LONGEST_NUMBER, USUAL_BRANCHES, USUAL_ROUNDS}
+
+-- a number that a command takes, as an option or in a place: its name, and the least and the
+-- greatest that it may be
+pub record Setting : Type 0 where
+  pub name : List ℕ
+  pub least : ℕ
+  pub most : ℕ
+
+abbrev pub rounds_setting : Setting
+rounds_setting = record { name = codes "rounds"; least = 0; most = LAST_ROUND }
+
+abbrev pub branches_setting : Setting
+branches_setting = record { name = codes "branches"; least = 0; most = MOST_SPLITS }
+
+abbrev pub scale_setting : Setting
+scale_setting = record { name = codes "scale"; least = 1; most = GREATEST_SCALE }
+
+abbrev pub seed_setting : Setting
+seed_setting = record { name = codes "seed"; least = 0; most = GREATEST_SEED }
+
+abbrev pub terminals_setting : Setting
+terminals_setting = record { name = codes "terminals"; least = FEWEST_TERMINALS; most = MOST_TERMINALS }
+
+abbrev pub shipments_setting : Setting
+shipments_setting = record { name = codes "shipments"; least = 0; most = MOST_SHIPMENTS }
+
+abbrev pub names_of : List Setting → List (List ℕ)
+names_of settings = map (λ (s : Setting). s.name) settings
+
+-- The options of a command: those with a value, and the names of its flags, which have none.
+pub record Options : Type 0 where
+  pub settings : List Setting
+  pub flags : List (List ℕ)
+
+-- the numbers of a budget
+abbrev pub budget_settings : List Setting
+budget_settings = rounds_setting ∷ branches_setting ∷ []
+
+-- the options of `bound`, those of a command with a budget, and those of `plan`
+abbrev pub bound_options : Options
+bound_options = record { settings = []; flags = codes "spans" ∷ [] }
+
+abbrev pub budget_options : Options
+budget_options = record { settings = budget_settings; flags = codes "spans" ∷ [] }
+
+abbrev pub plan_options : Options
+plan_options = record { settings = budget_settings ++ scale_setting ∷ []; flags = codes "spans" ∷ [] }
+
+-- the places of `trial` and of `yard`
+abbrev pub trial_settings : List Setting
+trial_settings = seed_setting ∷ terminals_setting ∷ shipments_setting ∷ []
+
+abbrev pub yard_settings : List Setting
+yard_settings = seed_setting ∷ []
+
+-- whether a text is 1 to 10 digits, and the number that they write lies between two others
+abbrev pub is_number_between : ℕ → ℕ → List ℕ → Bool
+is_number_between least most text = is_number text && nat_le (length text) LONGEST_NUMBER && is_within least most text
+
+-- the number that such a text writes
+abbrev pub number_of : ℕ → ℕ → List ℕ → Option ℕ
+number_of least most text = if is_number_between least most text then Some (number text) else None
+
+-- the number of an option, by the text of its value, if it was given; else the usual one
+abbrev pub number_or : ℕ → ℕ → ℕ → Option (List ℕ) → Option ℕ
+number_or usual least most None = Some usual
+number_or usual least most (Some text) = number_of least most text
+
+-- what the texts of options and places come to, by their names: a number, a budget, and what `trial`
+-- and `yard` order
+abbrev pub option_number : ℕ → Setting → (List ℕ → Option (List ℕ)) → Option ℕ
+option_number usual s text = number_or usual s.least s.most (text s.name)
+
+abbrev pub place_number : Setting → (List ℕ → Option (List ℕ)) → Option ℕ
+place_number s text = option_and_then (number_of s.least s.most) (text s.name)
+
+abbrev pub budget_by : (List ℕ → Option (List ℕ)) → Option Budget
+budget_by text =
+    option_and_then (λ rounds. option_map (λ branches. record { rounds = rounds; branches = branches }) (option_number USUAL_BRANCHES branches_setting text))
+    (option_number USUAL_ROUNDS rounds_setting text)
+
+abbrev pub trial_by : (List ℕ → Option (List ℕ)) → Option Order
+trial_by text =
+    option_and_then (λ seed. option_and_then (λ terminals. option_map (λ shipments. Trial seed terminals shipments) (place_number shipments_setting text))
+    (place_number terminals_setting text)) (place_number seed_setting text)
+
+abbrev pub yard_by : (List ℕ → Option (List ℕ)) → Option Order
+yard_by text = option_map (λ seed. Yard seed) (place_number seed_setting text)
+
+-- what `bound` orders, by the flags that were given
+abbrev pub bound_by : (List ℕ → Bool) → Order
+bound_by is_given = Bound (is_given (codes "spans"))
+
+-- what `plan`, `replan` and `quote` order, by the texts of options and by the flags that were given
+abbrev pub plan_by : (List ℕ → Option (List ℕ)) → (List ℕ → Bool) → Option Order
+plan_by text is_given =
+    option_and_then (λ budget. option_map (λ scale. Plan budget scale (is_given (codes "spans"))) (option_number SCALE scale_setting text)) (budget_by text)
+
+abbrev pub replan_by : (List ℕ → Option (List ℕ)) → (List ℕ → Bool) → Option Order
+replan_by text is_given = option_map (λ budget. Replan budget (is_given (codes "spans"))) (budget_by text)
+
+abbrev pub quote_by : (List ℕ → Option (List ℕ)) → (List ℕ → Bool) → Option Order
+quote_by text is_given = option_map (λ budget. Quote budget (is_given (codes "spans"))) (budget_by text)
+
+-- what is ordered is within the limits
+abbrev pub IsWithinLimits : Order → Type 0
+IsWithinLimits (Plan budget scale spans) = IsBudget budget × (1 ≤ scale) × (scale ≤ GREATEST_SCALE)
+IsWithinLimits (Trial seed terminals shipments) = (seed ≤ GREATEST_SEED) × (FEWEST_TERMINALS ≤ terminals) × (terminals ≤ MOST_TERMINALS) × (shipments ≤ MOST_SHIPMENTS)
+IsWithinLimits (Yard seed) = seed ≤ GREATEST_SEED
+IsWithinLimits (Replan budget spans) = IsBudget budget
+IsWithinLimits (Quote budget spans) = IsBudget budget
+IsWithinLimits _ = Unit {0}

@@ -1,0 +1,14 @@
+//! What the numbers of options and words are, as a contract without a body.
+ghost use Rattle.std.specs.Prelude.{◌≡◌};
+
+use crate::orders::{FEWEST_TERMINALS, GREATEST_SEED};
+use crate::settings::{LONGEST_NUMBER, USUAL_BRANCHES, USUAL_ROUNDS};
+
+/// Each default of an option, and each limit of words that no other crate has, is this number.
+pub fn word_limits_are_numbers()
+    ensures rounds { USUAL_ROUNDS ≡ 400 }
+    ensures branches { USUAL_BRANCHES ≡ 4000 }
+    ensures digits { LONGEST_NUMBER ≡ 10 }
+    ensures seed { GREATEST_SEED ≡ 2147483647 }
+    ensures terminals { FEWEST_TERMINALS ≡ 2 }
+{}

@@ -1,0 +1,16 @@
+//! The words of the command line: which command they order, by clap.
+#![tactic(auto)]
+
+mod commands;
+mod laws;
+mod orders;
+mod reading;
+mod settings;
+
+pub use laws::word_limits_are_numbers;
+pub use orders::{FEWEST_TERMINALS, GREATEST_SEED, Order, WordFault};
+pub use reading::read_words;
+pub use settings::{LONGEST_NUMBER, USUAL_BRANCHES, USUAL_ROUNDS};
+
+/// The error of a call that finds no memory.
+pub type NoMemory = std::alloc::AllocError;

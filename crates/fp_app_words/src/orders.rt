@@ -1,0 +1,65 @@
+//! What words order, and why they order nothing.
+use fp_session_history::Budget;
+use thiserror::Error;
+
+/// A command, with the numbers and flags that its words give. `spans` says that its search seeks
+/// prices of runs of classes too.
+#[derive(Clone, Copy, Debug, PartialEq, Eq)]
+pub enum Order {
+    /// Each shipment's fastest timetable.
+    Direct,
+    /// Whether a certificate is accepted.
+    Check,
+    /// A number under which no plan costs.
+    Bound {
+        spans: bool,
+    },
+    /// The cheapest plan that a search with this budget finds, at this scale of prices.
+    Plan {
+        budget: Budget,
+        scale: u32,
+        spans: bool,
+    },
+    /// What a search of an instance finds that is drawn from a seed, 0 to [`GREATEST_SEED`], with so
+    /// many terminals, [`FEWEST_TERMINALS`] to [`MOST_TERMINALS`](fp_model::limits::MOST_TERMINALS),
+    /// and at most [`MOST_SHIPMENTS`](fp_model::limits::MOST_SHIPMENTS) shipments.
+    Trial {
+        seed: u32,
+        terminals: u32,
+        shipments: u32,
+    },
+    /// The terminals' sheets of a plan, and departures and arrivals drawn from a seed, 0 to
+    /// [`GREATEST_SEED`].
+    Yard {
+        seed: u32,
+    },
+    /// The fewest trucks that run a plan.
+    Fleet,
+    /// The cheapest plan that a search with this budget finds and that keeps legs which stand.
+    Replan {
+        budget: Budget,
+        spans: bool,
+    },
+    /// What the last shipment adds to the cost, by two searches with this budget each.
+    Quote {
+        budget: Budget,
+        spans: bool,
+    },
+}
+
+/// The greatest seed of numbers that are drawn.
+pub const GREATEST_SEED: u32 = 2_147_483_647;
+
+/// The fewest terminals of an instance that is drawn.
+pub const FEWEST_TERMINALS: u32 = 2;
+
+/// Why words give no order.
+#[derive(Clone, Copy, Debug, PartialEq, Eq, Error)]
+pub enum WordFault {
+    /// The words are none of the forms.
+    #[error("the words have none of the forms")]
+    BadWords,
+    /// No memory was found.
+    #[error("out of memory")]
+    NoMemory,
+}

@@ -1,0 +1,53 @@
+//! The order that words give.
+ghost use Rattle.std.specs.Prelude.{◌≡◌, IfOk, string_bytes};
+ghost use Rattle.std.specs.List.{list_any};
+ghost use Rattle.fp_app_words.specs.Commands.{is_dashes};
+ghost use Rattle.fp_app_words.specs.Settings.{IsWithinLimits};
+ghost use Rattle.fp_app_words.specs.Words.{Orders, order_of, texts};
+
+use crate::commands::{command, order_in};
+use crate::{Order, WordFault};
+use clap::error::ErrorKind;
+use std::alloc::Global;
+
+// Whether a word is `--`. To clap that is a mark and no word, so that it would take `direct --` for
+// `direct`.
+fn has_dashes(words: &[String]) -> bool
+    ensures { result ≡ list_any (λ word. is_dashes (string_bytes word)) words.now }
+{
+    words.iter().any(|word| word.as_str() == "--")
+}
+
+/// The order that the words after the program's name give.
+///
+/// `BadWords` comes exactly where they have none of the forms: a command's name and the words that
+/// it takes. These are none for `direct`, `check` and `fleet`. For `bound` they are the flag
+/// `--spans`, at most once. For `plan` they are this flag, which is one word, and the options
+/// `--rounds N`, `--branches N` and `--scale N`, which are two words or one, `--rounds=N`: in any
+/// order, each at most once. For `replan` and `quote` they are the same without `--scale N`. For
+/// `trial` they are three numbers, SEED TERMINALS SHIPMENTS, and for `yard` one, SEED. A number is 1
+/// to 10 ASCII digits with a value in its range: at most [`LAST_ROUND`](fp_model::LAST_ROUND)
+/// rounds, at most [`MOST_SPLITS`](fp_tree::MOST_SPLITS) branches, a scale from 1 to
+/// [`GREATEST_SCALE`](fp_model::GREATEST_SCALE), and what [`Order`] says of the others. `NoMemory`
+/// only where no memory is found.
+pub fn read_words(alloc: Global, words: &[String]) -> Result<Order, WordFault>
+    ensures order { Orders (order_of (texts words.now)) result }
+    ensures range { IfOk result IsWithinLimits }
+{
+    if has_dashes(words) {
+        return Err(WordFault::BadWords);
+    }
+    let Ok(command) = command(alloc) else {
+        return Err(WordFault::NoMemory);
+    };
+    match command.try_get_matches_from(words) {
+        Ok(matches) => match order_in(&matches) {
+            Some(order) => Ok(order),
+            None => Err(WordFault::BadWords),
+        },
+        Err(error) => match error.kind() {
+            ErrorKind::OutOfMemory => Err(WordFault::NoMemory),
+            _ => Err(WordFault::BadWords),
+        },
+    }
+}

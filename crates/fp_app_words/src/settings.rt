@@ -1,0 +1,165 @@
+//! What words give a command: the values of options, whether a flag is among them, and the words in
+//! places.
+ghost use Rattle.std.specs.Prelude.{◌≡◌, ◌≤◌, IfSome, option_and_then};
+ghost use Rattle.clap.specs.Words.{first_of, found_of, rows_of};
+ghost use Rattle.fp_session_history.specs.Budgets.{IsBudget};
+ghost use Rattle.fp_app_words.specs.Commands.{is_from_words, was_given};
+ghost use Rattle.fp_app_words.specs.Settings.{IsWithinLimits, bound_by, budget_by, number_of, number_or, plan_by, quote_by, replan_by, trial_by, yard_by};
+
+use crate::orders::{FEWEST_TERMINALS, GREATEST_SEED, Order};
+use clap::ArgMatches;
+use clap::parser::ValueSource;
+use fp_model::SCALE;
+use fp_model::limits::{GREATEST_SCALE, LAST_ROUND, MOST_SHIPMENTS, MOST_TERMINALS};
+use fp_records_fields::digits::{is_number, short_between};
+use fp_session_history::Budget;
+use fp_tree::MOST_SPLITS;
+
+/// The rounds of a search for which no number was given.
+pub const USUAL_ROUNDS: u32 = 400;
+
+/// The branches of a search for which no number was given.
+pub const USUAL_BRANCHES: u32 = 4_000;
+
+/// The most digits of a number.
+pub const LONGEST_NUMBER: usize = 10;
+
+// The number that a text writes, if it is 1 to 10 digits and the number is from `least` to `most`.
+fn number_of(text: &str, least: u32, most: u32) -> Option<u32>
+    ensures number { result ≡ number_of least most text.now }
+    ensures range { IfSome result (λ n. (least ≤ n) × (n ≤ most)) }
+{
+    let digits = text.as_bytes();
+    if is_number(digits) && digits.len() <= LONGEST_NUMBER {
+        short_between(digits, least, most)
+    } else {
+        None
+    }
+}
+
+// The number of the option of this name: `usual` where it wasn't given.
+fn number_or(matches: &ArgMatches, name: &str, least: u32, most: u32, usual: u32) -> Option<u32>
+    requires { (least ≤ usual) × (usual ≤ most) }
+    ensures number { result ≡ number_or usual least most (first_of name.now (rows_of (found_of matches.now))) }
+    ensures range { IfSome result (λ n. (least ≤ n) × (n ≤ most)) }
+{
+    match matches.get_str(name) {
+        Some(text) => number_of(text, least, most),
+        None => Some(usual),
+    }
+}
+
+// The number in the place of this name.
+fn number_in(matches: &ArgMatches, name: &str, least: u32, most: u32) -> Option<u32>
+    ensures number { result ≡ option_and_then (number_of least most) (first_of name.now (rows_of (found_of matches.now))) }
+    ensures range { IfSome result (λ n. (least ≤ n) × (n ≤ most)) }
+{
+    match matches.get_str(name) {
+        Some(text) => number_of(text, least, most),
+        None => None,
+    }
+}
+
+// Whether a value came from the words, and not from a default.
+fn is_from_words(source: ValueSource) -> bool
+    ensures { result ≡ is_from_words source }
+{
+    matches!(source, ValueSource::CommandLine)
+}
+
+// Whether the flag of this name was given. One that wasn't has a value too, by default.
+fn was_given(matches: &ArgMatches, name: &str) -> bool
+    ensures { result ≡ was_given name.now (rows_of (found_of matches.now)) }
+{
+    match matches.value_source(name) {
+        Some(source) => is_from_words(source),
+        None => false,
+    }
+}
+
+// The budget that the options give.
+fn budget_by(matches: &ArgMatches) -> Option<Budget>
+    ensures budget { result ≡ budget_by (λ name. first_of name (rows_of (found_of matches.now))) }
+    ensures range { IfSome result IsBudget }
+{
+    let rounds = number_or(matches, "rounds", 0, LAST_ROUND, USUAL_ROUNDS)?;
+    let branches = number_or(matches, "branches", 0, MOST_SPLITS, USUAL_BRANCHES)?;
+    Some(Budget { rounds, branches })
+}
+
+/// What the options of `bound` order.
+pub fn bound_by(matches: &ArgMatches) -> Order
+    ensures { result ≡ bound_by (λ name. was_given name (rows_of (found_of matches.now))) }
+{
+    Order::Bound {
+        spans: was_given(matches, "spans"),
+    }
+}
+
+/// What the options of `plan` order; `None` exactly where the text of one is no number in its
+/// range.
+pub fn plan_by(matches: &ArgMatches) -> Option<Order>
+    ensures order { result ≡ plan_by (λ name. first_of name (rows_of (found_of matches.now))) (λ name. was_given name (rows_of (found_of matches.now))) }
+    ensures range { IfSome result IsWithinLimits }
+{
+    let budget = budget_by(matches)?;
+    let scale = number_or(matches, "scale", 1, GREATEST_SCALE, SCALE as u32)?;
+    let spans = was_given(matches, "spans");
+    Some(Order::Plan {
+        budget,
+        scale,
+        spans,
+    })
+}
+
+/// What the options of `replan` order; `None` exactly where the text of one is no number in its
+/// range.
+pub fn replan_by(matches: &ArgMatches) -> Option<Order>
+    ensures order { result ≡ replan_by (λ name. first_of name (rows_of (found_of matches.now))) (λ name. was_given name (rows_of (found_of matches.now))) }
+    ensures range { IfSome result IsWithinLimits }
+{
+    let budget = budget_by(matches)?;
+    let spans = was_given(matches, "spans");
+    Some(Order::Replan { budget, spans })
+}
+
+/// The same for `quote`.
+pub fn quote_by(matches: &ArgMatches) -> Option<Order>
+    ensures order { result ≡ quote_by (λ name. first_of name (rows_of (found_of matches.now))) (λ name. was_given name (rows_of (found_of matches.now))) }
+    ensures range { IfSome result IsWithinLimits }
+{
+    let budget = budget_by(matches)?;
+    let spans = was_given(matches, "spans");
+    Some(Order::Quote { budget, spans })
+}
+
+/// What the words in the places of `trial` order; `None` exactly where one is no number in its
+/// range, or there is none.
+pub fn trial_by(matches: &ArgMatches) -> Option<Order>
+    ensures order { result ≡ trial_by (λ name. first_of name (rows_of (found_of matches.now))) }
+    ensures range { IfSome result IsWithinLimits }
+{
+    let seed = number_in(matches, "seed", 0, GREATEST_SEED)?;
+    let terminals = number_in(
+        matches,
+        "terminals",
+        FEWEST_TERMINALS,
+        MOST_TERMINALS as u32,
+    )?;
+    let shipments = number_in(matches, "shipments", 0, MOST_SHIPMENTS as u32)?;
+    Some(Order::Trial {
+        seed,
+        terminals,
+        shipments,
+    })
+}
+
+/// What the word in the place of `yard` orders; `None` exactly where it is no number in its range,
+/// or there is none.
+pub fn yard_by(matches: &ArgMatches) -> Option<Order>
+    ensures order { result ≡ yard_by (λ name. first_of name (rows_of (found_of matches.now))) }
+    ensures range { IfSome result IsWithinLimits }
+{
+    let seed = number_in(matches, "seed", 0, GREATEST_SEED)?;
+    Some(Order::Yard { seed })
+}

@@ -1,0 +1,46 @@
+//! The numbers in the fields of a line that is read.
+ghost use Rattle.std.specs.Prelude.{◌≡◌, ◌&&◌, true, false, MatchOption};
+ghost use Rattle.fp_records_fields.specs.Fields.{has_number, is_between, number_at};
+ghost use Rattle.fp_model.specs.declared.limits.TheConstants.{LAST_ROUND};
+ghost use Rattle.fp_certificate.specs.Answers.{is_figure};
+ghost use Rattle.fp_certificate.specs.Timetables.{is_time};
+
+use fp_model::limits::{LAST_ROUND, LATEST};
+use fp_records::Record;
+use fp_records_fields::digits::{number_between, short_between};
+use fp_records_fields::fields::{field_at, has_number};
+
+/// The largest number that a field may have where no other limit is named: `2^127 - 1`.
+pub const LARGEST_FIGURE: u128 = 170_141_183_460_469_231_731_687_303_715_884_105_727;
+
+/// Whether the fields at two places are numbers.
+pub fn have_numbers(line: &Record, place: usize, other: usize) -> bool
+    ensures { result ≡ (has_number line.now place && has_number line.now other) }
+{
+    has_number(line, place) && has_number(line, other)
+}
+
+/// The number in the field at a place; `None` exactly where it is above `2^127 - 1`.
+pub fn figure_at(line: &Record, place: usize) -> Option<u128>
+    requires { has_number line.now place ≡ true }
+    ensures { MatchOption result (is_figure line.now place ≡ false) (λ n. (is_figure line.now place ≡ true) × (n ≡ number_at line.now place)) }
+{
+    number_between(field_at(line, place), 0, LARGEST_FIGURE)
+}
+
+/// The time in the field at a place; `None` exactly where it is above 100,000.
+pub fn time_at(line: &Record, place: usize) -> Option<u32>
+    requires { has_number line.now place ≡ true }
+    ensures { MatchOption result (is_time line.now place ≡ false) (λ n. (is_time line.now place ≡ true) × (n ≡ number_at line.now place)) }
+{
+    short_between(field_at(line, place), 0, LATEST)
+}
+
+/// The round in the field at a place; `None` exactly where it isn't from the least to 4,000.
+pub fn round_at(line: &Record, place: usize, least: u32) -> Option<u32>
+    requires { has_number line.now place ≡ true }
+    ensures { MatchOption result (is_between least LAST_ROUND line.now place ≡ false)
+        (λ n. (is_between least LAST_ROUND line.now place ≡ true) × (n ≡ number_at line.now place)) }
+{
+    short_between(field_at(line, place), least, LAST_ROUND)
+}

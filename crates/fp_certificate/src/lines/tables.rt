@@ -1,0 +1,57 @@
+//! Lines `table,ID`, each followed by its shares and then by its spans.
+ghost use Rattle.std.specs.Prelude.{◌≡◌, ◌+◌, ◌==◌, Some, None, true, length, MatchResult};
+ghost use Rattle.fp_records_fields.specs.Findings.{IsFirstFault, first_code};
+ghost use Rattle.fp_records_fields.specs.Fields.{has_number, number_at};
+ghost use Rattle.fp_certificate.specs.Codes.{code_of};
+ghost use Rattle.fp_certificate.specs.Tables.{table_faults, with_table};
+
+use crate::drafts::Draft;
+use crate::lines::faults::LineFault;
+use crate::lines::groups::Group;
+use fp_records::Record;
+use fp_records_fields::RecordError;
+use fp_records_fields::digits::number_between;
+use fp_records_fields::fields::{field_at, has_fields, has_number};
+use std::alloc::Global;
+
+// Whether the number of a table's line is the next.
+fn is_next(draft: &Draft, line: &Record) -> bool
+    requires { has_number line.now 1 ≡ true }
+    ensures { result ≡ (number_at line.now 1 == length draft.now.certificate.tables + 1) }
+{
+    let next = draft.certificate.tables.len() as u128 + 1;
+    number_between(field_at(line, 1), next, next).is_some()
+}
+
+// Nothing where the line of a table has no fault, or else the first of the line's faults.
+fn test_table(draft: &Draft, line: &Record) -> Result<(), LineFault>
+    ensures { MatchResult result
+        (λ _. first_code (table_faults draft.now line.now) ≡ None)
+        (λ fault. first_code (table_faults draft.now line.now) ≡ Some (code_of fault)) }
+{
+    if !has_fields(line, 2) {
+        return Err(LineFault::Fields);
+    }
+    if !has_number(line, 1) {
+        return Err(LineFault::Digits);
+    }
+    if draft.is_misplaced(Group::Tables) || !is_next(draft, line) {
+        return Err(LineFault::Order);
+    }
+    Ok(())
+}
+
+/// Adds a table with neither shares nor spans, or tells the first of the line's faults.
+pub fn read_table(
+    alloc: Global,
+    draft: &mut Draft,
+    line: &Record,
+) -> Result<(), RecordError<LineFault>>
+    ensures { MatchResult result
+        (λ _. (first_code (table_faults draft.old line.now) ≡ None) × (draft.new ≡ with_table draft.old))
+        (λ e. IsFirstFault code_of e (first_code (table_faults draft.old line.now))) }
+{
+    test_table(draft, line)?;
+    draft.add_table(alloc)?;
+    Ok(())
+}

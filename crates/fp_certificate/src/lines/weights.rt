@@ -1,0 +1,60 @@
+//! Lines `weight,SHIPMENT,W`.
+ghost use Rattle.std.specs.Prelude.{◌≡◌, ◌&&◌, false, not, OnOk, Some, None, MatchResult};
+ghost use Rattle.fp_records_fields.specs.Findings.{IsFirstFault, first_code};
+ghost use Rattle.fp_records_fields.specs.Fields.{has_number};
+ghost use Rattle.fp_certificate.specs.Codes.{code_of};
+ghost use Rattle.fp_certificate.specs.Tables.{has_span, lacks_share, weight_faults, weight_in, with_weight};
+
+use crate::drafts::Draft;
+use crate::lines::faults::LineFault;
+use crate::lines::fields::figure_at;
+use crate::lines::groups::Group;
+use crate::open_spans::has_span;
+use crate::open_tables::lacks_share;
+use fp_prices::Weight;
+use fp_records::Record;
+use fp_records_fields::fields::{has_fields, has_number};
+use fp_records_fields::{Lookup, RecordError};
+
+// The weight of a line, or the first of the line's faults.
+fn weight_of(lookup: &Lookup<'_>, draft: &Draft, line: &Record) -> Result<Weight, LineFault>
+    ensures faults { MatchResult result
+        (λ weight. (first_code (weight_faults lookup.now draft.now line.now) ≡ None) × (weight ≡ weight_in lookup.now line.now))
+        (λ fault. first_code (weight_faults lookup.now draft.now line.now) ≡ Some (code_of fault)) }
+    ensures some { OnOk result ((not (has_span draft.now.certificate.spans) && lacks_share draft.now.certificate.tables) ≡ false) }
+{
+    if !has_fields(line, 3) {
+        return Err(LineFault::Fields);
+    }
+    if !has_number(line, 2) {
+        return Err(LineFault::Digits);
+    }
+    if draft.is_misplaced(Group::Tables)
+        || (!has_span(&draft.certificate.spans) && lacks_share(&draft.certificate.tables))
+    {
+        return Err(LineFault::Order);
+    }
+    let Some(shipment) = lookup.shipment_at(line, 1) else {
+        return Err(LineFault::Name);
+    };
+    let Some(w) = figure_at(line, 2) else {
+        return Err(LineFault::Range);
+    };
+    Ok(Weight { shipment, w })
+}
+
+/// Adds the weight of a line to the last span or share, or tells the first of the line's faults.
+pub fn read_weight(
+    lookup: &Lookup<'_>,
+    draft: &mut Draft,
+    line: &Record,
+) -> Result<(), RecordError<LineFault>>
+    ensures { MatchResult result
+        (λ _. (first_code (weight_faults lookup.now draft.old line.now) ≡ None)
+        × (draft.new ≡ with_weight draft.old (weight_in lookup.now line.now)))
+        (λ e. IsFirstFault code_of e (first_code (weight_faults lookup.now draft.old line.now))) }
+{
+    let weight = weight_of(lookup, draft, line)?;
+    draft.add_weight(weight)?;
+    Ok(())
+}

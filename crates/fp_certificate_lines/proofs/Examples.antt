@@ -1,0 +1,79 @@
+-- A worked certificate and its lines.
+use Rattle.std.proofs.Common.{◌≡◌, ℕ, List, [], ◌∷◌, refl}
+use Rattle.std.specs.Fmt.{digits}
+use Rattle.std.specs.Prelude.{None, codes, true}
+use Rattle.fp_model.specs.Problem.{Problem}
+use Rattle.fp_prices.specs.declared.leaf_prices.Kind.TheVariants.{Linear, Table}
+use Rattle.fp_certificate_lines.specs.declared.certificates.Answer.TheVariants.{Optimal}
+use Rattle.fp_certificate_lines.specs.declared.certificates.Node.TheVariants.{Leaf}
+use Rattle.fp_certificate_lines.specs.Rows.{kind_text, rows_of, tables_rows}
+use Rattle.fp_certificate_lines.specs.Statements.{Statement}
+
+-- one arc from A to B, and one shipment over it
+abbrev pub small : Problem
+small = record {
+  terminals = codes "A" ∷ codes "B" ∷ [];
+  holds = 0 ∷ 0 ∷ [];
+  arcs = (record { from = 0; to = 1; time = 5; capacity = 10; truck = 100; freight = 1 }) ∷ [];
+  shipments = (record { name = codes "S1"; from = 0; to = 1; size = 4; release = 0; due = 10 }) ∷ [];
+  scale = 1000000;
+}
+
+-- its plan costs 104, and one leaf tells that none costs less
+abbrev pub best : Statement
+best = record {
+  answer = Optimal 104;
+  scale = None;
+  unit = None;
+  legs = (record { shipment = 0; arc = 0; depart = 0; arrive = 5 }) ∷ [];
+  trucks = (record { arc = 0; depart = 0; trucks = 1; load = 4 }) ∷ [];
+  points = [];
+  tables = [];
+  spans = [];
+  tree = Leaf (record { kind = Linear; round = 0; forced = true }) ∷ [];
+}
+
+abbrev pub answer : List (List ℕ)
+answer = codes "answer" ∷ codes "optimal" ∷ codes "104" ∷ []
+
+abbrev pub leg : List ℕ → List (List ℕ)
+leg depart = codes "leg" ∷ codes "S1" ∷ codes "A" ∷ codes "B" ∷ depart ∷ codes "5" ∷ []
+
+abbrev pub truck : List (List ℕ)
+truck = codes "truck" ∷ codes "A" ∷ codes "B" ∷ codes "0" ∷ codes "1" ∷ codes "4" ∷ []
+
+abbrev pub leaf : List ℕ → List ℕ → List (List ℕ)
+leaf kind mode = codes "leaf" ∷ kind ∷ codes "0" ∷ mode ∷ []
+
+abbrev pub last : List (List ℕ)
+last = codes "end" ∷ []
+
+-- its five records, of which the first four can be changed
+abbrev pub records : (a b c d : List (List ℕ)) → List (List (List ℕ))
+records a b c d = a ∷ b ∷ c ∷ d ∷ last ∷ []
+
+abbrev pub whole : List (List (List ℕ))
+whole = records answer (leg (codes "0")) truck (leaf (codes "linear") (codes "forced"))
+
+writes : rows_of small best ≡ whole
+unfolding digits
+writes = refl
+
+-- tables are numbered from 1, and weights follow their shares
+numbered : tables_rows small [] 1 ([] ∷ ((record { arc = 0; point = 7; v = 20; weights = (record { shipment = 0; w = 3 }) ∷ [] }) ∷ []) ∷ [])
+    ≡ (codes "table" ∷ codes "1" ∷ []) ∷ (codes "table" ∷ codes "2" ∷ []) ∷ (codes "share" ∷ codes "A" ∷ codes "B" ∷ codes "7" ∷ codes "20" ∷ [])
+    ∷ (codes "weight" ∷ codes "S1" ∷ codes "3" ∷ []) ∷ []
+unfolding digits
+numbered = refl
+
+-- spans follow the shares of their table
+beside : tables_rows small ([] ∷ (record { arc = 0; point = 7; until = 9; money = 100; charge = 5; weights = (record { shipment = 0; w = 3 }) ∷ [] } ∷ []) ∷ []) 1
+    ([] ∷ ((record { arc = 0; point = 7; v = 20; weights = [] }) ∷ []) ∷ [])
+    ≡ (codes "table" ∷ codes "1" ∷ []) ∷ (codes "table" ∷ codes "2" ∷ []) ∷ (codes "share" ∷ codes "A" ∷ codes "B" ∷ codes "7" ∷ codes "20" ∷ [])
+    ∷ (codes "span" ∷ codes "A" ∷ codes "B" ∷ codes "7" ∷ codes "9" ∷ codes "100" ∷ codes "5" ∷ []) ∷ (codes "weight" ∷ codes "S1" ∷ codes "3" ∷ []) ∷ []
+unfolding digits
+beside = refl
+
+by-table : kind_text (Table 12) ≡ codes "12"
+unfolding digits
+by-table = refl

@@ -1,0 +1,4 @@
+pub mod Named
+pub mod SpanRanges
+mod RowTexts
+pub mod Examples

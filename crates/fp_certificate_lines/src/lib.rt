@@ -1,0 +1,16 @@
+//! The certificate of an answer, and its text.
+//!
+//! A certificate tells why an answer is true: a plan's legs and departures, the points of a
+//! time-expanded network, tables of prices, and the tree of a search. It is this project's own.
+#![tactic(auto)]
+
+mod certificates;
+mod lines;
+mod writing;
+
+pub use certificates::{Answer, Certificate, Node, Spent};
+pub use lines::answers::write_answer;
+pub use writing::write;
+
+/// The error of a call that finds no memory.
+pub type NoMemory = std::alloc::AllocError;

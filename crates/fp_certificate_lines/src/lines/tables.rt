@@ -1,0 +1,74 @@
+//! Lines `table,ID`, each followed by its shares and by the spans beside it.
+ghost use Rattle.std.specs.Prelude.{◌≡◌, ◌++◌, [], All, false, slice_index_or, OnOk};
+ghost use Rattle.fp_records.specs.Text.{line_of, lines_of};
+ghost use Rattle.fp_certificate_lines.specs.Ranges.{ShareExists, SpanExists};
+ghost use Rattle.fp_certificate_lines.specs.Rows.{table_fields, table_rows, tables_rows};
+
+use crate::NoMemory;
+use crate::lines::shares::write_shares;
+use crate::lines::spans::write_spans;
+use fp_model::Instance;
+use fp_prices::Table;
+use fp_prices_spans::{Span, TableSpans};
+use fp_records::Line;
+
+// Adds `table,ID`.
+fn write_id(line: &mut Line, id: u128) -> Result<(), NoMemory>
+    requires begun { line.old.begun ≡ false }
+    ensures text { OnOk result (line.new.text ≡ line.old.text ++ line_of (table_fields id)) }
+    ensures ended { OnOk result (line.new.begun ≡ false) }
+{
+    line.word(b"table")?;
+    line.number(id)?;
+    line.end()
+}
+
+// Adds the line of a table, followed by its shares and by the spans beside it.
+fn write_table(
+    line: &mut Line,
+    instance: &Instance,
+    id: u128,
+    table: &Table,
+    spans: &[Span],
+) -> Result<(), NoMemory>
+    requires begun { line.old.begun ≡ false }
+    requires shares { All (ShareExists instance.now) table.now }
+    requires spans { All (SpanExists instance.now) spans.now }
+    ensures text { OnOk result (line.new.text ≡ line.old.text ++ lines_of (table_rows instance.now id table.now spans.now)) }
+    ensures ended { OnOk result (line.new.begun ≡ false) }
+{
+    write_id(line, id)?;
+    write_shares(line, instance, &table.shares)?;
+    write_spans(line, instance, spans)
+}
+
+// The spans beside the table at a place, where there is a list for it.
+fn spans_at(spans: &[TableSpans], place: usize) -> &[Span]
+    ensures { result.now ≡ slice_index_or spans.now place [] }
+{
+    match spans.get(place) {
+        Some(beside) => &beside.spans,
+        None => &[],
+    }
+}
+
+/// Adds the lines of tables, numbered from 1, each followed by its shares and by the spans beside
+/// it.
+pub fn write_tables(
+    line: &mut Line,
+    instance: &Instance,
+    tables: &[Table],
+    spans: &[TableSpans],
+) -> Result<(), NoMemory>
+    requires begun { line.old.begun ≡ false }
+    requires shares { All (All (ShareExists instance.now)) tables.now }
+    requires spans { All (All (SpanExists instance.now)) spans.now }
+    ensures text { OnOk result (line.new.text ≡ line.old.text ++ lines_of (tables_rows instance.now spans.now 1 tables.now)) }
+    ensures ended { OnOk result (line.new.begun ≡ false) }
+{
+    for (place, table) in tables.iter().enumerate() {
+        let beside = spans_at(spans, place);
+        write_table(line, instance, place as u128 + 1, table, beside)?;
+    }
+    Ok(())
+}

@@ -1,0 +1,47 @@
+-- The tree of a certificate, and what its leaves are worth.
+use Rattle.std.specs.Prelude.{ℕ, ◌≤◌, ◌⊎◌, List, length, Option, Some, None}
+use Rattle.std.specs.List.{AllByRecursion}
+use Rattle.std.specs.Int.{div_ceil}
+use Rattle.fp_model.specs.Problem.{Problem, arc_at}
+use Rattle.fp_flatnet.specs.Tables.{WindowTable, windows_in}
+use Rattle.fp_tree.specs.declared.layout.TheConstants.{MOST_SPLITS}
+use Rattle.fp_tree.specs.declared.sides.Side.{Side}
+use Rattle.fp_tree.specs.declared.sides.Split.{Split}
+use Rattle.fp_tree.specs.declared.sides.Split.TheVariants.{ByArc, ByTime}
+use Rattle.fp_tree.specs.Sides.{Fork}
+use Rattle.fp_tree.specs.Trees.{Leaf, IsTree, tree_leaves, tree_splits}
+use Rattle.fp_prices.specs.Leaves.{IsLeafEmpty}
+use Rattle.fp_prices_spans.specs.SpanKinds.{IsPricedValue}
+use Rattle.fp_certificate_lines.specs.declared.certificates.Node.{Node}
+use Rattle.fp_certificate_lines.specs.declared.certificates.Node.TheVariants as node
+use Rattle.fp_certificate_lines.specs.Statements.{Statement}
+use Rattle.fp_certificate_rules.specs.Points.{points_as_of}
+use Rattle.fp_certificate_rules.specs.Units.{rounded_up}
+
+-- the terminal that the arc of a split leaves, and 0 for a split by time
+abbrev pub split_tail : Problem → Split → ℕ
+split_tail p (ByArc shipment arc) = (arc_at p arc).from
+split_tail p (ByTime shipment terminal at) = 0
+
+-- at what a node of a certificate splits, and nothing at a leaf
+abbrev pub fork_of : Problem → Node → Option Fork
+fork_of p (node.Branch split) = Some (record { split = split; tail = split_tail p split })
+fork_of p (node.Leaf price) = None
+
+-- the lines of the tree are exactly one tree in preorder, of no more splits than a tree may have
+pub record HasTree (p : Problem) (c : Statement) : Type 0 where
+  pub tree : IsTree (fork_of p) c.tree
+  pub few : length (tree_splits (fork_of p) c.tree) ≤ MOST_SPLITS
+
+-- a leaf is empty, or its bound in whole units of money, rounded up to a multiple of the certificate's
+-- unit, is at least the claim
+abbrev pub IsLeafWorth : Problem → WindowTable → Statement → (claim : ℕ) → Node → List Side → Type 0
+IsLeafWorth p table c claim (node.Branch split) sides = ⊥
+IsLeafWorth p table c claim (node.Leaf price) sides =
+    IsLeafEmpty p (windows_in table) (points_as_of p table.anchors c price.round) sides
+    ⊎ ((value : ℕ) × IsPricedValue p (windows_in table) (points_as_of p table.anchors c price.round) sides c.tables c.spans price.kind price.forced value
+    × (claim ≤ rounded_up c.unit (div_ceil value p.scale)))
+
+-- each leaf of the tree is worth the claim under the sides on its way from the root
+abbrev pub AreLeavesWorth : Problem → WindowTable → Statement → (claim : ℕ) → Type 0
+AreLeavesWorth p table c claim = AllByRecursion (λ (l : Leaf Node). IsLeafWorth p table c claim l.node l.sides) (tree_leaves (fork_of p) c.tree)

@@ -1,0 +1,13 @@
+//! When a certificate is accepted for an instance and its windows, and that its claim is then true.
+//!
+//! The problem is that of Boland, Hewitt, Marshall and Savelsbergh, "The Continuous-Time Service
+//! Network Design Problem", Operations Research 65, 2017. Certificates are this project's own.
+#![tactic(auto)]
+
+mod laws;
+mod limits;
+mod units;
+
+pub use laws::{accepted_claims, round_limit_is_a_number};
+pub use limits::MOST_IN_ROUND;
+pub use units::{is_unit, reaches, rounded_below, unit_of};

@@ -1,8 +1,0 @@
-use Rattle.std.proofs.Common.{take}
-use Rattle.std.specs.Prelude.{All}
-use Rattle.fp_spans.specs.SpanCharges.{ArePaidSpans}
-use Rattle.fp_checker.proofs.price_spans.all_paid.Given as goal
-
--- the spans that were passed are paid
-abbrev pub invariant-loop-beside : goal.invariant-loop-beside
-invariant-loop-beside l = All (ArePaidSpans l.instance) (take l.beside-index l.spans)

@@ -1,0 +1,18 @@
+use Rattle.std.proofs.Common.{drop}
+use Rattle.std.specs.Prelude.{◌↔◌}
+use Rattle.fp_prices.specs.RoundBounds.{AreRoundBounds}
+use Rattle.fp_certificate_rules.specs.Accepted.{claim_of}
+use Rattle.fp_certificate_rules.specs.Leaves.{AreLeavesWorth}
+use Rattle.fp_checker.specs.LeafWays.{IsKept, steps_of}
+use Rattle.fp_checker.proofs.LeavesPassed.{AreWorthFrom}
+use Rattle.fp_checker.proofs.rules.leaves.are_leaves_worth.Given as goal
+
+-- all leaves are worth the claim exactly where those that are left are, and what is kept holds
+abbrev pub invariant-loop-node : goal.invariant-loop-node
+invariant-loop-node l = record {
+  left :
+      AreWorthFrom l.instance l.windows l.certificate (steps_of l.way) (drop l.node-index l.certificate.tree)
+      ↔ AreLeavesWorth l.instance l.windows l.certificate (claim_of l.certificate.answer);
+  way : IsKept l.way;
+  kept : AreRoundBounds l.instance l.points l.certificate.tables l.bounds;
+}

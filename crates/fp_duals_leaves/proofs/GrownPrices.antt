@@ -1,0 +1,75 @@
+-- Prices that have grown, and those that a search begins with.
+use Rattle.std.proofs.Common.{◌≡◌, ◌≢◌, ℕ, ◌≤◌, List, [], ◌∷◌, ◌++◌, refl, sym, ap, ◌∙◌, subst, arith, rules, append-nil, append_assoc}
+use Rattle.std.specs.Prelude.{All, IfSome, Option, None, Some}
+use Rattle.std.proofs.lemmas.List.{length-append}
+use Rattle.std.proofs.lemmas.List.Elements.{All-append, All-cons, All-nil}
+use Rattle.fp_model.specs.Problem.{Problem}
+use Rattle.fp_prices.specs.Shares.{ClassShare}
+use Rattle.fp_prices.specs.Tables.{IsAscendingTable}
+use Rattle.fp_prices_spans.specs.Spans.{ClassSpan}
+use Rattle.fp_duals.specs.PriceTables.{IsShareOf}
+use Rattle.fp_duals.proofs.PriceTables.{ArePriceTables-append}
+use Rattle.fp_duals_leaves.specs.SoundSpans.{AreSoundSpans}
+use Rattle.fp_duals_leaves.specs.Prices.{ArePrices, HaveGrown, IsUnitOf, PriceLists, empty_prices, with_more}
+
+-- prices that stayed
+pub HaveGrown-same : (p : Problem) (before after : PriceLists) → after ≡ before → ArePrices p before → HaveGrown p before after
+HaveGrown-same p before after same prices = record {
+  tables = [];
+  spans = [];
+  is = same ∙ sym (ap (λ (ts : List (List ClassShare)). record { tables = ts; spans = before.spans ++ []; unit = before.unit }) (append-nil before.tables)
+      ∙ ap (λ (ss : List (List ClassSpan)). record { tables = before.tables; spans = ss; unit = before.unit }) (append-nil before.spans));
+  prices = subst (ArePrices p) (sym same) prices;
+}
+
+-- prices have grown to themselves
+pub HaveGrown_none : (p : Problem) (x : PriceLists) → ArePrices p x → HaveGrown p x x
+HaveGrown_none p x are = HaveGrown-same p x x refl are
+
+-- prices that grew twice
+pub HaveGrown-twice : (p : Problem) (before between after : PriceLists) → HaveGrown p before between → HaveGrown p between after → HaveGrown p before after
+HaveGrown-twice p before between after one two = record {
+  tables = one.tables ++ two.tables;
+  spans = one.spans ++ two.spans;
+  is = two.is ∙ ap (λ (x : PriceLists). with_more x two.tables two.spans) one.is
+      ∙ ap (λ (ts : List (List ClassShare)). record { tables = ts; spans = (before.spans ++ one.spans) ++ two.spans; unit = before.unit }) (append_assoc before.tables one.tables two.tables)
+      ∙ ap (λ (ss : List (List ClassSpan)). record { tables = before.tables ++ (one.tables ++ two.tables); spans = ss; unit = before.unit }) (append_assoc before.spans one.spans two.spans);
+  prices = two.prices;
+}
+
+-- one table without shares more, with sound spans beside it, where spans are sought
+pub HaveGrown-spans : (p : Problem) (before after : PriceLists) (spans : List ClassSpan) → ArePrices p before → before.unit ≢ None → AreSoundSpans p spans → after ≡ with_more before ([] ∷ []) (spans ∷ []) → HaveGrown p before after
+HaveGrown-spans p before after spans are sought sound is = record {
+  tables = [] ∷ [];
+  spans = spans ∷ [];
+  is = is;
+  prices = subst (ArePrices p) (sym is) (record {
+    tables = ArePriceTables-append p before.tables ([] ∷ []) are.tables (record { in_order = record { ascending = All-cons IsAscendingTable [] [] (record { shares = search rules; weights = search rules }) (All-nil IsAscendingTable); rule = (tt, tt) }; of_instance = All-cons (All (IsShareOf p)) [] [] (All-nil (IsShareOf p)) (All-nil (All (IsShareOf p))) });
+    spans = All-append (AreSoundSpans p) before.spans (spans ∷ []) are.spans (All-cons (AreSoundSpans p) spans [] sound (All-nil (AreSoundSpans p)));
+    beside = omega (arith, are.beside, length-append before.spans (spans ∷ []), length-append before.tables ([] ∷ []));
+    unit = are.unit;
+    without = λ none. absurd (sought none);
+  });
+}
+
+-- the unit stays
+pub unit-grown : (p : Problem) (before after : PriceLists) → HaveGrown p before after → after.unit ≡ before.unit
+unit-grown p before after grown = ap (λ (x : PriceLists). x.unit) grown.is
+
+-- a unit is at least 1
+pub unit-some : (p : Problem) (x : PriceLists) → ArePrices p x → IfSome x.unit (λ u. 1 ≤ u)
+unit-some p x are = by_unit x.unit are.unit
+  where
+    by_unit : (o : Option ℕ) → IfSome o (IsUnitOf p) → IfSome o (λ u. 1 ≤ u)
+    by_unit None is = tt
+    by_unit (Some unit) is = is.range.least
+
+-- prices without tables
+pub empty-are : (p : Problem) (unit : Option ℕ) → IfSome unit (IsUnitOf p) → ArePrices p (empty_prices unit)
+empty-are p unit is = record {
+  tables = record { in_order = record { ascending = search rules; rule = tt }; of_instance = search rules };
+  spans = search rules;
+  beside = refl;
+  unit = is;
+  without = λ none. search rules;
+}

@@ -1,0 +1,5 @@
+pub mod SoundSpans
+pub mod GrownPrices
+pub mod Worths
+pub mod ImprovedPrices
+pub mod SameSpanValues

@@ -1,0 +1,14 @@
+use Rattle.std.proofs.Common.{◌≡◌, ◌≤◌, length, take}
+use Rattle.fp_duals_leaves.proofs.prices.Prices.cut.Given as goal
+
+-- the tables are cut, and the front of the lists of spans that there were is left
+abbrev pub invariant-loop-self : goal.invariant-loop-self
+invariant-loop-self l = record {
+  tables : l.self-inside.tables ≡ take l.count l.fn.self.tables;
+  front : l.self-inside.spans.items ≡ take (length l.self-inside.spans.items) l.fn.self.spans;
+  kept : l.count ≤ length l.self-inside.spans.items;
+  unit : l.self-inside.unit ≡ l.fn.self.unit;
+}
+
+abbrev pub decreases-loop-self : goal.decreases-loop-self
+decreases-loop-self l = length l.self-inside.spans.items

@@ -1,0 +1,4 @@
+pub mod SoundSpans
+pub mod SpanPrices
+pub mod Prices
+pub mod Pricing

@@ -1,0 +1,28 @@
+//! The prices of a search: tables, the spans beside each, and a unit; and how the price of a leaf is
+//! improved by both.
+//!
+//! Prices are multipliers in the sense of Lagrangian relaxation (A. M. Geoffrion, "Lagrangean
+//! relaxation for integer programming", Mathematical Programming Study 2, 1974). Those by spans
+//! share out whole trucks and not parts of them, so they reach bounds that no table of shares does.
+//! What is found is proved: what a leaf is worth by a price is exact, and no plan of it costs less.
+//! How good the prices are isn't promised.
+#![tactic(auto)]
+
+mod efforts;
+mod leaf_spans;
+mod prices;
+mod pricing;
+mod rounds;
+mod span_prices;
+mod span_tests;
+mod walks;
+
+pub use efforts::PriceEffort;
+pub use prices::Prices;
+pub use pricing::{Worth, improve};
+pub use rounds::better_spans_of;
+pub use span_prices::SpanPrice;
+pub use walks::walks_by_spans;
+
+/// The error of a call that finds no memory.
+pub type NoMemory = std::alloc::AllocError;

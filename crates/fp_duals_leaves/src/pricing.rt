@@ -1,0 +1,177 @@
+//! The price of a leaf is improved, by tables and by spans.
+ghost use Rattle.std.specs.Prelude.{◌≡◌, ◌≢◌, None, IfOk};
+ghost use Rattle.fp_flatnet.specs.Tables.{windows_in};
+ghost use Rattle.fp_longestarcs.specs.Networks.{points_in};
+ghost use Rattle.fp_prices.specs.Tables.{HasKind};
+ghost use Rattle.fp_duals_leaves.specs.Prices.{ArePrices, HaveGrown};
+ghost use Rattle.fp_duals_leaves.specs.Pricing.{IsImprovedBy, IsNoLess};
+
+use crate::NoMemory;
+use crate::efforts::PriceEffort;
+use crate::leaf_spans::better_spans;
+use crate::prices::Prices;
+use fp_duals::Improved;
+use fp_duals_nets::LentNets;
+use fp_duals_spans::{SpanEffort, StartPrices};
+use fp_prices::{Kind, Leaf, LeafBound, LeafPrice};
+use fp_prices_spans::span_bound;
+use std::alloc::Global;
+
+/// A price of a leaf, and what the leaf is worth by it.
+#[derive(Clone, Copy, Debug, PartialEq, Eq)]
+pub struct Worth {
+    pub price: LeafPrice,
+    pub value: u128,
+}
+
+// What a leaf is worth, as of the same round, by the prices that it inherits, with the spans beside
+// their table, where it has some and that is more.
+fn by_inherited(
+    alloc: Global,
+    leaf: &Leaf,
+    inherited: LeafPrice,
+    first: Worth,
+    prices: &Prices,
+) -> Result<Worth, NoMemory>
+    requires prices { ArePrices leaf.now.setting.problem prices.now }
+    requires kind { HasKind prices.now.tables inherited.kind }
+    ensures { IfOk result
+        (IsNoLess leaf.now.setting.problem (windows_in leaf.now.setting.windows)
+        (points_in leaf.now.setting.network) leaf.now.sides prices.now first.price.round first) }
+{
+    let kind = inherited.kind;
+    let forced = inherited.forced;
+    let spans = prices.spans_beside(kind);
+    if spans.is_empty() {
+        return Ok(first);
+    }
+    match span_bound(alloc, leaf, prices.tables(), spans, kind, forced)? {
+        LeafBound::Value { value } if value > first.value => Ok(Worth {
+            price: LeafPrice {
+                kind,
+                round: first.price.round,
+                forced,
+            },
+            value,
+        }),
+        _ => Ok(first),
+    }
+}
+
+// What a leaf is worth, as of the same round, by spans that are sought from a price, where such are
+// found and there is room for them.
+#[tactic(auto, using(crate::proofs::GrownPrices::HaveGrown_none))]
+fn by_spans(
+    alloc: Global,
+    leaf: &Leaf,
+    nets: &mut LentNets,
+    effort: &SpanEffort,
+    first: Worth,
+    prices: &mut Prices,
+) -> Result<Worth, NoMemory>
+    requires prices { ArePrices leaf.now.setting.problem prices.old }
+    requires unit { prices.old.unit ≢ None }
+    requires kind { HasKind prices.old.tables first.price.kind }
+    ensures grown { HaveGrown leaf.now.setting.problem prices.old prices.new }
+    ensures worth { IfOk result
+        (IsNoLess leaf.now.setting.problem (windows_in leaf.now.setting.windows)
+        (points_in leaf.now.setting.network) leaf.now.sides prices.new first.price.round first) }
+{
+    let LeafPrice { kind, forced, .. } = first.price;
+    let start = StartPrices {
+        tables: prices.tables(),
+        kind,
+        forced,
+        spans: prices.spans_beside(kind),
+    };
+    let found = better_spans(alloc, leaf, nets, start, first.value, effort)?;
+    let Some(found) = found else {
+        return Ok(first);
+    };
+    if !prices.has_room(&found.spans) {
+        return Ok(first);
+    }
+    let id = prices.count() + 1;
+    if !prices.push_spans(alloc, found.spans)? {
+        return Ok(first);
+    }
+    Ok(Worth {
+        price: LeafPrice {
+            kind: Kind::Table { id },
+            round: first.price.round,
+            forced: false,
+        },
+        value: found.value,
+    })
+}
+
+// What a leaf is worth, as of the same round, by spans, where that is more: by those that it inherits, or by
+// others that are sought.
+#[tactic(auto, using(crate::proofs::GrownPrices::HaveGrown_none))]
+fn spanned(
+    alloc: Global,
+    leaf: &Leaf,
+    nets: &mut LentNets,
+    inherited: LeafPrice,
+    effort: &PriceEffort,
+    first: Worth,
+    prices: &mut Prices,
+) -> Result<Worth, NoMemory>
+    requires prices { ArePrices leaf.now.setting.problem prices.old }
+    requires inherited { HasKind prices.old.tables inherited.kind }
+    requires kind { HasKind prices.old.tables first.price.kind }
+    ensures grown { HaveGrown leaf.now.setting.problem prices.old prices.new }
+    ensures worth { IfOk result
+        (IsNoLess leaf.now.setting.problem (windows_in leaf.now.setting.windows)
+        (points_in leaf.now.setting.network) leaf.now.sides prices.new first.price.round first) }
+{
+    if prices.unit().is_none() {
+        return Ok(first);
+    }
+    let worth = by_inherited(alloc, leaf, inherited, first, prices)?;
+    match &effort.spans {
+        Some(effort) => by_spans(alloc, leaf, nets, effort, worth, prices),
+        None => Ok(worth),
+    }
+}
+
+/// Improves the price of a leaf as of a round, from a price that it inherits: by tables, and where
+/// the prices have a unit by spans too.
+///
+/// The leaf lies over the network of the round, and the nets are those of the leaf. What is found is the leaf's first shipment without
+/// an allowed walk; or a price as of the round, what the leaf is worth by it in parts of a unit of
+/// money, and an allowed walk of each shipment. The prices grow by at most two tables, also without
+/// memory. `NoMemory` only where no memory is found.
+pub fn improve(
+    alloc: Global,
+    leaf: &Leaf,
+    nets: &mut LentNets,
+    round: u32,
+    inherited: LeafPrice,
+    effort: &PriceEffort,
+    prices: &mut Prices,
+) -> Result<Improved, NoMemory>
+    requires prices { ArePrices leaf.now.setting.problem prices.old }
+    requires kind { HasKind prices.old.tables inherited.kind }
+    ensures grown { HaveGrown leaf.now.setting.problem prices.old prices.new }
+    ensures improved { IfOk result
+        (IsImprovedBy leaf.now.setting.problem (windows_in leaf.now.setting.windows)
+        (points_in leaf.now.setting.network) leaf.now.sides prices.new round) }
+{
+    match prices.improve(alloc, leaf, nets, round, inherited, &effort.tables)? {
+        Improved::Empty { shipment } => Ok(Improved::Empty { shipment }),
+        Improved::Priced {
+            price,
+            value,
+            walks,
+        } => {
+            let first = Worth { price, value };
+            let worth = spanned(alloc, leaf, nets, inherited, effort, first, prices)?;
+            Ok(Improved::Priced {
+                price: worth.price,
+                value: worth.value,
+                walks,
+            })
+        }
+    }
+}

@@ -1,0 +1,76 @@
+//! What the walks and the charged sets come to over all turns: nearly a solution of the problem
+//! whose prices are sought.
+
+use crate::NoMemory;
+use crate::efforts::SpanEffort;
+use fp_duals_layouts::{Charges, Layout};
+use fp_duals_nets::Nets;
+use std::alloc::Global;
+
+/// A whole use.
+pub(crate) const ONE: u64 = 1 << 20;
+
+/// Averages over the turns.
+#[derive(Drop)]
+pub(crate) struct Averages {
+    /// How much of each payer's walks uses what it pays for, in spans of single classes, in parts of
+    /// `ONE`.
+    pub used: Vec<u64>,
+    /// The trucks of the charged sets of each span, in parts of `ONE`.
+    pub trucks: Vec<u64>,
+    // The least part of the newest turn, in parts of `ONE`.
+    fresh: u64,
+}
+
+// Takes off a part, in parts of `ONE`.
+fn lower(list: &mut [u64], part: u64) {
+    for number in list.iter_mut() {
+        *number = number.saturating_sub(number.wrapping_mul(part) >> 20);
+    }
+}
+
+impl Averages {
+    /// No turns yet; the newest will count at least half of `fresh` times in 64. Where an effort
+    /// joins no spans, nothing is averaged.
+    pub(crate) fn of(
+        alloc: Global,
+        layout: &Layout,
+        effort: &SpanEffort,
+    ) -> Result<Averages, NoMemory> {
+        let (payers, spans) = if effort.joins > 0 {
+            (layout.payers.len(), layout.spans.len())
+        } else {
+            (0, 0)
+        };
+        Ok(Averages {
+            used: vec![in alloc; 0u64; payers]?,
+            trucks: vec![in alloc; 0u64; spans]?,
+            fresh: u64::from(effort.fresh.min(64)).wrapping_mul(ONE / 128),
+        })
+    }
+
+    /// Adds the walks of a turn, whose number is counted from 0, and its charged sets.
+    pub(crate) fn turn(
+        &mut self,
+        layout: &Layout,
+        nets: &Nets,
+        walks: &[usize],
+        charges: &Charges,
+        turn: u32,
+    ) {
+        let part = (ONE / u64::from(turn).wrapping_add(1).max(1)).max(self.fresh);
+        lower(&mut self.used, part);
+        lower(&mut self.trucks, part);
+        for number in walks {
+            if let Some(edge) = nets.uses.get(*number)
+                && let Some(used) = self.used.get_mut(edge.part)
+            {
+                *used = used.wrapping_add(part);
+            }
+        }
+        for (number, all) in self.trucks.iter_mut().enumerate() {
+            let trucks = charges.trucks(layout, number).min(1 << 30);
+            *all = all.wrapping_add(trucks.wrapping_mul(part));
+        }
+    }
+}

@@ -1,0 +1,168 @@
+//! The averaged direction of the ascent.
+
+use crate::NoMemory;
+use fp_duals_layouts::{Charges, Layout, SpanPrices, of_span};
+use fp_duals_nets::{Net, Nets, last_edge, part_mut};
+use std::alloc::Global;
+
+/// A whole use, in the averaged direction.
+const WHOLE: i64 = 1 << 12;
+
+/// How the value changes with the prices, as an average over the turns that gives the newest the
+/// most weight.
+#[derive(Drop)]
+pub(crate) struct Direction {
+    /// The walks' use of what each payer pays for, less the sets that are charged.
+    pub means: Vec<i64>,
+    /// The trucks of the sets that are charged, for each span.
+    pub trucks: Vec<i64>,
+    /// The edges of the newest walks, among those of all nets.
+    pub walks: Vec<usize>,
+    // The part of the newest walks, in parts of 64.
+    fresh: u64,
+}
+
+// What is left of a mean when the part of the newest walks is taken off; in the end nothing.
+fn aged(mean: i64, fresh: u64) -> i64 {
+    let off = mean.unsigned_abs().wrapping_mul(fresh).wrapping_add(63) / 64;
+    if mean >= 0 {
+        mean.saturating_sub_unsigned(off)
+    } else {
+        mean.saturating_add_unsigned(off)
+    }
+}
+
+// The square of a length.
+fn square(length: i64) -> u64 {
+    let length = length.unsigned_abs();
+    length.saturating_mul(length)
+}
+
+// Lets older turns count for less.
+fn age_all(means: &mut [i64], fresh: u64) {
+    for mean in means.iter_mut() {
+        *mean = aged(*mean, fresh);
+    }
+}
+
+impl Direction {
+    /// No direction yet.
+    pub(crate) fn of(alloc: Global, layout: &Layout, fresh: u32) -> Result<Direction, NoMemory> {
+        Ok(Direction {
+            means: vec![in alloc; 0i64; layout.payers.len()]?,
+            trucks: vec![in alloc; 0i64; layout.spans.len()]?,
+            walks: Vec::new(alloc),
+            fresh: u64::from(fresh.min(64)),
+        })
+    }
+
+    // Notes the least walk of a net whose nodes are labelled.
+    fn note_walk(&mut self, nets: &Nets, net: &Net) -> Result<(), NoMemory> {
+        let edges = nets.edges_of(net);
+        let mut node = net.goal;
+        for _ in 0..edges.len() {
+            let Some((number, tail)) = last_edge(edges, &nets.labels, node) else {
+                break;
+            };
+            self.walks.push(net.first_edge.wrapping_add(number))?;
+            node = tail;
+        }
+        Ok(())
+    }
+
+    /// Finds and notes the least walks of all nets at the costs that are set. What they cost.
+    pub(crate) fn find_walks(&mut self, nets: &mut Nets) -> Result<u64, NoMemory> {
+        self.walks.clear();
+        let mut sum = 0u64;
+        for number in 0..nets.list.len() {
+            if let Some(net) = nets.list.get(number).copied() {
+                sum = sum.saturating_add(nets.label_net(&net));
+                self.note_walk(nets, &net)?;
+            }
+        }
+        Ok(sum)
+    }
+
+    // Adds to the mean of a payer.
+    fn add(&mut self, payer: usize, more: i64) {
+        if let Some(mean) = self.means.get_mut(payer) {
+            *mean = mean.wrapping_add(more);
+        }
+    }
+
+    // Adds the newest walks.
+    fn add_walks(&mut self, layout: &Layout, nets: &Nets, more: i64) {
+        for place in 0..self.walks.len() {
+            if let Some(number) = self.walks.get(place).copied()
+                && let Some(edge) = nets.uses.get(number)
+            {
+                self.add(edge.part, more);
+                for payer in layout.links.group(number) {
+                    self.add(*payer, more);
+                }
+            }
+        }
+    }
+
+    // Takes off the set of a span that is charged, and counts its trucks.
+    fn take_charged(&mut self, layout: &Layout, charges: &Charges, number: usize, less: i64) {
+        let Some(span) = layout.spans.get(number) else {
+            return;
+        };
+        if let Some(means) = part_mut(&mut self.means, span.first, span.end) {
+            for (mean, charged) in means.iter_mut().zip(of_span(&charges.charged, span).iter()) {
+                if *charged {
+                    *mean = mean.wrapping_sub(less);
+                }
+            }
+        }
+        if let Some(mean) = self.trucks.get_mut(number) {
+            let trucks = charges.trucks(layout, number).min(1 << 30) as i64;
+            *mean = mean.wrapping_add(trucks.wrapping_mul(less));
+        }
+    }
+
+    /// Lets the older walks count for less and adds the newest, which are all where `first`.
+    pub(crate) fn turn(&mut self, layout: &Layout, nets: &Nets, charges: &Charges, first: bool) {
+        age_all(&mut self.means, self.fresh);
+        age_all(&mut self.trucks, self.fresh);
+        let part = if first { 64 } else { self.fresh.min(64) as i64 };
+        let more = part.wrapping_mul(WHOLE / 64);
+        self.add_walks(layout, nets, more);
+        for (number, charge) in charges.list.iter().enumerate() {
+            if *charge > 0 {
+                self.take_charged(layout, charges, number, more);
+            }
+        }
+    }
+
+    /// What a joined span's money gains: its trucks less those of the single classes in its run.
+    pub(crate) fn gain(&self, layout: &Layout, number: usize) -> i64 {
+        let mut gain = self.trucks.get(number).copied().unwrap_or(0);
+        if let Some(span) = layout.spans.get(number)
+            && let Some(singles) = self.trucks.get(span.first_single..span.end_single)
+        {
+            for trucks in singles {
+                gain = gain.wrapping_sub(*trucks);
+            }
+        }
+        gain
+    }
+
+    /// The squared length of the direction, without what would lower prices and money below 0.
+    pub(crate) fn norm(&self, layout: &Layout, prices: &SpanPrices) -> u64 {
+        let mut norm = 0u64;
+        for (mean, weight) in self.means.iter().zip(prices.weights.iter()) {
+            if *mean > 0 || *weight > 0 {
+                norm = norm.saturating_add(square(*mean));
+            }
+        }
+        for number in layout.singles..layout.spans.len() {
+            let gain = self.gain(layout, number);
+            if gain > 0 || prices.money_of(number) > 0 {
+                norm = norm.saturating_add(square(gain));
+            }
+        }
+        norm
+    }
+}

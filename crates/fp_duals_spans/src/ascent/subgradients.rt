@@ -1,0 +1,199 @@
+//! The subgradient ascent: prices move along an averaged direction towards a level above the best
+//! value, and what they come to too much is charged.
+
+use crate::NoMemory;
+use crate::ascent::averages::Averages;
+use crate::ascent::directions::Direction;
+use crate::efforts::SpanEffort;
+use fp_duals_ascent::{Target, Way, rate};
+use fp_duals_layouts::{Charges, Layout, Payer, SpanPrices, change_costs, of_span};
+use fp_duals_nets::{Nets, part_mut};
+use std::alloc::Global;
+
+// Where the ascent stands.
+#[derive(Drop)]
+struct Climb {
+    direction: Direction,
+    averages: Averages,
+    charges: Charges,
+    // The value of the prices, the value at the start, the target above the best value, and the
+    // prices of that.
+    value: u64,
+    start: u64,
+    target: Target,
+    best_prices: SpanPrices,
+}
+
+// Where an amount up to `most` goes by `rate`, in parts of 2^20, times a mean.
+fn moved(amount: u64, most: u64, mean: i64, rate: u64) -> u64 {
+    let step = u128::from(rate).saturating_mul(u128::from(mean.unsigned_abs())) >> 20;
+    let step = step.min(u128::from(u64::MAX)) as u64;
+    if mean > 0 {
+        amount.saturating_add(step).min(most)
+    } else {
+        amount.saturating_sub(step)
+    }
+}
+
+impl Climb {
+    // At the start, from the prices as they are.
+    fn of(
+        alloc: Global,
+        layout: &Layout,
+        nets: &mut Nets,
+        prices: &SpanPrices,
+        effort: &SpanEffort,
+    ) -> Result<Climb, NoMemory> {
+        let small = layout.payers.len() <= effort.small as usize;
+        let least = if small { 1 } else { effort.least_level };
+        let mut climb = Climb {
+            direction: Direction::of(alloc, layout, effort.fresh)?,
+            averages: Averages::of(alloc, layout, effort)?,
+            charges: Charges::of(alloc, layout, u64::from(effort.loads))?,
+            value: 0,
+            start: 0,
+            target: Target::of(0, 0, effort.level, least, effort.patience),
+            best_prices: prices.copied(alloc)?,
+        };
+        prices.set_costs(layout, nets);
+        climb.find_value(layout, nets, prices)?;
+        climb.start = climb.value;
+        climb.target.best = climb.value;
+        Ok(climb)
+    }
+
+    // Finds the value of the prices whose costs are set.
+    fn find_value(
+        &mut self,
+        layout: &Layout,
+        nets: &mut Nets,
+        prices: &SpanPrices,
+    ) -> Result<(), NoMemory> {
+        let least = self.direction.find_walks(nets)?;
+        let charges = self.charges.find_all(layout, prices)?;
+        self.value = least.saturating_sub(charges);
+        Ok(())
+    }
+
+    // Moves all weights by `rate` times the direction, and sets the costs.
+    fn move_weights(
+        &mut self,
+        layout: &Layout,
+        nets: &mut Nets,
+        prices: &mut SpanPrices,
+        rate: u64,
+    ) {
+        for (span, stale) in layout.spans.iter().zip(self.charges.stale.iter_mut()) {
+            let Some(weights) = part_mut(&mut prices.weights, span.first, span.end) else {
+                continue;
+            };
+            let payers: &[Payer] = of_span(&layout.payers, span);
+            let means: &[i64] = of_span(&self.direction.means, span);
+            for ((weight, payer), mean) in weights.iter_mut().zip(payers.iter()).zip(means.iter()) {
+                if *mean == 0 {
+                    continue;
+                }
+                let new = moved(*weight, payer.most, *mean, rate);
+                if new != *weight {
+                    change_costs(&mut nets.edges, layout.edges_of(payer), *weight, new);
+                    *weight = new;
+                    *stale = true;
+                }
+            }
+        }
+    }
+
+    // Moves the money of joined spans by `rate` times what it gains.
+    fn move_money(&mut self, layout: &Layout, prices: &mut SpanPrices, rate: u64) {
+        for number in layout.singles..layout.spans.len() {
+            let gain = self.direction.gain(layout, number);
+            if let Some(span) = layout.spans.get(number)
+                && let Some(money) = prices.money.get_mut(number)
+                && let Some(stale) = self.charges.stale.get_mut(number)
+            {
+                let new = moved(*money, span.truck, gain, rate);
+                *stale |= new != *money;
+                *money = new;
+            }
+        }
+        prices.spread(layout, &mut self.charges.stale);
+    }
+
+    // Goes back to the best prices.
+    fn return_to_best(
+        &mut self,
+        layout: &Layout,
+        nets: &mut Nets,
+        prices: &mut SpanPrices,
+    ) -> Result<(), NoMemory> {
+        prices.copy(&self.best_prices);
+        prices.set_costs(layout, nets);
+        self.charges.forget();
+        self.find_value(layout, nets, prices)
+    }
+
+    // Moves the prices once. Whether there is a way to go.
+    fn step(
+        &mut self,
+        layout: &Layout,
+        nets: &mut Nets,
+        prices: &mut SpanPrices,
+        turn: u32,
+    ) -> Result<bool, NoMemory> {
+        self.direction.turn(layout, nets, &self.charges, turn == 0);
+        self.averages
+            .turn(layout, nets, &self.direction.walks, &self.charges, turn);
+        let norm = self.direction.norm(layout, prices);
+        if norm == 0 {
+            return Ok(false);
+        }
+        // The step is measured from the best value.
+        let step = rate(self.target.gap(self.target.best), norm);
+        self.move_weights(layout, nets, prices, step);
+        if layout.spans.len() > layout.singles {
+            self.move_money(layout, prices, step);
+        }
+        self.find_value(layout, nets, prices)?;
+        if self.target.note(self.value) {
+            self.best_prices.copy(prices);
+        }
+        Ok(true)
+    }
+
+    // Lets the target come nearer where too many turns had little gain. Whether there is more to do.
+    fn come_nearer(
+        &mut self,
+        layout: &Layout,
+        nets: &mut Nets,
+        prices: &mut SpanPrices,
+    ) -> Result<bool, NoMemory> {
+        let way = self.target.come_nearer();
+        // Before the first gain the way on is better than the start again.
+        if way == Way::Nearer && self.target.best > self.start {
+            self.return_to_best(layout, nets, prices)?;
+        }
+        Ok(way != Way::End)
+    }
+}
+
+/// Moves the prices by the spans of a layout to better ones. The averages over the turns.
+pub(crate) fn ascend(
+    alloc: Global,
+    layout: &Layout,
+    nets: &mut Nets,
+    prices: &mut SpanPrices,
+    effort: &SpanEffort,
+) -> Result<Averages, NoMemory> {
+    let mut climb = Climb::of(alloc, layout, nets, prices, effort)?;
+    for turn in 0..effort.turns {
+        if !climb.step(layout, nets, prices, turn)? {
+            break;
+        }
+        if !climb.come_nearer(layout, nets, prices)? {
+            break;
+        }
+    }
+    prices.copy(&climb.best_prices);
+    prices.set_costs(layout, nets);
+    Ok(climb.averages)
+}

@@ -1,7 +1,0 @@
-pub mod Numerals
-pub mod NameForm
-pub mod NameNumbers
-pub mod MappedLists
-pub mod FaultTables
-pub mod ArcEnds
-mod DistinctParts

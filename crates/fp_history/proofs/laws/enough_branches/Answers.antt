@@ -1,5 +1,0 @@
-use Rattle.fp_history.proofs.Enough.{EnoughBranches_hold}
-use Rattle.fp_history.proofs.laws.enough_branches.Goals as goal
-
-pub returns : goal.returns
-returns c = EnoughBranches_hold

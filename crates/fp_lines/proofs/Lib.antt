@@ -1,5 +1,0 @@
-mod EndedLines
-pub mod Named
-pub mod SpanRanges
-mod RowTexts
-pub mod Examples

@@ -1,0 +1,21 @@
+-- One more class has its edge.
+use Rattle.std.proofs.Common.{ℕ, List, [], ◌∷◌, ◌++◌, map, sym, ap, ◌∙◌, arith}
+use Rattle.std.specs.List.{range_with_len}
+use Rattle.std.proofs.lemmas.List.FromFn.{map-range_with_len_more}
+use Rattle.fp_labels.specs.declared.graphs.Edge.{Edge}
+use Rattle.fp_model.specs.Problem.{Problem}
+use Rattle.fp_longestarcs.specs.Networks.{TimedNetwork}
+use Rattle.fp_allowed.specs.Listing.{class_at}
+use Rattle.fp_prices.specs.Points.{class_edge}
+use Rattle.fp_prices.proofs.graphs.point_graphs.edges_of_classes.Goals as goal
+
+pub loop-class-preserved : goal.loop-class-preserved
+loop-class-preserved c =
+    let p : Problem = c.args.instance.now in
+    let net : TimedNetwork = c.args.network.now in
+    let n : ℕ = c.loop-class.class in
+    let f : ℕ → Edge = λ m. class_edge p net (class_at net m) in
+    c.in_ok-push.ensures.items ∙
+    ap (λ (l : List Edge). l ++ (c.edge_of_class.result ∷ [])) c.loop-class.invariant ∙
+    ap (λ (e : Edge). map f (range_with_len 0 n) ++ (e ∷ [])) c.edge_of_class.ensures ∙
+    sym (map-range_with_len_more f 0 n n (omega arith))

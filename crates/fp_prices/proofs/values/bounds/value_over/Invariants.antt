@@ -1,0 +1,16 @@
+use Rattle.std.proofs.Common.{◌≡◌, ◌≤◌, length}
+use Rattle.fp_longestarcs.specs.Networks.{class_count}
+use Rattle.fp_prices.specs.ClassCosts.{IsFree}
+use Rattle.fp_prices.specs.KnownCosts.{AreKnownUnder}
+use Rattle.fp_prices.proofs.LeastSoFar.{AreLeastSoFar}
+use Rattle.fp_prices.proofs.values.bounds.value_over.Given as goal
+
+-- the value is that of the shipments so far
+abbrev pub invariant-loop-shipment : goal.invariant-loop-shipment
+invariant-loop-shipment l = record {
+  so_far : AreLeastSoFar l.pricing l.rows l.bases l.shipment l.value;
+  edges : length l.costs.items ≡ l.graph.edges;
+  free : IsFree (class_count l.pricing.network.now) l.costs.items;
+  known : AreKnownUnder l.pricing l.known.items;
+  before : l.shipment ≤ length l.known.items;
+}

@@ -1,0 +1,10 @@
+use Rattle.std.proofs.Common.{◌≡◌, ◌*◌, ◌^◌, ◌≤◌, take}
+use Rattle.std.specs.Prelude.{sum_by}
+use Rattle.fp_prices_knapsack.specs.declared.items.Item.{Item}
+use Rattle.fp_prices_knapsack.proofs.items.total_size.Given as goal
+
+abbrev pub invariant-loop-item : goal.invariant-loop-item
+invariant-loop-item l = record {
+  summed : l.total ≡ sum_by (λ (item : Item). item.size) (take l.item-index l.items);
+  small : l.total ≤ l.item-index * 2 ^ 64;
+}

@@ -1,0 +1,34 @@
+pub mod PaidSums
+pub mod PassingUsers
+pub mod MoneySums
+pub mod WeightSets
+pub mod CountedParts
+pub mod SpanPays
+pub mod ClassSums
+pub mod SpanOrders
+pub mod NoMoney
+pub mod EndMoney
+pub mod SpanSweeps
+pub mod SpanBounds
+pub mod PlaceSets
+pub mod SoundSpans
+pub mod OneSpanValue
+pub mod SpanlessValues
+pub mod Between
+pub mod RangeClasses
+pub mod MarkedBits
+pub mod SpannedRows
+pub mod WeightTotals
+pub mod PricesSoFar
+pub mod AllowedInNetwork
+pub mod SpanCosts
+pub mod SpanCharges
+pub mod LeafBases
+pub mod SpanValues
+pub mod SpanBoundsFound
+pub mod SameSpanValues
+pub mod PaidSpans
+pub mod SpanAppends
+mod EqualWeights
+mod Examples
+mod DetourExamples

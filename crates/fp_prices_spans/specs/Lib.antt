@@ -1,0 +1,10 @@
+pub mod Spans
+pub mod SpanPrices
+pub mod SpanRules
+pub mod SpanLeaves
+pub mod SpanLists
+pub mod HeldMoney
+pub mod SpanCharges
+pub mod ClassRanges
+pub mod SpanCosts
+pub mod SpanKinds

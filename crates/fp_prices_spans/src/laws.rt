@@ -1,0 +1,41 @@
+//! The theory of leaves under prices by spans, as contracts without a body.
+ghost use Rattle.fp_prices_spans.specs.SpanCharges.{SoundSpansKeepRules};
+ghost use Rattle.fp_prices_spans.specs.SpanLeaves.{SpanLeavesHaveOneValue, SpanValuesBoundPlans, ValuesWithoutSpans};
+
+/// No plan of a leaf costs less than the leaf is worth under prices by spans, whoever finds the
+/// value, and whatever the windows, the points, the sides, the kind of prices, the tables and the
+/// spans, plain or with forced classes paid whole.
+///
+/// A plan of a leaf lies within the windows and obeys the leaf's sides. Its departures may be any
+/// fractions of the unit of time. The value counts parts of a unit of money, so it is compared with
+/// the scale times the plan's cost. The instance is valid, the shares of all tables keep the price
+/// rule, and the spans keep the money rule and the set rule. An empty leaf has no plan, which is a
+/// law of fp_prices.
+pub fn span_values_bound_plans()
+    ensures { SpanValuesBoundPlans }
+{}
+
+/// Two values of one leaf under prices by spans are the same number, and an empty leaf has none.
+///
+/// So the value is decided by the instance, the windows, the points, the sides, the tables, the
+/// spans, the kind of prices and whether forced classes are paid whole.
+pub fn span_leaves_have_one_value()
+    ensures { SpanLeavesHaveOneValue }
+{}
+
+/// Without spans, a number is the leaf's value here exactly where it is the leaf's value by the
+/// tables and the kind.
+pub fn values_without_spans()
+    ensures { ValuesWithoutSpans }
+{}
+
+/// Spans that are in order with their weights, keep the money rule, and whose charges pay, keep both
+/// rules of spans. The instance is valid, and the spans are of arcs, and their weights of shipments,
+/// that exist.
+///
+/// So what [`crate::check_spans`] and [`crate::check_charges`] find is what the bound asks. They ask
+/// more: a charge pays where the sizes of a set are counted in grains, rounded down, and the rule
+/// asks for the true size of the set.
+pub fn sound_spans_keep_rules()
+    ensures { SoundSpansKeepRules }
+{}

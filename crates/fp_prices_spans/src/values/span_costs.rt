@@ -1,0 +1,149 @@
+//! What shipments cost at a leaf under prices by spans.
+ghost use Rattle.std.specs.Prelude.{ℕ, ◌≡◌, ◌<◌, ◌≤◌, All, IfOk, None, if◌then◌else◌, length, slice_index_or};
+ghost use Rattle.std.specs.Option.{option_map};
+ghost use Rattle.fp_model.specs.Problem.{IsValid};
+ghost use Rattle.fp_timenodes.specs.declared.places.TheConstants.{MOST_POINTS};
+ghost use Rattle.fp_longestarcs.specs.Networks.{class_count, point_count};
+ghost use Rattle.fp_longestarcs.specs.Whole.{IsWholeNetwork};
+ghost use Rattle.fp_allowed.specs.Bits.{bit_of};
+ghost use Rattle.fp_prices.specs.ClassCosts.{IsFree};
+ghost use Rattle.fp_prices.specs.Points.{edges_of};
+ghost use Rattle.fp_prices.specs.Prices.{AllKeepRule};
+ghost use Rattle.fp_prices_spans.specs.declared.spans.TheConstants.{MOST_SPAN_WEIGHT};
+ghost use Rattle.fp_prices_spans.specs.ClassRanges.{IsSpannedRow};
+ghost use Rattle.fp_prices_spans.specs.SpanCosts.{AreSpanCostsOf, HasChains, IsLeastBySpans, IsSmallBySpans, cost_at};
+ghost use Rattle.fp_prices_spans.specs.SpanLists.{AreSpans};
+
+use crate::NoMemory;
+use crate::spans::Span;
+use crate::values::span_prices::fill_prices;
+use fp_labels::distances;
+use fp_longestarcs::Network;
+use fp_model::Instance;
+use fp_prices::LeafPricing;
+use fp_rows::Row;
+use std::alloc::Global;
+
+// What a class costs a shipment, where these are the prices of the classes: its price and the flow.
+fn class_cost(
+    instance: &Instance,
+    network: &Network,
+    prices: &[u128],
+    shipment: u32,
+    class: u32,
+) -> u128
+    requires whole { IsWholeNetwork instance.now network.now }
+    requires shipment { shipment < length instance.now.shipments }
+    requires class { class < class_count network.now }
+    requires long { length prices.now ≡ class_count network.now }
+    requires small { All (λ price. price < MOST_SPAN_WEIGHT) prices.now }
+    ensures { result ≡ cost_at instance.now network.now prices.now shipment class }
+{
+    let arc = instance.arc(network.of_class(class).0);
+    let size = instance.shipment(shipment).size;
+    let flow = u128::from(instance.scale()) * u128::from(arc.freight) * u128::from(size);
+    prices[class as usize] + flow
+}
+
+// Another cost, where there is a cost.
+fn replaced(cost: Option<u128>, other: u128) -> Option<u128>
+    ensures { result ≡ option_map (λ _. other) cost }
+{
+    match cost {
+        Some(_) => Some(other),
+        None => None,
+    }
+}
+
+// Puts in what the classes of a row cost a shipment, where these are their prices and they have
+// costs. Other entries stay.
+fn put_in(
+    instance: &Instance,
+    network: &Network,
+    row: &Row,
+    prices: &[u128],
+    shipment: u32,
+    costs: &mut [Option<u128>],
+)
+    requires whole { IsWholeNetwork instance.now network.now }
+    requires shipment { shipment < length instance.now.shipments }
+    requires row { length row.now ≡ class_count network.now }
+    requires long { length prices.now ≡ class_count network.now }
+    requires small { All (λ price. price < MOST_SPAN_WEIGHT) prices.now }
+    requires room { class_count network.now ≤ length costs.old }
+    ensures { (n : ℕ) → slice_index_or costs.new n None
+        ≡ (if bit_of row.now n then option_map (λ _. cost_at instance.now network.now prices.now shipment n) (slice_index_or costs.old n None)
+        else slice_index_or costs.old n None) }
+{
+    let mut next = 0;
+    while let Some(class) = row.first_from(next) {
+        let cost = class_cost(instance, network, prices, shipment, class);
+        costs[class as usize] = replaced(costs[class as usize], cost);
+        next = class + 1;
+    }
+}
+
+// Puts in, for each class by its number, what it costs the shipment under prices by spans, and
+// `None` where it isn't allowed for the shipment. Entries past the classes stay. The row tells which
+// classes are priced by the spans; what the shipment pays for each by them is put into `prices`.
+fn fill_costs(
+    pricing: &LeafPricing,
+    spans: &[Span],
+    row: &Row,
+    shipment: u32,
+    prices: &mut [u128],
+    costs: &mut [Option<u128>],
+)
+    requires spans { AreSpans pricing.now.leaf.setting.problem spans.now }
+    requires row { IsSpannedRow pricing.now spans.now row.now }
+    requires shipment { shipment < length pricing.now.leaf.setting.problem.shipments }
+    requires long { length prices.old ≡ class_count pricing.now.leaf.setting.network }
+    requires room { class_count pricing.now.leaf.setting.network ≤ length costs.old }
+    ensures valid { IsValid pricing.now.leaf.setting.problem }
+    ensures whole { IsWholeNetwork pricing.now.leaf.setting.problem pricing.now.leaf.setting.network }
+    ensures few { point_count pricing.now.leaf.setting.network ≤ MOST_POINTS }
+    ensures costs { AreSpanCostsOf pricing.now spans.now shipment costs.new }
+    ensures others { (n : ℕ) → class_count pricing.now.leaf.setting.network ≤ n → slice_index_or costs.new n None ≡ slice_index_or costs.old n None }
+{
+    let round = pricing.leaf().round();
+    pricing.fill_costs(shipment, costs);
+    fill_prices(round.instance(), round.network(), spans, shipment, prices);
+    put_in(
+        round.instance(),
+        round.network(),
+        row,
+        prices,
+        shipment,
+        costs,
+    );
+}
+
+/// The least cost of a shipment under prices by spans, `None` exactly where it has no allowed timed
+/// walk. The row tells which classes are priced by the spans. Prices and costs are put in anew.
+/// `NoMemory` only where no memory is found. One search over the points.
+pub(crate) fn least_cost(
+    alloc: Global,
+    pricing: &LeafPricing,
+    spans: &[Span],
+    row: &Row,
+    shipment: u32,
+    prices: &mut [u128],
+    costs: &mut [Option<u128>],
+) -> Result<Option<u128>, NoMemory>
+    requires keep { AllKeepRule pricing.now.leaf.setting.problem pricing.now.tables }
+    requires chains { HasChains pricing.now.leaf pricing.now.forced }
+    requires spans { AreSpans pricing.now.leaf.setting.problem spans.now }
+    requires row { IsSpannedRow pricing.now spans.now row.now }
+    requires shipment { shipment < length pricing.now.leaf.setting.problem.shipments }
+    requires long { length prices.old ≡ class_count pricing.now.leaf.setting.network }
+    requires edges { length costs.old ≡ length (edges_of pricing.now.leaf.setting.problem pricing.now.leaf.setting.network) }
+    requires free { IsFree (class_count pricing.now.leaf.setting.network) costs.old }
+    ensures free { IsFree (class_count pricing.now.leaf.setting.network) costs.new }
+    ensures exact { IfOk result (IsLeastBySpans pricing.now spans.now shipment) }
+    ensures small { IfOk result (IsSmallBySpans pricing.now.leaf.setting.problem shipment) }
+{
+    let round = pricing.leaf().round();
+    fill_costs(pricing, spans, row, shipment, prices, costs);
+    let labels = distances(alloc, round.graph(), costs, round.start(shipment))?;
+    Ok(labels.to(round.end(shipment)))
+}

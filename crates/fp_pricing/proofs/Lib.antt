@@ -1,3 +1,0 @@
-pub mod GrownPrices
-pub mod Worths
-pub mod ImprovedPrices

@@ -1,8 +1,0 @@
-use Rattle.std.proofs.Common.{◌≡◌, take}
-use Rattle.fp_model.specs.Routes.{arcs_of}
-use Rattle.fp_relaxmodel.specs.Stops.{legs_of}
-use Rattle.fp_relaxmodel.proofs.relaxed_plans.TimedWalk.arcs.Given as goal
-
--- the arcs of the classes so far
-abbrev pub invariant-loop-stop : goal.invariant-loop-stop
-invariant-loop-stop l = l.arcs.items ≡ arcs_of (legs_of (take l.stop-index l.stop-items))

@@ -1,0 +1,212 @@
+//! The turns of the search: take shipments out, put them back, and keep the state or not.
+
+use crate::NoMemory;
+use crate::draws::Draws;
+use crate::paths::Paths;
+use crate::removal::Removal;
+use fp_model::Instance;
+use fp_repair_groups::{
+    GroupedLeg, PARTS, SavedTimes, Solution, TimeChanges, UsableArcs, empty_routes,
+};
+use std::alloc::Global;
+
+// In doubt, at least so many parts of a truck's cost count by trucks.
+const LEAST_BELIEF: u32 = 2;
+
+// A leg that was taken out, and its shipment.
+#[derive(Clone, Copy)]
+struct Undone {
+    shipment: usize,
+    leg: GroupedLeg,
+}
+
+// What the turns work on. `best` has the routes of the least cost met.
+#[derive(Drop)]
+pub(crate) struct Turns {
+    pub solution: Solution,
+    pub best: Vec<Vec<GroupedLeg>>,
+    best_cost: u128,
+    usable: Vec<UsableArcs>,
+    paths: Paths,
+    removal: Removal,
+    draws: Draws,
+    undone: Vec<Undone>,
+    changes: TimeChanges,
+    // The times before the turn, and before a shipment is put back.
+    before: SavedTimes,
+    beside: SavedTimes,
+}
+
+impl Turns {
+    // The turns from a state on.
+    pub(crate) fn new(
+        alloc: Global,
+        instance: &Instance,
+        usable: Vec<UsableArcs>,
+        mut solution: Solution,
+        seed: u64,
+    ) -> Result<Turns, NoMemory> {
+        solution.set_times();
+        let mut best = empty_routes(alloc, solution.routes.len())?;
+        copy_routes(&solution.routes, &mut best)?;
+        Ok(Turns {
+            best,
+            best_cost: solution.cost,
+            solution,
+            usable,
+            paths: Paths::new(alloc, instance)?,
+            removal: Removal::new(alloc),
+            draws: Draws::new(seed),
+            undone: Vec::new(alloc),
+            changes: TimeChanges::new(alloc),
+            before: SavedTimes::new(alloc),
+            beside: SavedTimes::new(alloc),
+        })
+    }
+
+    // Makes one turn. The state may cost more than before, up to `loose` parts of 1024 of the best
+    // cost above it.
+    pub(crate) fn turn(&mut self, instance: &Instance, loose: u128) -> Result<(), NoMemory> {
+        let above = self.best_cost.saturating_mul(loose).checked_div(1024);
+        let limit = self.best_cost.saturating_add(above.unwrap_or(0));
+        let limit = limit.max(self.solution.cost);
+        self.removal
+            .draw(instance, &self.solution.routes, &mut self.draws)?;
+        self.take_out(instance)?;
+        self.removal.order(&mut self.draws);
+        self.draw_belief();
+        if self.put_back(instance, limit)? {
+            self.keep_best()
+        } else {
+            self.restore(instance)
+        }
+    }
+
+    // Takes the drawn shipments out, and notes their legs.
+    fn take_out(&mut self, instance: &Instance) -> Result<(), NoMemory> {
+        self.before.save(&self.solution.groups)?;
+        self.undone.clear();
+        for taken in &self.removal.taken {
+            if let Some(route) = self.solution.routes.get(taken.shipment) {
+                note(&mut self.undone, taken.shipment, route)?;
+            }
+            self.solution.take_out(instance, taken.shipment)?;
+        }
+        for undone in &self.undone {
+            self.changes
+                .note_left(&self.solution.groups, undone.leg.group)?;
+        }
+        self.changes.widen(&mut self.solution)
+    }
+
+    // Draws in two of three turns how many parts of a truck's cost count by trucks on each arc;
+    // else all do.
+    fn draw_belief(&mut self) {
+        let doubts = self.draws.below(3) > 0;
+        for belief in self.paths.belief.iter_mut() {
+            *belief = PARTS;
+            if doubts {
+                let drawn = self.draws.below(PARTS.saturating_sub(LEAST_BELIEF) + 1);
+                *belief = LEAST_BELIEF.saturating_add(drawn);
+            }
+        }
+    }
+
+    // Puts the drawn shipments back. Answers whether all are, at a cost up to a limit.
+    fn put_back(&mut self, instance: &Instance, limit: u128) -> Result<bool, NoMemory> {
+        for at in 0..self.removal.taken.len() {
+            let Some(shipment) = self.removal.taken.get(at).map(|taken| taken.shipment) else {
+                return Ok(false);
+            };
+            if !self.put_one_back(instance, shipment)? || self.solution.cost > limit {
+                return Ok(false);
+            }
+        }
+        Ok(true)
+    }
+
+    // Puts one shipment back: on the cheapest path, or where the groups then have no times, on the
+    // cheapest one that makes no group leave later.
+    fn put_one_back(&mut self, instance: &Instance, shipment: usize) -> Result<bool, NoMemory> {
+        self.paths.list_groups(&self.solution.groups)?;
+        self.beside.save(&self.solution.groups)?;
+        if !self.put_on_path(instance, shipment, true)? {
+            return Ok(false);
+        }
+        if self.changes.narrow(&mut self.solution, shipment)? {
+            return Ok(true);
+        }
+        self.solution.take_out(instance, shipment)?;
+        self.beside.load(&mut self.solution.groups);
+        if !self.put_on_path(instance, shipment, false)? {
+            return Ok(false);
+        }
+        self.changes.narrow(&mut self.solution, shipment)
+    }
+
+    // Puts a shipment in on the cheapest path. Answers whether there is one.
+    fn put_on_path(
+        &mut self,
+        instance: &Instance,
+        number: usize,
+        shift: bool,
+    ) -> Result<bool, NoMemory> {
+        let (Some(usable), Some(shipment)) = (
+            self.usable.get(number),
+            instance.shipments().get(number),
+        ) else {
+            return Ok(false);
+        };
+        let groups = &self.solution.groups;
+        if !self.paths.find(instance, usable, groups, shipment, shift)? {
+            return Ok(false);
+        }
+        self.solution
+            .put_in(instance, usable, number, &self.paths.path)?;
+        Ok(true)
+    }
+
+    // Keeps the state, as the best one if it is.
+    fn keep_best(&mut self) -> Result<(), NoMemory> {
+        if self.solution.cost < self.best_cost {
+            self.best_cost = self.solution.cost;
+            copy_routes(&self.solution.routes, &mut self.best)?;
+        }
+        Ok(())
+    }
+
+    // Goes back to the state before the turn.
+    fn restore(&mut self, instance: &Instance) -> Result<(), NoMemory> {
+        for taken in &self.removal.taken {
+            self.solution.take_out(instance, taken.shipment)?;
+        }
+        for undone in &self.undone {
+            self.solution
+                .restore(instance, undone.shipment, undone.leg)?;
+        }
+        self.before.load(&mut self.solution.groups);
+        self.solution.list_free()
+    }
+}
+
+// Notes the legs of a shipment's route.
+fn note(undone: &mut Vec<Undone>, shipment: usize, route: &[GroupedLeg]) -> Result<(), NoMemory> {
+    for leg in route {
+        undone.push(Undone {
+            shipment,
+            leg: *leg,
+        })?;
+    }
+    Ok(())
+}
+
+// Copies routes over as many others.
+fn copy_routes(routes: &[Vec<GroupedLeg>], copies: &mut [Vec<GroupedLeg>]) -> Result<(), NoMemory> {
+    for (shipment, route) in routes.iter().enumerate() {
+        if let Some(copy) = copies.get_mut(shipment) {
+            copy.clear();
+            copy.extend_from_slice(route)?;
+        }
+    }
+    Ok(())
+}

@@ -1,0 +1,18 @@
+//! Laws on what a search has earned, without a body: any crate may cite them.
+ghost use Rattle.fp_session_history.specs.Enough.{EnoughBranches, EnoughRounds};
+
+/// A search that has earned what it shows hasn't used up its rounds where it may use as many as its
+/// instance has terminals, times one more than the latest due time.
+///
+/// Each round adds a point after 0 and at most at that time, where there was none.
+pub fn enough_rounds()
+    ensures { EnoughRounds }
+{}
+
+/// A search that has earned what it shows hasn't used up its branches where it may use 2 to the
+/// power of its instance's slack.
+///
+/// Each split divides the departures that a shipment has left at a terminal.
+pub fn enough_branches()
+    ensures { EnoughBranches }
+{}

@@ -1,2 +1,0 @@
-pub mod SoundSpans
-pub mod SpanPrices

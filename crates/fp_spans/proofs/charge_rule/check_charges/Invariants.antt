@@ -1,8 +1,0 @@
-use Rattle.std.proofs.Common.{take}
-use Rattle.std.specs.Prelude.{All}
-use Rattle.fp_spans.specs.SpanCharges.{ChargePays}
-use Rattle.fp_spans.proofs.charge_rule.check_charges.Given as goal
-
--- the charges of the spans so far pay
-abbrev pub invariant-loop-number : goal.invariant-loop-number
-invariant-loop-number l = All (ChargePays l.instance) (take l.number l.spans)

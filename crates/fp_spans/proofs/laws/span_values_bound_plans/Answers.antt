@@ -1,5 +1,0 @@
-use Rattle.fp_spans.proofs.SpanBounds.{span_leaf-bounds}
-use Rattle.fp_spans.proofs.laws.span_values_bound_plans.Goals as goal
-
-pub returns : goal.returns
-returns c = span_leaf-bounds

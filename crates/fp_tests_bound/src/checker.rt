@@ -1,0 +1,89 @@
+//! The plan that a certificate tells. What is accepted and rejected stands with the tests of the
+//! whole program.
+
+ghost use Rattle.std.specs.Prelude.{◌<◌, length};
+
+use fp_certificate::read;
+use fp_checker::{Rejected, check, plan_of};
+use fp_flatnet::Windows;
+use fp_model::{Leg, Plan};
+use fp_reader::{Tail, instance};
+use fp_records::records;
+use fp_tests_examples::{LINE, LINE_PROOF, TRIO, TRIO_PROOF};
+use std::alloc::Global;
+use std::test::Fail;
+
+// An instance with a certificate, the first route that it tells, and the first part that fails.
+type Row = (
+    &'static str,
+    &'static str,
+    Option<&'static [Leg]>,
+    Option<u32>,
+);
+
+const ROWS: [Row; 4] = [
+    (
+        LINE,
+        LINE_PROOF,
+        Some(&[Leg { arc: 0, depart: 0 }, Leg { arc: 1, depart: 4 }]),
+        None,
+    ),
+    (TRIO, TRIO_PROOF, Some(&[Leg { arc: 0, depart: 0 }]), None),
+    // The bound of a leaf is looked at for the claim alone.
+    (
+        TRIO,
+        "answer,optimal,180\nleg,S1,A,B,0,5\nleg,S2,A,B,0,5\nleg,S3,A,B,0,5\ntruck,A,B,0,3,15\nleaf,linear,0,plain\nend\n",
+        Some(&[Leg { arc: 0, depart: 0 }]),
+        Some(7),
+    ),
+    (LINE, "answer,infeasible,S1,9\nend\n", None, Some(8)),
+];
+
+// What is told of a certificate behind an instance: its plan, and whether it is accepted.
+#[derive(Drop)]
+struct Told {
+    plan: Result<Plan, Rejected>,
+    verdict: Result<(), Rejected>,
+}
+
+fn told_of(alloc: Global, text: &str) -> Result<Told, Fail>
+    requires { length text.now < 2000 }
+{
+    let lines = records(alloc, text.as_bytes())?;
+    let taken = instance(alloc, &lines, Tail::Certificate)?;
+    let certificate = read(alloc, &taken.instance, &lines, taken.used.min(lines.len()))?;
+    let windows = Windows::of(alloc, &taken.instance)?;
+    Ok(Told {
+        plan: plan_of(alloc, &taken.instance, &windows, &certificate),
+        verdict: check(alloc, &taken.instance, &windows, &certificate),
+    })
+}
+
+// Whether the first route of the plan that is told is this one. Where none is wanted, the certificate
+// tells no plan.
+fn begins_by(plan: &Result<Plan, Rejected>, route: Option<&[Leg]>) -> bool {
+    match plan {
+        Ok(plan) => match route {
+            Some(wanted) => match plan.routes.first() {
+                Some(first) => first.as_slice() == wanted,
+                None => false,
+            },
+            None => false,
+        },
+        Err(fault) => route.is_none() && *fault == Rejected::Part { number: 1 },
+    }
+}
+
+#[test]
+fn plans(rt: HostRuntime) -> Result<(), Fail> {
+    let alloc = rt.alloc();
+    for (instance, certificate, route, part) in ROWS {
+        let text = format!(in alloc; "{instance}{certificate}")?;
+        assert!(rt; text.len() < 2000);
+        let told = told_of(alloc, text.as_str())?;
+        assert!(rt; begins_by(&told.plan, route), "{text}");
+        let failing = part.map(|number| Rejected::Part { number });
+        assert!(rt; told.verdict.err() == failing, "{text}");
+    }
+    Ok(())
+}

@@ -1,0 +1,193 @@
+//! What leaves are worth under prices by spans, and which spans are refused.
+
+ghost use Rattle.std.specs.Prelude.{[], ◌≡◌, ◌-◌, ◌<◌, ◌≤◌, ◌^◌, ◌∷◌, All, IfOk, length};
+ghost use Rattle.fp_prices.specs.Tables.{HasKind};
+ghost use Rattle.fp_prices_spans.specs.SpanLists.{IsSpanList, IsSpanOf};
+
+use fp_flatnet::{Windows, initial};
+use fp_model::Instance;
+use fp_prices::{Kind, Leaf, LeafBound, NoMemory, RoundNetwork, Weight};
+use fp_prices_spans::{MOST_SPAN_WEIGHT, Span, SpanFault, check_charges, check_spans, span_bound};
+use fp_tests_examples::{TRIO, instance_of};
+use fp_tree::Side;
+use std::alloc::Global;
+use std::test::Fail;
+
+// An arc of truck cost 60 with trucks of 10, and two shipments of 5, which share one.
+const ROAD: &str =
+    "terminal,A\nterminal,B\narc,A,B,5,10,60,0\nshipment,S1,A,B,5,0,6\nshipment,S2,A,B,5,0,6\n";
+
+// A span of all classes of an arc, by which the first two shipments pay so much.
+fn two_pay(alloc: Global, arc: u32, w: u128, charge: u128) -> Result<Span, NoMemory>
+    ensures { IfOk result (λ span. span
+        ≡ record {
+          arc = arc;
+          point = 0;
+          until = 100;
+          money = w;
+          charge = charge;
+          weights = (record { shipment = 0; w = w }) ∷ (record { shipment = 1; w = w }) ∷ [];
+        }) }
+{
+    let weights = vec![in alloc; Weight { shipment: 0, w }, Weight { shipment: 1, w }]?;
+    Ok(Span {
+        arc,
+        point: 0,
+        until: 100,
+        money: w,
+        charge,
+        weights,
+    })
+}
+
+// A span of all classes of an arc, by which the first three shipments pay its money each.
+fn three_pay(alloc: Global, arc: u32, w: u128) -> Result<Span, NoMemory>
+    ensures { IfOk result (λ span. span
+        ≡ record {
+          arc = arc;
+          point = 0;
+          until = 100;
+          money = w;
+          charge = 0;
+          weights = (record { shipment = 0; w = w }) ∷ (record { shipment = 1; w = w }) ∷ (record { shipment = 2; w = w }) ∷ [];
+        }) }
+{
+    let weights = vec![in alloc;
+        Weight { shipment: 0, w },
+        Weight { shipment: 1, w },
+        Weight { shipment: 2, w },
+    ]?;
+    Ok(Span {
+        arc,
+        point: 0,
+        until: 100,
+        money: w,
+        charge: 0,
+        weights,
+    })
+}
+
+// What a leaf with the initial points is worth by spans that stand in order, and by linear prices
+// where none holds. `None` where a charge doesn't pay.
+fn listed_bound(
+    alloc: Global,
+    instance: &Instance,
+    spans: &[Span],
+    sides: &[Side],
+    forced: bool,
+) -> Result<Option<LeafBound>, NoMemory>
+    requires terminals { length instance.now.terminals ≤ 100 }
+    requires listed { IsSpanList instance.now spans.now }
+    requires exist { All (IsSpanOf instance.now) spans.now }
+    requires few { length spans.now < 2 ^ 32 - 1 }
+{
+    if check_charges(alloc, instance, spans)?.is_some() {
+        return Ok(None);
+    }
+    let windows = Windows::of(alloc, instance)?;
+    let points = initial(alloc, instance, &windows)?;
+    let round = RoundNetwork::of(alloc, instance, &points, 0)?;
+    let leaf = Leaf::of(alloc, &round, &windows, sides)?;
+    let bound = span_bound(alloc, &leaf, &[], spans, Kind::Linear, forced)?;
+    Ok(Some(bound))
+}
+
+// The same, or `None` where the spans are refused.
+fn spanned_bound(
+    alloc: Global,
+    instance: &Instance,
+    spans: &[Span],
+    sides: &[Side],
+    forced: bool,
+) -> Result<Option<LeafBound>, NoMemory>
+    requires terminals { length instance.now.terminals ≤ 100 }
+    requires exist { All (IsSpanOf instance.now) spans.now }
+    requires few { length spans.now < 2 ^ 32 - 1 }
+{
+    match check_spans(alloc, instance, spans)? {
+        None => listed_bound(alloc, instance, spans, sides, forced),
+        Some(_) => Ok(None),
+    }
+}
+
+#[test]
+fn three_ways(rt: HostRuntime) -> Result<(), Fail> {
+    let alloc = rt.alloc();
+    let instance = instance_of(alloc, TRIO)?;
+    assert!(rt; instance.terminals().len() <= 100);
+    assert!(rt; instance.arcs().len() == 3);
+    assert!(rt; instance.shipments().len() == 3);
+    let spans = vec![in alloc;
+        three_pay(alloc, 0, 60_000_000)?,
+        three_pay(alloc, 1, 30_000_000)?,
+        three_pay(alloc, 2, 30_000_000)?,
+    ]?;
+    // Each shipment pays a truck of its own, whichever way it goes.
+    let is = spanned_bound(alloc, &instance, &spans, &[], false)?;
+    assert_eq!(rt; is, Some(LeafBound::Value { value: 180_000_000 }));
+    // Without spans it pays five sixths.
+    let linear = spanned_bound(alloc, &instance, &[], &[], false)?;
+    assert_eq!(rt; linear, Some(LeafBound::Value { value: 150_000_000 }));
+    // By the straight arc alone the way round stays at linear prices.
+    let one = spanned_bound(alloc, &instance, &spans[..1], &[], false)?;
+    assert_eq!(rt; one, Some(LeafBound::Value { value: 150_000_000 }));
+    let barred = [
+        Side::Without {
+            shipment: 1,
+            arc: 0,
+        },
+        Side::Without {
+            shipment: 1,
+            arc: 1,
+        },
+    ];
+    let empty = spanned_bound(alloc, &instance, &spans, &barred, false)?;
+    assert_eq!(rt; empty, Some(LeafBound::Empty { shipment: 1 }));
+    Ok(())
+}
+
+#[test]
+fn charged_once(rt: HostRuntime) -> Result<(), Fail> {
+    let alloc = rt.alloc();
+    assert!(rt; ROAD.len() < 2000);
+    let instance = instance_of(alloc, ROAD)?;
+    assert!(rt; instance.terminals().len() <= 100);
+    assert!(rt; instance.arcs().len() == 1);
+    assert!(rt; instance.shipments().len() == 2);
+    // Both pay a truck, and the charge is the one that they don't need.
+    let charged = vec![in alloc; two_pay(alloc, 0, 60_000_000, 60_000_000)?]?;
+    let is = spanned_bound(alloc, &instance, &charged, &[], false)?;
+    assert_eq!(rt; is, Some(LeafBound::Value { value: 60_000_000 }));
+    // Where their one class is forced, it is paid whole, and nothing is taken off.
+    let forced = spanned_bound(alloc, &instance, &charged, &[], true)?;
+    assert_eq!(rt; forced, Some(LeafBound::Value { value: 60_000_000 }));
+    // A charge that doesn't pay is refused.
+    let less = vec![in alloc; two_pay(alloc, 0, 60_000_000, 59_999_999)?]?;
+    assert_eq!(rt; spanned_bound(alloc, &instance, &less, &[], false)?, None);
+    Ok(())
+}
+
+#[test]
+fn refused_spans(rt: HostRuntime) -> Result<(), Fail> {
+    let alloc = rt.alloc();
+    assert!(rt; ROAD.len() < 2000);
+    let instance = instance_of(alloc, ROAD)?;
+    assert!(rt; instance.arcs().len() == 1);
+    let half = MOST_SPAN_WEIGHT / 2;
+    let twice = vec![in alloc; two_pay(alloc, 0, 1, 0)?, two_pay(alloc, 0, 1, 0)?]?;
+    assert_eq!(rt;
+        check_spans(alloc, &instance, &twice)?,
+        Some(SpanFault::Order)
+    );
+    let heavy = vec![in alloc; two_pay(alloc, 0, half, 0)?]?;
+    assert_eq!(rt;
+        check_spans(alloc, &instance, &heavy)?,
+        Some(SpanFault::Weights)
+    );
+    let dear = vec![in alloc; two_pay(alloc, 0, half - 1, 0)?]?;
+    assert_eq!(rt;
+        check_spans(alloc, &instance, &dear)?,
+        Some(SpanFault::Money(0))
+    );
+    Ok(())
+}

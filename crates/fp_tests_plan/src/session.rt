@@ -1,0 +1,111 @@
+//! Searches from the direct plan, with ample budgets and with none.
+ghost use Rattle.fp_session_history.specs.Budgets.{IsBudget};
+
+use fp_certificate_lines::{Answer, Spent};
+use fp_flatnet::{Verdict, Windows, direct, feasible};
+use fp_model::Instance;
+use fp_session::{Budget, Ending, NoMemory, Session, Step};
+use fp_tests_examples::{LINE, PAIR, TRIO, instance_of};
+use std::alloc::Global;
+use std::test::Fail;
+
+// A budget that small instances don't use up.
+const AMPLE: Budget = Budget {
+    rounds: 400,
+    branches: 4_000,
+};
+
+// The search of an instance from its direct plan, where it has one.
+fn session_of(
+    alloc: Global,
+    instance: Instance,
+    budget: Budget,
+) -> Result<Option<Session>, NoMemory>
+    requires { IsBudget budget }
+{
+    let Verdict::All = feasible(alloc, &instance)? else {
+        return Ok(None);
+    };
+    let start = direct(alloc, &instance)?;
+    let windows = Windows::of(alloc, &instance)?;
+    Ok(Some(Session::new(alloc, instance, windows, start, budget)?))
+}
+
+// What the first few steps of a search do.
+fn first_steps(alloc: Global, session: &mut Session) -> Result<Vec<Step>, NoMemory> {
+    let mut steps = Vec::new(alloc);
+    for _ in 0..20 {
+        steps.push(session.step(alloc)?)?;
+    }
+    Ok(steps)
+}
+
+#[test]
+fn answers(rt: HostRuntime) -> Result<(), Fail> {
+    let alloc = rt.alloc();
+    let no_rounds = Budget { rounds: 0, ..AMPLE };
+    let no_branches = Budget {
+        branches: 0,
+        ..AMPLE
+    };
+    for (text, budget, answer) in [
+        (LINE, AMPLE, Answer::Optimal { cost: 300 }),
+        (PAIR, AMPLE, Answer::Optimal { cost: 109 }),
+        (TRIO, AMPLE, Answer::Optimal { cost: 180 }),
+        (
+            LINE,
+            no_rounds,
+            Answer::Unfinished {
+                cost: 300,
+                bound: 200,
+                spent: Spent::Rounds,
+            },
+        ),
+        (
+            TRIO,
+            no_branches,
+            Answer::Unfinished {
+                cost: 180,
+                bound: 150,
+                spent: Spent::Branches,
+            },
+        ),
+    ] {
+        assert!(rt; text.len() < 2000);
+        assert!(rt; budget.rounds <= 400 && budget.branches <= 4_000);
+        let instance = instance_of(alloc, text)?;
+        let Some(session) = session_of(alloc, instance, budget)? else {
+            assert!(rt; false);
+            return Ok(());
+        };
+        let solved = session.solve(alloc)?;
+        assert_eq!(rt; solved.certificate.answer, answer, "{text}");
+    }
+    Ok(())
+}
+
+#[test]
+fn steps(rt: HostRuntime) -> Result<(), Fail> {
+    let alloc = rt.alloc();
+    let done = Step::Done {
+        ending: Ending::Optimal,
+    };
+    for (text, step) in [
+        (LINE, Step::Round),
+        (LINE, Step::Closed),
+        (PAIR, Step::Better),
+        (TRIO, Step::Branch),
+        (TRIO, done),
+    ] {
+        assert!(rt; text.len() < 2000);
+        let instance = instance_of(alloc, text)?;
+        let Some(mut session) = session_of(alloc, instance, AMPLE)? else {
+            assert!(rt; false);
+            return Ok(());
+        };
+        let steps = first_steps(alloc, &mut session)?;
+        assert!(rt; steps.contains(&step), "{text}");
+        assert_eq!(rt; steps.last(), Some(&done));
+    }
+    Ok(())
+}

@@ -1,0 +1,60 @@
+"""What may be said of an answer's cost, in words: no more than what `check` said of it."""
+
+from collections import Counter
+
+NOT_CHECKED = "Not checked: hand the instance and the answer to check, and give its answer as a third file."
+PROVED = {
+    "direct": "Checked: the legs are a plan of this cost, with these trucks. Nothing is said of other plans.",
+    "optimal": "Checked and proved: no plan is cheaper, with departures in any fraction of the unit of time.",
+    "unfinished": "Checked and proved: no plan costs less than the bound, with departures in any fraction of the unit of time.",
+    "infeasible": "Checked and proved: no plan exists, with departures in any fraction of the unit of time.",
+}
+
+
+def verdict(checked):
+    """What `check` said of the answer (its fields, or None), in a sentence, with how it is shown."""
+    if checked is None:
+        return "", NOT_CHECKED
+    if checked[0] == "accepted":
+        return "yes", PROVED[checked[1]]
+    return "no", f"Not accepted by check ({','.join(checked)}): nothing on this page is proved."
+
+
+def gap_words(cost, bound, money):
+    """How far a cost is above the cheapest one at most, given a number under which none is. Percent are rounded up."""
+    if cost <= bound:
+        return "the cheapest there is"
+    if not bound:
+        return f"at most {money.words(cost)} above the cheapest there can be"
+    tenths = -(-1000 * (cost - bound) // bound)
+    return f"at most {tenths // 10:,}.{tenths % 10} % above the cheapest there can be"
+
+
+def claim_words(answer, money):
+    """What an answer says of its cost beside others, or nothing."""
+    if answer[1] == "optimal":
+        return "the cheapest there is"
+    if answer[1] == "unfinished":
+        return gap_words(int(answer[2]), int(answer[3]), money)
+    return ""
+
+
+def cost_words(answer, checked, money):
+    """The cost, with what is proved of it, or what the answer says of it and nobody proved."""
+    cost, claim = f"Cost {money.words(int(answer[2]))}", claim_words(answer, money)
+    bound = f" (no plan costs less than {money.words(int(answer[3]))})" if answer[1] == "unfinished" else ""
+    if not claim or checked is not None and checked[0] != "accepted":
+        return f"{cost}."
+    if checked is None:
+        return f"{cost}. The answer says that it is {claim}{bound}, and that is not checked."
+    return f"{cost}: {claim}, proved{bound}."
+
+
+def certificate_words(timetable):
+    """What stands behind the claim: how much of what, or nothing."""
+    counts = Counter(it.kind for it in timetable.claims)
+    if not counts["leaf"]:
+        return ""
+    names = (("point", "time point", "time points"), ("table", "table", "tables"), ("split", "split", "splits"), ("leaf", "leaf", "leaves"))
+    parts = [f"{counts[kind]:,} {one if counts[kind] == 1 else many}" for kind, one, many in names if counts[kind]]
+    return f"The certificate has {', '.join(parts)}."

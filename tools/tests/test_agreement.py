@@ -1,0 +1,56 @@
+"""Small instances planned by the proved program, and what it answers of each: no two answers gainsay each other."""
+
+import pathlib
+import subprocess
+import sys
+import unittest
+
+sys.dont_write_bytecode = True
+sys.path.insert(0, str(pathlib.Path(__file__).resolve().parent))
+from programs import TOP, proved  # noqa: E402
+
+sys.path.insert(0, str(TOP / "bench"))
+from instances import generated, hubs, line  # noqa: E402
+
+INSTANCES = {
+    "6x15": generated(1, 6, 15),
+    "8x20": generated(2, 8, 20),
+    "line": line(6, 20, 120),
+    "hub": hubs(1, 9, 20, 120),
+    "two hubs": hubs(2, 4, 15, 720),
+}
+SEARCHES = ("--rounds 0 --branches 0", "--rounds 5 --branches 2", "--rounds 0 --branches 0 --spans")
+
+
+@unittest.skipIf(proved() is None, "the proved program of these sources isn't here")
+class Agreement(unittest.TestCase):
+    def prints(self, words, text):
+        """The fields of the first line, and the whole."""
+        done = subprocess.run([proved(), *words.split()], input=text.encode(), capture_output=True)
+        self.assertIn(done.returncode, (0, 10), words)
+        return done.stdout.decode().splitlines()[0].split(","), done.stdout.decode()
+
+    def test_plans(self):
+        for name, text in INSTANCES.items():
+            direct = int(self.prints("direct", text)[0][2])
+            bound = int(self.prints("bound", text)[0][2])
+            for options in SEARCHES:
+                with self.subTest(name=name, options=options):
+                    self.agrees(text, options, direct, bound)
+
+    def agrees(self, text, options, direct, bound):
+        (_, kind, cost, *rest), answer = self.prints(f"plan {options}", text)
+        self.assertEqual(self.prints("check", text + answer)[0], ["accepted", kind])
+        self.assertLessEqual(int(cost), direct)
+        self.assertLessEqual(bound, int(cost))
+        if kind == "unfinished":
+            self.assertLess(int(rest[0]), int(cost))
+        trucks = sum(int(it.split(",")[4]) for it in answer.splitlines() if it.startswith("truck,"))
+        fleet = self.prints("fleet", text + answer)
+        self.assertLessEqual(int(fleet[0][1]), trucks)
+        needs = sum(int(it.split(",")[2]) for it in fleet[1].splitlines() if it.startswith("need,"))
+        self.assertEqual(needs, int(fleet[0][1]))
+
+
+if __name__ == "__main__":
+    unittest.main()
