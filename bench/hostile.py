@@ -9,6 +9,11 @@ PROGRAM is the built program; without it the proved one in crates/freight/out or
 - `later` and `first`: a chain of 100,000 splits by time; all nodes but the leaves lie on the second sides, or on the first.
 - `in turn`: a chain of 100,000 splits, on the second sides, by times at two terminals in turn.
 - `records` and `commas`: 134,217,728 bytes of records of one byte, and 134,217,727 of one record of empty fields.
+- `last`, `fields` and `both`: as many bytes of one record whose last field alone isn't empty, or whose first; and of records of one
+  byte, with one of three fields at the end.
+- `quotes` and `quoted`: of quotes alone, and of one field in quotes.
+- `ends`, `units`, `answers` and `leaves`: of lines that are known, the first of which can't stand where it does.
+- `shares` and `weights`: of a certificate without a fault up to its last line, which is of no kind.
 """
 import os
 import sys
@@ -67,6 +72,48 @@ def commas():
     return "," * (BYTES - 1)
 
 
+def last():
+    """One record, all of whose fields but the last are empty, so it has them all."""
+    return "," * (BYTES - 1) + "a"
+
+
+def fields():
+    """One record, all of whose fields but the first are empty and dropped."""
+    return "a," * (BYTES // 2)
+
+
+def both():
+    """Records of one byte, and one whose fields are more than the others' together would leave room for."""
+    return "a\n" * (BYTES // 2 - 2) + ",,a\n"
+
+
+def quotes():
+    """One field of quotes that never ends."""
+    return '"' * BYTES
+
+
+def quoted():
+    """One field in quotes."""
+    return '"' + "a" * (BYTES - 2) + '"'
+
+
+def lines_of(line):
+    """As many of one line as the limit of bytes lets stand."""
+    return lambda: (line + "\n") * (BYTES // (len(line) + 1))
+
+
+def faultless(*lines):
+    """A certificate of one table with as many of these lines as the limit lets stand, and a line of no kind."""
+
+    def make():
+        front = text_of(ONE_ARC, ["answer,unfinished,104,0,branches"], ONE_LEG, ["table,1"])
+        body = text_of(lines)
+        return front + body * ((BYTES - len(front) - 2) // len(body)) + "a\n"
+
+    return make
+
+
+# Where no answer is named, the last record is of no kind.
 CASES = (
     ("spans", spans, "accepted,unfinished\n"),
     ("later", later, "accepted,unfinished\n"),
@@ -74,6 +121,17 @@ CASES = (
     ("in turn", in_turn, "accepted,unfinished\n"),
     ("records", records, "refused,1,1\n"),
     ("commas", commas, "refused,1,26\n"),
+    ("last", last, "refused,1,1\n"),
+    ("fields", fields, "refused,1,1\n"),
+    ("both", both, "refused,1,1\n"),
+    ("quotes", quotes, "refused,1,1\n"),
+    ("quoted", quoted, "refused,1,1\n"),
+    ("ends", lines_of("end"), "refused,1,1\n"),
+    ("units", lines_of("unit,1"), "refused,1,1\n"),
+    ("answers", lines_of("answer"), "refused,1,21\n"),
+    ("leaves", lines_of("leaf,,,a"), "refused,1,1\n"),
+    ("shares", faultless("share,A,B,0,0"), None),
+    ("weights", faultless("share,A,B,0,0", "weight,S1,0"), None),
 )
 
 
@@ -82,6 +140,8 @@ def main():
     print("what       bytes seconds megabytes")
     for what, make, wanted in CASES:
         text = make()
+        if wanted is None:
+            wanted = f"refused,{text.count(chr(10))},21\n"
         printed, took, megabytes = measured([program, "check"], text)
         if printed != wanted:
             sys.exit(f"{what}: {printed!r} where {wanted!r} was expected")

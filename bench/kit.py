@@ -57,6 +57,18 @@ def planned(words, text):
     return (*found, seconds, megabytes), printed
 
 
+def check_answer(program, name, text, printed):
+    """Hands an answer to an instance back to the program's `check`; the run ends where it isn't accepted."""
+    checked, _, _ = measured([program, "check"], text + printed)
+    if not checked.startswith("accepted,"):
+        sys.exit(f"{name}: check says {checked!r}")
+
+
+def is_wanted(name):
+    """Whether a row is to be run: where ONLY is set, those whose names have its word."""
+    return os.environ.get("ONLY", "") in name
+
+
 def row_of(cost, bound, ending, seconds, megabytes):
     """Figures as they stand in a table; nothing was found where there is no cost."""
     return f"{'-' if cost is None else cost:>8} {bound:>8} {ending:9} {seconds:8.1f} {megabytes:6.0f}"

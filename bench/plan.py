@@ -15,7 +15,7 @@ import sys
 
 sys.path.insert(0, os.path.dirname(os.path.abspath(__file__)))
 from instances import cases, generated
-from kit import HEADS, TOP, built_program, measured, planned, row_of
+from kit import HEADS, TOP, built_program, check_answer, is_wanted, planned, row_of
 
 SPANS = "--spans"
 SHORT = ["--rounds", "40", "--branches", "100"]
@@ -40,14 +40,11 @@ def main():
     program = built_program()
     others = [sys.argv[2:]] if len(sys.argv) > 2 else []
     print(" | ".join([f"{'instance':34} {HEADS}"] + [HEADS] * len(others)))
-    only = os.environ.get("ONLY", "")
     for name, text, options in all_cases():
-        if only not in name:
+        if not is_wanted(name):
             continue
         figures, printed = planned([program, "plan"] + options, text)
-        checked, _, _ = measured([program, "check"], text + printed)
-        if not checked.startswith("accepted,"):
-            sys.exit(f"{name}: check says {checked!r}")
+        check_answer(program, name, text, printed)
         rows = [row_of(*figures)]
         if SPANS in options:
             words = ["plan"] + [word for word in options if word != SPANS]

@@ -58,7 +58,7 @@ trial-status p s told (optimal cost same plans) = inl (ap search_status same)
 trial-status p s told (unfinished cost bound spent same bounds) = inr (ap search_status same, (spent, bounds.scarce))
 
 ShowsAlone-AloneStatus : (o : Order) (s : Shown) → ShowsAlone o s → AloneStatus o (status_of s)
-ShowsAlone-AloneStatus (Trial seed terminals shipments) (shown.Trial shown_seed p solved) told =
+ShowsAlone-AloneStatus (Trial seed terminals shipments) (shown.Trial shown_seed None p solved) told =
     trial-status (generated seed terminals shipments) solved told.2 (search-end (generated seed terminals shipments) every trial_budget solved.certificate.answer told.2.says)
 ShowsAlone-AloneStatus (Trial seed terminals shipments) _ told = absurd told
 ShowsAlone-AloneStatus _ s told = absurd told

@@ -90,7 +90,7 @@ both-whole _ b = search-whole b
 
 shown-whole : (s : Shown) → (s ≡ shown.Nothing → ⊥) → reach_of (status_of s) ≡ whole
 shown-whole (shown.Planned p x) some = search-whole x.certificate.answer
-shown-whole (shown.Trial seed p x) some = search-whole x.certificate.answer
+shown-whole (shown.Trial seed failed p x) some = search-whole x.certificate.answer
 shown-whole (shown.Replanned p kept x) some = search-whole x.certificate.answer
 shown-whole (shown.Quoted p x y) some = both-whole x.certificate.answer y.certificate.answer
 shown-whole shown.Nothing some = absurd (some refl)
@@ -106,7 +106,7 @@ Writes-Answers taken o before after old new s text told is appends =
 status_of_words : (s : Shown) → status_of s ≡ status.BadWords → s ≡ shown.BadWords
 status_of_words shown.BadWords same = refl
 status_of_words (shown.Planned p x) same = absurd (search-no_other x.certificate.answer status.BadWords (λ e. cc e) (λ e. cc e) same)
-status_of_words (shown.Trial seed p x) same = absurd (search-no_other x.certificate.answer status.BadWords (λ e. cc e) (λ e. cc e) same)
+status_of_words (shown.Trial seed failed p x) same = absurd (search-no_other x.certificate.answer status.BadWords (λ e. cc e) (λ e. cc e) same)
 status_of_words (shown.Replanned p kept x) same = absurd (search-no_other x.certificate.answer status.BadWords (λ e. cc e) (λ e. cc e) same)
 status_of_words (shown.Quoted p x y) same = absurd (both-no_other x.certificate.answer y.certificate.answer status.BadWords (λ e. cc e) (λ e. cc e) same)
 status_of_words _ same = let g = same in cc

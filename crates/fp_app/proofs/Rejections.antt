@@ -74,7 +74,7 @@ ShowsNo_answers (Some o) input new number told = ShowsNo_of o input number (Answ
 status_of_rejected : (s : Shown) → status_of s ≡ status.Rejected → (number : ℕ) × (s ≡ shown.RejectedPart number)
 status_of_rejected (shown.RejectedPart number) same = (number, refl)
 status_of_rejected (shown.Planned p x) same = absurd (search-no_other x.certificate.answer status.Rejected (λ e. cc e) (λ e. cc e) same)
-status_of_rejected (shown.Trial seed p x) same = absurd (search-no_other x.certificate.answer status.Rejected (λ e. cc e) (λ e. cc e) same)
+status_of_rejected (shown.Trial seed failed p x) same = absurd (search-no_other x.certificate.answer status.Rejected (λ e. cc e) (λ e. cc e) same)
 status_of_rejected (shown.Replanned p kept x) same = absurd (search-no_other x.certificate.answer status.Rejected (λ e. cc e) (λ e. cc e) same)
 status_of_rejected (shown.Quoted p x y) same = absurd (both-no_other x.certificate.answer y.certificate.answer status.Rejected (λ e. cc e) (λ e. cc e) same)
 status_of_rejected _ same = let g = same in cc

@@ -8,7 +8,7 @@ use Rattle.fp_base_lists.specs.Elements.{AnyByRecursion}
 use Rattle.fp_base_lists.proofs.Ceilings.{div_ceil_mono}
 use Rattle.fp_model.specs.declared.parts.Leg.{Leg}
 use Rattle.fp_model.specs.Costs.{cost}
-use Rattle.fp_model.specs.Problem.{Problem, horizon}
+use Rattle.fp_model.specs.Problem.{IsValid, Problem, horizon}
 use Rattle.fp_timenodes.specs.declared.places.AddedPoint.{AddedPoint}
 use Rattle.fp_timenodes.proofs.PointLimit.{length_distinct_new}
 use Rattle.fp_flatnet.specs.Belonging.{BelongsTo}
@@ -26,14 +26,18 @@ use Rattle.fp_certificate_lines.specs.declared.certificates.Answer.TheVariants.{
 use Rattle.fp_certificate_lines.specs.declared.certificates.Node.{Node}
 use Rattle.fp_certificate_lines.specs.declared.certificates.Node.TheVariants as node
 use Rattle.fp_certificate_lines.specs.declared.certificates.Spent.TheVariants.{Branches, Rounds}
+use Rattle.fp_certificate_lines.specs.Lengths.{TextsAreShort}
 use Rattle.fp_certificate_lines.specs.Ranges.{IsInRange}
 use Rattle.fp_certificate_lines.specs.Statements.{Statement}
 use Rattle.fp_certificate_rules.specs.Accepted.{Applies, Part}
 use Rattle.fp_certificate_rules.specs.Claims.{ClaimsWithin, NoPlanWithinCheaper}
+use Rattle.fp_certificate_rules.specs.LineCounts.{HasFewLines}
 use Rattle.fp_certificate_rules.specs.Plans.{HasPlan, routes_of, stated_cost}
 use Rattle.fp_certificate_rules.specs.Units.{IsGreatestUnit}
 use Rattle.fp_certificate_rules.proofs.Claims.{AcceptedClaims_hold}
+use Rattle.fp_certificate_rules.proofs.LineCounts.{AcceptedAreFew_hold, few-bytes}
 use Rattle.fp_certificate_rules.proofs.Multiples.{rounded_up-more}
+use Rattle.fp_duals_leaves.proofs.WrittenLines.{PriceLinesAreWritten_hold}
 use Rattle.fp_certificate.specs.Readable.{Allows, WrittenReadsBack}
 use Rattle.fp_session_history.specs.declared.budgets.Budget.{Budget}
 use Rattle.fp_session_history.specs.declared.endings.Left.{Left}
@@ -48,7 +52,7 @@ use Rattle.fp_session.specs.Certificates.{IsPricedBy}
 use Rattle.fp_session.specs.Sessions.{SessionModel}
 use Rattle.fp_session.specs.Solved.{IsSolved}
 use Rattle.fp_session.specs.Starts.{IsSessionOf}
-use Rattle.fp_app.specs.Searches.{AreInTime, IsPricedAs, IsSearched, SaysOfPlans}
+use Rattle.fp_app.specs.Searches.{AreInTime, IsPricedAs, IsSearched, IsShortText, SaysOfPlans}
 use Rattle.fp_app.specs.Wanted.{AreWindowsFor, IsFirstPlan, IsWanted, NoneWantedCheaper, Wanted, WantedExists, every, keeping}
 use Rattle.fp_app.proofs.OneKeptTable.{AreKeptWindowsOf-unique}
 use Rattle.fp_app.proofs.OneTable.{AreWindowsOf_unique}
@@ -120,10 +124,10 @@ module _ (p : Problem) (wanted : Wanted) (table : WindowTable) (budget : Budget)
   }
   says-by _ _ same cause claims = absurd cause
 
--- an answer of a search has a timetable, and any lines may stand under it
-has-timetable : (p : Problem) (wanted : Wanted) (budget : Budget) (a : Answer) → SaysOfPlans p wanted budget a → Applies a Part.Plan × Applies a Part.Cost × Applies a Part.Trucks
-has-timetable p wanted budget (Optimal cost) says = (tt, tt, tt)
-has-timetable p wanted budget (Unfinished cost bound spent) says = (tt, tt, tt)
+-- an answer of a search has a timetable and a tree, and any lines may stand under it
+has-timetable : (p : Problem) (wanted : Wanted) (budget : Budget) (a : Answer) → SaysOfPlans p wanted budget a → Applies a Part.Plan × Applies a Part.Cost × Applies a Part.Trucks × Applies a Part.Tree
+has-timetable p wanted budget (Optimal cost) says = (tt, tt, tt, tt)
+has-timetable p wanted budget (Unfinished cost bound spent) says = (tt, tt, tt, tt)
 has-timetable p wanted budget _ says = absurd says
 
 allows : (p : Problem) (wanted : Wanted) (budget : Budget) (a : Answer) (c : Statement) → SaysOfPlans p wanted budget a → Allows a c
@@ -145,10 +149,18 @@ is-wanted : (p : Problem) (wanted : Wanted) (table : WindowTable) (c : Statement
 is-wanted p every table c windows has = tt
 is-wanted p (keeping kept) table c windows has = let some : 1 ≤ 1 = omega arith in (windows.tell 1 (routes_of p c) some has.plan).0 has.within
 
+-- the text of the certificate is short: its lines are few, and so are those of its prices
+short-text : (p : Problem) (table : WindowTable) (budget : Budget) (started : ℕ) (s : Solution) → IsValid p → TextsAreShort p → IsSolved p table budget started s → Applies s.certificate.answer Part.Tree →
+    IsShortText p s.certificate
+short-text p table budget started s valid texts solved applies =
+    let c : Statement = s.certificate in
+    let few : HasFewLines p c = AcceptedAreFew_hold p table c valid solved.range solved.accepted applies in
+    omega (arith, texts c solved.range solved.countable, few-bytes p c few (solved.accepted Part.Tree applies), PriceLinesAreWritten_hold p c solved.range.beside, solved.lines)
+
 -- what a search shows that began with the first plan
-solved-searched : (p : Problem) (wanted : Wanted) (table : WindowTable) (budget : Budget) (spans : Bool) (first : List (List Leg)) (s : Solution) → AreWindowsFor p wanted table → IsFirstPlan p wanted first → WrittenReadsBack p →
+solved-searched : (p : Problem) (wanted : Wanted) (table : WindowTable) (budget : Budget) (spans : Bool) (first : List (List Leg)) (s : Solution) → AreWindowsFor p wanted table → IsFirstPlan p wanted first → WrittenReadsBack p → TextsAreShort p →
     IsSolved p table budget (cost p first) s → IsPricedAs p spans s.certificate → IsSearched p wanted budget spans s
-solved-searched p wanted table budget spans first s windows begins back solved priced =
+solved-searched p wanted table budget spans first s windows begins back texts solved priced =
     let belongs : BelongsTo p table = windows-belong p wanted table windows in
     let claims : ClaimsWithin p (windows_in table) s.certificate.answer = AcceptedClaims_hold.within p table s.certificate belongs.valid solved.range solved.accepted in
     let says : SaysOfPlans p wanted budget s.certificate.answer = says-by p wanted table budget (cost p first) s windows solved.range solved.earned s.left s.certificate.answer refl solved.earned.cause claims in
@@ -160,6 +172,7 @@ solved-searched p wanted table budget spans first s windows begins back solved p
       is_wanted = is-wanted p wanted table s.certificate windows (solved.accepted Part.Plan parts.0);
       accepted = solved.accepted;
       back = back s.certificate solved.range solved.countable (allows p wanted budget s.certificate.answer s.certificate says);
+      short = short-text p table budget (cost p first) s belongs.valid texts solved parts.3;
       scale = solved.scale;
       priced = priced;
       first = first;
@@ -181,14 +194,14 @@ priced-as p false own c none priced = subst (λ (o : Option ℕ). IsPricedBy o c
 
 -- what a session of the instance shows
 pub session-searched : (p q : Problem) (wanted : Wanted) (table : WindowTable) (budget : Budget) (spans : Bool) (first : List (List Leg)) (m : SessionModel) (s : Solution) → AreWindowsFor p wanted table → IsFirstPlan p wanted first →
-    WrittenReadsBack p → q ≡ p → IsChosen q table first budget spans m → IsSolved m.instance m.windows m.budget m.started s → IsPricedBy m.prices.unit s.certificate → IsSearched p wanted budget spans s
-session-searched p q wanted table budget spans first m s windows begins back same chosen solved priced =
+    WrittenReadsBack p → TextsAreShort p → q ≡ p → IsChosen q table first budget spans m → IsSolved m.instance m.windows m.budget m.started s → IsPricedBy m.prices.unit s.certificate → IsSearched p wanted budget spans s
+session-searched p q wanted table budget spans first m s windows begins back texts same chosen solved priced =
     let of : IsSessionOf q table first budget m = chosen.of in
     let one : IsSolved p m.windows m.budget m.started s = subst (λ (x : Problem). IsSolved x m.windows m.budget m.started s) (of.instance ∙ same) solved in
     let two : IsSolved p table m.budget m.started s = subst (λ (x : WindowTable). IsSolved p x m.budget m.started s) of.windows one in
     let three : IsSolved p table budget m.started s = subst (λ (x : Budget). IsSolved p table x m.started s) of.budget two in
     let begun : m.started ≡ cost p first = of.started ∙ ap (λ (x : Problem). cost x first) same in
-    solved-searched p wanted table budget spans first s windows begins back (subst (λ (n : ℕ). IsSolved p table budget n s) begun three)
+    solved-searched p wanted table budget spans first s windows begins back texts (subst (λ (n : ℕ). IsSolved p table budget n s) begun three)
     (priced-as p spans m.prices.unit s.certificate
     (subst (λ (x : Problem). MatchBool spans (IsSomeAnd m.prices.unit (IsGreatestUnit x)) (m.prices.unit ≡ None)) same chosen.unit) priced)
 

@@ -109,7 +109,7 @@ ShowsFault_answers (Some o) input new ordinal code told = ShowsFault_of o input 
 status_of_bad_input : (s : Shown) → status_of s ≡ status.BadInput → (ordinal : ℕ) × (code : ℕ) × (s ≡ shown.BadInput ordinal code)
 status_of_bad_input (shown.BadInput ordinal code) same = (ordinal, code, refl)
 status_of_bad_input (shown.Planned p x) same = absurd (search-no_other x.certificate.answer status.BadInput (λ e. cc e) (λ e. cc e) same)
-status_of_bad_input (shown.Trial seed p x) same = absurd (search-no_other x.certificate.answer status.BadInput (λ e. cc e) (λ e. cc e) same)
+status_of_bad_input (shown.Trial seed failed p x) same = absurd (search-no_other x.certificate.answer status.BadInput (λ e. cc e) (λ e. cc e) same)
 status_of_bad_input (shown.Replanned p kept x) same = absurd (search-no_other x.certificate.answer status.BadInput (λ e. cc e) (λ e. cc e) same)
 status_of_bad_input (shown.Quoted p x y) same = absurd (both-no_other x.certificate.answer y.certificate.answer status.BadInput (λ e. cc e) (λ e. cc e) same)
 status_of_bad_input _ same = let g = same in cc
@@ -230,9 +230,9 @@ ShowsDone_input Check input s told done = ShowsYes_check input s (leading_instan
 
 -- what an order shows that is done without an input
 ShowsDone_alone : (o : Order) (input : List ℕ) (s : Shown) → ShowsAlone o s → status_of s ≡ status.Done → ShowsDone (Some o) input s
-ShowsDone_alone (Trial seed terminals shipments) input (shown.Trial shown_seed q x) told done =
-    subst (λ (n : ℕ). ShowsOptimal trial_budget false (Ok (generated seed terminals shipments)) (shown.Trial seed) (shown.Trial n q x)) (sym told.0)
-    (optimal-end trial_budget false (Ok (generated seed terminals shipments)) (shown.Trial seed) (generated seed terminals shipments) q x refl told.1 told.2
+ShowsDone_alone (Trial seed terminals shipments) input (shown.Trial shown_seed None q x) told done =
+    subst (λ (n : ℕ). ShowsOptimal trial_budget false (Ok (generated seed terminals shipments)) (shown.Trial seed None) (shown.Trial n None q x)) (sym told.0)
+    (optimal-end trial_budget false (Ok (generated seed terminals shipments)) (shown.Trial seed None) (generated seed terminals shipments) q x refl told.1 told.2
     (search-end (generated seed terminals shipments) every trial_budget x.certificate.answer told.2.says) done)
 ShowsDone_alone (Trial seed terminals shipments) input _ told done = absurd told
 ShowsDone_alone _ input s told done = absurd told
@@ -316,7 +316,7 @@ ShowsNone_input Check input s told none =
 
 -- nor is an order that reads no input
 alone-not_none : (o : Order) (s : Shown) → ShowsAlone o s → status_of s ≡ status.Infeasible → ⊥
-alone-not_none (Trial seed terminals shipments) (shown.Trial shown_seed q x) told none =
+alone-not_none (Trial seed terminals shipments) (shown.Trial shown_seed None q x) told none =
     search-no_other x.certificate.answer status.Infeasible (λ e. cc e) (λ e. cc e) none
 alone-not_none (Trial seed terminals shipments) _ told none = told
 alone-not_none _ s told none = told
@@ -368,9 +368,9 @@ ShowsOpen_input Check input s told ends =
     (λ c read shows. check-not_open (scaled p c) c s shows ends))
 
 ShowsOpen_alone : (o : Order) (input : List ℕ) (s : Shown) → ShowsAlone o s → status_of s ≡ status.Unfinished → ShowsOpen (Some o) input s
-ShowsOpen_alone (Trial seed terminals shipments) input (shown.Trial shown_seed q x) told ends =
-    subst (λ (n : ℕ). ShowsUnfinished trial_budget false (Ok (generated seed terminals shipments)) (shown.Trial seed) (shown.Trial n q x)) (sym told.0)
-    (unfinished-end trial_budget false (Ok (generated seed terminals shipments)) (shown.Trial seed) (generated seed terminals shipments) q x refl told.1 told.2
+ShowsOpen_alone (Trial seed terminals shipments) input (shown.Trial shown_seed None q x) told ends =
+    subst (λ (n : ℕ). ShowsUnfinished trial_budget false (Ok (generated seed terminals shipments)) (shown.Trial seed None) (shown.Trial n None q x)) (sym told.0)
+    (unfinished-end trial_budget false (Ok (generated seed terminals shipments)) (shown.Trial seed None) (generated seed terminals shipments) q x refl told.1 told.2
     (search-end (generated seed terminals shipments) every trial_budget x.certificate.answer told.2.says) ends)
 ShowsOpen_alone (Trial seed terminals shipments) input _ told ends = absurd told
 ShowsOpen_alone _ input s told ends = absurd told

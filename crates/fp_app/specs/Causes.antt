@@ -233,7 +233,7 @@ ShowsDone (Some order.Direct) input result = ShowsPlan input result
 ShowsDone (Some order.Check) input result = ShowsYes input result
 ShowsDone (Some (order.Bound option)) input result = ShowsNumber option input result
 ShowsDone (Some (order.Plan budget scale spans)) input result = ShowsOptimal budget spans (instance_at scale input) shown.Planned result
-ShowsDone (Some (order.Trial seed terminals shipments)) input result = ShowsOptimal trial_budget false (Ok (generated seed terminals shipments)) (shown.Trial seed) result
+ShowsDone (Some (order.Trial seed terminals shipments)) input result = ShowsOptimal trial_budget false (Ok (generated seed terminals shipments)) (shown.Trial seed None) result
 ShowsDone (Some (order.Yard seed)) input result = ShowsRun seed input result
 ShowsDone (Some order.Fleet) input result = ShowsTrucks input result
 ShowsDone (Some (order.Replan budget spans)) input result = ShowsKeptOptimal budget spans input result
@@ -242,7 +242,7 @@ ShowsDone (Some (order.Quote budget spans)) input result = ShowsExactExtra budge
 -- what is shown where an order is unfinished
 abbrev pub ShowsOpen : Option Order → List ℕ → Shown → Type 0
 ShowsOpen (Some (order.Plan budget scale spans)) input result = ShowsUnfinished budget spans (instance_at scale input) shown.Planned result
-ShowsOpen (Some (order.Trial seed terminals shipments)) input result = ShowsUnfinished trial_budget false (Ok (generated seed terminals shipments)) (shown.Trial seed) result
+ShowsOpen (Some (order.Trial seed terminals shipments)) input result = ShowsUnfinished trial_budget false (Ok (generated seed terminals shipments)) (shown.Trial seed None) result
 ShowsOpen (Some (order.Replan budget spans)) input result = ShowsKeptUnfinished budget spans input result
 ShowsOpen (Some (order.Quote budget spans)) input result = ShowsOpenExtra budget spans input result
 ShowsOpen _ input result = ⊥

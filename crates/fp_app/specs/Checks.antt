@@ -58,6 +58,12 @@ pub record ShowsRejected (p : Problem) (c : Statement) (number : ℕ) : Type 0 w
   pub first : IsFirstFailed p table c number
   pub rejected : IsAcceptedFor p c → ⊥
 
+-- what a check says of a certificate: nothing where it's accepted, and then what it claims of all plans is
+-- true, else the number of the first part that fails
+abbrev pub IsCheckOutcome : Problem → Statement → (failed : Option ℕ) → Type 0
+IsCheckOutcome p c None = IsAcceptedFor p c × Claims p c.answer
+IsCheckOutcome p c (Some number) = ShowsRejected p c number
+
 -- what is shown of a certificate
 abbrev pub ShowsCheck : Problem → Statement → Shown → Type 0
 ShowsCheck p c (shown.Accepted kind) = ShowsAccepted p c kind

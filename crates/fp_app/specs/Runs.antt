@@ -20,7 +20,7 @@ use Rattle.fp_app.specs.declared.shown.Shown.TheVariants as shown
 use Rattle.fp_app.specs.declared.shown.Status.{Status}
 use Rattle.fp_app.specs.declared.shown.Status.TheVariants as status
 use Rattle.fp_app.specs.Bounds.{IsRootBound}
-use Rattle.fp_app.specs.Checks.{ShowsCheck, scaled}
+use Rattle.fp_app.specs.Checks.{IsCheckOutcome, ShowsCheck, scaled}
 use Rattle.fp_app.specs.Fleets.{ShowsFleet}
 use Rattle.fp_app.specs.Inputs.{OfCertificate, OfInstance, OfScaled, limit_of, reads_source, KeptInstance, OfKept, OfQuoted}
 use Rattle.fp_app.specs.Quotes.{IsQuoted}
@@ -54,10 +54,12 @@ ShowsSearch budget spans p (shown.Planned instance solved) = (instance ≡ p) ×
 ShowsSearch budget spans p (shown.Infeasible instance shipment time) = (instance ≡ p) × IsBlocked p shipment time × (PlanExists p → ⊥)
 ShowsSearch budget spans p _ = ⊥
 
--- `trial`: what a search of the drawn instance shows, with a small budget and without spans.
+-- `trial`: what a search of the drawn instance shows, with a small budget and without spans, and that
+-- its certificate is accepted by the check that `check` makes.
 abbrev pub ShowsTrial : (seed terminals shipments : ℕ) → Shown → Type 0
-ShowsTrial seed terminals shipments (shown.Trial shown_seed instance solved) =
+ShowsTrial seed terminals shipments (shown.Trial shown_seed None instance solved) =
     (shown_seed ≡ seed) × (instance ≡ generated seed terminals shipments) × IsSearched (generated seed terminals shipments) every trial_budget false solved
+    × IsCheckOutcome (generated seed terminals shipments) solved.certificate None
 ShowsTrial seed terminals shipments _ = ⊥
 
 -- `replan`: where a plan keeps the legs, what a search with the budget among those plans shows, with the

@@ -7,12 +7,14 @@ use Rattle.fp_model.specs.Costs.{cost}
 use Rattle.fp_model.specs.Problem.{Problem, horizon}
 use Rattle.fp_timenodes.specs.declared.places.AddedPoint.{AddedPoint}
 use Rattle.fp_flatnet.specs.Tables.{WindowTable, windows_in}
+use Rattle.fp_records.specs.Text.{lines_of}
 use Rattle.fp_allowed.specs.Slack.{slack}
 use Rattle.fp_prices.specs.FlatBounds.{IsFlatBound}
 use Rattle.fp_certificate_lines.specs.declared.certificates.Answer.{Answer}
 use Rattle.fp_certificate_lines.specs.declared.certificates.Answer.TheVariants.{Optimal, Unfinished}
 use Rattle.fp_certificate_lines.specs.declared.certificates.Spent.{Spent}
 use Rattle.fp_certificate_lines.specs.declared.certificates.Spent.TheVariants.{Branches, Rounds}
+use Rattle.fp_certificate_lines.specs.Rows.{rows_of}
 use Rattle.fp_certificate_lines.specs.Statements.{Statement}
 use Rattle.fp_certificate_rules.specs.Accepted.{IsAccepted}
 use Rattle.fp_certificate_rules.specs.Plans.{HasTimetable, routes_of}
@@ -22,6 +24,7 @@ use Rattle.fp_session_history.specs.declared.budgets.Budget.{Budget}
 use Rattle.fp_session_history.specs.Solutions.{IsEarnedSolution, Solution}
 use Rattle.fp_session.specs.Certificates.{IsPricedBy, named_scale}
 use Rattle.fp_app.specs.Bounds.{whole_units}
+use Rattle.fp_app.specs.declared.limits.TheConstants.{CHECK_LIMIT, INSTANCE_LIMIT}
 use Rattle.fp_app.specs.Wanted.{AreWindowsFor, IsFirstPlan, IsWanted, NoneWantedCheaper, Wanted}
 
 -- a budget that a search of the instance can't use up: as many rounds as the terminals times one
@@ -61,9 +64,15 @@ abbrev pub IsPricedAs : Problem → (spans : Bool) → Statement → Type 0
 IsPricedAs p true c = IsSomeAnd c.unit (IsGreatestUnit p)
 IsPricedAs p false c = IsPricedBy None c
 
+-- the text of a certificate is so short that it is within the limit of `check`, also after an instance of as
+-- many bytes as one may have, and a byte that ends the instance's last line
+abbrev pub IsShortText : Problem → Statement → Type 0
+IsShortText p c = INSTANCE_LIMIT + 1 + length (lines_of (rows_of p c)) ≤ CHECK_LIMIT
+
 -- What a search shows of an instance. Its legs are a wanted plan in whole units, its cost is that
 -- plan's, and its trucks are that plan's departures. Its certificate is accepted under the windows of
--- the wanted plans, and the records of its text give it back; it is priced as the option of spans says.
+-- the wanted plans, its text is short, and the records of that text give it back; it is priced as the option
+-- of spans says.
 -- The search began with the first plan, and has earned what it shows; its points are in time. What its
 -- answer says of the wanted plans is true.
 pub record IsSearched (p : Problem) (wanted : Wanted) (budget : Budget) (spans : Bool) (s : Solution) : Type 0 where
@@ -73,6 +82,7 @@ pub record IsSearched (p : Problem) (wanted : Wanted) (budget : Budget) (spans :
   pub is_wanted : IsWanted wanted (routes_of p s.certificate)
   pub accepted : IsAccepted p table s.certificate
   pub back : ReadsBack p s.certificate
+  pub short : IsShortText p s.certificate
   pub scale : s.certificate.scale ≡ named_scale p.scale
   pub priced : IsPricedAs p spans s.certificate
   pub first : List (List Leg)

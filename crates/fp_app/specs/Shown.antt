@@ -31,7 +31,7 @@ abbrev pub status_of : Shown → Status
 status_of (shown.Direct instance plan) = status.Done
 status_of (shown.Bound instance price tables spans value) = status.Done
 status_of (shown.Planned instance solved) = search_status solved.certificate.answer
-status_of (shown.Trial seed instance solved) = search_status solved.certificate.answer
+status_of (shown.Trial seed failed instance solved) = search_status solved.certificate.answer
 status_of (shown.Replanned instance kept solved) = search_status solved.certificate.answer
 status_of (shown.Stuck instance shipment) = status.Infeasible
 status_of (shown.Quoted instance before after) = both_status before.certificate.answer after.certificate.answer
@@ -76,7 +76,7 @@ pub record CanBeQuoted (p : Problem) (before after : Answer) : Type 0 where
 abbrev pub IsPrintable : Shown → Type 0
 IsPrintable (shown.Direct instance plan) = IsPlan instance 1 plan
 IsPrintable (shown.Planned instance solved) = IsNamed instance solved.certificate
-IsPrintable (shown.Trial seed instance solved) = AnswerExists instance solved.certificate.answer
+IsPrintable (shown.Trial seed failed instance solved) = AnswerExists instance solved.certificate.answer
 IsPrintable (shown.Replanned instance kept solved) = IsNamed instance solved.certificate
 IsPrintable (shown.Stuck instance shipment) = shipment < length instance.shipments
 IsPrintable (shown.Quoted instance before after) = CanBeQuoted instance before.certificate.answer after.certificate.answer

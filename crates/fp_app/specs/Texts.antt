@@ -1,6 +1,6 @@
 -- The text of what is shown. Fields are joined by commas, each line ends with a line feed, numbers
 -- are decimal.
-use Rattle.std.specs.Prelude.{ℕ, ◌-◌, ◌≡◌, List, [], ◌∷◌, None, codes, decimal, length}
+use Rattle.std.specs.Prelude.{ℕ, ◌-◌, ◌≡◌, List, [], ◌∷◌, Option, None, Some, codes, decimal, length}
 use Rattle.fp_records.specs.Text.{line_of, lines_of}
 use Rattle.fp_model.specs.declared.parts.Leg.{Leg}
 use Rattle.fp_model.specs.Costs.{cost}
@@ -47,14 +47,19 @@ kind_word kind.Infeasible = codes "infeasible"
 abbrev pub bound_lines : ℕ → List ℕ
 bound_lines number = lines_of ((codes "answer" ∷ codes "bound" ∷ decimal number ∷ []) ∷ (codes "end" ∷ []) ∷ [])
 
--- the lines of a trial: its numbers, with how many arcs were drawn, the answer, and that the
--- certificate was checked
+-- the fields of a trial's numbers, with how many arcs were drawn
 abbrev pub trial_fields : (seed terminals arcs shipments : ℕ) → List (List ℕ)
 trial_fields seed terminals arcs shipments = codes "trial" ∷ decimal seed ∷ decimal terminals ∷ decimal arcs ∷ decimal shipments ∷ []
 
-abbrev pub trial_lines : ℕ → Problem → Answer → List ℕ
-trial_lines seed p a =
-    lines_of (trial_fields seed (length p.terminals) (length p.arcs) (length p.shipments) ∷ answer_fields p a ∷ (codes "checked" ∷ []) ∷ [])
+-- the fields of what a check says of a certificate: that it's accepted, or the first part that fails
+abbrev pub outcome_fields : (failed : Option ℕ) → List (List ℕ)
+outcome_fields None = codes "checked" ∷ []
+outcome_fields (Some number) = codes "rejected" ∷ decimal number ∷ []
+
+-- the lines of a trial: its numbers, the answer, and what a check says of the certificate
+abbrev pub trial_lines : (seed : ℕ) (failed : Option ℕ) → Problem → Answer → List ℕ
+trial_lines seed failed p a =
+    lines_of (trial_fields seed (length p.terminals) (length p.arcs) (length p.shipments) ∷ answer_fields p a ∷ outcome_fields failed ∷ [])
 
 -- the lines of a shipment that is stuck
 abbrev pub stuck_lines : List ℕ → List ℕ
@@ -70,7 +75,7 @@ IsText (shown.Direct p routes) text =
     (c : Statement) × IsDirectCertificate p routes c × (text ≡ certificate_text p c)
 IsText (shown.Bound p price tables spans value) text = text ≡ bound_lines (whole_units p value)
 IsText (shown.Planned p solved) text = text ≡ certificate_text p solved.certificate
-IsText (shown.Trial seed p solved) text = text ≡ trial_lines seed p solved.certificate.answer
+IsText (shown.Trial seed failed p solved) text = text ≡ trial_lines seed failed p solved.certificate.answer
 IsText (shown.Replanned p kept solved) text = text ≡ certificate_text p solved.certificate
 IsText (shown.Stuck p shipment) text = text ≡ stuck_lines (shipment_name p shipment)
 IsText (shown.Quoted p before after) text = text ≡ quote_lines (shipment_name p (length p.shipments - 1)) (extra_of before.certificate.answer after.certificate.answer)

@@ -31,6 +31,8 @@ pub fn answer<S: Source>(alloc: Global, words: &[String], source: &mut S) -> Res
     ensures within { TakesWithin (limit_of (order_of (texts words.now)) + 1) (S.left source.old) (S.left source.new) }
     ensures fault { IsErrOf result Failure.ReadFault
         → Rose (S.faults source.old) (S.faults source.new) }
+    ensures same { (IsErrOf result Failure.ReadFault → ⊥) → S.faults source.new ≡ S.faults source.old }
+    ensures sure { S.is_sure source.old ≡ true → IsErrOf result Failure.ReadFault → ⊥ }
     ensures fault_within { IsErrOf result Failure.ReadFault
         → TakesWithin (limit_of (order_of (texts words.now))) (S.left source.old) (S.left source.new) }
     ensures long_within { result ≡ Ok Shown.TooLong
@@ -61,6 +63,8 @@ fn answer_order<S: Source>(alloc: Global, order: Order, source: &mut S) -> Resul
     ensures within { TakesWithin (limit_of (Some order) + 1) (S.left source.old) (S.left source.new) }
     ensures fault { IsErrOf result Failure.ReadFault
         → Rose (S.faults source.old) (S.faults source.new) }
+    ensures same { (IsErrOf result Failure.ReadFault → ⊥) → S.faults source.new ≡ S.faults source.old }
+    ensures sure { S.is_sure source.old ≡ true → IsErrOf result Failure.ReadFault → ⊥ }
     ensures fault_within { IsErrOf result Failure.ReadFault
         → TakesWithin (limit_of (Some order)) (S.left source.old) (S.left source.new) }
     ensures long_within { result ≡ Ok Shown.TooLong

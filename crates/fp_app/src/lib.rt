@@ -2,6 +2,7 @@
 #![tactic(auto)]
 
 mod answer;
+mod check_outcomes;
 mod commands;
 mod failures;
 mod inputs;
@@ -11,6 +12,7 @@ mod shown;
 mod texts;
 mod top;
 
+pub use check_outcomes::CheckOutcome;
 pub use fp_app_words::{Order, WordFault, read_words};
 pub use fp_replan::Kept;
 pub use fp_session::{Budget, Left, RoundNote, Solved, SplitNote};

@@ -3,7 +3,7 @@ ghost use Rattle.std.specs.Prelude.{◌≡◌};
 ghost use Rattle.fp_app.specs.Texts.{kind_word};
 ghost use Rattle.fp_app.specs.Shown.{both_status, search_status, status_of, status_code};
 
-use crate::{Kept, Solved};
+use crate::{CheckOutcome, Kept, Solved};
 use fp_certificate::Answer;
 use fp_fleet::Fleet;
 use fp_model::{Instance, Plan};
@@ -123,9 +123,11 @@ pub enum Shown {
         instance: Instance,
         solved: Solved,
     },
-    /// What a search shows of an instance that was drawn from a seed. Its certificate was checked.
+    /// What a search shows of an instance that was drawn from a seed, and what the checker says of its
+    /// certificate.
     Trial {
         seed: u32,
+        outcome: CheckOutcome,
         instance: Instance,
         solved: Solved,
     },

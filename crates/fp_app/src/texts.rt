@@ -7,7 +7,7 @@ ghost use Rattle.fp_certificate_rules.specs.Accepted.{claim_of};
 ghost use Rattle.fp_certificate_rules.specs.Plans.{stated_cost};
 ghost use Rattle.fp_app.specs.Quotes.{extra_of};
 ghost use Rattle.fp_app.specs.Shown.{CanBeQuoted, IsBracketed, IsPrintable};
-ghost use Rattle.fp_app.specs.Texts.{IsText, bound_lines, kind_word, quote_lines, stuck_lines, trial_fields, trial_lines};
+ghost use Rattle.fp_app.specs.Texts.{IsText, bound_lines, kind_word, outcome_fields, quote_lines, stuck_lines, trial_fields, trial_lines};
 
 use crate::inputs::certificates::{direct_certificate, infeasible_certificate};
 use crate::{AnswerKind, NoMemory, Shown};
@@ -96,15 +96,31 @@ fn write_trial(
     Ok(())
 }
 
-// The lines of a trial: its numbers, the answer, and `checked`.
+// Adds the line of what the checker says: `checked`, or `rejected` and the first part that fails.
+fn write_outcome(line: &mut Line, failed: Option<u32>) -> Result<(), NoMemory>
+    requires begun { line.old.begun ≡ false }
+    ensures text { OnOk result (line.new.text ≡ line.old.text ++ line_of (outcome_fields failed)) }
+{
+    match failed {
+        None => line.word(b"checked")?,
+        Some(number) => {
+            line.word(b"rejected")?;
+            line.number(u128::from(number))?;
+        }
+    }
+    line.end()
+}
+
+// The lines of a trial: its numbers, the answer, and what the checker says.
 fn trial_text(
     alloc: Global,
     seed: u32,
     instance: &Instance,
     answer: Answer,
+    failed: Option<u32>,
 ) -> Result<Vec<u8>, NoMemory>
     requires { AnswerExists instance.now answer }
-    ensures { IfOk result (λ text. text.items ≡ trial_lines seed instance.now answer) }
+    ensures { IfOk result (λ text. text.items ≡ trial_lines seed failed instance.now answer) }
 {
     let terminals = instance.terminals().len();
     let arcs = instance.arcs().len();
@@ -112,8 +128,7 @@ fn trial_text(
     let mut line = Line::new(alloc)?;
     write_trial(&mut line, seed, terminals, arcs, shipments)?;
     write_answer(&mut line, instance, answer)?;
-    line.word(b"checked")?;
-    line.end()?;
+    write_outcome(&mut line, failed)?;
     Ok(line.into_bytes())
 }
 
@@ -197,9 +212,16 @@ pub fn text(alloc: Global, shown: &Shown) -> Result<Vec<u8>, NoMemory>
         Shown::Planned { instance, solved } => write(alloc, instance, &solved.certificate),
         Shown::Trial {
             seed,
+            outcome,
             instance,
             solved,
-        } => trial_text(alloc, *seed, instance, solved.certificate.answer),
+        } => trial_text(
+            alloc,
+            *seed,
+            instance,
+            solved.certificate.answer,
+            outcome.failed(),
+        ),
         Shown::Replanned {
             instance,
             solved,

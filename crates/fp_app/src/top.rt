@@ -1,8 +1,9 @@
 //! The top call.
-ghost use Rattle.std.specs.Prelude.{◌≡◌, ◌⊎◌, ◌+◌, ◌<◌, ◌≤◌, ℕ, List, length, None, Some};
+ghost use Rattle.std.specs.Prelude.{◌≡◌, ◌≢◌, ◌⊎◌, ◌+◌, ◌<◌, ◌≤◌, ℕ, List, length, true, None, Some};
 ghost use Rattle.fp_ends.specs.Causes.{Rose};
 ghost use Rattle.fp_app.specs.Causes.{ShowsDone, ShowsFault, ShowsInfeasible, ShowsOpen, ShowsRejection, StatusOf};
 ghost use Rattle.fp_app.specs.Inputs.{limit_of};
+ghost use Rattle.fp_app.specs.Texts.{IsText};
 ghost use Rattle.fp_app.specs.Runs.{Answers, Leaves, Settles, TakesOneMore, TakesWithin, Writes, reach_of};
 ghost use Rattle.fp_app_words.specs.Words.{order_of, texts};
 
@@ -43,6 +44,14 @@ pub fn run<S: Source, K: Sink>(alloc: Global, words: &[String], source: &mut S, 
         → Rose (K.faults sink.old) (K.faults sink.new) }
     ensures reads_later { S.faults source.old ≤ S.faults source.new }
     ensures writes_later { K.faults sink.old ≤ K.faults sink.new }
+    ensures reads_same { result.status ≢ Status.ReadFault → S.faults source.new ≡ S.faults source.old }
+    ensures writes_same { result.status ≢ Status.WriteFault → K.faults sink.new ≡ K.faults sink.old }
+
+    // No fault comes over a source that is sure, nor over a sink that surely has room for each text of
+    // what is shown.
+    ensures sure_reads { S.is_sure source.old ≡ true → result.status ≢ Status.ReadFault }
+    ensures sure_writes { ((text : List ℕ) → IsText result.shown text → length text ≤ K.sure_room sink.old)
+        → result.status ≢ Status.WriteFault }
 
     // At most one byte past the limit is taken: none before a failed read, and one where the input is
     // too long.
@@ -73,6 +82,11 @@ pub fn run<S: Source, K: Sink>(alloc: Global, words: &[String], source: &mut S, 
     // With memory and without a fault the status is the one that the words and the input have.
     ensures completes { (input : List ℕ) → S.left source.old ≡ Some input
         → (Rose (S.faults source.old) (S.faults source.new) → ⊥) → (Rose (K.faults sink.old) (K.faults sink.new) → ⊥)
+        → (result.status ≡ Status.NoMemory) ⊎ StatusOf (order_of (texts words.now)) input result.status }
+
+    // So it is, but for want of memory, over a source that is sure and a sink that surely has room.
+    ensures follows { (input : List ℕ) → S.left source.old ≡ Some input → S.is_sure source.old ≡ true
+        → ((text : List ℕ) → IsText result.shown text → length text ≤ K.sure_room sink.old)
         → (result.status ≡ Status.NoMemory) ⊎ StatusOf (order_of (texts words.now)) input result.status }
 {
     let shown = match answer(alloc, words, source) {

@@ -57,8 +57,8 @@ with-answer p c a h r = record {
 }
 
 -- with one more node
-with-node : (p : Problem) (c : Statement) (n : Node) → IsNodeInRange p c.tables n → IsInRange p c → IsInRange p (record c { tree = c.tree ++ (n ∷ []) })
-with-node p c n h r = record {
+IsInRange-with_node : (p : Problem) (c : Statement) (n : Node) → IsNodeInRange p c.tables n → IsInRange p c → IsInRange p (record c { tree = c.tree ++ (n ∷ []) })
+IsInRange-with_node p c n h r = record {
   answer = r.answer;
   scale = r.scale;
   unit = r.unit;
@@ -82,9 +82,9 @@ node-grows p few many (Branch split) le h = h
 node-grows p few many (node.Leaf price) le h = record { kind = kind-grows few many price.kind le h.kind; round = h.round }
 
 -- with other tables and other spans beside them, no fewer than before
-with-lists : (p : Problem) (c : Statement) (tables : List (List ClassShare)) (spans : List (List ClassSpan)) → length c.tables ≤ length tables → length spans ≡ length tables
+IsInRange-with_lists : (p : Problem) (c : Statement) (tables : List (List ClassShare)) (spans : List (List ClassSpan)) → length c.tables ≤ length tables → length spans ≡ length tables
     → All (All (IsShareInRange p)) tables → All (All (IsSpanInRange p)) spans → IsInRange p c → IsInRange p (record c { tables = tables; spans = spans })
-with-lists p c tables spans le beside h t r = record {
+IsInRange-with_lists p c tables spans le beside h t r = record {
   answer = r.answer;
   scale = r.scale;
   unit = r.unit;
@@ -102,7 +102,7 @@ with-last-table : (p : Problem) (c : Statement) (f : List ClassShare → List Cl
     → IsInRange p c → IsInRange p (record c { tables = with_last f c.tables })
 with-last-table p c f changes r =
     let stays : length (with_last f c.tables) ≡ length c.tables = length-with_last f c.tables in
-    with-lists p c (with_last f c.tables) c.spans (omega arith) (omega (arith, r.beside))
+    IsInRange-with_lists p c (with_last f c.tables) c.spans (omega arith) (omega (arith, r.beside))
     (All-with_last (All (IsShareInRange p)) (All (IsShareInRange p)) f c.tables (λ table all. all) changes r.tables) r.spans r
 
 -- with a changed last list of spans, which are in range again
@@ -110,7 +110,7 @@ with-last-spans : (p : Problem) (c : Statement) (f : List ClassSpan → List Cla
     → IsInRange p c → IsInRange p (record c { spans = with_last f c.spans })
 with-last-spans p c f changes r =
     let stays : length (with_last f c.spans) ≡ length c.spans = length-with_last f c.spans in
-    with-lists p c c.tables (with_last f c.spans) (omega arith) (omega (arith, r.beside)) r.tables
+    IsInRange-with_lists p c c.tables (with_last f c.spans) (omega arith) (omega (arith, r.beside)) r.tables
     (All-with_last (All (IsSpanInRange p)) (All (IsSpanInRange p)) f c.spans (λ list all. all) changes r.spans) r
 
 -- with one more weight
@@ -316,7 +316,7 @@ kind-ranged p before Point fields h r =
 kind-ranged p before Table fields h r =
     let tables = before.certificate.tables in
     let spans = before.certificate.spans in
-    with-lists p before.certificate (tables ++ ([] ∷ [])) (spans ++ ([] ∷ [])) (omega (arith, length_push tables []))
+    IsInRange-with_lists p before.certificate (tables ++ ([] ∷ [])) (spans ++ ([] ∷ [])) (omega (arith, length_push tables []))
     (omega (arith, r.beside, length_push tables [], length_push spans []))
     (All-push (All (IsShareInRange p)) tables [] r.tables (All-nil (IsShareInRange p)))
     (All-push (All (IsSpanInRange p)) spans [] r.spans (All-nil (IsSpanInRange p))) r
@@ -375,7 +375,7 @@ kind-ranged p before ByArc fields h r =
     let order = IsClear-from_none 24 (is_misplaced before group.Tree) count.later in
     let name = IsClear-from_none 25 (lacks_shipment p fields 2 || lacks_arc p fields 3 4) order.later in
     let names = or_parts (lacks_shipment p fields 2) (lacks_arc p fields 3 4) name.here in
-    with-node p before.certificate _ (shipment_in-lt p fields 2 names.0, arc_in-lt p fields 3 4 names.1) r
+    IsInRange-with_node p before.certificate _ (shipment_in-lt p fields 2 names.0, arc_in-lt p fields 3 4 names.1) r
 kind-ranged p before ByTime fields h r =
     let count = IsClear-from_none 22 (not (length fields == 5)) h in
     let digits = IsClear-from_none 23 (not (has_number fields 4)) count.later in
@@ -383,7 +383,7 @@ kind-ranged p before ByTime fields h r =
     let name = IsClear-from_none 25 (lacks_shipment p fields 2 || lacks_terminal p fields 3) order.later in
     let range = IsClear-from_none 28 (not (is_time fields 4)) name.later in
     let names = or_parts (lacks_shipment p fields 2) (lacks_terminal p fields 3) name.here in
-    with-node p before.certificate _ (shipment_in-lt p fields 2 names.0, terminal_in-lt p fields 3 names.1, in-time fields 4 (not-false (is_time fields 4) range.here)) r
+    IsInRange-with_node p before.certificate _ (shipment_in-lt p fields 2 names.0, terminal_in-lt p fields 3 names.1, in-time fields 4 (not-false (is_time fields 4) range.here)) r
 kind-ranged p before Leaf fields h r =
     let tables = before.certificate.tables in
     let count = IsClear-from_none 22 (not (length fields == 4)) h in
@@ -396,7 +396,7 @@ kind-ranged p before Leaf fields h r =
       kind = kind-range tables fields limits.0;
       round = (is_between-limits 0 LAST_ROUND fields 2 limits.1).1;
     } in
-    with-node p before.certificate (leaf_in fields) fits r
+    IsInRange-with_node p before.certificate (leaf_in fields) fits r
 kind-ranged p before End fields h r = r
 
 maybe-ranged : (p : Problem) (before : Draft) (kind : Option LineKind) (fields : List (List ℕ)) → kind_code p before kind fields ≡ None

@@ -10,8 +10,8 @@ use Rattle.fp_certificate_lines.specs.declared.certificates.Answer.TheVariants a
 use Rattle.fp_certificate.specs.declared.lines.groups.Group.{Group}
 use Rattle.fp_certificate.specs.declared.lines.groups.Group.TheVariants as group
 use Rattle.fp_certificate.specs.Groups.{is_forbidden, place_of}
-use Rattle.fp_certificate_lines.specs.Ranges.{IsInRange, IsScaleInRange, IsUnitInRange}
-use Rattle.fp_certificate.specs.Readable.{Allows, HaveNames, IsReadable, WrittenReadsBack}
+use Rattle.fp_certificate_lines.specs.Ranges.{HaveNames, IsInRange, IsScaleInRange, IsUnitInRange}
+use Rattle.fp_certificate.specs.Readable.{Allows, IsReadable, WrittenReadsBack}
 use Rattle.fp_certificate.specs.Reading.{certificate_of, nothing_read}
 use Rattle.fp_certificate_lines.specs.Rows.{answer_fields, end_fields, leg_fields, node_fields, point_fields, rows_of, scale_fields, scale_rows, tables_rows, truck_fields, unit_fields, unit_rows}
 use Rattle.fp_certificate_lines.specs.Statements.{Statement}

@@ -1,7 +1,5 @@
 -- Certificates whose lines stand in an order that reading takes, and that reading gives them back.
-use Rattle.std.specs.Prelude.{ℕ, ◌≡◌, [], All, None, Ok}
-use Rattle.fp_model.specs.declared.parts.Shipment.{Shipment}
-use Rattle.fp_model.specs.Names.{IsName}
+use Rattle.std.specs.Prelude.{ℕ, ◌≡◌, [], None, Ok}
 use Rattle.fp_model.specs.Problem.{Problem}
 use Rattle.fp_prices.specs.Tables.{AreCountable}
 use Rattle.fp_records.specs.Fields.{records_of}
@@ -38,10 +36,6 @@ Allows (Infeasible shipment time) c = HasAnswerAlone c
 -- the lines stand in an order that reading takes
 abbrev pub IsReadable : Statement → Type 0
 IsReadable c = Allows c.answer c
-
--- the names of the shipments are names, as they are in each instance
-abbrev pub HaveNames : Problem → Type 0
-HaveNames p = All (λ (s : Shipment). IsName s.name) p.shipments
 
 -- the records of a certificate's text give the certificate back, whatever the ordinal of the first
 -- of them is

@@ -1,19 +1,8 @@
 //! That a written certificate is read back.
-ghost use Rattle.std.specs.Prelude.{All};
-ghost use Rattle.fp_model.specs.declared.parts.Shipment.{Shipment};
-ghost use Rattle.fp_model.specs.Names.{IsName};
 ghost use Rattle.fp_certificate.specs.Readable.{WrittenReadsBack};
 
-use fp_model::{Instance, Shipment};
-
-// That the names of shipments are names. The call does nothing else.
-fn read_names(shipments: &[Shipment])
-    ensures { All (λ (s : Shipment). IsName s.name) shipments.now }
-{
-    for shipment in shipments {
-        let _name = shipment.name.bytes();
-    }
-}
+use fp_certificate_lines::instances_are_named;
+use fp_model::Instance;
 
 /// That what is written of a certificate is read back, for each instance.
 ///
@@ -24,5 +13,5 @@ fn read_names(shipments: &[Shipment])
 pub fn written_reads_back(instance: &Instance)
     ensures { WrittenReadsBack instance.now }
 {
-    read_names(instance.shipments());
+    instances_are_named(instance);
 }

@@ -2,3 +2,5 @@ pub mod Named
 pub mod SpanRanges
 mod RowTexts
 pub mod Examples
+pub mod LineLengths
+pub mod TextLengths

@@ -1,3 +1,4 @@
 pub mod Statements
 pub mod Rows
 pub mod Ranges
+pub mod Lengths

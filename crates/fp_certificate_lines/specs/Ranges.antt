@@ -1,6 +1,8 @@
 -- Certificates whose numbers are in range, and whose terminals, arcs, shipments and tables exist.
 use Rattle.std.specs.Prelude.{ℕ, ◌+◌, ◌-◌, ◌<◌, ◌≤◌, ◌≡◌, ◌^◌, List, length, All, IfSome}
 use Rattle.fp_model.specs.declared.limits.TheConstants.{GREATEST_SCALE, LAST_ROUND, LATEST, LONGEST_FASTEST}
+use Rattle.fp_model.specs.declared.parts.Shipment.{Shipment}
+use Rattle.fp_model.specs.Names.{IsName}
 use Rattle.fp_model.specs.Problem.{Problem, weight_at}
 use Rattle.fp_prices.specs.declared.leaf_prices.LeafPrice.{LeafPrice}
 use Rattle.fp_prices.specs.declared.tables.Weight.{Weight}
@@ -19,7 +21,7 @@ use Rattle.fp_certificate_lines.specs.declared.certificates.Node.{Node}
 use Rattle.fp_certificate_lines.specs.declared.certificates.Node.TheVariants.{Branch, Leaf}
 use Rattle.fp_certificate_lines.specs.Statements.{Statement}
 
--- the largest_figure number that a field may have where no other limit is named
+-- the largest number that a field may have where no other limit is named
 abbrev pub largest_figure : ℕ
 largest_figure = 2 ^ 127 - 1
 
@@ -114,6 +116,10 @@ pub record IsInRange (p : Problem) (c : Statement) : Type 0 where
   pub spans : All (All (IsSpanInRange p)) c.spans
   pub beside : length c.spans ≡ length c.tables
   pub tree : All (IsNodeInRange p c.tables) c.tree
+
+-- the names of the shipments are names, as they are in each instance
+abbrev pub HaveNames : Problem → Type 0
+HaveNames p = All (λ (s : Shipment). IsName s.name) p.shipments
 
 -- the shipment of an answer exists
 abbrev pub AnswerExists : Problem → Answer → Type 0

@@ -18,7 +18,7 @@ use Rattle.fp_flatnet.specs.declared.window_tables.TheConstants.{MOST_ANCHORS}
 use Rattle.fp_flatnet.specs.Initial.{initial_points}
 use Rattle.fp_certificate_lines.specs.Ranges.{IsPointInRange}
 use Rattle.fp_certificate_rules.specs.Points.{AreAddedPoints, ArePointsOf, points_with_added}
-use Rattle.fp_certificate_rules.proofs.RoundCounts.{RoundsAscend, count_in, length-count_in}
+use Rattle.fp_certificate_rules.proofs.RoundCounts.{RoundsAscend, count_in, length-rounds}
 use Rattle.fp_timenodes.proofs.Rounds.{greatest_round_least}
 
 -- a point is none of the initial ones
@@ -168,7 +168,7 @@ HaveAdded-ArePointsOf p anchors added v i valid made long range few =
         whole.few_first,
         ap (λ (qs : List AddedPoint). length qs) whole.added_is,
         valid.parts.few_terminals,
-        length-count_in (LAST_ROUND + 1) added few (λ k d lt. omega (arith, (range k d lt).round.1)),
+        length-rounds LAST_ROUND added few (λ k d lt. (range k d lt).round),
       );
       same = λ terminal round lt. HaveAdded-points_at p anchors added v terminal round whole lt;
     }

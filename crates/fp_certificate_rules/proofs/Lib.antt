@@ -5,3 +5,6 @@ pub mod UnitCosts
 pub mod KeptPrices
 pub mod GreatestUnits
 pub mod Claims
+pub mod LegCounts
+pub mod TreeCounts
+pub mod LineCounts

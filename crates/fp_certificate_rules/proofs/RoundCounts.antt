@@ -124,10 +124,11 @@ count_below : ℕ → List AddedPoint → ℕ
 count_below zero added = 0
 count_below (suc n) added = count_in n added + count_below n added
 
-count_below-few : (n : ℕ) (added : List AddedPoint) → ((round : ℕ) → count_in round added ≤ 8) → count_below n added ≤ 8 * n
+-- with at most 8 a round, and none of round 0, at most 8 times as many as the others
+count_below-few : (n : ℕ) (added : List AddedPoint) → count_in 0 added ≡ 0 → ((round : ℕ) → count_in round added ≤ 8) → count_below (suc n) added ≤ 8 * n
 unfolding count_below
-count_below-few zero added few = omega arith
-count_below-few (suc n) added few = omega (arith, few n, count_below-few n added few)
+count_below-few zero added none few = omega (arith, none)
+count_below-few (suc n) added none few = omega (arith, few (suc n), count_below-few n added none few)
 
 count_below-more : (n : ℕ) (q : AddedPoint) (added : List AddedPoint) → count_below n added ≤ count_below n (q ∷ added)
 unfolding count_below
@@ -151,6 +152,9 @@ length-count_below n [] within = omega arith
 length-count_below n (q ∷ added) within =
     omega (arith, count_below-own n q added (within 0 q (omega arith)), length-count_below n added (λ k d lt. within (suc k) d (omega (arith, lt))))
 
--- with at most 8 a round there are at most 8 times as many as rounds
-pub length-count_in : (n : ℕ) (added : List AddedPoint) → ((round : ℕ) → count_in round added ≤ 8) → ((k : ℕ) (d : AddedPoint) → k < length added → (get_or added k d).round < n) → length added ≤ 8 * n
-length-count_in n added few within = omega (arith, length-count_below n added within, count_below-few n added few)
+-- with at most 8 a round, and rounds from 1 up to a number, there are at most 8 times as many as that number
+pub length-rounds : (n : ℕ) (added : List AddedPoint) → ((round : ℕ) → count_in round added ≤ 8) →
+    ((k : ℕ) (d : AddedPoint) → k < length added → (1 ≤ (get_or added k d).round) × ((get_or added k d).round ≤ n)) → length added ≤ 8 * n
+length-rounds n added few within =
+    let none : count_in 0 added ≡ 0 = count_in_none 0 added (λ k d lt. (within k d lt).0) in
+    omega (arith, length-count_below (suc n) added (λ k d lt. omega (arith, (within k d lt).1)), count_below-few n added none few)

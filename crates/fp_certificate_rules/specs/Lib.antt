@@ -5,3 +5,4 @@ pub mod Prices
 pub mod Leaves
 pub mod Accepted
 pub mod Claims
+pub mod LineCounts

@@ -1,6 +1,7 @@
 //! Laws on accepted certificates, without a body: any crate may cite them.
 ghost use Rattle.std.specs.Prelude.{◌≡◌};
 ghost use Rattle.fp_certificate_rules.specs.Claims.{AcceptedClaims};
+ghost use Rattle.fp_certificate_rules.specs.LineCounts.{AcceptedAreFew};
 
 use crate::limits::MOST_IN_ROUND;
 
@@ -11,6 +12,15 @@ use crate::limits::MOST_IN_ROUND;
 /// instance is valid and the certificate in range.
 pub fn accepted_claims()
     ensures { AcceptedClaims }
+{}
+
+/// An accepted certificate in range whose answer rests on a tree has few lines of each kind, for each
+/// valid instance.
+///
+/// It has at most 99 legs for each of at most 500 shipments, no more departures than legs, at most 8
+/// points for each of 4,000 rounds, at most 100,000 splits, and one leaf more than splits.
+pub fn accepted_are_few()
+    ensures { AcceptedAreFew }
 {}
 
 /// The most points that one round may add are this number.

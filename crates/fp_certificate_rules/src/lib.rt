@@ -8,6 +8,6 @@ mod laws;
 mod limits;
 mod units;
 
-pub use laws::{accepted_claims, round_limit_is_a_number};
+pub use laws::{accepted_are_few, accepted_claims, round_limit_is_a_number};
 pub use limits::MOST_IN_ROUND;
 pub use units::{is_unit, reaches, rounded_below, unit_of};

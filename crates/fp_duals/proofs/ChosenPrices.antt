@@ -1,5 +1,5 @@
 -- The prices that are chosen for a leaf: the best start, or a table that is better.
-use Rattle.std.proofs.Common.{◌≡◌, ◌+◌, List, [], ◌∷◌, ◌++◌, length, inr, sym, ap, ◌∙◌, subst, arith}
+use Rattle.std.proofs.Common.{◌≡◌, ℕ, ◌+◌, ◌≤◌, List, [], ◌∷◌, ◌++◌, length, inr, sym, ap, ◌∙◌, subst, arith}
 use Rattle.std.specs.Prelude.{Option, Some, IfSome}
 use Rattle.std.proofs.lemmas.List.{length-append}
 use Rattle.fp_prices.specs.declared.leaf_prices.Kind.{Kind}
@@ -10,16 +10,22 @@ use Rattle.fp_duals.specs.declared.candidates.Candidate.{Candidate}
 use Rattle.fp_duals.specs.declared.starts.Start.{Start}
 use Rattle.fp_duals.specs.Candidates.{IsBetter}
 use Rattle.fp_duals.specs.Choices.{IsChoice}
+use Rattle.fp_duals.specs.PriceLines.{line_total}
 use Rattle.fp_duals.specs.Starts.{IsBestStart, IsStart}
+use Rattle.fp_duals.proofs.PriceLines.{total-more}
 
 -- a table that was found is better
-pub better-told : (leaf : LeafModel) (tables : List (List ClassShare)) (start : Start) (o : Option Candidate) (c : Candidate) → o ≡ Some c → IfSome o (IsBetter leaf tables start) → IsBetter leaf tables start c
-better-told leaf tables start o c is better = subst (λ (found : Option Candidate). IfSome found (IsBetter leaf tables start)) is better
+pub better-told : (leaf : LeafModel) (tables : List (List ClassShare)) (room : ℕ) (start : Start) (o : Option Candidate) (c : Candidate) → o ≡ Some c → IfSome o (IsBetter leaf tables room start) → IsBetter leaf tables room start c
+better-told leaf tables room start o c is better = subst (λ (found : Option Candidate). IfSome found (IsBetter leaf tables room start)) is better
+
+-- the price lines with a table that was found
+pub better-lines : (leaf : LeafModel) (before after : List (List ClassShare)) (room : ℕ) (start : Start) (c : Candidate) → IsBetter leaf before room start c → after ≡ before ++ (c.table ∷ []) → line_total after ≤ line_total before + room
+better-lines leaf before after room start c better last = omega (arith, ap line_total last, total-more before c.table, better.fits)
 
 -- a table that is better than the best start, and is added
-pub better-choice : (leaf : LeafModel) (before after : List (List ClassShare)) (inherited : Kind) (start : Start) (c : Candidate) → IsBestStart leaf before inherited start → IsBetter leaf before start c → after ≡ before ++ (c.table ∷ []) →
+pub better-choice : (leaf : LeafModel) (before after : List (List ClassShare)) (inherited : Kind) (room : ℕ) (start : Start) (c : Candidate) → IsBestStart leaf before inherited start → IsBetter leaf before room start c → after ≡ before ++ (c.table ∷ []) →
     IsChoice leaf before after inherited c.start
-better-choice leaf before after inherited start c best better last = record {
+better-choice leaf before after inherited room start c best better last = record {
   start = subst (λ (tables : List (List ClassShare)). IsStart leaf tables c.start) (sym last) better.candidate.start;
   best = record {
     linear = λ f other is. omega (arith, best.best.linear f other is, better.above);

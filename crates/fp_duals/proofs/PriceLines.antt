@@ -1,20 +1,10 @@
 -- Lines of tables of prices: of one table more, and of fewer.
-use Rattle.std.proofs.Common.{◌≡◌, ℕ, ◌+◌, ◌-◌, ◌<◌, ◌≤◌, List, [], ◌∷◌, ◌++◌, length, get_or, refl, subst, arith}
-use Rattle.std.specs.Prelude.{All}
-use Rattle.std.proofs.lemmas.List.{get_or_append_left, length-append}
+use Rattle.std.proofs.Common.{◌≡◌, ℕ, ◌+◌, ◌-◌, ◌<◌, ◌≤◌, List, [], ◌∷◌, ◌++◌, length, get_or, arith}
 use Rattle.std.proofs.lemmas.List.Elements.{All-append, All-cons, All-nil}
 use Rattle.std.proofs.lemmas.List.Sums.{sum_by-append, sum_by-cons, sum_by_more_le}
 use Rattle.fp_prices.specs.Shares.{ClassShare}
 use Rattle.fp_duals.specs.declared.limits.TheConstants.{MOST_PRICE_LINES}
 use Rattle.fp_duals.specs.PriceLines.{AreCounted, IsInTime, line_count, line_total}
-
--- what holds of each element of a list holds of each of its front
-pub All-front : {X : Type 0} (P : X → Type 0) (xs ys : List X) → All P (xs ++ ys) → All P xs
-All-front P xs ys all = λ k d lt. subst P (get_or_append_left xs ys d k lt) (all k d (omega (arith, lt, length-append xs ys)))
-
--- no tables
-pub within-none : AreCounted [] 0
-within-none = record { within = record { each = All-nil IsInTime; lines = omega arith }; counted = refl }
 
 -- the lines of one table more
 pub total-more : (tables : List (List ClassShare)) (table : List ClassShare) → line_total (tables ++ (table ∷ [])) ≡ line_total tables + line_count table
@@ -28,13 +18,6 @@ counted-more tables table lines are in_time few = record {
     each = All-append IsInTime tables (table ∷ []) are.within.each (All-cons IsInTime table [] in_time (All-nil IsInTime));
     lines = omega (arith, total-more tables table, few);
   };
-  counted = omega (arith, total-more tables table, are.counted);
-}
-
--- and without the last
-pub counted-fewer : (tables : List (List ClassShare)) (table : List ClassShare) (lines : ℕ) → AreCounted (tables ++ (table ∷ [])) lines → AreCounted tables (lines - line_count table)
-counted-fewer tables table lines are = record {
-  within = record { each = All-front IsInTime tables (table ∷ []) are.within.each; lines = omega (arith, total-more tables table, are.within.lines) };
   counted = omega (arith, total-more tables table, are.counted);
 }
 

@@ -1,5 +1,5 @@
 -- Tables that may be added to those of a run, with what a leaf is worth by them.
-use Rattle.std.specs.Prelude.{◌+◌, ◌<◌, ◌≤◌, ◌≡◌, List, [], ◌∷◌, ◌++◌, length, Option, Some, None}
+use Rattle.std.specs.Prelude.{ℕ, ◌+◌, ◌<◌, ◌≤◌, ◌≡◌, List, [], ◌∷◌, ◌++◌, length, Option, Some, None}
 use Rattle.fp_prices.specs.declared.leaf_prices.Kind.TheVariants.{Table}
 use Rattle.fp_prices.specs.Rounds.{LeafModel}
 use Rattle.fp_prices.specs.Shares.{ClassShare}
@@ -19,9 +19,10 @@ pub record IsCandidate (leaf : LeafModel) (tables : List (List ClassShare)) (c :
   pub named : c.start.kind ≡ Table (length tables + 1)
   pub start : IsStart leaf (tables ++ (c.table ∷ [])) c.start
 
--- such a table, by which the leaf is worth more than by a start
-pub record IsBetter (leaf : LeafModel) (tables : List (List ClassShare)) (start : Start) (c : Candidate) : Type 0 where
+-- such a table of at most so many price lines, by which the leaf is worth more than by a start
+pub record IsBetter (leaf : LeafModel) (tables : List (List ClassShare)) (room : ℕ) (start : Start) (c : Candidate) : Type 0 where
   pub candidate : IsCandidate leaf tables c
+  pub fits : line_count c.table ≤ room
   pub above : start.value < c.start.value
 
 -- where a candidate was found, there is this one too, and the leaf is worth no less by it

@@ -3,7 +3,7 @@ ghost use Rattle.std.specs.Prelude.{◌≡◌, ◌+◌, ◌<◌, ◌≤◌, ◌�
 ghost use Rattle.fp_prices.specs.Tables.{AreTables};
 ghost use Rattle.fp_duals.specs.declared.limits.TheConstants.{MOST_PRICE_LINES};
 ghost use Rattle.fp_duals.specs.Candidates.{IsBetter, IsCandidate, IsNoBetter};
-ghost use Rattle.fp_duals.specs.PriceLines.{line_total};
+ghost use Rattle.fp_duals.specs.PriceLines.{line_count, line_total};
 ghost use Rattle.fp_duals.specs.PriceTables.{IsFitTable};
 
 use crate::NoMemory;
@@ -35,6 +35,7 @@ fn prices_by(
     requires lines { lines + line_total tables.old ≤ MOST_PRICE_LINES }
     ensures same { tables.new ≡ tables.old }
     ensures candidate { IfOk result (λ found. IfSome found (IsCandidate leaf.now tables.old)) }
+    ensures lines { IfOk result (λ found. IfSome found (λ c. line_count c.table ≤ lines)) }
 {
     let id = tables.list().len() as u32 + 1;
     let kind = Kind::Table { id };
@@ -54,20 +55,22 @@ fn prices_by(
     }
 }
 
-// A table in a mode by which the leaf is worth more than by a start. The tables are as before.
+// A table in a mode, of at most so many price lines, by which the leaf is worth more than by a
+// start. The tables are as before.
 fn better_in_mode(
     alloc: Global,
     leaf: &Leaf,
     search: &mut Search,
+    room: u32,
     tables: &mut Tables,
     start: Start,
     forced: bool,
 ) -> Result<Option<Candidate>, NoMemory>
     requires tables { AreTables leaf.now.setting.problem tables.old }
     ensures same { tables.new ≡ tables.old }
-    ensures better { IfOk result (λ found. IfSome found (IsBetter leaf.now tables.old start)) }
+    ensures better { IfOk result (λ found. IfSome found (IsBetter leaf.now tables.old room start)) }
 {
-    let lines = search.lines(tables.left());
+    let lines = search.lines(tables.left().min(room));
     let Some(table) = search.table(alloc, tables.list(), start, forced, lines)? else {
         return Ok(None);
     };
@@ -99,23 +102,24 @@ fn better_of(first: Option<Candidate>, second: Option<Candidate>) -> Option<Cand
     }
 }
 
-/// A table by which a leaf is worth more than by a start, in one of the two modes. The tables are
-/// as before.
+/// A table of at most so many price lines by which a leaf is worth more than by a start, in one of
+/// the two modes. The tables are as before.
 pub(crate) fn better_table(
     alloc: Global,
     leaf: &Leaf,
     search: &mut Search,
+    room: u32,
     tables: &mut Tables,
     start: Start,
 ) -> Result<Option<Candidate>, NoMemory>
     requires tables { AreTables leaf.now.setting.problem tables.old }
     ensures same { tables.new ≡ tables.old }
-    ensures better { IfOk result (λ found. IfSome found (IsBetter leaf.now tables.old start)) }
+    ensures better { IfOk result (λ found. IfSome found (IsBetter leaf.now tables.old room start)) }
 {
-    let same = better_in_mode(alloc, leaf, search, tables, start, start.forced)?;
+    let same = better_in_mode(alloc, leaf, search, room, tables, start, start.forced)?;
     if !search.modes_differ() {
         return Ok(same);
     }
-    let other = better_in_mode(alloc, leaf, search, tables, start, !start.forced)?;
+    let other = better_in_mode(alloc, leaf, search, room, tables, start, !start.forced)?;
     Ok(better_of(same, other))
 }

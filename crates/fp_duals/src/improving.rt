@@ -9,6 +9,7 @@ ghost use Rattle.fp_prices.specs.Tables.{AreTables, HasKind};
 ghost use Rattle.fp_timenodes.specs.Points.{points_at};
 ghost use Rattle.fp_duals.specs.Choices.{IsChoice};
 ghost use Rattle.fp_duals.specs.Improvements.{IsImproved};
+ghost use Rattle.fp_duals.specs.PriceLines.{line_total};
 ghost use Rattle.fp_duals.specs.PriceTables.{ArePriceTables};
 ghost use Rattle.fp_duals.specs.Starts.{IsBestStart, IsStart};
 
@@ -50,11 +51,13 @@ fn least_walks(
     }
 }
 
-// The best start, or the prices by a table that is better and is added to the tables.
+// The best start, or the prices by a table that is better, has at most so many price lines, and is
+// added to the tables.
 fn choice(
     alloc: Global,
     leaf: &Leaf,
     search: &mut Search,
+    room: u32,
     tables: &mut Tables,
     start: Start,
     inherited: Kind,
@@ -63,9 +66,10 @@ fn choice(
     requires best { IsBestStart leaf.now tables.old inherited start }
     ensures tables { ArePriceTables leaf.now.setting.problem tables.new }
     ensures choice { IfOk result (IsChoice leaf.now tables.old tables.new inherited) }
+    ensures lines { IfOk result (λ _. line_total tables.new ≤ line_total tables.old + room) }
     ensures err { OnErr result (tables.new ≡ tables.old) }
 {
-    match better_table(alloc, leaf, search, tables, start)? {
+    match better_table(alloc, leaf, search, room, tables, start)? {
         Some(found) => {
             tables.push(found.table)?;
             Ok(found.start)
@@ -82,6 +86,7 @@ fn priced(
     round: u32,
     inherited: Kind,
     start: Start,
+    room: u32,
     tables: &mut Tables,
 ) -> Result<Improved, NoMemory>
     requires tables { ArePriceTables leaf.now.setting.problem tables.old }
@@ -90,13 +95,14 @@ fn priced(
         (IsImproved leaf.now.setting.problem (windows_in leaf.now.setting.windows)
         (points_in leaf.now.setting.network) leaf.now.sides tables.old tables.new inherited round) }
     ensures tables { ArePriceTables leaf.now.setting.problem tables.new }
+    ensures lines { IfOk result (λ _. line_total tables.new ≤ line_total tables.old + room) }
     ensures err { OnErr result (tables.new ≡ tables.old) }
 {
     // They belong to the instance, so no allowed class leaves a destination, and a forced chain that
     // reaches one is the only walk.
     let _windows = leaf.windows();
     let count = tables.list().len() as u32;
-    let chosen = choice(alloc, leaf, search, tables, start, inherited)?;
+    let chosen = choice(alloc, leaf, search, room, tables, start, inherited)?;
     match least_walks(alloc, leaf, search, tables.list(), chosen) {
         Ok(walks) => Ok(Improved::Priced {
             price: LeafPrice {
@@ -123,6 +129,7 @@ fn improve_from(
     round: u32,
     inherited: Kind,
     first: Start,
+    room: u32,
     tables: &mut Tables,
 ) -> Result<Improved, NoMemory>
     requires tables { ArePriceTables leaf.now.setting.problem tables.old }
@@ -134,10 +141,11 @@ fn improve_from(
         (IsImproved leaf.now.setting.problem (windows_in leaf.now.setting.windows)
         (points_in leaf.now.setting.network) leaf.now.sides tables.old tables.new inherited round) }
     ensures tables { ArePriceTables leaf.now.setting.problem tables.new }
+    ensures lines { IfOk result (λ _. line_total tables.new ≤ line_total tables.old + room) }
     ensures err { OnErr result (tables.new ≡ tables.old) }
 {
     let start = first.best(alloc, leaf, tables.list(), inherited)?;
-    priced(alloc, leaf, search, round, inherited, start, tables)
+    priced(alloc, leaf, search, round, inherited, start, room, tables)
 }
 
 /// Improves the price of a leaf over the network of a round, with so much effort, and with the nets of
@@ -151,11 +159,11 @@ fn improve_from(
 /// each shipment reaches its destination, the value is the scale times what the chains cost.
 ///
 /// The tables that were there stay, and the price is of one of the kinds of the starting prices, or
-/// one table is added: it is the last, it has a share, the price is by it, and the value is above
-/// those by all six starting prices. The tables are of the
-/// instance, in order and within the price rule, before and after, and a table that `inherited`
-/// names is one of them; its round and mode aren't used. `NoMemory` only where no memory is found;
-/// then the tables are as before.
+/// one table is added: it is the last, it has a share and at most `room` price lines, the price is by
+/// it, and the value is above those by all six starting prices. The tables are of the instance, in
+/// order and within the price rule, before and after, and a table that `inherited` names is one of
+/// them; its round and mode aren't used. `NoMemory` only where no memory is found; then the tables
+/// are as before.
 pub fn improve_leaf(
     alloc: Global,
     leaf: &Leaf,
@@ -163,6 +171,7 @@ pub fn improve_leaf(
     round: u32,
     inherited: LeafPrice,
     effort: &Effort,
+    room: u32,
     tables: &mut Tables,
 ) -> Result<Improved, NoMemory>
     requires tables { ArePriceTables leaf.now.setting.problem tables.old }
@@ -172,6 +181,7 @@ pub fn improve_leaf(
         (points_in leaf.now.setting.network) leaf.now.sides tables.old tables.new inherited.kind
         round) }
     ensures tables { ArePriceTables leaf.now.setting.problem tables.new }
+    ensures lines { IfOk result (λ _. line_total tables.new ≤ line_total tables.old + room) }
     ensures err { OnErr result (tables.new ≡ tables.old) }
 {
     match leaf.bound(alloc, tables.list(), Kind::Linear, true)? {
@@ -190,6 +200,7 @@ pub fn improve_leaf(
                 round,
                 inherited.kind,
                 first,
+                room,
                 tables,
             )
         }
@@ -197,7 +208,7 @@ pub fn improve_leaf(
 }
 
 /// Improves the price of a leaf with the points as of a round, as [`improve_leaf`] does, with the
-/// effort of a root.
+/// effort of a root, where a table may have as many price lines as the tables leave.
 ///
 /// The windows and the points belong to the instance; the terminals, the first points and the added
 /// points are together at most [`MOST_POINTS`].
@@ -227,5 +238,8 @@ pub fn improve(
     let leaf = Leaf::of(alloc, &network, windows, sides)?;
     let mut nets = LentNets::new();
     let effort = &Effort::ROOT;
-    improve_leaf(alloc, &leaf, &mut nets, round, inherited, effort, tables)
+    let room = tables.left();
+    improve_leaf(
+        alloc, &leaf, &mut nets, round, inherited, effort, room, tables,
+    )
 }

@@ -82,8 +82,8 @@ impl Tables {
         }
     }
 
-    /// How many price lines may still be added.
-    pub(crate) fn left(&self) -> u32
+    /// How many price lines may still be added. Takes no memory.
+    pub fn left(&self) -> u32
         ensures { result + line_total self.now ≡ MOST_PRICE_LINES }
     {
         MOST_PRICE_LINES - self.lines

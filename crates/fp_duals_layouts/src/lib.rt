@@ -14,6 +14,7 @@ mod charges;
 mod groups;
 mod joins;
 mod layouts;
+mod load_rows;
 mod payers;
 mod prices;
 mod sets;

@@ -2,8 +2,9 @@
 //! bits and with few loads.
 
 use crate::NoMemory;
+use crate::load_rows::add_item;
 use crate::payers::Payer;
-use fp_duals_nets::{copy_all, part_mut};
+use fp_duals_nets::part_mut;
 use std::alloc::Global;
 
 /// The most grains of all payers together by which charges are told apart in the end.
@@ -27,6 +28,13 @@ struct Item {
     place: usize,
 }
 
+impl Item {
+    // Its size in grains.
+    fn grains(self, grain: u64) -> usize {
+        (self.size / grain.max(1)).min(MOST_GRAINS + 1) as usize
+    }
+}
+
 /// Sets of payers, by their loads. The memory is kept from span to span.
 #[derive(Drop)]
 pub(crate) struct Sets {
@@ -34,10 +42,41 @@ pub(crate) struct Sets {
     // What the items come to.
     size: u64,
     weight: u64,
-    // In rows of loads: what a set of the first items pays at most, by its load in grains.
-    rows: Vec<u64>,
+    // In rows of loads: what a set of the first items pays at most, by its load in grains. A row is
+    // filled up to what the items with the next one come to. The numbers are below 2^62, and of
+    // signed ones the greater is found in less time.
+    rows: Vec<i64>,
     width: usize,
+    // The last load that is filled in the last row.
+    last: usize,
     grain: u64,
+}
+
+/// The charge of a span, and its slack where it isn't charged: what all weights may rise by
+/// together so that it still isn't, where that is known.
+#[derive(Clone, Copy)]
+pub(crate) struct Finding {
+    pub charge: u64,
+    pub slack: Option<u64>,
+}
+
+impl Finding {
+    /// A charge, or none with nothing known.
+    const fn of(charge: u64) -> Finding {
+        Finding {
+            charge,
+            slack: None,
+        }
+    }
+}
+
+// By how much the money for the trucks of some set is passed at most, and a load at which it's so;
+// and by how little the money passes what a set pays.
+#[derive(Clone, Copy)]
+struct Excess {
+    most: u64,
+    load: usize,
+    slack: u64,
 }
 
 impl Terms {
@@ -52,17 +91,17 @@ impl Terms {
     }
 }
 
-// The row with one item more.
-fn add_item(old: &[u64], new: &mut [u64], grains: usize, weight: u64) {
-    let without = old.get(grains..).unwrap_or(&[]);
-    match new.split_at_mut_checked(grains) {
-        Some((below, above)) => {
-            copy_all(below, old);
-            for ((to, from), rest) in above.iter_mut().zip(without.iter()).zip(old.iter()) {
-                *to = (*from).max(rest.wrapping_add(weight));
-            }
-        }
-        None => copy_all(new, old),
+// Marks nobody.
+fn clear_marks(marks: &mut [bool]) {
+    for mark in marks.iter_mut() {
+        *mark = false;
+    }
+}
+
+// Marks all who pay.
+fn mark_payers(marks: &mut [bool], weights: &[u64]) {
+    for (mark, weight) in marks.iter_mut().zip(weights.iter()) {
+        *mark = *weight > 0;
     }
 }
 
@@ -75,6 +114,7 @@ impl Sets {
             weight: 0,
             rows: Vec::new(alloc),
             width: 0,
+            last: 0,
             grain: 1,
         }
     }
@@ -82,13 +122,12 @@ impl Sets {
     // Lists those who pay, but for the one at a place.
     fn list(&mut self, payers: &[Payer], weights: &[u64], without: usize) -> Result<(), NoMemory> {
         self.items.clear();
-        self.size = 0;
-        self.weight = 0;
+        let (mut all, mut sum) = (0u64, 0u64);
         let mut place = 0usize;
         for (payer, weight) in payers.iter().zip(weights.iter()) {
             if *weight > 0 && place != without {
-                self.size = self.size.saturating_add(payer.size);
-                self.weight = self.weight.saturating_add(*weight);
+                all = all.saturating_add(payer.size);
+                sum = sum.saturating_add(*weight);
                 self.items.push(Item {
                     size: payer.size,
                     weight: *weight,
@@ -97,6 +136,8 @@ impl Sets {
             }
             place = place.wrapping_add(1);
         }
+        self.size = all;
+        self.weight = sum;
         Ok(())
     }
 
@@ -120,71 +161,129 @@ impl Sets {
         if cells > self.rows.len() {
             self.rows.resize(cells, 0)?;
         }
-        if let Some(first) = part_mut(&mut self.rows, 0, self.width) {
-            for cell in first.iter_mut() {
-                *cell = 0;
-            }
+        if let Some(first) = self.rows.first_mut() {
+            *first = 0;
         }
         let mut start = 0usize;
+        let mut last = 0usize;
         for item in &self.items {
             let next = start.wrapping_add(self.width);
             if let Some((before, after)) = self.rows.split_at_mut_checked(next)
-                && let Some(old) = before.get(start..)
+                && let Some(old) = part_mut(before, start, next)
                 && let Some(new) = part_mut(after, 0, self.width)
             {
-                let grains = (item.size / self.grain).min(MOST_GRAINS + 1) as usize;
-                add_item(old, new, grains, item.weight);
+                last = add_item(
+                    old,
+                    new,
+                    last,
+                    item.grains(self.grain),
+                    item.weight.cast_signed(),
+                );
             }
             start = next;
         }
+        self.last = last;
         Ok(())
     }
 
     // The row with so many items.
-    fn row(&self, items: usize) -> &[u64] {
+    fn row(&self, items: usize) -> &[i64] {
         let start = items.wrapping_mul(self.width);
         self.rows
             .get(start..start.wrapping_add(self.width))
             .unwrap_or(&[])
     }
 
-    // The greatest excess over the money, and a load at which it's so.
-    fn greatest_excess(&self, terms: Terms) -> (u64, usize) {
-        let mut trucks = 1u64;
-        let mut last = terms.last_load(1, self.grain);
-        let (mut most, mut at) = (0u64, 0usize);
-        let mut load = 0u64;
-        for weight in self.row(self.items.len()) {
-            if load > last {
-                trucks = terms.trucks(load.saturating_mul(self.grain));
-                last = terms.last_load(trucks, self.grain);
-            }
-            let excess = weight.saturating_sub(terms.money.saturating_mul(trucks));
-            if excess > most {
-                most = excess;
-                at = load as usize;
-            }
-            load = load.wrapping_add(1);
-        }
-        (most, at)
+    // The last row, as far as it's filled.
+    fn last_row(&self) -> &[i64] {
+        let row = self.row(self.items.len());
+        row.get(..self.last.wrapping_add(1)).unwrap_or(row)
     }
 
-    // Marks the items of the best set of a load.
+    // The trucks for a load of the last row beside `more` grains, and the last load of the row that
+    // they hold beside these.
+    fn trucks_at(&self, terms: Terms, load: usize, more: u64) -> (u64, usize) {
+        let all = (load as u64).saturating_add(more);
+        let trucks = terms.trucks(all.saturating_mul(self.grain));
+        let held = terms.last_load(trucks, self.grain).saturating_sub(more);
+        let last = (held.min(MOST_GRAINS) as usize).min(self.last);
+        (trucks, last.max(load))
+    }
+
+    // The greatest excess over the money, and a load at which it's so. The most is paid at the last
+    // load of each number of trucks.
+    fn greatest_excess(&self, terms: Terms) -> Excess {
+        let row = self.last_row();
+        let (mut most, mut slack) = (0u64, u64::MAX);
+        let (mut paid, mut first) = (0i64, 0usize);
+        let mut load = 0usize;
+        for _ in 0..row.len() {
+            let (trucks, last) = self.trucks_at(terms, load, 0);
+            let Some(weight) = row.get(last) else {
+                break;
+            };
+            let money = terms.money.saturating_mul(trucks);
+            let excess = weight.cast_unsigned().saturating_sub(money);
+            if excess > most {
+                most = excess;
+                paid = *weight;
+                first = load;
+            }
+            slack = money.saturating_sub(weight.cast_unsigned()).min(slack);
+            load = last.wrapping_add(1);
+        }
+        let loads = row.get(first..).unwrap_or(&[]);
+        let load = first.wrapping_add(loads.partition_point(|weight| *weight < paid));
+        Excess { most, load, slack }
+    }
+
+    // Marks the items of the best set of a load, and no other payers.
     fn mark(&self, load: usize, marks: &mut [bool]) {
+        clear_marks(marks);
         let mut left = load;
+        let mut rest = 0usize;
+        for item in &self.items {
+            rest = rest.saturating_add(item.grains(self.grain));
+        }
         for number in (0..self.items.len()).rev() {
+            left = left.min(rest);
             let with = self.row(number.wrapping_add(1)).get(left);
-            if let Some(item) = self.items.get(number)
-                && with != self.row(number).get(left)
-            {
-                if let Some(mark) = marks.get_mut(item.place) {
-                    *mark = true;
+            if let Some(item) = self.items.get(number) {
+                let grains = item.grains(self.grain);
+                rest = rest.saturating_sub(grains);
+                if with != self.row(number).get(left) {
+                    if let Some(mark) = marks.get_mut(item.place) {
+                        *mark = true;
+                    }
+                    left = left.saturating_sub(grains);
                 }
-                left = left.saturating_sub(
-                    (item.size / self.grain.max(1)).min(MOST_GRAINS) as usize,
-                );
             }
         }
+    }
+
+    // Whether sets of all these payers, whatever they pay, are told apart by their sizes alone.
+    fn is_exact(terms: Terms, payers: &[Payer]) -> bool {
+        let mut size = 0u64;
+        for payer in payers {
+            size = size.saturating_add(payer.size);
+        }
+        size / terms.grain.max(1) <= terms.loads.min(MOST_GRAINS)
+    }
+
+    // What is found by rows, where trucks cost something.
+    fn find(&mut self, terms: Terms, marks: &mut [bool]) -> Result<Excess, NoMemory> {
+        // No set with more trucks than these pays more than its money.
+        let trucks = self.weight.saturating_sub(1) / terms.money.max(1);
+        let most = self.size.min(trucks.saturating_mul(terms.capacity));
+        let grain = self.grain_for(terms, self.size, most);
+        self.fill(grain, most)?;
+        let mut excess = self.greatest_excess(terms);
+        if excess.most > 0 {
+            self.mark(excess.load, marks);
+        }
+        let next = terms.money.saturating_mul(trucks.saturating_add(1));
+        excess.slack = next.saturating_sub(self.weight).min(excess.slack);
+        Ok(excess)
     }
 
     /// What the weights of some set pass the money for the set's trucks by at most; and, where this
@@ -195,28 +294,25 @@ impl Sets {
         payers: &[Payer],
         weights: &[u64],
         marks: &mut [bool],
-    ) -> Result<u64, NoMemory> {
+    ) -> Result<Finding, NoMemory> {
         self.list(payers, weights, usize::MAX)?;
-        if self.weight <= terms.money {
-            return Ok(0);
+        let rest = terms.money.checked_sub(self.weight);
+        if terms.money == 0 {
+            mark_payers(marks, weights);
+            return Ok(Finding::of(self.weight));
         }
-        let free = terms.money == 0;
-        for (mark, weight) in marks.iter_mut().zip(weights.iter()) {
-            *mark = free && *weight > 0;
-        }
-        if free {
-            return Ok(self.weight);
-        }
-        // No set with more trucks than these pays more than its money.
-        let trucks = self.weight.wrapping_sub(1) / terms.money.max(1);
-        let most = self.size.min(trucks.saturating_mul(terms.capacity));
-        let grain = self.grain_for(terms, self.size, most);
-        self.fill(grain, most)?;
-        let (charge, load) = self.greatest_excess(terms);
-        if charge > 0 {
-            self.mark(load, marks);
-        }
-        Ok(charge)
+        let (charge, slack) = match rest {
+            Some(rest) => (0, rest),
+            None => {
+                let excess = self.find(terms, marks)?;
+                (excess.most, excess.slack)
+            }
+        };
+        let known = charge == 0 && Sets::is_exact(terms, payers);
+        Ok(Finding {
+            charge,
+            slack: known.then_some(slack),
+        })
     }
 
     /// The most that the payer at a place may pay beside the others, so that no charge above this
@@ -246,17 +342,17 @@ impl Sets {
 
     // The least that some set of the items leaves to one that has so many grains.
     fn least_room(&self, terms: Terms, grains: u64, charge: u64) -> u64 {
+        let row = self.last_row();
         let mut least = u64::MAX;
-        let mut load = grains;
-        let (mut trucks, mut last) = (0u64, 0u64);
-        for weight in self.row(self.items.len()) {
-            if load > last || trucks == 0 {
-                trucks = terms.trucks(load.saturating_mul(self.grain));
-                last = terms.last_load(trucks, self.grain);
-            }
+        let mut load = 0usize;
+        for _ in 0..row.len() {
+            let (trucks, last) = self.trucks_at(terms, load, grains);
+            let Some(weight) = row.get(last) else {
+                break;
+            };
             let all = terms.money.saturating_mul(trucks).saturating_add(charge);
-            least = least.min(all.saturating_sub(*weight));
-            load = load.saturating_add(1);
+            least = least.min(all.saturating_sub(weight.cast_unsigned()));
+            load = last.wrapping_add(1);
         }
         least
     }

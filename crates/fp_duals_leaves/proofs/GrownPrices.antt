@@ -1,7 +1,8 @@
 -- Prices that have grown, and those that a search begins with.
-use Rattle.std.proofs.Common.{◌≡◌, ◌≢◌, ℕ, ◌≤◌, List, [], ◌∷◌, ◌++◌, refl, sym, ap, ◌∙◌, subst, arith, rules, append-nil, append_assoc}
+use Rattle.std.proofs.Common.{◌≡◌, ◌≢◌, ℕ, ◌≤◌, List, [], ◌∷◌, ◌++◌, length, take, refl, sym, ap, ◌∙◌, subst, arith, rules, append-nil}
 use Rattle.std.specs.Prelude.{All, IfSome, Option, None, Some}
 use Rattle.std.proofs.lemmas.List.{length-append}
+use Rattle.std.proofs.Math.Seq.{take-append_seam}
 use Rattle.std.proofs.lemmas.List.Elements.{All-append, All-cons, All-nil}
 use Rattle.fp_model.specs.Problem.{Problem}
 use Rattle.fp_prices.specs.Shares.{ClassShare}
@@ -10,7 +11,7 @@ use Rattle.fp_prices_spans.specs.Spans.{ClassSpan}
 use Rattle.fp_duals.specs.PriceTables.{IsShareOf}
 use Rattle.fp_duals.proofs.PriceTables.{ArePriceTables-append}
 use Rattle.fp_duals_leaves.specs.SoundSpans.{AreSoundSpans}
-use Rattle.fp_duals_leaves.specs.Prices.{ArePrices, HaveGrown, IsUnitOf, PriceLists, empty_prices, with_more}
+use Rattle.fp_duals_leaves.specs.Prices.{ArePrices, HaveGrown, IsUnitOf, PriceLists, first_prices, with_more}
 
 -- prices that stayed
 pub HaveGrown-same : (p : Problem) (before after : PriceLists) → after ≡ before → ArePrices p before → HaveGrown p before after
@@ -26,16 +27,21 @@ HaveGrown-same p before after same prices = record {
 pub HaveGrown_none : (p : Problem) (x : PriceLists) → ArePrices p x → HaveGrown p x x
 HaveGrown_none p x are = HaveGrown-same p x x refl are
 
--- prices that grew twice
-pub HaveGrown-twice : (p : Problem) (before between after : PriceLists) → HaveGrown p before between → HaveGrown p between after → HaveGrown p before after
-HaveGrown-twice p before between after one two = record {
-  tables = one.tables ++ two.tables;
-  spans = one.spans ++ two.spans;
-  is = two.is ∙ ap (λ (x : PriceLists). with_more x two.tables two.spans) one.is
-      ∙ ap (λ (ts : List (List ClassShare)). record { tables = ts; spans = (before.spans ++ one.spans) ++ two.spans; unit = before.unit }) (append_assoc before.tables one.tables two.tables)
-      ∙ ap (λ (ss : List (List ClassSpan)). record { tables = before.tables ++ (one.tables ++ two.tables); spans = ss; unit = before.unit }) (append_assoc before.spans one.spans two.spans);
-  prices = two.prices;
-}
+-- prices that grew and are cut to what was there
+pub HaveGrown-cut : (p : Problem) (before after : PriceLists) (n : ℕ) → ArePrices p before → HaveGrown p before after → n ≡ length before.tables → first_prices n after ≡ before
+HaveGrown-cut p before after n are grown is =
+    let tables : take n (before.tables ++ grown.tables) ≡ before.tables =
+    ap (λ (k : ℕ). take k (before.tables ++ grown.tables)) is ∙ take-append_seam before.tables grown.tables in
+    let spans : take n (before.spans ++ grown.spans) ≡ before.spans =
+    ap (λ (k : ℕ). take k (before.spans ++ grown.spans)) (is ∙ sym are.beside) ∙ take-append_seam before.spans grown.spans in
+    ap (first_prices n) grown.is
+    ∙ ap (λ (ts : List (List ClassShare)). record { tables = ts; spans = take n (before.spans ++ grown.spans); unit = before.unit }) tables
+    ∙ ap (λ (ss : List (List ClassSpan)). record { tables = before.tables; spans = ss; unit = before.unit }) spans
+
+-- they have no fewer tables
+pub HaveGrown-long : (p : Problem) (before after : PriceLists) → HaveGrown p before after → length before.tables ≤ length after.tables
+HaveGrown-long p before after grown =
+    omega (arith, length-append before.tables grown.tables, ap (λ (x : PriceLists). length x.tables) grown.is)
 
 -- one table without shares more, with sound spans beside it, where spans are sought
 pub HaveGrown-spans : (p : Problem) (before after : PriceLists) (spans : List ClassSpan) → ArePrices p before → before.unit ≢ None → AreSoundSpans p spans → after ≡ with_more before ([] ∷ []) (spans ∷ []) → HaveGrown p before after
@@ -63,13 +69,3 @@ unit-some p x are = by_unit x.unit are.unit
     by_unit : (o : Option ℕ) → IfSome o (IsUnitOf p) → IfSome o (λ u. 1 ≤ u)
     by_unit None is = tt
     by_unit (Some unit) is = is.range.least
-
--- prices without tables
-pub empty-are : (p : Problem) (unit : Option ℕ) → IfSome unit (IsUnitOf p) → ArePrices p (empty_prices unit)
-empty-are p unit is = record {
-  tables = record { in_order = record { ascending = search rules; rule = tt }; of_instance = search rules };
-  spans = search rules;
-  beside = refl;
-  unit = is;
-  without = λ none. search rules;
-}

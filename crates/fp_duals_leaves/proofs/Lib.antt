@@ -2,4 +2,5 @@ pub mod SoundSpans
 pub mod GrownPrices
 pub mod Worths
 pub mod ImprovedPrices
-pub mod SameSpanValues
+pub mod SpansBeside
+pub mod WrittenLines

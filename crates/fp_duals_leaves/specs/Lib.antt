@@ -1,3 +1,4 @@
+pub mod PriceLines
 pub mod SoundSpans
 pub mod SpanPrices
 pub mod Prices

@@ -9,18 +9,20 @@
 #![tactic(auto)]
 
 mod efforts;
+mod laws;
 mod leaf_spans;
 mod prices;
 mod pricing;
-mod rounds;
+mod roots;
 mod span_prices;
 mod span_tests;
 mod walks;
 
 pub use efforts::PriceEffort;
+pub use laws::price_lines_are_written;
 pub use prices::Prices;
 pub use pricing::{Worth, improve};
-pub use rounds::better_spans_of;
+pub use roots::improve_root;
 pub use span_prices::SpanPrice;
 pub use walks::walks_by_spans;
 

@@ -1,10 +1,12 @@
 //! The prices of a search.
-ghost use Rattle.std.specs.Prelude.{◌≡◌, ◌<◌, ◌≤◌, MatchBool, IfOk, OnErr, [], ◌∷◌, length};
+ghost use Rattle.std.specs.Prelude.{◌≡◌, ◌+◌, ◌<◌, ◌≤◌, MatchBool, MatchOption, IfOk, OnErr, false, [], ◌∷◌, length};
 ghost use Rattle.fp_flatnet.specs.Tables.{windows_in};
 ghost use Rattle.fp_longestarcs.specs.Networks.{points_in};
 ghost use Rattle.fp_prices.specs.Tables.{HasKind};
+ghost use Rattle.fp_duals.specs.declared.limits.TheConstants.{MOST_PRICE_LINES};
 ghost use Rattle.fp_duals.specs.PriceLines.{AreWithinLimits};
 ghost use Rattle.fp_prices_spans.specs.SpanKinds.{spans_beside as spans_beside_kind};
+ghost use Rattle.fp_duals_leaves.specs.PriceLines.{AreFewLines, price_lines, span_lines};
 ghost use Rattle.fp_duals_leaves.specs.Prices.{ArePrices, HaveGrown, empty_prices, first_prices, with_more};
 ghost use Rattle.fp_duals_leaves.specs.Pricing.{IsImprovedBy};
 
@@ -16,37 +18,57 @@ use fp_prices_spans::{Span, TableSpans, spans_beside};
 use std::alloc::Global;
 use std::marker::Model;
 
-// The most lines of spans in a run, so that its certificate can be handled: all spans, and all their
-// weights.
-const MOST_SPAN_LINES: usize = 500_000;
-
 /// Tables of prices, the spans beside each, and the unit by which what leaves are worth is rounded
 /// up. A search that seeks spans has a unit.
+///
+/// They have at most 500,000 price lines in all, so that the certificate of a run can be handled: the
+/// tables, their shares, the spans, and the weights of shares and of spans.
 #[derive(Drop)]
 pub struct Prices {
     tables: Tables,
     spans: Vec<TableSpans>,
+    // How many lines the spans have in all, with their weights.
+    span_lines: u32,
     unit: Option<u128>,
 }
 
 impl Model for Prices {
-    ghost use Rattle.std.specs.Prelude.{◌≡◌, length};
+    ghost use Rattle.fp_duals_leaves.specs.PriceLines.{AreCountedPrices};
     ghost use Rattle.fp_duals_leaves.specs.Prices.{PriceLists};
 
     ghost Value = { PriceLists };
 
     ghost view = { λ x. record { tables = x.tables; spans = x.spans.items; unit = x.unit } };
 
-    ghost invariant = { λ x. length x.spans.items ≡ length x.tables };
+    ghost invariant = { λ x. AreCountedPrices x.tables x.spans.items x.span_lines };
 }
 
-// The lines of spans.
-fn lines_of(spans: &[Span]) -> usize {
-    let mut lines = 0usize;
+// The lines of spans that have few enough.
+fn lines_of(spans: &[Span]) -> u32
+    requires { span_lines spans.now ≤ MOST_PRICE_LINES }
+    ensures { result ≡ span_lines spans.now }
+{
+    let mut lines = 0;
     for span in spans {
-        lines = lines.saturating_add(1).saturating_add(span.weights.len());
+        lines += 1 + span.weights.len() as u32;
     }
     lines
+}
+
+// The lines of spans, where they are at most so many.
+fn lines_within(spans: &[Span], most: u32) -> Option<u32>
+    ensures { MatchOption result (most < span_lines spans.now)
+        (λ lines. (lines ≡ span_lines spans.now) × (lines ≤ most)) }
+{
+    let mut left = u64::from(most);
+    for span in spans {
+        let weights = span.weights.len() as u64;
+        if weights >= left {
+            return None;
+        }
+        left -= weights + 1;
+    }
+    Some(most - left as u32)
 }
 
 impl Prices {
@@ -57,6 +79,7 @@ impl Prices {
         Prices {
             tables: Tables::new(alloc),
             spans: Vec::new(alloc),
+            span_lines: 0,
             unit,
         }
     }
@@ -65,6 +88,7 @@ impl Prices {
     pub fn tables(&self) -> &[Table]
         ensures same { result.now ≡ self.now.tables }
         ensures within { AreWithinLimits self.now.tables }
+        ensures few { AreFewLines self.now.tables self.now.spans }
     {
         self.tables.list()
     }
@@ -83,6 +107,13 @@ impl Prices {
         self.unit
     }
 
+    /// How many price lines may still be added.
+    fn left(&self) -> u32
+        ensures { result + price_lines self.now.tables self.now.spans ≡ MOST_PRICE_LINES }
+    {
+        self.tables.left() - self.span_lines
+    }
+
     /// How many tables there are.
     pub fn count(&self) -> u32
         ensures { result ≡ length self.now.tables }
@@ -96,6 +127,7 @@ impl Prices {
         ensures spans { result.1.items ≡ self.spans }
         ensures unit { result.2 ≡ self.unit }
         ensures within { AreWithinLimits self.tables }
+        ensures few { AreFewLines self.tables self.spans }
     {
         let _within = self.tables.list();
         (self.tables.into_list(), self.spans, self.unit)
@@ -108,7 +140,8 @@ impl Prices {
     {
         self.tables.cut(count);
         while self.spans.len() > count as usize {
-            let _ = self.spans.pop();
+            let beside = self.spans.pop().unwrap();
+            self.span_lines -= lines_of(&beside.spans);
         }
     }
 
@@ -128,7 +161,8 @@ impl Prices {
         }
     }
 
-    /// Improves a leaf's price by tables alone. A table that comes has no spans beside it.
+    /// Improves a leaf's price by tables alone. A table that comes has no spans beside it, and no more
+    /// price lines than are left.
     pub(crate) fn improve(
         &mut self,
         alloc: Global,
@@ -147,7 +181,9 @@ impl Prices {
     {
         let count = self.count();
         let plain = self.without_spans(inherited);
-        let improved = improve_leaf(alloc, leaf, nets, round, plain, effort, &mut self.tables)?;
+        let room = self.left();
+        let tables = &mut self.tables;
+        let improved = improve_leaf(alloc, leaf, nets, round, plain, effort, room, tables)?;
         if self.tables.list().len() <= self.spans.len() {
             return Ok(improved);
         }
@@ -159,22 +195,22 @@ impl Prices {
         Ok(improved)
     }
 
-    /// Whether there is room for spans among the lines of a run.
-    pub(crate) fn has_room(&self, spans: &[Span]) -> bool {
-        let mut lines = lines_of(spans);
-        for beside in &self.spans {
-            lines = lines.saturating_add(lines_of(&beside.spans));
-        }
-        lines <= MOST_SPAN_LINES
-    }
-
-    /// Adds a table without shares and spans beside it, and tells whether it did: not where no price
-    /// line is left.
+    /// Adds a table without shares and spans beside it, and tells whether it did: not where they would
+    /// be more price lines than are left.
     pub(crate) fn push_spans(&mut self, alloc: Global, spans: Vec<Span>) -> Result<bool, NoMemory>
         ensures added { IfOk result (λ added. MatchBool added
             (self.new ≡ with_more self.old ([] ∷ []) (spans.items ∷ [])) (self.new ≡ self.old)) }
+        ensures full { IfOk result (λ added. added ≡ false
+            → MOST_PRICE_LINES < price_lines self.old.tables self.old.spans + 1 + span_lines spans.items) }
         ensures err { OnErr result (self.new ≡ self.old) }
     {
+        let left = self.left();
+        if left == 0 {
+            return Ok(false);
+        }
+        let Some(lines) = lines_within(&spans, left - 1) else {
+            return Ok(false);
+        };
         let count = self.count();
         if !self.tables.push_empty(alloc)? {
             return Ok(false);
@@ -183,6 +219,7 @@ impl Prices {
             self.tables.cut(count);
             return Err(error.into());
         }
+        self.span_lines += lines;
         Ok(true)
     }
 }

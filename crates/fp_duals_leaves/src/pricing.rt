@@ -1,5 +1,5 @@
 //! The price of a leaf is improved, by tables and by spans.
-ghost use Rattle.std.specs.Prelude.{◌≡◌, ◌≢◌, None, IfOk};
+ghost use Rattle.std.specs.Prelude.{◌≡◌, ◌≢◌, None, IfOk, OnErr};
 ghost use Rattle.fp_flatnet.specs.Tables.{windows_in};
 ghost use Rattle.fp_longestarcs.specs.Networks.{points_in};
 ghost use Rattle.fp_prices.specs.Tables.{HasKind};
@@ -88,9 +88,6 @@ fn by_spans(
     let Some(found) = found else {
         return Ok(first);
     };
-    if !prices.has_room(&found.spans) {
-        return Ok(first);
-    }
     let id = prices.count() + 1;
     if !prices.push_spans(alloc, found.spans)? {
         return Ok(first);
@@ -135,14 +132,8 @@ fn spanned(
     }
 }
 
-/// Improves the price of a leaf as of a round, from a price that it inherits: by tables, and where
-/// the prices have a unit by spans too.
-///
-/// The leaf lies over the network of the round, and the nets are those of the leaf. What is found is the leaf's first shipment without
-/// an allowed walk; or a price as of the round, what the leaf is worth by it in parts of a unit of
-/// money, and an allowed walk of each shipment. The prices grow by at most two tables, also without
-/// memory. `NoMemory` only where no memory is found.
-pub fn improve(
+// A price of a leaf as of a round, as `improve` has it; without memory the prices may have grown.
+fn improve_further(
     alloc: Global,
     leaf: &Leaf,
     nets: &mut LentNets,
@@ -172,6 +163,41 @@ pub fn improve(
                 value: worth.value,
                 walks,
             })
+        }
+    }
+}
+
+/// Improves the price of a leaf as of a round, from a price that it inherits: by tables, and where
+/// the prices have a unit by spans too.
+///
+/// The leaf lies over the network of the round, and the nets are those of the leaf. What is found is
+/// the leaf's first shipment without an allowed walk; or a price as of the round, what the leaf is
+/// worth by it in parts of a unit of money, and an allowed walk of each shipment. The prices grow by
+/// at most two tables. `NoMemory` only where no memory is found; then they are as before.
+#[tactic(auto, using(crate::proofs::GrownPrices::HaveGrown_none))]
+pub fn improve(
+    alloc: Global,
+    leaf: &Leaf,
+    nets: &mut LentNets,
+    round: u32,
+    inherited: LeafPrice,
+    effort: &PriceEffort,
+    prices: &mut Prices,
+) -> Result<Improved, NoMemory>
+    requires prices { ArePrices leaf.now.setting.problem prices.old }
+    requires kind { HasKind prices.old.tables inherited.kind }
+    ensures grown { HaveGrown leaf.now.setting.problem prices.old prices.new }
+    ensures improved { IfOk result
+        (IsImprovedBy leaf.now.setting.problem (windows_in leaf.now.setting.windows)
+        (points_in leaf.now.setting.network) leaf.now.sides prices.new round) }
+    ensures err { OnErr result (prices.new ≡ prices.old) }
+{
+    let count = prices.count();
+    match improve_further(alloc, leaf, nets, round, inherited, effort, prices) {
+        Ok(improved) => Ok(improved),
+        Err(error) => {
+            prices.cut(count);
+            Err(error)
         }
     }
 }

@@ -5,14 +5,12 @@ ghost use Rattle.fp_certificate_lines.specs.Ranges.{IsSpanInRange, IsWeightInRan
 ghost use Rattle.fp_duals_leaves.specs.SoundSpans.{AreSoundSpans};
 
 use crate::NoMemory;
+use fp_certificate_lines::LARGEST_FIGURE;
 use fp_model::Instance;
 use fp_model::limits::LATEST;
 use fp_prices::Weight;
 use fp_prices_spans::{Span, are_paid};
 use std::alloc::Global;
-
-// The largest figure that a certificate may have where no other limit is named.
-const LARGEST_FIGURE: u128 = u128::MAX / 2;
 
 // Whether the shipments of weights exist, and each is small enough for a certificate.
 fn weights_in_range(instance: &Instance, weights: &[Weight]) -> bool

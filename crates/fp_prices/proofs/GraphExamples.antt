@@ -32,17 +32,8 @@ abbrev edge : ℕ → ℕ → Edge
 edge from to = record { from = from; to = to }
 
 -- the six points are numbered by terminal and then by time
-nodes : point_count network ≡ 6
-nodes = refl
-
-begins_last : first_node network 2 ≡ 3
-begins_last = refl
-
-ends_last : last_node network 2 ≡ 5
-ends_last = refl
-
-second_of_b : point_node network 1 4 ≡ 2
-second_of_b = refl
+nodes : (point_count network ≡ 6) × (first_node network 2 ≡ 3) × (last_node network 2 ≡ 5) × (point_node network 1 4 ≡ 2)
+nodes = (refl, refl, refl, refl)
 
 -- the three classes: A to B at 0 enters B at 4, B to C at 0 enters C at 0 and at 4 it enters C at 9; then B and C are held
 all_edges : edges_of line network ≡ edge 0 2 ∷ edge 1 3 ∷ edge 2 5 ∷ edge 1 2 ∷ edge 3 4 ∷ edge 4 5 ∷ []

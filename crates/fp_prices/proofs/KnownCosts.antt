@@ -1,10 +1,8 @@
 -- Costs that are known from an earlier leaf hold at all plain leaves over a network by the same kind.
-use Rattle.std.proofs.Common.{◌≡◌, ℕ, ◌<◌, Bool, true, false, cond, List, [], ◌∷◌, ◌++◌, length, get_or, replicate, refl, sym, ap, ◌∙◌, subst, arith, ⊎_elim, inl, inr}
-use Rattle.std.specs.Prelude.{Err, IfOk, Ok, Result, Some, ◌&&◌, ◌⊎◌, map, slice_get}
-use Rattle.std.proofs.Math.ListN.{set}
-use Rattle.std.proofs.lemmas.Bool.{cases_eq, le-leb, lt-ltb}
-use Rattle.std.proofs.lemmas.List.{ext_get_or, length-append, length-replicate, length-set, get_or_append_left, get_or_push, get_or-set_same, get_or-set_other}
-use Rattle.std.proofs.lemmas.Option.{get_or_from_slice_get, slice_get-get_or, slice_get_within}
+use Rattle.std.proofs.Common.{◌≡◌, ℕ, ◌<◌, Bool, true, false, cond, List, [], length, get_or, replicate, refl, sym, ap, ◌∙◌, subst, arith, ⊎_elim}
+use Rattle.std.specs.Prelude.{Err, IfOk, Ok, Result, Some, ◌&&◌, ◌⊎◌, map}
+use Rattle.std.proofs.lemmas.Bool.{le-leb, lt-ltb}
+use Rattle.std.proofs.lemmas.List.{ext_get_or, length-replicate}
 use Rattle.std.proofs.lemmas.Simd.{get_or-zip2, length-zip2}
 use Rattle.fp_rows.specs.Bits.{and_bits, with_range}
 use Rattle.fp_model.specs.declared.parts.Leg.{Leg}
@@ -47,38 +45,10 @@ copy-is n row long =
     get_or-zip2 (λ (a b : Bool). a && b) whole row i false false false (omega (arith, inside, count)) (omega (arith, inside, long))
     ∙ ap (λ (b : Bool). b && get_or row i false) (bit i inside))
 
--- what is known where one entry was replaced
-pub known-set : (known : List KnownCost) (i : ℕ) (x : KnownCost) → i < length known → (k : ℕ) (entry : KnownCost) → slice_get (set known i x) k ≡ Some entry → (slice_get known k ≡ Some entry) ⊎ ((k ≡ i) × (entry ≡ x))
-known-set known i x inside k entry got =
-    ⊎_elim
-    (λ (same : k ≡ i).
-    inr (same, sym (get_or_from_slice_get (set known i x) k entry x got) ∙ ap (λ (j : ℕ). get_or (set known i x) j x) same ∙ get_or-set_same known i x x inside))
-    (λ (other : k ≡ i → ⊥).
-    let is : get_or known k x ≡ entry = sym (get_or-set_other known i k x x other) ∙ get_or_from_slice_get (set known i x) k entry x got in
-    let within : k < length known = omega (arith, slice_get_within (set known i x) k entry got, length-set known i x) in
-    inl (slice_get-get_or known k x within ∙ ap (λ (e : KnownCost). Some e) is))
-    (cases_eq k i)
-
--- or one was added
-pub known-push : (known : List KnownCost) (x : KnownCost) → (k : ℕ) (entry : KnownCost) → slice_get (known ++ (x ∷ [])) k ≡ Some entry → (slice_get known k ≡ Some entry) ⊎ ((k ≡ length known) × (entry ≡ x))
-known-push known x k entry got =
-    let is : get_or (known ++ (x ∷ [])) k x ≡ entry = get_or_from_slice_get (known ++ (x ∷ [])) k entry x got in
-    ⊎_elim
-    (λ (same : k ≡ length known). inr (same, sym is ∙ get_or_push known x x k (sym same)))
-    (λ (other : k ≡ length known → ⊥).
-    let within : k < length known = omega (arith, other, slice_get_within (known ++ (x ∷ [])) k entry got, length-append known (x ∷ [])) in
-    inl (slice_get-get_or known k x within ∙ ap (λ (e : KnownCost). Some e) (sym (get_or_append_left known (x ∷ []) x k within) ∙ is)))
-    (cases_eq k (length known))
-
 -- what follows for the value of an answer
 pub ok-gives : {X E : Type 0} {A B : X → Type 0} → ((x : X) → A x → B x) → (r : Result X E) → IfOk r A → IfOk r B
 ok-gives on (Ok x) h = on x h
 ok-gives on (Err e) h = tt
-
--- a fact that doesn't speak of the answer
-pub ok-holds : {X E A : Type 0} → A → (r : Result X E) → IfOk r (λ x. A)
-ok-holds h (Ok x) = h
-ok-holds h (Err e) = tt
 
 shared-rule : (p : Problem) (net : TimedNetwork) (tables : List (List ClassShare)) (allowed : ℕ → Leg → Bool) (kind : Kind) (rule : Rule) → IsSharedKind kind → IsRuleOf p net tables allowed kind rule → IsSharedRule tables kind rule
 shared-rule p net tables allowed Linear BySize shared is = tt

@@ -28,7 +28,6 @@ pub mod LeafSums
 pub mod FlatBounds
 pub mod ForcedValues
 pub mod TableAppends
-pub mod EarnedLeaves
 pub mod WalkClasses
 pub mod PlanBounds
 pub mod PlanLeaves

@@ -1,7 +1,6 @@
 -- A leaf has one value, and none where it is empty.
-use Rattle.std.proofs.Common.{◌≡◌, ℕ, ◌+◌, ◌*◌, Bool, true, false, List, [], ◌∷◌, ◌++◌, ◌<◌, ◌⊎◌, ⊎_elim, refl, sym, ap, ap₂, ◌∙◌, subst, arith}
+use Rattle.std.proofs.Common.{◌≡◌, ℕ, ◌+◌, ◌*◌, Bool, true, false, List, [], ◌∷◌, ◌++◌, ◌⊎◌, ⊎_elim, refl, sym, ap₂, ◌∙◌, subst, arith}
 use Rattle.std.specs.Prelude.{sum_by, slice_index_or, Option}
-use Rattle.std.proofs.lemmas.Bool.{cases_order}
 use Rattle.fp_model.specs.declared.parts.Leg.{Leg}
 use Rattle.fp_model.specs.declared.parts.Shipment.{Shipment}
 use Rattle.fp_model.specs.Numbered.{no_shipment, shipment_at}
@@ -14,10 +13,8 @@ use Rattle.fp_tree.specs.declared.sides.Side.{Side}
 use Rattle.fp_allowed.specs.Allowed.{AreForced, is_allowed}
 use Rattle.fp_allowed.specs.Walks.{IsTimedWalk}
 use Rattle.fp_prices.specs.declared.leaf_prices.Kind.{Kind}
-use Rattle.fp_prices.specs.declared.values.bounds.LeafBound.{LeafBound}
-use Rattle.fp_prices.specs.declared.values.bounds.LeafBound.TheVariants.{Empty, Value}
 use Rattle.fp_prices.specs.Shares.{ClassShare}
-use Rattle.fp_prices.specs.Leaves.{IsBoundOf, IsChain, IsLeafEmpty, IsLeafValue, IsLeastCost, LeavesHaveOneValue, leaf_price}
+use Rattle.fp_prices.specs.Leaves.{IsChain, IsLeafEmpty, IsLeafValue, IsLeastCost, LeavesHaveOneValue, leaf_price}
 
 -- no class is forced after the chain
 abbrev IsWhole : Problem → (Leg → Bool) → (there : ℕ) → (met : List ℕ) → (here : ℕ) → List Leg → Type 0
@@ -90,20 +87,6 @@ leaf-value-some p windows points sides tables kind forced v is empty =
     AllZipFrom-get_or (λ j (s : Shipment) n. IsLeastCost p points (allowed j) s (leaf_price p tables allowed kind is.chains j s.size) n) p.shipments is.costs no_shipment 0 0 k is.are_least empty.exists in
     let same : 0 + k ≡ k = omega arith in
     empty.none there.walk (subst (λ (j : ℕ). IsTimedWalk p points (allowed j) (shipment_at p k) there.walk) same there.timed)
-
--- so a leaf has one bound
-pub bound-unique : (p : Problem) (windows : ℕ → ℕ → Option Window) (points : ℕ → List ℕ) (sides : List Side) (tables : List (List ClassShare)) (kind : Kind) (forced : Bool) (a b : LeafBound) →
-    IsBoundOf p windows points sides tables kind forced a → IsBoundOf p windows points sides tables kind forced b → a ≡ b
-bound-unique p windows points sides tables kind forced (Empty k) (Empty l) is_a is_b =
-    ⊎_elim
-    (λ (same : k ≡ l). ap Empty same)
-    (λ (differ : (k < l) ⊎ (l < k)). absurd (⊎_elim (λ (less : k < l). is_b.before k less is_a.none) (λ (less : l < k). is_a.before l less is_b.none) differ))
-    (cases_order k l)
-bound-unique p windows points sides tables kind forced (Empty k) (Value w) is_a is_b =
-    absurd (leaf-value-some p windows points sides tables kind forced w is_b (record { shipment = k; exists = is_a.exists; none = is_a.none }))
-bound-unique p windows points sides tables kind forced (Value v) (Empty l) is_a is_b =
-    absurd (leaf-value-some p windows points sides tables kind forced v is_a (record { shipment = l; exists = is_b.exists; none = is_b.none }))
-bound-unique p windows points sides tables kind forced (Value v) (Value w) is_a is_b = ap Value (leaf-value-unique p windows points sides tables kind forced v w is_a is_b)
 
 pub leaves-have-one-value : LeavesHaveOneValue
 leaves-have-one-value = record { one = leaf-value-unique; some = leaf-value-some }

@@ -1,5 +1,5 @@
 -- The bases of a leaf, and a value whose least costs are small, are at most what all shipments cost over every arc alone, some times.
-use Rattle.std.proofs.Common.{◌≡◌, ◌≢◌, ℕ, ◌+◌, ◌*◌, ◌^◌, ◌<◌, ◌≤◌, Bool, true, false, List, [], ◌∷◌, length, get_or, map, sym, ap, ◌∙◌, subst, arith}
+use Rattle.std.proofs.Common.{◌≡◌, ◌≢◌, ℕ, ◌+◌, ◌*◌, ◌<◌, ◌≤◌, Bool, true, false, List, [], ◌∷◌, length, get_or, map, sym, ap, ◌∙◌, subst, arith}
 use Rattle.std.specs.Prelude.{sum_by, Option}
 use Rattle.std.specs.List.{AllByRecursion}
 use Rattle.std.proofs.Math.Nat.{mul-le-mul_left}
@@ -7,7 +7,7 @@ use Rattle.std.proofs.lemmas.List.Sums.{sum_by-cons, sum_by-le-sum_by}
 use Rattle.fp_model.specs.declared.parts.Leg.{Leg}
 use Rattle.fp_model.specs.declared.parts.Shipment.{Shipment}
 use Rattle.fp_base_lists.specs.Numbered.{AllZipFrom}
-use Rattle.fp_model.specs.Problem.{Problem, IsValid, alone_cost, alone_total, arc_at, no_arc}
+use Rattle.fp_model.specs.Problem.{Problem, alone_cost, alone_total, arc_at, no_arc}
 use Rattle.fp_model.specs.Routes.{arcs_of}
 use Rattle.fp_base_lists.specs.Distinct.{AreDistinct}
 use Rattle.fp_model.specs.Costs.{all_legs, departures_cost}
@@ -19,10 +19,8 @@ use Rattle.fp_flatnet.specs.declared.window_tables.Window.{Window}
 use Rattle.fp_tree.specs.declared.sides.Side.{Side}
 use Rattle.fp_allowed.specs.Allowed.{AreForced, is_allowed, tails_of}
 use Rattle.fp_allowed.proofs.AllowedClasses.{is_allowed_parts}
-use Rattle.fp_prices.specs.declared.leaf_prices.Kind.{Kind}
 use Rattle.fp_prices.specs.declared.values.bounds.LeafBound.TheVariants.{Value}
-use Rattle.fp_prices.specs.Shares.{ClassShare}
-use Rattle.fp_prices.specs.Leaves.{IsChain, IsLeafValue, IsSmallBound}
+use Rattle.fp_prices.specs.Leaves.{IsChain, IsSmallBound}
 
 -- forced classes leave no terminal that was met before
 not-met : (p : Problem) (allowed : Leg → Bool) (there : ℕ) (met : List ℕ) (here : ℕ) (chain : List Leg) (t : ℕ) → ((x : ℕ) → AllByRecursion (λ u. u ≢ x) met → t ≢ x) →
@@ -110,14 +108,3 @@ pub value-small : (p : Problem) (bases : ℕ) (costs : List ℕ) → bases ≤ a
 value-small p bases costs few small =
     let scaled : p.scale * bases ≤ p.scale * alone_total p.arcs p.shipments = mul-le-mul_left p.scale few in
     omega (arith, scaled, costs-small p 0 p.shipments costs small)
-
--- the value of a leaf whose costs are small is small
-pub leaf-small : (p : Problem) (windows : ℕ → ℕ → Option Window) (points : ℕ → List ℕ) (sides : List Side) (tables : List (List ClassShare)) (kind : Kind) (forced : Bool) (value : ℕ) →
-    (leaf : IsLeafValue p windows points sides tables kind forced value) → AreSmallCosts p 0 p.shipments leaf.costs → IsSmallBound p (Value value)
-leaf-small p windows points sides tables kind forced value leaf small =
-    subst (λ (n : ℕ). IsSmallBound p (Value n)) (sym leaf.value_is)
-    (value-small p (departures_cost p leaf.chains (all_legs leaf.chains)) leaf.costs (bases-small p windows points sides forced leaf.chains leaf.are_chains) small)
-
--- a small value of a valid instance fits its type
-pub small-fits : (p : Problem) (value : ℕ) → IsValid p → IsSmallBound p (Value value) → value < 2 ^ 128
-small-fits p value valid small = omega (arith, small, valid.fits)

@@ -1,11 +1,9 @@
 -- The price of an allowed class for a shipment is at most what its trucks would cost the shipment alone, so the least costs stay small.
-use Rattle.std.proofs.Common.{◌≡◌, ℕ, zero, suc, ◌+◌, ◌*◌, ◌<◌, ◌≤◌, Bool, true, false, List, [], ◌∷◌, length, ⊎_elim, sym, subst, arith, le_trans}
-use Rattle.std.specs.Prelude.{sum_by, Option}
-use Rattle.std.specs.List.{AllByRecursion}
+use Rattle.std.proofs.Common.{◌≡◌, ℕ, zero, suc, ◌+◌, ◌*◌, ◌<◌, ◌≤◌, Bool, true, false, List, [], ◌∷◌, length, ⊎_elim, sym, subst, arith}
+use Rattle.std.specs.Prelude.{sum_by}
 use Rattle.std.proofs.lemmas.Bool.{cases_Bool, cond-true, cond-false}
 use Rattle.std.proofs.lemmas.List.Elements.{All-get_or}
 use Rattle.std.proofs.lemmas.List.Sums.{sum_by-cons, get_or-le-sum_by}
-use Rattle.std.proofs.Math.Nat.{mul-le-mul_left}
 use Rattle.fp_base_lists.proofs.Distinct.{AreDistinct-cons, AreDistinct-nil}
 use Rattle.fp_model.specs.declared.parts.Arc.{Arc}
 use Rattle.fp_model.specs.declared.parts.Leg.{Leg}
@@ -13,14 +11,10 @@ use Rattle.fp_model.specs.declared.parts.Shipment.{Shipment}
 use Rattle.fp_model.specs.Numbered.{no_shipment, shipment_at}
 use Rattle.fp_model.specs.Problem.{Problem, IsArc, IsShipment, IsValid, alone_cost, alone_total, arc_at, no_arc, truck_cost}
 use Rattle.fp_model.specs.Costs.{all_legs, has_leg}
-use Rattle.fp_flatnet.specs.declared.window_tables.Window.{Window}
-use Rattle.fp_tree.specs.declared.sides.Side.{Side}
-use Rattle.fp_allowed.specs.Allowed.{is_allowed}
-use Rattle.fp_allowed.proofs.AllowedClasses.{is_allowed_parts}
 use Rattle.fp_prices.specs.declared.leaf_prices.Kind.{Kind}
 use Rattle.fp_prices.specs.Shares.{ClassShare}
 use Rattle.fp_prices.specs.Prices.{AllKeepRule, allowed_count, truck_price}
-use Rattle.fp_prices.specs.Leaves.{leaf_price, walk_cost}
+use Rattle.fp_prices.specs.Leaves.{leaf_price}
 use Rattle.fp_prices.proofs.ClassPrices.{trucks-fit}
 
 -- a class that is allowed for some shipment is allowed for at least one
@@ -76,31 +70,3 @@ arc-alone p size a exists = get_or-le-sum_by (alone_cost size) p.arcs a no_arc e
 -- and a shipment over all arcs at most all shipments
 pub shipment-alone : (p : Problem) (k : ℕ) → k < length p.shipments → sum_by (alone_cost (shipment_at p k).size) p.arcs ≤ alone_total p.arcs p.shipments
 shipment-alone p k exists = get_or-le-sum_by (λ (s : Shipment). sum_by (alone_cost s.size) p.arcs) p.shipments k no_shipment exists
-
--- what a shipment pays for a class that is allowed for it, with its flow, is at most the scaled cost of going over each arc alone
-class_cost-small : (p : Problem) (windows : ℕ → ℕ → Option Window) (points : ℕ → List ℕ) (sides : List Side) (tables : List (List ClassShare)) (kind : Kind) (chains : List (List Leg)) (c : Leg) (k : ℕ) →
-    IsValid p → AllKeepRule p tables → k < length p.shipments → is_allowed p windows points sides k c ≡ true →
-    leaf_price p tables (is_allowed p windows points sides) kind chains k (shipment_at p k).size c + p.scale * (arc_at p c.arc).freight * (shipment_at p k).size
-    ≤ p.scale * sum_by (alone_cost (shipment_at p k).size) p.arcs
-class_cost-small p windows points sides tables kind chains c k valid keep exists is =
-    let size : ℕ = (shipment_at p k).size in
-    let allowed : ℕ → Leg → Bool = is_allowed p windows points sides in
-    let arc_exists : c.arc < length p.arcs = (is_allowed_parts p windows points sides k c is).0 in
-    let priced : leaf_price p tables allowed kind chains k size c + p.scale * (arc_at p c.arc).freight * size ≤ p.scale * alone_cost size (arc_at p c.arc) =
-    priced-alone p (arc_at p c.arc) (leaf_price p tables allowed kind chains k size c) size (leaf_price-small p tables allowed kind chains c k valid keep exists arc_exists is) in
-    le_trans priced (mul-le-mul_left p.scale (arc-alone p size c.arc arc_exists))
-
--- so a walk by allowed classes costs at most so much for each of its classes
-walk_cost-small : (p : Problem) (windows : ℕ → ℕ → Option Window) (points : ℕ → List ℕ) (sides : List Side) (tables : List (List ClassShare)) (kind : Kind) (chains : List (List Leg)) (k : ℕ) (walk : List Leg) →
-    IsValid p → AllKeepRule p tables → k < length p.shipments → AllByRecursion (λ c. is_allowed p windows points sides k c ≡ true) walk →
-    walk_cost p (leaf_price p tables (is_allowed p windows points sides) kind chains k (shipment_at p k).size) (shipment_at p k).size walk
-    ≤ length walk * (p.scale * sum_by (alone_cost (shipment_at p k).size) p.arcs)
-walk_cost-small p windows points sides tables kind chains k [] valid keep exists all = omega arith
-walk_cost-small p windows points sides tables kind chains k (c ∷ walk) valid keep exists all =
-    let size : ℕ = (shipment_at p k).size in
-    let own : Leg → ℕ = λ e. leaf_price p tables (is_allowed p windows points sides) kind chains k size e + p.scale * (arc_at p e.arc).freight * size in
-    let most : ℕ = p.scale * sum_by (alone_cost size) p.arcs in
-    let first : own c ≤ most = class_cost-small p windows points sides tables kind chains c k valid keep exists all.0 in
-    let rest : sum_by own walk ≤ length walk * most = walk_cost-small p windows points sides tables kind chains k walk valid keep exists all.1 in
-    let more : length (c ∷ walk) * most ≡ most + length walk * most = omega arith in
-    omega (arith, first, rest, more, sum_by-cons own c walk)

@@ -1,33 +1,15 @@
 -- The money of the ends of spans, as ends come and go.
-use Rattle.std.proofs.Common.{◌≡◌, ℕ, ◌+◌, ◌<◌, ◌≤◌, Bool, false, cond, List, [], ◌∷◌, ◌++◌, ⊎_elim, refl, sym, ap, ◌∙◌, arith}
+use Rattle.std.proofs.Common.{◌≡◌, ℕ, ◌+◌, ◌<◌, ◌≤◌, Bool, false, List, [], ◌∷◌, ◌++◌, ⊎_elim, refl, sym, ap, ◌∙◌, arith}
 use Rattle.std.specs.Prelude.{◌==◌, All, IsPermutation, nat_le, nat_lt, ◌&&◌, if◌then◌else◌}
-use Rattle.std.specs.BinaryHeap.{IsHeap, IsUpperBound}
-use Rattle.std.specs.Ordering.{nat_cmp, ordering_then, is_lt}
-use Rattle.std.specs.declared.cmp.Ordering.{Ordering}
-use Rattle.std.specs.declared.cmp.Ordering.TheVariants.{Less, Equal, Greater}
-use Rattle.std.proofs.lemmas.Bool.{cases_lt, cond-false, cond-true, eq-eqb, le-leb, lt-ltb, le-ltb, true≢false}
-use Rattle.std.proofs.lemmas.List.Elements.{All-cons, All-head, All-nil, All-tail}
+use Rattle.std.specs.BinaryHeap.{IsHeap}
+use Rattle.std.proofs.lemmas.Bool.{cases_lt, cond-false, cond-true, eq-eqb, le-leb, lt-ltb, le-ltb}
+use Rattle.std.proofs.lemmas.List.Elements.{All-head, All-tail}
 use Rattle.std.proofs.lemmas.List.Sorted.{sum_by_popped, sum_by_pushed}
 use Rattle.std.proofs.lemmas.List.Sums.{sum_by-cons, sum_by_push}
 use Rattle.fp_model.specs.declared.parts.Leg.{Leg}
 use Rattle.fp_prices_spans.specs.HeldMoney.{AreLeft, End, TellMoney, end_cmp, held_money, money_after, money_of}
 use Rattle.fp_prices_spans.specs.Spans.{ClassSpan}
 use Rattle.fp_prices_spans.specs.SpanPrices.{holds, money_at}
-
--- what isn't before in the order of ends is as late or later
-not-sooner : (a b : ℕ) (o : Ordering) → is_lt (ordering_then (nat_cmp b a) o) ≡ false → a ≤ b
-not-sooner a b o h =
-    ⊎_elim
-    (λ (below : b < a). absurd (true≢false (sym (ap (λ (t : Bool). is_lt (ordering_then (cond t Less (cond (b == a) Equal Greater)) o)) (lt-ltb b a below)) ∙ h)))
-    (λ (above : a ≤ b). above)
-    (cases_lt b a)
-
--- no end is before the first
-pub all-later : (x : End) (ends : List End) (moment : ℕ) → moment < x.0.0 → IsUpperBound end_cmp x ends → All (λ (e : End). moment < e.0.0) ends
-all-later x [] moment lt h = All-nil (λ (e : End). moment < e.0.0)
-all-later x (y ∷ ends) moment lt h =
-    let le = not-sooner x.0.0 y.0.0 (nat_cmp y.0.1 x.0.1) h.0 in
-    All-cons (λ (e : End). moment < e.0.0) y ends (omega (arith, le, lt)) (all-later x ends moment lt h.1)
 
 -- what an end has after a moment
 abbrev pub own_after : ℕ → End → ℕ

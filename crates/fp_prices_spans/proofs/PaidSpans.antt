@@ -1,14 +1,12 @@
 -- Spans that break a rule, or of which one's charge doesn't pay, aren't paid.
-use Rattle.std.proofs.Common.{◌≡◌, ℕ, true, List, arith}
-use Rattle.std.specs.Prelude.{All, MatchOption, None, Option, Some, is_some}
+use Rattle.std.proofs.Common.{◌≡◌, true, List, arith}
+use Rattle.std.specs.Prelude.{MatchOption, None, Option, Some, is_some}
 use Rattle.std.proofs.lemmas.Bool.{false≢true}
-use Rattle.std.proofs.lemmas.List.Elements.{All-get_or}
 use Rattle.fp_base_lists.proofs.Elements.{AllByRecursion-get_or}
 use Rattle.fp_model.specs.Problem.{Problem}
 use Rattle.fp_prices_spans.specs.declared.rules.span_faults.SpanFault.{SpanFault}
 use Rattle.fp_prices_spans.specs.declared.rules.span_faults.SpanFault.TheVariants.{Order, Weights, Money}
 use Rattle.fp_prices_spans.specs.Spans.{ClassSpan}
-use Rattle.fp_prices_spans.specs.SpanCharges.{ChargePays, IsFirstUnpaid}
 use Rattle.fp_prices_spans.specs.SpanLists.{IsSpanFault, IsSpanList, no_span}
 use Rattle.fp_prices_spans.specs.SpanRules.{KeepsMoneyRule}
 
@@ -18,10 +16,6 @@ fault-refutes p spans Order broken list = broken list.ordered
 fault-refutes p spans Weights broken list = absurd (omega (arith, broken.1, list.light))
 fault-refutes p spans (Money n) broken list =
     broken.2.over (AllByRecursion-get_or (KeepsMoneyRule p spans) spans n no_span list.money broken.2.exists)
-
--- nor does a charge pay that doesn't
-pub unpaid-refutes : (p : Problem) (spans : List ClassSpan) (n : ℕ) → IsFirstUnpaid p spans n → All (ChargePays p) spans → ⊥
-unpaid-refutes p spans n first paid = first.unpaid (All-get_or (ChargePays p) spans n no_span first.exists paid)
 
 -- so a test that found a fault tells that the spans aren't as they have to be
 pub failed-refutes : (p : Problem) (spans : List ClassSpan) (r : Option SpanFault) → is_some r ≡ true → MatchOption r (IsSpanList p spans) (IsSpanFault p spans) → IsSpanList p spans → ⊥

@@ -11,4 +11,3 @@ pub mod SoundArcs
 pub mod DrawnShipments
 pub mod GeneratorLimits
 mod Examples
-mod GeneratorExamples

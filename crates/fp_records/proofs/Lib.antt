@@ -1,5 +1,6 @@
 pub mod LineTexts
 mod FieldFacts
+mod PartFacts
 mod PlainFields
 mod ReaderFacts
 pub mod RoundTrip

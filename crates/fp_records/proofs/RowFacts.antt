@@ -6,7 +6,7 @@ use Rattle.std.specs.Prelude.{Some, None, ◌==◌, ◌&&◌}
 use Rattle.csv.specs.Machine.{Read, step, next_record, is_end, ends_at_end, fields_after, field_after, in_field, start_field, start_record, is_byte, ends_with, after_end}
 use Rattle.csv.specs.Reading.{AreRecords, Reached, records, records_from, strip_bom, is_bom}
 use Rattle.std.specs.Prelude.{not, map}
-use Rattle.std.specs.List.{filter}
+use Rattle.std.specs.List.{filter, list_all}
 use Rattle.std.proofs.lemmas.List.{map-append}
 use Rattle.std.proofs.lemmas.List.Elements.{filter-append}
 use Rattle.fp_records.specs.Fields.{is_empty, kept_fields, kept_records}
@@ -60,7 +60,7 @@ any-rests cfg st.InComment c = pick-rests (c == 10) _ _ (goes-on st.StartRecord 
 any-rests cfg st.AfterCr c = pick-rests (c == 10) _ _ (goes-on st.StartRecord act.Skip refl) (start-record-rests cfg c)
 
 -- after a byte that ends a record, the end of the text ends no further one
-step-rests : (cfg : Config) (s : State) (c : ℕ) → is_end (step cfg s c).1 ≡ true → ends_at_end (step cfg s c).0 ≡ false
+pub step-rests : (cfg : Config) (s : State) (c : ℕ) → is_end (step cfg s c).1 ≡ true → ends_at_end (step cfg s c).0 ≡ false
 step-rests cfg s c e = (any-rests cfg s c).at_end e
 
 -- what is left after a record: no more bytes than before it, and a state at which the end of the
@@ -152,4 +152,13 @@ length-strip_bom (a ∷ b ∷ c ∷ rest) =
     elim (cases_Bool (is_bom a b c)) [
       | inl t ↦ rw t (omega arith)
       | inr f ↦ rw f (omega arith)
+    ]
+
+-- each record that is kept has a field
+pub kept_records-some : (rows : List (List (List ℕ))) → list_all (λ r. not (is_empty r)) (kept_records rows) ≡ true
+kept_records-some [] = refl
+kept_records-some (r ∷ rows) =
+    elim (cases_Bool (not (is_empty (kept_fields r)))) [
+      | inl t ↦ rw (t, t) (kept_records-some rows)
+      | inr f ↦ rw f (kept_records-some rows)
     ]

@@ -7,6 +7,7 @@
 
 mod lines;
 mod reading;
+mod rows;
 mod stripping;
 
 pub use lines::Line;

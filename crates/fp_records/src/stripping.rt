@@ -1,14 +1,12 @@
 //! What is kept of a record: its fields without blanks at their ends, up to the last that is not
 //! empty then.
 
-ghost use Rattle.std.specs.Prelude.{◌≡◌, ◌<◌, ◌≤◌, ◌-◌, ◌==◌, length, map, take, slice_get, Some, IfOk};
+ghost use Rattle.std.specs.Prelude.{◌≡◌, ◌<◌, ◌≤◌, length, slice_get, Some};
 ghost use Rattle.std.specs.List.{prefix_len, suffix_len};
 ghost use Rattle.csv.specs.Records.{fields_of};
 ghost use Rattle.fp_records.specs.Fields.{is_blank, kept_count, stripped};
 
-use crate::NoMemory;
 use csv::ByteRecord;
-use std::alloc::Global;
 
 fn is_space_or_tab(byte: u8) -> bool
     ensures { result ≡ is_blank byte }
@@ -36,8 +34,8 @@ fn back_blanks(field: &[u8]) -> usize
         .count()
 }
 
-// The field with no blank at either end.
-fn strip(field: &[u8]) -> &[u8]
+/// The field with no blank at either end.
+pub(crate) fn strip(field: &[u8]) -> &[u8]
     ensures { result.now ≡ stripped field.now }
 {
     let rest = &field[front_blanks(field)..];
@@ -67,20 +65,4 @@ pub(crate) fn kept_len(row: &ByteRecord) -> usize
         }
     }
     0
-}
-
-/// So many fields from the front of a record, each stripped.
-pub(crate) fn strip_front(
-    alloc: Global,
-    row: &ByteRecord,
-    count: usize,
-) -> Result<ByteRecord, NoMemory>
-    requires { count ≤ length (fields_of row.now) }
-    ensures { IfOk result (λ r. fields_of r ≡ map stripped (take count (fields_of row.now))) }
-{
-    let mut out = ByteRecord::with_capacity(alloc, row.as_slice().len(), count)?;
-    'fields: for i in 0..count {
-        out.push_field(strip(field_of(row, i)))?;
-    }
-    Ok(out)
 }

@@ -6,6 +6,7 @@
 #![tactic(auto)]
 
 mod groups;
+mod room;
 mod saved_times;
 mod solutions;
 mod start;

@@ -1,7 +1,11 @@
 //! Solutions: routes whose legs are in groups, and what they cost.
+ghost use Rattle.std.specs.Prelude.{◌≡◌, OnErr};
+ghost use Rattle.fp_base_lists.specs.Vectors.{lists_of};
+ghost use Rattle.fp_repair_groups.specs.Solutions.{content};
 
 use crate::NoMemory;
 use crate::groups::{Group, GroupedLeg};
+use crate::room::{make_room_at, push_in_room};
 use crate::times::{lower, raise, reset};
 use crate::usable_arcs::UsableArcs;
 use fp_model::Instance;
@@ -34,8 +38,10 @@ pub struct Solution {
     pub cost: u128,
     // For each group the places of its legs.
     pub(crate) members: Vec<Vec<Place>>,
-    // The numbers of the free groups.
+    // The numbers of the free groups. It has room for those of all groups.
     free: Vec<usize>,
+    // Lists with room for the place of a leg, for groups to come.
+    spare: Vec<Vec<Place>>,
     alloc: Global,
 }
 
@@ -48,22 +54,43 @@ impl Solution {
             cost: 0,
             members: Vec::new(alloc),
             free: Vec::new(alloc),
+            spare: Vec::new(alloc),
             alloc,
         })
     }
 
-    // The number of a group of no legs by an arc.
-    pub(crate) fn open_group(&mut self, arc: u32) -> Result<usize, NoMemory> {
+    // Makes room for a path that a shipment is put in along. Nothing else changes.
+    pub(crate) fn make_room(&mut self, shipment: usize, path: &[PathLeg]) -> Result<(), NoMemory>
+        ensures { content self.new ≡ content self.old }
+    {
+        let more = path.len();
+        make_room_at(&mut self.routes, shipment, more)?;
+        make_places(&mut self.members, path)?;
+        self.groups.reserve(more)?;
+        self.members.reserve(more)?;
+        let groups = self.groups.len().saturating_add(more);
+        self.free.reserve(groups.saturating_sub(self.free.len()))?;
+        make_spare(self.alloc, &mut self.spare, more)
+    }
+
+    // The number of a group of no legs by an arc, for which room was made.
+    pub(crate) fn open_group(&mut self, arc: u32) -> usize {
         let number = match self.free.pop() {
             Some(number) => number,
-            None => {
-                self.groups.push(Group::free(arc))?;
-                self.members.push(Vec::new(self.alloc))?;
-                self.groups.len() - 1
-            }
+            None => self.add_group(arc),
         };
         self.reopen(number, arc);
-        Ok(number)
+        number
+    }
+
+    // Adds a group of no legs by an arc, for which room was made. Its number.
+    fn add_group(&mut self, arc: u32) -> usize {
+        let number = self.groups.len();
+        if let Some(places) = self.spare.pop() {
+            push_in_room(&mut self.groups, Group::free(arc));
+            push_in_room(&mut self.members, places);
+        }
+        number
     }
 
     // Makes a group one of no legs by an arc.
@@ -73,13 +100,8 @@ impl Solution {
         }
     }
 
-    // Adds a leg to the end of a shipment's route.
-    pub(crate) fn add(
-        &mut self,
-        instance: &Instance,
-        shipment: usize,
-        leg: GroupedLeg,
-    ) -> Result<(), NoMemory> {
+    // Adds a leg to the end of a shipment's route, for which room was made.
+    pub(crate) fn add(&mut self, instance: &Instance, shipment: usize, leg: GroupedLeg) {
         let size = size_of(instance, shipment);
         if let Some(arc) = instance.arcs().get(leg.arc as usize)
             && let Some(group) = self.groups.get_mut(leg.group)
@@ -89,35 +111,29 @@ impl Solution {
             let added = leg_cost(arc.truck, more, arc.freight, size);
             self.cost = self.cost.saturating_add(added);
         }
-        self.place(shipment, leg)
+        self.place(shipment, leg);
     }
 
     // Puts a leg at the end of a shipment's route, and notes its place at its group.
-    fn place(&mut self, shipment: usize, leg: GroupedLeg) -> Result<(), NoMemory> {
+    fn place(&mut self, shipment: usize, leg: GroupedLeg) {
         if let Some(route) = self.routes.get_mut(shipment)
             && let Some(places) = self.members.get_mut(leg.group)
         {
             let at = route.len();
-            places.push(Place { shipment, leg: at })?;
-            route.push(leg)?;
+            push_in_room(places, Place { shipment, leg: at });
+            push_in_room(route, leg);
         }
-        Ok(())
     }
 
     // Lets a leg of a shipment leave its group.
-    fn leave(
-        &mut self,
-        instance: &Instance,
-        shipment: usize,
-        leg: GroupedLeg,
-    ) -> Result<(), NoMemory> {
+    fn leave(&mut self, instance: &Instance, shipment: usize, leg: GroupedLeg) {
         let size = size_of(instance, shipment);
         if let Some(arc) = instance.arcs().get(leg.arc as usize)
             && let Some(group) = self.groups.get_mut(leg.group)
         {
             let fewer = group.leave(size, arc.capacity);
             if group.count == 0 {
-                self.free.push(leg.group)?;
+                push_in_room(&mut self.free, leg.group);
             }
             let saved = leg_cost(arc.truck, fewer, arc.freight, size);
             self.cost = self.cost.saturating_sub(saved);
@@ -125,7 +141,6 @@ impl Solution {
         if let Some(places) = self.members.get_mut(leg.group) {
             remove_shipment(places, shipment);
         }
-        Ok(())
     }
 
     // The places of a group's legs.
@@ -155,36 +170,38 @@ impl Solution {
         }
     }
 
-    /// Takes a shipment out: its legs leave their groups. The times of the groups stay. `NoMemory`
-    /// only where no memory is found; then it may be out in part.
-    pub fn take_out(&mut self, instance: &Instance, shipment: usize) -> Result<(), NoMemory> {
+    /// Takes a shipment out: its legs leave their groups. The times of the groups stay. It takes no
+    /// memory.
+    pub fn take_out(&mut self, instance: &Instance, shipment: usize) {
         for _ in 0..u32::MAX {
             let Some(route) = self.routes.get_mut(shipment) else {
-                return Ok(());
+                return;
             };
             let Some(leg) = route.pop() else {
-                return Ok(());
+                return;
             };
-            self.leave(instance, shipment, leg)?;
+            self.leave(instance, shipment, leg);
         }
-        Ok(())
     }
 
-    /// Puts a shipment that is out in along a path over the arcs that it can use. The times of the
-    /// groups that it joins narrow to its windows alone. `NoMemory` only where no memory is found;
-    /// then it may be in in part.
+    /// Puts a shipment that is out in along a path over the arcs that it can use, which joins each
+    /// group at most once. The times of the groups that it joins narrow to its windows alone.
+    /// `NoMemory` only where no memory is found; then it stays out.
     pub fn put_in(
         &mut self,
         instance: &Instance,
         usable: &UsableArcs,
         shipment: usize,
         path: &[PathLeg],
-    ) -> Result<(), NoMemory> {
+    ) -> Result<(), NoMemory>
+        ensures err { OnErr result (content self.new ≡ content self.old) }
+    {
+        self.make_room(shipment, path)?;
         for taken in path {
             if let Some(arc) = usable.arcs.get(taken.usable) {
                 let group = match taken.group {
                     Some(group) => group,
-                    None => self.open_group(arc.number)?,
+                    None => self.open_group(arc.number),
                 };
                 let leg = GroupedLeg {
                     arc: arc.number,
@@ -193,7 +210,7 @@ impl Solution {
                     hi: arc.hi,
                     step: arc.step,
                 };
-                self.add(instance, shipment, leg)?;
+                self.add(instance, shipment, leg);
             }
         }
         Ok(())
@@ -201,13 +218,17 @@ impl Solution {
 
     /// Puts a leg that was taken out back at the end of its shipment's route, in its group of
     /// before. After the last one call [`Solution::list_free`]. `NoMemory` only where no memory is
-    /// found.
+    /// found; then it stays out.
     pub fn restore(
         &mut self,
         instance: &Instance,
         shipment: usize,
         leg: GroupedLeg,
-    ) -> Result<(), NoMemory> {
+    ) -> Result<(), NoMemory>
+        ensures err { OnErr result (content self.new ≡ content self.old) }
+    {
+        make_room_at(&mut self.routes, shipment, 1)?;
+        make_room_at(&mut self.members, leg.group, 1)?;
         let is_free = self
             .groups
             .get(leg.group)
@@ -215,28 +236,50 @@ impl Solution {
         if is_free {
             self.reopen(leg.group, leg.arc);
         }
-        self.add(instance, shipment, leg)
-    }
-
-    /// Lists the groups of no legs anew as those that are free. `NoMemory` only where no memory is
-    /// found.
-    pub fn list_free(&mut self) -> Result<(), NoMemory> {
-        self.free.clear();
-        for (number, group) in self.groups.iter().enumerate() {
-            if group.count == 0 {
-                self.free.push(number)?;
-            }
-        }
+        self.add(instance, shipment, leg);
         Ok(())
     }
 
-    /// Finds the least and the greatest times of all groups anew, as far as there are any.
-    pub fn set_times(&mut self) {
-        reset(&self.routes, &mut self.groups);
-        if raise(&self.routes, &mut self.groups) {
-            lower(&self.routes, &mut self.groups);
+    /// Lists the groups of no legs anew as those that are free. It takes no memory.
+    pub fn list_free(&mut self) {
+        self.free.clear();
+        for (number, group) in self.groups.iter().enumerate() {
+            if group.count == 0 {
+                push_in_room(&mut self.free, number);
+            }
         }
     }
+
+    /// Finds the least and the greatest times of all groups anew, as far as there are any. Answers
+    /// whether there are. It takes no memory.
+    pub fn set_times(&mut self) -> bool {
+        reset(&self.routes, &mut self.groups);
+        if !raise(&self.routes, &mut self.groups) {
+            return false;
+        }
+        lower(&self.routes, &mut self.groups);
+        true
+    }
+}
+
+// Makes room for the place of one more leg at each group that a path joins.
+fn make_places(members: &mut Vec<Vec<Place>>, path: &[PathLeg]) -> Result<(), NoMemory>
+    ensures { lists_of members.new.items ≡ lists_of members.old.items }
+{
+    for taken in path {
+        if let Some(group) = taken.group {
+            make_room_at(members, group, 1)?;
+        }
+    }
+    Ok(())
+}
+
+// Makes lists with room for the place of a leg, until there are so many.
+fn make_spare(alloc: Global, spare: &mut Vec<Vec<Place>>, wanted: usize) -> Result<(), NoMemory> {
+    for _ in spare.len()..wanted {
+        spare.push(Vec::with_capacity(alloc, 1)?)?;
+    }
+    Ok(())
 }
 
 // Removes the place of a shipment's leg.

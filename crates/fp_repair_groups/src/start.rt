@@ -2,7 +2,7 @@
 
 use crate::NoMemory;
 use crate::groups::GroupedLeg;
-use crate::solutions::Solution;
+use crate::solutions::{PathLeg, Solution};
 use crate::usable_arcs::UsableArcs;
 use fp_model::{Instance, Leg, Plan};
 use std::alloc::Global;
@@ -40,10 +40,16 @@ fn add_route(
 ) -> Result<(), NoMemory> {
     for leg in route {
         if let Some(arc) = usable.with_number(leg.arc) {
-            let group = match groups.get(&(leg.arc, leg.depart)).copied() {
+            let joined = groups.get(&(leg.arc, leg.depart)).copied();
+            let leg_room = PathLeg {
+                usable: 0,
+                group: joined,
+            };
+            solution.make_room(shipment, &[leg_room])?;
+            let group = match joined {
                 Some(group) => group,
                 None => {
-                    let group = solution.open_group(leg.arc)?;
+                    let group = solution.open_group(leg.arc);
                     groups.insert((leg.arc, leg.depart), group)?;
                     group
                 }
@@ -55,7 +61,7 @@ fn add_route(
                 hi: arc.hi,
                 step: arc.step,
             };
-            solution.add(instance, shipment, taken)?;
+            solution.add(instance, shipment, taken);
         }
     }
     Ok(())

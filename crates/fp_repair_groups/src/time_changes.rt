@@ -12,7 +12,8 @@ use std::alloc::Global;
 use std::cmp::Reverse;
 use std::collections::BinaryHeap;
 
-/// The groups whose times may change since shipments were taken out or put in.
+/// The groups whose times may change since shipments were taken out or put in. Where no memory is
+/// found to note one, the times of all groups are found anew instead, which takes longer.
 #[derive(Drop)]
 pub struct TimeChanges {
     // After a removal the groups with their old times, the least or the greatest first.
@@ -20,6 +21,8 @@ pub struct TimeChanges {
     latest: BinaryHeap<(u32, usize)>,
     // After a shipment was put in, in any order.
     waiting: Vec<usize>,
+    // Whether a group couldn't be noted that a leg has left.
+    is_lost: bool,
 }
 
 // The leg at a place and the one after it.
@@ -83,23 +86,45 @@ impl TimeChanges {
             soonest: BinaryHeap::new(alloc),
             latest: BinaryHeap::new(alloc),
             waiting: Vec::new(alloc),
+            is_lost: false,
         }
     }
 
-    /// Notes that a leg has left a group, before any times are widened. `NoMemory` only where no
-    /// memory is found.
-    pub fn note_left(&mut self, groups: &[Group], group: usize) -> Result<(), NoMemory> {
+    /// Notes that a leg has left a group, before any times are widened.
+    pub fn note_left(&mut self, groups: &[Group], group: usize) {
+        if self.push_left(groups, group).is_err() {
+            self.is_lost = true;
+        }
+    }
+
+    // Notes that a leg has left a group, with the times that it had.
+    fn push_left(&mut self, groups: &[Group], group: usize) -> Result<(), NoMemory> {
         self.soonest
             .push(Reverse((early_of(groups, group), group)))?;
         self.latest.push((late_of(groups, group), group))?;
         Ok(())
     }
 
-    /// Widens the times of the groups as the legs let them that were noted to have left. `NoMemory`
-    /// only where no memory is found.
-    pub fn widen(&mut self, solution: &mut Solution) -> Result<(), NoMemory> {
+    /// Widens the times of the groups as the legs let them that were noted to have left.
+    pub fn widen(&mut self, solution: &mut Solution) {
+        if self.is_lost || self.widen_noted(solution).is_err() {
+            self.forget();
+            solution.set_times();
+        }
+    }
+
+    // Widens the times of the groups that are noted, and of those after and before them.
+    fn widen_noted(&mut self, solution: &mut Solution) -> Result<(), NoMemory> {
         self.widen_least(solution)?;
         self.widen_greatest(solution)
+    }
+
+    // Notes no group any more.
+    fn forget(&mut self) {
+        self.soonest.clear();
+        self.latest.clear();
+        self.waiting.clear();
+        self.is_lost = false;
     }
 
     // Lets the least times fall.
@@ -159,9 +184,19 @@ impl TimeChanges {
     }
 
     /// Narrows the times of the groups after a shipment was put in. Answers whether there are any:
-    /// else some are narrowed, and those of before have to be loaded. `NoMemory` only where no
-    /// memory is found.
-    pub fn narrow(&mut self, solution: &mut Solution, shipment: usize) -> Result<bool, NoMemory> {
+    /// else some are narrowed, and those of before have to be loaded.
+    pub fn narrow(&mut self, solution: &mut Solution, shipment: usize) -> bool {
+        match self.narrow_after(solution, shipment) {
+            Ok(has_times) => has_times,
+            Err(_) => {
+                self.forget();
+                solution.set_times()
+            }
+        }
+    }
+
+    // Narrows the times of the groups after and before those of a shipment's legs.
+    fn narrow_after(&mut self, solution: &mut Solution, shipment: usize) -> Result<bool, NoMemory> {
         self.wait_for(solution, shipment)?;
         if !self.raise_waiting(solution)? {
             return Ok(false);

@@ -90,13 +90,14 @@ impl Turns {
             if let Some(route) = self.solution.routes.get(taken.shipment) {
                 note(&mut self.undone, taken.shipment, route)?;
             }
-            self.solution.take_out(instance, taken.shipment)?;
+            self.solution.take_out(instance, taken.shipment);
         }
         for undone in &self.undone {
             self.changes
-                .note_left(&self.solution.groups, undone.leg.group)?;
+                .note_left(&self.solution.groups, undone.leg.group);
         }
-        self.changes.widen(&mut self.solution)
+        self.changes.widen(&mut self.solution);
+        Ok(())
     }
 
     // Draws in two of three turns how many parts of a truck's cost count by trucks on each arc;
@@ -133,15 +134,15 @@ impl Turns {
         if !self.put_on_path(instance, shipment, true)? {
             return Ok(false);
         }
-        if self.changes.narrow(&mut self.solution, shipment)? {
+        if self.changes.narrow(&mut self.solution, shipment) {
             return Ok(true);
         }
-        self.solution.take_out(instance, shipment)?;
+        self.solution.take_out(instance, shipment);
         self.beside.load(&mut self.solution.groups);
         if !self.put_on_path(instance, shipment, false)? {
             return Ok(false);
         }
-        self.changes.narrow(&mut self.solution, shipment)
+        Ok(self.changes.narrow(&mut self.solution, shipment))
     }
 
     // Puts a shipment in on the cheapest path. Answers whether there is one.
@@ -178,14 +179,15 @@ impl Turns {
     // Goes back to the state before the turn.
     fn restore(&mut self, instance: &Instance) -> Result<(), NoMemory> {
         for taken in &self.removal.taken {
-            self.solution.take_out(instance, taken.shipment)?;
+            self.solution.take_out(instance, taken.shipment);
         }
         for undone in &self.undone {
             self.solution
                 .restore(instance, undone.shipment, undone.leg)?;
         }
         self.before.load(&mut self.solution.groups);
-        self.solution.list_free()
+        self.solution.list_free();
+        Ok(())
     }
 }
 

@@ -23,9 +23,8 @@ use Rattle.fp_session.specs.declared.searches.Search.{Search}
 use Rattle.fp_session.specs.Moves.{points_now}
 use Rattle.fp_duals_leaves.specs.Prices.{PriceLists}
 use Rattle.fp_session.specs.Outcomes.{IsFound}
-use Rattle.fp_session.specs.Searches.{IsSearch, history}
+use Rattle.fp_session.specs.Searches.{IsSearch, history, setting_of}
 use Rattle.fp_session.specs.Walks.{AreCheaperWalks}
-use Rattle.fp_session.proofs.Improvements.{setting_of}
 use Rattle.fp_session.proofs.NextRounds.{agree-now}
 
 -- allowed timed walks at a leaf are walks under its sides

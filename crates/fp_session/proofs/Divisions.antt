@@ -23,8 +23,7 @@ use Rattle.fp_prices.specs.Tables.{HasKind}
 use Rattle.fp_prices.proofs.TableAppends.{HasKind-append}
 use Rattle.fp_session.specs.declared.searches.Search.{Search}
 use Rattle.fp_duals_leaves.specs.Prices.{HaveGrown, PriceLists}
-use Rattle.fp_session.specs.Searches.{IsSearch}
-use Rattle.fp_session.proofs.Improvements.{setting_of}
+use Rattle.fp_session.specs.Searches.{IsSearch, setting_of}
 
 module _ (p : Problem) (k terminal : ℕ) where
   -- a split at a terminal is in range
@@ -54,7 +53,3 @@ terminal-exists s prices sides k terminal is ends =
     let exists : leave.one.arc < length s.instance.arcs =
     allowed_exists s.instance (windows_in s.windows) (points_in s.network) sides k leave.one leave.one_allowed in
     subst (λ (t : ℕ). t < length s.instance.terminals) leave.one_leaves (arc-within s.instance leave.one.arc is.belongs.valid exists).0
-
--- the sides of a leaf below one with these sides, copied and pushed
-pub sides-are : (sides below pushed now leaf : List Side) (side : Side) → below ≡ sides → pushed ≡ below ++ (side ∷ []) → now ≡ pushed → leaf ≡ now → leaf ≡ sides ++ (side ∷ [])
-sides-are sides below pushed now leaf side copied more read of = of ∙ read ∙ more ∙ ap (λ (l : List Side). l ++ (side ∷ [])) copied

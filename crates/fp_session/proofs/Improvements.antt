@@ -19,7 +19,7 @@ use Rattle.fp_session.specs.Nodes.{IsKept}
 use Rattle.fp_session.specs.Outcomes.{IsFound, IsGreater, IsOutcome, empty_kept, noted_kept, noted_outcome, priced_kept}
 use Rattle.fp_duals_leaves.specs.Prices.{ArePrices, HaveGrown, PriceLists}
 use Rattle.fp_duals_leaves.specs.Pricing.{IsImprovedBy, IsPriceFound}
-use Rattle.fp_session.specs.Searches.{IsSearch, history}
+use Rattle.fp_session.specs.Searches.{IsSearch, history, setting_of}
 use Rattle.fp_session.proofs.ImprovedLeaves.{IsKept-with_tables, found-priced, kept-empty, kept-priced}
 use Rattle.fp_session.proofs.NextRounds.{agree-now}
 
@@ -43,10 +43,6 @@ IsFound-noted h sides kept walks round found = record {
 pub IsOutcome-noted : (h : History) (sides : List Side) (old : Kept) (o : Outcome) (round : ℕ) → IsOutcome h sides old o → IsOutcome h sides old (noted_outcome round o)
 IsOutcome-noted h sides old (outcome.Empty kept) round came = came
 IsOutcome-noted h sides old (outcome.Open kept walks) round came = (IsFound-noted h sides kept walks.items round came.0, came.1)
-
--- the setting of a leaf of a search
-abbrev pub setting_of : Search → Setting
-setting_of s = record { problem = s.instance; windows = s.windows; network = s.network }
 
 -- what comes of improving a leaf in a setting
 abbrev pub ImprovedIn : Setting → List Side → PriceLists → ℕ → Improved → Type 0

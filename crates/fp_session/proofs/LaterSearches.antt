@@ -1,16 +1,12 @@
 -- A search goes on by steps, and what it shows in the end goes on from what it had in hand.
-use Rattle.std.proofs.Common.{◌≡◌, ℕ, ◌≤◌, List, [], ◌∷◌, ◌++◌, refl, sym, ap, ◌∙◌, subst, arith}
-use Rattle.std.specs.Prelude.{IfOk, IfSome, None, Option, Some, Result, Ok, Err}
-use Rattle.std.specs.declared.alloc.AllocError.{AllocError}
+use Rattle.std.proofs.Common.{◌≡◌, ◌≤◌, List, [], ◌∷◌, ◌++◌, refl, sym, ap, ◌∙◌, arith}
+use Rattle.std.specs.Prelude.{IfSome, None, Option, Some}
 use Rattle.std.proofs.lemmas.List.{append-nil, append_assoc}
 use Rattle.std.proofs.lemmas.Option.{none-some}
 use Rattle.fp_session_history.specs.declared.endings.Left.{Left}
 use Rattle.fp_session_history.specs.Notes.{Refinement}
-use Rattle.fp_session_history.specs.Solutions.{Solution}
-use Rattle.fp_session.specs.declared.searches.Search.{Search}
 use Rattle.fp_session.specs.declared.steps.Step.{Step}
 use Rattle.fp_session.specs.declared.steps.Step.TheVariants as step
-use Rattle.fp_session.specs.Certificates.{IsPricedBy, IsShown}
 use Rattle.fp_session.specs.Searches.{InHand}
 use Rattle.fp_session.specs.Steps.{HasGoneOn, IsStep}
 
@@ -46,8 +42,3 @@ module _ (s t u : InHand) (gone : HasGoneOn s t) (going : t.left ≡ None) where
   }
   gone-step step.Branch is = as-before (omega (arith, is.cost)) is.trace
   gone-step (step.Done ending) is = as-before (omega (arith, is.cost)) is.trace
-
--- what is shown of a search tells of its prices
-pub priced-shown : (s : Search) (unit own : Option ℕ) (kept : Left) (r : Result Solution AllocError) → unit ≡ own → IfOk r (IsShown s unit kept) → IfOk r (λ x. IsPricedBy own x.certificate)
-priced-shown s unit own kept (Err e) same shown = tt
-priced-shown s unit own kept (Ok x) same shown = subst (λ (u : Option ℕ). IsPricedBy u x.certificate) same shown.priced

@@ -21,8 +21,8 @@ use Rattle.fp_session_history.specs.Splits.{IsEarnedAt, IsValueAt}
 use Rattle.fp_session.specs.declared.payloads.Payload.{Payload}
 use Rattle.fp_session.specs.Nodes.{IsEarnedAs, IsKept, IsLeafOf, IsSettled}
 use Rattle.fp_session.specs.TreeLines.{IsLeastBelow, leaf_worth, lines_of}
+use Rattle.fp_session.proofs.Applied.{some-value}
 use Rattle.fp_session.proofs.PrintedTree.{leaf-line, leaf-printed, leaves-printed}
-use Rattle.fp_session.proofs.TreeLines.{some_and}
 use Rattle.fp_session.proofs.TreeRanges.{all-at}
 
 module _ (h : History) where
@@ -75,7 +75,7 @@ module _ (h : History) where
     -- the leaf that is left, as it is printed
     pub left-shown : (P : LeafPrice → List Side → Type 0) (k : ℕ) → IsSomeAnd (leaf_at nodes k) (λ (l : Leaf (Node Payload)). P l.node.payload.price l.sides) → AtLeaf (tree_leaves (fork_of h.problem) (lines_of nodes)) k P
     left-shown P k is =
-        let some = some_and (leaf_at nodes k) (λ (l : Leaf (Node Payload)). P l.node.payload.price l.sides) is in
+        let some = some-value (leaf_at nodes k) (λ (l : Leaf (Node Payload)). P l.node.payload.price l.sides) is in
         subst (λ (o : Option (Leaf Line)). IsSomeAnd o (OfLeaf P)) (sym (leaf-line h.problem nodes tails whole k some.0 some.1)) some.2
 
     module _ (bound : ℕ) (least : IsLeastBelow h cost nodes (leaf_count nodes) bound) where
@@ -86,7 +86,7 @@ module _ (h : History) where
       -- where a leaf is worth less than the cost, the bound is below it
       pub bound-lt : (k : ℕ) → IsSomeAnd (leaf_at nodes k) (λ (l : Leaf (Node Payload)). IsOpenBelow h cost l.sides l.node.payload.price) → bound < cost
       bound-lt k is =
-          let some = some_and (leaf_at nodes k) (λ (l : Leaf (Node Payload)). IsOpenBelow h cost l.sides l.node.payload.price) is in
+          let some = some-value (leaf_at nodes k) (λ (l : Leaf (Node Payload)). IsOpenBelow h cost l.sides l.node.payload.price) is in
           let l : Leaf (Node Payload) = some.0 in
           let kept = value-kept l.sides l.node.payload (value_of l.node) some.2.value (leaf-of k l some.1).kept some.2.is in
           let le : bound ≤ worth_of h some.2.value = subst (λ (v : ℕ). bound ≤ worth_of h v) kept.1 (bound-le k l some.1 kept.0) in
@@ -96,7 +96,7 @@ module _ (h : History) where
       pub least-worth : bound < cost → IsLeastWorth h (tree_leaves (fork_of h.problem) (lines_of nodes)) bound
       least-worth below =
           let found = least.some below in
-          let some = some_and (leaf_at nodes found.0) (λ (l : Leaf (Node Payload)). (l.node.payload.empty ≡ false) × (bound ≡ leaf_worth h l)) found.1 in
+          let some = some-value (leaf_at nodes found.0) (λ (l : Leaf (Node Payload)). (l.node.payload.empty ≡ false) × (bound ≡ leaf_worth h l)) found.1 in
           record {
             each = leaves-printed h.problem nodes tails whole (OfLeaf (λ price sides. (worth : ℕ) → IsWorth h sides price worth → bound ≤ worth))
                 (λ k l at worth is.

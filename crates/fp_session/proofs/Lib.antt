@@ -18,6 +18,7 @@ pub mod EarnedSplits
 pub mod ReachedWalks
 pub mod NextRounds
 pub mod Improvements
+pub mod Trials
 pub mod EarlierPrices
 pub mod Applied
 pub mod Divisions
@@ -30,5 +31,6 @@ pub mod OpenMoves
 pub mod CheaperWalks
 pub mod OpenCounts
 pub mod StepsTaken
+pub mod StepOrder
 pub mod PointLimits
 pub mod BestOpen

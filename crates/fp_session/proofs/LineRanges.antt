@@ -12,11 +12,11 @@ use Rattle.fp_model.specs.declared.limits.TheConstants.{GREATEST_AMOUNT, LATEST}
 use Rattle.fp_model.specs.declared.parts.Leg.{Leg}
 use Rattle.fp_model.specs.declared.parts.Shipment.{Shipment}
 use Rattle.fp_model.specs.Costs.{all_legs, has_leg, load, same_leg}
-use Rattle.fp_model.specs.Numbered.{route_at}
 use Rattle.fp_model.specs.Plans.{IsPlan}
 use Rattle.fp_model.specs.Problem.{IsArc, IsShipment, IsValid, Problem, arc_at, no_arc}
 use Rattle.fp_model.specs.Routes.{ArrivesBy, Carries, LeavesReady, step}
 use Rattle.fp_model.proofs.Distinct.{same_leg-refl}
+use Rattle.fp_model.proofs.Members.{has_leg-all_legs}
 use Rattle.fp_certificate_lines.specs.Ranges.{IsLegInRange, IsTruckInRange}
 use Rattle.fp_timetable.specs.declared.lines.LegLine.{LegLine}
 use Rattle.fp_timetable.specs.declared.lines.TruckLine.{TruckLine}
@@ -46,20 +46,13 @@ all-arrive p (s ∷ ss) (r ∷ R) are plan =
     (AllByRecursion-weaker (ArrivesTill p s.due) (ArrivesTill p LATEST) (λ l till. omega (arith, till, due)) r (arrive-till p (1 * s.release) s.due r plan.0.ready plan.0.due))
     (all-arrive p ss R (All-tail (IsShipment (length p.terminals)) s ss are) plan.1)
 
--- a leg of one route is a leg of all routes
-has-all_legs : (R : List (List Leg)) (j : ℕ) (k : Leg) → has_leg k (route_at R j) ≡ true → has_leg k (all_legs R) ≡ true
-has-all_legs [] j k has = has
-has-all_legs (r ∷ R) zero k has = Rattle.std.proofs.lemmas.List.Folds.list_any-append (same_leg k) r (all_legs R) ∙ or_left (has_leg k r) (has_leg k (all_legs R)) has
-has-all_legs (r ∷ R) (suc j) k has =
-    Rattle.std.proofs.lemmas.List.Folds.list_any-append (same_leg k) r (all_legs R) ∙ or_right (has_leg k r) (has_leg k (all_legs R)) (has-all_legs R j k has)
-
 -- the leg lines of a plan are in range
 pub legs-in_range : (p : Problem) (R : List (List Leg)) (lines : List LegLine) → IsValid p → IsPlan p 1 R → AreLegLines p R lines → All (LegExists p) lines → All (IsLegInRange p) lines
 legs-in_range p R lines valid plan are exist = λ i d lt.
     let l : LegLine = get_or lines i d in
     let leg : IsLegLine p R l = are.legs i d lt in
     let till : ArrivesTill p LATEST (line_leg l) =
-    has-each (ArrivesTill p LATEST) (line_leg l) (all_legs R) (all-arrive p p.shipments R valid.parts.shipments plan) (has-all_legs R l.shipment (line_leg l) leg.leg) in
+    has-each (ArrivesTill p LATEST) (line_leg l) (all_legs R) (all-arrive p p.shipments R valid.parts.shipments plan) (has_leg-all_legs R l.shipment (line_leg l) leg.leg) in
     record { exists = exist i d lt; depart = omega (arith, till); arrive = omega (arith, till, leg.arrive) }
 
 -- a departure of a line is among those of the lines

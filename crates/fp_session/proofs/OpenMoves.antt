@@ -1,5 +1,5 @@
 -- What a step may do at an open leaf.
-use Rattle.std.proofs.Common.{◌≡◌, ℕ, ◌+◌, ◌<◌, ◌≤◌, inl, inr, Bool, true, false, List, [], ◌∷◌, length, refl, sym, ap, ◌∙◌, subst, arith}
+use Rattle.std.proofs.Common.{◌≡◌, ℕ, ◌+◌, ◌<◌, ◌≤◌, inl, inr, Bool, true, false, List, [], ◌∷◌, length, refl, sym, ◌∙◌, subst, arith}
 use Rattle.std.specs.Prelude.{All, IsSomeAnd, None, Option, Some}
 use Rattle.std.proofs.lemmas.Bool.{false≢true}
 use Rattle.std.proofs.lemmas.List.Elements.{All-cons, All-nil}
@@ -14,7 +14,7 @@ use Rattle.fp_model.specs.Problem.{Problem}
 use Rattle.fp_model.specs.Routes.{ArcsExist, arcs_of}
 use Rattle.fp_model.proofs.Bounds.{Leads-exist, legs-exist}
 use Rattle.fp_flatnet.specs.Tables.{windows_in}
-use Rattle.fp_longestarcs.specs.Networks.{TimedNetwork, points_in}
+use Rattle.fp_longestarcs.specs.Networks.{points_in}
 use Rattle.fp_tree.specs.declared.sides.Side.{Side}
 use Rattle.fp_tree.specs.Nodes.{Node, closed_of, fork_of, leaf_at, value_of}
 use Rattle.fp_tree.specs.Trees.{Leaf, tree_leaves}
@@ -28,7 +28,7 @@ use Rattle.fp_allowed.proofs.SamePoints.{is_allowed_same}
 use Rattle.fp_relaxmodel.specs.Relaxed.{AreTimedWalks, IsRelaxedPlan}
 use Rattle.fp_relaxmodel.specs.Terminals.{terminals_on}
 use Rattle.fp_relaxmodel.proofs.RelaxedWalks.{IsRelaxedPlan-timed}
-use Rattle.fp_prices.specs.Rounds.{LeafModel, RoundModel}
+use Rattle.fp_prices.specs.Rounds.{LeafModel}
 use Rattle.fp_session_history.specs.Notes.{worth_of}
 use Rattle.fp_session_history.specs.Solutions.{AreWalksUnder, HasSeveral}
 use Rattle.fp_session.specs.declared.dividing.Several.{Several}
@@ -42,11 +42,11 @@ use Rattle.fp_session.specs.Moves.{AtOpenLeaf, IsMove, IsMoveAt, IsOpenMove, IsU
 use Rattle.fp_session.specs.Nodes.{IsKept, IsKeptAs, IsLeafOf, IsSettled}
 use Rattle.fp_session.specs.Outcomes.{IsFound}
 use Rattle.fp_duals_leaves.specs.Prices.{ArePrices, HaveGrown, PriceLists}
-use Rattle.fp_session.specs.Searches.{IsSearch, history}
+use Rattle.fp_session.specs.Searches.{IsSearch, history, setting_of}
 use Rattle.fp_session.proofs.Applied.{of-value, some-value}
 use Rattle.fp_session.proofs.GrownWorths.{worth-grown}
 use Rattle.fp_duals_leaves.proofs.GrownPrices.{unit-some}
-use Rattle.fp_session.proofs.Improvements.{IsKept-grown, setting_of}
+use Rattle.fp_session.proofs.Improvements.{IsKept-grown}
 use Rattle.fp_session.proofs.NextRounds.{agree-now}
 use Rattle.fp_session.proofs.ReachedWalks.{NoneSeveral-cheaper, NoneSeveral-routes}
 use Rattle.fp_session.proofs.TreeRanges.{all-at}
@@ -100,8 +100,8 @@ pub IsMoveAt-open : (s : Search) (prices : PriceLists) (leaf : ℕ) (sides : Lis
     IsOpenMove s prices leaf sides m → IsMoveAt s prices leaf sides kept m
 IsMoveAt-open s prices leaf sides kept move.Close unsettled is = absurd is
 IsMoveAt-open s prices leaf sides kept (move.Better cheaper) unsettled is = (unsettled, is)
-IsMoveAt-open s prices leaf sides kept (move.Refine note refined) unsettled is = (unsettled, is)
-IsMoveAt-open s prices leaf sides kept (move.Divide division) unsettled is = (unsettled, is.0, is.1)
+IsMoveAt-open s prices leaf sides kept (move.Refine note refined) unsettled is = (unsettled, is.0, is.1)
+IsMoveAt-open s prices leaf sides kept (move.Divide division) unsettled is = (unsettled, is.0, is.1, is.2)
 IsMoveAt-open s prices leaf sides kept (move.Stop left) unsettled is = (unsettled, is)
 
 -- a leaf of which something is found has something to search for, where it is worth less than the cost
@@ -180,13 +180,6 @@ NoneSeveral-found s prices leaf sides kept walks n is setting are found below lo
     own = subst (λ (m : ℕ). NoneSeveral (record { setting = setting_of s; sides = sides }) m) long
         (subst (λ (l : List Side). NoneSeveral (record { setting = setting_of s; sides = l }) n) are
         (subst (λ (x : Setting). NoneSeveral (record { setting = x; sides = leaf.sides }) n) setting none))
-
--- a leaf over a network that is the search's is in its setting
-pub setting-over : (s : Search) (r : RoundModel) (net : TimedNetwork) (x : Setting) → r ≡ record { problem = s.instance; network = net } → net ≡ s.network →
-    x ≡ record { problem = r.problem; windows = s.windows; network = r.network } → x ≡ setting_of s
-setting-over s r net x is same of =
-    of ∙ ap (λ (q : RoundModel). let y : Setting = record { problem = q.problem; windows = s.windows; network = q.network } in y) is
-    ∙ ap (λ (n : TimedNetwork). let y : Setting = record { problem = s.instance; windows = s.windows; network = n } in y) same
 
 -- what is so of a leaf that is open is so at an open leaf
 pub AtOpenLeaf-both : (nodes : List (Node Payload)) (k : ℕ) (P : Leaf (Node Payload) → Type 0) → IsSomeAnd (leaf_at nodes k) (λ (l : Leaf (Node Payload)). closed_of l.node ≡ false) → IsSomeAnd (leaf_at nodes k) P →

@@ -64,15 +64,15 @@ line_of-leaf payload (Divided f) none = absurd (none-some f (sym none))
 line_of-leaf payload (Undivided value closed) none = refl
 
 -- a leaf and a split with their lines
-abbrev pub leaf_image : Leaf (Node Payload) → Leaf Line
-leaf_image l = record { node = line_of l.node; sides = l.sides }
+abbrev pub image_by : (Node Payload → Line) → Leaf (Node Payload) → Leaf Line
+image_by line_for l = record { node = line_for l.node; sides = l.sides }
 
 abbrev pub branch_image : Branch (Node Payload) → Branch Line
 branch_image b = record { node = line_of b.node; sides = b.sides }
 
--- a leaf with its price
-abbrev pub leaf_line : Leaf (Node Payload) → Leaf Line
-leaf_line l = record { node = line.Leaf l.node.payload.price; sides = l.sides }
+-- the line of a node's price
+abbrev pub price_line : Node Payload → Line
+price_line n = line.Leaf n.payload.price
 
 -- a fork that splits with the same sides divides what the other does
 DividesSome-alike : (p : Problem) (windows : ℕ → ℕ → Option Window) (sides : List Side) (payload : Payload) (role : Role) → let n : Node Payload = record { payload = payload; role = role } in
@@ -97,32 +97,32 @@ module _ (p : Problem) (nodes : List (Node Payload)) (tails : HaveTails (tails_o
   pub splits-lines : length (tree_splits (fork_of p) (lines_of nodes)) ≡ split_count nodes
   splits-lines = ap (λ (ls : List Line). length ls) (tree_splits-map fork_at (fork_of p) line_of nodes alike) ∙ length-map (tree_splits fork_at nodes) line_of
 
-  leaves-lines : tree_leaves (fork_of p) (lines_of nodes) ≡ map leaf_image (tree_leaves fork_at nodes)
+  leaves-lines : tree_leaves (fork_of p) (lines_of nodes) ≡ map (image_by line_of) (tree_leaves fork_at nodes)
   leaves-lines = leaves_of-map fork_at (fork_of p) line_of nodes ([] ∷ []) alike
 
   branches-lines : tree_branches (fork_of p) (lines_of nodes) ≡ map branch_image (tree_branches fork_at nodes)
   branches-lines = branches_of-map fork_at (fork_of p) line_of nodes ([] ∷ []) alike
 
   -- the leaf with a number
-  pub leaf-line : (k : ℕ) (l : Leaf (Node Payload)) → leaf_at nodes k ≡ Some l → slice_get (tree_leaves (fork_of p) (lines_of nodes)) k ≡ Some (leaf_line l)
+  pub leaf-line : (k : ℕ) (l : Leaf (Node Payload)) → leaf_at nodes k ≡ Some l → slice_get (tree_leaves (fork_of p) (lines_of nodes)) k ≡ Some (image_by price_line l)
   leaf-line k l at =
       ap (λ (ls : List (Leaf Line)). slice_get ls k) leaves-lines
-      ∙ slice_get-map leaf_image (tree_leaves fork_at nodes) k
-      ∙ ap (option_map leaf_image) at
+      ∙ slice_get-map (image_by line_of) (tree_leaves fork_at nodes) k
+      ∙ ap (option_map (image_by line_of)) at
       ∙ ap (λ (n : Line). let x : Leaf Line = record { node = n; sides = l.sides } in Some x) (line_of-leaf l.node.payload l.node.role (fork_of-leaf fork_at nodes ([] ∷ []) k l at))
 
   -- what holds of each leaf's line holds of all leaves of the lines
-  pub leaves-printed : (Q : Leaf Line → Type 0) → ((k : ℕ) (l : Leaf (Node Payload)) → leaf_at nodes k ≡ Some l → Q (leaf_line l)) → AllByRecursion Q (tree_leaves (fork_of p) (lines_of nodes))
+  pub leaves-printed : (Q : Leaf Line → Type 0) → ((k : ℕ) (l : Leaf (Node Payload)) → leaf_at nodes k ≡ Some l → Q (image_by price_line l)) → AllByRecursion Q (tree_leaves (fork_of p) (lines_of nodes))
   leaves-printed Q all =
       subst (AllByRecursion Q) (sym leaves-lines)
-      (AllByRecursion-map Q leaf_image (tree_leaves fork_at nodes)
-      (All-from_places (λ (l : Leaf (Node Payload)). Q (leaf_image l)) (tree_leaves fork_at nodes)
+      (AllByRecursion-map Q (image_by line_of) (tree_leaves fork_at nodes)
+      (All-from_places (λ (l : Leaf (Node Payload)). Q (image_by line_of l)) (tree_leaves fork_at nodes)
       (λ k l at.
       subst (λ (n : Line). Q (record { node = n; sides = l.sides })) (sym (line_of-leaf l.node.payload l.node.role (fork_of-leaf fork_at nodes ([] ∷ []) k l at))) (all k l at))))
 
   -- what holds of one leaf's line holds of some leaf of the lines
-  pub leaf-printed : (Q : Leaf Line → Type 0) (k : ℕ) (l : Leaf (Node Payload)) → leaf_at nodes k ≡ Some l → Q (leaf_line l) → AnyByRecursion Q (tree_leaves (fork_of p) (lines_of nodes))
-  leaf-printed Q k l at is = Any-from_place Q (tree_leaves (fork_of p) (lines_of nodes)) k (leaf_line l) (leaf-line k l at) is
+  pub leaf-printed : (Q : Leaf Line → Type 0) (k : ℕ) (l : Leaf (Node Payload)) → leaf_at nodes k ≡ Some l → Q (image_by price_line l) → AnyByRecursion Q (tree_leaves (fork_of p) (lines_of nodes))
+  leaf-printed Q k l at is = Any-from_place Q (tree_leaves (fork_of p) (lines_of nodes)) k (image_by price_line l) (leaf-line k l at) is
 
   -- as many splits with their sides
   pub length-branches : length (tree_branches (fork_of p) (lines_of nodes)) ≡ split_count nodes

@@ -1,15 +1,11 @@
 -- What a search knows depends on what it has in hand alone.
-use Rattle.std.proofs.Common.{◌≡◌, ℕ, ◌≤◌, List, ◌++◌, length, take, sym, ap, ◌∙◌, subst, arith}
-use Rattle.std.proofs.Math.Seq.{take-append_seam}
-use Rattle.std.proofs.lemmas.List.{length-append}
+use Rattle.std.proofs.Common.{◌≡◌, ℕ, ◌≤◌, List, length, sym, ap, ◌∙◌, subst, arith}
 use Rattle.std.specs.Prelude.{All, IfSome, None, Option, Some}
 use Rattle.std.specs.declared.alloc.Global.{Global}
 use Rattle.std.specs.declared.vec.Vec.{Vec}
 use Rattle.fp_longestarcs.specs.Whole.{IsNetworkOf}
 use Rattle.fp_tree.specs.Nodes.{fork_of, split_count}
 use Rattle.fp_tree.specs.Trees.{tree_branches, tree_leaves}
-use Rattle.fp_prices.specs.Shares.{ClassShare}
-use Rattle.fp_prices_spans.specs.Spans.{ClassSpan}
 use Rattle.fp_session_history.specs.declared.endings.Left.{Left}
 use Rattle.fp_session_history.specs.declared.endings.Left.TheVariants.{Nothing, Several, Timing}
 use Rattle.fp_session_history.specs.Clashes.{ClashesBelow}
@@ -19,6 +15,7 @@ use Rattle.fp_session_history.specs.Traces.{IsEarnedTrace}
 use Rattle.fp_session.specs.declared.searches.Search.{Search}
 use Rattle.fp_session.specs.Nodes.{IsLeafOf, IsSplitOf}
 use Rattle.fp_duals_leaves.specs.Prices.{ArePrices, HaveGrown, PriceLists, first_prices}
+use Rattle.fp_duals_leaves.proofs.GrownPrices.{HaveGrown-cut, HaveGrown-long}
 use Rattle.fp_session.specs.Searches.{InHand, IsLeft, IsLeftOpen, IsSearch, history, in_hand}
 use Rattle.fp_session.proofs.SearchChanges.{IsSearch-with_more}
 
@@ -114,15 +111,10 @@ IsSearch-grown s before after grown going is =
 
 -- prices that have grown, cut to as many as they were
 pub cut-back : (p : Rattle.fp_model.specs.Problem.Problem) (before after cut : PriceLists) (count : ℕ) → ArePrices p before → HaveGrown p before after → count ≡ length before.tables → cut ≡ first_prices count after → cut ≡ before
-cut-back p before after cut count are grown is made =
-    made ∙ ap (first_prices count) grown.is
-    ∙ ap (λ (ts : List (List ClassShare)). record { tables = ts; spans = take count (before.spans ++ grown.spans); unit = before.unit })
-    (ap (λ (n : ℕ). take n (before.tables ++ grown.tables)) is ∙ take-append_seam before.tables grown.tables)
-    ∙ ap (λ (ss : List (List ClassSpan)). record { tables = before.tables; spans = ss; unit = before.unit })
-    (ap (λ (n : ℕ). take n (before.spans ++ grown.spans)) (is ∙ sym are.beside) ∙ take-append_seam before.spans grown.spans)
+cut-back p before after cut count are grown is made = made ∙ HaveGrown-cut p before after count are grown is
 
 pub cut-few : (p : Rattle.fp_model.specs.Problem.Problem) (before after : PriceLists) (count : ℕ) → HaveGrown p before after → count ≡ length before.tables → count ≤ length after.tables
-cut-few p before after count grown is = omega (arith, is, ap (λ (x : PriceLists). length x.tables) grown.is, length-append before.tables grown.tables)
+cut-few p before after count grown is = omega (arith, is, HaveGrown-long p before after grown)
 
 -- with prices that are as they were
 pub IsSearch-back : (s t : Search) (before cut : PriceLists) → in_hand t ≡ in_hand s → cut ≡ before → IsSearch s before → IsSearch t cut

@@ -42,6 +42,7 @@ use Rattle.fp_session.specs.declared.payloads.Payload.{Payload}
 use Rattle.fp_session.specs.declared.searches.Search.{Search}
 use Rattle.fp_session.specs.Certificates.{IsAnswer, IsCertificate, IsShown, named_scale}
 use Rattle.fp_session.specs.Nodes.{IsLeafOf, IsSplitOf, split_note}
+use Rattle.fp_duals_leaves.specs.PriceLines.{AreFewLines}
 use Rattle.fp_duals_leaves.specs.Prices.{PriceLists}
 use Rattle.fp_session.specs.Searches.{IsLeft, IsSearch, history}
 use Rattle.fp_session.specs.TreeLines.{lines_of, notes_of}
@@ -59,7 +60,7 @@ scale-in_range : (p : Problem) → IsValid p → (b : Bool) → IfSome (cond b N
 scale-in_range p valid true = tt
 scale-in_range p valid false = record { least = valid.scale.0; most = valid.scale.1; fits = valid.fits }
 
-module _ (s : Search) (prices : PriceLists) (search : IsSearch s prices) (whole : IsTree fork_at s.tree) (within : AreWithinLimits prices.tables)
+module _ (s : Search) (prices : PriceLists) (search : IsSearch s prices) (whole : IsTree fork_at s.tree) (within : AreWithinLimits prices.tables) (lines : AreFewLines prices.tables prices.spans)
     (legs : List LegLine) (trucks : List TruckLine) (are_legs : AreLegLines s.instance s.incumbent legs) (routes : routes_from legs 0 s.instance.shipments ≡ s.incumbent)
     (legs_exist : All (LegExists s.instance) legs) (are_trucks : AreTruckLines s.instance s.incumbent trucks) (trucks_exist : All (TruckExists s.instance) trucks) where
   -- the history of the search
@@ -158,6 +159,7 @@ module _ (s : Search) (prices : PriceLists) (search : IsSearch s prices) (whole 
     range = statement-in_range stated range;
     countable = tables-countable s.instance prices.tables search.prices.tables within;
     few = spans-few s.instance prices search.prices;
+    lines = lines;
     priced = record { unit = refl; without = search.prices.without };
     scale = refl;
     plan = routes;
@@ -243,4 +245,4 @@ IsShown-certificate s prices kept stated c splits search left whole answered is 
     ∙ ap (λ (tree : List Line). made stated (named_scale s.instance.scale) (added_of s.trace.items) prices tree) is.tree in
     subst (λ (x : Statement). IsShown s prices.unit kept (record { certificate = x; trace = s.trace.items; splits = splits; left = kept })) (sym same)
     (subst (λ (notes : List SplitNote). IsShown s prices.unit kept (record { certificate = made stated (named_scale s.instance.scale) (added_of s.trace.items) prices (lines_of s.tree); trace = s.trace.items; splits = notes; left = kept })) (sym noted)
-    (shown-answer s prices search whole is.within c.legs c.trucks is.legs is.routes is.legs_exist is.trucks is.trucks_exist stated kept left answered))
+    (shown-answer s prices search whole is.within is.few c.legs c.trucks is.legs is.routes is.legs_exist is.trucks is.trucks_exist stated kept left answered))

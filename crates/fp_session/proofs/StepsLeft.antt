@@ -48,9 +48,6 @@ module _ (s t : InHand) (going : s.left ≡ None) (fixed : StayFixed s t) where
 pub fixed-same : (s : InHand) → StayFixed s s
 fixed-same s = record { instance = refl; windows = refl; budget = refl; started = refl }
 
-pub fixed-hand : (s t : InHand) → t ≡ s → StayFixed s t
-fixed-hand s t same = Rattle.std.proofs.Common.subst (StayFixed s) (sym same) (fixed-same s)
-
 pub fixed-twice : (s t u : InHand) → StayFixed s t → StayFixed t u → StayFixed s u
 fixed-twice s t u one two = record {
   instance = two.instance ∙ one.instance;

@@ -11,12 +11,8 @@ use Rattle.fp_certificate_lines.specs.declared.certificates.Node.{Node as Line}
 use Rattle.fp_certificate_lines.specs.declared.certificates.Node.TheVariants as line
 use Rattle.fp_session.specs.declared.payloads.Payload.{Payload}
 use Rattle.fp_session.specs.TreeLines.{line_of}
+use Rattle.fp_session.proofs.Applied.{some-value}
 use Rattle.fp_session.proofs.LeafNumbers.{after-leaf, after-split, leaf-at_place, leaves_before}
-
--- the value of which something holds
-pub some_and : {X : Type 0} (o : Option X) (P : X → Type 0) → IsSomeAnd o P → (x : X) × (o ≡ Some x) × P x
-some_and None P is = absurd is
-some_and (Some x) P is = (x, refl, is)
 
 -- what a function makes of the elements so far, and of one more
 pub map-take_more : {X Y : Type 0} (f : X → Y) (xs : List X) (n : ℕ) (x : X) (ys : List Y) (y : Y) → slice_get xs n ≡ Some x → ys ≡ map f (take n xs) → y ≡ f x →
@@ -55,7 +51,7 @@ pub record IsLeafHere (nodes : List (Node Payload)) (node leaf : ℕ) : Type 0 w
 pub leaf-here : (nodes : List (Node Payload)) (node leaf : ℕ) → IsTree fork_of nodes → leaf ≡ leaves_before fork_of node nodes → IsSomeAnd (slice_get nodes node) (λ (n : Node Payload). split_of n ≡ None) →
     IsLeafHere nodes node leaf
 leaf-here nodes node leaf tree count here =
-    let some = some_and (slice_get nodes node) (λ (n : Node Payload). split_of n ≡ None) here in
+    let some = some-value (slice_get nodes node) (λ (n : Node Payload). split_of n ≡ None) here in
     let none : fork_of some.0 ≡ None = no-fork (fork_of some.0) some.2 in
     let it = leaf-at_place fork_of node nodes some.0 tree some.1 none in
     let at : leaf_at nodes leaf ≡ Some it.0 = ap (λ (k : ℕ). leaf_at nodes k) count ∙ it.1 in
@@ -80,6 +76,6 @@ leaf-line nodes node leaf payload ys is read before =
 pub split-line : (nodes : List (Node Payload)) (node : ℕ) (split : Split) (ys : List Line) → IsSomeAnd (slice_get nodes node) (λ (n : Node Payload). split_of n ≡ Some split) → ys ≡ map line_of (take node nodes) →
     (ys ++ (line.Branch split ∷ []) ≡ map line_of (take (node + 1) nodes)) × (leaves_before fork_of (node + 1) nodes ≡ leaves_before fork_of node nodes)
 split-line nodes node split ys here before =
-    let some = some_and (slice_get nodes node) (λ (n : Node Payload). split_of n ≡ Some split) here in
+    let some = some-value (slice_get nodes node) (λ (n : Node Payload). split_of n ≡ Some split) here in
     let fork = some-fork (fork_of some.0) split some.2 in
     (map-take_more line_of nodes node some.0 ys (line.Branch split) some.1 before (line-split some.0 split some.2), after-split fork_of node nodes some.0 fork.0 some.1 fork.1)

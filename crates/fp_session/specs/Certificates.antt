@@ -17,6 +17,7 @@ use Rattle.fp_session_history.specs.declared.endings.Left.{Left}
 use Rattle.fp_session_history.specs.declared.endings.Left.TheVariants.{Nothing, Several, Timing}
 use Rattle.fp_session_history.specs.Solutions.{IsEarnedSolution, Solution}
 use Rattle.fp_session.specs.declared.searches.Search.{Search}
+use Rattle.fp_duals_leaves.specs.PriceLines.{AreFewLines}
 use Rattle.fp_duals_leaves.specs.Prices.{PriceLists}
 use Rattle.fp_session.specs.Searches.{history}
 use Rattle.fp_session.specs.TreeLines.{IsLeastBelow, lines_of, notes_of}
@@ -36,8 +37,8 @@ IsAnswer s prices left answer = ⊥
 abbrev pub named_scale : ℕ → Option ℕ
 named_scale scale = if scale == SCALE then None else Some scale
 
--- a certificate has an answer, the lines of the incumbent, the added points, the prices and the tree
--- of a search
+-- a certificate has an answer, the lines of the incumbent, the added points, the prices, of which there
+-- are few, and the tree of a search
 pub record IsCertificate (s : Search) (prices : PriceLists) (stated : Answer) (c : Statement) : Type 0 where
   pub answer : c.answer ≡ stated
   pub scale : c.scale ≡ named_scale s.instance.scale
@@ -51,6 +52,7 @@ pub record IsCertificate (s : Search) (prices : PriceLists) (stated : Answer) (c
   pub spans : c.spans ≡ prices.spans
   pub unit : c.unit ≡ prices.unit
   pub within : AreWithinLimits prices.tables
+  pub few : AreFewLines prices.tables prices.spans
   pub tree : c.tree ≡ lines_of s.tree
 
 -- the certificate names this unit; without one there are no spans, so it means what it did before there were any
@@ -59,13 +61,14 @@ pub record IsPricedBy (own : Option ℕ) (c : Statement) : Type 0 where
   pub without : own ≡ None → All (λ (spans : List ClassSpan). spans ≡ []) c.spans
 
 -- all that is shown of a search that has ended: its certificate is accepted, and in range and
--- countable, so that it can be written and read again; it tells the incumbent and what that costs; and
--- what it shows is earned, with the notes of the search
+-- countable, so that it can be written and read again; its price lines are few; it tells the incumbent
+-- and what that costs; and what it shows is earned, with the notes of the search
 pub record IsShown (s : Search) (unit : Option ℕ) (kept : Left) (x : Solution) : Type 0 where
   pub accepted : IsAccepted s.instance s.windows x.certificate
   pub range : IsInRange s.instance x.certificate
   pub countable : AreCountable s.instance x.certificate.tables
   pub few : All (λ (spans : List ClassSpan). length spans < 2 ^ 32 - 1) x.certificate.spans
+  pub lines : AreFewLines x.certificate.tables x.certificate.spans
   pub priced : IsPricedBy unit x.certificate
   pub scale : x.certificate.scale ≡ named_scale s.instance.scale
   pub plan : routes_of s.instance x.certificate ≡ s.incumbent

@@ -2,12 +2,14 @@ pub mod Nodes
 pub mod Searches
 pub mod Refining
 pub mod Outcomes
+pub mod Order
 pub mod Moves
 pub mod Walks
 pub mod Timing
 pub mod Dividing
 pub mod StepCauses
 pub mod Steps
+pub mod Choices
 pub mod TreeLines
 pub mod Certificates
 pub mod Starts

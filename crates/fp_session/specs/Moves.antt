@@ -27,7 +27,8 @@ use Rattle.fp_session.specs.declared.searches.Search.{Search}
 use Rattle.fp_session.specs.Nodes.{IsKept, IsSettled}
 use Rattle.fp_session.specs.Outcomes.{IsAtLeastStarts}
 use Rattle.fp_session.specs.Refining.{IsRefined}
-use Rattle.fp_session.specs.Searches.{IsIncumbent, history}
+use Rattle.fp_session.specs.Order.{AreWalksHad, HasDearWalks}
+use Rattle.fp_session.specs.Searches.{IsIncumbent, history, in_hand}
 
 -- the points as of the last round
 abbrev pub points_now : Search → ℕ → List ℕ
@@ -83,21 +84,23 @@ pub record IsUnsettled (h : History) (cost : ℕ) (sides : List Side) (kept : Ke
   pub below : worth_of h kept.value < cost
   pub starts : IsAtLeastStarts h sides kept.value
 
--- what a step may do at a leaf that has something to search for
+-- what a step may do at a leaf that has something to search for: it adds a round by walks under its sides, and divides it only where no
+-- cheaper plan can come of such walks
 abbrev pub IsOpenMove : Search → PriceLists → (leaf : ℕ) → List Side → Move → Type 0
 IsOpenMove s prices leaf sides move.Close = ⊥
 IsOpenMove s prices leaf sides (move.Better cheaper) = IsCheaper s cheaper
-IsOpenMove s prices leaf sides (move.Refine note refined) = IsNextRound s note refined
-IsOpenMove s prices leaf sides (move.Divide division) = (split_count s.tree < s.budget.branches) × IsDivision (history s prices) sides division
+IsOpenMove s prices leaf sides (move.Refine note refined) = IsNextRound s note refined × AreWalksHad (in_hand s) sides note.relaxed
+IsOpenMove s prices leaf sides (move.Divide division) = (split_count s.tree < s.budget.branches) × IsDivision (history s prices) sides division × HasDearWalks (in_hand s) sides
 IsOpenMove s prices leaf sides (move.Stop left) = IsLeftAt s leaf sides left
 
 -- what a step may do at a leaf of which this is kept
 abbrev pub IsMoveAt : Search → PriceLists → (leaf : ℕ) → List Side → Kept → Move → Type 0
 IsMoveAt s prices leaf sides kept move.Close = IsSettled (history s prices) s.cost kept.payload kept.value
 IsMoveAt s prices leaf sides kept (move.Better cheaper) = IsUnsettled (history s prices) s.cost sides kept × IsCheaper s cheaper
-IsMoveAt s prices leaf sides kept (move.Refine note refined) = IsUnsettled (history s prices) s.cost sides kept × IsNextRound s note refined
+IsMoveAt s prices leaf sides kept (move.Refine note refined) =
+    IsUnsettled (history s prices) s.cost sides kept × IsNextRound s note refined × AreWalksHad (in_hand s) sides note.relaxed
 IsMoveAt s prices leaf sides kept (move.Divide division) =
-    IsUnsettled (history s prices) s.cost sides kept × (split_count s.tree < s.budget.branches) × IsDivision (history s prices) sides division
+    IsUnsettled (history s prices) s.cost sides kept × (split_count s.tree < s.budget.branches) × IsDivision (history s prices) sides division × HasDearWalks (in_hand s) sides
 IsMoveAt s prices leaf sides kept (move.Stop left) = IsUnsettled (history s prices) s.cost sides kept × IsLeftAt s leaf sides left
 
 -- the leaf with a number is open, and it is so of its sides and its value

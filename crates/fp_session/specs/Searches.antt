@@ -14,6 +14,7 @@ use Rattle.fp_tree.specs.declared.sides.Side.{Side}
 use Rattle.fp_tree.specs.Nodes.{Node, closed_of, fork_of, leaf_at, split_count}
 use Rattle.fp_tree.specs.Trees.{HaveTails, Leaf, tree_branches, tree_leaves}
 use Rattle.fp_allowed.specs.Allowed.{tails_of}
+use Rattle.fp_allowed.specs.Settings.{Setting}
 use Rattle.fp_session_history.specs.declared.budgets.Budget.{Budget}
 use Rattle.fp_session_history.specs.declared.endings.Left.{Left}
 use Rattle.fp_session_history.specs.declared.endings.Left.TheVariants.{Nothing, Several, Timing}
@@ -38,6 +39,10 @@ pub record IsIncumbent (p : Problem) (table : WindowTable) (legs : List (List Le
 -- the history of a search with these prices
 abbrev pub history : Search → PriceLists → History
 history s prices = record { problem = s.instance; windows = s.windows; trace = s.trace.items; tables = prices.tables; spans = prices.spans; unit = prices.unit }
+
+-- the setting of a leaf over the network of the last round
+abbrev pub setting_of : Search → Setting
+setting_of s = record { problem = s.instance; windows = s.windows; network = s.network }
 
 -- the leaf with a number is left open: it isn't empty and is worth less than the cost, and P of its
 -- sides

@@ -7,6 +7,7 @@ use Rattle.fp_prices_spans.specs.Spans.{ClassSpan}
 use Rattle.fp_certificate_lines.specs.Ranges.{IsInRange}
 use Rattle.fp_certificate_rules.specs.Accepted.{IsAccepted}
 use Rattle.fp_certificate_rules.specs.Plans.{stated_cost}
+use Rattle.fp_duals_leaves.specs.PriceLines.{AreFewLines}
 use Rattle.fp_session_history.specs.declared.budgets.Budget.{Budget}
 use Rattle.fp_session_history.specs.declared.endings.Left.{Left}
 use Rattle.fp_session_history.specs.Notes.{Refinement}
@@ -16,12 +17,13 @@ use Rattle.fp_session.specs.Searches.{InHand}
 use Rattle.fp_session.specs.TreeLines.{notes_of}
 
 -- its certificate is accepted, and in range and countable, so that it can be written and read again;
--- and what it shows is earned
+-- its price lines are few; and what it shows is earned
 pub record IsSolved (p : Problem) (table : WindowTable) (budget : Budget) (started : ℕ) (x : Solution) : Type 0 where
   pub accepted : IsAccepted p table x.certificate
   pub range : IsInRange p x.certificate
   pub countable : AreCountable p x.certificate.tables
   pub few : All (λ (spans : List ClassSpan). length spans < 2 ^ 32 - 1) x.certificate.spans
+  pub lines : AreFewLines x.certificate.tables x.certificate.spans
   pub scale : x.certificate.scale ≡ named_scale p.scale
   pub earned : IsEarnedSolution p table budget started x
 

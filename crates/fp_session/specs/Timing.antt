@@ -10,9 +10,9 @@ use Rattle.fp_session.specs.Moves.{IsCheaper, IsNextRound, points_now}
 use Rattle.fp_duals_leaves.specs.Prices.{no_prices}
 use Rattle.fp_session.specs.Searches.{history}
 
--- a cheaper plan; or one more round; or the relaxed plan calls for one, and none is left
+-- a cheaper plan; or one more round, by the relaxed plan; or the relaxed plan calls for one, and none is left
 abbrev pub IsTiming : Search → List (List Leg) → Timing → Type 0
 IsTiming s relaxed (Better cheaper) = IsCheaper s cheaper
-IsTiming s relaxed (Refine round) = IsNextRound s round.note round.refined
+IsTiming s relaxed (Refine round) = IsNextRound s round.note round.refined × (round.note.relaxed ≡ relaxed)
 IsTiming s relaxed (Spent walks) =
     (walks ≡ relaxed) × (last_round (history s no_prices) ≡ s.budget.rounds) × ClashesBelow s.instance s.windows (points_now s) s.cost relaxed

@@ -1,6 +1,7 @@
 //! A search goes on by one step.
-ghost use Rattle.std.specs.Prelude.{◌≡◌, ◌<◌, ⊤, None, Ok, IfOk, IfSome, IsSomeAnd, OnErr, OnOk, false};
-ghost use Rattle.fp_tree.specs.Nodes.{closed_of, leaf_at, leaf_count};
+ghost use Rattle.std.specs.Prelude.{◌≡◌, ⊤, None, Ok, IfOk, IfSome, IsSomeAnd, OnErr, OnOk};
+ghost use Rattle.fp_tree.specs.Nodes.{IsBestOpen};
+ghost use Rattle.fp_session.specs.Order.{IsInOrder};
 ghost use Rattle.fp_session.specs.declared.steps.Step.TheVariants.{Done};
 ghost use Rattle.fp_duals_leaves.specs.Prices.{HaveGrown};
 ghost use Rattle.fp_session.specs.Searches.{IsSearch, in_hand};
@@ -16,7 +17,7 @@ use fp_duals_leaves::Prices;
 use fp_session_history::{Ending, Left};
 use std::alloc::Global;
 
-// One step at an open leaf. Without memory the prices may have grown, and all else is as before.
+// One step at the best open leaf. Without memory the prices may have grown, and all else is as before.
 fn attempt(
     alloc: Global,
     search: &mut Search,
@@ -25,19 +26,19 @@ fn attempt(
 ) -> Result<Step, NoMemory>
     requires search { IsSearch search.old prices.old }
     requires going { search.old.left ≡ None }
-    requires leaf { leaf < leaf_count search.old.tree }
-    requires open { IsSomeAnd (leaf_at search.old.tree leaf) (λ l. closed_of l.node ≡ false) }
+    requires least { IsBestOpen search.old.tree leaf }
     ensures grown { HaveGrown search.old.instance prices.old prices.new }
     ensures search { OnOk result (IsSearch search.new prices.new) }
     ensures fixed { StayFixed (in_hand search.old) (in_hand search.new) }
     ensures step { IfOk result (IsStep (in_hand search.old) (in_hand search.new)) }
+    ensures order { IfOk result (IsInOrder (in_hand search.old) (in_hand search.new)) }
     ensures err { OnErr result (in_hand search.new ≡ in_hand search.old) }
 {
     let planned = next_move(alloc, search, leaf, prices)?;
     search.apply(alloc, prices, leaf, planned)
 }
 
-// One step at an open leaf. Without memory all is as before.
+// One step at the best open leaf. Without memory all is as before.
 fn advance_at(
     alloc: Global,
     search: &mut Search,
@@ -46,11 +47,11 @@ fn advance_at(
 ) -> Result<Step, NoMemory>
     requires search { IsSearch search.old prices.old }
     requires going { search.old.left ≡ None }
-    requires leaf { leaf < leaf_count search.old.tree }
-    requires open { IsSomeAnd (leaf_at search.old.tree leaf) (λ l. closed_of l.node ≡ false) }
+    requires least { IsBestOpen search.old.tree leaf }
     ensures search { IsSearch search.new prices.new }
     ensures fixed { StayFixed (in_hand search.old) (in_hand search.new) }
     ensures step { IfOk result (IsStep (in_hand search.old) (in_hand search.new)) }
+    ensures order { IfOk result (IsInOrder (in_hand search.old) (in_hand search.new)) }
     ensures hand { OnErr result (in_hand search.new ≡ in_hand search.old) }
     ensures unit { prices.new.unit ≡ prices.old.unit }
     ensures prices { OnErr result (prices.new ≡ prices.old) }
@@ -72,6 +73,7 @@ fn advance_open(alloc: Global, search: &mut Search, prices: &mut Prices) -> Resu
     ensures search { IsSearch search.new prices.new }
     ensures fixed { StayFixed (in_hand search.old) (in_hand search.new) }
     ensures step { IfOk result (IsStep (in_hand search.old) (in_hand search.new)) }
+    ensures order { IfOk result (IsInOrder (in_hand search.old) (in_hand search.new)) }
     ensures hand { OnErr result (in_hand search.new ≡ in_hand search.old) }
     ensures unit { prices.new.unit ≡ prices.old.unit }
     ensures prices { OnErr result (prices.new ≡ prices.old) }
@@ -97,6 +99,7 @@ pub(crate) fn advance(
     ensures search { IsSearch search.new prices.new }
     ensures fixed { StayFixed (in_hand search.old) (in_hand search.new) }
     ensures step { IfOk result (IsStep (in_hand search.old) (in_hand search.new)) }
+    ensures order { IfOk result (λ step. search.old.left ≡ None → IsInOrder (in_hand search.old) (in_hand search.new) step) }
     ensures answer { IfSome search.old.left (λ left. result ≡ Ok (Done (ending_in left))) }
     ensures ended { IfSome search.old.left (λ left. in_hand search.new ≡ in_hand search.old) }
     ensures kept { IfSome search.old.left (λ left. prices.new ≡ prices.old) }

@@ -1,9 +1,10 @@
 //! A step does what was planned.
-ghost use Rattle.std.specs.Prelude.{◌≡◌, ◌<◌, None, IfOk, OnErr, OnOk};
-ghost use Rattle.fp_tree.specs.Nodes.{fork_of, split_count};
+ghost use Rattle.std.specs.Prelude.{◌≡◌, ◌<◌, None, Some, IfOk, OnErr, OnOk};
+ghost use Rattle.fp_tree.specs.Nodes.{IsBestOpen, fork_of, split_count};
 ghost use Rattle.fp_tree.specs.Trees.{tree_branches};
-ghost use Rattle.fp_session.specs.Moves.{AtOpenLeaf, IsCheaper, IsDivision, IsLeftAt, IsMove, IsNextRound, IsUnsettled};
+ghost use Rattle.fp_session.specs.Moves.{AtOpenLeaf, IsCheaper, IsDivision, IsLeftAt, IsMove, IsNextRound, IsUnsettled, fork_in};
 ghost use Rattle.fp_session.specs.Nodes.{IsKept, IsSettled};
+ghost use Rattle.fp_session.specs.Order.{IsInOrder, with_closed, with_cost, with_divided, with_kept};
 ghost use Rattle.fp_session.specs.Searches.{IsSearch, history, in_hand};
 ghost use Rattle.fp_session.specs.StepCauses.{ending_of as ending_in, open_count, with_incumbent, with_round, with_tree};
 ghost use Rattle.fp_session.specs.Steps.{HasBranched, HasClosed, HasEnded, IsStep, StayFixed};
@@ -47,6 +48,7 @@ impl Search {
         ensures search { IsSearch self.new prices.now }
         ensures fixed { StayFixed (in_hand self.old) (in_hand self.new) }
         ensures closed { HasClosed (in_hand self.old) (in_hand self.new) }
+        ensures tree { self.new.tree ≡ with_closed leaf (with_kept leaf kept self.old.tree) }
     {
         self.tree.put(leaf, kept.payload, kept.value);
         self.tree.close(leaf);
@@ -59,6 +61,7 @@ impl Search {
         requires kept { AtOpenLeaf self.old.tree leaf (λ l. IsKept (history self.old prices.now) l.sides kept.payload kept.value) }
         ensures search { IsSearch self.new prices.now }
         ensures others { self.new ≡ with_tree self.old self.new.tree }
+        ensures tree { self.new.tree ≡ with_kept leaf kept self.old.tree }
         ensures open_leaves { open_count self.new.tree ≡ open_count self.old.tree }
         ensures splits { split_count self.new.tree ≡ split_count self.old.tree }
         ensures branches { tree_branches fork_of self.new.tree ≡ tree_branches fork_of self.old.tree }
@@ -113,6 +116,7 @@ impl Search {
         ensures search { OnOk result (IsSearch self.new prices.now) }
         ensures fixed { StayFixed (in_hand self.old) (in_hand self.new) }
         ensures branched { OnOk result (HasBranched (in_hand self.old) (in_hand self.new)) }
+        ensures tree { OnOk result (self.new.tree ≡ with_divided leaf (fork_in division) division.first division.second (with_kept leaf (with_cost self.old.cost kept) self.old.tree)) }
         ensures err { OnErr result (self.new ≡ self.old) }
     {
         let before = *self.tree.payload(leaf);
@@ -143,6 +147,8 @@ impl Search {
         ensures search { IsSearch self.new prices.now }
         ensures fixed { StayFixed (in_hand self.old) (in_hand self.new) }
         ensures ended { HasEnded (in_hand self.old) (in_hand self.new) (ending_in left) }
+        ensures tree { self.new.tree ≡ with_kept leaf kept self.old.tree }
+        ensures left { self.new.left ≡ Some left }
     {
         self.tree.put(leaf, kept.payload, kept.value);
         self.left = Some(left);
@@ -159,9 +165,11 @@ impl Search {
         requires search { IsSearch self.old prices.now }
         requires going { self.old.left ≡ None }
         requires planned { IsMove self.old prices.now leaf planned.kept planned.planned }
+        requires least { IsBestOpen self.old.tree leaf }
         ensures search { OnOk result (IsSearch self.new prices.now) }
         ensures fixed { StayFixed (in_hand self.old) (in_hand self.new) }
         ensures step { IfOk result (IsStep (in_hand self.old) (in_hand self.new)) }
+        ensures order { IfOk result (IsInOrder (in_hand self.old) (in_hand self.new)) }
         ensures err { OnErr result (in_hand self.new ≡ in_hand self.old) }
     {
         let kept = planned.kept;

@@ -3,7 +3,7 @@ ghost use Rattle.std.specs.Prelude.{[], ◌∷◌, ◌++◌, ◌≡◌, ◌≤�
 ghost use Rattle.fp_prices.specs.Tables.{HasKind};
 ghost use Rattle.fp_session.specs.Nodes.{IsKept};
 ghost use Rattle.fp_duals_leaves.specs.Prices.{HaveGrown};
-ghost use Rattle.fp_session.specs.Searches.{IsSearch, history};
+ghost use Rattle.fp_session.specs.Searches.{IsSearch, history, setting_of};
 
 use crate::NoMemory;
 use crate::improving::{emptied, greater, improved, priced};
@@ -18,33 +18,39 @@ use fp_prices::{Leaf, LeafPrice, RoundNetwork};
 use fp_tree::Side;
 use std::alloc::Global;
 
-// What is kept of the leaf on one side of a split, improved with little effort from a price of the
-// leaf above.
+// The sides of the leaf on one side of a split of a leaf.
+fn sides_below(alloc: Global, leaf: &Leaf, side: Side) -> Result<Vec<Side>, NoMemory>
+    ensures { IfOk result (λ sides. sides.items ≡ leaf.now.sides ++ (side ∷ [])) }
+{
+    let mut sides = leaf.sides().to_vec(alloc)?;
+    sides.push(side)?;
+    Ok(sides)
+}
+
+// What is kept of the leaf on one side of a split of a leaf, improved with little effort from a price
+// of the leaf above.
 #[tactic(auto, using(fp_duals_leaves::proofs::GrownPrices::HaveGrown_none))]
 pub(crate) fn new_child(
     alloc: Global,
     search: &Search,
-    round: &RoundNetwork,
-    sides: &[Side],
+    leaf: &Leaf,
     side: Side,
     inherited: LeafPrice,
     prices: &mut Prices,
 ) -> Result<Kept, NoMemory>
-    requires problem { round.now.problem ≡ search.now.instance }
-    requires network { round.now.network ≡ search.now.network }
+    requires setting { leaf.now.setting ≡ setting_of search.now }
     requires search { IsSearch search.now prices.old }
     requires kind { HasKind prices.old.tables inherited.kind }
     ensures grown { HaveGrown search.now.instance prices.old prices.new }
     ensures kept { IfOk result (λ kept.
-        IsKept (history search.now prices.new) (sides.now ++ (side ∷ [])) kept.payload kept.value) }
+        IsKept (history search.now prices.new) (leaf.now.sides ++ (side ∷ [])) kept.payload kept.value) }
 {
-    let mut below = sides.to_vec(alloc)?;
-    below.push(side)?;
-    let leaf = Leaf::of(alloc, round, &search.windows, &below)?;
+    let sides = sides_below(alloc, leaf, side)?;
+    let below = Leaf::of(alloc, leaf.round(), leaf.windows(), &sides)?;
     let number = search.trace.len() as u32;
     let mut nets = LentNets::new();
     let effort = &PriceEffort::CHILD;
-    match improve(alloc, &leaf, &mut nets, number, inherited, effort, prices)? {
+    match improve(alloc, &below, &mut nets, number, inherited, effort, prices)? {
         Improved::Empty { .. } => Ok(emptied(number)),
         Improved::Priced { price, value, .. } => Ok(priced(price, value)),
     }
@@ -55,27 +61,24 @@ pub(crate) fn new_child(
 fn better_child(
     alloc: Global,
     search: &Search,
-    round: &RoundNetwork,
-    sides: &[Side],
+    leaf: &Leaf,
     side: Side,
     old: Kept,
     prices: &mut Prices,
 ) -> Result<Kept, NoMemory>
-    requires problem { round.now.problem ≡ search.now.instance }
-    requires network { round.now.network ≡ search.now.network }
+    requires setting { leaf.now.setting ≡ setting_of search.now }
     requires search { IsSearch search.now prices.old }
-    requires kept { IsKept (history search.now prices.old) (sides.now ++ (side ∷ [])) old.payload old.value }
+    requires kept { IsKept (history search.now prices.old) (leaf.now.sides ++ (side ∷ [])) old.payload old.value }
     requires some { old.payload.empty ≡ false }
     ensures grown { HaveGrown search.now.instance prices.old prices.new }
     ensures kept { IfOk result (λ kept.
-        IsKept (history search.now prices.new) (sides.now ++ (side ∷ [])) kept.payload kept.value) }
+        IsKept (history search.now prices.new) (leaf.now.sides ++ (side ∷ [])) kept.payload kept.value) }
 {
-    let mut below = sides.to_vec(alloc)?;
-    below.push(side)?;
-    let leaf = Leaf::of(alloc, round, &search.windows, &below)?;
+    let sides = sides_below(alloc, leaf, side)?;
+    let below = Leaf::of(alloc, leaf.round(), leaf.windows(), &sides)?;
     let mut nets = LentNets::new();
     let effort = &PriceEffort::CHOSEN;
-    match improved(alloc, search, &leaf, &mut nets, old, effort, prices)? {
+    match improved(alloc, search, &below, &mut nets, old, effort, prices)? {
         Outcome::Empty { kept } => Ok(kept),
         Outcome::Open { kept, .. } => Ok(kept),
     }
@@ -88,7 +91,7 @@ fn better_child(
 fn as_above(
     alloc: Global,
     search: &Search,
-    sides: &[Side],
+    leaf: &Leaf,
     side: Side,
     above: LeafPrice,
     old: Kept,
@@ -97,55 +100,76 @@ fn as_above(
     requires search { IsSearch search.now prices.old }
     requires kind { HasKind prices.old.tables above.kind }
     requires round { above.round ≤ length search.now.trace.items }
-    requires kept { IsKept (history search.now prices.old) (sides.now ++ (side ∷ [])) old.payload old.value }
+    requires kept { IsKept (history search.now prices.old) (leaf.now.sides ++ (side ∷ [])) old.payload old.value }
     ensures grown { HaveGrown search.now.instance prices.old prices.new }
     ensures kept { IfOk result (λ kept.
-        IsKept (history search.now prices.new) (sides.now ++ (side ∷ [])) kept.payload kept.value) }
+        IsKept (history search.now prices.new) (leaf.now.sides ++ (side ∷ [])) kept.payload kept.value) }
 {
     let network = Network::of(alloc, &search.instance, &search.points, above.round)?;
     let round = RoundNetwork::over(alloc, &search.instance, network)?;
-    let mut below = sides.to_vec(alloc)?;
-    below.push(side)?;
-    let leaf = Leaf::of(alloc, &round, &search.windows, &below)?;
+    let sides = sides_below(alloc, leaf, side)?;
+    let below = Leaf::of(alloc, &round, &search.windows, &sides)?;
     let mut nets = LentNets::new();
     let effort = &PriceEffort::NONE;
-    match improve(alloc, &leaf, &mut nets, above.round, above, effort, prices)? {
+    match improve(alloc, &below, &mut nets, above.round, above, effort, prices)? {
         Improved::Empty { .. } => Ok(old),
         Improved::Priced { price, value, .. } => Ok(greater(old, price, value)),
     }
 }
 
-// What is kept of the leaf on one side of a split, below a leaf of which this is kept: improved with
-// little effort, with more where it is worth less than the leaf above, and at last, where spans are
-// sought, by the price of that leaf as of its round.
+// What is kept of such a leaf of which this is kept after little effort, below a leaf of which that is
+// kept: improved with more effort where it is worth less than the leaf above, and at last, where
+// spans are sought, by the price of that leaf as of its round.
+#[tactic(auto, using(fp_duals_leaves::proofs::GrownPrices::HaveGrown_none))]
+pub(crate) fn raised(
+    alloc: Global,
+    search: &Search,
+    leaf: &Leaf,
+    side: Side,
+    kept: Kept,
+    above: Kept,
+    prices: &mut Prices,
+) -> Result<Kept, NoMemory>
+    requires setting { leaf.now.setting ≡ setting_of search.now }
+    requires search { IsSearch search.now prices.old }
+    requires going { search.now.left ≡ None }
+    requires kept { IsKept (history search.now prices.old) (leaf.now.sides ++ (side ∷ [])) kept.payload kept.value }
+    requires kind { HasKind prices.old.tables above.payload.price.kind }
+    requires round { above.payload.price.round ≤ length search.now.trace.items }
+    ensures grown { HaveGrown search.now.instance prices.old prices.new }
+    ensures kept { IfOk result (λ kept.
+        IsKept (history search.now prices.new) (leaf.now.sides ++ (side ∷ [])) kept.payload kept.value) }
+{
+    if kept.payload.empty || kept.value >= above.value {
+        return Ok(kept);
+    }
+    let kept = better_child(alloc, search, leaf, side, kept, prices)?;
+    let price = above.payload.price;
+    let earlier = (price.round as usize) < search.trace.len();
+    if kept.payload.empty || kept.value >= above.value || !earlier || prices.unit().is_none() {
+        return Ok(kept);
+    }
+    as_above(alloc, search, leaf, side, price, kept, prices)
+}
+
+// What is kept of the leaf on one side of a split, below a leaf of which this is kept.
 pub(crate) fn child(
     alloc: Global,
     search: &Search,
-    round: &RoundNetwork,
-    sides: &[Side],
+    leaf: &Leaf,
     side: Side,
     above: Kept,
     prices: &mut Prices,
 ) -> Result<Kept, NoMemory>
-    requires problem { round.now.problem ≡ search.now.instance }
-    requires network { round.now.network ≡ search.now.network }
+    requires setting { leaf.now.setting ≡ setting_of search.now }
     requires search { IsSearch search.now prices.old }
     requires going { search.now.left ≡ None }
     requires kind { HasKind prices.old.tables above.payload.price.kind }
     requires round { above.payload.price.round ≤ length search.now.trace.items }
     ensures grown { HaveGrown search.now.instance prices.old prices.new }
     ensures kept { IfOk result (λ kept.
-        IsKept (history search.now prices.new) (sides.now ++ (side ∷ [])) kept.payload kept.value) }
+        IsKept (history search.now prices.new) (leaf.now.sides ++ (side ∷ [])) kept.payload kept.value) }
 {
-    let price = above.payload.price;
-    let kept = new_child(alloc, search, round, sides, side, price, prices)?;
-    if kept.payload.empty || kept.value >= above.value {
-        return Ok(kept);
-    }
-    let kept = better_child(alloc, search, round, sides, side, kept, prices)?;
-    let earlier = (price.round as usize) < search.trace.len();
-    if kept.payload.empty || kept.value >= above.value || !earlier || prices.unit().is_none() {
-        return Ok(kept);
-    }
-    as_above(alloc, search, sides, side, price, kept, prices)
+    let kept = new_child(alloc, search, leaf, side, above.payload.price, prices)?;
+    raised(alloc, search, leaf, side, kept, above, prices)
 }

@@ -1,32 +1,47 @@
 //! By which shipment a leaf is split: of the first candidates the one whose sides promise most.
-ghost use Rattle.std.specs.Prelude.{◌≡◌, ◌<◌, ◌≤◌, All, IfOk, length};
+ghost use Rattle.std.specs.Prelude.{◌≡◌, ◌≤◌, All, IfOk, IfSome, None, length, true};
 ghost use Rattle.fp_prices.specs.Tables.{HasKind};
 ghost use Rattle.fp_session_branching.specs.Candidates.{IsCandidate};
+ghost use Rattle.fp_session.specs.Choices.{AreKeptBelow, IsChosen, fork_by};
 ghost use Rattle.fp_session.specs.Dividing.{IsSeveral};
 ghost use Rattle.fp_duals_leaves.specs.Prices.{HaveGrown};
-ghost use Rattle.fp_session.specs.Searches.{IsSearch};
+ghost use Rattle.fp_session.specs.Searches.{IsSearch, history, setting_of};
 
 use crate::NoMemory;
 use crate::children::new_child;
 use crate::dividing::Several;
-use crate::kept::Kept;
+use crate::kept::{Below, Kept};
 use crate::searches::Search;
 use fp_duals_leaves::Prices;
-use fp_prices::{Leaf, LeafPrice, RoundNetwork};
+use fp_prices::{Leaf, LeafPrice};
 use fp_relaxmodel::TimedWalk;
 use fp_session_branching::{Candidate, candidates};
-use fp_tree::Side;
 use std::alloc::Global;
 
 // So many candidates are tried. More of them cost time and were measured to gain nothing on lines
 // and hubs.
 const MOST_TRIED: usize = 4;
 
+// A candidate by which a leaf is split, and what is kept of the two leaves below where a trial told
+// it without a further table.
+#[derive(Clone, Copy)]
+pub(crate) struct Chosen {
+    pub candidate: Candidate,
+    pub below: Option<Below>,
+}
+
 // What the two sides of a split promise: what the worse one is worth, and what the better one.
 #[derive(Clone, Copy, Debug, PartialEq, Eq)]
 struct Promise {
     worse: u128,
     better: u128,
+}
+
+// A candidate that was tried, and what its sides promise.
+#[derive(Clone, Copy)]
+struct Trial {
+    chosen: Chosen,
+    promise: Promise,
 }
 
 // Whether a promise is more than another.
@@ -44,106 +59,108 @@ fn worth(search: &Search, kept: Kept) -> u128 {
     }
 }
 
-// What the sides of a candidate's split promise, with prices that serve this alone.
+// What the sides of a split promise of which this is kept.
+fn promise_of(search: &Search, below: Below) -> Promise {
+    let first = worth(search, below.first);
+    let second = worth(search, below.second);
+    Promise {
+        worse: first.min(second),
+        better: first.max(second),
+    }
+}
+
+// What is kept of the sides of a candidate's split after little effort.
+fn both_sides(
+    alloc: Global,
+    search: &Search,
+    leaf: &Leaf,
+    candidate: Candidate,
+    inherited: LeafPrice,
+    prices: &mut Prices,
+) -> Result<Below, NoMemory>
+    requires setting { leaf.now.setting ≡ setting_of search.now }
+    requires search { IsSearch search.now prices.old }
+    requires going { search.now.left ≡ None }
+    requires kind { HasKind prices.old.tables inherited.kind }
+    ensures grown { HaveGrown search.now.instance prices.old prices.new }
+    ensures kept { IfOk result (AreKeptBelow (history search.now prices.new) leaf.now.sides (fork_by candidate)) }
+{
+    let split = candidate.split;
+    let tail = candidate.terminal;
+    let first = new_child(alloc, search, leaf, split.first(), inherited, prices)?;
+    let second = new_child(alloc, search, leaf, split.second(tail), inherited, prices)?;
+    Ok(Below { first, second })
+}
+
+// What came of the trial of a candidate, with so many tables before it and after it: what is kept of
+// its sides only where that takes no further table.
+fn trial_of(search: &Search, candidate: Candidate, below: Below, before: u32, after: u32) -> Trial
+    ensures candidate { result.chosen.candidate ≡ candidate }
+    ensures below { IfSome result.chosen.below (λ told. (after ≤ before) × (told ≡ below)) }
+{
+    let promise = promise_of(search, below);
+    let below = if after <= before { Some(below) } else { None };
+    let chosen = Chosen { candidate, below };
+    Trial { chosen, promise }
+}
+
+// A trial of a candidate. The prices are as before: further tables serve the trial alone.
 fn tried(
     alloc: Global,
     search: &Search,
-    round: &RoundNetwork,
-    sides: &[Side],
+    leaf: &Leaf,
     candidate: Candidate,
     inherited: LeafPrice,
     prices: &mut Prices,
-) -> Result<Promise, NoMemory>
+) -> Result<Trial, NoMemory>
+    requires setting { leaf.now.setting ≡ setting_of search.now }
     requires search { IsSearch search.now prices.old }
     requires going { search.now.left ≡ None }
-    requires problem { round.now.problem ≡ search.now.instance }
-    requires network { round.now.network ≡ search.now.network }
+    requires candidate { IsCandidate leaf.now candidate }
     requires kind { HasKind prices.old.tables inherited.kind }
-    ensures grown { HaveGrown search.now.instance prices.old prices.new }
-{
-    let Candidate {
-        terminal,
-        split,
-        ..
-    } = candidate;
-    let first = new_child(
-        alloc,
-        search,
-        round,
-        sides,
-        split.first(),
-        inherited,
-        prices,
-    )?;
-    let second = new_child(
-        alloc,
-        search,
-        round,
-        sides,
-        split.second(terminal),
-        inherited,
-        prices,
-    )?;
-    let first = worth(search, first);
-    let second = worth(search, second);
-    Ok(Promise {
-        worse: first.min(second),
-        better: first.max(second),
-    })
-}
-
-// What the sides of a candidate's split promise. The prices are as before.
-fn promise_of(
-    alloc: Global,
-    search: &Search,
-    round: &RoundNetwork,
-    sides: &[Side],
-    candidate: Candidate,
-    inherited: LeafPrice,
-    prices: &mut Prices,
-) -> Result<Promise, NoMemory>
-    requires search { IsSearch search.now prices.old }
-    requires going { search.now.left ≡ None }
-    requires problem { round.now.problem ≡ search.now.instance }
-    requires network { round.now.network ≡ search.now.network }
-    requires kind { HasKind prices.old.tables inherited.kind }
-    ensures { prices.new ≡ prices.old }
+    ensures same { prices.new ≡ prices.old }
+    ensures chosen { IfOk result (λ trial. IsChosen (history search.now prices.old) leaf.now trial.chosen) }
 {
     let count = prices.count();
-    let promise = tried(alloc, search, round, sides, candidate, inherited, prices);
-    prices.cut(count);
-    promise
+    match both_sides(alloc, search, leaf, candidate, inherited, prices) {
+        Ok(below) => {
+            let after = prices.count();
+            prices.cut(count);
+            Ok(trial_of(search, candidate, below, count, after))
+        }
+        Err(error) => {
+            prices.cut(count);
+            Err(error)
+        }
+    }
 }
 
-// The place of the candidate whose sides promise most, the first of these. The prices are as before.
-fn best_place(
+// The candidate whose sides promise most, the first of these. The prices are as before.
+fn best(
     alloc: Global,
     search: &Search,
-    round: &RoundNetwork,
-    sides: &[Side],
+    leaf: &Leaf,
     list: &[Candidate],
     inherited: LeafPrice,
     prices: &mut Prices,
-) -> Result<usize, NoMemory>
+) -> Result<Chosen, NoMemory>
+    requires setting { leaf.now.setting ≡ setting_of search.now }
     requires search { IsSearch search.now prices.old }
     requires going { search.now.left ≡ None }
-    requires problem { round.now.problem ≡ search.now.instance }
-    requires network { round.now.network ≡ search.now.network }
-    requires kind { HasKind prices.old.tables inherited.kind }
+    requires each { All (IsCandidate leaf.now) list.now }
     requires some { 1 ≤ length list.now }
+    requires kind { HasKind prices.old.tables inherited.kind }
     ensures same { prices.new ≡ prices.old }
-    ensures place { IfOk result (λ place. place < length list.now) }
+    ensures chosen { IfOk result (IsChosen (history search.now prices.old) leaf.now) }
 {
-    let mut best = 0;
-    let mut most = promise_of(alloc, search, round, sides, list[0], inherited, prices)?;
+    let mut best = tried(alloc, search, leaf, list[0], inherited, prices)?;
     for place in 1..list.len() {
-        let next = promise_of(alloc, search, round, sides, list[place], inherited, prices)?;
-        if is_more(next, most) {
-            best = place;
-            most = next;
+        let next = tried(alloc, search, leaf, list[place], inherited, prices)?;
+        if is_more(next.promise, best.promise) {
+            best = next;
         }
     }
-    Ok(best)
+    Ok(best.chosen)
 }
 
 // By which candidate a leaf is split in which a shipment has several ways to go: of the first few,
@@ -152,23 +169,19 @@ fn best_place(
 pub(crate) fn choice(
     alloc: Global,
     search: &Search,
-    round: &RoundNetwork,
     leaf: &Leaf,
-    sides: &[Side],
     several: Several,
     price: LeafPrice,
     walks: &[TimedWalk],
     prices: &mut Prices,
-) -> Result<Candidate, NoMemory>
+) -> Result<Chosen, NoMemory>
+    requires setting { leaf.now.setting ≡ setting_of search.now }
     requires search { IsSearch search.now prices.old }
     requires going { search.now.left ≡ None }
-    requires problem { round.now.problem ≡ search.now.instance }
-    requires network { round.now.network ≡ search.now.network }
-    requires setting { leaf.now.setting.problem ≡ search.now.instance }
     requires several { IsSeveral leaf.now several }
     requires kind { HasKind prices.old.tables price.kind }
     ensures same { prices.new ≡ prices.old }
-    ensures candidate { IfOk result (IsCandidate leaf.now) }
+    ensures chosen { IfOk result (IsChosen (history search.now prices.old) leaf.now) }
 {
     let list = candidates(
         alloc,
@@ -180,8 +193,10 @@ pub(crate) fn choice(
         MOST_TRIED,
     )?;
     if list.len() == 1 {
-        return Ok(list[0]);
+        return Ok(Chosen {
+            candidate: list[0],
+            below: None,
+        });
     }
-    let place = best_place(alloc, search, round, sides, &list, price, prices)?;
-    Ok(list[place])
+    best(alloc, search, leaf, &list, price, prices)
 }

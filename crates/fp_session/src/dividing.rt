@@ -1,22 +1,21 @@
 //! A leaf is divided where a shipment has several ways to go.
 ghost use Rattle.std.specs.Prelude.{None, ◌≡◌, ◌≤◌, IfOk, MatchOption, length};
-ghost use Rattle.fp_session_branching.specs.Candidates.{IsCandidate};
 ghost use Rattle.fp_prices.specs.Tables.{HasKind};
+ghost use Rattle.fp_session.specs.Choices.{AreKeptBelow, IsChosen, fork_by};
 ghost use Rattle.fp_session.specs.Dividing.{IsSeveral, NoneSeveral, several_terminal};
 ghost use Rattle.fp_session.specs.Moves.{IsDivision};
 ghost use Rattle.fp_duals_leaves.specs.Prices.{HaveGrown};
-ghost use Rattle.fp_session.specs.Searches.{IsSearch, history};
+ghost use Rattle.fp_session.specs.Searches.{IsSearch, history, setting_of};
 
 use crate::NoMemory;
-use crate::children::child;
-use crate::kept::Kept;
+use crate::children::{child, raised};
+use crate::choices::Chosen;
+use crate::kept::{Below, Kept};
 use crate::moves::Division;
 use crate::searches::Search;
 use fp_allowed::ChainEnd;
 use fp_duals_leaves::Prices;
-use fp_prices::{Leaf, RoundNetwork};
-use fp_session_branching::Candidate;
-use fp_tree::Side;
+use fp_prices::Leaf;
 use std::alloc::Global;
 
 // A shipment whose chain ends where it has several ways to go, and the terminal where it does.
@@ -57,46 +56,64 @@ pub(crate) fn first_several(
     Ok(None)
 }
 
-// A leaf of which this is kept is divided by a candidate, with what is known of the two leaves below.
-// The leaf serves the contract alone.
-pub(crate) fn division(
+// What is kept of the two leaves below a leaf of which that is kept and that is split by a candidate.
+// Where a trial told what is kept of them, they aren't priced again with little effort.
+fn leaves_below(
     alloc: Global,
     search: &Search,
-    round: &RoundNetwork,
     leaf: &Leaf,
-    sides: &[Side],
-    candidate: Candidate,
+    chosen: Chosen,
     above: Kept,
     prices: &mut Prices,
-) -> Result<Division, NoMemory>
+) -> Result<Below, NoMemory>
+    requires setting { leaf.now.setting ≡ setting_of search.now }
     requires search { IsSearch search.now prices.old }
     requires going { search.now.left ≡ None }
-    requires problem { round.now.problem ≡ search.now.instance }
-    requires network { round.now.network ≡ search.now.network }
-    requires setting { leaf.now.setting ≡ record { problem = search.now.instance; windows = search.now.windows; network = search.now.network } }
-    requires sides { leaf.now.sides ≡ sides.now }
-    requires candidate { IsCandidate leaf.now candidate }
+    requires chosen { IsChosen (history search.now prices.old) leaf.now chosen }
     requires kind { HasKind prices.old.tables above.payload.price.kind }
     requires round { above.payload.price.round ≤ length search.now.trace.items }
     ensures grown { HaveGrown search.now.instance prices.old prices.new }
-    ensures division { IfOk result (IsDivision (history search.now prices.new) sides.now) }
+    ensures kept { IfOk result (AreKeptBelow (history search.now prices.new) leaf.now.sides (fork_by chosen.candidate)) }
 {
-    let split = candidate.split;
-    let tail = candidate.terminal;
-    let first = child(alloc, search, round, sides, split.first(), above, prices)?;
-    let second = child(
-        alloc,
-        search,
-        round,
-        sides,
-        split.second(tail),
-        above,
-        prices,
-    )?;
+    let one = chosen.candidate.split.first();
+    let other = chosen.candidate.split.second(chosen.candidate.terminal);
+    match chosen.below {
+        Some(tried) => {
+            let first = raised(alloc, search, leaf, one, tried.first, above, prices)?;
+            let second = raised(alloc, search, leaf, other, tried.second, above, prices)?;
+            Ok(Below { first, second })
+        }
+        None => {
+            let first = child(alloc, search, leaf, one, above, prices)?;
+            let second = child(alloc, search, leaf, other, above, prices)?;
+            Ok(Below { first, second })
+        }
+    }
+}
+
+// The division of a leaf of which this is kept, by a candidate that was chosen.
+pub(crate) fn division(
+    alloc: Global,
+    search: &Search,
+    leaf: &Leaf,
+    chosen: Chosen,
+    above: Kept,
+    prices: &mut Prices,
+) -> Result<Division, NoMemory>
+    requires setting { leaf.now.setting ≡ setting_of search.now }
+    requires search { IsSearch search.now prices.old }
+    requires going { search.now.left ≡ None }
+    requires chosen { IsChosen (history search.now prices.old) leaf.now chosen }
+    requires kind { HasKind prices.old.tables above.payload.price.kind }
+    requires round { above.payload.price.round ≤ length search.now.trace.items }
+    ensures grown { HaveGrown search.now.instance prices.old prices.new }
+    ensures division { IfOk result (IsDivision (history search.now prices.new) leaf.now.sides) }
+{
+    let below = leaves_below(alloc, search, leaf, chosen, above, prices)?;
     Ok(Division {
-        split,
-        tail,
-        first,
-        second,
+        split: chosen.candidate.split,
+        tail: chosen.candidate.terminal,
+        first: below.first,
+        second: below.second,
     })
 }

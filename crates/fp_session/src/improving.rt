@@ -4,7 +4,7 @@ ghost use Rattle.fp_prices.specs.Tables.{HasKind};
 ghost use Rattle.fp_session.specs.Nodes.{IsKept};
 ghost use Rattle.fp_duals_leaves.specs.Prices.{HaveGrown};
 ghost use Rattle.fp_session.specs.Outcomes.{IsGreater, IsOutcome, empty_kept, noted_outcome, priced_kept};
-ghost use Rattle.fp_session.specs.Searches.{IsSearch, history};
+ghost use Rattle.fp_session.specs.Searches.{IsSearch, history, setting_of};
 
 use crate::NoMemory;
 use crate::kept::Kept;
@@ -76,7 +76,7 @@ pub(crate) fn improved(
     prices: &mut Prices,
 ) -> Result<Outcome, NoMemory>
     requires search { IsSearch search.now prices.old }
-    requires setting { leaf.now.setting ≡ record { problem = search.now.instance; windows = search.now.windows; network = search.now.network } }
+    requires setting { leaf.now.setting ≡ setting_of search.now }
     requires kept { IsKept (history search.now prices.old) leaf.now.sides old.payload old.value }
     requires some { old.payload.empty ≡ false }
     ensures grown { HaveGrown search.now.instance prices.old prices.new }
@@ -141,7 +141,7 @@ pub(crate) fn improved_by_step(
     prices: &mut Prices,
 ) -> Result<Outcome, NoMemory>
     requires search { IsSearch search.now prices.old }
-    requires setting { leaf.now.setting ≡ record { problem = search.now.instance; windows = search.now.windows; network = search.now.network } }
+    requires setting { leaf.now.setting ≡ setting_of search.now }
     requires kept { IsKept (history search.now prices.old) leaf.now.sides old.payload old.value }
     requires some { old.payload.empty ≡ false }
     ensures grown { HaveGrown search.now.instance prices.old prices.new }

@@ -11,18 +11,18 @@ ghost use Rattle.fp_prices.specs.Tables.{HasKind};
 ghost use Rattle.fp_session_history.specs.Notes.{worth_of};
 ghost use Rattle.fp_session_history.specs.Solutions.{AreWalksUnder};
 ghost use Rattle.fp_session.specs.Dividing.{IsSeveral};
-ghost use Rattle.fp_session.specs.Moves.{AtOpenLeaf, IsMove, IsOpenMove, points_now};
+ghost use Rattle.fp_session.specs.Moves.{AtOpenLeaf, IsDivision, IsMove, IsOpenMove, points_now};
 ghost use Rattle.fp_session.specs.Nodes.{IsKeptAs};
 ghost use Rattle.fp_session.specs.Outcomes.{IsFound};
 ghost use Rattle.fp_duals_leaves.specs.Prices.{ArePrices, HaveGrown};
-ghost use Rattle.fp_session.specs.Searches.{IsSearch, history};
+ghost use Rattle.fp_session.specs.Searches.{IsSearch, history, setting_of};
 
 use crate::NoMemory;
 use crate::choices::choice;
 use crate::dividing::{Several, division, first_several};
 use crate::improving::improved_by_step;
 use crate::kept::Kept;
-use crate::moves::Move;
+use crate::moves::{Division, Move};
 use crate::outcomes::Outcome;
 use crate::redrawing::unless_cheaper;
 use crate::searches::Search;
@@ -34,7 +34,6 @@ use fp_duals_nets::LentNets;
 use fp_prices::{Leaf, RoundNetwork};
 use fp_relaxmodel::{RelaxedPlan, TimedWalk};
 use fp_session_history::Left;
-use fp_tree::Side;
 use std::alloc::Global;
 
 // What a step is going to do, with what it keeps of its leaf.
@@ -42,6 +41,15 @@ use std::alloc::Global;
 pub(crate) struct Planned {
     pub kept: Kept,
     pub planned: Move,
+}
+
+// What was found of a leaf: what is kept of it, its walks by the spans of its price or by tables, and
+// those by tables where the others are by spans.
+#[derive(Drop)]
+struct Found {
+    kept: Kept,
+    relaxed: RelaxedPlan,
+    by_tables: Option<Vec<TimedWalk>>,
 }
 
 // Whether a leaf with this value is worth at least what the incumbent costs.
@@ -54,22 +62,22 @@ fn is_dear(search: &Search, prices: &Prices, value: u128) -> bool
 }
 
 // What a step is going to do where a relaxed plan under the sides of a leaf costs less than the
-// incumbent. The sides serve the contract alone.
+// incumbent.
 fn timed_move(
     alloc: Global,
     search: &Search,
-    prices: &Prices,
-    sides: &[Side],
+    leaf: &Leaf,
     number: u32,
     relaxed: RelaxedPlan,
+    prices: &Prices,
 ) -> Result<Move, NoMemory>
     requires search { IsSearch search.now prices.now }
     requires relaxed { IsRelaxedPlan search.now.instance (windows_in search.now.windows)
         (points_now search.now) relaxed }
     requires under { AreWalksUnder search.now.instance search.now.windows (points_now search.now)
-        sides.now relaxed }
+        leaf.now.sides relaxed }
     requires cheaper { cost_of search.now.instance relaxed < search.now.cost }
-    ensures { IfOk result (IsOpenMove search.now prices.now number sides.now) }
+    ensures { IfOk result (IsOpenMove search.now prices.now number leaf.now.sides) }
 {
     match timed(alloc, search, prices, relaxed)? {
         Timing::Better { cheaper } => Ok(Move::Better { cheaper }),
@@ -86,139 +94,119 @@ fn timed_move(
     }
 }
 
-// What a step is going to do at a leaf in which a shipment has several ways to go: it divides the
-// leaf, where a branch is left.
+// How a leaf is divided in which a shipment has several ways to go, and of whose walks no cheaper plan
+// can come, where a branch is left.
 #[tactic(auto, using(fp_duals_leaves::proofs::GrownPrices::HaveGrown_none))]
 fn several_move(
     alloc: Global,
     search: &Search,
-    round: &RoundNetwork,
     leaf: &Leaf,
-    sides: &[Side],
-    number: u32,
     several: Several,
     kept: Kept,
     walks: &[TimedWalk],
     prices: &mut Prices,
-) -> Result<Move, NoMemory>
+) -> Result<Division, NoMemory>
     requires search { IsSearch search.now prices.old }
     requires going { search.now.left ≡ None }
-    requires problem { round.now.problem ≡ search.now.instance }
-    requires network { round.now.network ≡ search.now.network }
-    requires setting { leaf.now.setting ≡ record { problem = search.now.instance; windows = search.now.windows; network = search.now.network } }
-    requires sides { leaf.now.sides ≡ sides.now }
+    requires setting { leaf.now.setting ≡ setting_of search.now }
     requires several { IsSeveral leaf.now several }
     requires kind { HasKind prices.old.tables kept.payload.price.kind }
     requires round { kept.payload.price.round ≤ length search.now.trace.items }
     ensures grown { HaveGrown search.now.instance prices.old prices.new }
-    ensures planned { IfOk result (IsOpenMove search.now prices.new number sides.now) }
+    ensures division { IfOk result (IsDivision (history search.now prices.new) leaf.now.sides) }
 {
-    if search.tree.splits() >= search.budget.branches {
-        return Ok(Move::Stop {
-            left: Left::Several {
-                leaf: number,
-                shipment: several.shipment,
-            },
-        });
-    }
     let price = kept.payload.price;
-    let candidate = choice(
-        alloc, search, round, leaf, sides, several, price, walks, prices,
-    )?;
-    let division = division(alloc, search, round, leaf, sides, candidate, kept, prices)?;
-    Ok(Move::Divide { division })
+    let chosen = choice(alloc, search, leaf, several, price, walks, prices)?;
+    division(alloc, search, leaf, chosen, kept, prices)
 }
 
 // What a step is going to do at an open leaf that is worth less than the incumbent costs, where these
-// are walks under its sides. It is split by them, or by its walks by tables, where these are others.
+// are walks under its sides. It is split by them, or by its walks by tables, where these are others;
+// but only where a cheaper plan can't come of them: such walks call for a round.
 #[tactic(auto, using(fp_duals_leaves::proofs::GrownPrices::HaveGrown_none))]
 fn move_by(
     alloc: Global,
     search: &Search,
-    round: &RoundNetwork,
     leaf: &Leaf,
-    sides: &[Side],
+    nets: &mut LentNets,
     number: u32,
-    kept: Kept,
-    relaxed: RelaxedPlan,
-    by_tables: Option<&[TimedWalk]>,
+    found: Found,
     prices: &mut Prices,
 ) -> Result<Move, NoMemory>
     requires search { IsSearch search.now prices.old }
     requires going { search.now.left ≡ None }
-    requires problem { round.now.problem ≡ search.now.instance }
-    requires network { round.now.network ≡ search.now.network }
-    requires setting { leaf.now.setting ≡ record { problem = search.now.instance; windows = search.now.windows; network = search.now.network } }
-    requires sides { leaf.now.sides ≡ sides.now }
-    requires found { IsFound (history search.now prices.old) sides.now kept relaxed }
-    requires below { worth_of (history search.now prices.old) kept.value < search.now.cost }
+    requires setting { leaf.now.setting ≡ setting_of search.now }
+    requires found { IsFound (history search.now prices.old) leaf.now.sides found.kept found.relaxed }
+    requires below { worth_of (history search.now prices.old) found.kept.value < search.now.cost }
     ensures grown { HaveGrown search.now.instance prices.old prices.new }
-    ensures planned { IfOk result (IsOpenMove search.now prices.new number sides.now) }
+    ensures planned { IfOk result (IsOpenMove search.now prices.new number leaf.now.sides) }
 {
+    let Found {
+        kept,
+        relaxed,
+        by_tables,
+    } = found;
     let least = &relaxed.walks;
     let priced = kept.payload.price.round;
-    if let Some(cheaper) = cheaper_walks(alloc, search, leaf, sides, least, priced, prices)? {
-        match timed_move(alloc, search, prices, sides, number, cheaper)? {
+    if let Some(cheaper) = cheaper_walks(alloc, search, leaf, nets, least, priced, prices)? {
+        match timed_move(alloc, search, leaf, number, cheaper, prices)? {
             // No round is left, but there may be a branch.
             Move::Stop { .. } => {}
             planned => return Ok(planned),
         }
     }
     if are_cheaper(search, &relaxed) {
-        return timed_move(alloc, search, prices, sides, number, relaxed);
+        return timed_move(alloc, search, leaf, number, relaxed, prices);
     }
     let shipments = search.instance.shipments().len() as u32;
     match first_several(alloc, leaf, shipments)? {
         // Where no shipment has several ways to go, the walks are routes and cost less.
         None => unreachable!(),
         Some(several) => {
-            let walks = walks_to_split_by(&search.instance, &relaxed, by_tables);
-            several_move(
-                alloc, search, round, leaf, sides, number, several, kept, walks, prices,
-            )
+            if search.tree.splits() >= search.budget.branches {
+                return Ok(Move::Stop {
+                    left: Left::Several {
+                        leaf: number,
+                        shipment: several.shipment,
+                    },
+                });
+            }
+            let walks = walks_to_split_by(&search.instance, &relaxed, by_tables.as_deref());
+            let division = several_move(alloc, search, leaf, several, kept, walks, prices)?;
+            Ok(Move::Divide { division })
         }
     }
 }
 
-// What a step is going to do at an open leaf that is worth less than the incumbent costs, by its walks
-// by spans, where there are such, and otherwise by those by tables.
-#[tactic(auto, using(fp_duals_leaves::proofs::GrownPrices::HaveGrown_none))]
-fn move_at(
+// What was found of a leaf of which this is kept, whose walks by tables are these: by its walks by
+// spans, where there are such.
+fn found_at(
     alloc: Global,
     search: &Search,
-    round: &RoundNetwork,
     leaf: &Leaf,
-    sides: &[Side],
-    number: u32,
+    nets: &mut LentNets,
     kept: Kept,
     walks: Vec<TimedWalk>,
-    prices: &mut Prices,
-) -> Result<Move, NoMemory>
-    requires search { IsSearch search.now prices.old }
-    requires going { search.now.left ≡ None }
-    requires problem { round.now.problem ≡ search.now.instance }
-    requires network { round.now.network ≡ search.now.network }
-    requires setting { leaf.now.setting ≡ record { problem = search.now.instance; windows = search.now.windows; network = search.now.network } }
-    requires sides { leaf.now.sides ≡ sides.now }
-    requires found { IsFound (history search.now prices.old) sides.now kept walks.items }
-    requires below { worth_of (history search.now prices.old) kept.value < search.now.cost }
-    ensures grown { HaveGrown search.now.instance prices.old prices.new }
-    ensures planned { IfOk result (IsOpenMove search.now prices.new number sides.now) }
+    prices: &Prices,
+) -> Result<Found, NoMemory>
+    requires search { IsSearch search.now prices.now }
+    requires setting { leaf.now.setting ≡ setting_of search.now }
+    requires found { IsFound (history search.now prices.now) leaf.now.sides kept walks.items }
+    ensures kept { IfOk result (λ found. found.kept ≡ kept) }
+    ensures found { IfOk result (λ found.
+        IsFound (history search.now prices.now) leaf.now.sides found.kept found.relaxed) }
 {
-    match walks_by_price(alloc, search, leaf, sides, kept.payload.price, prices)? {
-        Some(by_spans) => {
-            let relaxed = RelaxedPlan { walks: by_spans };
-            let by_tables = Some(walks.as_slice());
-            move_by(
-                alloc, search, round, leaf, sides, number, kept, relaxed, by_tables, prices,
-            )
-        }
-        None => {
-            let relaxed = RelaxedPlan { walks };
-            move_by(
-                alloc, search, round, leaf, sides, number, kept, relaxed, None, prices,
-            )
-        }
+    match walks_by_price(alloc, search, leaf, nets, kept.payload.price, prices)? {
+        Some(by_spans) => Ok(Found {
+            kept,
+            relaxed: RelaxedPlan { walks: by_spans },
+            by_tables: Some(walks),
+        }),
+        None => Ok(Found {
+            kept,
+            relaxed: RelaxedPlan { walks },
+            by_tables: None,
+        }),
     }
 }
 
@@ -269,10 +257,9 @@ fn open_move(
                     planned: Move::Close,
                 });
             }
-            let planned = move_at(
-                alloc, search, &round, &leaf, &sides, number, kept, walks, prices,
-            )?;
-            let planned = unless_cheaper(alloc, search, prices, &sides, number, planned)?;
+            let found = found_at(alloc, search, &leaf, &mut nets, kept, walks, prices)?;
+            let planned = move_by(alloc, search, &leaf, &mut nets, number, found, prices)?;
+            let planned = unless_cheaper(alloc, search, &leaf, number, planned, prices)?;
             Ok(Planned { kept, planned })
         }
     }

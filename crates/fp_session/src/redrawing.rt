@@ -8,9 +8,9 @@ use crate::NoMemory;
 use crate::moves::{Cheaper, Move};
 use crate::searches::Search;
 use fp_duals_leaves::Prices;
+use fp_prices::Leaf;
 use fp_repair_search::{Search as LocalSearch, local_search};
 use fp_timetable::cost;
-use fp_tree::Side;
 use std::alloc::Global;
 
 // How much dearer than the best the state of each search may get, in parts of 1024.
@@ -48,19 +48,19 @@ fn redrawn(alloc: Global, search: &Search, prices: &Prices) -> Result<Option<Che
 }
 
 // What a step is going to do in place of what was planned: it takes a cheaper plan where it would
-// end the search and such a plan is found. The prices, the sides and the number of the leaf serve the
-// contract alone.
+// end the search and such a plan is found. The leaf, its number and the prices serve the contract
+// alone.
 pub(crate) fn unless_cheaper(
     alloc: Global,
     search: &Search,
-    prices: &Prices,
-    sides: &[Side],
+    leaf: &Leaf,
     number: u32,
     planned: Move,
+    prices: &Prices,
 ) -> Result<Move, NoMemory>
     requires search { IsSearch search.now prices.now }
-    requires planned { IsOpenMove search.now prices.now number sides.now planned }
-    ensures { IfOk result (IsOpenMove search.now prices.now number sides.now) }
+    requires planned { IsOpenMove search.now prices.now number leaf.now.sides planned }
+    ensures { IfOk result (IsOpenMove search.now prices.now number leaf.now.sides) }
 {
     let ends = matches!(&planned, Move::Stop { .. });
     if !ends {

@@ -9,6 +9,7 @@ ghost use Rattle.fp_session_history.specs.Budgets.{IsBudget};
 ghost use Rattle.fp_session.specs.Certificates.{IsPricedBy};
 ghost use Rattle.fp_certificate_rules.specs.Units.{IsGreatestUnit};
 ghost use Rattle.fp_duals_leaves.specs.Prices.{ArePrices};
+ghost use Rattle.fp_session.specs.Order.{IsInOrder};
 ghost use Rattle.fp_session.specs.Sessions.{IsSound, hand_of};
 ghost use Rattle.fp_session.specs.Solved.{GoesOnFrom, IsSolved};
 ghost use Rattle.fp_session.specs.Starts.{IsSessionOf};
@@ -118,10 +119,18 @@ impl Session {
         Session::of(alloc, instance, windows, start, budget, prices)
     }
 
-    /// One step of the search. A search that has ended stays as it is and gives the same answer
-    /// again. `NoMemory` only where no memory is found; then all is as before.
+    /// One step of the search, at the leaf of least value among those that aren't closed, the first in
+    /// preorder at a tie. Its value doesn't fall, unless it is found empty, and the other leaves stay
+    /// as they are. A round is called for by walks under its sides. It is split only where walks under
+    /// its sides make no cheaper plan: a terminal stands twice on one of them, or they cost at least
+    /// what the incumbent does. The two leaves below may be worth less than it was: a class that is
+    /// forced is free for all, and points that were added tell classes apart that a table prices.
+    ///
+    /// A search that has ended stays as it is and gives the same answer again. `NoMemory` only where
+    /// no memory is found; then all is as before.
     pub fn step(&mut self, alloc: Global) -> Result<Step, NoMemory>
         ensures step { IfOk result (IsStep (hand_of self.old) (hand_of self.new)) }
+        ensures order { IfOk result (λ step. self.old.left ≡ None → IsInOrder (hand_of self.old) (hand_of self.new) step) }
         ensures fixed { StayFixed (hand_of self.old) (hand_of self.new) }
         ensures answer { IfSome self.old.left (λ left. result ≡ Ok (Done (ending_of left))) }
         ensures ended { IfSome self.old.left (λ left. self.new ≡ self.old) }

@@ -1,5 +1,5 @@
 //! A relaxed plan that costs less than the incumbent is timed, or calls for more points.
-ghost use Rattle.std.specs.Prelude.{◌<◌, ◌≤◌, IfOk};
+ghost use Rattle.std.specs.Prelude.{◌≡◌, ◌<◌, ◌≤◌, IfOk};
 ghost use Rattle.fp_model.specs.Costs.{cost as cost_of};
 ghost use Rattle.fp_flatnet.specs.Tables.{windows_in};
 ghost use Rattle.fp_relaxmodel.specs.Relaxed.{IsRelaxedPlan};
@@ -49,7 +49,8 @@ fn next_round(
     requires left { last_round (history search.now prices.now) < search.now.budget.rounds }
     requires clashes { ClashesBelow search.now.instance search.now.windows (points_now search.now)
         search.now.cost relaxed }
-    ensures { IfOk result (λ r. IsNextRound search.now r.note r.refined) }
+    ensures next { IfOk result (λ r. IsNextRound search.now r.note r.refined) }
+    ensures by { IfOk result (λ r. r.note.relaxed ≡ relaxed) }
 {
     let shorts = too_short(
         alloc,

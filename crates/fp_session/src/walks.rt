@@ -8,7 +8,7 @@ ghost use Rattle.fp_relaxmodel.specs.Terminals.{terminals_on};
 ghost use Rattle.fp_prices.specs.Tables.{HasKind};
 ghost use Rattle.fp_session_history.specs.Solutions.{AreWalksUnder};
 ghost use Rattle.fp_session.specs.Moves.{points_now};
-ghost use Rattle.fp_session.specs.Searches.{IsSearch};
+ghost use Rattle.fp_session.specs.Searches.{IsSearch, setting_of};
 ghost use Rattle.fp_session.specs.Walks.{AreCheaperWalks};
 
 use crate::NoMemory;
@@ -19,7 +19,6 @@ use fp_duals_walks::cheap_walks;
 use fp_model::Instance;
 use fp_prices::{Leaf, LeafPrice};
 use fp_relaxmodel::{RelaxedPlan, TimedWalk, coarsen, is_route, relaxed_cost};
-use fp_tree::Side;
 use std::alloc::Global;
 
 // How many turns a local search for walks makes from each of its starts.
@@ -68,21 +67,20 @@ pub(crate) fn are_cheaper(search: &Search, relaxed: &RelaxedPlan) -> bool
 }
 
 // Walks under the sides of a leaf that are routes and cost less than the incumbent, where spans are
-// sought, the price of the leaf is of one of the last rounds, and a local search finds such walks:
-// from the classes of the incumbent, and from the given walks. The sides serve the contract alone.
+// sought, the price of the leaf is of one of the last rounds, and a local search over the leaf's nets
+// finds such walks: from the classes of the incumbent, and from the given walks.
 pub(crate) fn cheaper_walks(
     alloc: Global,
     search: &Search,
     leaf: &Leaf,
-    sides: &[Side],
+    nets: &mut LentNets,
     least: &[TimedWalk],
     priced: u32,
     prices: &Prices,
 ) -> Result<Option<RelaxedPlan>, NoMemory>
     requires search { IsSearch search.now prices.now }
-    requires setting { leaf.now.setting ≡ record { problem = search.now.instance; windows = search.now.windows; network = search.now.network } }
-    requires sides { leaf.now.sides ≡ sides.now }
-    ensures { IfOk result (λ found. IfSome found (AreCheaperWalks search.now sides.now)) }
+    requires setting { leaf.now.setting ≡ setting_of search.now }
+    ensures { IfOk result (λ found. IfSome found (AreCheaperWalks search.now leaf.now.sides)) }
 {
     let instance = &search.instance;
     let fruitless = (search.trace.len() as u32).saturating_sub(priced);
@@ -91,8 +89,7 @@ pub(crate) fn cheaper_walks(
     }
     let incumbent = &search.incumbent;
     let coarse = coarsen(alloc, instance, &search.windows, &search.network, incumbent)?;
-    let mut nets = LentNets::new();
-    match cheap_walks(alloc, leaf, &mut nets, &[&coarse.walks, least], TURNS)? {
+    match cheap_walks(alloc, leaf, nets, &[&coarse.walks, least], TURNS)? {
         Some(walks) => {
             let relaxed = RelaxedPlan { walks };
             if are_cheaper(search, &relaxed) {
@@ -105,25 +102,23 @@ pub(crate) fn cheaper_walks(
     }
 }
 
-// Walks under the sides of a leaf by the spans of its price, where there are such. The sides serve
-// the contract alone.
+// Walks under the sides of a leaf by the spans of its price, where there are such, over the leaf's
+// nets.
 pub(crate) fn walks_by_price(
     alloc: Global,
     search: &Search,
     leaf: &Leaf,
-    sides: &[Side],
+    nets: &mut LentNets,
     price: LeafPrice,
     prices: &Prices,
 ) -> Result<Option<Vec<TimedWalk>>, NoMemory>
     requires search { IsSearch search.now prices.now }
-    requires setting { leaf.now.setting ≡ record { problem = search.now.instance; windows = search.now.windows; network = search.now.network } }
-    requires sides { leaf.now.sides ≡ sides.now }
+    requires setting { leaf.now.setting ≡ setting_of search.now }
     requires kind { HasKind prices.now.tables price.kind }
     ensures { IfOk result (λ found. IfSome found
-        (λ walks. AreWalksUnder search.now.instance search.now.windows (points_now search.now) sides.now walks.items)) }
+        (λ walks. AreWalksUnder search.now.instance search.now.windows (points_now search.now) leaf.now.sides walks.items)) }
 {
-    let mut nets = LentNets::new();
-    match walks_by_spans(alloc, leaf, &mut nets, price, prices)? {
+    match walks_by_spans(alloc, leaf, nets, price, prices)? {
         Some(walks) => Ok(Some(walks)),
         None => Ok(None),
     }

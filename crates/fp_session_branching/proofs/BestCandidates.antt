@@ -5,10 +5,9 @@ use Rattle.std.specs.List.{AllByRecursion}
 use Rattle.std.proofs.lemmas.Bool.{cases_lt}
 use Rattle.std.proofs.lemmas.List.{length-map, length-take, take-map}
 use Rattle.std.proofs.lemmas.List.Edits.{length-insert}
-use Rattle.std.proofs.lemmas.List.Elements.{All-cons, All-from_recursion, All-nil, All-take, All-weaker, recursion_from_All}
+use Rattle.std.proofs.lemmas.List.Elements.{All-cons, All-from_recursion, All-take, All-weaker, recursion_from_All}
 use Rattle.std.proofs.lemmas.List.Sorted.{All-permutation, IsPermutation-insert}
 use Rattle.fp_base_lists.specs.Distinct.{AreDistinct}
-use Rattle.fp_base_lists.proofs.Distinct.{AreDistinct-nil}
 use Rattle.fp_base_lists.proofs.Maps.{map-insert}
 use Rattle.fp_prices.specs.Rounds.{LeafModel}
 use Rattle.fp_session_branching.specs.declared.leaf_candidates.Candidate.{Candidate}
@@ -21,9 +20,6 @@ use Rattle.fp_session_branching.proofs.DistinctInsertions.{AreDistinct-insert, A
 abbrev IsOne : LeafModel → ℕ → Ranked → Type 0
 IsOne l n r = IsCandidate l r.candidate × (shipment_in r < n)
 
-pub best_none : (l : LeafModel) (most : ℕ) → AreBest l 0 most []
-best_none l most = record { each = All-nil (IsOne l 0); apart = AreDistinct-nil; few = omega arith; some = λ room k terminal before ends. absurd (omega (arith, before)) }
-
 -- a shipment whose chain ends otherwise
 pub best_same : (l : LeafModel) (n most : ℕ) (ranked : List Ranked) → ((terminal : ℕ) → EndsInSeveral l n terminal → ⊥) → AreBest l n most ranked → AreBest l (n + 1) most ranked
 best_same l n most ranked none so_far = record {
@@ -35,15 +31,6 @@ best_same l n most ranked none so_far = record {
       (λ (earlier : k < n). so_far.some room k terminal earlier ends)
       (λ (late : n ≤ k). let same : k ≡ n = omega (arith, late, before) in absurd (none terminal (subst (λ (i : ℕ). EndsInSeveral l i terminal) same ends)))
       (cases_lt k n);
-}
-
--- one that is left out, since there are as many as there may be
-pub best_full : (l : LeafModel) (n most : ℕ) (ranked : List Ranked) → most ≤ length ranked → AreBest l n most ranked → AreBest l (n + 1) most ranked
-best_full l n most ranked full so_far = record {
-  each = All-weaker (IsOne l n) (IsOne l (n + 1)) (λ r is. (is.0, omega (arith, is.1))) ranked so_far.each;
-  apart = so_far.apart;
-  few = so_far.few;
-  some = λ room k terminal before ends. omega (arith, room, full);
 }
 
 -- one that is put in

@@ -20,7 +20,7 @@ fn shown(alloc: Global, rows: &[Record]) -> Result<Vec<u8>, NoMemory> {
 #[test]
 fn reads_records(rt: HostRuntime) -> Result<(), Fail> {
     let alloc = rt.alloc();
-    let table: [(&[u8], &[u8]); 5] = [
+    let table: [(&[u8], &[u8]); 6] = [
         (b"", b""),
         // As a spreadsheet writes it.
         (
@@ -30,6 +30,8 @@ fn reads_records(rt: HostRuntime) -> Result<(), Fail> {
         // Blanks and empty fields inside a record stay.
         (b" \t a\tb ,  , c,\t\n , ,\t\nd", b"a\tb||c|/d|/"),
         (b"\"a,\"\"b\",\" c\t\"\n\"x\ny\"", b"a,\"b|c|/x\ny|/"),
+        // Empty fields stay before one that isn't, and each record has its own.
+        (b"a,,b,,\n,,\n\"\"\r\n,c,\r,,d", b"a||b|/|c|/||d|/"),
         // One byte order mark is passed over.
         (b"\xEF\xBB\xBF\xEF\xBB\xBFa\n", b"\xEF\xBB\xBFa|/"),
     ];

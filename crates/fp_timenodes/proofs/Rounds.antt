@@ -3,14 +3,14 @@ use Rattle.std.proofs.Common.{◌≡◌, ℕ, zero, suc, ◌-◌, ◌<◌, ◌�
 use Rattle.std.specs.Prelude.{nat_le, nat_eq}
 use Rattle.std.specs.List.Sorted.{IsNonDecreasingBy}
 use Rattle.std.proofs.Math.Bool.{or_assoc}
-use Rattle.std.proofs.lemmas.Bool.{and_parts, and_right, cases_Bool, eq-eqb, le-leb, leb-true, lt-leb, or_cases, or_left, or_right}
+use Rattle.std.proofs.lemmas.Bool.{and_right, cases_Bool, eq-eqb, le-leb, lt-leb}
 use Rattle.std.proofs.lemmas.List.{map-append}
 use Rattle.std.proofs.lemmas.List.Elements.{All-head, All-tail, filter-append}
 use Rattle.fp_timenodes.specs.declared.places.AddedPoint.{AddedPoint}
 use Rattle.fp_base_lists.specs.Membership.{list_has}
 use Rattle.fp_timenodes.specs.Points.{AreAfter, TimePoints, added_at, greatest_round, points_at, times_at, with_added}
 use Rattle.fp_base_lists.proofs.Truth.{or_right_comm}
-use Rattle.fp_base_lists.proofs.Membership.{list_has-filter_push, list_has-append, list_has-rest, list_has-first, list_has-cons_cases}
+use Rattle.fp_base_lists.proofs.Membership.{list_has-filter_push, list_has-append, list_has-rest, list_has-first}
 
 -- no round is later than the greatest
 pub greatest_round_bound : (added : List AddedPoint) (d : AddedPoint) (k : ℕ) → k < length added → (get_or added k d).round ≤ greatest_round added
@@ -72,27 +72,6 @@ pub points_at_from_greatest : (v : TimePoints) (terminal round later : ℕ) → 
 points_at_from_greatest v terminal round later least le =
     ap (λ (qs : List ℕ). times_at v.first terminal ++ (qs ++ 0 ∷ [])) (added_at_from_greatest v.added terminal round later least le)
 
--- what was added as of a round was added as of each later one
-pub added_at_mono : (added : List AddedPoint) (terminal round later at : ℕ) → round ≤ later → list_has (added_at added terminal round) at ≡ true → list_has (added_at added terminal later) at ≡ true
-added_at_mono [] terminal round later at le there = there
-added_at_mono (p ∷ added) terminal round later at le there =
-    ⊎_elim
-    (λ (seen : is_seen terminal round p ≡ true).
-    let parts = and_parts (nat_eq p.terminal terminal) (nat_le p.round round) seen in
-    let also : nat_le p.round later ≡ true = le-leb p.round later (omega (arith, leb-true p.round round parts.1, le)) in
-    rw (parts.0, also)
-    (⊎_elim
-    (λ (here : p.at ≡ at). rw here (list_has-first at (added_at added terminal later)))
-    (λ (rest : list_has (added_at added terminal round) at ≡ true). list_has-rest p.at (added_at added terminal later) at (added_at_mono added terminal round later at le rest))
-    (list_has-cons_cases p.at (added_at added terminal round) at (rw seen at there))))
-    (λ (unseen : is_seen terminal round p ≡ false).
-    let rest : list_has (added_at added terminal later) at ≡ true = added_at_mono added terminal round later at le (rw unseen at there) in
-    ⊎_elim
-    (λ (now : is_seen terminal later p ≡ true). rw now (list_has-rest p.at (added_at added terminal later) at rest))
-    (λ (never : is_seen terminal later p ≡ false). rw never rest)
-    (cases_Bool (is_seen terminal later p)))
-    (cases_Bool (is_seen terminal round p))
-
 -- a point that was added by the round is there
 pub list_has-added_at : (added : List AddedPoint) (terminal round k : ℕ) (d : AddedPoint) → k < length added → (get_or added k d).terminal ≡ terminal → (get_or added k d).round ≤ round →
     list_has (added_at added terminal round) (get_or added k d).at ≡ true
@@ -111,22 +90,6 @@ pub list_has-points_at : (v : TimePoints) (terminal round at : ℕ) →
 list_has-points_at v terminal round at =
     list_has-append (times_at v.first terminal) (added_at v.added terminal round ++ 0 ∷ []) at ∙
     ap (λ (b : Bool). list_has (times_at v.first terminal) at || b) (list_has-append (added_at v.added terminal round) (0 ∷ []) at)
-
--- a point as of a round is one as of each later round
-pub points_at_mono : (v : TimePoints) (terminal round later at : ℕ) → round ≤ later → list_has (points_at v terminal round) at ≡ true → list_has (points_at v terminal later) at ≡ true
-points_at_mono v terminal round later at le there =
-    let firsts : Bool = list_has (times_at v.first terminal) at in
-    let others : Bool = list_has (added_at v.added terminal later) at in
-    list_has-points_at v terminal later at ∙
-    ⊎_elim
-    (λ (h : firsts ≡ true). or_left firsts (others || list_has (0 ∷ []) at) h)
-    (λ (h : (list_has (added_at v.added terminal round) at || list_has (0 ∷ []) at) ≡ true).
-    or_right firsts (others || list_has (0 ∷ []) at)
-    (⊎_elim
-    (λ (k : list_has (added_at v.added terminal round) at ≡ true). or_left others (list_has (0 ∷ []) at) (added_at_mono v.added terminal round later at le k))
-    (λ (k : list_has (0 ∷ []) at ≡ true). or_right others (list_has (0 ∷ []) at) k)
-    (or_cases (list_has (added_at v.added terminal round) at) (list_has (0 ∷ []) at) h)))
-    (or_cases firsts (list_has (added_at v.added terminal round) at || list_has (0 ∷ []) at) (sym (list_has-points_at v terminal round at) ∙ there))
 
 -- one added point is one more point of its terminal, as of its round and of each later one
 pub list_has-with_added : (v : TimePoints) (p : AddedPoint) (terminal round at : ℕ) →

@@ -1,11 +1,8 @@
 //! What `bound` shows.
-ghost use Rattle.std.specs.Prelude.{◌≡◌, ◌+◌, ◌≤◌, [], false, length, IfOk, IfSome, None};
-ghost use Rattle.fp_flatnet.specs.Belonging.{BelongsTo};
-ghost use Rattle.fp_flatnet.specs.Tables.{windows_in};
+ghost use Rattle.std.specs.Prelude.{◌≡◌, ◌≤◌, false, length, IfOk, None};
 ghost use Rattle.fp_model.specs.Plans.{PlanExists};
-ghost use Rattle.fp_prices.specs.Tables.{AreTables, HasKind};
-ghost use Rattle.fp_duals_leaves.specs.SpanPrices.{IsBetterPrice};
-ghost use Rattle.fp_timenodes.specs.Points.{points_at};
+ghost use Rattle.fp_prices_spans.specs.SpanKinds.{spans_beside};
+ghost use Rattle.fp_duals_leaves.specs.Prices.{ArePrices};
 ghost use Rattle.fp_app.specs.Inputs.{OfInstance};
 ghost use Rattle.fp_app.specs.declared.limits.TheConstants.{INSTANCE_LIMIT};
 ghost use Rattle.fp_app.specs.Runs.{ShowsBound};
@@ -13,20 +10,15 @@ ghost use Rattle.fp_app.specs.Shown.{IsPrintable};
 
 use crate::inputs::instances::{InstanceInput, read_instance};
 use crate::{NoMemory, Shown};
-use fp_duals::{Improved, Tables, improve};
-use fp_duals_leaves::{SpanPrice, better_spans_of};
+use fp_certificate_rules::unit_of;
+use fp_duals::Improved;
+use fp_duals_leaves::{PriceEffort, Prices, improve_root};
 use fp_flatnet::{Verdict, Windows, feasible, initial};
+use fp_longestarcs::Network;
 use fp_model::Instance;
-use fp_prices::{Kind, LeafPrice, Table};
-use fp_timenodes::{MOST_POINTS, Points};
+use fp_prices::Kind;
+use fp_prices_spans::{Span, TableSpans};
 use std::alloc::Global;
-
-// Linear prices over the points with which an instance begins.
-const LINEAR: LeafPrice = LeafPrice {
-    kind: Kind::Linear,
-    round: 0,
-    forced: false,
-};
 
 /// What `bound` shows for the bytes of an input, with the option of spans or without it.
 pub fn bound_shown(alloc: Global, bytes: Vec<u8>, option: bool) -> Result<Shown, NoMemory>
@@ -55,45 +47,37 @@ fn bound_plans(alloc: Global, instance: Instance, option: bool) -> Result<Shown,
     }
 }
 
-// Spans by which the leaf without sides is worth more than its price, where they are wanted.
-fn spans_above(
-    alloc: Global,
-    instance: &Instance,
-    windows: &Windows,
-    points: &Points,
-    tables: &[Table],
-    price: LeafPrice,
-    value: u128,
-    option: bool,
-) -> Result<Option<SpanPrice>, NoMemory>
-    requires belongs { BelongsTo instance.now windows.now }
-    requires terminals { points.now.terminals ≡ length instance.now.terminals }
-    requires few { points.now.terminals + length points.now.first + length points.now.added ≤ MOST_POINTS }
-    requires tables { AreTables instance.now tables.now }
-    requires kind { HasKind tables.now price.kind }
-    ensures without { IfOk result (λ found. option ≡ false → found ≡ None) }
-    ensures better { IfOk result (λ found. IfSome found
-        (IsBetterPrice instance.now (windows_in windows.now) (λ terminal. points_at points.now terminal 0) [] value)) }
+// Prices without tables, by which spans are sought where they are wanted.
+fn first_prices(alloc: Global, instance: &Instance, option: bool) -> Prices
+    ensures prices { ArePrices instance.now result }
+    ensures without { option ≡ false → result.unit ≡ None }
 {
-    if !option {
-        return Ok(None);
+    let unit = if option {
+        Some(unit_of(instance))
+    } else {
+        None
+    };
+    Prices::new(alloc, unit)
+}
+
+// The spans beside the table that a kind names, taken from the lists.
+fn taken_beside(alloc: Global, lists: Vec<TableSpans>, kind: Kind) -> Vec<Span>
+    ensures { result.items ≡ spans_beside lists.items kind }
+{
+    let mut lists = lists;
+    let place = match kind {
+        Kind::Linear | Kind::Even => lists.len(),
+        Kind::Table { id } => (id as usize).saturating_sub(1),
+    };
+    if place < lists.len() {
+        lists.swap_remove(place).spans
+    } else {
+        Vec::new(alloc)
     }
-    better_spans_of(
-        alloc,
-        instance,
-        windows,
-        points,
-        0,
-        &[],
-        tables,
-        price.kind,
-        price.forced,
-        value,
-    )
 }
 
 // What the plans of an instance cost at least, of which there is one: the best price found for the
-// leaf without sides, by spans where these are wanted and better.
+// leaf without sides, by spans too where these are wanted.
 fn bound_root(alloc: Global, instance: Instance, option: bool) -> Result<Shown, NoMemory>
     requires { PlanExists instance }
     ensures shown { IfOk result (ShowsBound option instance) }
@@ -101,37 +85,20 @@ fn bound_root(alloc: Global, instance: Instance, option: bool) -> Result<Shown, 
 {
     let windows = Windows::of(alloc, &instance)?;
     let points = initial(alloc, &instance, &windows)?;
-    let mut tables = Tables::new(alloc);
-    match improve(
-        alloc,
-        &instance,
-        &windows,
-        &points,
-        0,
-        &[],
-        LINEAR,
-        &mut tables,
-    )? {
+    let network = Network::of(alloc, &instance, &points, 0)?;
+    let mut prices = first_prices(alloc, &instance, option);
+    let effort = &PriceEffort::ROOT;
+    match improve_root(alloc, &instance, &windows, network, effort, &mut prices)? {
         Improved::Priced { price, value, .. } => {
-            let list = tables.list();
-            match spans_above(
-                alloc, &instance, &windows, &points, list, price, value, option,
-            )? {
-                Some(found) => Ok(Shown::Bound {
-                    instance,
-                    price: LINEAR,
-                    tables: Vec::new(alloc),
-                    spans: found.spans,
-                    value: found.value,
-                }),
-                None => Ok(Shown::Bound {
-                    instance,
-                    price,
-                    tables: tables.into_list(),
-                    spans: Vec::new(alloc),
-                    value,
-                }),
-            }
+            let (tables, lists, _) = prices.into_parts();
+            let spans = taken_beside(alloc, lists, price.kind);
+            Ok(Shown::Bound {
+                instance,
+                price,
+                tables,
+                spans,
+                value,
+            })
         }
         Improved::Empty { .. } => unreachable!(),
     }

@@ -7,10 +7,9 @@ ghost use Rattle.fp_app.specs.Inputs.{OfCertificate};
 ghost use Rattle.fp_app.specs.declared.limits.TheConstants.{CHECK_LIMIT};
 ghost use Rattle.fp_app.specs.Shown.{IsPrintable};
 
+use crate::check_outcomes::check_outcome;
 use crate::{NoMemory, Shown};
 use fp_certificate::{CertFault, Certificate, read_with_index};
-use fp_checker::{Rejected, check};
-use fp_flatnet::Windows;
 use fp_model::{Instance, SCALE};
 use fp_reader::{IndexedRead, InputFault, Tail, instance_with_index};
 use fp_records::{Record, records};
@@ -100,13 +99,11 @@ fn verdict(alloc: Global, instance: Instance, certificate: &Certificate) -> Resu
     ensures printable { IfOk result IsPrintable }
 {
     let instance = instance.with_scale(scale_of(certificate));
-    let windows = Windows::of(alloc, &instance)?;
-    match check(alloc, &instance, &windows, certificate) {
-        Ok(()) => Ok(Shown::Accepted {
+    match check_outcome(alloc, &instance, certificate)?.failed() {
+        None => Ok(Shown::Accepted {
             kind: certificate.answer.into(),
         }),
-        Err(Rejected::Part { number }) => Ok(Shown::RejectedPart { number }),
-        Err(Rejected::NoMemory) => Err(AllocError),
+        Some(number) => Ok(Shown::RejectedPart { number }),
     }
 }
 

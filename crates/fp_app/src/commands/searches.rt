@@ -18,6 +18,7 @@ ghost use Rattle.fp_app.specs.Wanted.{AreWindowsFor, IsFirstPlan, Wanted, every}
 use crate::inputs::instances::{InstanceInput, read_scaled};
 use crate::{NoMemory, Shown};
 use fp_certificate::written_reads_back;
+use fp_certificate_lines::texts_are_short;
 use fp_flatnet::{Verdict, Windows, direct, feasible};
 use fp_model::{Instance, Plan};
 use fp_session::{Session, Solved};
@@ -105,8 +106,9 @@ pub fn search_from(
         IfOk result (IsSearched instance.now wanted budget spans) }
     ensures checkable { IfOk result (λ solved. CanBeChecked instance.now solved.certificate) }
 {
-    // What is shown can be read again.
+    // What is shown can be read again, and its text is short.
     written_reads_back(instance);
+    texts_are_short(instance);
     let instance = instance.copy(alloc)?;
     let session = if spans {
         Session::with_spans(alloc, instance, windows, start, budget)?

@@ -1,25 +1,23 @@
 //! What `trial` shows.
-ghost use Rattle.std.specs.Prelude.{◌≤◌, IfOk, false};
+ghost use Rattle.std.specs.Prelude.{◌≡◌, ◌≤◌, IfOk, None, false};
 ghost use Rattle.fp_flatnet.specs.Verdicts.{AllInTime};
 ghost use Rattle.fp_certificate_lines.specs.Ranges.{AnswerExists};
 ghost use Rattle.fp_model.specs.declared.limits.TheConstants.{MOST_SHIPMENTS, MOST_TERMINALS};
-ghost use Rattle.fp_app.specs.CheckInputs.{CanBeChecked};
-ghost use Rattle.fp_app.specs.Checks.{IsAcceptedFor};
+ghost use Rattle.fp_app.specs.Checks.{IsCheckOutcome};
 ghost use Rattle.fp_app.specs.Runs.{ShowsTrial};
 ghost use Rattle.fp_app.specs.Searches.{IsSearched, trial_budget};
 ghost use Rattle.fp_app.specs.Shown.{IsPrintable};
 ghost use Rattle.fp_app.specs.Wanted.{every};
 
+use crate::check_outcomes::{CheckOutcome, check_outcome};
 use crate::commands::searches::solve;
 use crate::{NoMemory, Shown};
-use fp_certificate::Certificate;
-use fp_checker::{Rejected, check};
-use fp_flatnet::{Verdict, Windows, feasible};
+use fp_flatnet::{Verdict, feasible};
 use fp_model::Instance;
 use fp_reader::generate;
 use fp_session::Solved;
 use fp_session_history::Budget;
-use std::alloc::{AllocError, Global};
+use std::alloc::Global;
 
 // The rounds of a trial's search.
 const TRIAL_ROUNDS: u32 = 40;
@@ -43,9 +41,10 @@ pub fn trial_shown(
     let instance = generate(alloc, seed, terminals, shipments)?;
     match feasible(alloc, &instance)? {
         Verdict::All => {
-            let solved = solve_and_check(alloc, &instance)?;
+            let (solved, outcome) = solve_and_check(alloc, &instance)?;
             Ok(Shown::Trial {
                 seed,
+                outcome,
                 instance,
                 solved,
             })
@@ -55,31 +54,20 @@ pub fn trial_shown(
     }
 }
 
-// What a search shows of an instance, once its certificate is checked.
-fn solve_and_check(alloc: Global, instance: &Instance) -> Result<Solved, NoMemory>
+// What a search shows of an instance, and what the checker says of its certificate: that it's accepted.
+#[tactic(auto, using(crate::proofs::Verdicts::IsCheckOutcome_accepted))]
+fn solve_and_check(alloc: Global, instance: &Instance) -> Result<(Solved, CheckOutcome), NoMemory>
     requires { AllInTime instance.now }
-    ensures searched { IfOk result (IsSearched instance.now every trial_budget false) }
-    ensures named { IfOk result (λ solved. AnswerExists instance.now solved.certificate.answer) }
+    ensures searched { IfOk result (λ tried. IsSearched instance.now every trial_budget false tried.0) }
+    ensures named { IfOk result (λ tried. AnswerExists instance.now tried.0.certificate.answer) }
+    ensures outcome { IfOk result (λ tried. IsCheckOutcome instance.now tried.0.certificate tried.1) }
+    ensures accepted { IfOk result (λ tried. tried.1 ≡ None) }
 {
     let budget = Budget {
         rounds: TRIAL_ROUNDS,
         branches: TRIAL_BRANCHES,
     };
     let solved = solve(alloc, instance, budget, false)?;
-    confirm(alloc, instance, &solved.certificate)?;
-    Ok(solved)
-}
-
-// Checks a certificate that is accepted.
-fn confirm(alloc: Global, instance: &Instance, certificate: &Certificate) -> Result<(), NoMemory>
-    requires checkable { CanBeChecked instance.now certificate.now }
-    requires accepted { IsAcceptedFor instance.now certificate.now }
-{
-    let windows = Windows::of(alloc, instance)?;
-    match check(alloc, instance, &windows, certificate) {
-        Ok(()) => Ok(()),
-        // The search shows only what is accepted.
-        Err(Rejected::Part { .. }) => unreachable!(),
-        Err(Rejected::NoMemory) => Err(AllocError),
-    }
+    let outcome = check_outcome(alloc, instance, &solved.certificate)?;
+    Ok((solved, outcome))
 }

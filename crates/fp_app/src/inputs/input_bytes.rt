@@ -1,5 +1,5 @@
 //! The bytes of an input.
-ghost use Rattle.std.specs.Prelude.{◌≡◌, ◌+◌, ◌≤◌, IfOk, IsErrOf, None, Ok};
+ghost use Rattle.std.specs.Prelude.{◌≡◌, ◌+◌, ◌≤◌, IfOk, IsErrOf, None, Ok, true};
 ghost use Rattle.fp_ends.specs.Causes.{Rose};
 ghost use Rattle.fp_app.specs.Runs.{Takes, TakesOneMore, TakesWithin};
 
@@ -19,6 +19,8 @@ pub fn take_input<S: Source>(
     ensures within { TakesWithin (limit + 1) (S.left source.old) (S.left source.new) }
     ensures fault { IsErrOf result Failure.ReadFault
         → Rose (S.faults source.old) (S.faults source.new) }
+    ensures same { (IsErrOf result Failure.ReadFault → ⊥) → S.faults source.new ≡ S.faults source.old }
+    ensures sure { S.is_sure source.old ≡ true → IsErrOf result Failure.ReadFault → ⊥ }
     ensures fault_within { IsErrOf result Failure.ReadFault
         → TakesWithin limit (S.left source.old) (S.left source.new) }
     ensures long_within { result ≡ Ok None

@@ -5,13 +5,11 @@ ghost use Rattle.fp_model.specs.declared.limits.TheConstants.{LAST_ROUND};
 ghost use Rattle.fp_certificate.specs.Answers.{is_figure};
 ghost use Rattle.fp_certificate.specs.Timetables.{is_time};
 
+use fp_certificate_lines::LARGEST_FIGURE;
 use fp_model::limits::{LAST_ROUND, LATEST};
 use fp_records::Record;
 use fp_records_fields::digits::{number_between, short_between};
 use fp_records_fields::fields::{field_at, has_number};
-
-/// The largest number that a field may have where no other limit is named: `2^127 - 1`.
-pub const LARGEST_FIGURE: u128 = 170_141_183_460_469_231_731_687_303_715_884_105_727;
 
 /// Whether the fields at two places are numbers.
 pub fn have_numbers(line: &Record, place: usize, other: usize) -> bool

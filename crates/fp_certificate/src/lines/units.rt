@@ -7,8 +7,8 @@ ghost use Rattle.fp_certificate.specs.Codes.{code_of};
 
 use crate::drafts::Draft;
 use crate::lines::faults::LineFault;
-use crate::lines::fields::LARGEST_FIGURE;
 use crate::lines::groups::Group;
+use fp_certificate_lines::LARGEST_FIGURE;
 use fp_records::Record;
 use fp_records_fields::RecordError;
 use fp_records_fields::digits::number_between;

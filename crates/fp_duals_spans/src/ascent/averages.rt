@@ -50,14 +50,7 @@ impl Averages {
     }
 
     /// Adds the walks of a turn, whose number is counted from 0, and its charged sets.
-    pub(crate) fn turn(
-        &mut self,
-        layout: &Layout,
-        nets: &Nets,
-        walks: &[usize],
-        charges: &Charges,
-        turn: u32,
-    ) {
+    pub(crate) fn turn(&mut self, nets: &Nets, walks: &[usize], charges: &Charges, turn: u32) {
         let part = (ONE / u64::from(turn).wrapping_add(1).max(1)).max(self.fresh);
         lower(&mut self.used, part);
         lower(&mut self.trucks, part);
@@ -69,7 +62,7 @@ impl Averages {
             }
         }
         for (number, all) in self.trucks.iter_mut().enumerate() {
-            let trucks = charges.trucks(layout, number).min(1 << 30);
+            let trucks = charges.trucks(number).min(1 << 30);
             *all = all.wrapping_add(trucks.wrapping_mul(part));
         }
     }

@@ -2,7 +2,7 @@
 
 use crate::NoMemory;
 use fp_duals_layouts::{Charges, Layout, SpanPrices, of_span};
-use fp_duals_nets::{Net, Nets, last_edge, part_mut};
+use fp_duals_nets::{Net, Nets, last_edge};
 use std::alloc::Global;
 
 /// A whole use, in the averaged direction.
@@ -12,8 +12,12 @@ const WHOLE: i64 = 1 << 12;
 /// most weight.
 #[derive(Drop)]
 pub(crate) struct Direction {
-    /// The walks' use of what each payer pays for, less the sets that are charged.
-    pub means: Vec<i64>,
+    // The walks' use of what each payer pays for, less the sets that are charged.
+    means: Vec<i64>,
+    /// The payers whose means aren't 0, each once, among others.
+    pub moving: Vec<usize>,
+    // Whether each payer is among them.
+    listed: Vec<bool>,
     /// The trucks of the sets that are charged, for each span.
     pub trucks: Vec<i64>,
     /// The edges of the newest walks, among those of all nets.
@@ -50,6 +54,8 @@ impl Direction {
     pub(crate) fn of(alloc: Global, layout: &Layout, fresh: u32) -> Result<Direction, NoMemory> {
         Ok(Direction {
             means: vec![in alloc; 0i64; layout.payers.len()]?,
+            moving: Vec::new(alloc),
+            listed: vec![in alloc; false; layout.payers.len()]?,
             trucks: vec![in alloc; 0i64; layout.spans.len()]?,
             walks: Vec::new(alloc),
             fresh: u64::from(fresh.min(64)),
@@ -83,57 +89,111 @@ impl Direction {
         Ok(sum)
     }
 
-    // Adds to the mean of a payer.
-    fn add(&mut self, payer: usize, more: i64) {
-        if let Some(mean) = self.means.get_mut(payer) {
-            *mean = mean.wrapping_add(more);
+    /// The payer at a place among those whose means aren't 0; no payer's number where there is none.
+    pub(crate) fn moving_at(&self, place: usize) -> usize {
+        self.moving.get(place).copied().unwrap_or(usize::MAX)
+    }
+
+    /// The mean of a payer.
+    pub(crate) fn mean(&self, payer: usize) -> i64 {
+        self.means.get(payer).copied().unwrap_or(0)
+    }
+
+    // Lets the older walks count for less. Payers whose means come to nothing are left out.
+    fn age_means(&mut self) {
+        let mut kept = 0usize;
+        for place in 0..self.moving.len() {
+            if let Some(payer) = self.moving.get(place).copied()
+                && let Some(mean) = self.means.get_mut(payer)
+                && let Some(listed) = self.listed.get_mut(payer)
+            {
+                *mean = aged(*mean, self.fresh);
+                *listed = *mean != 0;
+                if *listed {
+                    if let Some(to) = self.moving.get_mut(kept) {
+                        *to = payer;
+                    }
+                    kept = kept.wrapping_add(1);
+                }
+            }
         }
+        self.moving.truncate(kept);
+    }
+
+    // Adds to the mean of a payer.
+    fn add(&mut self, payer: usize, more: i64) -> Result<(), NoMemory> {
+        if let Some(mean) = self.means.get_mut(payer)
+            && let Some(listed) = self.listed.get_mut(payer)
+        {
+            *mean = mean.wrapping_add(more);
+            if !*listed {
+                *listed = true;
+                self.moving.push(payer)?;
+            }
+        }
+        Ok(())
     }
 
     // Adds the newest walks.
-    fn add_walks(&mut self, layout: &Layout, nets: &Nets, more: i64) {
+    fn add_walks(&mut self, layout: &Layout, nets: &Nets, more: i64) -> Result<(), NoMemory> {
         for place in 0..self.walks.len() {
             if let Some(number) = self.walks.get(place).copied()
                 && let Some(edge) = nets.uses.get(number)
             {
-                self.add(edge.part, more);
+                self.add(edge.part, more)?;
                 for payer in layout.links.group(number) {
-                    self.add(*payer, more);
+                    self.add(*payer, more)?;
                 }
             }
         }
+        Ok(())
     }
 
     // Takes off the set of a span that is charged, and counts its trucks.
-    fn take_charged(&mut self, layout: &Layout, charges: &Charges, number: usize, less: i64) {
+    fn take_charged(
+        &mut self,
+        layout: &Layout,
+        charges: &Charges,
+        number: usize,
+        less: i64,
+    ) -> Result<(), NoMemory> {
         let Some(span) = layout.spans.get(number) else {
-            return;
+            return Ok(());
         };
-        if let Some(means) = part_mut(&mut self.means, span.first, span.end) {
-            for (mean, charged) in means.iter_mut().zip(of_span(&charges.charged, span).iter()) {
-                if *charged {
-                    *mean = mean.wrapping_sub(less);
-                }
+        let mut payer = span.first;
+        for charged in of_span(&charges.charged, span) {
+            if *charged {
+                self.add(payer, less.wrapping_neg())?;
             }
+            payer = payer.wrapping_add(1);
         }
         if let Some(mean) = self.trucks.get_mut(number) {
-            let trucks = charges.trucks(layout, number).min(1 << 30) as i64;
+            let trucks = charges.trucks(number).min(1 << 30) as i64;
             *mean = mean.wrapping_add(trucks.wrapping_mul(less));
         }
+        Ok(())
     }
 
     /// Lets the older walks count for less and adds the newest, which are all where `first`.
-    pub(crate) fn turn(&mut self, layout: &Layout, nets: &Nets, charges: &Charges, first: bool) {
-        age_all(&mut self.means, self.fresh);
+    /// `NoMemory` only where no memory is found.
+    pub(crate) fn turn(
+        &mut self,
+        layout: &Layout,
+        nets: &Nets,
+        charges: &Charges,
+        first: bool,
+    ) -> Result<(), NoMemory> {
+        self.age_means();
         age_all(&mut self.trucks, self.fresh);
         let part = if first { 64 } else { self.fresh.min(64) as i64 };
         let more = part.wrapping_mul(WHOLE / 64);
-        self.add_walks(layout, nets, more);
+        self.add_walks(layout, nets, more)?;
         for (number, charge) in charges.list.iter().enumerate() {
             if *charge > 0 {
-                self.take_charged(layout, charges, number, more);
+                self.take_charged(layout, charges, number, more)?;
             }
         }
+        Ok(())
     }
 
     /// What a joined span's money gains: its trucks less those of the single classes in its run.
@@ -152,9 +212,10 @@ impl Direction {
     /// The squared length of the direction, without what would lower prices and money below 0.
     pub(crate) fn norm(&self, layout: &Layout, prices: &SpanPrices) -> u64 {
         let mut norm = 0u64;
-        for (mean, weight) in self.means.iter().zip(prices.weights.iter()) {
-            if *mean > 0 || *weight > 0 {
-                norm = norm.saturating_add(square(*mean));
+        for payer in &self.moving {
+            let mean = self.mean(*payer);
+            if mean > 0 || prices.weight(*payer) > 0 {
+                norm = norm.saturating_add(square(mean));
             }
         }
         for number in layout.singles..layout.spans.len() {

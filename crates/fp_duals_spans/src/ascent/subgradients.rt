@@ -6,8 +6,8 @@ use crate::ascent::averages::Averages;
 use crate::ascent::directions::Direction;
 use crate::efforts::SpanEffort;
 use fp_duals_ascent::{Target, Way, rate};
-use fp_duals_layouts::{Charges, Layout, Payer, SpanPrices, change_costs, of_span};
-use fp_duals_nets::{Nets, part_mut};
+use fp_duals_layouts::{Charges, Layout, SpanPrices, change_costs};
+use fp_duals_nets::Nets;
 use std::alloc::Global;
 
 // Where the ascent stands.
@@ -83,21 +83,17 @@ impl Climb {
         prices: &mut SpanPrices,
         rate: u64,
     ) {
-        for (span, stale) in layout.spans.iter().zip(self.charges.stale.iter_mut()) {
-            let Some(weights) = part_mut(&mut prices.weights, span.first, span.end) else {
-                continue;
-            };
-            let payers: &[Payer] = of_span(&layout.payers, span);
-            let means: &[i64] = of_span(&self.direction.means, span);
-            for ((weight, payer), mean) in weights.iter_mut().zip(payers.iter()).zip(means.iter()) {
-                if *mean == 0 {
-                    continue;
-                }
-                let new = moved(*weight, payer.most, *mean, rate);
+        for place in 0..self.direction.moving.len() {
+            let number = self.direction.moving_at(place);
+            let mean = self.direction.mean(number);
+            if let Some(payer) = layout.payers.get(number)
+                && let Some(weight) = prices.weights.get_mut(number)
+            {
+                let new = moved(*weight, payer.most, mean, rate);
                 if new != *weight {
                     change_costs(&mut nets.edges, layout.edges_of(payer), *weight, new);
                     *weight = new;
-                    *stale = true;
+                    self.charges.forget_span(payer.span);
                 }
             }
         }
@@ -140,9 +136,9 @@ impl Climb {
         prices: &mut SpanPrices,
         turn: u32,
     ) -> Result<bool, NoMemory> {
-        self.direction.turn(layout, nets, &self.charges, turn == 0);
+        self.direction.turn(layout, nets, &self.charges, turn == 0)?;
         self.averages
-            .turn(layout, nets, &self.direction.walks, &self.charges, turn);
+            .turn(nets, &self.direction.walks, &self.charges, turn);
         let norm = self.direction.norm(layout, prices);
         if norm == 0 {
             return Ok(false);

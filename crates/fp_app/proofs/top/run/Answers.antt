@@ -25,6 +25,11 @@ returns-in-Ok-write_all-clause-completes g c = λ input told reads writes.
     inr (subst (StatusOf (order_of (texts c.args.words.now)) input) (sym c.status.ensures) (Answers-StatusOf (order_of (texts c.args.words.now)) input _ _ c.in-Ok.shown told c.in-Ok.ensures.shown))
 
 -- src/top.rt:63:1
+pub returns-in-Ok-write_all-clause-follows : goal.returns-in-Ok-write_all-clause-follows
+returns-in-Ok-write_all-clause-follows g c = λ input told sure room.
+    inr (subst (StatusOf (order_of (texts c.args.words.now)) input) (sym c.status.ensures) (Answers-StatusOf (order_of (texts c.args.words.now)) input _ _ c.in-Ok.shown told c.in-Ok.ensures.shown))
+
+-- src/top.rt:63:1
 pub returns-in-Ok-write_all-clause-infeasible : goal.returns-in-Ok-write_all-clause-infeasible
 returns-in-Ok-write_all-clause-infeasible g c = λ input told same.
     Infeasible-ShowsInfeasible (order_of (texts c.args.words.now)) input _ _ c.in-Ok.shown told c.in-Ok.ensures.shown (sym c.status.ensures ∙ same)

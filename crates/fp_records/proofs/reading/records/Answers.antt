@@ -1,57 +1,14 @@
-use Rattle.std.proofs.Common.{◌≡◌, ◌∙◌, ◌≤◌, ℕ, List, [], ◌∷◌, ◌++◌, length, inr, refl, sym, ap, arith, rules}
-use Rattle.csv.specs.Reading.{Reached, strip_bom}
-use Rattle.csv.specs.Records.{fields_of}
-use Rattle.fp_records.specs.Fields.{kept_records}
-use Rattle.fp_records.proofs.ReaderFacts.{read-all, read-more}
-use Rattle.fp_records.proofs.RowFacts.{kept_records-append, length-kept_records, length-strip_bom}
+use Rattle.std.proofs.Common.{◌≡◌, length, ap, arith}
+use Rattle.csv.specs.Reading.{default_config, records, strip_bom}
+use Rattle.fp_records.proofs.RowFacts.{kept_records-some}
 use Rattle.fp_records.proofs.reading.records.Goals as goal
 
-pub loop-rows-init : goal.loop-rows-init
-unfolding Reached
-loop-rows-init c =
-    let made = c.from_reader-reader.ensures in
-    let e = c.has_headers.ensures in
-    let g = c.flexible.ensures in (
-      [],
-      record {
-        plain = rw (g, e) at made.trim ∙ c.new.ensures.trim;
-        flexible = rw g at made.flexible;
-        ready = inr (inr (rw (g, e) at made.has_headers, made.headers));
-        config = rw (g, e) at made.config ∙ c.new.ensures.config;
-        rests = rw made.state refl;
-        left = (strip_bom c.args.bytes.now, made.source, (sym made.state, refl));
-      },
-      rw c.new-rows.ensures.items refl,
-    )
+pub share-requires : goal.share-requires
+share-requires c = rw c.in_ok-rows.ensures.all (kept_records-some (records default_config (strip_bom c.args.bytes.now)))
 
-pub loop-rows-preserved : goal.loop-rows-preserved
-loop-rows-preserved c =
-    let inv = c.loop-rows.invariant in
-    let f = fields_of c.read_byte_record.new.row in
-    let told = c.in-Ok-true.ensures in
-    let r = rw c.in-Ok-true.field-0-test at (told.reads inv.1.plain inv.1.ready) in
-    let more = read-more (strip_bom c.args.bytes.now) inv.0 c.loop-rows.reader c.read_byte_record.new.self f inv.1 r (told.ready inv.1.plain) told.flexible in
-    (inv.0 ++ (f ∷ []), more.0, c.in_ok-add_kept-in-Ok-true.ensures ∙ ap (λ (xs : List (List (List ℕ))). xs ++ kept_records (f ∷ [])) inv.2 ∙ sym (kept_records-append inv.0 (f ∷ [])))
-
-pub loop-rows-smaller : goal.loop-rows-smaller
-loop-rows-smaller c =
-    let inv = c.loop-rows.invariant in
-    let told = c.in-Ok-true.ensures in
-    let r = rw c.in-Ok-true.field-0-test at (told.reads inv.1.plain inv.1.ready) in
-    (read-more (strip_bom c.args.bytes.now) inv.0 c.loop-rows.reader c.read_byte_record.new.self (fields_of c.read_byte_record.new.row) inv.1 r (told.ready inv.1.plain) told.flexible).1
-
-pub returns-in-Ok-false : goal.returns-in-Ok-false
-returns-in-Ok-false c =
-    let inv = c.loop-rows.invariant in
-    let r = rw c.in-Ok-false.field-0-test at (c.in-Ok-false.ensures.reads inv.1.plain inv.1.ready) in
-    let all = read-all (strip_bom c.args.bytes.now) inv.0 c.loop-rows.reader c.read_byte_record.new.self (fields_of c.read_byte_record.new.row) inv.1 r in
-    record {
-      all = inv.2 ∙ ap kept_records all.0;
-      few =
-          let kept = length-kept_records inv.0 in
-          let most = all.1 in
-          let fewer = length-strip_bom c.args.bytes.now in
-          let same : length c.loop-rows.rows.items ≡ length (kept_records inv.0) = ap length inv.2 in
-          let bound : length c.loop-rows.rows.items ≤ length c.args.bytes.now = omega arith in
-          search rules;
-    }
+pub returns-clause-few : goal.returns-clause-few
+returns-clause-few c =
+    let few = c.in_ok-rows.ensures.few in
+    let same : length c.in_ok-records.records.items ≡ length c.in_ok-rows.rows.ended = ap length c.in_ok-records.ensures in
+    let size = c.in_ok-records.records.ok.0 in
+    omega arith

@@ -1,5 +1,5 @@
 -- What is kept of the leaf on one side of a split, by a price as of an earlier round.
-use Rattle.std.proofs.Common.{◌<◌, ◌≤◌, ◌≡◌, ⊎_elim, List, [], ◌∷◌, ◌++◌, sym, ap, subst}
+use Rattle.std.proofs.Common.{◌<◌, ◌≤◌, ◌≡◌, ⊎_elim, List, [], ◌∷◌, ◌++◌, sym, ap, ◌∙◌, subst}
 use Rattle.fp_model.specs.Problem.{Problem}
 use Rattle.fp_longestarcs.specs.Networks.{point_count}
 use Rattle.fp_tree.specs.declared.sides.Side.{Side}
@@ -10,7 +10,6 @@ use Rattle.fp_session.specs.declared.searches.Search.{Search}
 use Rattle.fp_session.specs.Nodes.{IsKept}
 use Rattle.fp_session.specs.Outcomes.{priced_kept}
 use Rattle.fp_session.specs.Searches.{history}
-use Rattle.fp_session.proofs.Divisions.{sides-are}
 use Rattle.fp_session.proofs.EarlierPrices.{leaf-setting_with, priced-then}
 use Rattle.fp_session.proofs.Improvements.{IsKept-grown}
 use Rattle.fp_session.proofs.PointLimits.{few-of}
@@ -22,26 +21,25 @@ over-requires-clause-few c = few-of c.args.search.now c.args.prices.now c.requir
 pub returns-in-Empty-clause-kept : goal.returns-in-Empty-clause-kept
 returns-in-Empty-clause-kept c =
     let s : Search = c.args.search.now in
-    let setting = leaf-setting_with s c.in_ok-network.network c.in_ok-round.round c.in_ok-leaf.leaf.setting c.in_ok-round.ensures c.in_ok-leaf.ensures.setting in
+    let setting = leaf-setting_with s c.in_ok-network.network c.in_ok-round.round c.in_ok-below.below.setting c.in_ok-round.ensures c.in_ok-below.ensures.setting in
     let grown : HaveGrown s.instance c.args.prices.now c.improve.new.prices =
     subst (λ (p : Problem). HaveGrown p c.args.prices.now c.improve.new.prices) (ap (λ (x : Setting). x.problem) setting) c.improve.ensures.grown in
-    IsKept-grown s c.args.prices.now c.improve.new.prices (c.args.sides.now ++ (c.args.side ∷ [])) c.args.old c.requires.search.prices grown c.requires.kept
+    IsKept-grown s c.args.prices.now c.improve.new.prices (c.args.leaf.now.sides ++ (c.args.side ∷ [])) c.args.old c.requires.search.prices grown c.requires.kept
 
 pub returns-clause-kept : goal.returns-clause-kept
 returns-clause-kept c =
     let s : Search = c.args.search.now in
     let before : PriceLists = c.args.prices.now in
     let after : PriceLists = c.improve.new.prices in
-    let sides : List Side = c.args.sides.now ++ (c.args.side ∷ []) in
+    let sides : List Side = c.args.leaf.now.sides ++ (c.args.side ∷ []) in
     let found : Kept = priced_kept c.in-Priced.price c.in-Priced.value in
     let keeps : Kept → Type 0 = λ (k : Kept). IsKept (history s after) sides k.payload k.value in
-    let setting = leaf-setting_with s c.in_ok-network.network c.in_ok-round.round c.in_ok-leaf.leaf.setting c.in_ok-round.ensures c.in_ok-leaf.ensures.setting in
+    let setting = leaf-setting_with s c.in_ok-network.network c.in_ok-round.round c.in_ok-below.below.setting c.in_ok-round.ensures c.in_ok-below.ensures.setting in
     let grown : HaveGrown s.instance before after = subst (λ (p : Problem). HaveGrown p before after) (ap (λ (x : Setting). x.problem) setting) c.improve.ensures.grown in
     let new : keeps found =
     subst (λ (l : List Side). IsKept (history s after) l found.payload found.value)
-    (sides-are c.args.sides.now c.in_ok-below.below.items c.push.new.self.items c.deref.result.now c.in_ok-leaf.leaf.sides c.args.side (c.in_ok-below.ensures.items_if_clones_equal (λ x y e. e)) c.in_ok-push.ensures.items
-    c.deref.ensures.value c.in_ok-leaf.ensures.sides)
-    (priced-then s before after c.requires.search c.in_ok-leaf.leaf.sides c.in_ok-network.network c.args.above.round c.requires.round c.in_ok-network.ensures.whole c.in_ok-leaf.leaf.setting setting
+    (c.in_ok-below.ensures.sides ∙ c.deref.ensures.value ∙ c.in_ok-sides.ensures)
+    (priced-then s before after c.requires.search c.in_ok-below.below.sides c.in_ok-network.network c.args.above.round c.requires.round c.in_ok-network.ensures.whole c.in_ok-below.below.setting setting
     c.in_ok-improve.field-0 c.in_ok-improve.ensures.improved c.in-Priced.price c.in-Priced.value c.in-Priced.walks c.in-Priced.is) in
     ⊎_elim (λ (more : (c.greater.result ≡ found) × (c.args.old.value < c.in-Priced.value)). subst keeps (sym more.0) new)
     (λ (same : (c.greater.result ≡ c.args.old) × (c.in-Priced.value ≤ c.args.old.value)).

@@ -1,10 +1,26 @@
--- The prices grow twice.
-use Rattle.fp_session.proofs.Divisions.{HasKind-grown}
-use Rattle.fp_session.proofs.SameHands.{IsSearch-grown}
+-- The prices that served a trial are cut away.
+use Rattle.std.proofs.Common.{arith}
+use Rattle.fp_session.proofs.SameHands.{cut-back, cut-few}
+use Rattle.fp_session.proofs.Trials.{chosen-tried}
 use Rattle.fp_session.proofs.choices.tried.Goals as goal
 
-pub new_child-requires-2-clause-search : goal.new_child-requires-2-clause-search
-new_child-requires-2-clause-search c = IsSearch-grown c.args.search.now c.args.prices.now c.new_child.new.prices c.new_child.ensures.grown c.requires.going c.requires.search
+pub cut-requires : goal.cut-requires
+cut-requires c =
+    cut-few c.args.search.now.instance c.args.prices.now c.both_sides.new.prices c.count-count.result c.both_sides.ensures.grown c.count-count.ensures
 
-pub new_child-requires-2-clause-kind : goal.new_child-requires-2-clause-kind
-new_child-requires-2-clause-kind c = HasKind-grown c.args.search.now.instance c.args.prices.now c.new_child.new.prices c.args.inherited.kind c.new_child.ensures.grown c.requires.kind
+pub cut-requires-in-Err : goal.cut-requires-in-Err
+cut-requires-in-Err c =
+    cut-few c.args.search.now.instance c.args.prices.now c.both_sides.new.prices c.count-count.result c.both_sides.ensures.grown c.count-count.ensures
+
+pub returns-in-Ok-clause-same : goal.returns-in-Ok-clause-same
+returns-in-Ok-clause-same c =
+    cut-back c.args.search.now.instance c.args.prices.now c.both_sides.new.prices c.cut.new.self c.count-count.result c.requires.search.prices c.both_sides.ensures.grown c.count-count.ensures c.cut.ensures
+
+pub returns-in-Err-clause-same : goal.returns-in-Err-clause-same
+returns-in-Err-clause-same c =
+    cut-back c.args.search.now.instance c.args.prices.now c.both_sides.new.prices c.cut-in-Err.new.self c.count-count.result c.requires.search.prices c.both_sides.ensures.grown c.count-count.ensures c.cut-in-Err.ensures
+
+pub returns-in-Ok-clause-chosen : goal.returns-in-Ok-clause-chosen
+returns-in-Ok-clause-chosen c =
+    chosen-tried c.args.search.now c.args.prices.now c.both_sides.new.prices c.args.leaf.now c.args.candidate c.in-Ok.below c.trial_of.result.chosen c.count-count.result c.count-after.result c.requires.search c.both_sides.ensures.grown
+    c.in-Ok.ensures.kept c.requires.candidate c.trial_of.ensures.candidate c.trial_of.ensures.below (λ few. omega (arith, few, c.count-after.ensures, c.count-count.ensures))

@@ -1,6 +1,6 @@
 -- Walks that are a relaxed plan and cost less are timed; where they aren't, a shipment has several
 -- ways to go.
-use Rattle.std.proofs.Common.{◌∙◌, List, ap, arith, length, subst, sym}
+use Rattle.std.proofs.Common.{◌∙◌, List, ap, arith, length, refl, subst, sym}
 use Rattle.std.specs.Prelude.{IfSome, MatchOption, Option}
 use Rattle.std.proofs.lemmas.Bool.{false≢true}
 use Rattle.fp_model.specs.declared.parts.Leg.{Leg}
@@ -11,26 +11,27 @@ use Rattle.fp_session.specs.declared.dividing.Several.{Several}
 use Rattle.fp_session.specs.Dividing.{IsSeveral, NoneSeveral}
 use Rattle.fp_session.specs.Moves.{points_now}
 use Rattle.fp_session.specs.Walks.{AreCheaperWalks}
-use Rattle.fp_session.proofs.OpenMoves.{NoneSeveral-found, under-exist, under-relaxed}
+use Rattle.fp_session.proofs.OpenMoves.{IsSeveral-now, NoneSeveral-found, under-exist, under-relaxed}
+use Rattle.fp_session.proofs.StepOrder.{dear-walks}
 use Rattle.fp_session.proofs.planning.move_by.Goals as goal
 
 pub are_cheaper-requires-clause-exist : goal.are_cheaper-requires-clause-exist
-are_cheaper-requires-clause-exist c = under-exist c.args.search.now c.args.sides.now c.args.relaxed c.requires.found.walks
+are_cheaper-requires-clause-exist c = under-exist c.args.search.now c.args.leaf.now.sides c.args.found.relaxed c.requires.found.walks
 
 pub are_cheaper-requires-clause-routes : goal.are_cheaper-requires-clause-routes
 are_cheaper-requires-clause-routes c = λ apart.
-    HasRoutes-relaxed c.args.search.now.instance (windows_in c.args.search.now.windows) (points_now c.args.search.now) c.args.relaxed
-    (under-relaxed c.args.search.now c.args.sides.now c.args.relaxed c.requires.found.walks c.args.prices.now c.requires.search apart)
+    HasRoutes-relaxed c.args.search.now.instance (windows_in c.args.search.now.windows) (points_now c.args.search.now) c.args.found.relaxed
+    (under-relaxed c.args.search.now c.args.leaf.now.sides c.args.found.relaxed c.requires.found.walks c.args.prices.now c.requires.search apart)
 
 pub timed_move-requires-clause-relaxed : goal.timed_move-requires-clause-relaxed
 timed_move-requires-clause-relaxed c =
-    let found : AreCheaperWalks c.args.search.now c.args.sides.now c.in-Some.cheaper =
-    subst (λ (o : Option (List (List Leg))). IfSome o (AreCheaperWalks c.args.search.now c.args.sides.now)) c.in-Some.is c.in_ok-cheaper.ensures in
-    under-relaxed c.args.search.now c.args.sides.now c.in-Some.cheaper found.under c.args.prices.now c.requires.search found.apart
+    let found : AreCheaperWalks c.args.search.now c.args.leaf.now.sides c.in-Some.cheaper =
+    subst (λ (o : Option (List (List Leg))). IfSome o (AreCheaperWalks c.args.search.now c.args.leaf.now.sides)) c.in-Some.is c.in_ok-cheaper.ensures in
+    under-relaxed c.args.search.now c.args.leaf.now.sides c.in-Some.cheaper found.under c.args.prices.now c.requires.search found.apart
 
 pub timed_move-requires-then-are_cheaper-clause-relaxed : goal.timed_move-requires-then-are_cheaper-clause-relaxed
 timed_move-requires-then-are_cheaper-clause-relaxed c =
-    under-relaxed c.args.search.now c.args.sides.now c.args.relaxed c.requires.found.walks c.args.prices.now c.requires.search (c.are_cheaper.ensures.0 c.if-are_cheaper.true).0
+    under-relaxed c.args.search.now c.args.leaf.now.sides c.args.found.relaxed c.requires.found.walks c.args.prices.now c.requires.search (c.are_cheaper.ensures.0 c.if-are_cheaper.true).0
 
 pub timed_move-requires-then-are_cheaper-clause-cheaper : goal.timed_move-requires-then-are_cheaper-clause-cheaper
 timed_move-requires-then-are_cheaper-clause-cheaper c = (c.are_cheaper.ensures.0 c.if-are_cheaper.true).1
@@ -43,8 +44,26 @@ unreachable-requires c =
     (false≢true
     (sym c.if-are_cheaper.false
     ∙ c.are_cheaper.ensures.1
-    (NoneSeveral-found c.args.search.now c.args.prices.now c.args.leaf.now c.args.sides.now c.args.kept c.args.relaxed (length c.shipments.result.now) c.requires.search c.requires.setting c.requires.sides
+    (NoneSeveral-found c.args.search.now c.args.prices.now c.args.leaf.now c.args.leaf.now.sides c.args.found.kept c.args.found.relaxed (length c.shipments.result.now) c.requires.search c.requires.setting refl
     c.requires.found c.requires.below (omega (arith, ap (λ (ss : List Shipment). length ss) c.shipments.ensures.same)) none)))
 
 pub walks_to_split_by-walks-requires : goal.walks_to_split_by-walks-requires
-walks_to_split_by-walks-requires c = under-exist c.args.search.now c.args.sides.now c.args.relaxed c.requires.found.walks
+walks_to_split_by-walks-requires c = under-exist c.args.search.now c.args.leaf.now.sides c.args.found.relaxed c.requires.found.walks
+
+pub returns-then-splits-search-clause-planned : goal.returns-then-splits-search-clause-planned
+returns-then-splits-search-clause-planned c =
+    let some : IsSeveral c.args.leaf.now c.in-Some-2.several =
+    subst (λ (o : Option Several). MatchOption o (NoneSeveral c.args.leaf.now (length c.shipments.result.now)) (IsSeveral c.args.leaf.now)) c.in-Some-2.is c.in_ok-first_several.ensures in (
+      refl,
+      record {
+        spent = omega (arith, c.splits.ensures.count, c.if-splits-search.true, c.requires.search.few);
+        several = IsSeveral-now c.args.search.now c.args.prices.now c.args.leaf.now c.args.leaf.now.sides c.in-Some-2.several c.requires.search c.requires.setting refl some;
+      },
+    )
+
+pub returns-clause-planned : goal.returns-clause-planned
+returns-clause-planned c = (
+  omega (arith, c.splits.ensures.count, c.if-splits-search.false),
+  c.in_ok-division-in-Some-2.ensures.division,
+  dear-walks c.args.search.now c.args.leaf.now.sides c.args.found.relaxed c.are_cheaper.result c.requires.found.walks c.if-are_cheaper.false c.are_cheaper.ensures.1,
+)

@@ -1,5 +1,5 @@
 -- What comes of improving the leaf decides.
-use Rattle.std.proofs.Common.{◌≡◌, ℕ, ◌<◌, ◌≤◌, ⊎_elim, List, sym, ◌∙◌, subst}
+use Rattle.std.proofs.Common.{◌≡◌, ℕ, ◌<◌, ◌≤◌, ⊎_elim, Bool, true, false, List, sym, ◌∙◌, subst}
 use Rattle.std.specs.Prelude.{IsSomeAnd}
 use Rattle.std.proofs.lemmas.Bool.{cases_lt, false≢true}
 use Rattle.fp_timenodes.specs.declared.places.TheConstants.{MOST_POINTS}
@@ -9,15 +9,20 @@ use Rattle.fp_tree.specs.declared.sides.Side.{Side}
 use Rattle.fp_tree.specs.Nodes.{Node, leaf_at}
 use Rattle.fp_tree.specs.Trees.{Leaf}
 use Rattle.fp_session_history.specs.Notes.{worth_of}
+use Rattle.fp_session.specs.declared.kept.Kept.{Kept}
 use Rattle.fp_session.specs.declared.outcomes.Outcome.TheVariants as outcome
 use Rattle.fp_session.specs.declared.payloads.Payload.{Payload}
-use Rattle.fp_session.specs.Moves.{IsOpenMove}
 use Rattle.fp_session.specs.Outcomes.{IsOutcome}
 use Rattle.fp_session.specs.Searches.{history}
 use Rattle.fp_session.proofs.SameHands.{IsSearch-grown}
 use Rattle.fp_session.proofs.OpenMoves.{dear-move, empty-move, found-move, was-kept}
 use Rattle.fp_session.proofs.PointLimits.{few-points}
 use Rattle.fp_session.proofs.planning.open_move.Goals as goal
+
+-- a leaf that isn't dear is worth less than the incumbent costs
+below-cost : (worth cost : ℕ) (dear : Bool) → dear ≡ false → (cost ≤ worth → dear ≡ true) → worth < cost
+below-cost worth cost dear not_dear is =
+    ⊎_elim (λ (less : worth < cost). less) (λ (more : cost ≤ worth). absurd (false≢true (sym not_dear ∙ is more))) (cases_lt worth cost)
 
 pub over-requires-clause-whole : goal.over-requires-clause-whole
 over-requires-clause-whole c = subst (IsWholeNetwork c.args.search.now.instance) (sym c.in_ok-network.ensures) c.requires.search.network.whole
@@ -44,24 +49,28 @@ returns-then-is_dear-clause-planned c =
     dear-move c.args.search.now c.args.prices.now c.improved_by_step.new.prices c.args.number c.in_ok-leaf.leaf.sides c.args.old c.requires.old
     (subst (λ (ss : List Side). IsSomeAnd (leaf_at c.args.search.now.tree c.args.number) (λ (l : Leaf (Node Payload)). l.sides ≡ ss)) (sym (c.in_ok-leaf.ensures.sides ∙ c.deref.ensures.value)) c.in_ok-sides.ensures) c.in-Open.kept c.in-Open.walks.items came.0 came.1 (c.is_dear.ensures.0 c.if-is_dear.true)
 
-pub move_at-requires-clause-search : goal.move_at-requires-clause-search
-move_at-requires-clause-search c = IsSearch-grown c.args.search.now c.args.prices.now c.improved_by_step.new.prices c.improved_by_step.ensures.grown c.requires.going c.requires.search
+pub found_at-requires-clause-search : goal.found_at-requires-clause-search
+found_at-requires-clause-search c = IsSearch-grown c.args.search.now c.args.prices.now c.improved_by_step.new.prices c.improved_by_step.ensures.grown c.requires.going c.requires.search
+
+pub move_by-requires-clause-search : goal.move_by-requires-clause-search
+move_by-requires-clause-search c = IsSearch-grown c.args.search.now c.args.prices.now c.improved_by_step.new.prices c.improved_by_step.ensures.grown c.requires.going c.requires.search
+
+pub move_by-requires-clause-below : goal.move_by-requires-clause-below
+move_by-requires-clause-below c =
+    subst (λ (k : Kept). worth_of (history c.args.search.now c.improved_by_step.new.prices) k.value < c.args.search.now.cost) (sym c.in_ok-found-in-Open.ensures.kept)
+    (below-cost (worth_of (history c.args.search.now c.improved_by_step.new.prices) c.in-Open.kept.value) c.args.search.now.cost c.is_dear.result c.if-is_dear.false c.is_dear.ensures.1)
 
 pub unless_cheaper-requires-clause-search : goal.unless_cheaper-requires-clause-search
 unless_cheaper-requires-clause-search c =
-    IsSearch-grown c.args.search.now c.improved_by_step.new.prices c.move_at.new.prices c.move_at.ensures.grown c.requires.going
+    IsSearch-grown c.args.search.now c.improved_by_step.new.prices c.move_by.new.prices c.move_by.ensures.grown c.requires.going
     (IsSearch-grown c.args.search.now c.args.prices.now c.improved_by_step.new.prices c.improved_by_step.ensures.grown c.requires.going c.requires.search)
 
 pub returns-clause-planned : goal.returns-clause-planned
 returns-clause-planned c =
     let came : IsOutcome (history c.args.search.now c.improved_by_step.new.prices) c.in_ok-leaf.leaf.sides c.args.old (outcome.Open c.in-Open.kept c.in-Open.walks) =
     subst (IsOutcome (history c.args.search.now c.improved_by_step.new.prices) c.in_ok-leaf.leaf.sides c.args.old) c.in-Open.is c.in_ok-kept.ensures.outcome in
-    let worth : ℕ = worth_of (history c.args.search.now c.improved_by_step.new.prices) c.in-Open.kept.value in
-    let below : worth < c.args.search.now.cost =
-    ⊎_elim (λ (less : worth < c.args.search.now.cost). less)
-    (λ (more : c.args.search.now.cost ≤ worth). absurd (false≢true (sym c.if-is_dear.false ∙ c.is_dear.ensures.1 more)))
-    (cases_lt worth c.args.search.now.cost) in
-    found-move c.args.search.now c.args.prices.now c.move_at.new.prices c.args.number c.in_ok-leaf.leaf.sides c.args.old c.requires.old
-    (subst (λ (ss : List Side). IsSomeAnd (leaf_at c.args.search.now.tree c.args.number) (λ (l : Leaf (Node Payload)). l.sides ≡ ss)) (sym (c.in_ok-leaf.ensures.sides ∙ c.deref.ensures.value)) c.in_ok-sides.ensures) c.improved_by_step.new.prices c.in-Open.kept c.in-Open.walks.items c.in_ok-planned-in-Open-2.planned came.0 c.improved_by_step.ensures.grown.prices c.move_at.ensures.grown came.1 below
-    (subst (λ (ss : List Side). IsOpenMove c.args.search.now c.move_at.new.prices c.args.number ss c.in_ok-planned-in-Open-2.planned)
-    (c.deref-in-Open-2.ensures.value ∙ sym (c.in_ok-leaf.ensures.sides ∙ c.deref.ensures.value)) c.in_ok-planned-in-Open-2.ensures)
+    let below : worth_of (history c.args.search.now c.improved_by_step.new.prices) c.in-Open.kept.value < c.args.search.now.cost =
+    below-cost (worth_of (history c.args.search.now c.improved_by_step.new.prices) c.in-Open.kept.value) c.args.search.now.cost c.is_dear.result c.if-is_dear.false c.is_dear.ensures.1 in
+    found-move c.args.search.now c.args.prices.now c.move_by.new.prices c.args.number c.in_ok-leaf.leaf.sides c.args.old c.requires.old
+    (subst (λ (ss : List Side). IsSomeAnd (leaf_at c.args.search.now.tree c.args.number) (λ (l : Leaf (Node Payload)). l.sides ≡ ss)) (sym (c.in_ok-leaf.ensures.sides ∙ c.deref.ensures.value)) c.in_ok-sides.ensures) c.improved_by_step.new.prices c.in-Open.kept c.in-Open.walks.items c.in_ok-planned-in-Open-2.planned came.0 c.improved_by_step.ensures.grown.prices c.move_by.ensures.grown came.1 below
+    c.in_ok-planned-in-Open-2.ensures

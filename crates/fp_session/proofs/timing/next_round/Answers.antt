@@ -40,8 +40,8 @@ refined-requires-clause-places c =
     (places-can c.args.search.now c.args.prices.now c.requires.search c.args.relaxed c.in_ok-shorts.shorts.items c.in_ok-added.added.items c.in_ok-shorts.ensures.exact c.in_ok-shorts.ensures.places
     (subst (λ (ss : List Short). ArePlacesOf ss c.in_ok-added.added.items) c.deref.ensures.value c.in_ok-added.ensures.places) (c.len.result + 1) (omega (arith, c.len.ensures, c.args.search.now.trace.ok))))
 
-pub returns : goal.returns
-returns c =
+pub returns-clause-next : goal.returns-clause-next
+returns-clause-next c =
     let s : Search = c.args.search.now in
     let note : Refinement = record { round = c.len.result + 1; incumbent = s.cost; relaxed = c.args.relaxed; added = c.in_ok-added.added.items } in
     let next : c.len.result + 1 ≡ last_round (history s c.args.prices.now) + 1 = omega (arith, c.len.ensures, s.trace.ok) in

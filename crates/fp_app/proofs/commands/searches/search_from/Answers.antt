@@ -10,4 +10,4 @@ returns-clause-searched c = λ wanted windows first.
       | else-spans+in_ok-session-2 w ↦ rw (w.if-spans.false, w.session-is) (record { of = w.in_ok-session-2.ensures.of; unit = w.in_ok-session-2.ensures.unit })
     ] in
     session-searched c.args.instance.now c.in_ok-instance.instance wanted c.args.windows c.args.budget c.args.spans c.args.start c.if-spans.session c.in_ok-solved.solved windows first
-    c.written_reads_back.ensures c.in_ok-instance.ensures chosen c.in_ok-solved.ensures.solved c.in_ok-solved.ensures.priced
+    c.written_reads_back.ensures c.texts_are_short.ensures c.in_ok-instance.ensures chosen c.in_ok-solved.ensures.solved c.in_ok-solved.ensures.priced

@@ -1,12 +1,16 @@
 use Rattle.std.proofs.Common.{◌≡◌, ◌≤◌, length, take}
+use Rattle.std.specs.Prelude.{sum_by}
+use Rattle.fp_duals_leaves.specs.PriceLines.{AreFewLines, span_lines}
 use Rattle.fp_duals_leaves.proofs.prices.Prices.cut.Given as goal
 
--- the tables are cut, and the front of the lists of spans that there were is left
+-- the tables are cut, and the front of the lists of spans that there were is left, with the number of its lines
 abbrev pub invariant-loop-self : goal.invariant-loop-self
 invariant-loop-self l = record {
   tables : l.self-inside.tables ≡ take l.count l.fn.self.tables;
   front : l.self-inside.spans.items ≡ take (length l.self-inside.spans.items) l.fn.self.spans;
   kept : l.count ≤ length l.self-inside.spans.items;
+  counted : l.self-inside.span_lines ≡ sum_by span_lines l.self-inside.spans.items;
+  few : AreFewLines l.self-inside.tables l.self-inside.spans.items;
   unit : l.self-inside.unit ≡ l.fn.self.unit;
 }
 

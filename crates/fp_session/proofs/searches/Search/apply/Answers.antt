@@ -1,5 +1,6 @@
 -- What was planned may be done, and it is what the answer says.
 use Rattle.fp_session.proofs.StepsTaken.{better-cheaper, close-settled, divide-division, divide-left, divide-unsettled, kept-cheaper, kept-going, refine-next, round-kept, stop-left, stop-unsettled}
+use Rattle.fp_session.proofs.StepOrder.{better-order, close-order, round-order, split-order, stop-order}
 use Rattle.fp_session.proofs.searches.Search.apply.Goals as goal
 
 pub close-requires-clause-settled : goal.close-requires-clause-settled
@@ -39,3 +40,21 @@ keep-requires-in-Refine-clause-kept c =
     round-kept c.args.self.now c.refine.new.self c.args.prices.now c.in-Refine.note c.in-Refine.refined
     (refine-next c.args.self.now c.args.prices.now c.args.leaf c.args.planned.kept c.args.planned.planned c.requires.planned c.in-Refine.note c.in-Refine.refined c.in-Refine.is)
     (rw c.in-Refine.is at c.in_ok-refine-in-Refine.ensures.refined) c.args.leaf c.args.planned.kept c.requires.planned.kept
+
+pub returns-in-Close-clause-order : goal.returns-in-Close-clause-order
+returns-in-Close-clause-order c = close-order c.args.self.now c.args.prices.now c.args.leaf c.args.planned.kept c.args.planned.planned c.requires.planned c.requires.least c.close.new.self c.close.ensures.tree
+
+pub returns-in-Better-clause-order : goal.returns-in-Better-clause-order
+returns-in-Better-clause-order c = better-order c.args.self.now c.args.prices.now c.args.leaf c.args.planned.kept c.args.planned.planned c.requires.planned c.requires.least c.keep.new.self c.take.new.self c.in-Better.cheaper c.keep.ensures.tree (rw c.in-Better.is at c.take.ensures.taken)
+
+pub returns-in_ok-refine-in-Refine-clause-order : goal.returns-in_ok-refine-in-Refine-clause-order
+returns-in_ok-refine-in-Refine-clause-order c =
+    round-order c.args.self.now c.args.prices.now c.args.leaf c.args.planned.kept c.args.planned.planned c.requires.planned c.requires.least c.refine.new.self c.keep-in-Refine.new.self c.in-Refine.note c.in-Refine.refined c.in-Refine.is
+    (rw c.in-Refine.is at c.in_ok-refine-in-Refine.ensures.refined) c.keep-in-Refine.ensures.others c.keep-in-Refine.ensures.tree
+
+pub returns-in_ok-divide-in-Divide-clause-order : goal.returns-in_ok-divide-in-Divide-clause-order
+returns-in_ok-divide-in-Divide-clause-order c = split-order c.args.self.now c.args.prices.now c.args.leaf c.args.planned.kept c.args.planned.planned c.requires.planned c.requires.least c.divide.new.self c.in-Divide.division c.in-Divide.is c.in_ok-divide-in-Divide.ensures.tree
+
+pub returns-in-Stop-clause-order : goal.returns-in-Stop-clause-order
+returns-in-Stop-clause-order c =
+    stop-order c.args.self.now c.args.prices.now c.args.leaf c.args.planned.kept c.args.planned.planned c.requires.planned c.requires.least c.stop.new.self c.in-Stop.left c.ending_of-ending.result c.in-Stop.is (rw c.in-Stop.is at c.ending_of-ending.ensures) c.stop.ensures.tree (rw c.in-Stop.is at c.stop.ensures.left)

@@ -1,8 +1,9 @@
-use Rattle.std.proofs.Common.{refl, ◌∙◌}
+use Rattle.std.proofs.Common.{refl, ap, ◌∙◌}
 use Rattle.fp_tree.specs.Nodes.{Node}
 use Rattle.fp_tree.specs.Trees.{Leaf}
 use Rattle.fp_session.specs.declared.payloads.Payload.{Payload}
 use Rattle.fp_session.specs.Nodes.{IsKept}
+use Rattle.fp_session.specs.Order.{with_closed}
 use Rattle.fp_session.specs.Searches.{history}
 use Rattle.fp_session.proofs.Applied.{close-applied}
 use Rattle.fp_session.proofs.OpenCounts.{branches-closed, leaves-closed}
@@ -24,3 +25,6 @@ returns-clause-closed c = record {
   cost = refl;
   trace = refl;
 }
+
+pub returns-clause-tree : goal.returns-clause-tree
+returns-clause-tree c = c.close.ensures.changed ∙ ap (with_closed c.args.leaf) c.put.ensures.changed

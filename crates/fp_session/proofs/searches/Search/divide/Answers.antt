@@ -9,9 +9,10 @@ use Rattle.fp_session.specs.declared.payloads.Payload.{Payload}
 use Rattle.fp_session.specs.declared.searches.Search.{Search}
 use Rattle.fp_session.specs.Moves.{fork_in}
 use Rattle.fp_session.specs.Nodes.{IsKept}
+use Rattle.fp_session.specs.Order.{with_cost, with_divided, with_kept}
 use Rattle.fp_session.specs.Searches.{IsSearch, history, in_hand}
 use Rattle.fp_session.specs.Steps.{HasBranched}
-use Rattle.fp_session.proofs.Applied.{OnErr-map, OnOk-two, divide-applied, of-value, some-value}
+use Rattle.fp_session.proofs.Applied.{OnErr-map, OnOk-map, OnOk-two, divide-applied, of-value, some-value}
 use Rattle.fp_session.proofs.OpenCounts.{branches-divided, leaves-divided}
 use Rattle.fp_session.proofs.searches.Search.divide.Goals as goal
 
@@ -75,3 +76,12 @@ returns-else-is_err-clause-branched c =
       branches = split.1;
       incumbent = ap (λ (x : Payload). x.incumbent) split.2;
     }) c.split_leaf-divided.ensures.ok c.split_leaf-divided.ensures.splits
+
+pub returns-else-is_err-clause-tree : goal.returns-else-is_err-clause-tree
+returns-else-is_err-clause-tree c =
+    let s : Search = c.args.self.now in
+    let d : Division = c.args.division in
+    let divided : List (Node Payload) = c.split_leaf-divided.new.self in
+    OnOk-map c.split_leaf-divided.result (divided ≡ with_divided c.args.leaf (fork_in d) d.first d.second c.put.new.self)
+    (divided ≡ with_divided c.args.leaf (fork_in d) d.first d.second (with_kept c.args.leaf (with_cost s.cost c.args.kept) s.tree))
+    (λ parted. parted ∙ ap (with_divided c.args.leaf (fork_in d) d.first d.second) c.put.ensures.changed) c.split_leaf-divided.ensures.ok

@@ -1,0 +1,333 @@
+-- How many bytes the lines of a certificate have at most, and its text.
+use Rattle.std.proofs.Common.{◌≡◌, ℕ, zero, suc, ◌+◌, ◌*◌, ◌-◌, ◌<◌, ◌≤◌, ◌^◌, true, false, Bool, List, [], ◌∷◌, ◌++◌, map, length, refl, subst, arith}
+use Rattle.std.specs.Prelude.{All, IfSome, Option, Some, None, codes, decimal, slice_index_or, sum_by}
+use Rattle.std.specs.List.{AllByRecursion, flat_map}
+use Rattle.std.proofs.lemmas.List.{length-map}
+use Rattle.std.proofs.lemmas.List.Elements.{All-append, All-cons, All-nil, recursion_from_All}
+use Rattle.std.proofs.lemmas.List.Sums.{sum_by-cons}
+use Rattle.fp_model.specs.declared.limits.TheConstants.{LAST_ROUND, LATEST, LONGEST_FASTEST}
+use Rattle.fp_model.specs.declared.parts.Shipment.{Shipment}
+use Rattle.fp_model.specs.Names.{IsName}
+use Rattle.fp_model.specs.Numbered.{no_shipment}
+use Rattle.fp_model.specs.Problem.{IsValid, Problem, arc_at}
+use Rattle.fp_prices.specs.declared.leaf_prices.Kind.{Kind}
+use Rattle.fp_prices.specs.declared.leaf_prices.Kind.TheVariants.{Even, Linear, Table}
+use Rattle.fp_prices.specs.declared.tables.Weight.{Weight}
+use Rattle.fp_prices.specs.Shares.{ClassShare}
+use Rattle.fp_prices.specs.Tables.{AreCountable, HasKind}
+use Rattle.fp_prices_spans.specs.SpanKinds.{spans_of_table}
+use Rattle.fp_prices_spans.specs.Spans.{ClassSpan}
+use Rattle.fp_records.specs.Text.{line_of, lines_of}
+use Rattle.fp_timenodes.specs.declared.places.AddedPoint.{AddedPoint}
+use Rattle.fp_timetable.specs.declared.lines.LegLine.{LegLine}
+use Rattle.fp_timetable.specs.declared.lines.TruckLine.{TruckLine}
+use Rattle.fp_tree.specs.declared.sides.Split.{Split}
+use Rattle.fp_tree.specs.declared.sides.Split.TheVariants.{ByArc, ByTime}
+use Rattle.fp_certificate_lines.specs.declared.certificates.Answer.{Answer}
+use Rattle.fp_certificate_lines.specs.declared.certificates.Answer.TheVariants.{Direct, Optimal, Unfinished, Infeasible}
+use Rattle.fp_certificate_lines.specs.declared.certificates.Node.{Node}
+use Rattle.fp_certificate_lines.specs.declared.certificates.Node.TheVariants.{Branch, Leaf}
+use Rattle.fp_certificate_lines.specs.declared.certificates.Spent.{Spent}
+use Rattle.fp_certificate_lines.specs.declared.certificates.Spent.TheVariants.{Rounds, Branches}
+use Rattle.fp_certificate_lines.specs.Lengths.{most_bytes, node_bytes, price_rows}
+use Rattle.fp_certificate_lines.specs.Ranges.{HaveNames, IsAnswerInRange, IsInRange, IsLegInRange, IsNodeInRange, IsPointInRange, IsScaleInRange, IsShareInRange, IsSpanInRange, IsSplitInRange, IsTruckInRange, IsUnitInRange, IsWeightInRange, largest_figure}
+use Rattle.fp_certificate_lines.specs.Rows.{answer_fields, end_fields, head_name, kind_text, leg_fields, mode_text, node_fields, point_fields, rows_of, scale_rows, share_fields, share_rows, shipment_name, span_fields, span_rows, spent_text, split_fields, table_fields, table_rows, tables_rows, tail_name, terminal_name, time_text, truck_fields, unit_rows, weight_fields}
+use Rattle.fp_certificate_lines.specs.Statements.{Statement}
+use Rattle.fp_certificate_lines.proofs.LineLengths.{All-flat_map, All-made, IsShortRow, digits-le, line-bytes, lines-append, lines-cons, rows-bytes}
+
+-- a time, a round, a number of 32 bits, and a figure
+time-digits : (n : ℕ) → n ≤ LATEST + 1 → length (decimal n) ≤ 6
+time-digits n le = digits-le 6 n (omega arith) (omega (arith, le)) (omega (arith, le))
+
+round-digits : (n : ℕ) → n ≤ LAST_ROUND → length (decimal n) ≤ 4
+round-digits n le = digits-le 4 n (omega arith) (omega (arith, le)) (omega (arith, le))
+
+short-digits : (n : ℕ) → n < 2 ^ 32 → length (decimal n) ≤ 10
+short-digits n lt = digits-le 10 n (omega arith) (omega (arith, lt)) (omega (arith, lt))
+
+figure-digits : (n : ℕ) → n ≤ largest_figure → length (decimal n) ≤ 39
+figure-digits n le = digits-le 39 n (omega arith) (omega (arith, le)) (omega (arith, le))
+
+-- names have at most 32 bytes, and no bytes where there is none
+name-short : (names : List (List ℕ)) (k : ℕ) → AllByRecursion IsName names → length (slice_index_or names k []) ≤ 32
+name-short [] k all = omega arith
+name-short (name ∷ names) zero all = omega (arith, all.0.few)
+name-short (name ∷ names) (suc k) all = name-short names k all.1
+
+own-short : (shipments : List Shipment) (k : ℕ) → AllByRecursion (λ (s : Shipment). IsName s.name) shipments → length (slice_index_or shipments k no_shipment).name ≤ 32
+own-short [] k all = omega arith
+own-short (s ∷ shipments) zero all = omega (arith, all.0.few)
+own-short (s ∷ shipments) (suc k) all = own-short shipments k all.1
+
+-- a length with a word's own
+word : (w : List ℕ) (n : ℕ) → length w ≡ n → length w ≤ n
+word w n is = omega (arith, is)
+
+module _ (p : Problem) (valid : IsValid p) (names : HaveNames p) where
+  terminal-short : (k : ℕ) → length (terminal_name p k) ≤ 32
+  terminal-short k = name-short p.terminals k (recursion_from_All IsName p.terminals valid.parts.names)
+
+  shipment-short : (k : ℕ) → length (shipment_name p k) ≤ 32
+  shipment-short k = own-short p.shipments k (recursion_from_All (λ (s : Shipment). IsName s.name) p.shipments names)
+
+  tail-short : (a : ℕ) → length (tail_name p a) ≤ 32
+  tail-short a = terminal-short (arc_at p a).from
+
+  head-short : (a : ℕ) → length (head_name p a) ≤ 32
+  head-short a = terminal-short (arc_at p a).to
+
+  -- a leg's line
+  leg-bytes : (l : LegLine) → IsLegInRange p l → IsShortRow 117 (leg_fields p l)
+  leg-bytes l r =
+      omega (
+        arith,
+        line-bytes (codes "leg") (shipment_name p l.shipment ∷ tail_name p l.arc ∷ head_name p l.arc ∷ decimal l.depart ∷ decimal l.arrive ∷ []),
+        word (codes "leg") 3 refl,
+        shipment-short l.shipment,
+        tail-short l.arc,
+        head-short l.arc,
+        time-digits l.depart (omega (arith, r.depart)),
+        time-digits l.arrive (omega (arith, r.arrive)),
+      )
+
+  -- a departure's line
+  truck-bytes : (t : TruckLine) → IsTruckInRange p t → IsShortRow 159 (truck_fields p t)
+  truck-bytes t r =
+      omega (
+        arith,
+        line-bytes (codes "truck") (tail_name p t.arc ∷ head_name p t.arc ∷ decimal t.depart ∷ decimal t.trucks ∷ decimal t.load ∷ []),
+        word (codes "truck") 5 refl,
+        tail-short t.arc,
+        head-short t.arc,
+        time-digits t.depart (omega (arith, r.depart)),
+        figure-digits t.trucks r.trucks,
+        figure-digits t.load r.load,
+      )
+
+  -- a point's line
+  point-bytes : (q : AddedPoint) → IsPointInRange p q → IsShortRow 51 (point_fields p q)
+  point-bytes q r =
+      omega (
+        arith,
+        line-bytes (codes "point") (terminal_name p q.terminal ∷ decimal q.at ∷ decimal q.round ∷ []),
+        word (codes "point") 5 refl,
+        terminal-short q.terminal,
+        time-digits q.at (omega (arith, r.time)),
+        round-digits q.round r.round.1,
+      )
+
+  -- the lines of prices: none is longer than that of a span
+  weight-bytes : (w : Weight) → IsWeightInRange p w → IsShortRow 165 (weight_fields p w)
+  weight-bytes w r =
+      omega (
+        arith,
+        line-bytes (codes "weight") (shipment_name p w.shipment ∷ decimal w.w ∷ []),
+        word (codes "weight") 6 refl,
+        shipment-short w.shipment,
+        figure-digits w.w r.small,
+      )
+
+  weights-bytes : (ws : List Weight) → All (IsWeightInRange p) ws → All (IsShortRow 165) (map (weight_fields p) ws)
+  weights-bytes ws all = All-made (IsWeightInRange p) (IsShortRow 165) (weight_fields p) weight-bytes ws all
+
+  share-bytes : (s : ClassShare) → IsShareInRange p s → IsShortRow 165 (share_fields p s)
+  share-bytes s r =
+      omega (
+        arith,
+        line-bytes (codes "share") (tail_name p s.arc ∷ head_name p s.arc ∷ decimal s.point ∷ decimal s.v ∷ []),
+        word (codes "share") 5 refl,
+        tail-short s.arc,
+        head-short s.arc,
+        time-digits s.point (omega (arith, r.point)),
+        figure-digits s.v r.price,
+      )
+
+  shares-bytes : (s : ClassShare) → IsShareInRange p s → All (IsShortRow 165) (share_rows p s)
+  shares-bytes s r = All-cons (IsShortRow 165) (share_fields p s) (map (weight_fields p) s.weights) (share-bytes s r) (weights-bytes s.weights r.weights)
+
+  span-bytes : (s : ClassSpan) → IsSpanInRange p s → IsShortRow 165 (span_fields p s)
+  span-bytes s r =
+      omega (
+        arith,
+        line-bytes (codes "span") (tail_name p s.arc ∷ head_name p s.arc ∷ decimal s.point ∷ decimal s.until ∷ decimal s.money ∷ decimal s.charge ∷ []),
+        word (codes "span") 4 refl,
+        tail-short s.arc,
+        head-short s.arc,
+        time-digits s.point (omega (arith, r.point)),
+        time-digits s.until r.until,
+        figure-digits s.money r.money,
+        figure-digits s.charge r.charge,
+      )
+
+  spans-bytes : (s : ClassSpan) → IsSpanInRange p s → All (IsShortRow 165) (span_rows p s)
+  spans-bytes s r = All-cons (IsShortRow 165) (span_fields p s) (map (weight_fields p) s.weights) (span-bytes s r) (weights-bytes s.weights r.weights)
+
+  -- a table's own line, and with it those of its shares and spans
+  table-bytes : (id : ℕ) → id < 2 ^ 32 → IsShortRow 165 (table_fields id)
+  table-bytes id lt = omega (arith, line-bytes (codes "table") (decimal id ∷ []), word (codes "table") 5 refl, short-digits id lt)
+
+  one-table : (id : ℕ) (table : List ClassShare) (spans : List ClassSpan) → id < 2 ^ 32 → All (IsShareInRange p) table → All (IsSpanInRange p) spans → All (IsShortRow 165) (table_rows p id table spans)
+  one-table id table spans lt shares held =
+      All-cons (IsShortRow 165) (table_fields id) (flat_map (share_rows p) table ++ flat_map (span_rows p) spans) (table-bytes id lt)
+      (All-append (IsShortRow 165) (flat_map (share_rows p) table) (flat_map (span_rows p) spans) (All-flat_map (IsShareInRange p) (IsShortRow 165) (share_rows p) shares-bytes table shares)
+      (All-flat_map (IsSpanInRange p) (IsShortRow 165) (span_rows p) spans-bytes spans held))
+
+  -- the spans beside a table are in range, where all are
+  beside-range : (spans : List (List ClassSpan)) (id : ℕ) → AllByRecursion (All (IsSpanInRange p)) spans → All (IsSpanInRange p) (slice_index_or spans id [])
+  beside-range [] id all = All-nil (IsSpanInRange p)
+  beside-range (ss ∷ spans) zero all = all.0
+  beside-range (ss ∷ spans) (suc id) all = beside-range spans id all.1
+
+  tables-each : (spans : List (List ClassSpan)) → AllByRecursion (All (IsSpanInRange p)) spans → (id : ℕ) (tables : List (List ClassShare)) → id + length tables < 2 ^ 32 →
+      AllByRecursion (All (IsShareInRange p)) tables → All (IsShortRow 165) (tables_rows p spans id tables)
+  tables-each spans held id [] few all = All-nil (IsShortRow 165)
+  tables-each spans held id (table ∷ tables) few all =
+      All-append (IsShortRow 165) (table_rows p id table (spans_of_table spans id)) (tables_rows p spans (id + 1) tables)
+      (one-table id table (spans_of_table spans id) (omega (arith, few)) all.0 (beside-range spans (id - 1) held)) (tables-each spans held (id + 1) tables (omega (arith, few)) all.1)
+
+  -- a split's line, and a leaf's
+  split-bytes : (s : Split) → IsSplitInRange p s → IsShortRow 109 (split_fields p s)
+  split-bytes (ByArc shipment arc) r =
+      omega (
+        arith,
+        line-bytes (codes "split") (codes "arc" ∷ shipment_name p shipment ∷ tail_name p arc ∷ head_name p arc ∷ []),
+        word (codes "split") 5 refl,
+        word (codes "arc") 3 refl,
+        shipment-short shipment,
+        tail-short arc,
+        head-short arc,
+      )
+  split-bytes (ByTime shipment terminal at) r =
+      omega (
+        arith,
+        line-bytes (codes "split") (codes "time" ∷ shipment_name p shipment ∷ terminal_name p terminal ∷ decimal at ∷ []),
+        word (codes "split") 5 refl,
+        word (codes "time") 4 refl,
+        shipment-short shipment,
+        terminal-short terminal,
+        time-digits at (omega (arith, r.2)),
+      )
+
+  kind-short : (tables : List (List ClassShare)) (kind : Kind) → length tables < 2 ^ 32 → HasKind tables kind → length (kind_text kind) ≤ 10
+  kind-short tables Linear few has = omega (arith, word (codes "linear") 6 refl)
+  kind-short tables Even few has = omega (arith, word (codes "even") 4 refl)
+  kind-short tables (Table id) few has = short-digits id (omega (arith, few, has.1))
+
+  mode-short : (forced : Bool) → length (mode_text forced) ≤ 6
+  mode-short true = omega (arith, word (codes "forced") 6 refl)
+  mode-short false = omega (arith, word (codes "plain") 5 refl)
+
+  node-bytes-le : (tables : List (List ClassShare)) (n : Node) → length tables < 2 ^ 32 → IsNodeInRange p tables n → length (line_of (node_fields p n)) ≤ node_bytes n
+  node-bytes-le tables (Branch split) few r = split-bytes split r
+  node-bytes-le tables (Leaf price) few r =
+      omega (
+        arith,
+        line-bytes (codes "leaf") (kind_text price.kind ∷ decimal price.round ∷ mode_text price.forced ∷ []),
+        word (codes "leaf") 4 refl,
+        kind-short tables price.kind few r.kind,
+        round-digits price.round r.round,
+        mode-short price.forced,
+      )
+
+  nodes-bytes : (tables : List (List ClassShare)) (nodes : List Node) → length tables < 2 ^ 32 → AllByRecursion (IsNodeInRange p tables) nodes → length (lines_of (map (node_fields p) nodes)) ≤ sum_by node_bytes nodes
+  nodes-bytes tables [] few all = omega arith
+  nodes-bytes tables (n ∷ nodes) few all =
+      omega (arith, lines-cons (node_fields p n) (map (node_fields p) nodes), node-bytes-le tables n few all.0, nodes-bytes tables nodes few all.1, sum_by-cons node_bytes n nodes)
+
+  -- an answer's line
+  spent-short : (spent : Spent) → length (spent_text spent) ≤ 8
+  spent-short Rounds = omega (arith, word (codes "rounds") 6 refl)
+  spent-short Branches = omega (arith, word (codes "branches") 8 refl)
+
+  fastest-short : (time : Option ℕ) → IfSome time (λ t. t ≤ LONGEST_FASTEST) → length (time_text time) ≤ 8
+  fastest-short None r = omega (arith, word (codes "none") 4 refl)
+  fastest-short (Some time) r = digits-le 8 time (omega arith) (omega (arith, r)) (omega (arith, r))
+
+  answer-bytes : (a : Answer) → IsAnswerInRange p a → IsShortRow 107 (answer_fields p a)
+  answer-bytes (Direct cost) r =
+      omega (arith, line-bytes (codes "answer") (codes "direct" ∷ decimal cost ∷ []), word (codes "answer") 6 refl, word (codes "direct") 6 refl, figure-digits cost r)
+  answer-bytes (Optimal cost) r =
+      omega (arith, line-bytes (codes "answer") (codes "optimal" ∷ decimal cost ∷ []), word (codes "answer") 6 refl, word (codes "optimal") 7 refl, figure-digits cost r)
+  answer-bytes (Unfinished cost bound spent) r =
+      omega (
+        arith,
+        line-bytes (codes "answer") (codes "unfinished" ∷ decimal cost ∷ decimal bound ∷ spent_text spent ∷ []),
+        word (codes "answer") 6 refl,
+        word (codes "unfinished") 10 refl,
+        figure-digits cost r.0,
+        figure-digits bound r.1,
+        spent-short spent,
+      )
+  answer-bytes (Infeasible shipment time) r =
+      omega (
+        arith,
+        line-bytes (codes "answer") (codes "infeasible" ∷ shipment_name p shipment ∷ time_text time ∷ []),
+        word (codes "answer") 6 refl,
+        word (codes "infeasible") 10 refl,
+        shipment-short shipment,
+        fastest-short time r.1,
+      )
+
+  -- the lines of a scale and of a unit, where they are named
+  scale-bytes : (scale : Option ℕ) → IfSome scale (IsScaleInRange p) → length (lines_of (scale_rows scale)) ≤ 17
+  scale-bytes None r = omega arith
+  scale-bytes (Some scale) r =
+      omega (
+        arith,
+        lines-cons (codes "scale" ∷ decimal scale ∷ []) [],
+        line-bytes (codes "scale") (decimal scale ∷ []),
+        word (codes "scale") 5 refl,
+        short-digits scale (omega (arith, r.most)),
+      )
+
+  unit-bytes : (unit : Option ℕ) → IfSome unit IsUnitInRange → length (lines_of (unit_rows unit)) ≤ 45
+  unit-bytes None r = omega arith
+  unit-bytes (Some unit) r =
+      omega (
+        arith,
+        lines-cons (codes "unit" ∷ decimal unit ∷ []) [],
+        line-bytes (codes "unit") (decimal unit ∷ []),
+        word (codes "unit") 4 refl,
+        figure-digits unit r.most,
+      )
+
+  -- lines of one kind
+  made-bytes : {X : Type 0} (k : ℕ) (P : X → Type 0) (f : X → List (List ℕ)) → ((x : X) → P x → IsShortRow k (f x)) → (xs : List X) → All P xs → length (lines_of (map f xs)) ≤ length xs * k
+  made-bytes k P f each xs all = subst (λ (n : ℕ). length (lines_of (map f xs)) ≤ n * k) (length-map xs f) (rows-bytes k (map f xs) (All-made P (IsShortRow k) f each xs all))
+
+  -- the text of a certificate
+  pub text-short : (c : Statement) → IsInRange p c → AreCountable p c.tables → length (lines_of (rows_of p c)) ≤ most_bytes p c
+  text-short c r countable =
+      let scale = scale_rows c.scale in
+      let unit = unit_rows c.unit in
+      let legs = map (leg_fields p) c.legs in
+      let trucks = map (truck_fields p) c.trucks in
+      let points = map (point_fields p) c.points in
+      let tables = price_rows p c in
+      let tree = map (node_fields p) c.tree in
+      let last = end_fields ∷ [] in
+      let prices : length (lines_of tables) ≤ length tables * 165 =
+      rows-bytes 165 tables
+      (tables-each c.spans (recursion_from_All (All (IsSpanInRange p)) c.spans r.spans) 1 c.tables (omega (arith, countable.few_tables)) (recursion_from_All (All (IsShareInRange p)) c.tables r.tables)) in
+      omega (
+        arith,
+        lines-cons (answer_fields p c.answer) (scale ++ (unit ++ (legs ++ (trucks ++ (points ++ (tables ++ (tree ++ last))))))),
+        lines-append scale (unit ++ (legs ++ (trucks ++ (points ++ (tables ++ (tree ++ last)))))),
+        lines-append unit (legs ++ (trucks ++ (points ++ (tables ++ (tree ++ last))))),
+        lines-append legs (trucks ++ (points ++ (tables ++ (tree ++ last)))),
+        lines-append trucks (points ++ (tables ++ (tree ++ last))),
+        lines-append points (tables ++ (tree ++ last)),
+        lines-append tables (tree ++ last),
+        lines-append tree last,
+        answer-bytes c.answer r.answer,
+        scale-bytes c.scale r.scale,
+        unit-bytes c.unit r.unit,
+        made-bytes 117 (IsLegInRange p) (leg_fields p) leg-bytes c.legs r.legs,
+        made-bytes 159 (IsTruckInRange p) (truck_fields p) truck-bytes c.trucks r.trucks,
+        made-bytes 51 (IsPointInRange p) (point_fields p) point-bytes c.points r.points,
+        prices,
+        nodes-bytes c.tables c.tree (omega (arith, countable.few_tables)) (recursion_from_All (IsNodeInRange p c.tables) c.tree r.tree),
+        lines-cons end_fields [],
+        line-bytes (codes "end") [],
+        word (codes "end") 3 refl,
+      )

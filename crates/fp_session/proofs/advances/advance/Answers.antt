@@ -1,0 +1,12 @@
+-- A search that has ended isn't asked for an order.
+use Rattle.std.proofs.Common.{◌∙◌, sym}
+use Rattle.std.proofs.lemmas.Option.{none-some}
+use Rattle.fp_session.specs.Searches.{in_hand}
+use Rattle.fp_session.proofs.StepOrder.{order-any}
+use Rattle.fp_session.proofs.advances.advance.Goals as goal
+
+pub returns-in-Some-clause-order : goal.returns-in-Some-clause-order
+returns-in-Some-clause-order c = λ none. absurd (none-some _ (sym none ∙ c.in-Some.is))
+
+pub returns-in-None-clause-order : goal.returns-in-None-clause-order
+returns-in-None-clause-order c = order-any (in_hand c.args.search.now) (in_hand c.advance_open.new.search) c.advance_open.result c.advance_open.ensures.order
