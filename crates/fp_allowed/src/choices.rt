@@ -2,13 +2,11 @@
 
 ghost use Rattle.std.specs.Prelude.{ℕ, ◌≡◌, ◌<◌, ◌≤◌, true, false, IfSome, MatchBool, MatchOption, length};
 ghost use Rattle.fp_model.specs.declared.parts.Leg.{Leg};
-ghost use Rattle.fp_flatnet.specs.Belonging.{BelongsTo};
 ghost use Rattle.fp_flatnet.specs.Tables.{windows_in};
 ghost use Rattle.fp_longestarcs.specs.Networks.{IsNetwork, class_count, tail_in};
-ghost use Rattle.fp_longestarcs.specs.Whole.{IsWholeNetwork};
 ghost use Rattle.fp_allowed.specs.Allowed.{tails_of};
 ghost use Rattle.fp_allowed.specs.Bits.{bit_of, row_allows};
-ghost use Rattle.fp_allowed.specs.Choices.{IsBetter, IsMiddle, IsParted, IsTaken, OneAtMost, PartsClasses, Picks, last_moment as last_moment_of};
+ghost use Rattle.fp_allowed.specs.Choices.{IsBetter, IsLeaving, IsMiddle, IsParted, IsTaken, OneAtMost, PartsClasses, Picks, last_moment as last_moment_of};
 ghost use Rattle.fp_allowed.specs.Leaving.{OneLeaves};
 
 use crate::exits::{class_range, first_set};
@@ -17,6 +15,17 @@ use fp_longestarcs::Network;
 use fp_model::Instance;
 use fp_rows::Row;
 use fp_tree::Split;
+
+/// The classes that are allowed for a shipment, as its row tells, and leave a terminal.
+#[derive(Clone, Copy)]
+pub(crate) struct Leaving<'a> {
+    pub(crate) instance: &'a Instance,
+    pub(crate) windows: &'a Windows,
+    pub(crate) network: &'a Network,
+    pub(crate) shipment: u32,
+    pub(crate) row: &'a Row,
+    pub(crate) terminal: u32,
+}
 
 /// An arc with allowed classes, and whether it is the only one that leaves its terminal and has
 /// some.
@@ -72,24 +81,18 @@ fn has_allowed(network: &Network, arc: u32, tail: u32, row: &Row) -> bool
 }
 
 // Of the arcs that leave a terminal and have allowed classes the one whose window ends last.
-fn picked_arc(
-    instance: &Instance,
-    windows: &Windows,
-    network: &Network,
-    shipment: u32,
-    row: &Row,
-    terminal: u32,
-) -> Option<Pick>
-    requires shipment { shipment < length instance.now.shipments }
-    requires belongs { BelongsTo instance.now windows.now }
-    requires whole { IsWholeNetwork instance.now network.now }
-    requires long { length row.now ≡ class_count network.now }
-    ensures { Picks (last_moment_of (windows_in windows.now) shipment) (row_allows network.now row.now) (λ c. tails_of instance.now c.arc ≡ terminal) result }
+fn picked_arc(leaving: &Leaving) -> Option<Pick>
+    requires { IsLeaving leaving.now }
+    ensures { Picks (last_moment_of (windows_in leaving.now.windows.now) leaving.now.shipment) (row_allows leaving.now.network.now leaving.now.row.now)
+        (λ c. tails_of leaving.now.instance.now c.arc ≡ leaving.now.terminal) result }
 {
+    let terminal = leaving.terminal;
     let mut found = None;
-    for arc in 0..instance.arcs().len() as u32 {
-        if instance.arc(arc).from == terminal && has_allowed(network, arc, terminal, row) {
-            found = Some(better(windows, shipment, found, arc));
+    for arc in 0..leaving.instance.arcs().len() as u32 {
+        if leaving.instance.arc(arc).from == terminal
+            && has_allowed(leaving.network, arc, terminal, leaving.row)
+        {
+            found = Some(better(leaving.windows, leaving.shipment, found, arc));
         }
     }
     found
@@ -135,30 +138,23 @@ fn middle_point(network: &Network, arc: u32, tail: u32, row: &Row) -> Option<u32
 #[tactic(auto, using(crate::proofs::ArcPicks::taken_by_arc, crate::proofs::ArcPicks::taken_by_time))]
 // A split of a shipment at a terminal that parts the allowed classes that leave it, where there are
 // two or more.
-pub(crate) fn parting_split(
-    instance: &Instance,
-    windows: &Windows,
-    network: &Network,
-    shipment: u32,
-    row: &Row,
-    terminal: u32,
-) -> Option<Split>
-    requires shipment { shipment < length instance.now.shipments }
-    requires belongs { BelongsTo instance.now windows.now }
-    requires whole { IsWholeNetwork instance.now network.now }
-    requires long { length row.now ≡ class_count network.now }
-    ensures parts { MatchOption result (OneAtMost (row_allows network.now row.now) (λ c. tails_of instance.now c.arc ≡ terminal))
-        (PartsClasses instance.now (row_allows network.now row.now) shipment terminal) }
-    ensures taken { IfSome result (IsTaken instance.now (windows_in windows.now) network.now (row_allows network.now row.now) shipment terminal) }
+pub(crate) fn parting_split(leaving: &Leaving) -> Option<Split>
+    requires { IsLeaving leaving.now }
+    ensures parts { MatchOption result (OneAtMost (row_allows leaving.now.network.now leaving.now.row.now) (λ c. tails_of leaving.now.instance.now c.arc ≡ leaving.now.terminal))
+        (PartsClasses leaving.now.instance.now (row_allows leaving.now.network.now leaving.now.row.now) leaving.now.shipment leaving.now.terminal) }
+    ensures taken { IfSome result (IsTaken leaving.now.instance.now (windows_in leaving.now.windows.now) leaving.now.network.now
+        (row_allows leaving.now.network.now leaving.now.row.now) leaving.now.shipment leaving.now.terminal) }
 {
-    let pick = picked_arc(instance, windows, network, shipment, row, terminal)?;
+    let shipment = leaving.shipment;
+    let terminal = leaving.terminal;
+    let pick = picked_arc(leaving)?;
     if !pick.alone {
         return Some(Split::ByArc {
             shipment,
             arc: pick.arc,
         });
     }
-    let at = middle_point(network, pick.arc, terminal, row)?;
+    let at = middle_point(leaving.network, pick.arc, terminal, leaving.row)?;
     Some(Split::ByTime {
         shipment,
         terminal,

@@ -17,7 +17,7 @@ ghost use Rattle.fp_allowed.specs.Settings.{IsSetting};
 use crate::NoMemory;
 use crate::allowed_rows::allowed_row;
 use crate::chain_ends::Chain;
-use crate::choices::parting_split;
+use crate::choices::{Leaving, parting_split};
 use crate::forced_chains::forced_chain;
 use fp_flatnet::Windows;
 use fp_longestarcs::Network;
@@ -123,13 +123,13 @@ impl<'a> Allowed<'a> {
         ensures taken { (sides : List Side) → IsRowUnder self.now sides shipment row.now →
             IfSome result (IsTaken self.now.problem (windows_in self.now.windows) self.now.network (allowed_in self.now sides shipment) shipment terminal) }
     {
-        parting_split(
-            self.instance,
-            self.windows,
-            self.network,
+        parting_split(&Leaving {
+            instance: self.instance,
+            windows: self.windows,
+            network: self.network,
             shipment,
             row,
             terminal,
-        )
+        })
     }
 }

@@ -125,9 +125,9 @@ fn trial_text(
     let terminals = instance.terminals().len();
     let arcs = instance.arcs().len();
     let shipments = instance.shipments().len();
-    let mut line = Line::new(alloc)?;
-    write_trial(&mut line, seed, terminals, arcs, shipments)?;
-    write_answer(&mut line, instance, answer)?;
+    let mut begun = Line::new(alloc)?;
+    write_trial(&mut begun, seed, terminals, arcs, shipments)?;
+    let mut line = write_answer(begun, instance, answer)?;
     write_outcome(&mut line, failed)?;
     Ok(line.into_bytes())
 }

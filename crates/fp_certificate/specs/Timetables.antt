@@ -18,6 +18,10 @@ use Rattle.fp_records_fields.specs.NamedParts.{arc_in, lacks_arc, lacks_shipment
 abbrev pub is_time : List (List ℕ) → ℕ → Bool
 is_time fields place = is_between 0 LATEST fields place
 
+-- the faults of the arc and the time that a line names by its fields 1 to 3
+abbrev pub departure_faults : Problem → List (List ℕ) → List Finding
+departure_faults p fields = finding 25 (lacks_arc p fields 1 2) ∷ finding 28 (not (is_time fields 3)) ∷ []
+
 -- the faults of `leg,SHIPMENT,FROM,TO,DEPART,ARRIVE`
 abbrev pub leg_faults : Problem → Draft → List (List ℕ) → List Finding
 leg_faults p before fields =

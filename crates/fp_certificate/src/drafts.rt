@@ -51,6 +51,11 @@ impl Draft {
         }
     }
 
+    /// The allocator of the lists.
+    pub fn allocator(&self) -> Global {
+        *self.certificate.tables.allocator()
+    }
+
     /// Whether a line of the group can't stand after the lines so far.
     pub fn is_misplaced(&self, group: Group) -> bool
         ensures { result ≡ is_misplaced self.now group }
@@ -120,9 +125,10 @@ impl Draft {
     }
 
     /// Adds a table with neither shares nor spans. The only error is `NoMemory`.
-    pub fn add_table(&mut self, alloc: Global) -> Result<(), NoMemory>
+    pub fn add_table(&mut self) -> Result<(), NoMemory>
         ensures { OnOk result (self.new ≡ with_table self.old) }
     {
+        let alloc = self.allocator();
         let certificate = &mut self.certificate;
         certificate.tables.push(Table {
             shares: Vec::new(alloc),

@@ -34,7 +34,6 @@ use std::alloc::Global;
 
 // Adds what a line of a kind gives, or tells the first of the line's faults.
 fn read_kind(
-    alloc: Global,
     lookup: &Lookup<'_>,
     draft: &mut Draft,
     kind: LineKind,
@@ -55,9 +54,9 @@ fn read_kind(
         LineKind::Leg => read_leg(lookup, draft, line),
         LineKind::Truck => read_truck(lookup, draft, line),
         LineKind::Point => read_point(lookup, draft, line),
-        LineKind::Table => read_table(alloc, draft, line),
-        LineKind::Share => read_share(alloc, lookup, draft, line),
-        LineKind::Span => read_span(alloc, lookup, draft, line),
+        LineKind::Table => read_table(draft, line),
+        LineKind::Share => read_share(lookup, draft, line),
+        LineKind::Span => read_span(lookup, draft, line),
         LineKind::Weight => read_weight(lookup, draft, line),
         LineKind::ByArc => read_by_arc(lookup, draft, line),
         LineKind::ByTime => read_by_time(lookup, draft, line),
@@ -68,7 +67,6 @@ fn read_kind(
 
 // Adds what a line gives, or tells the first of the line's faults.
 fn read_line(
-    alloc: Global,
     lookup: &Lookup<'_>,
     draft: &mut Draft,
     line: &Record,
@@ -82,7 +80,7 @@ fn read_line(
         return Err(RecordError::Fault(LineFault::AfterEnd));
     }
     match kind_of(line) {
-        Some(kind) => read_kind(alloc, lookup, draft, kind, line),
+        Some(kind) => read_kind(lookup, draft, kind, line),
         None => Err(RecordError::Fault(LineFault::Kind)),
     }
 }
@@ -101,7 +99,7 @@ fn draft_of(
 {
     let mut draft = Draft::new(alloc);
     for (place, line) in lines.iter().enumerate() {
-        match read_line(alloc, lookup, &mut draft, line) {
+        match read_line(lookup, &mut draft, line) {
             Ok(()) => {}
             Err(RecordError::Fault(fault)) => {
                 return Err(CertFault::Bad {

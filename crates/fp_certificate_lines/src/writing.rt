@@ -55,8 +55,8 @@ pub fn write(
     requires { IsNamed instance.now certificate.now }
     ensures { IfOk result (λ text. text.items ≡ lines_of (rows_of instance.now certificate.now)) }
 {
-    let mut line = Line::new(alloc)?;
-    write_answer(&mut line, instance, certificate.answer)?;
+    let begun = Line::new(alloc)?;
+    let mut line = write_answer(begun, instance, certificate.answer)?;
     write_scale(&mut line, certificate.scale)?;
     write_unit(&mut line, certificate.unit)?;
     write_legs(&mut line, instance, &certificate.legs)?;

@@ -1,12 +1,12 @@
 //! Units, which divide what plans cost: the test, the greatest, and amounts rounded up by them.
 ghost use Rattle.std.specs.Prelude.{ℕ, ◌≡◌, ◌*◌, ◌%◌, ◌<◌, ◌≤◌, ◌↔◌, All, IfSome, IsTrue, MatchOption};
-ghost use Rattle.std.specs.Int.{IsGcd};
 ghost use Rattle.fp_model.specs.declared.parts.Shipment.{Shipment as ShipmentParts};
 ghost use Rattle.fp_model.specs.Problem.{IsValid};
 ghost use Rattle.fp_certificate_lines.specs.Ranges.{IsUnitInRange};
 ghost use Rattle.fp_certificate_rules.specs.Units.{IsGreatestUnit, IsUnit, rounded_up};
 
 use fp_model::{Arc, Instance, Shipment};
+use fp_prices_knapsack::greatest_common_divisor;
 
 // Whether a unit divides what the freight of each shipment costs, where a unit of size costs so much.
 fn divides_freight(unit: u128, freight: u64, shipments: &[Shipment]) -> bool
@@ -31,18 +31,6 @@ pub fn is_unit(instance: &Instance, unit: u128) -> bool
     true
 }
 
-// The greatest common divisor of two numbers, where 0 has every divisor.
-fn divisor_of(mut first: u128, mut second: u128) -> u128
-    ensures { IsGcd first second result }
-{
-    while second != 0 {
-        let rest = first % second;
-        first = second;
-        second = rest;
-    }
-    first
-}
-
 // The greatest common divisor of a number and of what the freight of each shipment costs over an
 // arc: a unit divides it exactly where it divides these.
 fn freight_divisor(number: u128, arc: &Arc, shipments: &[Shipment]) -> u128
@@ -51,7 +39,8 @@ fn freight_divisor(number: u128, arc: &Arc, shipments: &[Shipment]) -> u128
 {
     let mut divisor = number;
     for shipment in shipments {
-        divisor = divisor_of(divisor, u128::from(arc.freight) * u128::from(shipment.size));
+        let cost = u128::from(arc.freight) * u128::from(shipment.size);
+        divisor = greatest_common_divisor(divisor, cost);
     }
     divisor
 }
@@ -65,7 +54,8 @@ fn costs_divisor(instance: &Instance) -> u128
     let shipments = instance.shipments();
     let mut divisor = 0;
     for arc in instance.arcs() {
-        divisor = freight_divisor(divisor_of(divisor, u128::from(arc.truck)), arc, shipments);
+        let with_truck = greatest_common_divisor(divisor, u128::from(arc.truck));
+        divisor = freight_divisor(with_truck, arc, shipments);
     }
     divisor
 }

@@ -1,6 +1,6 @@
 -- The leaves of a certificate's tree, one after another, and what a bound tells of one.
 use Rattle.std.proofs.Common.{◌≡◌, ℕ, ◌+◌, ◌<◌, ◌≤◌, false, List, [], ◌∷◌, ◌++◌, length, drop, get_or, ⊎_elim, inl, inr, refl, sym, ap, ◌∙◌, subst}
-use Rattle.std.specs.Prelude.{◌↔◌}
+use Rattle.std.specs.Prelude.{Bool, ◌↔◌, IsTrue}
 use Rattle.std.specs.List.{AllByRecursion}
 use Rattle.std.specs.Int.{div_ceil}
 use Rattle.fp_model.specs.Problem.{IsValid, Problem}
@@ -26,6 +26,7 @@ use Rattle.fp_certificate_lines.specs.Statements.{Statement}
 use Rattle.fp_certificate_rules.specs.Accepted.{claim_of}
 use Rattle.fp_certificate_rules.specs.Leaves.{IsLeafWorth, fork_of, split_tail}
 use Rattle.fp_checker.specs.Bounds.{IsBoundWorth}
+use Rattle.fp_checker.specs.Cases.{Tested, IsTestable}
 use Rattle.fp_certificate_rules.specs.Points.{ArePointsOf, points_as_of}
 use Rattle.fp_certificate_rules.specs.Units.{rounded_up}
 use Rattle.fp_checker.proofs.TreeNodes.{nodes-from}
@@ -100,10 +101,18 @@ told-worth p table c claim price sides (Value value) is =
     )
 
 -- also a bound over the points that were made
-pub bound-worth : (p : Problem) (table : WindowTable) (c : Statement) (claim : ℕ) (v : TimePoints) (price : LeafPrice) (sides : List Side) (bound : LeafBound) → IsValid p → ArePointsOf p table.anchors c.points v →
+bound-worth : (p : Problem) (table : WindowTable) (c : Statement) (claim : ℕ) (v : TimePoints) (price : LeafPrice) (sides : List Side) (bound : LeafBound) → IsValid p → ArePointsOf p table.anchors c.points v →
     IsSpanBoundOf p (windows_in table) (λ terminal. points_at v terminal price.round) sides c.tables (spans_beside c.spans price.kind) price.kind price.forced bound →
     (IsBoundWorth c.unit p.scale claim bound ↔ IsLeafWorth p table c claim (node.Leaf price) sides)
 bound-worth p table c claim v price sides bound valid are is =
     told-worth p table c claim price sides bound
     (span_bound-same p valid (windows_in table) (λ terminal. points_at v terminal price.round) (points_as_of p table.anchors c price.round) (λ terminal lt. are.same terminal price.round lt)
     sides c.tables (spans_beside c.spans price.kind) price.kind price.forced bound is)
+
+-- so does a test of the bound, for a certificate under test
+pub tested-worth : (t : Tested) (v : TimePoints) (price : LeafPrice) (sides : List Side) (bound : LeafBound) (is_worth : Bool) → IsTestable t → ArePointsOf t.problem t.windows.anchors t.told.points v →
+    IsSpanBoundOf t.problem (windows_in t.windows) (λ terminal. points_at v terminal price.round) sides t.told.tables (spans_beside t.told.spans price.kind) price.kind price.forced bound →
+    (IsTrue is_worth ↔ IsBoundWorth t.told.unit t.problem.scale (claim_of t.told.answer) bound) → (IsTrue is_worth ↔ IsLeafWorth t.problem t.windows t.told (claim_of t.told.answer) (node.Leaf price) sides)
+tested-worth t v price sides bound is_worth testable points is tells =
+    let worth = bound-worth t.problem t.windows t.told (claim_of t.told.answer) v price sides bound testable.belongs.valid points is in
+    (λ h. worth.0 (tells.0 h), λ leaf. tells.1 (worth.1 leaf))

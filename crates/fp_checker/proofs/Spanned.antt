@@ -8,15 +8,21 @@ use Rattle.fp_tree.specs.declared.sides.Side.{Side}
 use Rattle.fp_prices.specs.declared.values.bounds.LeafBound.{LeafBound}
 use Rattle.fp_prices.specs.declared.values.bounds.LeafBound.TheVariants.{Empty, Value}
 use Rattle.fp_prices.specs.declared.leaf_prices.Kind.{Kind}
+use Rattle.fp_prices.specs.declared.leaf_prices.Kind.TheVariants.{Linear, Even, Table}
 use Rattle.fp_prices.specs.Leaves.{IsBoundOf}
 use Rattle.fp_prices.specs.Shares.{ClassShare}
+use Rattle.fp_prices_spans.specs.SpanKinds.{spans_beside}
 use Rattle.fp_prices_spans.specs.SpanCharges.{ArePaidSpans}
 use Rattle.fp_prices_spans.specs.SpanLeaves.{IsSpanBoundOf}
 use Rattle.fp_prices_spans.specs.SpanLists.{AreSpans, IsSpanOf}
 use Rattle.fp_prices_spans.specs.Spans.{ClassSpan}
 use Rattle.fp_prices_spans.proofs.SpanlessValues.{spanless-values}
-use Rattle.fp_certificate_lines.specs.Ranges.{IsSpanInRange}
+use Rattle.fp_certificate_lines.specs.Ranges.{IsInRange, IsSpanInRange}
+use Rattle.fp_certificate_lines.specs.Statements.{Statement}
+use Rattle.fp_certificate_rules.specs.Prices.{HasPrices}
 use Rattle.fp_certificate_lines.proofs.SpanRanges.{IsSpanInRange-of}
+use Rattle.fp_certificate_rules.proofs.KeptPrices.{All-both}
+use Rattle.fp_certificate_rules.proofs.UnitCosts.{at-all}
 
 -- without spans, the bound is that by the tables
 spanless-bound : (p : Problem) (windows : ℕ → ℕ → Option Window) (points : ℕ → List ℕ) (sides : List Side) (tables : List (List ClassShare)) (kind : Kind) (forced : Bool) (bound : LeafBound) →
@@ -37,3 +43,11 @@ paid-spans p spans range are = record { ordered = are.list.ordered; exist = All-
 -- no spans can
 no-spans : (p : Problem) → AreSpans p []
 no-spans p = record { ordered = record { ascend = search rules; weights = search rules }; exist = search rules; light = search rules }
+
+-- so can those beside each table of a certificate whose prices hold
+pub beside-spans : (p : Problem) (c : Statement) → IsInRange p c → HasPrices p c → (kind : Kind) → AreSpans p (spans_beside c.spans kind)
+beside-spans p c range has Linear = no-spans p
+beside-spans p c range has Even = no-spans p
+beside-spans p c range has (Table id) =
+    at-all (AreSpans p) c.spans (id - 1) [] (no-spans p)
+    (All-both (All (IsSpanInRange p)) (ArePaidSpans p) (AreSpans p) [] (λ s r h. paid-spans p s r h) c.spans range.spans has.spans)

@@ -1,3 +1,4 @@
+pub mod Cases
 pub mod Lines
 pub mod Bounds
 pub mod Rejections

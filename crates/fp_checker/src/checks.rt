@@ -8,10 +8,12 @@ ghost use Rattle.fp_prices.specs.Tables.{AreCountable};
 ghost use Rattle.fp_prices_spans.specs.Spans.{ClassSpan};
 ghost use Rattle.fp_certificate_lines.specs.Ranges.{IsInRange};
 ghost use Rattle.fp_certificate_rules.specs.Accepted.{IsAccepted, IsTooLate};
+ghost use Rattle.fp_checker.specs.Cases.{HasCountableLists};
 ghost use Rattle.fp_checker.specs.Rejections.{IsPlanRejected, TellsPlan, IsFirstUnmet, HoldBelow, IsFirstFailed};
 ghost use Rattle.fp_certificate_rules.specs.Claims.{Claims, ClaimsWithin};
 ghost use Rattle.fp_certificate_rules.specs.Plans.{HasTimetable, routes_of, stated_cost as stated_cost_of};
 
+use crate::cases::Case;
 use crate::rejections::{BLOCKED, COST, LEAVES, PLAN, PRICES, Rejected, TREE, TRUCKS};
 use crate::rules::added_points::told_points;
 use crate::rules::departures::are_same;
@@ -39,21 +41,16 @@ fn stated_cost(answer: Answer) -> u128
 }
 
 // The plan of a certificate, whose cost and trucks are as told: parts 1 to 3.
-fn tested_plan(
-    alloc: Global,
-    instance: &Instance,
-    windows: &Windows,
-    certificate: &Certificate,
-) -> Result<Plan, Rejected>
-    requires belongs { BelongsTo instance.now windows.now }
-    requires range { IsInRange instance.now certificate.now }
-    ensures plan { IfOk result (λ plan. plan ≡ routes_of instance.now certificate.now) }
+fn tested_plan(alloc: Global, case: &Case<'_>) -> Result<Plan, Rejected>
+    ensures plan { IfOk result (λ plan. plan ≡ routes_of case.now.problem case.now.told) }
     ensures holds { OnOk result
-        (HasTimetable instance.now (windows_in windows.now) certificate.now) }
+        (HasTimetable case.now.problem (windows_in case.now.windows) case.now.told) }
     ensures part { (number : ℕ) → result ≡ Err (Rejected.Part number) →
-        (number ≤ 3) × IsFirstUnmet instance.now windows.now certificate.now number }
+        (number ≤ 3) × IsFirstUnmet case.now.problem case.now.windows case.now.told number }
 {
-    let plan = told_plan(alloc, instance, windows, certificate)?;
+    let plan = told_plan(alloc, case)?;
+    let instance = case.instance;
+    let certificate = case.certificate;
     let lines = trucks(alloc, instance, &plan)?;
     if stated_cost(certificate.answer) != plan_cost(instance, &plan, lines.as_slice()) {
         return Err(Rejected::Part { number: COST });
@@ -65,22 +62,16 @@ fn tested_plan(
 }
 
 // Whether all that bounds the plans is as it has to be: parts 4 to 7.
-fn test_bound(
-    alloc: Global,
-    instance: &Instance,
-    windows: &Windows,
-    certificate: &Certificate,
-) -> Result<(), Rejected>
-    requires belongs { BelongsTo instance.now windows.now }
-    requires range { IsInRange instance.now certificate.now }
-    requires countable { AreCountable instance.now certificate.now.tables }
-    requires few { All (λ (list : List ClassSpan). length list < 2 ^ 32 - 1) certificate.now.spans }
-    requires timetable { HasTimetable instance.now (windows_in windows.now) certificate.now }
-    ensures holds { OnOk result (HoldBelow instance.now windows.now certificate.now BLOCKED) }
+fn test_bound(alloc: Global, case: &Case<'_>) -> Result<(), Rejected>
+    requires countable { HasCountableLists case.now }
+    requires timetable { HasTimetable case.now.problem (windows_in case.now.windows) case.now.told }
+    ensures holds { OnOk result (HoldBelow case.now.problem case.now.windows case.now.told BLOCKED) }
     ensures part { (number : ℕ) → result ≡ Err (Rejected.Part number) →
-        (number ≤ 7) × IsFirstUnmet instance.now windows.now certificate.now number }
+        (number ≤ 7) × IsFirstUnmet case.now.problem case.now.windows case.now.told number }
 {
-    let points = told_points(alloc, instance, windows, certificate.points.as_slice())?;
+    let instance = case.instance;
+    let certificate = case.certificate;
+    let points = told_points(alloc, instance, case.windows, certificate.points.as_slice())?;
     if !has_prices(alloc, instance, certificate)? {
         return Err(Rejected::Part { number: PRICES });
     }
@@ -88,7 +79,7 @@ fn test_bound(
     if !is_tree(nodes) || split_count(nodes) > MOST_SPLITS as usize {
         return Err(Rejected::Part { number: TREE });
     }
-    if !are_leaves_worth(alloc, instance, windows, certificate, &points)? {
+    if !are_leaves_worth(alloc, case, &points)? {
         return Err(Rejected::Part { number: LEAVES });
     }
     Ok(())
@@ -96,22 +87,14 @@ fn test_bound(
 
 // Whether a certificate tells its plan and all that bounds the plans as it has to be: parts 1 to
 // 7.
-fn test_claim(
-    alloc: Global,
-    instance: &Instance,
-    windows: &Windows,
-    certificate: &Certificate,
-) -> Result<(), Rejected>
-    requires belongs { BelongsTo instance.now windows.now }
-    requires range { IsInRange instance.now certificate.now }
-    requires countable { AreCountable instance.now certificate.now.tables }
-    requires few { All (λ (list : List ClassSpan). length list < 2 ^ 32 - 1) certificate.now.spans }
-    ensures holds { OnOk result (HoldBelow instance.now windows.now certificate.now BLOCKED) }
+fn test_claim(alloc: Global, case: &Case<'_>) -> Result<(), Rejected>
+    requires { HasCountableLists case.now }
+    ensures holds { OnOk result (HoldBelow case.now.problem case.now.windows case.now.told BLOCKED) }
     ensures part { (number : ℕ) → result ≡ Err (Rejected.Part number) →
-        (number ≤ 7) × IsFirstUnmet instance.now windows.now certificate.now number }
+        (number ≤ 7) × IsFirstUnmet case.now.problem case.now.windows case.now.told number }
 {
-    tested_plan(alloc, instance, windows, certificate)?;
-    test_bound(alloc, instance, windows, certificate)
+    tested_plan(alloc, case)?;
+    test_bound(alloc, case)
 }
 
 // Whether the shipment of an infeasible answer is too late: part 8.
@@ -135,29 +118,20 @@ fn test_refusal(
 }
 
 // Whether each part that applies to the answer holds.
-fn test_parts(
-    alloc: Global,
-    instance: &Instance,
-    windows: &Windows,
-    certificate: &Certificate,
-) -> Result<(), Rejected>
-    requires belongs { BelongsTo instance.now windows.now }
-    requires range { IsInRange instance.now certificate.now }
-    requires countable { AreCountable instance.now certificate.now.tables }
-    requires few { All (λ (list : List ClassSpan). length list < 2 ^ 32 - 1) certificate.now.spans }
-    ensures accepted { OnOk result (IsAccepted instance.now windows.now certificate.now) }
+fn test_parts(alloc: Global, case: &Case<'_>) -> Result<(), Rejected>
+    requires { HasCountableLists case.now }
+    ensures accepted { OnOk result (IsAccepted case.now.problem case.now.windows case.now.told) }
     ensures part { (number : ℕ) → result ≡ Err (Rejected.Part number) →
-        IsFirstFailed instance.now windows.now certificate.now number }
+        IsFirstFailed case.now.problem case.now.windows case.now.told number }
 {
+    let certificate = case.certificate;
     match certificate.answer {
         Answer::Direct { .. } => {
-            tested_plan(alloc, instance, windows, certificate)?;
+            tested_plan(alloc, case)?;
             Ok(())
         }
-        Answer::Optimal { .. } | Answer::Unfinished { .. } => {
-            test_claim(alloc, instance, windows, certificate)
-        }
-        Answer::Infeasible { shipment, time } => test_refusal(alloc, instance, shipment, time),
+        Answer::Optimal { .. } | Answer::Unfinished { .. } => test_claim(alloc, case),
+        Answer::Infeasible { shipment, time } => test_refusal(alloc, case.instance, shipment, time),
     }
 }
 
@@ -191,7 +165,12 @@ pub fn check(
         (AreWindows instance.now (windows_in windows.now)
         → Claims instance.now certificate.now.answer) }
 {
-    test_parts(alloc, instance, windows, certificate)
+    let case = Case {
+        instance,
+        windows,
+        certificate,
+    };
+    test_parts(alloc, &case)
 }
 
 /// The plan that a certificate tells, for each shipment its legs, where the parts 1 to 3 hold:
@@ -215,8 +194,13 @@ pub fn plan_of(
     ensures part { (number : ℕ) → result ≡ Err (Rejected.Part number) →
         IsPlanRejected instance.now windows.now certificate.now certificate.now.answer number }
 {
+    let case = Case {
+        instance,
+        windows,
+        certificate,
+    };
     match certificate.answer {
         Answer::Infeasible { .. } => Err(Rejected::Part { number: PLAN }),
-        _ => tested_plan(alloc, instance, windows, certificate),
+        _ => tested_plan(alloc, &case),
     }
 }

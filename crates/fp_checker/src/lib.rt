@@ -5,6 +5,7 @@
 //! Network Design Problem", Operations Research 65, 2017. Certificates are this project's own.
 #![tactic(auto)]
 
+mod cases;
 mod checks;
 mod rejections;
 mod rules;

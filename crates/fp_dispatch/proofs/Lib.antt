@@ -9,7 +9,7 @@ mod RaisedGroups
 mod GroupTables
 mod FixedRoutes
 mod TimedLegs
-mod Tasks
+mod FittingTables
 mod Examples
 pub mod LeastTimes
 pub mod TimesOfPlans

@@ -1,3 +1,4 @@
 pub mod Times
 pub mod Answers
 pub mod Rising
+pub mod Tasks

@@ -18,6 +18,7 @@ use crate::places::{latest, longest};
 use crate::planning::timed_plan;
 use crate::rising::{Late, Moments};
 use crate::starting::start;
+use crate::tasks::Task;
 use fp_flatnet::Windows;
 use fp_model::{Instance, Member, Plan};
 use std::alloc::Global;
@@ -77,10 +78,17 @@ pub fn earliest(
         waits: vec![in alloc; true; count]?,
         waiting: all_legs(alloc, routes, count)?,
     };
-    if let Some(late) = moments.gather(instance, windows, routes, groups, &numbers)? {
+    let task = Task {
+        instance,
+        windows,
+        routes,
+        groups,
+        numbers,
+    };
+    if let Some(late) = moments.gather(&task)? {
         return Ok(clash(windows, routes, late));
     }
-    if let Some(late) = moments.settle(instance, windows, routes, groups, &numbers)? {
+    if let Some(late) = moments.settle(&task)? {
         return Ok(clash(windows, routes, late));
     }
     let plan = timed_plan(alloc, routes, width, &moments.values)?;

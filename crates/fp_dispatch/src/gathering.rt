@@ -1,17 +1,16 @@
 //! Where all legs wait, and those of each group leave together.
-ghost use Rattle.std.specs.Prelude.{◌≡◌, ◌*◌, ◌+◌, ◌<◌, ◌≤◌, ◌^◌, ◌⊎◌, ◌++◌, All, Contains, IfOk, MatchOption, OnOk, length};
+ghost use Rattle.std.specs.Prelude.{◌≡◌, ◌<◌, ◌≤◌, ◌^◌, ◌⊎◌, ◌++◌, All, Contains, IfOk, MatchOption, OnOk, length};
 ghost use Rattle.fp_base_lists.specs.Vectors.{lists_of};
 ghost use Rattle.fp_model.specs.declared.parts.Member.{Member};
 ghost use Rattle.fp_model.specs.Members.{IsMemberOf};
-ghost use Rattle.fp_flatnet.specs.Tables.{windows_in};
-ghost use Rattle.fp_dispatch.specs.Rising.{AllWait, AreLower, AreRising, IsLate, IsTask, legs_below, place_of, state_of, value_at};
+ghost use Rattle.fp_dispatch.specs.Rising.{legs_below, place_of, state_of, value_at};
+ghost use Rattle.fp_dispatch.specs.Tasks.{AllWaitFor, AreLowerFor, AreRisingFor, IsLateFor};
 
 use crate::NoMemory;
-use crate::group_numbers::Numbers;
 use crate::places::place;
 use crate::rising::{Late, Moments};
-use fp_flatnet::Windows;
-use fp_model::{Instance, Member};
+use crate::tasks::Task;
+use fp_model::Member;
 use std::alloc::Global;
 
 impl Moments {
@@ -32,28 +31,16 @@ impl Moments {
     }
 
     // Raises the legs of each group to the greatest moment of one of them; or gives one that would
-    // leave after its latest moment. `instance` serves the contract alone.
-    pub(crate) fn gather(
-        &mut self,
-        instance: &Instance,
-        windows: &Windows,
-        routes: &[Vec<u32>],
-        groups: &[Vec<Member>],
-        numbers: &Numbers,
-    ) -> Result<Option<Late>, NoMemory>
-        requires task { IsTask instance.now windows.now (lists_of routes.now) (lists_of groups.now) numbers.now }
-        requires lower { AreLower instance.now (windows_in windows.now) (lists_of routes.now) (lists_of groups.now)
-            numbers.now.width (state_of self.old) }
-        requires waits { AllWait (lists_of routes.now) numbers.now.width (state_of self.old) }
+    // leave after its latest moment.
+    pub(crate) fn gather(&mut self, task: &Task<'_>) -> Result<Option<Late>, NoMemory>
+        requires lower { AreLowerFor task.now (state_of self.old) }
+        requires waits { AllWaitFor task.now (state_of self.old) }
         ensures { IfOk result (λ r. MatchOption r
-            (AreRising instance.now (windows_in windows.now) (lists_of routes.now) (lists_of groups.now)
-            numbers.now.width (λ m. ⊥) (state_of self.new))
-            (IsLate instance.now (windows_in windows.now) (lists_of routes.now) (lists_of groups.now))) }
+            (AreRisingFor task.now (λ m. ⊥) (state_of self.new)) (IsLateFor task.now)) }
     {
-        let width = numbers.width;
-        for group in groups {
-            let to = self.greatest(width, group);
-            if let Some(leg) = self.raise_each(windows, routes, width, group, to)? {
+        for group in task.groups {
+            let to = self.greatest(task.numbers.width, group);
+            if let Some(leg) = self.raise_each(task, group, to)? {
                 return Ok(Some(Late { leg, value: to }));
             }
         }

@@ -13,6 +13,7 @@ mod places;
 mod planning;
 mod rising;
 mod starting;
+mod tasks;
 
 pub use dispatches::{Dispatch, earliest};
 

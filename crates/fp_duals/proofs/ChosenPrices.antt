@@ -1,6 +1,6 @@
 -- The prices that are chosen for a leaf: the best start, or a table that is better.
 use Rattle.std.proofs.Common.{◌≡◌, ℕ, ◌+◌, ◌≤◌, List, [], ◌∷◌, ◌++◌, length, inr, sym, ap, ◌∙◌, subst, arith}
-use Rattle.std.specs.Prelude.{Option, Some, IfSome}
+use Rattle.std.specs.Prelude.{Option, None, Some, IfSome}
 use Rattle.std.proofs.lemmas.List.{length-append}
 use Rattle.fp_prices.specs.declared.leaf_prices.Kind.{Kind}
 use Rattle.fp_prices.specs.declared.leaf_prices.Kind.TheVariants.{Table}
@@ -17,6 +17,11 @@ use Rattle.fp_duals.proofs.PriceLines.{total-more}
 -- a table that was found is better
 pub better-told : (leaf : LeafModel) (tables : List (List ClassShare)) (room : ℕ) (start : Start) (o : Option Candidate) (c : Candidate) → o ≡ Some c → IfSome o (IsBetter leaf tables room start) → IsBetter leaf tables room start c
 better-told leaf tables room start o c is better = subst (λ (found : Option Candidate). IfSome found (IsBetter leaf tables room start)) is better
+
+-- one that is better with fewer price lines is so with more
+pub better-room : (leaf : LeafModel) (tables : List (List ClassShare)) (lines room : ℕ) (start : Start) (o : Option Candidate) → lines ≤ room → IfSome o (IsBetter leaf tables lines start) → IfSome o (IsBetter leaf tables room start)
+better-room leaf tables lines room start None le better = better
+better-room leaf tables lines room start (Some c) le better = record { candidate = better.candidate; fits = omega (arith, better.fits, le); above = better.above }
 
 -- the price lines with a table that was found
 pub better-lines : (leaf : LeafModel) (before after : List (List ClassShare)) (room : ℕ) (start : Start) (c : Candidate) → IsBetter leaf before room start c → after ≡ before ++ (c.table ∷ []) → line_total after ≤ line_total before + room

@@ -16,7 +16,7 @@ use Rattle.fp_prices.specs.Rounds.{LeafModel}
 use Rattle.fp_prices.specs.Shares.{ClassShare}
 use Rattle.fp_prices.proofs.OneValue.{leaf-value-some, leaf-value-unique}
 use Rattle.fp_duals.specs.declared.starts.Start.{Start}
-use Rattle.fp_duals.specs.Starts.{EachMode, EachStart, IsBestStart, IsOneOf, IsStart, IsStartKind}
+use Rattle.fp_duals.specs.Starts.{EachMode, EachStart, IsBestStart, IsNext, IsOneOf, IsStart, IsStartKind, TabledModel}
 
 -- a bound that is at most a number tells that each value by its prices is
 pub value-le : (p : Problem) (windows : ℕ → ℕ → Option Window) (points : ℕ → List ℕ) (sides : List Side) (tables : List (List ClassShare)) (kind : Kind) (forced : Bool) (bound : LeafBound) (n : ℕ) →
@@ -62,25 +62,29 @@ module _ (p : Problem) (windows : ℕ → ℕ → Option Window) (points : ℕ �
       of (Table id) by_id = by_id id refl
 
 -- one of two kinds of which the first is one of two
-pub one-of_told : (first second between : Kind) (r : Result Start AllocError) → IsOneOf first second between → IfOk r (λ (s : Start). IsOneOf between second s.kind) → IfOk r (λ (s : Start). IsOneOf first second s.kind)
-one-of_told first second between (Err e) was is = tt
-one-of_told first second between (Ok s) was is =
-    ⊎_elim (λ (same : s.kind ≡ between). ⊎_elim (λ (e : between ≡ first). let o : IsOneOf first second s.kind = inl (same ∙ e) in o) (λ (e : between ≡ second). let o : IsOneOf first second s.kind = inr (same ∙ e) in o) was)
-    (λ (same : s.kind ≡ second). let o : IsOneOf first second s.kind = inr same in o) is
+one-of : (first second between kind : Kind) → IsOneOf first second between → IsOneOf between second kind → IsOneOf first second kind
+one-of first second between kind was is =
+    ⊎_elim (λ (same : kind ≡ between). ⊎_elim (λ (e : between ≡ first). let o : IsOneOf first second kind = inl (same ∙ e) in o) (λ (e : between ≡ second). let o : IsOneOf first second kind = inr (same ∙ e) in o) was)
+    (λ (same : kind ≡ second). let o : IsOneOf first second kind = inr same in o) is
+
+-- a start after one after another, both by the same kind
+pub next-next_told : (x : TabledModel) (first between : Start) (kind : Kind) (r : Result Start AllocError) → IsNext x first kind between → IfOk r (IsNext x between kind) → IfOk r (IsNext x first kind)
+next-next_told x first between kind (Err e) was is = tt
+next-next_told x first between kind (Ok s) was is =
+    record { is = is.is; one = one-of first.kind kind between.kind s.kind was.one is.one; no_less = omega (arith, was.no_less, is.no_less) }
+
+pub next-less_told : (x : TabledModel) (first : Start) (kind : Kind) (r : Result Start AllocError) → IfOk r (IsNext x first kind) → IfOk r (λ (s : Start). first.value ≤ s.value)
+next-less_told x first kind (Err e) is = tt
+next-less_told x first kind (Ok s) is = is.no_less
 
 -- the kinds of the starts, one after the other
-pub start-kind : (inherited first second third last : Kind) → first ≡ Linear → IsOneOf first Linear second → IsOneOf second Even third → IsOneOf third inherited last → IsStartKind inherited last
+start-kind : (inherited first second third last : Kind) → first ≡ Linear → IsOneOf first Linear second → IsOneOf second Even third → IsOneOf third inherited last → IsStartKind inherited last
 start-kind inherited first second third last is by_second by_third by_last =
     let plain : second ≡ Linear = ⊎_elim (λ (e : second ≡ first). e ∙ is) (λ (e : second ≡ Linear). e) by_second in
     ⊎_elim
     (λ (same : last ≡ third).
     ⊎_elim (λ (e : third ≡ second). let k : IsStartKind inherited last = inl (same ∙ e ∙ plain) in k) (λ (e : third ≡ Even). let k : IsStartKind inherited last = inr (inl (same ∙ e)) in k) by_third)
     (λ (e : last ≡ inherited). let k : IsStartKind inherited last = inr (inr e) in k) by_last
-
-pub start-kind_told : (inherited first second third : Kind) (r : Result Start AllocError) → first ≡ Linear → IsOneOf first Linear second → IsOneOf second Even third → IfOk r (λ (s : Start). IsOneOf third inherited s.kind) →
-    IfOk r (λ (s : Start). IsStartKind inherited s.kind)
-start-kind_told inherited first second third (Err e) is by_second by_third by_last = tt
-start-kind_told inherited first second third (Ok s) is by_second by_third by_last = start-kind inherited first second third s.kind is by_second by_third by_last
 
 -- the first start: linear prices with forced classes paid whole
 pub record IsFirstStart (leaf : LeafModel) (tables : List (List ClassShare)) (first : Start) : Type 0 where
@@ -104,21 +108,22 @@ first-le leaf tables first start = λ other value.
     omega (arith, same)
 
 -- the best of all, from the first start, the better by linear prices, the better by even prices, and the last
-pub best-start : (leaf : LeafModel) (tables : List (List ClassShare)) (kind : Kind) (first linear even last : Start) → IsStartKind kind last.kind → IsFirstStart leaf tables first → first.value ≤ linear.value →
-    ((other : ℕ) → IsLeafValue leaf.setting.problem (windows_in leaf.setting.windows) (points_in leaf.setting.network) leaf.sides tables Linear false other → other ≤ linear.value) → linear.value ≤ even.value →
-    EachMode leaf.setting.problem (windows_in leaf.setting.windows) (points_in leaf.setting.network) leaf.sides tables Even (λ other. other ≤ even.value) → IsStart leaf tables last → even.value ≤ last.value →
-    ((id : ℕ) → kind ≡ Table id → EachMode leaf.setting.problem (windows_in leaf.setting.windows) (points_in leaf.setting.network) leaf.sides tables kind (λ other. other ≤ last.value)) → IsBestStart leaf tables kind last
-best-start leaf tables kind first linear even last one start a plain b by_even is less by_table = record {
-  is = is;
-  one = one;
-  best = six-starts leaf.setting.problem (windows_in leaf.setting.windows) (points_in leaf.setting.network) leaf.sides tables kind first.value linear.value even.value last.value a b less (first-le leaf tables first start) plain by_even by_table;
-  above = record { whole = first.value; value = first-value leaf tables first start; below = omega (arith, a, b, less) };
+pub best-start : (x : TabledModel) (kind : Kind) (first linear even last : Start) → IsFirstStart x.leaf x.tables first → IsNext x first Linear linear →
+    ((other : ℕ) → IsLeafValue x.leaf.setting.problem (windows_in x.leaf.setting.windows) (points_in x.leaf.setting.network) x.leaf.sides x.tables Linear false other → other ≤ linear.value) → IsNext x linear Even even →
+    EachMode x.leaf.setting.problem (windows_in x.leaf.setting.windows) (points_in x.leaf.setting.network) x.leaf.sides x.tables Even (λ other. other ≤ even.value) → IsNext x even kind last →
+    ((id : ℕ) → kind ≡ Table id → EachMode x.leaf.setting.problem (windows_in x.leaf.setting.windows) (points_in x.leaf.setting.network) x.leaf.sides x.tables kind (λ other. other ≤ last.value)) → IsBestStart x.leaf x.tables kind last
+best-start x kind first linear even last start by_linear plain by_even both by_last by_table = record {
+  is = by_last.is;
+  one = start-kind kind first.kind linear.kind even.kind last.kind start.linear by_linear.one by_even.one by_last.one;
+  best = six-starts x.leaf.setting.problem (windows_in x.leaf.setting.windows) (points_in x.leaf.setting.network) x.leaf.sides x.tables kind first.value linear.value even.value last.value by_linear.no_less by_even.no_less by_last.no_less
+      (first-le x.leaf x.tables first start) plain both by_table;
+  above = record { whole = first.value; value = first-value x.leaf x.tables first start; below = omega (arith, by_linear.no_less, by_even.no_less, by_last.no_less) };
 }
 
 -- the same of what a call gives
-pub best-start_told : (leaf : LeafModel) (tables : List (List ClassShare)) (kind : Kind) (first linear even : Start) (r : Result Start AllocError) → IfOk r (λ (s : Start). IsStartKind kind s.kind) → IsFirstStart leaf tables first → first.value ≤ linear.value →
-    ((other : ℕ) → IsLeafValue leaf.setting.problem (windows_in leaf.setting.windows) (points_in leaf.setting.network) leaf.sides tables Linear false other → other ≤ linear.value) → linear.value ≤ even.value →
-    EachMode leaf.setting.problem (windows_in leaf.setting.windows) (points_in leaf.setting.network) leaf.sides tables Even (λ other. other ≤ even.value) → IfOk r (IsStart leaf tables) → IfOk r (λ (s : Start). even.value ≤ s.value) →
-    IfOk r (λ (s : Start). EachMode leaf.setting.problem (windows_in leaf.setting.windows) (points_in leaf.setting.network) leaf.sides tables kind (λ other. other ≤ s.value)) → IfOk r (IsBestStart leaf tables kind)
-best-start_told leaf tables kind first linear even (Err e) one start a plain b by_even is less by_kind = tt
-best-start_told leaf tables kind first linear even (Ok last) one start a plain b by_even is less by_kind = best-start leaf tables kind first linear even last one start a plain b by_even is less (λ id is_table. by_kind)
+pub best-start_told : (x : TabledModel) (kind : Kind) (first linear even : Start) (r : Result Start AllocError) → IsFirstStart x.leaf x.tables first → IsNext x first Linear linear →
+    ((other : ℕ) → IsLeafValue x.leaf.setting.problem (windows_in x.leaf.setting.windows) (points_in x.leaf.setting.network) x.leaf.sides x.tables Linear false other → other ≤ linear.value) → IsNext x linear Even even →
+    EachMode x.leaf.setting.problem (windows_in x.leaf.setting.windows) (points_in x.leaf.setting.network) x.leaf.sides x.tables Even (λ other. other ≤ even.value) → IfOk r (IsNext x even kind) →
+    IfOk r (λ (s : Start). EachMode x.leaf.setting.problem (windows_in x.leaf.setting.windows) (points_in x.leaf.setting.network) x.leaf.sides x.tables kind (λ other. other ≤ s.value)) → IfOk r (IsBestStart x.leaf x.tables kind)
+best-start_told x kind first linear even (Err e) start by_linear plain by_even both by_last by_kind = tt
+best-start_told x kind first linear even (Ok last) start by_linear plain by_even both by_last by_kind = best-start x kind first linear even last start by_linear plain by_even both by_last (λ id is_table. by_kind)

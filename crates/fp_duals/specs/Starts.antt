@@ -31,6 +31,11 @@ pub record IsStart (leaf : LeafModel) (tables : List (List ClassShare)) (start :
   pub value : IsLeafValue leaf.setting.problem (windows_in leaf.setting.windows) (points_in leaf.setting.network) leaf.sides tables start.kind start.forced start.value
   pub small : IsSmallBound leaf.setting.problem (Value start.value)
 
+-- a leaf with the tables by which it may be priced
+pub record TabledModel : Type 0 where
+  pub leaf : LeafModel
+  pub tables : List (List ClassShare)
+
 -- the value by linear prices with forced classes paid whole is at most a number
 pub record IsAboveWhole (leaf : LeafModel) (tables : List (List ClassShare)) (n : ℕ) : Type 0 where
   pub whole : ℕ
@@ -40,6 +45,12 @@ pub record IsAboveWhole (leaf : LeafModel) (tables : List (List ClassShare)) (n 
 -- a kind is one of two
 abbrev pub IsOneOf : (first second kind : Kind) → Type 0
 IsOneOf first second kind = (kind ≡ first) ⊎ (kind ≡ second)
+
+-- a start by which the leaf is worth no less than by the first, and whose kind is that of the first or this one
+pub record IsNext (x : TabledModel) (first : Start) (kind : Kind) (start : Start) : Type 0 where
+  pub is : IsStart x.leaf x.tables start
+  pub one : IsOneOf first.kind kind start.kind
+  pub no_less : first.value ≤ start.value
 
 -- a kind is one of those of the six starting prices
 abbrev pub IsStartKind : (inherited kind : Kind) → Type 0

@@ -55,22 +55,22 @@ fn prices_by(
     }
 }
 
-// A table in a mode, of at most so many price lines, by which the leaf is worth more than by a
-// start. The tables are as before.
+// A table in a mode, of at most so many price lines, which are left, by which the leaf is worth more
+// than by a start. The tables are as before.
 fn better_in_mode(
     alloc: Global,
     leaf: &Leaf,
     search: &mut Search,
-    room: u32,
+    lines: u32,
     tables: &mut Tables,
     start: Start,
     forced: bool,
 ) -> Result<Option<Candidate>, NoMemory>
     requires tables { AreTables leaf.now.setting.problem tables.old }
+    requires lines { lines + line_total tables.old ≤ MOST_PRICE_LINES }
     ensures same { tables.new ≡ tables.old }
-    ensures better { IfOk result (λ found. IfSome found (IsBetter leaf.now tables.old room start)) }
+    ensures better { IfOk result (λ found. IfSome found (IsBetter leaf.now tables.old lines start)) }
 {
-    let lines = search.lines(tables.left().min(room));
     let Some(table) = search.table(alloc, tables.list(), start, forced, lines)? else {
         return Ok(None);
     };
@@ -116,10 +116,11 @@ pub(crate) fn better_table(
     ensures same { tables.new ≡ tables.old }
     ensures better { IfOk result (λ found. IfSome found (IsBetter leaf.now tables.old room start)) }
 {
-    let same = better_in_mode(alloc, leaf, search, room, tables, start, start.forced)?;
+    let lines = search.lines(tables.left().min(room));
+    let same = better_in_mode(alloc, leaf, search, lines, tables, start, start.forced)?;
     if !search.modes_differ() {
         return Ok(same);
     }
-    let other = better_in_mode(alloc, leaf, search, room, tables, start, !start.forced)?;
+    let other = better_in_mode(alloc, leaf, search, lines, tables, start, !start.forced)?;
     Ok(better_of(same, other))
 }

@@ -19,6 +19,7 @@ use crate::improvements::Improved;
 use crate::run_tables::Tables;
 use crate::searches::Search;
 use crate::starts::Start;
+use crate::tabled_leaves::TabledLeaf;
 use fp_duals_nets::LentNets;
 use fp_duals_shares::Effort;
 use fp_flatnet::Windows;
@@ -57,10 +58,10 @@ fn choice(
     alloc: Global,
     leaf: &Leaf,
     search: &mut Search,
+    inherited: Kind,
+    start: Start,
     room: u32,
     tables: &mut Tables,
-    start: Start,
-    inherited: Kind,
 ) -> Result<Start, NoMemory>
     requires tables { ArePriceTables leaf.now.setting.problem tables.old }
     requires best { IsBestStart leaf.now tables.old inherited start }
@@ -102,7 +103,7 @@ fn priced(
     // reaches one is the only walk.
     let _windows = leaf.windows();
     let count = tables.list().len() as u32;
-    let chosen = choice(alloc, leaf, search, room, tables, start, inherited)?;
+    let chosen = choice(alloc, leaf, search, inherited, start, room, tables)?;
     match least_walks(alloc, leaf, search, tables.list(), chosen) {
         Ok(walks) => Ok(Improved::Priced {
             price: LeafPrice {
@@ -120,34 +121,6 @@ fn priced(
     }
 }
 
-// The price of a leaf that has a value by linear prices where forced classes are paid whole, which
-// is the first start.
-fn improve_from(
-    alloc: Global,
-    leaf: &Leaf,
-    search: &mut Search,
-    round: u32,
-    inherited: Kind,
-    first: Start,
-    room: u32,
-    tables: &mut Tables,
-) -> Result<Improved, NoMemory>
-    requires tables { ArePriceTables leaf.now.setting.problem tables.old }
-    requires kind { HasKind tables.old inherited }
-    requires start { IsStart leaf.now tables.old first }
-    requires linear { first.kind ≡ Linear }
-    requires forced { first.forced ≡ true }
-    ensures improved { IfOk result
-        (IsImproved leaf.now.setting.problem (windows_in leaf.now.setting.windows)
-        (points_in leaf.now.setting.network) leaf.now.sides tables.old tables.new inherited round) }
-    ensures tables { ArePriceTables leaf.now.setting.problem tables.new }
-    ensures lines { IfOk result (λ _. line_total tables.new ≤ line_total tables.old + room) }
-    ensures err { OnErr result (tables.new ≡ tables.old) }
-{
-    let start = first.best(alloc, leaf, tables.list(), inherited)?;
-    priced(alloc, leaf, search, round, inherited, start, room, tables)
-}
-
 /// Improves the price of a leaf over the network of a round, with so much effort, and with the nets of
 /// the leaf, which it makes where it needs them and they aren't made yet.
 ///
@@ -163,7 +136,7 @@ fn improve_from(
 /// it, and the value is above those by all six starting prices. The tables are of the instance, in
 /// order and within the price rule, before and after, and a table that `inherited` names is one of
 /// them; its round and mode aren't used. `NoMemory` only where no memory is found; then the tables
-/// are as before.
+/// are as before, and so are the nets, of which contracts see nothing.
 pub fn improve_leaf(
     alloc: Global,
     leaf: &Leaf,
@@ -183,6 +156,7 @@ pub fn improve_leaf(
     ensures tables { ArePriceTables leaf.now.setting.problem tables.new }
     ensures lines { IfOk result (λ _. line_total tables.new ≤ line_total tables.old + room) }
     ensures err { OnErr result (tables.new ≡ tables.old) }
+    ensures nets { OnErr result (nets.new ≡ nets.old) }
 {
     match leaf.bound(alloc, tables.list(), Kind::Linear, true)? {
         LeafBound::Empty { shipment } => Ok(Improved::Empty { shipment }),
@@ -192,17 +166,14 @@ pub fn improve_leaf(
                 forced: true,
                 value,
             };
-            let mut search = Search::of(alloc, leaf, nets, effort)?;
-            improve_from(
-                alloc,
+            let kind = inherited.kind;
+            let tabled = TabledLeaf {
                 leaf,
-                &mut search,
-                round,
-                inherited.kind,
-                first,
-                room,
-                tables,
-            )
+                tables: tables.list(),
+            };
+            let start = first.best(alloc, &tabled, kind)?;
+            let mut search = Search::of(alloc, leaf, nets, effort)?;
+            priced(alloc, leaf, &mut search, round, kind, start, room, tables)
         }
     }
 }

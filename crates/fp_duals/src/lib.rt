@@ -15,6 +15,7 @@ mod run_tables;
 mod searches;
 mod starts;
 mod table_tests;
+mod tabled_leaves;
 
 pub use fp_duals_shares::Effort;
 pub use improvements::Improved;

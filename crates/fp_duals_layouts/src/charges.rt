@@ -1,4 +1,5 @@
 //! The charges of the spans, and the sets of shipments that are charged.
+ghost use Rattle.std.specs.Prelude.{◌≡◌, OnErr};
 
 use crate::NoMemory;
 use crate::layouts::{LaidSpan, Layout, of_span};
@@ -7,6 +8,7 @@ use crate::prices::SpanPrices;
 use crate::sets::{Finding, Sets, Terms};
 use fp_duals_nets::{copy_all, part_mut};
 use std::alloc::Global;
+use std::marker::Model;
 
 // A span isn't charged as long as its money is at least this, and its weights are together at most
 // so much above those that were noted.
@@ -16,7 +18,8 @@ struct Slack {
     rise: u64,
 }
 
-/// The charges of the spans of a layout, and the sets that are charged.
+/// The charges of the spans of a layout, and the sets that are charged. Heuristics alone read them: to
+/// contracts they hold nothing, so they're the same after each call, also after `NoMemory`.
 #[derive(Drop)]
 pub struct Charges {
     sets: Sets,
@@ -33,6 +36,14 @@ pub struct Charges {
     pub charged: Vec<bool>,
     /// Whether each span's prices changed since its charge was found.
     pub stale: Vec<bool>,
+}
+
+impl Model for Charges {
+    ghost use Rattle.std.specs.Prelude.{⊤};
+
+    ghost Value = { ⊤ };
+
+    ghost view = { λ _. tt };
 }
 
 // What numbers rise by together, from others.
@@ -147,7 +158,9 @@ impl Charges {
     }
 
     /// Finds the charges of the spans whose prices changed. What all charges come to.
-    pub fn find_all(&mut self, layout: &Layout, prices: &SpanPrices) -> Result<u64, NoMemory> {
+    pub fn find_all(&mut self, layout: &Layout, prices: &SpanPrices) -> Result<u64, NoMemory>
+        ensures { OnErr result (self.new ≡ self.old) }
+    {
         let mut sum = 0u64;
         let mut number = 0usize;
         for span in &layout.spans {
@@ -175,7 +188,9 @@ impl Charges {
         layout: &Layout,
         prices: &SpanPrices,
         payer: usize,
-    ) -> Result<u64, NoMemory> {
+    ) -> Result<u64, NoMemory>
+        ensures { OnErr result (self.new ≡ self.old) }
+    {
         let number = layout
             .payers
             .get(payer)

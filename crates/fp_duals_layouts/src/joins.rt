@@ -11,9 +11,20 @@ use std::alloc::Global;
 type Priced = (u32, usize, u64);
 
 impl Layout {
-    /// Lays joined spans over runs. Runs without a class that is priced are left out. The numbers
-    /// of the spans and payers that are there stay. `NoMemory` only where no memory is found.
-    pub fn join(&mut self, alloc: Global, nets: &Nets, runs: &[Run]) -> Result<(), NoMemory> {
+    /// The layout with joined spans over runs. Runs without a class that is priced are left out. The
+    /// numbers of the spans and payers that are there stay. `NoMemory` only where no memory is found.
+    pub fn join(self, alloc: Global, nets: &Nets, runs: &[Run]) -> Result<Layout, NoMemory> {
+        let mut layout = self;
+        layout.lay_joined(alloc, runs)?;
+        layout.set_grains();
+        layout.group_payers(alloc, nets.list.len())?;
+        layout.group_covers(alloc)?;
+        layout.group_links(alloc, nets.edges.len())?;
+        Ok(layout)
+    }
+
+    // Lays joined spans over runs, without their groups.
+    fn lay_joined(&mut self, alloc: Global, runs: &[Run]) -> Result<(), NoMemory> {
         let mut priced = Vec::new(alloc);
         for run in runs {
             let (first_single, end_single) = self.singles_of(run);
@@ -32,10 +43,7 @@ impl Layout {
                 self.push_joined(span, &priced)?;
             }
         }
-        self.set_grains();
-        self.group_payers(alloc, nets.list.len())?;
-        self.group_covers(alloc)?;
-        self.group_links(alloc, nets.edges.len())
+        Ok(())
     }
 
     /// The spans of single classes within a run: the first, and the end.

@@ -1,9 +1,10 @@
 //! The spans over the classes of a leaf, and who pays by them.
+ghost use Rattle.std.specs.Prelude.{◌≡◌, OnErr};
 
 use crate::NoMemory;
 use crate::groups::{Groups, Member};
 use crate::payers::{Payer, divisor_of, most_of};
-use fp_duals_nets::{ArcMoney, ClassNodes, EdgeUse, NO_PART, NONE, Net, Nets, arc_of, part_mut};
+use fp_duals_nets::{ClassNodes, ClassPool, ClassPools, LeafNets, PoolPart};
 use fp_model::limits::LATEST;
 use std::alloc::Global;
 
@@ -78,117 +79,78 @@ fn single_run(class: u32, classes: &[ClassNodes]) -> Run {
     }
 }
 
+// The spans of single classes, one for each class that has a pool.
+fn single_spans(
+    alloc: Global,
+    pools: &[ClassPool],
+    classes: &[ClassNodes],
+) -> Result<Vec<LaidSpan>, NoMemory> {
+    let mut spans = Vec::with_capacity(alloc, pools.len())?;
+    for pool in pools {
+        let number = spans.len();
+        spans.push(LaidSpan {
+            run: single_run(pool.class, classes),
+            truck: pool.arc.truck,
+            capacity: pool.arc.capacity,
+            grain: 1,
+            first: pool.first,
+            end: pool.end,
+            first_single: number,
+            end_single: number.wrapping_add(1),
+        })?;
+    }
+    Ok(spans)
+}
+
+// The payers of spans of single classes: each pays for one edge, at the same place as the payer.
+fn single_payers(alloc: Global, pools: &ClassPools) -> Result<Vec<Payer>, NoMemory> {
+    let mut payers = Vec::with_capacity(alloc, pools.parts.len())?;
+    for part in &pools.parts {
+        let most = match pools.list.get(part.pool) {
+            Some(pool) => most_of(part.size, pool.arc.truck, pool.arc.capacity),
+            None => 0,
+        };
+        let first_edge = payers.len();
+        payers.push(Payer {
+            shipment: part.shipment,
+            span: part.pool,
+            size: part.size,
+            most,
+            first_edge,
+            end_edge: first_edge.wrapping_add(1),
+        })?;
+    }
+    Ok(payers)
+}
+
+// The edges of these payers.
+fn single_edges(alloc: Global, parts: &[PoolPart]) -> Result<Vec<usize>, NoMemory> {
+    let mut edges = Vec::with_capacity(alloc, parts.len())?;
+    for part in parts {
+        edges.push(part.edge)?;
+    }
+    Ok(edges)
+}
+
 impl Layout {
     /// A span for each class of some net's edges. Tells the edges of the nets their spans and their
     /// payers, as `pool` and `part`. `NoMemory` only where no memory is found.
-    pub fn of(
-        alloc: Global,
-        nets: &mut Nets,
-        classes: &[ClassNodes],
-        arcs: &[ArcMoney],
-    ) -> Result<Layout, NoMemory> {
-        let counts = nets.count_edges(alloc, classes.len())?;
+    pub fn of(alloc: Global, model: &mut LeafNets) -> Result<Layout, NoMemory>
+        ensures { OnErr result (model.new ≡ model.old) }
+    {
+        let pools = ClassPools::of(alloc, model, false, 0)?;
         let mut layout = Layout {
-            spans: Vec::new(alloc),
-            singles: 0,
-            payers: Vec::new(alloc),
-            edges: Vec::new(alloc),
+            spans: single_spans(alloc, &pools.list, &model.classes)?,
+            singles: pools.list.len(),
+            payers: single_payers(alloc, &pools)?,
+            edges: single_edges(alloc, &pools.parts)?,
             own: Groups::new(alloc),
             covers: Groups::new(alloc),
             links: Groups::new(alloc),
         };
-        let numbers = layout.open_spans(alloc, &counts, classes, arcs)?;
-        layout.singles = layout.spans.len();
-        layout.place_edges(nets, &numbers);
         layout.set_grains();
-        layout.group_payers(alloc, nets.list.len())?;
+        layout.group_payers(alloc, model.nets.list.len())?;
         Ok(layout)
-    }
-
-    // Opens a span for each class with edges, with room for its payers. For each class its span's
-    // number, or `NONE`.
-    fn open_spans(
-        &mut self,
-        alloc: Global,
-        counts: &[u32],
-        classes: &[ClassNodes],
-        arcs: &[ArcMoney],
-    ) -> Result<Vec<u32>, NoMemory> {
-        let mut numbers = Vec::with_capacity(alloc, counts.len())?;
-        let mut class = 0u32;
-        let mut opened = 0u32;
-        for count in counts {
-            match arc_of(class, classes, arcs) {
-                Some(arc) if *count > 0 => {
-                    self.open_span(single_run(class, classes), arc, *count as usize)?;
-                    numbers.push(opened)?;
-                    opened = opened.wrapping_add(1);
-                }
-                _ => numbers.push(NONE)?,
-            }
-            class = class.wrapping_add(1);
-        }
-        Ok(numbers)
-    }
-
-    // Opens a span with so many payers. Its end rises as they are placed.
-    fn open_span(&mut self, run: Run, arc: ArcMoney, payers: usize) -> Result<(), NoMemory> {
-        let number = self.spans.len();
-        let first = self.payers.len();
-        let end = first.wrapping_add(payers);
-        self.payers.resize(end, Payer::NOBODY)?;
-        self.edges.resize(end, usize::MAX)?;
-        self.spans.push(LaidSpan {
-            run,
-            truck: arc.truck,
-            capacity: arc.capacity,
-            grain: 1,
-            first,
-            end: first,
-            first_single: number,
-            end_single: number.wrapping_add(1),
-        })?;
-        Ok(())
-    }
-
-    // Gives each edge of a class its place among the payers of its span, by shipment.
-    fn place_edges(&mut self, nets: &mut Nets, numbers: &[u32]) {
-        let mut shipment = 0u32;
-        for net in &nets.list {
-            if let Some(uses) = part_mut(&mut nets.uses, net.first_edge, net.end_edge) {
-                self.place_net(net, shipment, uses, numbers);
-            }
-            shipment = shipment.wrapping_add(1);
-        }
-    }
-
-    // The same for the edges of one net.
-    fn place_net(&mut self, net: &Net, shipment: u32, uses: &mut [EdgeUse], numbers: &[u32]) {
-        let mut number = net.first_edge;
-        for edge in uses.iter_mut() {
-            edge.pool = numbers.get(edge.class as usize).copied().unwrap_or(NONE);
-            edge.part = NO_PART;
-            if let Some(span) = self.spans.get_mut(edge.pool as usize) {
-                edge.part = span.end;
-                span.end = span.end.wrapping_add(1);
-                let payer = Payer {
-                    shipment,
-                    span: edge.pool as usize,
-                    size: net.size,
-                    most: most_of(net.size, span.truck, span.capacity),
-                    first_edge: edge.part,
-                    end_edge: edge.part.wrapping_add(1),
-                };
-                if let (Some(place), Some(at)) = (
-                    self.payers.get_mut(edge.part),
-                    self.edges.get_mut(edge.part),
-                ) {
-                    *place = payer;
-                    *at = number;
-                }
-            }
-            number = number.wrapping_add(1);
-        }
     }
 
     /// Sets the grains of the spans.

@@ -13,18 +13,6 @@ pub struct Payer {
     pub end_edge: usize,
 }
 
-impl Payer {
-    /// A payer's place before it's taken.
-    pub(crate) const NOBODY: Payer = Payer {
-        shipment: 0,
-        span: 0,
-        size: 0,
-        most: 0,
-        first_edge: 0,
-        end_edge: 0,
-    };
-}
-
 /// What the trucks cost that hold a size alone.
 pub(crate) fn most_of(size: u64, truck: u64, capacity: u64) -> u64 {
     truck.saturating_mul(size.div_ceil(capacity.max(1)).max(1))

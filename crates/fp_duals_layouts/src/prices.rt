@@ -96,11 +96,16 @@ impl SpanPrices {
         }
     }
 
-    /// Takes prices of a layout before spans were joined: those that are joined cost nothing and
-    /// have no money. `NoMemory` only where no memory is found.
-    pub fn extend(&mut self, layout: &Layout) -> Result<(), NoMemory> {
-        self.weights.resize(layout.payers.len(), 0)?;
-        self.money.resize(layout.spans.len(), 0)
+    /// The prices, of a layout before spans were joined, for that with them: those that are joined
+    /// cost nothing and have no money. `NoMemory` only where no memory is found.
+    pub fn extend(self, layout: &Layout) -> Result<SpanPrices, NoMemory> {
+        let SpanPrices {
+            mut weights,
+            mut money,
+        } = self;
+        weights.resize(layout.payers.len(), 0)?;
+        money.resize(layout.spans.len(), 0)?;
+        Ok(SpanPrices { weights, money })
     }
 
     /// Cuts the money of joined spans to what trucks cost together, and gives the rest to the spans

@@ -9,13 +9,15 @@ use crate::nets::all_nets::{NetParts, all_nets};
 use crate::nets::shipment_nets::Nets;
 use fp_prices::Leaf;
 use std::alloc::Global;
+use std::marker::Model;
 
 /// The loads where something holds, and none elsewhere.
 pub fn loads_where(holds: bool, loads: &[u128]) -> &[u128] {
     if holds { loads } else { &[] }
 }
 
-/// The nets of the shipments at a leaf, with its classes and what they cost.
+/// The nets of the shipments at a leaf, with its classes and what they cost. Heuristics alone read
+/// them: to contracts they hold nothing, so they're the same after each call, also after `NoMemory`.
 #[derive(Drop)]
 pub struct LeafNets {
     /// The unit of all money.
@@ -28,6 +30,14 @@ pub struct LeafNets {
     pub nets: Nets,
     /// For each class the sizes together of the shipments that are forced to use it.
     pub loads: Vec<u128>,
+}
+
+impl Model for LeafNets {
+    ghost use Rattle.std.specs.Prelude.{⊤};
+
+    ghost Value = { ⊤ };
+
+    ghost view = { λ _. tt };
 }
 
 impl LeafNets {

@@ -4,12 +4,22 @@ use crate::NoMemory;
 use crate::leaf_nets::LeafNets;
 use fp_prices::Leaf;
 use std::alloc::Global;
+use std::marker::Model;
 
 /// The nets of one leaf, which are made when a search first asks for them and then lent to each that
-/// asks again. A search leaves costs, pools and labels in them, and takes none that it didn't put in.
+/// asks again. A search leaves costs, pools and labels in them, and takes none that it didn't put in: so
+/// to contracts they're the same after each call, also after `NoMemory`, made or not.
 #[derive(Drop)]
 pub struct LentNets {
     made: Option<LeafNets>,
+}
+
+impl Model for LentNets {
+    ghost use Rattle.std.specs.Prelude.{⊤};
+
+    ghost Value = { ⊤ };
+
+    ghost view = { λ _. tt };
 }
 
 impl LentNets {

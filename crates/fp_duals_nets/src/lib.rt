@@ -15,14 +15,15 @@ mod nets;
 mod slices;
 mod walks;
 
-pub use classes::class_nodes::{ClassNodes, WAIT, arc_of};
+pub use classes::class_nodes::{ClassNodes, WAIT};
 pub use classes::users::{ClassUsers, class_users};
 pub use leaf_nets::{LeafNets, loads_where};
 pub use lent_nets::LentNets;
 pub use money::arc_money::ArcMoney;
 pub use money::units::MoneyUnit;
+pub use nets::class_pools::{ClassPool, ClassPools, PoolPart};
 pub use nets::least_walks::{Edge, FAR, Label, cost_of, last_edge};
-pub use nets::shipment_nets::{EdgeUse, NO_PART, NONE, Net, Nets};
+pub use nets::shipment_nets::{EdgeUse, Net, Nets};
 pub use slices::{copy_all, part_mut};
 pub use walks::draws::Draws;
 pub use walks::load_costs::{ALL_PARTS, LoadCosts};

@@ -1,10 +1,11 @@
 //! The ascent over the prices of a leaf.
+ghost use Rattle.std.specs.Prelude.{◌≡◌, OnErr};
 
 use crate::NoMemory;
 use crate::efforts::Effort;
 use crate::exact_ascent::settle;
 use crate::pools::Pools;
-use crate::starts::{Start, rule_of};
+use crate::starts::{KindPrices, Start};
 use crate::subgradients::ascend;
 use fp_duals_nets::{
     LeafNets, LoadCosts, SharedWalks, class_users, least_walks, loads_where, timed_walks,
@@ -29,26 +30,23 @@ impl<'a> Ascent<'a> {
         Ascent { leaf, model }
     }
 
-    // The pools of a mode, with the prices of a kind in the mode `start_forced`.
+    // The pools of the mode `forced`, with the prices from which a search starts.
     fn pools(
         &mut self,
         alloc: Global,
-        tables: &[Table],
-        kind: Kind,
-        start_forced: bool,
+        prices: &KindPrices<'_>,
         forced: bool,
     ) -> Result<Pools, NoMemory> {
-        let users = match kind {
+        let users = match prices.kind {
             Kind::Even => class_users(alloc, self.leaf)?,
             _ => Vec::new(alloc),
         };
         let model = &mut *self.model;
-        let free = loads_where(forced, &model.loads);
-        let mut pools = Pools::of(alloc, &mut model.nets, &model.classes, &model.arcs, free)?;
+        let mut pools = Pools::of(alloc, model, forced)?;
         let start = Start {
-            rule: rule_of(kind, tables, &users),
+            rule: prices.rule(&users),
             classes: &model.classes,
-            freed: loads_where(start_forced && !forced, &model.loads),
+            freed: loads_where(prices.forced && !forced, &model.loads),
             unit: model.unit,
         };
         start.put_all(&mut pools, &model.nets.uses);
@@ -63,8 +61,9 @@ impl<'a> Ascent<'a> {
         effort: &Effort,
     ) -> Result<(), NoMemory> {
         let shared = self.chosen_walks(alloc, effort)?;
+        let model = &*self.model;
         for walk in &shared.walks {
-            pools.keep_walk(&self.model.nets, walk);
+            pools.keep_walk(&model.nets, walk);
         }
         Ok(())
     }
@@ -90,27 +89,30 @@ impl<'a> Ascent<'a> {
         forced: bool,
         effort: &Effort,
         lines: u32,
-    ) -> Result<Option<Table>, NoMemory> {
+    ) -> Result<Option<Table>, NoMemory>
+        ensures { OnErr result (self.new.model.now ≡ self.old.model.now) }
+    {
         let base = if forced { self.model.base() } else { 0 };
-        let mut pools = self.pools(alloc, tables, kind, start_forced, forced)?;
+        let prices = KindPrices {
+            tables,
+            kind,
+            forced: start_forced,
+        };
+        let mut pools = self.pools(alloc, &prices, forced)?;
+        let model = &mut *self.model;
         if effort.turns > 0 {
-            ascend(alloc, &mut self.model.nets, &mut pools, base, effort)?;
+            ascend(alloc, &mut model.nets, &mut pools, base, effort)?;
         }
         if effort.settle_passes > 0 {
-            settle(
-                alloc,
-                &mut pools,
-                &mut self.model.nets,
-                effort.settle_passes,
-            )?;
+            settle(alloc, &mut pools, &mut model.nets, effort.settle_passes)?;
         }
         let shared = effort.share_passes > 0;
-        pools.trim(alloc, &mut self.model.nets, shared)?;
+        pools.trim(alloc, &mut model.nets, shared)?;
         if shared {
             self.keep_walks(alloc, &mut pools, effort)?;
         }
-        let unit = self.model.unit;
-        pools.table(alloc, &self.model.classes, unit, lines)
+        let model = &*self.model;
+        pools.table(alloc, &model.classes, model.unit, lines)
     }
 
     /// For each shipment a walk of least cost at the prices of a kind, which may name one of the
@@ -124,9 +126,17 @@ impl<'a> Ascent<'a> {
         kind: Kind,
         forced: bool,
         effort: &Effort,
-    ) -> Result<Vec<TimedWalk>, NoMemory> {
-        let pools = self.pools(alloc, tables, kind, forced, forced)?;
-        pools.set_costs(&mut self.model.nets);
+    ) -> Result<Vec<TimedWalk>, NoMemory>
+        ensures { OnErr result (self.new.model.now ≡ self.old.model.now) }
+    {
+        let prices = KindPrices {
+            tables,
+            kind,
+            forced,
+        };
+        let pools = self.pools(alloc, &prices, forced)?;
+        let model = &mut *self.model;
+        pools.set_costs(&mut model.nets);
         let shared = self.chosen_walks(alloc, effort)?;
         timed_walks(alloc, &LoadCosts::of(self.model), &shared.walks)
     }

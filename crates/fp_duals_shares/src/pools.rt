@@ -1,9 +1,7 @@
 //! The prices of the classes, one pool for each class that is priced.
 
 use crate::NoMemory;
-use fp_duals_nets::{
-    ArcMoney, ClassNodes, Edge, EdgeUse, NO_PART, NONE, Net, Nets, arc_of, part_mut,
-};
+use fp_duals_nets::{ClassPool, ClassPools, Edge, LeafNets, Nets};
 use std::alloc::Global;
 
 /// A whole use of a class by one shipment, in the averaged direction.
@@ -61,119 +59,53 @@ pub(crate) fn parts_of<'a, T>(all: &'a [T], pool: &Pool) -> &'a [T] {
     all.get(pool.first..pool.end).unwrap_or(&[])
 }
 
-/// The payer of a pool's bulk.
-const BULK: Payer = Payer {
-    edge: usize::MAX,
-    shipment: 0,
-    size: 0,
-    flow: 0,
-    trucks: 0,
-};
-
-impl Pools {
-    /// The pools of the classes of some net's edges, but for those with a load in `free`. All parts
-    /// are 0.
-    pub(crate) fn of(
-        alloc: Global,
-        nets: &mut Nets,
-        classes: &[ClassNodes],
-        arcs: &[ArcMoney],
-        free: &[u128],
-    ) -> Result<Pools, NoMemory> {
-        let counts = nets.count_edges(alloc, classes.len())?;
-        let mut pools = Pools {
-            list: Vec::new(alloc),
-            payers: Vec::new(alloc),
-            parts: Vec::new(alloc),
-        };
-        let numbers = pools.open_pools(alloc, &counts, classes, arcs, free)?;
-        pools.place_edges(nets, &numbers);
-        Ok(pools)
-    }
-
-    // Opens a pool for each class with edges that isn't free, with room for its payers. For each
-    // class its pool's number, or `NONE`.
-    fn open_pools(
-        &mut self,
-        alloc: Global,
-        counts: &[u32],
-        classes: &[ClassNodes],
-        arcs: &[ArcMoney],
-        free: &[u128],
-    ) -> Result<Vec<u32>, NoMemory> {
-        let mut numbers = Vec::with_capacity(alloc, counts.len())?;
-        let mut class = 0u32;
-        let mut opened = 0u32;
-        for count in counts {
-            let paid = free.get(class as usize).copied().unwrap_or(0) == 0;
-            match arc_of(class, classes, arcs) {
-                Some(arc) if *count > 0 && paid => {
-                    self.open_pool(class, arc, *count as usize)?;
-                    numbers.push(opened)?;
-                    opened = opened.wrapping_add(1);
-                }
-                _ => numbers.push(NONE)?,
-            }
-            class = class.wrapping_add(1);
-        }
-        Ok(numbers)
-    }
-
-    // Opens the pool of a class with so many payers. Its end rises as they are placed.
-    fn open_pool(&mut self, class: u32, arc: ArcMoney, payers: usize) -> Result<(), NoMemory> {
-        let first = self.payers.len();
-        let end = first.wrapping_add(payers).wrapping_add(1);
-        self.payers.resize(end, BULK)?;
-        self.parts.resize(end, 0)?;
-        self.list.push(Pool {
-            class,
-            truck: arc.truck,
-            capacity: arc.capacity,
-            first,
-            end: first,
+// A pool for each class that has one.
+fn all_pools(alloc: Global, classes: &[ClassPool]) -> Result<Vec<Pool>, NoMemory> {
+    let mut pools = Vec::with_capacity(alloc, classes.len())?;
+    for pool in classes {
+        pools.push(Pool {
+            class: pool.class,
+            truck: pool.arc.truck,
+            capacity: pool.arc.capacity,
+            first: pool.first,
+            end: pool.end,
             moves: false,
             slack: 0,
             kept: false,
         })?;
-        Ok(())
     }
+    Ok(pools)
+}
 
-    // Gives each edge of a class with a pool its place among the pool's payers, by shipment.
-    fn place_edges(&mut self, nets: &mut Nets, numbers: &[u32]) {
-        let mut shipment = 0u32;
-        for net in &nets.list {
-            if let Some(uses) = part_mut(&mut nets.uses, net.first_edge, net.end_edge) {
-                self.place_net(net, shipment, uses, numbers);
-            }
-            shipment = shipment.wrapping_add(1);
-        }
-        for pool in self.list.iter_mut() {
-            pool.end = pool.end.wrapping_add(1);
-        }
+// The payer for each part.
+fn all_payers(alloc: Global, classes: &ClassPools) -> Result<Vec<Payer>, NoMemory> {
+    let mut payers = Vec::with_capacity(alloc, classes.parts.len())?;
+    for part in &classes.parts {
+        let trucks = match classes.list.get(part.pool) {
+            Some(pool) => trucks_of(part.size, pool.arc.capacity),
+            None => 0,
+        };
+        payers.push(Payer {
+            edge: part.edge,
+            shipment: part.shipment,
+            size: part.size,
+            flow: part.flow,
+            trucks,
+        })?;
     }
+    Ok(payers)
+}
 
-    // The same for the edges of one net.
-    fn place_net(&mut self, net: &Net, shipment: u32, uses: &mut [EdgeUse], numbers: &[u32]) {
-        let mut number = net.first_edge;
-        for edge in uses.iter_mut() {
-            edge.pool = numbers.get(edge.class as usize).copied().unwrap_or(NONE);
-            edge.part = NO_PART;
-            if let Some(pool) = self.list.get_mut(edge.pool as usize) {
-                edge.part = pool.end;
-                pool.end = pool.end.wrapping_add(1);
-                let payer = Payer {
-                    edge: number,
-                    shipment,
-                    size: net.size,
-                    flow: edge.flow,
-                    trucks: trucks_of(net.size, pool.capacity),
-                };
-                if let Some(place) = self.payers.get_mut(edge.part) {
-                    *place = payer;
-                }
-            }
-            number = number.wrapping_add(1);
-        }
+impl Pools {
+    /// The pools of the classes of some net's edges, but for those that are forced where `forced`
+    /// leaves them free. All parts are 0.
+    pub(crate) fn of(alloc: Global, model: &mut LeafNets, forced: bool) -> Result<Pools, NoMemory> {
+        let classes = ClassPools::of(alloc, model, forced, 1)?;
+        Ok(Pools {
+            list: all_pools(alloc, &classes.list)?,
+            payers: all_payers(alloc, &classes)?,
+            parts: vec![in alloc; 0u64; classes.parts.len()]?,
+        })
     }
 
     /// Sets the costs of all edges.

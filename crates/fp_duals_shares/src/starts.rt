@@ -29,14 +29,24 @@ pub(crate) struct Start<'a> {
     pub unit: MoneyUnit,
 }
 
-/// How a kind prices classes; `users` are those of the classes where it is `Even`.
-pub(crate) fn rule_of<'a>(kind: Kind, tables: &'a [Table], users: &'a [ClassUsers]) -> Rule<'a> {
-    match kind {
-        Kind::Linear => Rule::BySize,
-        Kind::Even => Rule::InParts { users },
-        Kind::Table { id } => Rule::ByShares {
-            shares: shares_of(tables, id),
-        },
+/// The prices of a kind, which may name one of the tables, where forced classes are paid whole or not.
+#[derive(Clone, Copy)]
+pub(crate) struct KindPrices<'a> {
+    pub tables: &'a [Table],
+    pub kind: Kind,
+    pub forced: bool,
+}
+
+impl<'a> KindPrices<'a> {
+    /// How the kind prices classes; `users` are those of the classes where it is `Even`.
+    pub(crate) fn rule(&self, users: &'a [ClassUsers]) -> Rule<'a> {
+        match self.kind {
+            Kind::Linear => Rule::BySize,
+            Kind::Even => Rule::InParts { users },
+            Kind::Table { id } => Rule::ByShares {
+                shares: shares_of(self.tables, id),
+            },
+        }
     }
 }
 

@@ -1,4 +1,5 @@
 //! Spans and walks that are proposed for a leaf.
+ghost use Rattle.std.specs.Prelude.{◌≡◌, OnErr};
 ghost use Rattle.fp_prices.specs.Tables.{AreTables, HasKind};
 
 use crate::NoMemory;
@@ -42,9 +43,9 @@ fn lay(
     requires tables { AreTables leaf.now.setting.problem start.tables.now }
     requires kind { HasKind start.tables.now start.kind }
 {
-    let mut layout = Layout::of(alloc, &mut model.nets, &model.classes, &model.arcs)?;
-    let runs = joined_runs(alloc, &layout, start.spans)?;
-    layout.join(alloc, &model.nets, &runs)?;
+    let singles = Layout::of(alloc, model)?;
+    let runs = joined_runs(alloc, &singles, start.spans)?;
+    let layout = singles.join(alloc, &model.nets, &runs)?;
     let mut prices = SpanPrices::of(alloc, &layout)?;
     let pricing = leaf.pricing(alloc, start.tables, start.kind, start.forced)?;
     let by_kind = Start {
@@ -69,6 +70,7 @@ pub fn proposed_walks(
 ) -> Result<Vec<TimedWalk>, NoMemory>
     requires tables { AreTables leaf.now.setting.problem start.tables.now }
     requires kind { HasKind start.tables.now start.kind }
+    ensures { OnErr result (model.new ≡ model.old) }
 {
     let Laid { layout, prices } = lay(alloc, leaf, model, start)?;
     prices.set_costs(&layout, &mut model.nets);
@@ -92,9 +94,10 @@ pub fn proposed_spans(
 ) -> Result<Vec<Span>, NoMemory>
     requires tables { AreTables leaf.now.setting.problem start.tables.now }
     requires kind { HasKind start.tables.now start.kind }
+    ensures { OnErr result (model.new ≡ model.old) }
 {
     let Laid { layout, prices } = lay(alloc, leaf, model, start)?;
-    let mut search = Search {
+    let search = Search {
         layout,
         prices,
         effort,

@@ -9,7 +9,7 @@ use crate::efforts::SpanEffort;
 use crate::keeping::kept_spans;
 use crate::proposals::Proposal;
 use crate::separation::separate;
-use fp_duals_layouts::{Layout, SpanPrices};
+use fp_duals_layouts::{Layout, Run, SpanPrices};
 use fp_duals_nets::{LeafNets, Nets};
 use fp_prices_spans::Span;
 use std::alloc::Global;
@@ -52,7 +52,7 @@ fn proposed(
     proposal.spans(alloc)
 }
 
-impl Search<'_> {
+impl<'a> Search<'a> {
     // Spans by prices near those that the ascent came to, which stay.
     fn settled(&self, alloc: Global, model: &mut LeafNets) -> Result<Found, NoMemory> {
         let mut prices = self.prices.copied(alloc)?;
@@ -73,30 +73,46 @@ impl Search<'_> {
         )
     }
 
-    // Joins spans where they may gain. Whether some are.
-    fn join(&mut self, alloc: Global, nets: &Nets, averages: &Averages) -> Result<bool, NoMemory> {
+    // The search with spans that are joined over these runs.
+    fn join(self, alloc: Global, nets: &Nets, runs: &[Run]) -> Result<Search<'a>, NoMemory> {
+        let Search {
+            layout,
+            prices,
+            effort,
+        } = self;
+        let layout = layout.join(alloc, nets, runs)?;
+        let prices = prices.extend(&layout)?;
+        Ok(Search {
+            layout,
+            prices,
+            effort,
+        })
+    }
+
+    // The runs over which joined spans may gain.
+    fn runs(&self, alloc: Global, nets: &Nets, averages: &Averages) -> Result<Vec<Run>, NoMemory> {
         let shipments = nets.list.len();
-        let runs = separate(alloc, &self.layout, &self.prices, averages, shipments)?;
-        self.layout.join(alloc, nets, &runs)?;
-        self.prices.extend(&self.layout)?;
-        Ok(!runs.is_empty())
+        separate(alloc, &self.layout, &self.prices, averages, shipments)
     }
 
     /// The best spans that are found.
     pub(crate) fn best_spans(
-        &mut self,
+        self,
         alloc: Global,
         model: &mut LeafNets,
     ) -> Result<Vec<Span>, NoMemory> {
-        let mut averages = self.ascend(alloc, model)?;
-        let mut best = self.settled(alloc, model)?;
+        let mut search = self;
+        let mut averages = search.ascend(alloc, model)?;
+        let mut best = search.settled(alloc, model)?;
         let mut before = best.value;
-        for _ in 0..self.effort.joins {
-            if !self.join(alloc, &model.nets, &averages)? {
+        for _ in 0..search.effort.joins {
+            let runs = search.runs(alloc, &model.nets, &averages)?;
+            if runs.is_empty() {
                 break;
             }
-            averages = self.ascend(alloc, model)?;
-            let found = self.settled(alloc, model)?;
+            search = search.join(alloc, &model.nets, &runs)?;
+            averages = search.ascend(alloc, model)?;
+            let found = search.settled(alloc, model)?;
             let last = is_little_more(found.value, before);
             before = found.value;
             if found.value > best.value {

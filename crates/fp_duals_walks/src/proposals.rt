@@ -1,5 +1,5 @@
 //! Cheap allowed walks of a leaf, tested.
-ghost use Rattle.std.specs.Prelude.{IfOk, IfSome};
+ghost use Rattle.std.specs.Prelude.{◌≡◌, IfOk, IfSome, OnErr};
 ghost use Rattle.fp_duals_walks.specs.AllowedWalks.{AreAllowedWalks};
 
 use crate::NoMemory;
@@ -46,8 +46,9 @@ fn best_walks(
 /// A start gives walks by the numbers of the shipments. Any lists may be handed in: where a shipment
 /// has no walk there that is an allowed timed walk of it, one is chosen that adds least to the loads
 /// of the shipments before. The nets are those of the leaf. `None` where there's no start, or some shipment has no allowed timed
-/// walk. Equal starts and turns give equal walks. `NoMemory` only where no memory is found. Takes for
-/// each turn a few passes over the edges of at most five nets.
+/// walk. Equal starts and turns give equal walks. `NoMemory` only where no memory is found; then the
+/// nets are as before, as far as contracts see them. Takes for each turn a few passes over the edges
+/// of at most five nets.
 pub fn cheap_walks(
     alloc: Global,
     leaf: &Leaf,
@@ -55,7 +56,8 @@ pub fn cheap_walks(
     starts: &[&[TimedWalk]],
     turns: u32,
 ) -> Result<Option<Vec<TimedWalk>>, NoMemory>
-    ensures { IfOk result (λ found. IfSome found (λ walks. AreAllowedWalks leaf.now walks.items)) }
+    ensures walks { IfOk result (λ found. IfSome found (λ walks. AreAllowedWalks leaf.now walks.items)) }
+    ensures err { OnErr result (nets.new ≡ nets.old) }
 {
     let model = nets.at(alloc, leaf)?;
     match best_walks(alloc, leaf, model, starts, turns)? {

@@ -16,7 +16,7 @@ fn take_given(
     shared: &mut SharedWalks,
     shipment: u32,
     given: &[TimedWalk],
-) -> Result<bool, NoMemory>
+) -> bool
     requires { shipment < length leaf.now.setting.problem.shipments }
 {
     match given.get(shipment as usize) {
@@ -24,10 +24,10 @@ fn take_given(
             if is_allowed_walk(leaf, shipment, walk) {
                 shared.put(costs, shipment as usize, &walk.stops)
             } else {
-                Ok(false)
+                false
             }
         }
-        None => Ok(false),
+        None => false,
     }
 }
 
@@ -43,8 +43,8 @@ pub(crate) fn start(
     let costs = LoadCosts::of(model);
     let mut cost = 0u64;
     for shipment in 0..leaf.round().instance().shipments().len() as u32 {
-        if !take_given(leaf, &costs, &mut shared, shipment, given)? {
-            shared.choose(&costs, shipment as usize, ALL_PARTS)?;
+        if !take_given(leaf, &costs, &mut shared, shipment, given) {
+            shared.choose(&costs, shipment as usize, ALL_PARTS);
         }
         cost = cost.saturating_add(shared.join(&costs, shipment as usize));
     }

@@ -5,6 +5,7 @@ ghost use Rattle.fp_timetable.specs.Lines.{TruckExists};
 ghost use Rattle.fp_fleet.specs.declared.arrivals.Arrival.{Arrival};
 ghost use Rattle.fp_fleet.specs.Arrivals.{AreArrivals, IsHead, moment_rank, ranked_from};
 ghost use Rattle.fp_fleet.specs.Rosters.{arrival_of};
+ghost use Rattle.fp_fleet.specs.Sweeps.{IsTimetable};
 
 use crate::NoMemory;
 use fp_model::Instance;
@@ -60,8 +61,7 @@ pub(crate) fn by_arrival(
     instance: &Instance,
     lines: &[TruckLine],
 ) -> Result<Vec<Arrival>, NoMemory>
-    requires exist { All (TruckExists instance.now) lines.now }
-    requires few { length lines.now < 2 ^ 32 }
+    requires { IsTimetable instance.now lines.now }
     ensures { IfOk result (λ arrivals. AreArrivals instance.now lines.now arrivals.items) }
 {
     let mut arrivals = ranked(alloc, instance, lines)?;

@@ -56,54 +56,38 @@ fn need_moments(alloc: Global, instance: &Instance, needs: &[Need]) -> Result<Ve
     Ok(moments)
 }
 
-// The trucks that leave each terminal up to and with its moment.
-fn trucks_leaving(
+// The trucks that leave each terminal up to and with its moment, and those that arrive there.
+fn flows(
     alloc: Global,
     instance: &Instance,
     lines: &[TruckLine],
     moments: &[u32],
-) -> Result<Vec<u128>, NoMemory>
+) -> Result<(Vec<u128>, Vec<u128>), NoMemory>
     requires exist { All (TruckExists instance.now) lines.now }
     requires fits { truck_total lines.now < 2 ^ 128 }
     requires long { length moments.now ≡ length instance.now.terminals }
-    ensures long { IfOk result (λ counts. length counts.items ≡ length instance.now.terminals) }
-    ensures counts { IfOk result
-        (λ counts. (v : ℕ) → v < length instance.now.terminals → slice_index counts.items v
+    ensures long { IfOk result (λ flows. (length flows.0.items ≡ length instance.now.terminals)
+        × (length flows.1.items ≡ length instance.now.terminals)) }
+    ensures leaving { IfOk result
+        (λ flows. (v : ℕ) → v < length instance.now.terminals → slice_index flows.0.items v
         ≡ leaving instance.now lines.now v (slice_index moments.now v)) }
-{
-    let mut counts = vec![in alloc; 0u128; instance.terminals().len()]?;
-    for line in lines {
-        let tail = instance.arc(line.arc).from as usize;
-        if line.depart <= moments[tail] {
-            counts[tail] += line.trucks;
-        }
-    }
-    Ok(counts)
-}
-
-// The trucks that arrive at each terminal up to and with its moment.
-fn trucks_arriving(
-    alloc: Global,
-    instance: &Instance,
-    lines: &[TruckLine],
-    moments: &[u32],
-) -> Result<Vec<u128>, NoMemory>
-    requires exist { All (TruckExists instance.now) lines.now }
-    requires fits { truck_total lines.now < 2 ^ 128 }
-    requires long { length moments.now ≡ length instance.now.terminals }
-    ensures long { IfOk result (λ counts. length counts.items ≡ length instance.now.terminals) }
-    ensures counts { IfOk result
-        (λ counts. (v : ℕ) → v < length instance.now.terminals → slice_index counts.items v
+    ensures arriving { IfOk result
+        (λ flows. (v : ℕ) → v < length instance.now.terminals → slice_index flows.1.items v
         ≡ arriving instance.now lines.now v (slice_index moments.now v)) }
 {
-    let mut counts = vec![in alloc; 0u128; instance.terminals().len()]?;
+    let mut leaving = vec![in alloc; 0u128; instance.terminals().len()]?;
+    let mut arriving = vec![in alloc; 0u128; instance.terminals().len()]?;
     for line in lines {
-        let head = instance.arc(line.arc).to as usize;
+        let arc = instance.arc(line.arc);
+        let (tail, head) = (arc.from as usize, arc.to as usize);
+        if line.depart <= moments[tail] {
+            leaving[tail] += line.trucks;
+        }
         if arrival_time(instance, line) <= u64::from(moments[head]) {
-            counts[head] += line.trucks;
+            arriving[head] += line.trucks;
         }
     }
-    Ok(counts)
+    Ok((leaving, arriving))
 }
 
 // Whether the trucks of each need are above 0, and those that leave its terminal less those that
@@ -141,7 +125,6 @@ pub(crate) fn are_deficits(
         return Ok(false);
     }
     let moments = need_moments(alloc, instance, needs)?;
-    let leaving = trucks_leaving(alloc, instance, lines, moments.as_slice())?;
-    let arriving = trucks_arriving(alloc, instance, lines, moments.as_slice())?;
+    let (leaving, arriving) = flows(alloc, instance, lines, moments.as_slice())?;
     Ok(are_met(needs, leaving.as_slice(), arriving.as_slice()))
 }

@@ -28,34 +28,7 @@ fn no_needs(alloc: Global, terminals: u32) -> Result<Vec<Need>, NoMemory>
     Ok(table)
 }
 
-// The trucks that begin at each terminal, and the last moment when some do.
-fn need_table(
-    alloc: Global,
-    instance: &Instance,
-    lines: &[TruckLine],
-    begins: &[Begin],
-) -> Result<Vec<Need>, NoMemory>
-    requires timetable { IsTimetable instance.now lines.now }
-    requires begins { All (IsBeginBelow (length lines.now)) begins.now }
-    requires ascend { BeginsAscend begins.now }
-    requires fits { sum_by (λ (b : Begin). b.count) begins.now < 2 ^ 128 }
-    ensures { IfOk result (λ table. IsNeedTable instance.now lines.now begins.now table.items) }
-{
-    let mut table = no_needs(alloc, instance.terminals().len() as u32)?;
-    for begin in begins {
-        let line = &lines[begin.line as usize];
-        let terminal = instance.arc(line.arc).from;
-        let trucks = table[terminal as usize].trucks;
-        table[terminal as usize] = Need {
-            terminal,
-            trucks: trucks + begin.count,
-            at: line.depart,
-        };
-    }
-    Ok(table)
-}
-
-// The needs of those terminals where trucks begin.
+// The needs of those terminals where trucks begin: how many, and the last moment when some do.
 pub(crate) fn needs_of(
     alloc: Global,
     instance: &Instance,
@@ -70,7 +43,17 @@ pub(crate) fn needs_of(
         × IsNeedTable instance.now lines.now begins.now table
         × (needs.items ≡ filter (λ (n : Need). nat_lt 0 n.trucks) table)) }
 {
-    let table = need_table(alloc, instance, lines, begins)?;
+    let mut table = no_needs(alloc, instance.terminals().len() as u32)?;
+    for begin in begins {
+        let line = &lines[begin.line as usize];
+        let terminal = instance.arc(line.arc).from;
+        let trucks = table[terminal as usize].trucks;
+        table[terminal as usize] = Need {
+            terminal,
+            trucks: trucks + begin.count,
+            at: line.depart,
+        };
+    }
     table
         .iter()
         .copied()

@@ -7,7 +7,7 @@ ghost use Rattle.fp_timetable.specs.Lines.{AreTruckLines, TruckExists};
 ghost use Rattle.fp_fleet.specs.declared.fleets.Need.{Need};
 ghost use Rattle.fp_fleet.specs.Fleets.{BeginExists, TurnExists};
 ghost use Rattle.fp_fleet.specs.Rosters.{head_of, line_at, tail_of};
-ghost use Rattle.fp_fleet.specs.Rows.{IsShowable, begin_fields, end_fields, fleet_fields, fleet_rows, from_name, name_of, need_fields, to_name, turn_fields};
+ghost use Rattle.fp_fleet.specs.Rows.{IsShowable, begin_fields, end_fields, fleet_fields, fleet_rows, name_of, need_fields, turn_fields};
 
 use crate::NoMemory;
 use crate::fleets::{Begin, Fleet, Need, Turn};
@@ -27,6 +27,15 @@ fn write_total(line: &mut Line, total: u128) -> Result<(), NoMemory>
     line.end()
 }
 
+// Adds `end`.
+fn write_end(line: &mut Line) -> Result<(), NoMemory>
+    requires begun { line.old.begun ≡ false }
+    ensures text { OnOk result (line.new.text ≡ line.old.text ++ line_of end_fields) }
+{
+    line.word(b"end")?;
+    line.end()
+}
+
 // Adds the name of a terminal.
 fn write_name(line: &mut Line, instance: &Instance, terminal: u32) -> Result<(), NoMemory>
     requires { terminal < length instance.now.terminals }
@@ -35,34 +44,20 @@ fn write_name(line: &mut Line, instance: &Instance, terminal: u32) -> Result<(),
     line.word(instance.terminals()[terminal as usize].bytes())
 }
 
-// Adds the name of the terminal that a line leaves.
-fn write_from(
-    line: &mut Line,
-    instance: &Instance,
-    lines: &[TruckLine],
-    number: u32,
-) -> Result<(), NoMemory>
-    requires exist { All (TruckExists instance.now) lines.now }
-    requires number { number < length lines.now }
-    ensures { OnOk result (line.new ≡ with_field line.old (from_name instance.now lines.now number)) }
+// Adds the name of the terminal that a truck line leaves.
+fn write_from(line: &mut Line, instance: &Instance, run: &TruckLine) -> Result<(), NoMemory>
+    requires { TruckExists instance.now run.now }
+    ensures { OnOk result (line.new ≡ with_field line.old (name_of instance.now (tail_of instance.now run.now))) }
 {
-    let terminal = instance.arc(lines[number as usize].arc).from;
-    write_name(line, instance, terminal)
+    write_name(line, instance, instance.arc(run.arc).from)
 }
 
-// Adds the name of the terminal where a line ends.
-fn write_to(
-    line: &mut Line,
-    instance: &Instance,
-    lines: &[TruckLine],
-    number: u32,
-) -> Result<(), NoMemory>
-    requires exist { All (TruckExists instance.now) lines.now }
-    requires number { number < length lines.now }
-    ensures { OnOk result (line.new ≡ with_field line.old (to_name instance.now lines.now number)) }
+// Adds the name of the terminal where a truck line ends.
+fn write_to(line: &mut Line, instance: &Instance, run: &TruckLine) -> Result<(), NoMemory>
+    requires { TruckExists instance.now run.now }
+    ensures { OnOk result (line.new ≡ with_field line.old (name_of instance.now (head_of instance.now run.now))) }
 {
-    let terminal = instance.arc(lines[number as usize].arc).to;
-    write_name(line, instance, terminal)
+    write_name(line, instance, instance.arc(run.arc).to)
 }
 
 // Adds the line of a need.
@@ -108,9 +103,10 @@ fn write_begin(
     ensures ended { OnOk result (line.new.begun ≡ false) }
 {
     line.word(b"start")?;
-    write_from(line, instance, lines, begin.line)?;
-    write_to(line, instance, lines, begin.line)?;
-    line.number(u128::from(lines[begin.line as usize].depart))?;
+    let run = &lines[begin.line as usize];
+    write_from(line, instance, run)?;
+    write_to(line, instance, run)?;
+    line.number(u128::from(run.depart))?;
     line.number(begin.count)?;
     line.end()
 }
@@ -150,11 +146,12 @@ fn write_turn(
     ensures ended { OnOk result (line.new.begun ≡ false) }
 {
     line.word(b"turn")?;
-    write_from(line, instance, lines, turn.before)?;
-    write_to(line, instance, lines, turn.before)?;
-    line.number(u128::from(lines[turn.before as usize].depart))?;
-    write_to(line, instance, lines, turn.after)?;
-    line.number(u128::from(lines[turn.after as usize].depart))?;
+    let (before, after) = (&lines[turn.before as usize], &lines[turn.after as usize]);
+    write_from(line, instance, before)?;
+    write_to(line, instance, before)?;
+    line.number(u128::from(before.depart))?;
+    write_to(line, instance, after)?;
+    line.number(u128::from(after.depart))?;
     line.number(turn.count)?;
     line.end()
 }
@@ -177,15 +174,6 @@ fn write_turns(
         write_turn(line, instance, lines, turn)?;
     }
     Ok(())
-}
-
-// Adds `end`.
-fn write_end(line: &mut Line) -> Result<(), NoMemory>
-    requires begun { line.old.begun ≡ false }
-    ensures text { OnOk result (line.new.text ≡ line.old.text ++ line_of end_fields) }
-{
-    line.word(b"end")?;
-    line.end()
 }
 
 // The text of a fleet of truck lines.

@@ -1,19 +1,16 @@
 -- In each class, the base and what its users pay are together at most what its trucks cost.
-use Rattle.std.proofs.Common.{◌≡◌, ℕ, ◌+◌, ◌*◌, ◌-◌, ◌<◌, ◌≤◌, Bool, true, false, List, [], ◌∷◌, length, ⊎_elim, sym, ap, ◌∙◌, subst, arith}
+use Rattle.std.proofs.Common.{◌≡◌, ℕ, ◌+◌, ◌*◌, ◌-◌, ◌<◌, ◌≤◌, Bool, true, false, List, [], ◌∷◌, length, ⊎_elim, sym, ap, subst, arith}
 use Rattle.std.specs.Prelude.{sum_by, nat_eq, ◌&&◌, Option, Some, None, MatchOption}
 use Rattle.std.specs.List.{AllByRecursion, AllZip}
-use Rattle.std.specs.Int.{div_ceil}
 use Rattle.std.proofs.Math.Nat.{mul-le-mul_left}
 use Rattle.std.proofs.lemmas.Bool.{cases_Bool, cond-true, cond-false, and_parts, eqb-true}
 use Rattle.fp_base_lists.proofs.Elements.{AllByRecursion-get_or_default}
-use Rattle.fp_model.specs.declared.parts.Arc.{Arc}
 use Rattle.fp_model.specs.declared.parts.Leg.{Leg}
 use Rattle.fp_model.specs.declared.parts.Shipment.{Shipment}
 use Rattle.fp_model.specs.Problem.{Problem, arc_at, truck_cost}
 use Rattle.fp_base_lists.specs.Distinct.{AreDistinct}
 use Rattle.fp_model.specs.Costs.{has_leg, all_legs, load}
-use Rattle.fp_model.proofs.Bounds.{departure_of, load-outside, departure-outside}
-use Rattle.fp_base_lists.proofs.Ceilings.{div_ceil-zero}
+use Rattle.fp_model.proofs.Bounds.{departure_of, departure-outside}
 use Rattle.fp_base_lists.proofs.Sums.{sum_by-same, sum_by-const}
 use Rattle.fp_prices.specs.declared.leaf_prices.Kind.{Kind}
 use Rattle.fp_prices.specs.declared.leaf_prices.Kind.TheVariants.{Linear, Even, Table}

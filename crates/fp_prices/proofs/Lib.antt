@@ -7,6 +7,7 @@ pub mod KnownCosts
 pub mod LeafBounds
 pub mod LeastSoFar
 pub mod ShipmentCosts
+pub mod ShipmentSearches
 pub mod WalksSoFar
 pub mod BasesCost
 pub mod SamePoints

@@ -1,6 +1,6 @@
 -- A list of classes that a shipment can go by one after the other is an allowed timed walk, and each allowed timed walk is one.
-use Rattle.std.proofs.Common.{◌≡◌, ℕ, ◌+◌, ◌-◌, ◌*◌, ◌<◌, ◌≤◌, true, false, Bool, List, [], ◌∷◌, length, ⊎_elim, inl, inr, ap, sym, ◌∙◌, subst, refl, arith}
-use Rattle.std.specs.Prelude.{◌⊎◌, ◌&&◌, ◌↔◌, Option, Some, None, nat_eq, nat_le, nat_lt, if◌then◌else◌}
+use Rattle.std.proofs.Common.{◌≡◌, ℕ, ◌+◌, ◌-◌, ◌*◌, ◌<◌, ◌≤◌, true, false, Bool, List, [], ◌∷◌, length, ⊎_elim, ap, sym, ◌∙◌, subst, refl, arith}
+use Rattle.std.specs.Prelude.{◌&&◌, ◌↔◌, Option, Some, None, nat_eq, nat_le, nat_lt, if◌then◌else◌}
 use Rattle.std.specs.List.{AllByRecursion}
 use Rattle.std.specs.Option.{option_and_then}
 use Rattle.std.proofs.lemmas.Bool.{and_from, and_parts, cases_Bool, cond-true, cond-false, eq-eqb, eqb-true, false≢true, le-leb, leb-true, lt-ltb, ltb-true}

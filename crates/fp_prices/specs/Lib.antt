@@ -13,7 +13,9 @@ pub mod Forced
 pub mod Found
 pub mod Rounds
 pub mod LeastWalks
+pub mod LeafFindings
 pub mod FoundWalks
+pub mod PricedGraphs
 pub mod FlatBounds
 pub mod EarnedLeaves
 pub mod KnownCosts

@@ -1,6 +1,6 @@
 //! The least charge that pays for some items, and a set that needs it.
 
-ghost use Rattle.std.specs.Prelude.{ℕ, ◌<◌, ◌↔◌, IsTrue, IfOk, IfSome, MatchOption, vec_len};
+ghost use Rattle.std.specs.Prelude.{ℕ, ◌≡◌, ◌<◌, ◌↔◌, IsTrue, IfOk, IfSome, MatchOption, OnErr, vec_len};
 ghost use Rattle.fp_prices_knapsack.specs.Charges.{Pays, IsLeastCharge, NoChargePays, IsLeastWithSet};
 ghost use Rattle.fp_prices_knapsack.specs.Loads.{TellsDearest};
 
@@ -9,11 +9,26 @@ use crate::grains::grain;
 use crate::items::{Item, small_weight};
 use crate::loads::{Excess, fill, greatest_excess, trace};
 use std::alloc::Global;
+use std::marker::Model;
 
 /// The memory of a knapsack's tables, kept from call to call. What stands in it means nothing between
-/// calls, also after `NoMemory`.
+/// calls, so to contracts it's the same after each, also after `NoMemory`.
 #[derive(Drop)]
 pub struct Knapsack {
+    tables: Tables,
+}
+
+impl Model for Knapsack {
+    ghost use Rattle.std.specs.Prelude.{⊤};
+
+    ghost Value = { ⊤ };
+
+    ghost view = { λ _. tt };
+}
+
+// The greatest weights by loads, and for each item by which loads it is taken.
+#[derive(Drop)]
+struct Tables {
     best: Vec<u128>,
     taken: Vec<bool>,
 }
@@ -30,10 +45,11 @@ pub struct DearestSet {
 impl Knapsack {
     /// A knapsack without memory.
     pub fn new(alloc: Global) -> Knapsack {
-        Knapsack {
+        let tables = Tables {
             best: Vec::new(alloc),
             taken: Vec::new(alloc),
-        }
+        };
+        Knapsack { tables }
     }
 
     /// Whether the charge pays for the items: all items together weigh less than 2^128, and each set
@@ -48,7 +64,8 @@ impl Knapsack {
         charge: u128,
     ) -> Result<bool, NoMemory>
         requires { 0 < capacity }
-        ensures { IfOk result (λ pays. IsTrue pays ↔ Pays items.now capacity money charge) }
+        ensures pays { IfOk result (λ pays. IsTrue pays ↔ Pays items.now capacity money charge) }
+        ensures err { OnErr result (self.new ≡ self.old) }
     {
         match self.least_charge(items, capacity, money)? {
             None => Ok(false),
@@ -65,11 +82,12 @@ impl Knapsack {
         money: u128,
     ) -> Result<Option<u128>, NoMemory>
         requires { 0 < capacity }
-        ensures { IfOk result (λ charge.
+        ensures least { IfOk result (λ charge.
             MatchOption charge (NoChargePays items.now capacity money)
             (λ least. IsLeastCharge items.now capacity money least)) }
+        ensures err { OnErr result (self.new ≡ self.old) }
     {
-        match self.weigh(items, capacity, money)? {
+        match self.tables.weigh(items, capacity, money)? {
             None => Ok(None),
             Some(excess) => Ok(Some(excess.amount)),
         }
@@ -86,11 +104,12 @@ impl Knapsack {
         money: u128,
     ) -> Result<Option<DearestSet>, NoMemory>
         requires { 0 < capacity }
-        ensures { IfOk result (λ dearest.
+        ensures set { IfOk result (λ dearest.
             MatchOption dearest (NoChargePays items.now capacity money)
             (λ set. IsLeastWithSet items.now capacity money set.charge set.places.items)) }
+        ensures err { OnErr result (self.new ≡ self.old) }
     {
-        let Some(excess) = self.weigh(items, capacity, money)? else {
+        let Some(excess) = self.tables.weigh(items, capacity, money)? else {
             return Ok(None);
         };
         let charge = excess.amount;
@@ -99,11 +118,13 @@ impl Knapsack {
             return Ok(Some(DearestSet { charge, places }));
         }
         let grain = grain(capacity, items);
-        let loads = self.best.len();
-        let places = trace(alloc, &self.taken, loads, items, grain, excess.load)?;
+        let loads = self.tables.best.len();
+        let places = trace(alloc, &self.tables.taken, loads, items, grain, excess.load)?;
         Ok(Some(DearestSet { charge, places }))
     }
+}
 
+impl Tables {
     // The least charge, and where it isn't 0 a load whose best set needs it.
     fn weigh(
         &mut self,

@@ -1,36 +1,24 @@
 //! The grain in which the sizes of items are counted.
 
 ghost use Rattle.std.specs.Prelude.{◌≡◌, ◌/◌, ◌<◌, ◌≤◌, sum};
-ghost use Rattle.std.specs.Int.{IsGcd};
 ghost use Rattle.fp_prices_knapsack.specs.Sets.{sizes_of};
 ghost use Rattle.fp_prices_knapsack.specs.Grains.{common_divisor, grain_of};
 
+use crate::common_divisors::greatest_common_divisor;
 use crate::items::{Item, total_size};
 
 /// The most grains that all items together may have.
 pub const MOST_GRAINS: u128 = 4_096;
 
-// The greatest common divisor of two numbers.
-fn divisor_of(mut first: u64, mut second: u64) -> u64
-    ensures { IsGcd first second result }
-{
-    while second != 0 {
-        let rest = first % second;
-        first = second;
-        second = rest;
-    }
-    first
-}
-
 // The greatest common divisor of a number from 1 and the sizes of the items.
-fn divisor_of_all(number: u64, items: &[Item]) -> u64
+fn divisor_of_all(number: u64, items: &[Item]) -> u128
     requires { 0 < number }
     ensures same { result ≡ common_divisor number (sizes_of items.now) }
     ensures some { 0 < result }
 {
-    let mut divisor = number;
+    let mut divisor = u128::from(number);
     for item in items {
-        divisor = divisor_of(divisor, item.size);
+        divisor = greatest_common_divisor(divisor, u128::from(item.size));
     }
     divisor
 }
@@ -46,7 +34,7 @@ pub fn grain(capacity: u64, items: &[Item]) -> u128
     ensures few { sum (sizes_of items.now) / result ≤ MOST_GRAINS }
 {
     let total = total_size(items);
-    let divisor = u128::from(divisor_of_all(capacity, items));
+    let divisor = divisor_of_all(capacity, items);
     if total / divisor <= MOST_GRAINS {
         divisor
     } else {

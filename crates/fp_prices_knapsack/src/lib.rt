@@ -5,12 +5,14 @@
 #![tactic(auto)]
 
 mod charges;
+mod common_divisors;
 mod grains;
 mod items;
 mod laws;
 mod loads;
 
 pub use charges::{DearestSet, Knapsack};
+pub use common_divisors::greatest_common_divisor;
 pub use grains::{MOST_GRAINS, grain};
 pub use items::Item;
 pub use laws::true_sizes_are_paid;

@@ -7,4 +7,5 @@ pub mod HeldMoney
 pub mod SpanCharges
 pub mod ClassRanges
 pub mod SpanCosts
+pub mod SpanPricings
 pub mod SpanKinds

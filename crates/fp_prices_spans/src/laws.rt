@@ -1,6 +1,9 @@
 //! The theory of leaves under prices by spans, as contracts without a body.
+ghost use Rattle.std.specs.Prelude.{◌≡◌, ◌^◌};
 ghost use Rattle.fp_prices_spans.specs.SpanCharges.{SoundSpansKeepRules};
 ghost use Rattle.fp_prices_spans.specs.SpanLeaves.{SpanLeavesHaveOneValue, SpanValuesBoundPlans, ValuesWithoutSpans};
+
+use crate::spans::MOST_SPAN_WEIGHT;
 
 /// No plan of a leaf costs less than the leaf is worth under prices by spans, whoever finds the
 /// value, and whatever the windows, the points, the sides, the kind of prices, the tables and the
@@ -38,4 +41,9 @@ pub fn values_without_spans()
 /// asks for the true size of the set.
 pub fn sound_spans_keep_rules()
     ensures { SoundSpansKeepRules }
+{}
+
+/// The limit of the weights of all spans together is this number.
+pub fn span_weight_limit_is_a_number()
+    ensures { MOST_SPAN_WEIGHT ≡ 2 ^ 100 }
 {}

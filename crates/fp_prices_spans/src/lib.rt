@@ -16,7 +16,7 @@ mod values;
 
 pub use laws::{
     sound_spans_keep_rules, span_leaves_have_one_value, span_values_bound_plans,
-    values_without_spans,
+    span_weight_limit_is_a_number, values_without_spans,
 };
 pub use rules::charge_rule::check_charges;
 pub use rules::money_rule::check_spans;

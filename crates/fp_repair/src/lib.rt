@@ -11,7 +11,6 @@
 mod candidates;
 mod class_costs;
 mod improvement;
-mod kept_groups;
 mod repairs;
 mod timings;
 

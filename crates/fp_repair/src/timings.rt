@@ -11,7 +11,6 @@ ghost use Rattle.fp_dispatch.specs.Times.{HaveTimes};
 ghost use Rattle.fp_repair.specs.KeptGroups.{IsKeptPlan};
 
 use crate::NoMemory;
-use crate::kept_groups::kept_plan;
 use fp_dispatch::{Dispatch, earliest};
 use fp_flatnet::Windows;
 use fp_model::{Instance, Member, Plan};
@@ -27,7 +26,7 @@ pub(crate) struct Timings {
 }
 
 // The plan with the least times of routes and groups, if they have times.
-pub(crate) fn earliest_plan(
+fn earliest_plan(
     alloc: Global,
     instance: &Instance,
     windows: &Windows,
@@ -45,6 +44,40 @@ pub(crate) fn earliest_plan(
         Dispatch::Times { plan } => Ok(Some(plan)),
         Dispatch::Clash { .. } => Ok(None),
     }
+}
+
+// The plan with the least times with the groups that are kept, where `plan` has those without any.
+//
+// A group of one leg changes nothing, so it's kept without a look.
+fn kept_plan(
+    alloc: Global,
+    instance: &Instance,
+    windows: &Windows,
+    routes: &[Vec<u32>],
+    groups: Vec<Vec<Member>>,
+    mut plan: Plan,
+) -> Result<Plan, NoMemory>
+    requires belongs { BelongsTo instance.now windows.now }
+    requires routes { AllZip (IsRoute instance.now) instance.now.shipments (lists_of routes.now) }
+    requires groups { AreGroupsOf (lists_of routes.now) (lists_of groups.items) }
+    requires plan { IsEarliest instance.now (windows_in windows.now) (lists_of routes.now) [] plan }
+    ensures { IfOk result
+        (IsKeptPlan instance.now (windows_in windows.now) (lists_of routes.now) (lists_of groups.items)) }
+{
+    let mut kept = Vec::new(alloc);
+    for group in groups {
+        if group.len() < 2 {
+            continue;
+        }
+        kept.push(group)?;
+        match earliest_plan(alloc, instance, windows, routes, &kept)? {
+            Some(with_group) => plan = with_group,
+            None => {
+                let _clashing = kept.pop();
+            }
+        }
+    }
+    Ok(plan)
 }
 
 // The least times of routes.

@@ -49,6 +49,15 @@ fn late_of(groups: &[Group], group: usize) -> u32 {
     groups.get(group).map_or(0, |found| found.late)
 }
 
+// The places of a group, the routes that they lie on, and all groups, whose times may change.
+fn parts_of(solution: &mut Solution, group: usize) -> (&[Place], &[Vec<GroupedLeg>], &mut [Group]) {
+    let places = match solution.members.get(group) {
+        Some(places) => places.as_slice(),
+        None => &[],
+    };
+    (places, &solution.routes, &mut solution.groups)
+}
+
 // The least time at which the legs of some places can all leave, by the legs before them.
 fn least_time(solution: &Solution, places: &[Place]) -> u32 {
     let mut least = 0;
@@ -240,15 +249,7 @@ impl TimeChanges {
         group: usize,
         early: u32,
     ) -> Result<(), NoMemory> {
-        let Solution {
-            routes,
-            groups,
-            members,
-            ..
-        } = solution;
-        let Some(places) = members.get(group) else {
-            return Ok(());
-        };
+        let (places, routes, groups) = parts_of(solution, group);
         for place in places {
             if let Some((leg, next)) = with_next(routes, *place)
                 && let Some(found) = groups.get_mut(next.group)
@@ -282,15 +283,7 @@ impl TimeChanges {
         group: usize,
         late: u32,
     ) -> Result<(), NoMemory> {
-        let Solution {
-            routes,
-            groups,
-            members,
-            ..
-        } = solution;
-        let Some(places) = members.get(group) else {
-            return Ok(());
-        };
+        let (places, routes, groups) = parts_of(solution, group);
         for place in places {
             if let Some((last, _)) = with_last(routes, *place)
                 && let Some(found) = groups.get_mut(last.group)

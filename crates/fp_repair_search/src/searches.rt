@@ -12,7 +12,7 @@ use crate::acceptance::is_no_dearer;
 use crate::turns::Turns;
 use fp_flatnet::Windows;
 use fp_model::{Instance, Leg, Plan};
-use fp_repair_groups::{Group, GroupedLeg, Solution, all_usable_arcs, solution_of};
+use fp_repair_groups::{Group, GroupedLeg, Solution, UsableArcs, all_usable_arcs, solution_of};
 use std::alloc::Global;
 
 /// How a local search goes: the seed of its draws, how many turns it makes, and how much dearer
@@ -45,24 +45,22 @@ pub fn local_search(
     ensures within { IfOk result (λ r. PlanLiesWithin (windows_in windows.now) 1 r) }
     ensures cheaper { IfOk result (λ r. cost_of instance.now r ≤ cost_of instance.now start.now) }
 {
-    let found = found_plan(alloc, instance, windows, start, search)?;
+    let usable = all_usable_arcs(alloc, instance, windows)?;
+    let found = found_plan(alloc, instance, usable, start, search)?;
     if is_no_dearer(alloc, instance, windows, &found, start)? {
         return Ok(found);
     }
     start.copy(alloc)
 }
 
-// What the search finds. It need not be a plan.
+// What the search finds over the arcs that each shipment may use. It need not be a plan.
 fn found_plan(
     alloc: Global,
     instance: &Instance,
-    windows: &Windows,
+    usable: Vec<UsableArcs>,
     start: &Plan,
     search: Search,
-) -> Result<Plan, NoMemory>
-    requires { BelongsTo instance.now windows.now }
-{
-    let usable = all_usable_arcs(alloc, instance, windows)?;
+) -> Result<Plan, NoMemory> {
     let solution = solution_of(alloc, instance, &usable, start)?;
     let mut turns = Turns::new(alloc, instance, usable, solution, search.seed)?;
     for turn in 0..search.turns {

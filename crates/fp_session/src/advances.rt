@@ -38,34 +38,6 @@ fn attempt(
     search.apply(alloc, prices, leaf, planned)
 }
 
-// One step at the best open leaf. Without memory all is as before.
-fn advance_at(
-    alloc: Global,
-    search: &mut Search,
-    prices: &mut Prices,
-    leaf: u32,
-) -> Result<Step, NoMemory>
-    requires search { IsSearch search.old prices.old }
-    requires going { search.old.left ≡ None }
-    requires least { IsBestOpen search.old.tree leaf }
-    ensures search { IsSearch search.new prices.new }
-    ensures fixed { StayFixed (in_hand search.old) (in_hand search.new) }
-    ensures step { IfOk result (IsStep (in_hand search.old) (in_hand search.new)) }
-    ensures order { IfOk result (IsInOrder (in_hand search.old) (in_hand search.new)) }
-    ensures hand { OnErr result (in_hand search.new ≡ in_hand search.old) }
-    ensures unit { prices.new.unit ≡ prices.old.unit }
-    ensures prices { OnErr result (prices.new ≡ prices.old) }
-{
-    let count = prices.count();
-    match attempt(alloc, search, prices, leaf) {
-        Ok(step) => Ok(step),
-        Err(error) => {
-            prices.cut(count);
-            Err(error)
-        }
-    }
-}
-
 // One step of a search that hasn't ended. Without memory all is as before.
 fn advance_open(alloc: Global, search: &mut Search, prices: &mut Prices) -> Result<Step, NoMemory>
     requires search { IsSearch search.old prices.old }
@@ -79,7 +51,16 @@ fn advance_open(alloc: Global, search: &mut Search, prices: &mut Prices) -> Resu
     ensures prices { OnErr result (prices.new ≡ prices.old) }
 {
     match search.tree.best_open() {
-        Some(leaf) => advance_at(alloc, search, prices, leaf),
+        Some(leaf) => {
+            let count = prices.count();
+            match attempt(alloc, search, prices, leaf) {
+                Ok(step) => Ok(step),
+                Err(error) => {
+                    prices.cut(count);
+                    Err(error)
+                }
+            }
+        }
         None => {
             search.left = Some(Left::Nothing);
             Ok(Step::Done {

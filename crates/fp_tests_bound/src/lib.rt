@@ -3,15 +3,4 @@
 #![tactic(auto)]
 
 #[cfg(test)]
-mod allowed;
-mod branching;
-#[cfg(test)]
-mod certificate;
-#[cfg(test)]
-mod checker;
-#[cfg(test)]
-mod prices;
-#[cfg(test)]
-mod relaxmodel;
-#[cfg(test)]
-mod spans;
+mod tests;

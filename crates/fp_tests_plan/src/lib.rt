@@ -2,14 +2,4 @@
 #![tactic(auto)]
 
 #[cfg(test)]
-mod dispatch;
-#[cfg(test)]
-mod duals;
-#[cfg(test)]
-mod local;
-#[cfg(test)]
-mod repair;
-#[cfg(test)]
-mod session;
-#[cfg(test)]
-mod shortarcs;
+mod tests;

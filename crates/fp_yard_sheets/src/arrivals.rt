@@ -1,7 +1,7 @@
 //! The arrivals of truck lines, in order.
 ghost use Rattle.std.specs.Prelude.{◌≡◌, ◌<◌, ◌^◌, All, IfOk, length};
 ghost use Rattle.fp_timetable.specs.Lines.{TruckExists};
-ghost use Rattle.fp_yard_sheets.specs.Arrivals.{AreByMoment, arrival_of, arrival_rank, arrivals_from};
+ghost use Rattle.fp_yard_sheets.specs.Arrivals.{AreByMoment, arrival_of, arrival_rank};
 
 use crate::NoMemory;
 use fp_model::Instance;
@@ -23,26 +23,6 @@ fn arrival_time(instance: &Instance, line: &TruckLine) -> u64
     u64::from(line.depart) + u64::from(instance.arc(line.arc).time)
 }
 
-// The arrivals of lines, by line.
-fn arrivals(
-    alloc: Global,
-    instance: &Instance,
-    lines: &[TruckLine],
-) -> Result<Vec<Arrival>, NoMemory>
-    requires exist { All (TruckExists instance.now) lines.now }
-    requires few { length lines.now < 2 ^ 32 }
-    ensures { IfOk result (λ arrivals. arrivals.items ≡ arrivals_from instance.now 0 lines.now) }
-{
-    let mut arrivals = Vec::new(alloc);
-    for (number, line) in lines.iter().enumerate() {
-        arrivals.push(Arrival {
-            at: arrival_time(instance, line),
-            line: number as u32,
-        })?;
-    }
-    Ok(arrivals)
-}
-
 // One number for an arrival, in whose order the moment counts before the line.
 fn rank(arrival: &Arrival) -> u128
     ensures { result ≡ arrival_rank arrival.now }
@@ -60,7 +40,13 @@ pub(crate) fn by_moment(
     requires few { length lines.now < 2 ^ 32 }
     ensures { IfOk result (λ arrivals. AreByMoment instance.now lines.now arrivals.items) }
 {
-    let mut arrivals = arrivals(alloc, instance, lines)?;
+    let mut arrivals = Vec::new(alloc);
+    for (number, line) in lines.iter().enumerate() {
+        arrivals.push(Arrival {
+            at: arrival_time(instance, line),
+            line: number as u32,
+        })?;
+    }
     arrivals.sort_unstable_by_key(|arrival| rank(arrival));
     Ok(arrivals)
 }

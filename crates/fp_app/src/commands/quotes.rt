@@ -1,6 +1,5 @@
 //! What `quote` shows.
 ghost use Rattle.std.specs.Prelude.{◌≡◌, ◌≤◌, length, IfOk};
-ghost use Rattle.fp_flatnet.specs.Verdicts.{AllInTime};
 ghost use Rattle.fp_session_history.specs.Budgets.{IsBudget};
 ghost use Rattle.fp_model.specs.Plans.{PlanExists};
 ghost use Rattle.fp_app.specs.declared.limits.TheConstants.{INSTANCE_LIMIT};
@@ -53,36 +52,21 @@ fn quote_last(
     ensures printable { IfOk result IsPrintable }
 {
     match feasible(alloc, &instance)? {
-        Verdict::All => solve_twice(alloc, instance, budget, spans),
+        Verdict::All => {
+            let before = solve_without_last(alloc, &instance, budget, spans)?;
+            let after = solve(alloc, &instance, budget, spans)?;
+            Ok(Shown::Quoted {
+                instance,
+                before,
+                after,
+            })
+        }
         Verdict::Blocked { shipment, distance } => Ok(Shown::Infeasible {
             instance,
             shipment,
             time: distance,
         }),
     }
-}
-
-// What searches show without the last shipment and with it.
-fn solve_twice(
-    alloc: Global,
-    instance: Instance,
-    budget: Budget,
-    spans: bool,
-) -> Result<Shown, NoMemory>
-    requires shipment { 1 ≤ length instance.shipments }
-    requires time { AllInTime instance }
-    requires exists { PlanExists instance }
-    requires budget { IsBudget budget }
-    ensures shown { IfOk result (ShowsQuote budget spans instance) }
-    ensures printable { IfOk result IsPrintable }
-{
-    let before = solve_without_last(alloc, &instance, budget, spans)?;
-    let after = solve(alloc, &instance, budget, spans)?;
-    Ok(Shown::Quoted {
-        instance,
-        before,
-        after,
-    })
 }
 
 // What a search shows without the last shipment.

@@ -69,9 +69,9 @@ fn drawn_log(
     requires seed { seed ≤ 2147483647 }
     ensures { IfOk result (λ log. IsDrawnLog instance.now plan.now seed log.items) }
 {
-    let mut yard = Yard::new(alloc, instance, plan)?;
-    drive(alloc, &mut yard, seed)?;
-    let _count = yard.lines();
-    let log = yard.history().to_vec(alloc)?;
+    let yard = Yard::new(alloc, instance, plan)?;
+    let run = drive(alloc, yard, seed)?;
+    let _count = run.lines();
+    let log = run.history().to_vec(alloc)?;
     Ok(log)
 }

@@ -6,22 +6,16 @@ ghost use Rattle.fp_certificate.specs.Tables.{share_faults, share_in, with_share
 
 use crate::drafts::Draft;
 use crate::lines::faults::LineFault;
-use crate::lines::fields::{figure_at, have_numbers, time_at};
+use crate::lines::fields::{departure_at, figure_at, have_numbers};
 use crate::lines::groups::Group;
 use crate::open_spans::has_span;
 use fp_prices::Share;
 use fp_records::Record;
 use fp_records_fields::fields::has_fields;
 use fp_records_fields::{Lookup, RecordError};
-use std::alloc::Global;
 
 // The share of a line, which has no weights yet, or the first of the line's faults.
-fn share_of(
-    alloc: Global,
-    lookup: &Lookup<'_>,
-    draft: &Draft,
-    line: &Record,
-) -> Result<Share, LineFault>
+fn share_of(lookup: &Lookup<'_>, draft: &Draft, line: &Record) -> Result<Share, LineFault>
     ensures faults { MatchResult result
         (λ share. (first_code (share_faults lookup.now draft.now line.now) ≡ None) × (share ≡ share_in lookup.now line.now))
         (λ fault. first_code (share_faults lookup.now draft.now line.now) ≡ Some (code_of fault)) }
@@ -39,12 +33,7 @@ fn share_of(
     {
         return Err(LineFault::Order);
     }
-    let Some(arc) = lookup.arc_at(line, 1, 2) else {
-        return Err(LineFault::Name);
-    };
-    let Some(point) = time_at(line, 3) else {
-        return Err(LineFault::Range);
-    };
+    let (arc, point) = departure_at(lookup, line)?;
     let Some(v) = figure_at(line, 4) else {
         return Err(LineFault::Range);
     };
@@ -52,13 +41,12 @@ fn share_of(
         arc,
         point,
         v,
-        weights: Vec::new(alloc),
+        weights: Vec::new(draft.allocator()),
     })
 }
 
 /// Adds the share of a line to the last table, or tells the first of the line's faults.
 pub fn read_share(
-    alloc: Global,
     lookup: &Lookup<'_>,
     draft: &mut Draft,
     line: &Record,
@@ -68,7 +56,7 @@ pub fn read_share(
         × (draft.new ≡ with_share draft.old (share_in lookup.now line.now)))
         (λ e. IsFirstFault code_of e (first_code (share_faults lookup.now draft.old line.now))) }
 {
-    let share = share_of(alloc, lookup, draft, line)?;
+    let share = share_of(lookup, draft, line)?;
     draft.add_share(share)?;
     Ok(())
 }

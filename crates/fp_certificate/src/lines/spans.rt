@@ -8,7 +8,7 @@ ghost use Rattle.fp_certificate.specs.Tables.{has_end_in_range, span_faults, spa
 
 use crate::drafts::Draft;
 use crate::lines::faults::LineFault;
-use crate::lines::fields::{figure_at, have_numbers, time_at};
+use crate::lines::fields::{departure_at, figure_at, have_numbers};
 use crate::lines::groups::Group;
 use fp_model::limits::LATEST;
 use fp_prices_spans::Span;
@@ -16,7 +16,6 @@ use fp_records::Record;
 use fp_records_fields::digits::short_between;
 use fp_records_fields::fields::{field_at, has_fields};
 use fp_records_fields::{Lookup, RecordError};
-use std::alloc::Global;
 
 // The end of a span whose point is in range; `None` exactly where it isn't after the point, or is
 // above 100,001.
@@ -30,12 +29,7 @@ fn end_of(line: &Record, point: u32) -> Option<u32>
 }
 
 // The span of a line, which has no weights yet, or the first of the line's faults.
-fn span_of(
-    alloc: Global,
-    lookup: &Lookup<'_>,
-    draft: &Draft,
-    line: &Record,
-) -> Result<Span, LineFault>
+fn span_of(lookup: &Lookup<'_>, draft: &Draft, line: &Record) -> Result<Span, LineFault>
     ensures faults { MatchResult result
         (λ span. (first_code (span_faults lookup.now draft.now line.now) ≡ None) × (span ≡ span_in lookup.now line.now))
         (λ fault. first_code (span_faults lookup.now draft.now line.now) ≡ Some (code_of fault)) }
@@ -50,12 +44,7 @@ fn span_of(
     if draft.is_misplaced(Group::Tables) || draft.certificate.spans.is_empty() {
         return Err(LineFault::Order);
     }
-    let Some(arc) = lookup.arc_at(line, 1, 2) else {
-        return Err(LineFault::Name);
-    };
-    let Some(point) = time_at(line, 3) else {
-        return Err(LineFault::Range);
-    };
+    let (arc, point) = departure_at(lookup, line)?;
     let Some(until) = end_of(line, point) else {
         return Err(LineFault::Range);
     };
@@ -71,13 +60,12 @@ fn span_of(
         until,
         money,
         charge,
-        weights: Vec::new(alloc),
+        weights: Vec::new(draft.allocator()),
     })
 }
 
 /// Adds the span of a line to those of the last table, or tells the first of the line's faults.
 pub fn read_span(
-    alloc: Global,
     lookup: &Lookup<'_>,
     draft: &mut Draft,
     line: &Record,
@@ -87,7 +75,7 @@ pub fn read_span(
         × (draft.new ≡ with_span draft.old (span_in lookup.now line.now)))
         (λ e. IsFirstFault code_of e (first_code (span_faults lookup.now draft.old line.now))) }
 {
-    let span = span_of(alloc, lookup, draft, line)?;
+    let span = span_of(lookup, draft, line)?;
     draft.add_span(span)?;
     Ok(())
 }

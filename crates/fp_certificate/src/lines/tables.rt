@@ -12,7 +12,6 @@ use fp_records::Record;
 use fp_records_fields::RecordError;
 use fp_records_fields::digits::number_between;
 use fp_records_fields::fields::{field_at, has_fields, has_number};
-use std::alloc::Global;
 
 // Whether the number of a table's line is the next.
 fn is_next(draft: &Draft, line: &Record) -> bool
@@ -42,16 +41,12 @@ fn test_table(draft: &Draft, line: &Record) -> Result<(), LineFault>
 }
 
 /// Adds a table with neither shares nor spans, or tells the first of the line's faults.
-pub fn read_table(
-    alloc: Global,
-    draft: &mut Draft,
-    line: &Record,
-) -> Result<(), RecordError<LineFault>>
+pub fn read_table(draft: &mut Draft, line: &Record) -> Result<(), RecordError<LineFault>>
     ensures { MatchResult result
         (λ _. (first_code (table_faults draft.old line.now) ≡ None) × (draft.new ≡ with_table draft.old))
         (λ e. IsFirstFault code_of e (first_code (table_faults draft.old line.now))) }
 {
     test_table(draft, line)?;
-    draft.add_table(alloc)?;
+    draft.add_table()?;
     Ok(())
 }

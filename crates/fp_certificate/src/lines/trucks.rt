@@ -6,7 +6,7 @@ ghost use Rattle.fp_certificate.specs.Timetables.{truck_faults, truck_in, with_t
 
 use crate::drafts::Draft;
 use crate::lines::faults::LineFault;
-use crate::lines::fields::{figure_at, have_numbers, time_at};
+use crate::lines::fields::{departure_at, figure_at, have_numbers};
 use crate::lines::groups::Group;
 use fp_records::Record;
 use fp_records_fields::fields::{has_fields, has_number};
@@ -28,12 +28,7 @@ fn truck_of(lookup: &Lookup<'_>, draft: &Draft, line: &Record) -> Result<TruckLi
     if draft.is_misplaced(Group::Trucks) {
         return Err(LineFault::Order);
     }
-    let Some(arc) = lookup.arc_at(line, 1, 2) else {
-        return Err(LineFault::Name);
-    };
-    let Some(depart) = time_at(line, 3) else {
-        return Err(LineFault::Range);
-    };
+    let (arc, depart) = departure_at(lookup, line)?;
     let Some(trucks) = figure_at(line, 4) else {
         return Err(LineFault::Range);
     };

@@ -1,5 +1,5 @@
 //! Lines of answers.
-ghost use Rattle.std.specs.Prelude.{◌≡◌, ◌<◌, ◌++◌, ◌∷◌, [], codes, decimal, false, length, OnOk};
+ghost use Rattle.std.specs.Prelude.{◌≡◌, ◌<◌, ◌++◌, ◌∷◌, [], codes, decimal, false, length, IfOk, OnOk};
 ghost use Rattle.fp_records.specs.Text.{line_of, with_field};
 ghost use Rattle.fp_certificate_lines.specs.Ranges.{AnswerExists};
 ghost use Rattle.fp_certificate_lines.specs.Rows.{answer_fields, infeasible_fields, shipment_name, spent_text, time_text, unfinished_fields};
@@ -75,8 +75,8 @@ fn write_infeasible(
     line.end()
 }
 
-/// Adds the line of an answer.
-pub fn write_answer(line: &mut Line, instance: &Instance, answer: Answer) -> Result<(), NoMemory>
+// Adds the line of an answer.
+fn add_answer(line: &mut Line, instance: &Instance, answer: Answer) -> Result<(), NoMemory>
     requires begun { line.old.begun ≡ false }
     requires exists { AnswerExists instance.now answer }
     ensures text { OnOk result (line.new.text ≡ line.old.text ++ line_of (answer_fields instance.now answer)) }
@@ -88,4 +88,17 @@ pub fn write_answer(line: &mut Line, instance: &Instance, answer: Answer) -> Res
         Answer::Unfinished { cost, bound, spent } => write_unfinished(line, cost, bound, spent),
         Answer::Infeasible { shipment, time } => write_infeasible(line, instance, shipment, time),
     }
+}
+
+/// The lines with that of an answer after them. The last line has to be ended, and the shipment that
+/// an answer names has to be the instance's. `NoMemory` only where no memory is found.
+pub fn write_answer(lines: Line, instance: &Instance, answer: Answer) -> Result<Line, NoMemory>
+    requires begun { lines.begun ≡ false }
+    requires exists { AnswerExists instance.now answer }
+    ensures text { IfOk result (λ line. line.text ≡ lines.text ++ line_of (answer_fields instance.now answer)) }
+    ensures ended { IfOk result (λ line. line.begun ≡ false) }
+{
+    let mut line = lines;
+    add_answer(&mut line, instance, answer)?;
+    Ok(line)
 }

@@ -1,22 +1,19 @@
 //! The plan that the leg lines of a certificate tell.
-ghost use Rattle.std.specs.Prelude.{ℕ, ◌≡◌, ◌+◌, ◌<◌, ◌≤◌, ◌↔◌, All, AllPairs, IfOk, IsSomeAnd, IsTrue, OnOk, [], length, replicate};
+ghost use Rattle.std.specs.Prelude.{ℕ, ◌≡◌, ◌+◌, ◌<◌, ◌↔◌, All, AllPairs, IfOk, IsTrue, OnOk, [], length, replicate};
 ghost use Rattle.fp_base_lists.specs.Vectors.{lists_of};
 ghost use Rattle.fp_model.specs.Numbered.{route_at};
 ghost use Rattle.fp_model.specs.Problem.{arc_at};
-ghost use Rattle.fp_flatnet.specs.Belonging.{BelongsTo};
 ghost use Rattle.fp_flatnet.specs.Tables.{windows_in};
-ghost use Rattle.fp_flatnet.specs.Windows.{IsInside};
 ghost use Rattle.fp_timetable.specs.declared.lines.LegLine.{LegLine};
 ghost use Rattle.fp_timetable.specs.Lines.{LegExists, route_of, routes_from};
 ghost use Rattle.fp_base_lists.specs.Order.{Precedes};
-ghost use Rattle.fp_certificate_lines.specs.Ranges.{IsInRange};
 ghost use Rattle.fp_certificate_rules.specs.Plans.{HasPlan, routes_of};
 ghost use Rattle.fp_checker.specs.Lines.{LeavesInside};
 
 use crate::NoMemory;
+use crate::cases::Case;
 use crate::rejections::{PLAN, Rejected};
 use crate::rules::orders::stands_before;
-use fp_certificate_lines::Certificate;
 use fp_flatnet::Windows;
 use fp_model::{Instance, Leg, Plan, test_plan};
 use fp_timetable::LegLine;
@@ -119,21 +116,21 @@ fn legs_by_shipment(alloc: Global, instance: &Instance, legs: &[LegLine]) -> Res
 }
 
 // The plan that the leg lines tell.
-pub(crate) fn told_plan(
-    alloc: Global,
-    instance: &Instance,
-    windows: &Windows,
-    certificate: &Certificate,
-) -> Result<Plan, Rejected>
-    requires belongs { BelongsTo instance.now windows.now }
-    requires range { IsInRange instance.now certificate.now }
-    ensures plan { IfOk result (λ plan. plan ≡ routes_of instance.now certificate.now) }
-    ensures holds { OnOk result (HasPlan instance.now (windows_in windows.now) certificate.now) }
+pub(crate) fn told_plan(alloc: Global, case: &Case<'_>) -> Result<Plan, Rejected>
+    ensures plan { IfOk result (λ plan. plan ≡ routes_of case.now.problem case.now.told) }
+    ensures holds { OnOk result
+        (HasPlan case.now.problem (windows_in case.now.windows) case.now.told) }
     ensures part { (number : ℕ) → result ≡ Err (Rejected.Part number) →
-        (number ≡ PLAN) × (HasPlan instance.now (windows_in windows.now) certificate.now → ⊥) }
+        (number ≡ PLAN)
+        × (HasPlan case.now.problem (windows_in case.now.windows) case.now.told → ⊥) }
 {
+    let instance = case.instance;
+    let certificate = case.certificate;
     let legs = certificate.legs.as_slice();
-    if !legs_ascend(legs) || !arrive_in_time(instance, legs) || !all_leave_inside(windows, legs) {
+    if !legs_ascend(legs)
+        || !arrive_in_time(instance, legs)
+        || !all_leave_inside(case.windows, legs)
+    {
         return Err(Rejected::Part { number: PLAN });
     }
     let plan = legs_by_shipment(alloc, instance, legs)?;

@@ -64,7 +64,7 @@ impl Nets {
     }
 
     /// How many edges of all nets stand for each of so many classes.
-    pub fn count_edges(&self, alloc: Global, classes: usize) -> Result<Vec<u32>, NoMemory> {
+    pub(crate) fn count_edges(&self, alloc: Global, classes: usize) -> Result<Vec<u32>, NoMemory> {
         let mut counts = vec![in alloc; 0u32; classes]?;
         for edge in &self.uses {
             if let Some(count) = counts.get_mut(edge.class as usize) {

@@ -86,15 +86,19 @@ impl<'a> LoadCosts<'a> {
         trucks.saturating_add(edge.flow).min(DEAREST)
     }
 
+    // What the edge with a number stands for, and what its arc costs; `None` where it's for waiting.
+    fn use_of(&self, number: usize) -> Option<(EdgeUse, ArcMoney)> {
+        let edge = *self.nets.uses.get(number)?;
+        let arc = arc_of(edge.class, self.classes, self.arcs)?;
+        Some((edge, arc))
+    }
+
     /// Adds a size to the load of an edge's class. What it adds to the cost.
     pub(crate) fn load(&self, loads: &mut [u64], number: usize, size: u64) -> u64 {
-        let Some(edge) = self.nets.uses.get(number) else {
+        let Some((edge, arc)) = self.use_of(number) else {
             return 0;
         };
-        let (Some(load), Some(arc)) = (
-            loads.get_mut(edge.class as usize),
-            arc_of(edge.class, self.classes, self.arcs),
-        ) else {
+        let Some(load) = loads.get_mut(edge.class as usize) else {
             return 0;
         };
         let added = more_trucks(arc, *load, size);
@@ -104,13 +108,10 @@ impl<'a> LoadCosts<'a> {
 
     /// Takes a size from the load of an edge's class. What it saves.
     pub(crate) fn unload(&self, loads: &mut [u64], number: usize, size: u64) -> u64 {
-        let Some(edge) = self.nets.uses.get(number) else {
+        let Some((edge, arc)) = self.use_of(number) else {
             return 0;
         };
-        let (Some(load), Some(arc)) = (
-            loads.get_mut(edge.class as usize),
-            arc_of(edge.class, self.classes, self.arcs),
-        ) else {
+        let Some(load) = loads.get_mut(edge.class as usize) else {
             return 0;
         };
         *load = load.saturating_sub(size);

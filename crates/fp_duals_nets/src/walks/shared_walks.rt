@@ -56,12 +56,15 @@ impl SharedWalks {
         Ok(())
     }
 
-    // Adds a shipment that may go by the edges from a place on, without a walk.
-    fn push_shipment(&mut self, alloc: Global, first: usize) -> Result<(), NoMemory> {
+    // Adds the shipment of a net, which may go by the edges from a place on, without a walk. Its lists
+    // have room for walks that come to no node twice.
+    fn push_shipment(&mut self, alloc: Global, net: &Net, first: usize) -> Result<(), NoMemory> {
         let end = self.edges.len();
+        let nodes = net.end_node.saturating_sub(net.first_node);
+        let room = nodes.min(self.labels.len());
         self.ways.push(Ways { first, end })?;
-        self.walks.push(Vec::new(alloc))?;
-        self.former.push(Vec::new(alloc))?;
+        self.walks.push(Vec::with_capacity(alloc, room)?)?;
+        self.former.push(Vec::with_capacity(alloc, room)?)?;
         Ok(())
     }
 
@@ -96,7 +99,7 @@ impl SharedWalks {
         for net in &model.nets.list {
             let first = shared.edges.len();
             shared.push_all(&model.nets, net)?;
-            shared.push_shipment(alloc, first)?;
+            shared.push_shipment(alloc, net, first)?;
         }
         Ok(shared)
     }
@@ -111,7 +114,7 @@ impl SharedWalks {
                 model.nets.label_net(&net);
                 let first = shared.edges.len();
                 shared.push_least(&model.nets, &net)?;
-                shared.push_shipment(alloc, first)?;
+                shared.push_shipment(alloc, &net, first)?;
             }
         }
         Ok(shared)
@@ -162,19 +165,15 @@ impl SharedWalks {
         saved
     }
 
-    /// Lets shipments that were taken out choose one after the other. What they add.
-    pub fn choose_all(
-        &mut self,
-        costs: &LoadCosts,
-        shipments: &[usize],
-        parts: u64,
-    ) -> Result<u64, NoMemory> {
+    /// Lets shipments that were taken out choose one after the other. What they add. It takes no
+    /// memory.
+    pub fn choose_all(&mut self, costs: &LoadCosts, shipments: &[usize], parts: u64) -> u64 {
         let mut added = 0u64;
         for shipment in shipments {
-            self.choose(costs, *shipment, parts)?;
+            self.choose(costs, *shipment, parts);
             added = added.saturating_add(self.join(costs, *shipment));
         }
-        Ok(added)
+        added
     }
 
     /// Gives shipments the walks back that they gave up.
@@ -185,38 +184,32 @@ impl SharedWalks {
         }
     }
 
-    /// Gives a shipment the walk over these classes, where each of them is in its net. Whether that
-    /// is so; otherwise it has no walk.
-    pub fn put(
-        &mut self,
-        costs: &LoadCosts,
-        shipment: usize,
-        stops: &[Stop],
-    ) -> Result<bool, NoMemory> {
+    /// Gives a shipment the walk over these classes, where each of them is in its net, and they are
+    /// no more than its nodes. Whether that is so; otherwise it has no walk. It takes no memory.
+    pub fn put(&mut self, costs: &LoadCosts, shipment: usize, stops: &[Stop]) -> bool {
         let (Some(net), Some(walk)) = (costs.net(shipment), self.walks.get_mut(shipment)) else {
-            return Ok(false);
+            return false;
         };
         walk.clear();
         for stop in stops.iter().rev() {
             let Some(number) = costs.edge_at(&net, *stop) else {
                 walk.clear();
-                return Ok(false);
+                return false;
             };
-            walk.push(number)?;
+            if walk.len() >= walk.capacity() {
+                walk.clear();
+                return false;
+            }
+            walk.push_reserved(number);
         }
-        Ok(true)
+        true
     }
 
     /// Chooses for a shipment, of the walks over its edges, one of least cost at the loads, as
-    /// `LoadCosts` guides it by so many parts.
-    pub fn choose(
-        &mut self,
-        costs: &LoadCosts,
-        shipment: usize,
-        parts: u64,
-    ) -> Result<(), NoMemory> {
+    /// `LoadCosts` guides it by so many parts. It takes no memory.
+    pub fn choose(&mut self, costs: &LoadCosts, shipment: usize, parts: u64) {
         let (Some(net), Some(ways)) = (costs.net(shipment), self.ways.get(shipment).copied()) else {
-            return Ok(());
+            return;
         };
         let names = self.names.get(ways.first..ways.end).unwrap_or(&[]);
         let count = net.end_node.saturating_sub(net.first_node);
@@ -225,7 +218,7 @@ impl SharedWalks {
             part_mut(&mut self.labels, 0, count),
             self.walks.get_mut(shipment),
         ) else {
-            return Ok(());
+            return;
         };
         for (edge, name) in edges.iter_mut().zip(names.iter()) {
             if let Some(edge_use) = costs.nets.uses.get(*name) {
@@ -233,11 +226,12 @@ impl SharedWalks {
             }
         }
         label_nodes(edges, labels, net.start);
-        trace(costs, edges, names, labels, net.goal, walk)
+        trace(costs, edges, names, labels, net.goal, walk);
     }
 }
 
 // Puts in the walk to a node, by the names of its edges, the last first, without those for waiting.
+// The list has room for all of them, as a least walk comes to no node twice.
 fn trace(
     costs: &LoadCosts,
     edges: &[Edge],
@@ -245,7 +239,7 @@ fn trace(
     labels: &[Label],
     goal: u32,
     walk: &mut Vec<usize>,
-) -> Result<(), NoMemory> {
+) {
     walk.clear();
     let mut node = goal;
     for _ in 0..edges.len() {
@@ -255,12 +249,12 @@ fn trace(
         if let Some(name) = names.get(number)
             && let Some(edge) = costs.nets.uses.get(*name)
             && edge.class != WAIT
+            && walk.len() < walk.capacity()
         {
-            walk.push(*name)?;
+            walk.push_reserved(*name);
         }
         node = tail;
     }
-    Ok(())
 }
 
 // The classes of a walk whose edges have these numbers, the last first.

@@ -1,6 +1,8 @@
 //! Least walks that share trucks: shipments choose one after the other, and then a few at a time
 //! choose anew.
 
+ghost use Rattle.std.specs.Prelude.{◌≡◌, OnErr};
+
 use crate::NoMemory;
 use crate::leaf_nets::LeafNets;
 use crate::nets::shipment_nets::Nets;
@@ -38,31 +40,21 @@ fn draw_some(draws: &mut Draws, shipments: usize, drawn: &mut Vec<usize>) -> Res
 }
 
 // Lets shipments choose one after the other.
-fn choose_each(
-    shared: &mut SharedWalks,
-    costs: &LoadCosts,
-    shipments: &[usize],
-) -> Result<(), NoMemory> {
+fn choose_each(shared: &mut SharedWalks, costs: &LoadCosts, shipments: &[usize]) {
     for shipment in shipments {
         shared.leave(costs, *shipment);
-        shared.choose(costs, *shipment, ALL_PARTS)?;
+        shared.choose(costs, *shipment, ALL_PARTS);
         shared.join(costs, *shipment);
     }
-    Ok(())
 }
 
 // Lets a few shipments choose anew together, and goes back where that makes the walks dearer.
-fn exchange(
-    shared: &mut SharedWalks,
-    costs: &LoadCosts,
-    shipments: &[usize],
-) -> Result<(), NoMemory> {
+fn exchange(shared: &mut SharedWalks, costs: &LoadCosts, shipments: &[usize]) {
     let saved = shared.leave_all(costs, shipments);
-    let added = shared.choose_all(costs, shipments, ALL_PARTS)?;
+    let added = shared.choose_all(costs, shipments, ALL_PARTS);
     if added > saved {
         shared.go_back(costs, shipments);
     }
-    Ok(())
 }
 
 /// A least walk of each shipment at the costs that are set, chosen so that the walks share trucks: in
@@ -73,18 +65,20 @@ pub fn least_walks(
     model: &mut LeafNets,
     passes: u32,
     exchanges: u32,
-) -> Result<SharedWalks, NoMemory> {
+) -> Result<SharedWalks, NoMemory>
+    ensures { OnErr result (model.new ≡ model.old) }
+{
     let mut shared = SharedWalks::over_least(alloc, model)?;
     let costs = LoadCosts::of(model);
     let order = by_size(alloc, costs.nets)?;
     for _ in 0..passes.max(1) {
-        choose_each(&mut shared, &costs, &order)?;
+        choose_each(&mut shared, &costs, &order);
     }
     let mut draws = Draws::new();
     let mut drawn = Vec::new(alloc);
     for _ in 0..exchanges {
         draw_some(&mut draws, order.len(), &mut drawn)?;
-        exchange(&mut shared, &costs, &drawn)?;
+        exchange(&mut shared, &costs, &drawn);
     }
     Ok(shared)
 }

@@ -51,30 +51,6 @@ fn add_chain(forced: &mut ForcedClasses, classes: &[u32], size: u64)
     }
 }
 
-// The forced chains of all shipments, whose rows these are.
-fn all_chains(
-    alloc: Global,
-    instance: &Instance,
-    allowed: &Allowed,
-    classes: u32,
-    rows: &[Row],
-) -> Result<ForcedClasses, NoMemory>
-    requires same { instance.now ≡ allowed.now.problem }
-    requires whole { IsWholeNetwork allowed.now.problem allowed.now.network }
-    requires classes { classes ≡ class_count allowed.now.network }
-    requires rows { length rows.now ≡ length instance.now.shipments }
-    requires under { (sides : List Side) × AreRowsUnder allowed.now sides rows.now }
-    ensures { IfOk result (AreForcedOf allowed.now rows.now true) }
-{
-    let mut forced = no_chains(alloc, classes)?;
-    for shipment in 0..instance.shipments().len() as u32 {
-        let chain = allowed.forced(alloc, shipment, &rows[shipment as usize])?;
-        let size = instance.shipment(shipment).size;
-        add_chain(&mut forced, &chain.classes, size);
-    }
-    Ok(forced)
-}
-
 /// The forced classes of a leaf, of which there are none where it is plain. The rows are those of
 /// the shipments. `NoMemory` only where no memory is found.
 pub(crate) fn forced_classes(
@@ -92,11 +68,16 @@ pub(crate) fn forced_classes(
     requires under { (sides : List Side) × AreRowsUnder allowed.now sides rows.now }
     ensures { IfOk result (AreForcedOf allowed.now rows.now forced) }
 {
-    if forced {
-        all_chains(alloc, instance, allowed, classes, rows)
-    } else {
-        no_chains(alloc, classes)
+    if !forced {
+        return no_chains(alloc, classes);
     }
+    let mut found = no_chains(alloc, classes)?;
+    for shipment in 0..instance.shipments().len() as u32 {
+        let chain = allowed.forced(alloc, shipment, &rows[shipment as usize])?;
+        let size = instance.shipment(shipment).size;
+        add_chain(&mut found, &chain.classes, size);
+    }
+    Ok(found)
 }
 
 // What the trucks cost that the load of a class needs.

@@ -44,7 +44,8 @@ impl PointGraph {
         ensures { IfOk result (IsPointGraph instance.now network.now) }
     {
         let (firsts, nodes) = first_nodes_of(alloc, instance, network)?;
-        let edges = all_edges(alloc, instance, network, &firsts)?;
+        let mut edges = edges_of_classes(alloc, instance, network, &firsts)?;
+        hold_at_all(&mut edges, instance, network, &firsts)?;
         let graph = Graph::new(alloc, nodes, &edges)?;
         Ok(PointGraph {
             graph,
@@ -83,25 +84,25 @@ fn first_nodes_of(
     Ok((firsts, next))
 }
 
-// All edges: those of the classes, and then the holding edges of one terminal after the other.
-fn all_edges(
-    alloc: Global,
+// Adds the holding edges of one terminal after the other to the edges of the classes.
+fn hold_at_all(
+    edges: &mut Vec<Edge>,
     instance: &Instance,
     network: &Network,
     firsts: &[u32],
-) -> Result<Vec<Edge>, NoMemory>
+) -> Result<(), NoMemory>
+    requires classes { edges.old.items ≡ class_edges instance.now network.now }
     requires whole { IsWholeNetwork instance.now network.now }
     requires few { point_count network.now ≤ MOST_POINTS }
     requires firsts { AreFirstNodes network.now firsts.now }
-    ensures edges { IfOk result (λ edges. edges.items ≡ edges_of instance.now network.now) }
-    ensures ends { IfOk result (λ edges. HasEnds (point_count network.now) edges.items) }
+    ensures edges { OnOk result (edges.new.items ≡ edges_of instance.now network.now) }
+    ensures ends { OnOk result (HasEnds (point_count network.now) edges.new.items) }
 {
-    let mut edges = edges_of_classes(alloc, instance, network, firsts)?;
     for terminal in 0..instance.terminals().len() as u32 {
         let last = last_node_of(network, firsts, terminal);
-        hold_between(&mut edges, firsts[terminal as usize], last)?;
+        hold_between(edges, firsts[terminal as usize], last)?;
     }
-    Ok(edges)
+    Ok(())
 }
 
 // Adds the holding edges over the nodes from the first to the last.

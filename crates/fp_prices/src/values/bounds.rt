@@ -7,16 +7,16 @@ ghost use Rattle.fp_flatnet.specs.Tables.{windows_in};
 ghost use Rattle.fp_longestarcs.specs.Networks.{class_count};
 ghost use Rattle.fp_prices.specs.ClassCosts.{IsFree};
 ghost use Rattle.fp_prices.specs.Forced.{AreRowsUnder};
-ghost use Rattle.fp_prices.specs.Found.{IsFoundAtLeaf, IsLeastAtLeaf, IsPricedLeaf, IsPricedRow, IsSmallCost};
+ghost use Rattle.fp_prices.specs.Found.{IsFoundAtLeaf, IsLeastAtLeaf, IsPricedLeaf, IsSmallCost};
 ghost use Rattle.fp_prices.specs.KnownCosts.{AreKnownUnder};
 ghost use Rattle.fp_prices.specs.Leaves.{BoundsPlans, IsBoundOf, IsSmallBound};
 ghost use Rattle.fp_prices.specs.PointGraphs.{IsPointGraph};
+ghost use Rattle.fp_prices.specs.PricedGraphs.{IsShipmentOver};
 ghost use Rattle.fp_prices.specs.Tables.{AreTables, HasKind};
 
 use crate::NoMemory;
-use crate::classes::class_prices::ClassPricing;
 use crate::graphs::least_costs::least_cost;
-use crate::graphs::point_graphs::PointGraph;
+use crate::graphs::priced_graphs::PricedGraph;
 use crate::leaf_prices::LeafPrice;
 use crate::tables::Table;
 use crate::values::known_costs::{KnownCost, keep_cost, known_cost};
@@ -43,31 +43,18 @@ pub enum LeafBound {
 // walk. The costs of the classes are put in anew.
 fn shipment_cost(
     alloc: Global,
-    pricing: &ClassPricing,
-    graph: &PointGraph,
+    over: &PricedGraph,
     shipment: u32,
     row: &Row,
     costs: &mut [Option<u128>],
 ) -> Result<Option<u128>, NoMemory>
-    requires shipment { shipment < length pricing.now.instance.now.shipments }
-    requires graph { IsPointGraph pricing.now.instance.now pricing.now.network.now graph.now }
-    requires priced { IsPricedRow pricing.now shipment row.now }
-    requires long { length row.now ≡ class_count pricing.now.network.now }
-    requires edges { length costs.old ≡ graph.now.edges }
-    requires free { IsFree (class_count pricing.now.network.now) costs.old }
-    ensures free { IsFree (class_count pricing.now.network.now) costs.new }
-    ensures small { IfOk result (IsSmallCost pricing.now.instance.now shipment) }
-    ensures exact { IfOk result (IsLeastAtLeaf pricing.now shipment row.now) }
+    requires { IsShipmentOver over.now shipment row.now costs.old }
+    ensures free { IsFree (class_count over.now.pricing.now.network.now) costs.new }
+    ensures small { IfOk result (IsSmallCost over.now.pricing.now.instance.now shipment) }
+    ensures exact { IfOk result (IsLeastAtLeaf over.now.pricing.now shipment row.now) }
 {
-    pricing.fill_costs(shipment, row, costs);
-    least_cost(
-        alloc,
-        pricing.instance,
-        pricing.network,
-        graph,
-        costs,
-        shipment,
-    )
+    over.pricing.fill_costs(shipment, row, costs);
+    least_cost(alloc, over, costs, shipment)
 }
 
 // The least cost of a shipment whose row this is, `None` exactly where it has no allowed timed
@@ -75,32 +62,26 @@ fn shipment_cost(
 // which is known from now on.
 fn known_or_found(
     alloc: Global,
-    pricing: &ClassPricing,
-    graph: &PointGraph,
+    over: &PricedGraph,
     shipment: u32,
     row: &Row,
     costs: &mut [Option<u128>],
     known: &mut Vec<KnownCost>,
 ) -> Result<Option<u128>, NoMemory>
-    requires shipment { shipment < length pricing.now.instance.now.shipments }
-    requires graph { IsPointGraph pricing.now.instance.now pricing.now.network.now graph.now }
-    requires priced { IsPricedRow pricing.now shipment row.now }
-    requires long { length row.now ≡ class_count pricing.now.network.now }
-    requires edges { length costs.old ≡ graph.now.edges }
-    requires free { IsFree (class_count pricing.now.network.now) costs.old }
-    requires known { AreKnownUnder pricing.now known.old.items }
+    requires over { IsShipmentOver over.now shipment row.now costs.old }
+    requires known { AreKnownUnder over.now.pricing.now known.old.items }
     requires before { shipment ≤ length known.old.items }
-    ensures free { IsFree (class_count pricing.now.network.now) costs.new }
-    ensures small { IfOk result (IsSmallCost pricing.now.instance.now shipment) }
-    ensures exact { IfOk result (IsLeastAtLeaf pricing.now shipment row.now) }
-    ensures known { IfOk result (λ _. AreKnownUnder pricing.now known.new.items) }
+    ensures free { IsFree (class_count over.now.pricing.now.network.now) costs.new }
+    ensures small { IfOk result (IsSmallCost over.now.pricing.now.instance.now shipment) }
+    ensures exact { IfOk result (IsLeastAtLeaf over.now.pricing.now shipment row.now) }
+    ensures known { IfOk result (λ _. AreKnownUnder over.now.pricing.now known.new.items) }
     ensures more { IfOk result (λ cost. IfSome cost (λ _. shipment + 1 ≤ length known.new.items)) }
 {
-    let classes = pricing.network.classes();
+    let classes = over.pricing.network.classes();
     if let Some(cost) = known_cost(known, shipment, row, classes) {
         return Ok(Some(cost));
     }
-    let found = shipment_cost(alloc, pricing, graph, shipment, row, costs)?;
+    let found = shipment_cost(alloc, over, shipment, row, costs)?;
     if let Some(cost) = found {
         keep_cost(alloc, known, shipment, row, classes, cost)?;
     }
@@ -111,25 +92,24 @@ fn known_or_found(
 /// A shipment's cost is taken from the known ones, where its row is the same there.
 pub(crate) fn value_over(
     alloc: Global,
-    pricing: &ClassPricing,
-    graph: &PointGraph,
+    over: &PricedGraph,
     rows: &[Row],
     bases: u128,
     known: &mut Vec<KnownCost>,
 ) -> Result<LeafBound, NoMemory>
-    requires graph { IsPointGraph pricing.now.instance.now pricing.now.network.now graph.now }
-    requires rows { length rows.now ≡ length pricing.now.instance.now.shipments }
-    requires priced { IsPricedLeaf pricing.now rows.now }
-    requires bases { bases ≤ pricing.now.instance.now.scale * alone_total pricing.now.instance.now.arcs pricing.now.instance.now.shipments }
-    requires known { AreKnownUnder pricing.now known.old.items }
-    ensures found { IfOk result (IsFoundAtLeaf pricing.now rows.now bases) }
-    ensures known { IfOk result (λ _. AreKnownUnder pricing.now known.new.items) }
+    requires graph { IsPointGraph over.now.pricing.now.instance.now over.now.pricing.now.network.now over.now.graph.now }
+    requires rows { length rows.now ≡ length over.now.pricing.now.instance.now.shipments }
+    requires priced { IsPricedLeaf over.now.pricing.now rows.now }
+    requires bases { bases ≤ over.now.pricing.now.instance.now.scale * alone_total over.now.pricing.now.instance.now.arcs over.now.pricing.now.instance.now.shipments }
+    requires known { AreKnownUnder over.now.pricing.now known.old.items }
+    ensures found { IfOk result (IsFoundAtLeaf over.now.pricing.now rows.now bases) }
+    ensures known { IfOk result (λ _. AreKnownUnder over.now.pricing.now known.new.items) }
 {
-    let mut costs = graph.free_costs(alloc)?;
+    let mut costs = over.graph.free_costs(alloc)?;
     let mut value = bases;
-    for shipment in 0..pricing.instance.shipments().len() as u32 {
+    for shipment in 0..over.pricing.instance.shipments().len() as u32 {
         let row = &rows[shipment as usize];
-        match known_or_found(alloc, pricing, graph, shipment, row, &mut costs, known)? {
+        match known_or_found(alloc, over, shipment, row, &mut costs, known)? {
             Some(cost) => value += cost,
             None => return Ok(LeafBound::Empty { shipment }),
         }

@@ -5,7 +5,6 @@ ghost use Rattle.fp_model.specs.declared.parts.Leg.{Leg};
 ghost use Rattle.fp_model.specs.Numbered.{shipment_at};
 ghost use Rattle.fp_flatnet.specs.Belonging.{BelongsTo};
 ghost use Rattle.fp_flatnet.specs.Tables.{windows_in};
-ghost use Rattle.fp_longestarcs.specs.Networks.{points_in};
 ghost use Rattle.fp_allowed.specs.Allowed.{tails_of};
 ghost use Rattle.fp_allowed.specs.Bits.{IsRowUnder, allowed_in};
 ghost use Rattle.fp_allowed.specs.Chains.{IsForced, SeveralLeave};
@@ -13,15 +12,15 @@ ghost use Rattle.fp_allowed.specs.Choices.{IsTaken, OneAtMost};
 ghost use Rattle.fp_allowed.specs.Departures.{DividesDepartures, IsSplitAt};
 ghost use Rattle.fp_prices.specs.Forced.{AreRowsUnder};
 ghost use Rattle.fp_prices.specs.KnownCosts.{AreKnownCosts, IsSharedKind};
-ghost use Rattle.fp_prices.specs.LeafPricings.{AreChainsOf, IsLeafPricing};
-ghost use Rattle.fp_prices.specs.LeastWalks.{AreLeastWalks, HasPreferred};
-ghost use Rattle.fp_prices.specs.Leaves.{BoundsPlans, IsBoundOf, IsLeafEmpty, IsSmallBound};
+ghost use Rattle.fp_prices.specs.LeafPricings.{AreChainsOf};
+ghost use Rattle.fp_prices.specs.LeafFindings.{AreLeafWalks, BoundsLeafPlans, HasLeafPreferred, IsEmptyLeaf, IsLeafBound};
+ghost use Rattle.fp_prices.specs.Leaves.{IsSmallBound};
 ghost use Rattle.fp_prices.specs.Tables.{AreTables, HasKind};
 
 use crate::NoMemory;
 use crate::classes::bases::{bases, forced_classes};
-use crate::classes::class_prices::ClassPricing;
 use crate::classes::class_rules::class_pricing;
+use crate::graphs::priced_graphs::PricedGraph;
 use crate::leaf_prices::Kind;
 use crate::tables::Table;
 use crate::values::bounds::{LeafBound, value_over};
@@ -193,12 +192,8 @@ impl<'a> Leaf<'a> {
     ) -> Result<LeafBound, NoMemory>
         requires tables { AreTables self.now.setting.problem tables.now }
         requires kind { HasKind tables.now kind }
-        ensures exact { IfOk result
-            (IsBoundOf self.now.setting.problem (windows_in self.now.setting.windows)
-            (points_in self.now.setting.network) self.now.sides tables.now kind forced) }
-        ensures plans { IfOk result
-            (BoundsPlans self.now.setting.problem (windows_in self.now.setting.windows)
-            self.now.sides) }
+        ensures exact { IfOk result (IsLeafBound self.now tables.now kind forced) }
+        ensures plans { IfOk result (BoundsLeafPlans self.now) }
         ensures small { IfOk result (IsSmallBound self.now.setting.problem) }
     {
         self.bound_with(alloc, tables, kind, forced, &mut Vec::new(alloc))
@@ -218,27 +213,21 @@ impl<'a> Leaf<'a> {
         requires kind { HasKind tables.now kind }
         requires known { AreKnownCosts self.now.setting.problem self.now.setting.network tables.now
             kind forced known.old.items }
-        ensures exact { IfOk result
-            (IsBoundOf self.now.setting.problem (windows_in self.now.setting.windows)
-            (points_in self.now.setting.network) self.now.sides tables.now kind forced) }
-        ensures plans { IfOk result
-            (BoundsPlans self.now.setting.problem (windows_in self.now.setting.windows)
-            self.now.sides) }
+        ensures exact { IfOk result (IsLeafBound self.now tables.now kind forced) }
+        ensures plans { IfOk result (BoundsLeafPlans self.now) }
         ensures small { IfOk result (IsSmallBound self.now.setting.problem) }
         ensures known { IfOk result (λ _. IsSharedKind kind → forced ≡ false →
             AreKnownCosts self.now.setting.problem self.now.setting.network tables.now kind forced
             known.new.items) }
     {
-        let pricing = self.class_pricing(alloc, tables, kind, forced)?;
+        let priced = self.pricing(alloc, tables, kind, forced)?;
+        let pricing = &priced.pricing;
         let base = bases(pricing.instance, pricing.network, &pricing.forced);
-        value_over(
-            alloc,
-            &pricing,
-            self.round.point_graph(),
-            &self.rows,
-            base,
-            known,
-        )
+        let over = PricedGraph {
+            pricing,
+            graph: self.round.point_graph(),
+        };
+        value_over(alloc, &over, &self.rows, base, known)
     }
 
     /// For each shipment a walk of least cost under prices of a kind, as [`bound`](Leaf::bound)
@@ -254,12 +243,8 @@ impl<'a> Leaf<'a> {
     ) -> Result<Option<Vec<TimedWalk>>, NoMemory>
         requires tables { AreTables self.now.setting.problem tables.now }
         requires kind { HasKind tables.now kind }
-        ensures none { IfOk result (λ found. IfNone found
-            (IsLeafEmpty self.now.setting.problem (windows_in self.now.setting.windows)
-            (points_in self.now.setting.network) self.now.sides)) }
-        ensures walks { IfOk result (λ found. IfSome found (λ walks.
-            AreLeastWalks self.now.setting.problem (windows_in self.now.setting.windows)
-            (points_in self.now.setting.network) self.now.sides tables.now kind forced walks.items)) }
+        ensures none { IfOk result (λ found. IfNone found (IsEmptyLeaf self.now)) }
+        ensures walks { IfOk result (λ found. IfSome found (λ walks. AreLeafWalks self.now tables.now kind forced walks.items)) }
     {
         self.walks_preferring(alloc, tables, kind, forced, &[])
     }
@@ -279,25 +264,17 @@ impl<'a> Leaf<'a> {
     ) -> Result<Option<Vec<TimedWalk>>, NoMemory>
         requires tables { AreTables self.now.setting.problem tables.now }
         requires kind { HasKind tables.now kind }
-        ensures none { IfOk result (λ found. IfNone found
-            (IsLeafEmpty self.now.setting.problem (windows_in self.now.setting.windows)
-            (points_in self.now.setting.network) self.now.sides)) }
-        ensures walks { IfOk result (λ found. IfSome found (λ walks.
-            AreLeastWalks self.now.setting.problem (windows_in self.now.setting.windows)
-            (points_in self.now.setting.network) self.now.sides tables.now kind forced walks.items)) }
+        ensures none { IfOk result (λ found. IfNone found (IsEmptyLeaf self.now)) }
+        ensures walks { IfOk result (λ found. IfSome found (λ walks. AreLeafWalks self.now tables.now kind forced walks.items)) }
         ensures preferred { IfOk result (λ found. IfSome found (λ walks.
-            HasPreferred self.now.setting.problem (windows_in self.now.setting.windows)
-            (points_in self.now.setting.network) self.now.sides tables.now kind forced preferred.now
-            walks.items)) }
+            HasLeafPreferred self.now tables.now kind forced preferred.now walks.items)) }
     {
-        let pricing = self.class_pricing(alloc, tables, kind, forced)?;
-        walks_over(
-            alloc,
-            &pricing,
-            self.round.point_graph(),
-            &self.rows,
-            preferred,
-        )
+        let priced = self.pricing(alloc, tables, kind, forced)?;
+        let over = PricedGraph {
+            pricing: &priced.pricing,
+            graph: self.round.point_graph(),
+        };
+        walks_over(alloc, &over, &self.rows, preferred)
     }
 
     /// What the classes cost each shipment at the leaf under prices of a kind, as
@@ -315,28 +292,6 @@ impl<'a> Leaf<'a> {
             ≡ record { leaf = self.now; tables = tables.now; kind = kind; forced = forced }) }
         ensures chains { IfOk result (λ _. (chains : List (List Leg)) × AreChainsOf self.now forced chains) }
     {
-        let pricing = self.class_pricing(alloc, tables, kind, forced)?;
-        Ok(LeafPricing {
-            leaf: self,
-            tables,
-            kind,
-            is_forced: forced,
-            pricing,
-        })
-    }
-
-    // The prices of the classes by a kind, with the classes that are forced.
-    fn class_pricing<'b>(
-        &'b self,
-        alloc: Global,
-        tables: &'b [Table],
-        kind: Kind,
-        forced: bool,
-    ) -> Result<ClassPricing<'b>, NoMemory>
-        requires tables { AreTables self.now.setting.problem tables.now }
-        requires kind { HasKind tables.now kind }
-        ensures { IfOk result (IsLeafPricing (record { leaf = self.now; tables = tables.now; kind = kind; forced = forced })) }
-    {
         let instance = self.round.instance();
         let network = self.round.network();
         let classes = network.classes();
@@ -348,7 +303,7 @@ impl<'a> Leaf<'a> {
             &self.rows,
             forced,
         )?;
-        class_pricing(
+        let pricing = class_pricing(
             alloc,
             instance,
             network,
@@ -357,6 +312,13 @@ impl<'a> Leaf<'a> {
             kind,
             &self.rows,
             paid,
-        )
+        )?;
+        Ok(LeafPricing {
+            leaf: self,
+            tables,
+            kind,
+            is_forced: forced,
+            pricing,
+        })
     }
 }

@@ -2,10 +2,9 @@
 ghost use Rattle.std.specs.Prelude.{◌≡◌, ◌+◌, ◌≤◌, IfOk, length};
 ghost use Rattle.fp_flatnet.specs.Belonging.{BelongsTo};
 ghost use Rattle.fp_flatnet.specs.Tables.{windows_in};
-ghost use Rattle.fp_prices.specs.Tables.{AreTables, HasKind};
 ghost use Rattle.fp_timenodes.specs.Points.{points_at};
 ghost use Rattle.fp_prices_spans.specs.SpanLeaves.{IsSmallSpanBound, IsSpanBoundOf};
-ghost use Rattle.fp_prices_spans.specs.SpanLists.{AreSpans};
+ghost use Rattle.fp_prices_spans.specs.SpanPricings.{ArePrices};
 
 use crate::NoMemory;
 use crate::spans::Span;
@@ -35,9 +34,7 @@ pub fn span_bound_of(
     requires belongs { BelongsTo instance.now windows.now }
     requires terminals { points.now.terminals ≡ length instance.now.terminals }
     requires few { points.now.terminals + length points.now.first + length points.now.added ≤ MOST_POINTS }
-    requires tables { AreTables instance.now tables.now }
-    requires kind { HasKind tables.now price.kind }
-    requires spans { AreSpans instance.now spans.now }
+    requires prices { ArePrices instance.now tables.now spans.now price.kind }
     ensures exact { IfOk result (IsSpanBoundOf instance.now (windows_in windows.now)
         (λ terminal. points_at points.now terminal price.round) sides.now tables.now spans.now price.kind price.forced) }
     ensures small { IfOk result (IsSmallSpanBound instance.now) }

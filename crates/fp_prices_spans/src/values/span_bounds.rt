@@ -4,56 +4,37 @@ ghost use Rattle.fp_model.specs.Problem.{IsValid, alone_total};
 ghost use Rattle.fp_flatnet.specs.Tables.{windows_in};
 ghost use Rattle.fp_longestarcs.specs.Networks.{points_in};
 ghost use Rattle.fp_prices.specs.Leaves.{BoundsPlans};
-ghost use Rattle.fp_prices.specs.Prices.{AllKeepRule};
 ghost use Rattle.fp_prices.specs.Tables.{AreTables, HasKind};
-ghost use Rattle.fp_prices_spans.specs.ClassRanges.{IsSpannedRow};
-ghost use Rattle.fp_prices_spans.specs.SpanCosts.{HasChains, IsFoundBySpans};
+ghost use Rattle.fp_prices_spans.specs.SpanCosts.{IsFoundBySpans};
 ghost use Rattle.fp_prices_spans.specs.SpanLeaves.{IsSmallSpanBound, IsSpanBoundOf};
 ghost use Rattle.fp_prices_spans.specs.SpanLists.{AreSpans};
+ghost use Rattle.fp_prices_spans.specs.SpanPricings.{IsSpanPricing};
 ghost use Rattle.fp_prices_spans.specs.SpanRules.{KeepSpanRules};
 
 use crate::NoMemory;
 use crate::spans::Span;
 use crate::values::leaf_bases::bases;
 use crate::values::leaf_charges::after_charges;
-use crate::values::span_costs::least_cost;
+use crate::values::span_costs::{SpanPricing, least_cost};
 use crate::values::spanned_rows::spanned_row;
-use fp_prices::{Kind, Leaf, LeafBound, LeafPricing, Table};
-use fp_rows::Row;
+use fp_prices::{Kind, Leaf, LeafBound, Table};
 use std::alloc::Global;
 
 // The bases and the least cost of each shipment under prices by spans, or the first that has no
-// allowed timed walk. The row tells which classes are priced by the spans.
-fn value_over(
-    alloc: Global,
-    pricing: &LeafPricing,
-    spans: &[Span],
-    row: &Row,
-    bases: u128,
-) -> Result<LeafBound, NoMemory>
-    requires keep { AllKeepRule pricing.now.leaf.setting.problem pricing.now.tables }
-    requires chains { HasChains pricing.now.leaf pricing.now.forced }
-    requires spans { AreSpans pricing.now.leaf.setting.problem spans.now }
-    requires row { IsSpannedRow pricing.now spans.now row.now }
-    requires bases { bases ≤ pricing.now.leaf.setting.problem.scale * alone_total pricing.now.leaf.setting.problem.arcs pricing.now.leaf.setting.problem.shipments }
-    ensures valid { IfOk result (λ _. IsValid pricing.now.leaf.setting.problem) }
-    ensures exact { IfOk result (IsFoundBySpans pricing.now spans.now bases) }
-    ensures small { IfOk result (IsSmallSpanBound pricing.now.leaf.setting.problem) }
+// allowed timed walk.
+fn value_over(alloc: Global, by_spans: &SpanPricing, bases: u128) -> Result<LeafBound, NoMemory>
+    requires by_spans { IsSpanPricing by_spans.now }
+    requires bases { bases ≤ by_spans.now.pricing.now.leaf.setting.problem.scale * alone_total by_spans.now.pricing.now.leaf.setting.problem.arcs by_spans.now.pricing.now.leaf.setting.problem.shipments }
+    ensures valid { IfOk result (λ _. IsValid by_spans.now.pricing.now.leaf.setting.problem) }
+    ensures exact { IfOk result (IsFoundBySpans by_spans.now.pricing.now by_spans.now.spans.now bases) }
+    ensures small { IfOk result (IsSmallSpanBound by_spans.now.pricing.now.leaf.setting.problem) }
 {
-    let round = pricing.leaf().round();
+    let round = by_spans.pricing.leaf().round();
     let mut costs = round.free_costs(alloc)?;
     let mut prices = vec![in alloc; 0; round.network().classes() as usize]?;
     let mut value = bases;
     for shipment in 0..round.instance().shipments().len() as u32 {
-        match least_cost(
-            alloc,
-            pricing,
-            spans,
-            row,
-            shipment,
-            &mut prices,
-            &mut costs,
-        )? {
+        match least_cost(alloc, by_spans, shipment, &mut prices, &mut costs)? {
             Some(cost) => value += cost,
             None => return Ok(LeafBound::Empty { shipment }),
         }
@@ -100,7 +81,12 @@ pub fn span_bound(
 {
     let pricing = leaf.pricing(alloc, tables, kind, forced)?;
     let row = spanned_row(alloc, &pricing, spans)?;
-    let found = value_over(alloc, &pricing, spans, &row, bases(&pricing))?;
+    let by_spans = SpanPricing {
+        pricing: &pricing,
+        spans,
+        row: &row,
+    };
+    let found = value_over(alloc, &by_spans, bases(&pricing))?;
     Ok(match found {
         LeafBound::Value { value } => LeafBound::Value {
             value: after_charges(&pricing, spans, value),

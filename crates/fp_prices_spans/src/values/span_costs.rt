@@ -8,11 +8,9 @@ ghost use Rattle.fp_longestarcs.specs.Whole.{IsWholeNetwork};
 ghost use Rattle.fp_allowed.specs.Bits.{bit_of};
 ghost use Rattle.fp_prices.specs.ClassCosts.{IsFree};
 ghost use Rattle.fp_prices.specs.Points.{edges_of};
-ghost use Rattle.fp_prices.specs.Prices.{AllKeepRule};
 ghost use Rattle.fp_prices_spans.specs.declared.spans.TheConstants.{MOST_SPAN_WEIGHT};
-ghost use Rattle.fp_prices_spans.specs.ClassRanges.{IsSpannedRow};
-ghost use Rattle.fp_prices_spans.specs.SpanCosts.{AreSpanCostsOf, HasChains, IsLeastBySpans, IsSmallBySpans, cost_at};
-ghost use Rattle.fp_prices_spans.specs.SpanLists.{AreSpans};
+ghost use Rattle.fp_prices_spans.specs.SpanCosts.{AreSpanCostsOf, IsLeastBySpans, IsSmallBySpans, cost_at};
+ghost use Rattle.fp_prices_spans.specs.SpanPricings.{IsSpanPricing};
 
 use crate::NoMemory;
 use crate::spans::Span;
@@ -23,6 +21,14 @@ use fp_model::Instance;
 use fp_prices::LeafPricing;
 use fp_rows::Row;
 use std::alloc::Global;
+
+/// The prices of a leaf by spans, with a row that tells which classes are priced by the spans.
+#[derive(Clone, Copy)]
+pub(crate) struct SpanPricing<'a> {
+    pub(crate) pricing: &'a LeafPricing<'a>,
+    pub(crate) spans: &'a [Span],
+    pub(crate) row: &'a Row,
+}
 
 // What a class costs a shipment, where these are the prices of the classes: its price and the flow.
 fn class_cost(
@@ -84,34 +90,37 @@ fn put_in(
 }
 
 // Puts in, for each class by its number, what it costs the shipment under prices by spans, and
-// `None` where it isn't allowed for the shipment. Entries past the classes stay. The row tells which
-// classes are priced by the spans; what the shipment pays for each by them is put into `prices`.
+// `None` where it isn't allowed for the shipment. Entries past the classes stay. What the shipment
+// pays for each class by the spans is put into `prices`.
 fn fill_costs(
-    pricing: &LeafPricing,
-    spans: &[Span],
-    row: &Row,
+    by_spans: &SpanPricing,
     shipment: u32,
     prices: &mut [u128],
     costs: &mut [Option<u128>],
 )
-    requires spans { AreSpans pricing.now.leaf.setting.problem spans.now }
-    requires row { IsSpannedRow pricing.now spans.now row.now }
-    requires shipment { shipment < length pricing.now.leaf.setting.problem.shipments }
-    requires long { length prices.old ≡ class_count pricing.now.leaf.setting.network }
-    requires room { class_count pricing.now.leaf.setting.network ≤ length costs.old }
-    ensures valid { IsValid pricing.now.leaf.setting.problem }
-    ensures whole { IsWholeNetwork pricing.now.leaf.setting.problem pricing.now.leaf.setting.network }
-    ensures few { point_count pricing.now.leaf.setting.network ≤ MOST_POINTS }
-    ensures costs { AreSpanCostsOf pricing.now spans.now shipment costs.new }
-    ensures others { (n : ℕ) → class_count pricing.now.leaf.setting.network ≤ n → slice_index_or costs.new n None ≡ slice_index_or costs.old n None }
+    requires by_spans { IsSpanPricing by_spans.now }
+    requires shipment { shipment < length by_spans.now.pricing.now.leaf.setting.problem.shipments }
+    requires long { length prices.old ≡ class_count by_spans.now.pricing.now.leaf.setting.network }
+    requires room { class_count by_spans.now.pricing.now.leaf.setting.network ≤ length costs.old }
+    ensures valid { IsValid by_spans.now.pricing.now.leaf.setting.problem }
+    ensures whole { IsWholeNetwork by_spans.now.pricing.now.leaf.setting.problem by_spans.now.pricing.now.leaf.setting.network }
+    ensures few { point_count by_spans.now.pricing.now.leaf.setting.network ≤ MOST_POINTS }
+    ensures costs { AreSpanCostsOf by_spans.now.pricing.now by_spans.now.spans.now shipment costs.new }
+    ensures others { (n : ℕ) → class_count by_spans.now.pricing.now.leaf.setting.network ≤ n → slice_index_or costs.new n None ≡ slice_index_or costs.old n None }
 {
-    let round = pricing.leaf().round();
-    pricing.fill_costs(shipment, costs);
-    fill_prices(round.instance(), round.network(), spans, shipment, prices);
+    let round = by_spans.pricing.leaf().round();
+    by_spans.pricing.fill_costs(shipment, costs);
+    fill_prices(
+        round.instance(),
+        round.network(),
+        by_spans.spans,
+        shipment,
+        prices,
+    );
     put_in(
         round.instance(),
         round.network(),
-        row,
+        by_spans.row,
         prices,
         shipment,
         costs,
@@ -119,31 +128,26 @@ fn fill_costs(
 }
 
 /// The least cost of a shipment under prices by spans, `None` exactly where it has no allowed timed
-/// walk. The row tells which classes are priced by the spans. Prices and costs are put in anew.
-/// `NoMemory` only where no memory is found. One search over the points.
+/// walk. Prices and costs are put in anew. `NoMemory` only where no memory is found. One search over
+/// the points.
 pub(crate) fn least_cost(
     alloc: Global,
-    pricing: &LeafPricing,
-    spans: &[Span],
-    row: &Row,
+    by_spans: &SpanPricing,
     shipment: u32,
     prices: &mut [u128],
     costs: &mut [Option<u128>],
 ) -> Result<Option<u128>, NoMemory>
-    requires keep { AllKeepRule pricing.now.leaf.setting.problem pricing.now.tables }
-    requires chains { HasChains pricing.now.leaf pricing.now.forced }
-    requires spans { AreSpans pricing.now.leaf.setting.problem spans.now }
-    requires row { IsSpannedRow pricing.now spans.now row.now }
-    requires shipment { shipment < length pricing.now.leaf.setting.problem.shipments }
-    requires long { length prices.old ≡ class_count pricing.now.leaf.setting.network }
-    requires edges { length costs.old ≡ length (edges_of pricing.now.leaf.setting.problem pricing.now.leaf.setting.network) }
-    requires free { IsFree (class_count pricing.now.leaf.setting.network) costs.old }
-    ensures free { IsFree (class_count pricing.now.leaf.setting.network) costs.new }
-    ensures exact { IfOk result (IsLeastBySpans pricing.now spans.now shipment) }
-    ensures small { IfOk result (IsSmallBySpans pricing.now.leaf.setting.problem shipment) }
+    requires by_spans { IsSpanPricing by_spans.now }
+    requires shipment { shipment < length by_spans.now.pricing.now.leaf.setting.problem.shipments }
+    requires long { length prices.old ≡ class_count by_spans.now.pricing.now.leaf.setting.network }
+    requires edges { length costs.old ≡ length (edges_of by_spans.now.pricing.now.leaf.setting.problem by_spans.now.pricing.now.leaf.setting.network) }
+    requires free { IsFree (class_count by_spans.now.pricing.now.leaf.setting.network) costs.old }
+    ensures free { IsFree (class_count by_spans.now.pricing.now.leaf.setting.network) costs.new }
+    ensures exact { IfOk result (IsLeastBySpans by_spans.now.pricing.now by_spans.now.spans.now shipment) }
+    ensures small { IfOk result (IsSmallBySpans by_spans.now.pricing.now.leaf.setting.problem shipment) }
 {
-    let round = pricing.leaf().round();
-    fill_costs(pricing, spans, row, shipment, prices, costs);
+    let round = by_spans.pricing.leaf().round();
+    fill_costs(by_spans, shipment, prices, costs);
     let labels = distances(alloc, round.graph(), costs, round.start(shipment))?;
     Ok(labels.to(round.end(shipment)))
 }

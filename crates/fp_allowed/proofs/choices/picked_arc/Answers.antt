@@ -13,20 +13,20 @@ use Rattle.fp_allowed.proofs.choices.picked_arc.Goals.{then-arc-terminal+then-ha
 
 pub loop-arc-preserved : goal.loop-arc-preserved
 loop-arc-preserved c =
-    let p = c.args.instance.now in
-    let net = c.args.network.now in
+    let p = c.args.leaving.now.instance.now in
+    let net = c.args.leaving.now.network.now in
     let arc : ℕ = c.loop-arc.arc in
-    let ends : ℕ → ℕ = last_moment (windows_in c.args.windows.now) c.args.shipment in
+    let ends : ℕ → ℕ = last_moment (windows_in c.args.leaving.now.windows.now) c.args.leaving.now.shipment in
     let Has : Bool → Type 0 = λ b.
-    MatchBool b ((k : Leg) × OneLeaves (row_allows net c.args.row.now) (λ l. l.arc ≡ arc) k) ((k : Leg) → OneLeaves (row_allows net c.args.row.now) (λ l. l.arc ≡ arc) k → ⊥) in
+    MatchBool b ((k : Leg) × OneLeaves (row_allows net c.args.leaving.now.row.now) (λ l. l.arc ≡ arc) k) ((k : Leg) → OneLeaves (row_allows net c.args.leaving.now.row.now) (λ l. l.arc ≡ arc) k → ⊥) in
     elim c.if-arc-terminal.branch [
       | then-arc-terminal+then-has_allowed w ↦
-          let here : tails_of p arc ≡ c.args.terminal = ap (λ (a : Arc). a.from) (sym c.arc.ensures.same) ∙ w.if-arc-terminal.true in
+          let here : tails_of p arc ≡ c.args.leaving.now.terminal = ap (λ (a : Arc). a.from) (sym c.arc.ensures.same) ∙ w.if-arc-terminal.true in
           rw w.found-is
-          (picks_more p net c.args.row.now c.args.terminal ends arc c.loop-arc.found w.better.result here (subst Has w.if-has_allowed.true w.has_allowed.ensures) c.loop-arc.invariant w.better.ensures)
+          (picks_more p net c.args.leaving.now.row.now c.args.leaving.now.terminal ends arc c.loop-arc.found w.better.result here (subst Has w.if-has_allowed.true w.has_allowed.ensures) c.loop-arc.invariant w.better.ensures)
       | else-arc-terminal w ↦
           rw w.found-is
-          (picks_away p net c.args.row.now c.args.terminal ends arc c.loop-arc.found
+          (picks_away p net c.args.leaving.now.row.now c.args.leaving.now.terminal ends arc c.loop-arc.found
           (λ k one leaves.
           elim w.else-arc-terminal.branch [
             | else-arc-terminal-via-then-arc-terminal+else-has_allowed v ↦ subst Has v.if-has_allowed.false v.has_allowed.ensures k one
@@ -36,5 +36,5 @@ loop-arc-preserved c =
 
 pub returns : goal.returns
 returns c =
-    picks_all c.args.instance.now c.args.network.now c.args.row.now c.args.terminal (last_moment (windows_in c.args.windows.now) c.args.shipment) c.loop-arc.arc c.loop-arc.found c.requires.whole.arcs
+    picks_all c.args.leaving.now.instance.now c.args.leaving.now.network.now c.args.leaving.now.row.now c.args.leaving.now.terminal (last_moment (windows_in c.args.leaving.now.windows.now) c.args.leaving.now.shipment) c.loop-arc.arc c.loop-arc.found c.requires.whole.arcs
     (omega (arith, c.loop-arc-test.false, ap (λ (l : List Arc). length l) c.arcs.ensures.same)) c.loop-arc.invariant

@@ -6,4 +6,4 @@ use Rattle.fp_allowed.specs.Choices.{Picks, last_moment}
 use Rattle.fp_allowed.proofs.choices.picked_arc.Given as goal
 
 abbrev pub invariant-loop-arc : goal.invariant-loop-arc
-invariant-loop-arc l = Picks (last_moment (windows_in l.windows) l.shipment) (row_allows l.network l.row) (λ c. (c.arc < l.arc) × (tails_of l.instance c.arc ≡ l.terminal)) l.found
+invariant-loop-arc l = Picks (last_moment (windows_in l.leaving.windows.now) l.leaving.shipment) (row_allows l.leaving.network.now l.leaving.row.now) (λ c. (c.arc < l.arc) × (tails_of l.leaving.instance.now c.arc ≡ l.leaving.terminal)) l.found

@@ -16,12 +16,12 @@ loop-arc-preserved c =
     let p : Problem = c.args.instance.now in
     let i : ℕ = c.loop-arc.arc-index in
     let divisor : ℕ = c.loop-arc.divisor in
-    let middle : ℕ = c.divisor_of.result in
+    let middle : ℕ = c.greatest_common_divisor-with_truck.result in
     let next : ℕ = c.freight_divisor-divisor.result in
     let same : c.arcs-arc-items.result.now ≡ p.arcs = c.arcs-arc-items.ensures.same in
     let there : i < length p.arcs = subst (λ (xs : List Arc). i < length xs) same c.loop-arc-test.true in
     let gcd : IsGcd divisor (slice_index_or p.arcs i no_arc).truck middle =
-    subst (λ (xs : List Arc). IsGcd divisor (slice_index_or xs i no_arc).truck middle) same (subst (λ (n : ℕ). IsGcd divisor n middle) c.from.ensures c.divisor_of.ensures) in
+    subst (λ (xs : List Arc). IsGcd divisor (slice_index_or xs i no_arc).truck middle) same (subst (λ (n : ℕ). IsGcd divisor n middle) c.from.ensures c.greatest_common_divisor-with_truck.ensures) in
     let freight : HasFreight next middle p.shipments (slice_index_or p.arcs i no_arc) =
     subst (λ (xs : List Arc). HasFreight next middle p.shipments (slice_index_or xs i no_arc)) same
     (subst (λ (ss : List Shipment). HasFreight next middle ss (slice_index_or c.arcs-arc-items.result.now i no_arc)) c.shipments-shipments.ensures.same c.freight_divisor-divisor.ensures) in

@@ -9,11 +9,11 @@ use Rattle.fp_certificate_rules.proofs.units.freight_divisor.Goals as goal
 pub loop-shipment-preserved : goal.loop-shipment-preserved
 loop-shipment-preserved c =
     let divisor : ℕ = c.loop-shipment.divisor in
-    let next : ℕ = c.divisor_of-divisor.result in
+    let next : ℕ = c.greatest_common_divisor-divisor.result in
     let s : Shipment = c.shipment-item.result in
     let gcd : IsGcd divisor (c.args.arc.now.freight * s.size) next =
     subst (λ (freight : ℕ). IsGcd divisor (freight * s.size) next) c.from.ensures
-    (subst (λ (size : ℕ). IsGcd divisor (c.from.result * size) next) c.from-in-loop-shipment.ensures c.divisor_of-divisor.ensures) in
+    (subst (λ (size : ℕ). IsGcd divisor (c.from.result * size) next) c.from-in-loop-shipment.ensures c.greatest_common_divisor-divisor.ensures) in
     freight-next c.args.number divisor next c.args.arc.now c.args.shipments.now c.loop-shipment.shipment-index s c.loop-shipment-test.true c.shipment-item.is c.loop-shipment.invariant gcd
 
 pub returns : goal.returns

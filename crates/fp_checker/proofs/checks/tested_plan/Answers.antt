@@ -17,17 +17,19 @@ returns-in_err-plan-clause-part c =
     let e = err_from_is_err_and c.from_residual.result c.from_residual.ensures.1 in
     rw (e.1, e.2) (λ number same.
     let fails = c.in_err-plan.ensures.part number same in
-    plan_unmet c.args.instance.now c.args.windows.now c.args.certificate.now fails.1 number fails.0)
+    plan_unmet c.args.case.now.problem c.args.case.now.windows c.args.case.now.told fails.1 number fails.0)
 
 pub returns-then-stated_cost-plan_cost-clause-part : goal.returns-then-stated_cost-plan_cost-clause-part
 returns-then-stated_cost-plan_cost-clause-part c number same =
-    let p = c.args.instance.now in
-    cost_unmet p c.args.windows.now c.args.certificate.now c.in_ok-plan.ensures.holds
+    let p = c.case.inside.instance.now in
+    let holds = rw (← c.case.view_is) at c.in_ok-plan.ensures.holds in
+    let plan = rw (← c.case.view_is) at c.in_ok-plan.ensures.plan in
+    rw (← c.case.view_is) (cost_unmet p c.case.inside.windows.now c.case.inside.certificate.now holds
     (λ has.
     c.if-stated_cost-plan_cost.true
     (c.stated_cost.ensures ∙ ap (λ (s : Statement). stated_cost s.answer) c.certificate.view_is ∙ has
-    ∙ sym (c.plan_cost.ensures ∙ ap (λ (R : List (List Leg)). cost p R) c.in_ok-plan.ensures.plan)))
-    number (Part_injective 2 number same)
+    ∙ sym (c.plan_cost.ensures ∙ ap (λ (R : List (List Leg)). cost p R) plan)))
+    number (Part_injective 2 number same))
 
 -- the lines of a plan that is the certificate's
 told-lines : (p : Problem) (plan routes : List (List Leg)) (lines : List TruckLine) → plan ≡ routes → AreTruckLines p plan lines → AreTruckLines p routes lines
@@ -35,29 +37,33 @@ told-lines p plan routes lines same = subst (λ (R : List (List Leg)). AreTruckL
 
 pub returns-then-not-are_same-clause-part : goal.returns-then-not-are_same-clause-part
 returns-then-not-are_same-clause-part c number same =
-    let p = c.args.instance.now in
-    let told : Statement = c.args.certificate.now in
-    let found : AreTruckLines p (routes_of p told) c.in_ok-lines.lines.items = told-lines p c.in_ok-plan.plan (routes_of p told) c.in_ok-lines.lines.items c.in_ok-plan.ensures.plan c.in_ok-lines.ensures.lines in
+    let p = c.case.inside.instance.now in
+    let holds = rw (← c.case.view_is) at c.in_ok-plan.ensures.holds in
+    let plan = rw (← c.case.view_is) at c.in_ok-plan.ensures.plan in
+    let told : Statement = c.case.inside.certificate.now in
+    let found : AreTruckLines p (routes_of p told) c.in_ok-lines.lines.items = told-lines p c.in_ok-plan.plan (routes_of p told) c.in_ok-lines.lines.items plan c.in_ok-lines.ensures.lines in
     let stated : c.stated_cost.result ≡ stated_cost told.answer = c.stated_cost.ensures ∙ ap (λ (s : Statement). stated_cost s.answer) c.certificate.view_is in
-    let costs : c.plan_cost.result ≡ cost p (routes_of p told) = c.plan_cost.ensures ∙ ap (λ (R : List (List Leg)). cost p R) c.in_ok-plan.ensures.plan in
-    trucks_unmet p c.args.windows.now told c.in_ok-plan.ensures.holds (sym stated ∙ c.if-stated_cost-plan_cost.false ∙ costs)
+    let costs : c.plan_cost.result ≡ cost p (routes_of p told) = c.plan_cost.ensures ∙ ap (λ (R : List (List Leg)). cost p R) plan in
+    rw (← c.case.view_is) (trucks_unmet p c.case.inside.windows.now told holds (sym stated ∙ c.if-stated_cost-plan_cost.false ∙ costs)
     (λ has.
     false_refutes c.are_same.result c.if-not-are_same.true c.are_same.ensures.1
     (c.as_slice-2.ensures.value ∙ ap (λ (s : Statement). s.trucks) c.certificate.view_is ∙ AreTruckLines-unique p (routes_of p told) told.trucks c.in_ok-lines.lines.items has found
     ∙ sym c.as_slice-3.ensures.value))
-    number (Part_injective 3 number same)
+    number (Part_injective 3 number same))
 
 pub returns-clause-holds : goal.returns-clause-holds
 returns-clause-holds c =
-    let p = c.args.instance.now in
-    let told : Statement = c.args.certificate.now in
-    let found : AreTruckLines p (routes_of p told) c.in_ok-lines.lines.items = told-lines p c.in_ok-plan.plan (routes_of p told) c.in_ok-lines.lines.items c.in_ok-plan.ensures.plan c.in_ok-lines.ensures.lines in
+    let p = c.case.inside.instance.now in
+    let holds = rw (← c.case.view_is) at c.in_ok-plan.ensures.holds in
+    let plan = rw (← c.case.view_is) at c.in_ok-plan.ensures.plan in
+    let told : Statement = c.case.inside.certificate.now in
+    let found : AreTruckLines p (routes_of p told) c.in_ok-lines.lines.items = told-lines p c.in_ok-plan.plan (routes_of p told) c.in_ok-lines.lines.items plan c.in_ok-lines.ensures.lines in
     let stated : c.stated_cost.result ≡ stated_cost told.answer = c.stated_cost.ensures ∙ ap (λ (s : Statement). stated_cost s.answer) c.certificate.view_is in
-    let costs : c.plan_cost.result ≡ cost p (routes_of p told) = c.plan_cost.ensures ∙ ap (λ (R : List (List Leg)). cost p R) c.in_ok-plan.ensures.plan in
+    let costs : c.plan_cost.result ≡ cost p (routes_of p told) = c.plan_cost.ensures ∙ ap (λ (R : List (List Leg)). cost p R) plan in
     let trucks : c.in_ok-lines.lines.items ≡ told.trucks =
     sym c.as_slice-3.ensures.value ∙ sym (c.are_same.ensures.0 c.if-not-are_same.false) ∙ c.as_slice-2.ensures.value ∙ ap (λ (s : Statement). s.trucks) c.certificate.view_is in
-    record {
-      plan = c.in_ok-plan.ensures.holds;
+    rw (← c.case.view_is) (record {
+      plan = holds;
       cost = sym stated ∙ c.if-stated_cost-plan_cost.false ∙ costs;
       trucks = subst (AreTruckLines p (routes_of p told)) trucks found;
-    }
+    })

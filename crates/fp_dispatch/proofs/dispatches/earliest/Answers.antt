@@ -14,7 +14,7 @@ use Rattle.fp_model.specs.Routes.{IsRoute, arcs_of}
 use Rattle.fp_dispatch.specs.Times.{AreLeastTimes, AreTimes, departure, window_of}
 use Rattle.fp_dispatch.proofs.FixedRoutes.{AreLower-start, HaveWindows-start, routes-exist, routes-long, routes-short, rows-long, tables-small}
 use Rattle.fp_dispatch.proofs.LeastTimes.{AreLeastTimes-same, AreLeastTimes-settled, IsClash-IsLate, no_times-IsClash}
-use Rattle.fp_dispatch.proofs.Tasks.{IsTask-tables}
+use Rattle.fp_dispatch.proofs.FittingTables.{IsTask-tables}
 use Rattle.fp_dispatch.proofs.TimesOfPlans.{IsPlan-AreTimes, PlanLiesWithin-AreTimes}
 use Rattle.fp_dispatch.proofs.VectorItems.{length-lists_of, written_back}
 use Rattle.fp_dispatch.proofs.dispatches.earliest.Goals as goal
@@ -56,8 +56,25 @@ start-requires-clause-many c =
       c.requires.belongs.valid.parts.few_shipments,
     )
 
-pub gather-requires-clause-task : goal.gather-requires-clause-task
-gather-requires-clause-task c =
+pub invariant_of-task : goal.invariant_of-task
+invariant_of-task c =
+    let p = c.args.instance.now in
+    let table = c.args.windows.now in
+    let routes : List (List ℕ) = lists_of c.args.routes.now in
+    let groups : List (List Member) = lists_of c.args.groups.now in
+    let width : ℕ = c.longest-width.result in
+    let starts : (m : Member) → IsMemberOf routes m → IsSomeAnd (window_of (windows_in table) routes m) (λ w. value_at width c.start.new.values m ≡ w.lo) =
+    subst (λ (o : Option Member). MatchOption o
+    ((m : Member) → IsMemberOf routes m → IsSomeAnd (window_of (windows_in table) routes m) (λ w. value_at width c.start.new.values m ≡ w.lo))
+    (λ m. IsMemberOf routes m × (window_of (windows_in table) routes m ≡ None))) c.in_default.is c.start.ensures in
+    let rows : length routes * width ≡ length c.args.routes.now * width = ap (λ (n : ℕ). n * width) (length-lists_of c.args.routes.now) in
+    IsTask-tables p table routes groups c.in_ok-numbers.numbers width c.requires.belongs c.requires.routes c.requires.groups c.longest-width.ensures.wide c.longest-width.ensures.short
+    (HaveWindows-start p table routes c.requires.belongs c.requires.routes groups width c.start.new.values starts) c.in_ok-numbers.ensures.width
+    (subst (λ (n : ℕ). AreGroupNumbers routes groups width n c.in_ok-numbers.numbers.table.items) (sym (length-lists_of c.args.groups.now)) c.in_ok-numbers.ensures.numbers)
+    (omega (arith, c.in_ok-numbers.ensures.long, rows))
+
+pub invariant_of-task-2 : goal.invariant_of-task-2
+invariant_of-task-2 c =
     let p = c.args.instance.now in
     let table = c.args.windows.now in
     let routes : List (List ℕ) = lists_of c.args.routes.now in
@@ -107,23 +124,6 @@ returns-in-Some-2-clause-exact c =
       (λ have. absurd (no_times-IsClash p (windows_in table) routes groups (record { shipment = c.in-Some-2.late.leg.shipment; leg = c.in-Some-2.late.leg.leg }) c.in-Some-2.late.value
           (option_map (λ (w : Window). w.hi) (window_of (windows_in table) routes c.in-Some-2.late.leg)) (IsClash-IsLate p (windows_in table) routes groups c.in-Some-2.late late) have)),
     )
-
-pub settle-requires-clause-task : goal.settle-requires-clause-task
-settle-requires-clause-task c =
-    let p = c.args.instance.now in
-    let table = c.args.windows.now in
-    let routes : List (List ℕ) = lists_of c.args.routes.now in
-    let groups : List (List Member) = lists_of c.args.groups.now in
-    let width : ℕ = c.longest-width.result in
-    let starts : (m : Member) → IsMemberOf routes m → IsSomeAnd (window_of (windows_in table) routes m) (λ w. value_at width c.start.new.values m ≡ w.lo) =
-    subst (λ (o : Option Member). MatchOption o
-    ((m : Member) → IsMemberOf routes m → IsSomeAnd (window_of (windows_in table) routes m) (λ w. value_at width c.start.new.values m ≡ w.lo))
-    (λ m. IsMemberOf routes m × (window_of (windows_in table) routes m ≡ None))) c.in_default.is c.start.ensures in
-    let rows : length routes * width ≡ length c.args.routes.now * width = ap (λ (n : ℕ). n * width) (length-lists_of c.args.routes.now) in
-    IsTask-tables p table routes groups c.in_ok-numbers.numbers width c.requires.belongs c.requires.routes c.requires.groups c.longest-width.ensures.wide c.longest-width.ensures.short
-    (HaveWindows-start p table routes c.requires.belongs c.requires.routes groups width c.start.new.values starts) c.in_ok-numbers.ensures.width
-    (subst (λ (n : ℕ). AreGroupNumbers routes groups width n c.in_ok-numbers.numbers.table.items) (sym (length-lists_of c.args.groups.now)) c.in_ok-numbers.ensures.numbers)
-    (omega (arith, c.in_ok-numbers.ensures.long, rows))
 
 pub returns-in-Some-3-clause-exact : goal.returns-in-Some-3-clause-exact
 returns-in-Some-3-clause-exact c =

@@ -36,19 +36,19 @@ returns c =
     let exist : All (λ (n : Need). n.terminal < length p.terminals) needs = c.terminals_exist.ensures.exist.0 c.if-not-terminals_exist.false in
     let at : All (HasMoment c.in_ok-moments.moments.items) needs = c.in_ok-moments.ensures.moments in
     let leaves : List ℕ = c.in_ok-leaving.leaving.items in
-    let arrives : List ℕ = c.in_ok-arriving.arriving.items in
+    let arrives : List ℕ = c.in_ok-leaving.arriving.items in
     let counted : AreCounted p lines c.in_ok-moments.moments.items leaves arrives = record {
-      leaves = λ v lt. c.in_ok-leaving.ensures.counts v lt ∙ ap (λ (ms : List ℕ). leaving p lines v (get_or ms v 0)) c.as_slice.ensures.value;
-      arrives = λ v lt. c.in_ok-arriving.ensures.counts v lt ∙ ap (λ (ms : List ℕ). arriving p lines v (get_or ms v 0)) c.as_slice-2.ensures.value;
+      leaves = λ v lt. c.in_ok-leaving.ensures.leaving v lt ∙ ap (λ (ms : List ℕ). leaving p lines v (get_or ms v 0)) c.as_slice.ensures.value;
+      arrives = λ v lt. c.in_ok-leaving.ensures.arriving v lt ∙ ap (λ (ms : List ℕ). arriving p lines v (get_or ms v 0)) c.as_slice.ensures.value;
     } in
-    let shown : All (IsMet c.as_slice-3.result.now c.as_slice-4.result.now) needs → All (IsMet leaves arrives) needs =
+    let shown : All (IsMet c.as_slice-2.result.now c.as_slice-3.result.now) needs → All (IsMet leaves arrives) needs =
     λ met.
-    subst (λ (xs : List ℕ). All (IsMet xs arrives) needs) c.as_slice-3.ensures.value
-    (subst (λ (xs : List ℕ). All (IsMet c.as_slice-3.result.now xs) needs) c.as_slice-4.ensures.value met) in
-    let told : All (IsMet leaves arrives) needs → All (IsMet c.as_slice-3.result.now c.as_slice-4.result.now) needs =
+    subst (λ (xs : List ℕ). All (IsMet xs arrives) needs) c.as_slice-2.ensures.value
+    (subst (λ (xs : List ℕ). All (IsMet c.as_slice-2.result.now xs) needs) c.as_slice-3.ensures.value met) in
+    let told : All (IsMet leaves arrives) needs → All (IsMet c.as_slice-2.result.now c.as_slice-3.result.now) needs =
     λ met.
-    subst (λ (xs : List ℕ). All (IsMet c.as_slice-3.result.now xs) needs) (sym c.as_slice-4.ensures.value)
-    (subst (λ (xs : List ℕ). All (IsMet xs arrives) needs) (sym c.as_slice-3.ensures.value) met) in (
+    subst (λ (xs : List ℕ). All (IsMet c.as_slice-2.result.now xs) needs) (sym c.as_slice-3.ensures.value)
+    (subst (λ (xs : List ℕ). All (IsMet xs arrives) needs) (sym c.as_slice-2.ensures.value) met) in (
       λ yes. record {
         ascend = c.needs_ascend.ensures.0 c.if-not-needs_ascend.false;
         deficits = λ k d lt.

@@ -1,5 +1,6 @@
 use Rattle.std.proofs.Common.{refl}
 use Rattle.fp_session_history.specs.declared.endings.Left.TheVariants.{Nothing}
+use Rattle.fp_session.proofs.SameHands.{IsSearch-back, cut-back, cut-few}
 use Rattle.fp_session.proofs.SearchChanges.{IsSearch-stop}
 use Rattle.fp_session.proofs.advances.advance_open.Goals as goal
 
@@ -11,3 +12,18 @@ returns-in-None-clause-step c = record { left = refl; leaves = refl; splits = re
 
 pub returns-in-None-clause-order : goal.returns-in-None-clause-order
 returns-in-None-clause-order c = record { tree = refl; closed = c.in-None.ensures.none.0 refl }
+
+pub cut-requires : goal.cut-requires
+cut-requires c =
+    cut-few c.args.search.now.instance c.args.prices.now c.attempt.new.prices c.count-count.result c.attempt.ensures.grown c.count-count.ensures
+
+pub returns-in-Err-clause-search : goal.returns-in-Err-clause-search
+returns-in-Err-clause-search c =
+    IsSearch-back c.args.search.now c.attempt.new.search c.args.prices.now c.cut.new.self c.in-Err.ensures.err
+    (cut-back c.args.search.now.instance c.args.prices.now c.attempt.new.prices c.cut.new.self c.count-count.result c.requires.search.prices c.attempt.ensures.grown
+    c.count-count.ensures c.cut.ensures) c.requires.search
+
+pub returns-in-Err-clause-prices : goal.returns-in-Err-clause-prices
+returns-in-Err-clause-prices c =
+    cut-back c.args.search.now.instance c.args.prices.now c.attempt.new.prices c.cut.new.self c.count-count.result c.requires.search.prices c.attempt.ensures.grown
+    c.count-count.ensures c.cut.ensures

@@ -9,20 +9,6 @@ use Rattle.fp_yard.specs.Schedules.{Schedule}
 use Rattle.fp_yard.proofs.AllowedEvents.{IsChosen-more, all-few, none-listed, number-more}
 use Rattle.fp_yard.proofs.driving.drive.Goals as goal
 
-pub returns-in_err-advance-clause-chosen : goal.returns-in_err-advance-clause-chosen
-returns-in_err-advance-clause-chosen c =
-    let s : Schedule = c.turns.yard.schedule in
-    let h : List Event = c.turns.yard.history in
-    let events : List Event = c.turns.events.items in
-    let len : c.len.result ≡ length events = omega (arith, c.len.ensures, c.turns.events.ok) in
-    let lt : c.draw-place.result < length events = omega (arith, c.draw-place.ensures.below, len) in
-    let e : Event = c.index.result.now in
-    let place : c.draw-place.result ≡ drawn (number_after c.args.seed (length h)) (length events) = c.draw-place.ensures.drawn ∙ ap₂ drawn c.turns.invariant.number len in
-    let is : e ≡ event_at events (drawn (number_after c.args.seed (length h)) (length events)) =
-    c.index.ensures ∙ get_or_default events c.draw-place.result e no_event lt ∙ ap (event_at events) place in
-    subst (λ (y : YardModel). IsChosen y.schedule c.args.seed y.history) (sym c.step.ensures.history)
-    (IsChosen-more s c.args.seed h events e c.turns.invariant.chosen c.turns.invariant.enabled (omega (arith, lt)) is)
-
 pub turns-preserved : goal.turns-preserved
 turns-preserved c =
     let s : Schedule = c.turns.yard.schedule in

@@ -7,7 +7,7 @@ use Rattle.fp_yard.proofs.driving.drive.Given as goal
 -- allowed now
 abbrev pub invariant-turns : goal.invariant-turns
 invariant-turns l = record {
-  schedule : l.yard.schedule ≡ l.initial.yard.schedule;
+  schedule : l.yard.schedule ≡ l.fn.yard.schedule;
   chosen : IsChosen l.yard.schedule l.seed l.yard.history;
   number : l.draws ≡ number_after l.seed (length l.yard.history);
   within : length l.yard.history ≤ 2 * length l.yard.schedule.tails;

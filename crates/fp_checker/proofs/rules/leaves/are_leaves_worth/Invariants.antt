@@ -11,8 +11,8 @@ use Rattle.fp_checker.proofs.rules.leaves.are_leaves_worth.Given as goal
 abbrev pub invariant-loop-node : goal.invariant-loop-node
 invariant-loop-node l = record {
   left :
-      AreWorthFrom l.instance l.windows l.certificate (steps_of l.way) (drop l.node-index l.certificate.tree)
-      ↔ AreLeavesWorth l.instance l.windows l.certificate (claim_of l.certificate.answer);
+      AreWorthFrom l.case.problem l.case.windows l.case.told (steps_of l.way) (drop l.node-index l.case.told.tree)
+      ↔ AreLeavesWorth l.case.problem l.case.windows l.case.told (claim_of l.case.told.answer);
   way : IsKept l.way;
-  kept : AreRoundBounds l.instance l.points l.certificate.tables l.bounds;
+  kept : AreRoundBounds l.case.problem l.points l.case.told.tables l.bounds;
 }

@@ -1,6 +1,5 @@
 use Rattle.std.proofs.Common.{◌≡◌, ℕ, ◌<◌, ◌≤◌, drop, get_or, length}
 use Rattle.std.specs.Prelude.{IsSomeAnd}
-use Rattle.fp_base_lists.specs.Vectors.{lists_of}
 use Rattle.fp_model.specs.declared.parts.Member.{Member}
 use Rattle.fp_flatnet.specs.Tables.{windows_in}
 use Rattle.fp_dispatch.specs.Rising.{raised, state_of}
@@ -12,7 +11,7 @@ abbrev pub invariant-loop-leg : goal.invariant-loop-leg
 invariant-loop-leg l = record {
   values : length l.self.values.items ≡ length l.fn.self.values.items;
   waits : length l.self.waits.items ≡ length l.fn.self.waits.items;
-  rest : raised l.width (drop l.leg-index l.legs) l.to (state_of l.self) ≡ raised l.width l.legs l.to (state_of l.fn.self);
+  rest : raised l.task.numbers.width (drop l.leg-index l.legs) l.to (state_of l.self) ≡ raised l.task.numbers.width l.legs l.to (state_of l.fn.self);
   fits : (k : ℕ) (d : Member) → k < l.leg-index →
-      IsSomeAnd (window_of (windows_in l.windows) (lists_of l.routes) (get_or l.legs k d)) (λ w. l.to ≤ w.hi);
+      IsSomeAnd (window_of (windows_in l.task.table) l.task.routes (get_or l.legs k d)) (λ w. l.to ≤ w.hi);
 }

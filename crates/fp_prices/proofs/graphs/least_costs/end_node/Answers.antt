@@ -6,7 +6,7 @@ use Rattle.fp_prices.proofs.graphs.least_costs.end_node.Goals as goal
 
 pub returns-clause-exists : goal.returns-clause-exists
 returns-clause-exists c =
-    let p = c.args.instance.now in
-    let net = c.args.network.now in
+    let p = c.args.over.now.pricing.now.instance.now in
+    let net = c.args.over.now.pricing.now.network.now in
     let ends = are-ends p net c.args.shipment c.shipment.ensures.valid c.requires.graph.whole c.requires.shipment in
     omega (arith, ends.last, c.last_node_of.ensures ∙ ap (λ (s : Shipment). last_node net s.to) c.shipment.ensures.same)

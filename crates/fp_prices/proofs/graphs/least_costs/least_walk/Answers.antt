@@ -1,4 +1,4 @@
-use Rattle.std.proofs.Common.{◌≡◌, List, true, sym, ◌∙◌, subst, arith}
+use Rattle.std.proofs.Common.{◌≡◌, List, true, sym, ◌∙◌, subst}
 use Rattle.std.proofs.lemmas.Bool.{false≢true}
 use Rattle.fp_model.specs.declared.parts.Leg.{Leg}
 use Rattle.fp_model.specs.declared.parts.Shipment.{Shipment}
@@ -9,7 +9,6 @@ use Rattle.fp_longestarcs.specs.Stops.{legs_of}
 use Rattle.fp_prices.specs.ClassCosts.{IsLeastOver}
 use Rattle.fp_prices.specs.LeastWalks.{IsLeastWalk}
 use Rattle.fp_prices.specs.Leaves.{IsLeastCost}
-use Rattle.fp_prices.proofs.CostBounds.{classes-fit}
 use Rattle.fp_prices.proofs.GraphWalks.{AreCosts}
 use Rattle.fp_prices.proofs.OriginLabels.{cost-least, walk-least, walk-none}
 use Rattle.fp_prices.proofs.PreferredWalks.{cost_of-least, least-of_cost}
@@ -17,8 +16,8 @@ use Rattle.fp_prices.proofs.graphs.least_costs.least_walk.Goals as goal
 
 pub returns-in-None-clause-least : goal.returns-in-None-clause-least
 returns-in-None-clause-least c = λ allowed price classes holds.
-    let p = c.args.instance.now in
-    let net = c.args.network.now in
+    let p = c.args.over.now.pricing.now.instance.now in
+    let net = c.args.over.now.pricing.now.network.now in
     let g = c.requires.graph in
     let s : Shipment = shipment_at p c.args.shipment in
     let are : AreCosts p net allowed price s.size c.args.costs.now =
@@ -28,8 +27,8 @@ returns-in-None-clause-least c = λ allowed price classes holds.
 
 pub returns-in-None-clause-preferred : goal.returns-in-None-clause-preferred
 returns-in-None-clause-preferred c = λ allowed price classes holds own.
-    let p = c.args.instance.now in
-    let net = c.args.network.now in
+    let p = c.args.over.now.pricing.now.instance.now in
+    let net = c.args.over.now.pricing.now.network.now in
     let g = c.requires.graph in
     let s : Shipment = shipment_at p c.args.shipment in
     let are : AreCosts p net allowed price s.size c.args.costs.now =
@@ -37,13 +36,10 @@ returns-in-None-clause-preferred c = λ allowed price classes holds own.
     absurd (walk-none p net c.args.shipment c.args.costs.now c.in_ok-labels.labels c.end_node-end.ensures.valid g.whole c.requires.shipment c.in_ok-labels.ensures c.end_node-end.result c.end_node-end.ensures.node
     allowed price are c.to.result c.to.ensures.label c.in-None.is (legs_of c.args.preferred.now) own.timed)
 
-pub is_walk_of_cost-requires-clause-long : goal.is_walk_of_cost-requires-clause-long
-is_walk_of_cost-requires-clause-long c = omega (arith, c.requires.count, classes-fit c.args.instance.now c.args.network.now c.args.graph.now c.requires.graph)
-
 pub returns-then-branch-clause-least : goal.returns-then-branch-clause-least
 returns-then-branch-clause-least c = λ allowed price classes holds.
-    let p = c.args.instance.now in
-    let net = c.args.network.now in
+    let p = c.args.over.now.pricing.now.instance.now in
+    let net = c.args.over.now.pricing.now.network.now in
     let g = c.requires.graph in
     let s : Shipment = shipment_at p c.args.shipment in
     let are : AreCosts p net allowed price s.size c.args.costs.now =
@@ -57,8 +53,8 @@ returns-then-branch-clause-least c = λ allowed price classes holds.
 
 pub returns-clause-least : goal.returns-clause-least
 returns-clause-least c = λ allowed price classes holds.
-    let p = c.args.instance.now in
-    let net = c.args.network.now in
+    let p = c.args.over.now.pricing.now.instance.now in
+    let net = c.args.over.now.pricing.now.network.now in
     let g = c.requires.graph in
     let s : Shipment = shipment_at p c.args.shipment in
     let are : AreCosts p net allowed price s.size c.args.costs.now =
@@ -69,8 +65,8 @@ returns-clause-least c = λ allowed price classes holds.
 
 pub returns-clause-preferred : goal.returns-clause-preferred
 returns-clause-preferred c = λ allowed price classes holds own.
-    let p = c.args.instance.now in
-    let net = c.args.network.now in
+    let p = c.args.over.now.pricing.now.instance.now in
+    let net = c.args.over.now.pricing.now.network.now in
     let g = c.requires.graph in
     let s : Shipment = shipment_at p c.args.shipment in
     let are : AreCosts p net allowed price s.size c.args.costs.now =

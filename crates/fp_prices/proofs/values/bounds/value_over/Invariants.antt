@@ -8,9 +8,9 @@ use Rattle.fp_prices.proofs.values.bounds.value_over.Given as goal
 -- the value is that of the shipments so far
 abbrev pub invariant-loop-shipment : goal.invariant-loop-shipment
 invariant-loop-shipment l = record {
-  so_far : AreLeastSoFar l.pricing l.rows l.bases l.shipment l.value;
-  edges : length l.costs.items ≡ l.graph.edges;
-  free : IsFree (class_count l.pricing.network.now) l.costs.items;
-  known : AreKnownUnder l.pricing l.known.items;
+  so_far : AreLeastSoFar l.over.pricing.now l.rows l.bases l.shipment l.value;
+  edges : length l.costs.items ≡ l.over.graph.now.edges;
+  free : IsFree (class_count l.over.pricing.now.network.now) l.costs.items;
+  known : AreKnownUnder l.over.pricing.now l.known.items;
   before : l.shipment ≤ length l.known.items;
 }

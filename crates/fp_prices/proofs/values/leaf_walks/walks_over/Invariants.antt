@@ -8,8 +8,8 @@ use Rattle.fp_prices.proofs.values.leaf_walks.walks_over.Given as goal
 -- the walks are those of the shipments so far, the preferred ones where these are of least cost
 abbrev pub invariant-loop-shipment : goal.invariant-loop-shipment
 invariant-loop-shipment l = record {
-  so_far : AreWalksSoFar l.pricing l.rows l.shipment l.walks.items;
-  preferred : ArePreferredSoFar l.pricing l.rows l.preferred l.shipment l.walks.items;
-  edges : length l.costs.items ≡ l.graph.edges;
-  free : IsFree (class_count l.pricing.network.now) l.costs.items;
+  so_far : AreWalksSoFar l.over.pricing.now l.rows l.shipment l.walks.items;
+  preferred : ArePreferredSoFar l.over.pricing.now l.rows l.preferred l.shipment l.walks.items;
+  edges : length l.costs.items ≡ l.over.graph.now.edges;
+  free : IsFree (class_count l.over.pricing.now.network.now) l.costs.items;
 }

@@ -18,12 +18,15 @@ of-requires-2 c = subst (λ (p : Problem). BelongsTo p c.args.windows.now) (sym 
 pub span_bound-requires-clause-tables : goal.span_bound-requires-clause-tables
 span_bound-requires-clause-tables c =
     let is = leaf-is c.args.instance.now c.args.windows.now c.args.sides.now c.in_ok-network.network c.in_ok-leaf.leaf c.in_ok-network.ensures.instance c.in_ok-leaf.ensures.setting c.in_ok-leaf.ensures.sides in
-    subst (λ (l : LeafModel). AreTables l.setting.problem c.args.tables.now) (sym is) c.requires.tables
+    subst (λ (l : LeafModel). AreTables l.setting.problem c.args.tables.now) (sym is) c.requires.prices.are_tables
+
+pub span_bound-requires-clause-kind : goal.span_bound-requires-clause-kind
+span_bound-requires-clause-kind c = c.requires.prices.has_kind
 
 pub span_bound-requires-clause-spans : goal.span_bound-requires-clause-spans
 span_bound-requires-clause-spans c =
     let is = leaf-is c.args.instance.now c.args.windows.now c.args.sides.now c.in_ok-network.network c.in_ok-leaf.leaf c.in_ok-network.ensures.instance c.in_ok-leaf.ensures.setting c.in_ok-leaf.ensures.sides in
-    subst (λ (l : LeafModel). AreSpans l.setting.problem c.args.spans.now) (sym is) c.requires.spans
+    subst (λ (l : LeafModel). AreSpans l.setting.problem c.args.spans.now) (sym is) c.requires.prices.are_spans
 
 pub returns-clause-exact : goal.returns-clause-exact
 returns-clause-exact c =

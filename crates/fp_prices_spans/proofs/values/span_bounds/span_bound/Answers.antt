@@ -5,12 +5,25 @@ use Rattle.fp_flatnet.specs.Tables.{windows_in}
 use Rattle.fp_longestarcs.specs.Networks.{points_in}
 use Rattle.fp_prices.specs.declared.values.bounds.LeafBound.{LeafBound}
 use Rattle.fp_prices.specs.LeafPricings.{AreChainsOf, PricingModel}
-use Rattle.fp_prices_spans.specs.SpanCosts.{AreBases, IsAfterCharges, IsFoundBySpans}
+use Rattle.fp_prices.specs.Prices.{AllKeepRule}
+use Rattle.fp_prices_spans.specs.SpanCosts.{AreBases, HasChains, IsAfterCharges, IsFoundBySpans}
 use Rattle.fp_prices_spans.specs.SpanLeaves.{IsSmallSpanBound, IsSpanBoundOf}
+use Rattle.fp_prices_spans.specs.SpanLists.{AreSpans}
 use Rattle.fp_prices_spans.specs.Spans.{ClassSpan}
 use Rattle.fp_prices_spans.proofs.SpanBoundsFound.{bound-plans, value-after}
 use Rattle.fp_prices_spans.proofs.values.span_bounds.span_bound.Goals as goal
 use Rattle.fp_prices_spans.proofs.values.span_bounds.span_bound.Goals.{in-Empty, in-Value}
+
+pub value_over-requires-clause-by_spans : goal.value_over-requires-clause-by_spans
+value_over-requires-clause-by_spans c =
+    let m : PricingModel = record { leaf = c.args.leaf.now; tables = c.args.tables.now; kind = c.args.kind; forced = c.args.forced } in
+    let same : c.in_ok-pricing.pricing ≡ m = c.in_ok-pricing.ensures.is in
+    record {
+      keep = subst (λ (o : PricingModel). AllKeepRule o.leaf.setting.problem o.tables) (sym same) c.requires.tables.rule;
+      chains = subst (λ (o : PricingModel). HasChains o.leaf o.forced) (sym same) c.in_ok-pricing.ensures.chains;
+      spans = subst (λ (o : PricingModel). AreSpans o.leaf.setting.problem c.args.spans.now) (sym same) c.requires.spans;
+      row = c.in_ok-row.ensures;
+    }
 
 exact : (c : goal.After-drop-pricing-inside-5) →
     IsSpanBoundOf c.args.leaf.now.setting.problem (windows_in c.args.leaf.now.setting.windows) (points_in c.args.leaf.now.setting.network) c.args.leaf.now.sides c.args.tables.now c.args.spans.now c.args.kind c.args.forced c.match-found.result

@@ -13,13 +13,13 @@ use Rattle.fp_prices_spans.proofs.values.span_bounds.value_over.Goals as goal
 
 pub loop-shipment-init : goal.loop-shipment-init
 loop-shipment-init c =
-    let m = c.args.pricing.now in
+    let m = c.args.by_spans.now.pricing.now in
     let p : Problem = m.leaf.setting.problem in
     let net : TimedNetwork = m.leaf.setting.network in
     let problem : c.round-round.result.now.problem ≡ p = c.round-round.ensures.problem ∙ ap (λ (l : LeafModel). l.setting.problem) c.leaf.ensures in
     let network : c.round-round.result.now.network ≡ net = c.round-round.ensures.network ∙ ap (λ (l : LeafModel). l.setting.network) c.leaf.ensures in
     record {
-      so_far = least-none m c.args.spans.now c.args.bases;
+      so_far = least-none m c.args.by_spans.now.spans.now c.args.bases;
       long = omega (arith, c.in_ok-prices.ensures.len, c.classes.ensures.count, ap (λ (n : TimedNetwork). class_count n) (c.network.ensures.same ∙ network));
       edges = c.in_ok-costs.ensures.count ∙ ap (λ (q : Problem). length (edges_of q c.round-round.result.now.network)) problem ∙ ap (λ (n : TimedNetwork). length (edges_of p n)) network;
       free = λ e from h. c.in_ok-costs.ensures.free e (omega arith) h;
@@ -27,17 +27,17 @@ loop-shipment-init c =
 
 pub overflow_add-value : goal.overflow_add-value
 overflow_add-value c =
-    let m = c.args.pricing.now in
+    let m = c.args.by_spans.now.pricing.now in
     let p : Problem = m.leaf.setting.problem in
     let i : ℕ = c.loop-shipment.shipment in
     let instance : c.instance.result.now ≡ p = c.instance.ensures.same ∙ c.round-round.ensures.problem ∙ ap (λ (l : LeafModel). l.setting.problem) c.leaf.ensures in
     let exists : i < length p.shipments = omega (arith, ap (λ (l : List Shipment). length l) c.shipments.ensures.same, ap (λ (q : Problem). length q.shipments) instance) in
     let valid : IsValid p = subst IsValid instance c.shipments.ensures.valid in
-    omega (arith, more-fits m c.args.spans.now c.args.bases i c.loop-shipment.value exists c.loop-shipment.invariant.so_far c.in-Some.cost valid c.requires.bases (subst (IsSmallBySpans p i) c.in-Some.is c.in_ok-cost.ensures.small))
+    omega (arith, more-fits m c.args.by_spans.now.spans.now c.args.bases i c.loop-shipment.value exists c.loop-shipment.invariant.so_far c.in-Some.cost valid c.requires.bases (subst (IsSmallBySpans p i) c.in-Some.is c.in_ok-cost.ensures.small))
 
 pub loop-shipment-preserved : goal.loop-shipment-preserved
 loop-shipment-preserved c =
-    let m = c.args.pricing.now in
+    let m = c.args.by_spans.now.pricing.now in
     let p : Problem = m.leaf.setting.problem in
     let i : ℕ = c.loop-shipment.shipment in
     let instance : c.instance.result.now ≡ p = c.instance.ensures.same ∙ c.round-round.ensures.problem ∙ ap (λ (l : LeafModel). l.setting.problem) c.leaf.ensures in
@@ -51,7 +51,7 @@ loop-shipment-preserved c =
     let costs_written : take c.loop-shipment.costs.len (costs ++ drop (length costs) c.loop-shipment.costs.items) ≡ costs =
     whole_write c.loop-shipment.costs.len costs (drop (length costs) c.loop-shipment.costs.items) (omega (arith, c.loop-shipment.costs.ok, costs_long)) in
     record {
-      so_far = least-more m c.args.spans.now c.args.bases i c.loop-shipment.value exists c.loop-shipment.invariant.so_far c.in-Some.cost (subst (IsLeastBySpans m c.args.spans.now i) c.in-Some.is c.in_ok-cost.ensures.exact)
+      so_far = least-more m c.args.by_spans.now.spans.now c.args.bases i c.loop-shipment.value exists c.loop-shipment.invariant.so_far c.in-Some.cost (subst (IsLeastBySpans m c.args.by_spans.now.spans.now i) c.in-Some.is c.in_ok-cost.ensures.exact)
           (subst (IsSmallBySpans p i) c.in-Some.is c.in_ok-cost.ensures.small);
       long = ap (λ (l : List ℕ). length l) prices_written ∙ prices_long ∙ c.loop-shipment.invariant.long;
       edges = ap (λ (l : List (Option ℕ)). length l) costs_written ∙ costs_long ∙ c.loop-shipment.invariant.edges;
@@ -63,29 +63,29 @@ returns-in-None-clause-valid c = subst IsValid (c.instance.ensures.same ∙ c.ro
 
 pub returns-in-None-clause-exact : goal.returns-in-None-clause-exact
 returns-in-None-clause-exact c =
-    let m = c.args.pricing.now in
+    let m = c.args.by_spans.now.pricing.now in
     let p : Problem = m.leaf.setting.problem in
     let i : ℕ = c.loop-shipment.shipment in
     let instance : c.instance.result.now ≡ p = c.instance.ensures.same ∙ c.round-round.ensures.problem ∙ ap (λ (l : LeafModel). l.setting.problem) c.leaf.ensures in
     let exists : i < length p.shipments = omega (arith, ap (λ (l : List Shipment). length l) c.shipments.ensures.same, ap (λ (q : Problem). length q.shipments) instance) in
-    first-without m c.args.spans.now c.args.bases i c.loop-shipment.value exists c.loop-shipment.invariant.so_far c.requires.chains (subst (IsLeastBySpans m c.args.spans.now i) c.in-None.is c.in_ok-cost.ensures.exact)
+    first-without m c.args.by_spans.now.spans.now c.args.bases i c.loop-shipment.value exists c.loop-shipment.invariant.so_far c.requires.by_spans.chains (subst (IsLeastBySpans m c.args.by_spans.now.spans.now i) c.in-None.is c.in_ok-cost.ensures.exact)
 
 pub returns-clause-valid : goal.returns-clause-valid
 returns-clause-valid c = subst IsValid (c.instance.ensures.same ∙ c.round-round.ensures.problem ∙ ap (λ (l : LeafModel). l.setting.problem) c.leaf.ensures) c.shipments.ensures.valid
 
 pub returns-clause-exact : goal.returns-clause-exact
 returns-clause-exact c =
-    let m = c.args.pricing.now in
+    let m = c.args.by_spans.now.pricing.now in
     let p : Problem = m.leaf.setting.problem in
     let instance : c.instance.result.now ≡ p = c.instance.ensures.same ∙ c.round-round.ensures.problem ∙ ap (λ (l : LeafModel). l.setting.problem) c.leaf.ensures in
-    least-all m c.args.spans.now c.args.bases c.loop-shipment.shipment c.loop-shipment.value
+    least-all m c.args.by_spans.now.spans.now c.args.bases c.loop-shipment.shipment c.loop-shipment.value
     (omega (arith, ap (λ (l : List Shipment). length l) c.shipments.ensures.same, ap (λ (q : Problem). length q.shipments) instance)) c.loop-shipment.invariant.so_far
 
 pub returns-clause-small : goal.returns-clause-small
 returns-clause-small c =
-    let m = c.args.pricing.now in
+    let m = c.args.by_spans.now.pricing.now in
     let p : Problem = m.leaf.setting.problem in
     let instance : c.instance.result.now ≡ p = c.instance.ensures.same ∙ c.round-round.ensures.problem ∙ ap (λ (l : LeafModel). l.setting.problem) c.leaf.ensures in
-    all-small m c.args.spans.now c.args.bases c.loop-shipment.shipment c.loop-shipment.value
+    all-small m c.args.by_spans.now.spans.now c.args.bases c.loop-shipment.shipment c.loop-shipment.value
     (omega (arith, ap (λ (l : List Shipment). length l) c.shipments.ensures.same, ap (λ (q : Problem). length q.shipments) instance, c.loop-shipment.auto.shipment-end)) (subst IsValid instance c.shipments.ensures.valid) c.requires.bases
     c.loop-shipment.invariant.so_far

@@ -8,10 +8,10 @@ use Rattle.fp_prices.proofs.graphs.point_graphs.PointGraph.of.Goals as goal
 
 pub new-requires-clause-ends : goal.new-requires-clause-ends
 new-requires-clause-ends c =
-    subst (λ (n : ℕ). HasEnds n c.deref-2.result.now) (sym c.in_ok-firsts.ensures.count)
-    (subst (λ (l : List Edge). HasEnds (point_count c.args.network.now) l) (sym c.deref-2.ensures.value) c.in_ok-edges.ensures.ends)
+    subst (λ (n : ℕ). HasEnds n c.deref-3.result.now) (sym c.in_ok-firsts.ensures.count)
+    (subst (λ (l : List Edge). HasEnds (point_count c.args.network.now) l) (sym c.deref-3.ensures.value) c.in_ok-hold_at_all.ensures.ends)
 
 pub new-requires-clause-few : goal.new-requires-clause-few
 new-requires-clause-few c =
-    let all = ap (λ (l : List Edge). length l) (c.deref-2.ensures.value ∙ c.in_ok-edges.ensures.edges) in
+    let all = ap (λ (l : List Edge). length l) (c.deref-3.ensures.value ∙ c.in_ok-hold_at_all.ensures.edges) in
     omega (arith, all, few-edges c.args.instance.now c.args.network.now c.requires.whole.valid, c.requires.few)

@@ -1,7 +1,8 @@
-use Rattle.std.proofs.Common.{List, sym, subst}
+use Rattle.std.proofs.Common.{List, sym, ◌∙◌, subst}
 use Rattle.std.specs.Prelude.{Bool, IfOk}
 use Rattle.fp_prices.specs.Found.{IsFoundAtLeaf, IsPricedLeaf}
-use Rattle.fp_prices.specs.LeafPricings.{PricingModel}
+use Rattle.fp_prices.specs.declared.classes.class_prices.ClassPricing.{ClassPricing}
+use Rattle.fp_prices.specs.LeafPricings.{IsLeafPricing, PricingModel}
 use Rattle.fp_prices.specs.Rounds.{IsLeafOver, LeafModel}
 use Rattle.fp_prices.proofs.KnownCosts.{ok-gives}
 use Rattle.fp_prices.proofs.LeafBounds.{base-fits, base-small, bound-exact, bound-plans, bound-small, known-after, known-before, leaf-priced}
@@ -10,15 +11,15 @@ use Rattle.fp_prices.proofs.values.leaves.Leaf.bound_with.Goals as goal
 pub bases-base-requires-clause-fits : goal.bases-base-requires-clause-fits
 bases-base-requires-clause-fits c =
     let m : PricingModel = record { leaf = c.args.self.now; tables = c.args.tables.now; kind = c.args.kind; forced = c.args.forced } in
-    let pricing = c.in_ok-pricing.pricing in
-    let is = c.in_ok-pricing.ensures in
+    let pricing : ClassPricing = c.priced.inside.pricing in
+    let is : IsLeafPricing m pricing = subst (λ (o : PricingModel). IsLeafPricing o pricing) (c.priced.view_is ∙ c.in_ok-priced.ensures.is) c.priced.invariant in
     base-fits m pricing is
 
 pub value_over-requires-clause-priced : goal.value_over-requires-clause-priced
 value_over-requires-clause-priced c =
     let m : PricingModel = record { leaf = c.args.self.now; tables = c.args.tables.now; kind = c.args.kind; forced = c.args.forced } in
-    let pricing = c.in_ok-pricing.pricing in
-    let is = c.in_ok-pricing.ensures in
+    let pricing : ClassPricing = c.priced.inside.pricing in
+    let is : IsLeafPricing m pricing = subst (λ (o : PricingModel). IsLeafPricing o pricing) (c.priced.view_is ∙ c.in_ok-priced.ensures.is) c.priced.invariant in
     let rows : List (List Bool) = c.self.inside.rows.items in
     let over : IsLeafOver c.args.self.now rows = subst (λ (l : LeafModel). IsLeafOver l rows) c.self.view_is c.self.invariant in
     subst (IsPricedLeaf pricing) (sym c.deref.ensures.value) (leaf-priced m pricing is rows over.under)
@@ -26,22 +27,22 @@ value_over-requires-clause-priced c =
 pub value_over-requires-clause-bases : goal.value_over-requires-clause-bases
 value_over-requires-clause-bases c =
     let m : PricingModel = record { leaf = c.args.self.now; tables = c.args.tables.now; kind = c.args.kind; forced = c.args.forced } in
-    let pricing = c.in_ok-pricing.pricing in
-    let is = c.in_ok-pricing.ensures in
+    let pricing : ClassPricing = c.priced.inside.pricing in
+    let is : IsLeafPricing m pricing = subst (λ (o : PricingModel). IsLeafPricing o pricing) (c.priced.view_is ∙ c.in_ok-priced.ensures.is) c.priced.invariant in
     base-small m pricing is c.bases-base.result c.bases-base.ensures
 
 pub value_over-requires-clause-known : goal.value_over-requires-clause-known
 value_over-requires-clause-known c =
     let m : PricingModel = record { leaf = c.args.self.now; tables = c.args.tables.now; kind = c.args.kind; forced = c.args.forced } in
-    let pricing = c.in_ok-pricing.pricing in
-    let is = c.in_ok-pricing.ensures in
+    let pricing : ClassPricing = c.priced.inside.pricing in
+    let is : IsLeafPricing m pricing = subst (λ (o : PricingModel). IsLeafPricing o pricing) (c.priced.view_is ∙ c.in_ok-priced.ensures.is) c.priced.invariant in
     known-before m pricing is c.args.known.now.items c.requires.known
 
 pub returns-clause-exact : goal.returns-clause-exact
 returns-clause-exact c =
     let m : PricingModel = record { leaf = c.args.self.now; tables = c.args.tables.now; kind = c.args.kind; forced = c.args.forced } in
-    let pricing = c.in_ok-pricing.pricing in
-    let is = c.in_ok-pricing.ensures in
+    let pricing : ClassPricing = c.priced.inside.pricing in
+    let is : IsLeafPricing m pricing = subst (λ (o : PricingModel). IsLeafPricing o pricing) (c.priced.view_is ∙ c.in_ok-priced.ensures.is) c.priced.invariant in
     let rows : List (List Bool) = c.self.inside.rows.items in
     let over : IsLeafOver c.args.self.now rows = subst (λ (l : LeafModel). IsLeafOver l rows) c.self.view_is c.self.invariant in
     let found : IfOk c.value_over.result (IsFoundAtLeaf pricing rows c.bases-base.result) =
@@ -51,8 +52,8 @@ returns-clause-exact c =
 pub returns-clause-plans : goal.returns-clause-plans
 returns-clause-plans c =
     let m : PricingModel = record { leaf = c.args.self.now; tables = c.args.tables.now; kind = c.args.kind; forced = c.args.forced } in
-    let pricing = c.in_ok-pricing.pricing in
-    let is = c.in_ok-pricing.ensures in
+    let pricing : ClassPricing = c.priced.inside.pricing in
+    let is : IsLeafPricing m pricing = subst (λ (o : PricingModel). IsLeafPricing o pricing) (c.priced.view_is ∙ c.in_ok-priced.ensures.is) c.priced.invariant in
     let rows : List (List Bool) = c.self.inside.rows.items in
     let over : IsLeafOver c.args.self.now rows = subst (λ (l : LeafModel). IsLeafOver l rows) c.self.view_is c.self.invariant in
     let found : IfOk c.value_over.result (IsFoundAtLeaf pricing rows c.bases-base.result) =
@@ -62,8 +63,8 @@ returns-clause-plans c =
 pub returns-clause-small : goal.returns-clause-small
 returns-clause-small c =
     let m : PricingModel = record { leaf = c.args.self.now; tables = c.args.tables.now; kind = c.args.kind; forced = c.args.forced } in
-    let pricing = c.in_ok-pricing.pricing in
-    let is = c.in_ok-pricing.ensures in
+    let pricing : ClassPricing = c.priced.inside.pricing in
+    let is : IsLeafPricing m pricing = subst (λ (o : PricingModel). IsLeafPricing o pricing) (c.priced.view_is ∙ c.in_ok-priced.ensures.is) c.priced.invariant in
     let rows : List (List Bool) = c.self.inside.rows.items in
     let over : IsLeafOver c.args.self.now rows = subst (λ (l : LeafModel). IsLeafOver l rows) c.self.view_is c.self.invariant in
     let found : IfOk c.value_over.result (IsFoundAtLeaf pricing rows c.bases-base.result) =
@@ -73,6 +74,6 @@ returns-clause-small c =
 pub returns-clause-known : goal.returns-clause-known
 returns-clause-known c =
     let m : PricingModel = record { leaf = c.args.self.now; tables = c.args.tables.now; kind = c.args.kind; forced = c.args.forced } in
-    let pricing = c.in_ok-pricing.pricing in
-    let is = c.in_ok-pricing.ensures in
+    let pricing : ClassPricing = c.priced.inside.pricing in
+    let is : IsLeafPricing m pricing = subst (λ (o : PricingModel). IsLeafPricing o pricing) (c.priced.view_is ∙ c.in_ok-priced.ensures.is) c.priced.invariant in
     ok-gives (λ b under shared plain. known-after m pricing is c.value_over.new.known.items shared plain under) c.value_over.result c.value_over.ensures.known

@@ -1,6 +1,0 @@
-use Rattle.fp_prices.proofs.ForcedSoFar.{ForcedSoFar}
-use Rattle.fp_prices.proofs.classes.bases.all_chains.Given as goal
-
--- the chains of the shipments so far were added
-abbrev pub invariant-loop-shipment : goal.invariant-loop-shipment
-invariant-loop-shipment l = ForcedSoFar l.allowed l.rows l.shipment l.forced

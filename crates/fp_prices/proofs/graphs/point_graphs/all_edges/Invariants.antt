@@ -1,6 +1,0 @@
-use Rattle.std.proofs.Common.{◌≡◌, ◌++◌}
-use Rattle.fp_prices.specs.Points.{class_edges, holding_below}
-use Rattle.fp_prices.proofs.graphs.point_graphs.all_edges.Given as goal
-
-abbrev pub invariant-loop-terminal : goal.invariant-loop-terminal
-invariant-loop-terminal l = l.edges.items ≡ class_edges l.instance l.network ++ holding_below l.network l.terminal

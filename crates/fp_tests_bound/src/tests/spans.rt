@@ -1,0 +1,170 @@
+//! What leaves are worth under prices by spans, and which spans are refused.
+
+ghost use Rattle.std.specs.Prelude.{[], ◌≡◌, ◌-◌, ◌<◌, ◌≤◌, ◌^◌, ◌∷◌, All, IfOk, length};
+ghost use Rattle.fp_prices_spans.specs.SpanLists.{IsSpanOf};
+
+use fp_flatnet::{Windows, initial};
+use fp_model::Instance;
+use fp_prices::{Kind, Leaf, LeafBound, NoMemory, RoundNetwork, Weight};
+use fp_prices_spans::{MOST_SPAN_WEIGHT, Span, SpanFault, check_charges, check_spans, span_bound};
+use fp_tests_examples::{TRIO, instance_of};
+use fp_tree::Side;
+use std::alloc::Global;
+use std::test::Fail;
+
+// An arc of truck cost 60 with trucks of 10, and two shipments of 5, which share one.
+const ROAD: &str =
+    "terminal,A\nterminal,B\narc,A,B,5,10,60,0\nshipment,S1,A,B,5,0,6\nshipment,S2,A,B,5,0,6\n";
+
+// The weights by which the first two shipments pay so much each.
+fn two_pay(alloc: Global, w: u128) -> Result<Vec<Weight>, NoMemory>
+    ensures { IfOk result (λ weights. weights.items
+        ≡ (record { shipment = 0; w = w }) ∷ (record { shipment = 1; w = w }) ∷ []) }
+{
+    let weights = vec![in alloc; Weight { shipment: 0, w }, Weight { shipment: 1, w }]?;
+    Ok(weights)
+}
+
+// The weights by which the first three shipments pay so much each.
+fn three_pay(alloc: Global, w: u128) -> Result<Vec<Weight>, NoMemory>
+    ensures { IfOk result (λ weights. weights.items
+        ≡ (record { shipment = 0; w = w }) ∷ (record { shipment = 1; w = w }) ∷ (record { shipment = 2; w = w }) ∷ []) }
+{
+    let weights = vec![in alloc;
+        Weight { shipment: 0, w },
+        Weight { shipment: 1, w },
+        Weight { shipment: 2, w },
+    ]?;
+    Ok(weights)
+}
+
+// A span of all classes of an arc with this money.
+fn whole_span(arc: u32, money: u128, charge: u128, weights: Vec<Weight>) -> Span
+    ensures { result
+        ≡ record { arc = arc; point = 0; until = 100; money = money; charge = charge; weights = weights.items } }
+{
+    Span {
+        arc,
+        point: 0,
+        until: 100,
+        money,
+        charge,
+        weights,
+    }
+}
+
+// What a leaf with the initial points is worth by spans, and by linear prices where none holds.
+// `None` where the spans are refused or a charge doesn't pay.
+fn spanned_bound(
+    alloc: Global,
+    instance: &Instance,
+    spans: &[Span],
+    sides: &[Side],
+    forced: bool,
+) -> Result<Option<LeafBound>, NoMemory>
+    requires terminals { length instance.now.terminals ≤ 100 }
+    requires exist { All (IsSpanOf instance.now) spans.now }
+    requires few { length spans.now < 2 ^ 32 - 1 }
+{
+    if check_charges(alloc, instance, spans)?.is_some() {
+        return Ok(None);
+    }
+    match check_spans(alloc, instance, spans)? {
+        Some(_) => Ok(None),
+        None => {
+            let windows = Windows::of(alloc, instance)?;
+            let points = initial(alloc, instance, &windows)?;
+            let round = RoundNetwork::of(alloc, instance, &points, 0)?;
+            let leaf = Leaf::of(alloc, &round, &windows, sides)?;
+            let bound = span_bound(alloc, &leaf, &[], spans, Kind::Linear, forced)?;
+            Ok(Some(bound))
+        }
+    }
+}
+
+#[test]
+fn three_ways(rt: HostRuntime) -> Result<(), Fail> {
+    let alloc = rt.alloc();
+    let instance = instance_of(alloc, TRIO)?;
+    assert!(rt; instance.terminals().len() <= 100);
+    assert!(rt; instance.arcs().len() == 3);
+    assert!(rt; instance.shipments().len() == 3);
+    let spans = vec![in alloc;
+        whole_span(0, 60_000_000, 0, three_pay(alloc, 60_000_000)?),
+        whole_span(1, 30_000_000, 0, three_pay(alloc, 30_000_000)?),
+        whole_span(2, 30_000_000, 0, three_pay(alloc, 30_000_000)?),
+    ]?;
+    // Each shipment pays a truck of its own, whichever way it goes.
+    let is = spanned_bound(alloc, &instance, &spans, &[], false)?;
+    assert_eq!(rt; is, Some(LeafBound::Value { value: 180_000_000 }));
+    // Without spans it pays five sixths.
+    let linear = spanned_bound(alloc, &instance, &[], &[], false)?;
+    assert_eq!(rt; linear, Some(LeafBound::Value { value: 150_000_000 }));
+    // By the straight arc alone the way round stays at linear prices.
+    let one = spanned_bound(alloc, &instance, &spans[..1], &[], false)?;
+    assert_eq!(rt; one, Some(LeafBound::Value { value: 150_000_000 }));
+    let barred = [
+        Side::Without {
+            shipment: 1,
+            arc: 0,
+        },
+        Side::Without {
+            shipment: 1,
+            arc: 1,
+        },
+    ];
+    let empty = spanned_bound(alloc, &instance, &spans, &barred, false)?;
+    assert_eq!(rt; empty, Some(LeafBound::Empty { shipment: 1 }));
+    Ok(())
+}
+
+#[test]
+fn charged_once(rt: HostRuntime) -> Result<(), Fail> {
+    let alloc = rt.alloc();
+    assert!(rt; ROAD.len() < 2000);
+    let instance = instance_of(alloc, ROAD)?;
+    assert!(rt; instance.terminals().len() <= 100);
+    assert!(rt; instance.arcs().len() == 1);
+    assert!(rt; instance.shipments().len() == 2);
+    // Both pay a truck, and the charge is the one that they don't need.
+    let charged = vec![in alloc;
+        whole_span(0, 60_000_000, 60_000_000, two_pay(alloc, 60_000_000)?),
+    ]?;
+    let is = spanned_bound(alloc, &instance, &charged, &[], false)?;
+    assert_eq!(rt; is, Some(LeafBound::Value { value: 60_000_000 }));
+    // Where their one class is forced, it is paid whole, and nothing is taken off.
+    let forced = spanned_bound(alloc, &instance, &charged, &[], true)?;
+    assert_eq!(rt; forced, Some(LeafBound::Value { value: 60_000_000 }));
+    // A charge that doesn't pay is refused.
+    let less = vec![in alloc; whole_span(0, 60_000_000, 59_999_999, two_pay(alloc, 60_000_000)?)]?;
+    assert_eq!(rt; spanned_bound(alloc, &instance, &less, &[], false)?, None);
+    Ok(())
+}
+
+#[test]
+fn refused_spans(rt: HostRuntime) -> Result<(), Fail> {
+    let alloc = rt.alloc();
+    assert!(rt; ROAD.len() < 2000);
+    let instance = instance_of(alloc, ROAD)?;
+    assert!(rt; instance.arcs().len() == 1);
+    let half = MOST_SPAN_WEIGHT / 2;
+    let twice = vec![in alloc;
+        whole_span(0, 1, 0, two_pay(alloc, 1)?),
+        whole_span(0, 1, 0, two_pay(alloc, 1)?),
+    ]?;
+    assert_eq!(rt;
+        check_spans(alloc, &instance, &twice)?,
+        Some(SpanFault::Order)
+    );
+    let heavy = vec![in alloc; whole_span(0, half, 0, two_pay(alloc, half)?)]?;
+    assert_eq!(rt;
+        check_spans(alloc, &instance, &heavy)?,
+        Some(SpanFault::Weights)
+    );
+    let dear = vec![in alloc; whole_span(0, half - 1, 0, two_pay(alloc, half - 1)?)]?;
+    assert_eq!(rt;
+        check_spans(alloc, &instance, &dear)?,
+        Some(SpanFault::Money(0))
+    );
+    Ok(())
+}

@@ -1,0 +1,18 @@
+//! The tests, a file for each subject.
+
+mod bounds;
+mod certificate_faults;
+mod certificate_fronts;
+mod certificates;
+mod directs;
+mod dispatch;
+mod failing_ends;
+mod input_faults;
+mod plans;
+mod quotes;
+mod replans;
+mod runs;
+mod sizes;
+mod span_certificates;
+mod trials;
+mod words;
