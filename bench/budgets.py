@@ -3,14 +3,15 @@
 without `--spans` and with it, on generated instances and on a carrier's lines and hubs.
 
     bench/budgets.py [PROGRAM [OTHER]]
+    BY=seconds bench/budgets.py ..     by 2, 10 and 60 seconds, with the usual rounds and branches
     ONLY=WORD bench/budgets.py ..      the rows alone whose names have the word
 
 PROGRAM is the built program; without it the proved one in crates/freight/out is taken, or the one in dist/. OTHER is a
 program of the same words, whose rows stand below those of PROGRAM. Each answer is handed back to the `check` of the
 program that gave it. A row ends with `dearer` where a larger budget gave a dearer plan than some smaller one, and with
 `lower` where it gave a lower bound; the last lines say how many rows do. Nothing promises that there are none: a search
-with more rounds is another search. Instances of more than 50 shipments, which take minutes a row, are run where ONLY is
-set and their names have its word.
+with more rounds or seconds is another search. Instances of more than 50 shipments, which take minutes a row, are run where
+ONLY is set and their names have its word.
 """
 import os
 import sys
@@ -19,8 +20,10 @@ sys.path.insert(0, os.path.dirname(os.path.abspath(__file__)))
 from instances import cases
 from kit import built_program, check_answer, is_wanted, planned
 
-# Rounds and branches, each pair at least the one before.
-BUDGETS = ((0, 0), (10, 0), (40, 20), (40, 100))
+# What each budget is called, and its options; each is at least the one before.
+ROUNDS = {f"{rounds}/{branches}": f"--rounds {rounds} --branches {branches}" for rounds, branches in ((0, 0), (10, 0), (40, 20), (40, 100))}
+SECONDS = {f"{seconds} s": f"--seconds {seconds}" for seconds in (2, 10, 60)}
+BUDGETS = SECONDS if os.environ.get("BY") == "seconds" else ROUNDS
 MOST_SHIPMENTS = 50
 WIDTH = 24
 
@@ -36,8 +39,8 @@ def rows():
 def found_by(program, name, text, spans):
     """Cost, bound and seconds by each budget."""
     found = []
-    for rounds, branches in BUDGETS:
-        words = [program, "plan", "--rounds", str(rounds), "--branches", str(branches), *spans]
+    for options in BUDGETS.values():
+        words = [program, "plan", *options.split(), *spans]
         (cost, bound, _, seconds, _), printed = planned(words, text)
         check_answer(program, name, text, printed)
         found.append((cost, bound, seconds))
@@ -55,7 +58,7 @@ def faults(found):
 def main():
     programs = {"program": built_program(), **{"other": it for it in sys.argv[2:3]}}
     counts = {which: {"rows": 0, "dearer": 0, "lower": 0} for which in programs}
-    heads = "".join(f"{f'{rounds}/{branches}':{WIDTH}}" for rounds, branches in BUDGETS)
+    heads = "".join(f"{budget:{WIDTH}}" for budget in BUDGETS)
     print(f"{'instance':36} {'':7} {heads}")
     for name, text, spans in rows():
         if is_wanted(name):

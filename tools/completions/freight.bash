@@ -6,13 +6,13 @@ _freight_options() {
   local words=
   case $1 in
   direct) words='-o --output --certificate --timetable-only --allow-empty -h --help' ;;
-  plan) words='--rounds --branches --scale --spans -o --output --certificate --timetable-only --allow-empty -h --help' ;;
-  bound) words='--spans -o --output --allow-empty -h --help' ;;
+  plan) words='--rounds --branches --scale --seconds --spans -o --output --certificate --timetable-only --allow-empty -h --help' ;;
+  bound) words='--seconds --spans -o --output --allow-empty -h --help' ;;
   check) words='-o --output --allow-empty -h --help' ;;
   yard) words='-o --output --allow-empty -h --help' ;;
   fleet) words='-o --output --allow-empty -h --help' ;;
-  replan) words='--rounds --branches --spans -o --output --certificate --timetable-only --allow-empty -h --help' ;;
-  quote) words='--rounds --branches --spans -o --output --allow-empty -h --help' ;;
+  replan) words='--rounds --branches --seconds --spans -o --output --certificate --timetable-only --allow-empty -h --help' ;;
+  quote) words='--rounds --branches --seconds --spans -o --output --allow-empty -h --help' ;;
   trial) words='-o --output -h --help' ;;
   import) words='-o --output --names --columns --zone --day --dates --decimal --time-unit -h --help' ;;
   export) words='-o --output --names --instance --fleet --by --to -h --help' ;;
@@ -25,7 +25,7 @@ _freight_options() {
 _freight() {
   local word=${COMP_WORDS[COMP_CWORD]} before=${COMP_WORDS[COMP_CWORD - 1]} words=
   COMPREPLY=()
-  case $before in --rounds | --branches | --scale | -o | --output | --certificate | --names | --instance | --fleet | --columns | --zone | --day | --dates | --decimal | --time-unit | --by | --to | --zero | --unit) return ;; esac
+  case $before in --rounds | --branches | --scale | --seconds | -o | --output | --certificate | --names | --instance | --fleet | --columns | --zone | --day | --dates | --decimal | --time-unit | --by | --to | --zero | --unit) return ;; esac
   case "$COMP_CWORD ${COMP_WORDS[1]} $word" in
   1\ *) words='direct plan bound check yard fleet replan quote trial import export picture help -h --help --version' ;;
   2\ help\ *) words='direct plan bound check yard fleet replan quote trial import export picture help' ;;

@@ -40,6 +40,8 @@ def infeasible_words(records, name, time):
 
 def spent_words(words, spent):
     """What was used up, and what more of it buys."""
+    if spent == "time":
+        return f"its {option(words, '--seconds', 0):,} seconds were over: with more the cost may fall or the bound rise"
     most, without, effect = BUDGETS[spent]
     used = option(words, f"--{spent}", without)
     if used == most:
@@ -59,8 +61,8 @@ def unfinished_words(words, cost, bound, spent):
 
 def quoted_words(name, low, high):
     return [
-        f"carrying {name} costs {low:,} to {high:,} more: a search, of those without it and with it, had used up its rounds or branches",
-        "--rounds N and --branches N give both searches more, and bring the two numbers closer together",
+        f"carrying {name} costs {low:,} to {high:,} more: a search, of those without it and with it, had used up its rounds, its branches or its time",
+        "--rounds N, --branches N and --seconds N give the searches more, and bring the two numbers closer together",
     ]
 
 

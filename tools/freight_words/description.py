@@ -12,10 +12,11 @@ SUGGESTED = "./freight plan day.csv"
 
 @dataclass(frozen=True)
 class Range:
-    """Whole numbers of 1 to 10 digits, from the least to the most."""
+    """Whole numbers of 1 to 10 digits, from the least to the most. Zeros may stand before one that is `padded`."""
 
     least: int
     most: int
+    padded: bool = True
 
     def __str__(self):
         return f"{self.least:,} to {self.most:,}"
@@ -25,7 +26,7 @@ class Range:
 class Option:
     """An option: what it is called, what its value is called and where it lies (none: it takes no value), and a line on it.
 
-    `without` is the number that the program has where the option is missing, and `short` a second way to write it.
+    `without` is the number that the program has where the option is missing (none: there is no end then), and `short` a second way to write it.
     """
 
     name: str
@@ -65,6 +66,7 @@ class Command:
 
 ROUNDS = Option("--rounds", "the most rounds in which the search may add time points", "N", Range(0, 4_000), 400)
 BRANCHES = Option("--branches", "the most splits of the search's tree", "N", Range(0, 100_000), 4_000)
+SECONDS = Option("--seconds", "it ends after so many with the best it has", "N", Range(1, 86_400, padded=False))
 SCALE = Option("--scale", "how many parts of prices make a unit of money", "N", Range(1, 1_000_000_000), 1_000_000)
 SPANS = Option("--spans", "prices of runs of classes too: it takes longer, and mostly proves more")
 
@@ -101,14 +103,14 @@ PICTURE = (
 )
 
 SEED = Range(0, 2_147_483_647)
-SEARCH = (ROUNDS, BRANCHES, SPANS)
+SEARCH = (ROUNDS, BRANCHES, SECONDS, SPANS)
 READER = (OUTPUT, ALLOW_EMPTY, HELP)
 PLANNER = (OUTPUT, CERTIFICATE, TIMETABLE_ONLY, ALLOW_EMPTY, HELP)
 
 COMMANDS = (
     Command("direct", "each shipment's fastest timetable; it joins nothing", "INSTANCE", own=PLANNER),
-    Command("plan", "the cheapest timetable, with all that tells why", "INSTANCE", options=(ROUNDS, BRANCHES, SCALE, SPANS), own=PLANNER),
-    Command("bound", "a number under which no plan costs", "INSTANCE", options=(SPANS,), own=READER),
+    Command("plan", "the cheapest timetable, with all that tells why", "INSTANCE", options=(ROUNDS, BRANCHES, SCALE, SECONDS, SPANS), own=PLANNER),
+    Command("bound", "a number under which no plan costs", "INSTANCE", options=(SECONDS, SPANS), own=READER),
     Command("check", "whether an answer's certificate is accepted for the instance", "INSTANCE ANSWER", own=READER),
     Command("yard", "each terminal's sheet of the answer's timetable, and one run of it", "INSTANCE ANSWER", (Place("SEED", SEED),), own=READER),
     Command("fleet", "the fewest trucks that run the answer's timetable, and which line each runs next", "INSTANCE ANSWER", own=READER),

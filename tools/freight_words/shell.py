@@ -38,5 +38,6 @@ def table():
         *array("least", {name: str(it.least) for name, it in limits.items()}),
         *array("most", {name: str(it.most) for name, it in limits.items()}),
         *array("ranges", {name: str(it) for name, it in limits.items()}),
+        "# Those before which no 0 stands.", f"unpadded='{' '.join(name for name, it in limits.items() if not it.padded)}'",
     ]  # fmt: skip
     return "\n".join(lines) + "\n"

@@ -28,7 +28,8 @@ def option_line(option):
     """What an option is, with its range and what there is without it."""
     if not option.range:
         return option.line
-    return f"{option.line}: {option.range}, {option.without:,} without it"
+    without = "no limit" if option.without is None else f"{option.without:,}"
+    return f"{option.line}: {option.range}, {without} without it"
 
 
 def operands(command):

@@ -36,6 +36,11 @@ nearest() {
   [ -z "$found" ] || echo ": did you mean $found?"
 }
 
+# Whether a number begins with a 0 too many, RANGE-KEY VALUE.
+is_padded() {
+  case $2 in 0?*) [[ " $unpadded " == *" $1 "* ]] ;; *) return 1 ;; esac
+}
+
 # Says what is wrong with a number, NAME RANGE-KEY VALUE. It fails where nothing is.
 number_fault() {
   local shown=${ranges[$2]} low=${least[$2]} high=${most[$2]}
@@ -43,8 +48,11 @@ number_fault() {
   '' | *[!0-9]*) echo "$1 takes a whole number, $shown, and \"$3\" is none" ;;
   ???????????*) echo "$1 takes $shown in at most ten digits, and $3 has ${#3}" ;;
   *)
-    ((10#$3 < low || 10#$3 > high)) || return 1
-    echo "$1 takes $shown, and $3 is out of that range"
+    if ((10#$3 < low || 10#$3 > high)); then
+      echo "$1 takes $shown, and $3 is out of that range"
+    else
+      is_padded "$2" "$3" && echo "$1 takes $shown without a 0 before it, and $3 has one"
+    fi
     ;;
   esac
 }

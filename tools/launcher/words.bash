@@ -9,10 +9,10 @@ scripts='import export picture'
 readers='direct plan bound check yard fleet replan quote'
 # Of each command: the options of the program, those of the launcher, and the numbers that stand after it.
 declare -A options=(
-  [plan]='--rounds --branches --scale --spans'
-  [bound]='--spans'
-  [replan]='--rounds --branches --spans'
-  [quote]='--rounds --branches --spans'
+  [plan]='--rounds --branches --scale --seconds --spans'
+  [bound]='--seconds --spans'
+  [replan]='--rounds --branches --seconds --spans'
+  [quote]='--rounds --branches --seconds --spans'
 )
 declare -A own_options=(
   [direct]='-o --output --certificate --timetable-only --allow-empty -h --help'
@@ -38,6 +38,7 @@ declare -A least=(
   [--rounds]='0'
   [--branches]='0'
   [--scale]='1'
+  [--seconds]='1'
   [yard.SEED]='0'
   [trial.SEED]='0'
   [trial.TERMINALS]='2'
@@ -47,6 +48,7 @@ declare -A most=(
   [--rounds]='4000'
   [--branches]='100000'
   [--scale]='1000000000'
+  [--seconds]='86400'
   [yard.SEED]='2147483647'
   [trial.SEED]='2147483647'
   [trial.TERMINALS]='100'
@@ -56,8 +58,11 @@ declare -A ranges=(
   [--rounds]='0 to 4,000'
   [--branches]='0 to 100,000'
   [--scale]='1 to 1,000,000,000'
+  [--seconds]='1 to 86,400'
   [yard.SEED]='0 to 2,147,483,647'
   [trial.SEED]='0 to 2,147,483,647'
   [trial.TERMINALS]='2 to 100'
   [trial.SHIPMENTS]='0 to 500'
 )
+# Those before which no 0 stands.
+unpadded='--seconds'

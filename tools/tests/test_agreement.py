@@ -19,7 +19,7 @@ INSTANCES = {
     "hub": hubs(1, 9, 20, 120),
     "two hubs": hubs(2, 4, 15, 720),
 }
-SEARCHES = ("--rounds 0 --branches 0", "--rounds 5 --branches 2", "--rounds 0 --branches 0 --spans")
+SEARCHES = ("--rounds 0 --branches 0", "--rounds 5 --branches 2", "--rounds 0 --branches 0 --spans", "--seconds 1", "--seconds 1 --spans")
 
 
 @unittest.skipIf(proved() is None, "the proved program of these sources isn't here")

@@ -157,6 +157,9 @@ class Explanations(unittest.TestCase):
         self.holds(said("plan --spans --branches 0", 10, ONE_ARC.encode(), "answer,unfinished,180,150,branches"), "with --branches 4000")
         text = said("plan --branches 100000", 10, ONE_ARC.encode(), "answer,unfinished,180,150,branches")
         self.holds(text, "all 100,000 branches were used, as many as there may be", "the bound can rise")
+        text = said("plan --seconds 60", 10, ONE_ARC.encode(), "answer,unfinished,180,150,time")
+        self.holds(text, "its 60 seconds were over", "the cost may fall or the bound rise")
+        self.holds(said("replan --seconds=3600", 10, ONE_ARC.encode(), "answer,unfinished,180,150,time"), "its 3,600 seconds were over")
 
     def test_kept_legs(self):
         for records, refusal, part in KEPT:

@@ -35,6 +35,11 @@ FAULTS = (
     ("plan --branches", '--branches takes a whole number, 0 to 100,000, and "" is none'),
     ("plan --branches -5", 'and "-5" is none'),
     ("plan --branches 00000000001", "in at most ten digits, and 00000000001 has 11"),
+    ("plan --seconds 0", "--seconds takes 1 to 86,400, and 0 is out of that range"),
+    ("bound --seconds=86401", "and 86401 is out of that range"),
+    ("quote --seconds 086", "--seconds takes 1 to 86,400 without a 0 before it, and 086 has one"),
+    ("plan --seconds 5 --seconds=5", "--seconds stands here twice"),
+    ("check --seconds 5", "check doesn't take --seconds: it is an option of plan, bound, replan, quote"),
     ("plan --round 5", "plan has no option --round: did you mean --rounds?"),
     ("plan --round=5", "did you mean --rounds?"),
     ("plan --turns 3", "plan has no option --turns\n"),
@@ -69,7 +74,7 @@ OWN_FAULTS = (
 
 # Words in which none is at fault.
 RIGHT = (
-    "direct", "plan", "plan --rounds 4000 --branches=0 --scale 1 --spans", "bound --spans", "check", "yard 0000000001", "fleet",
+    "direct", "plan", "plan --rounds 4000 --branches=0 --scale 1 --spans", "plan --seconds=86400", "bound --spans --seconds 1", "check", "yard 0000000001", "fleet",
     "replan --spans --rounds 0", "quote --branches 100000",
 )  # fmt: skip
 
@@ -150,7 +155,7 @@ class Made(unittest.TestCase):
 # What is typed, and what bash, zsh and fish offer for it, or some of it.
 COMPLETED = (
     ("pl", {"plan"}), ("re", {"replan"}), ("--v", {"--version"}), ("help ya", {"yard"}), ("plan --ro", {"--rounds"}),
-    ("bound --s", {"--spans"}), ("bound --ro", set()), ("plan --timetable", {"--timetable-only"}), ("trial 1 2 3 --a", set()),
+    ("bound --s", {"--seconds", "--spans"}), ("bound --ro", set()), ("plan --timetable", {"--timetable-only"}), ("trial 1 2 3 --a", set()),
 )  # fmt: skip
 
 

@@ -1,5 +1,5 @@
 -- What `fleet` shows with each status.
-use Rattle.std.proofs.Common.{◌≡◌, ℕ, List, refl, sym, ap, ◌∙◌, inl, inr}
+use Rattle.std.proofs.Common.{◌≡◌, ℕ, false, List, refl, sym, ap, ◌∙◌, inl, inr}
 use Rattle.std.specs.Prelude.{Some, Ok}
 use Rattle.fp_model.specs.Problem.{Problem}
 use Rattle.fp_certificate_lines.specs.Statements.{Statement}
@@ -20,7 +20,7 @@ use Rattle.fp_app.proofs.CertificateInputs.{CertificateEnd, both, certificate-en
 abbrev FleetEnd : List ℕ → Shown → Type 0
 FleetEnd input s = CertificateEnd input s (λ p c. ShowsFleet p c s)
 
-fleet-end : (input : List ℕ) (s : Shown) → ShowsInput order.Fleet input s → FleetEnd input s
+fleet-end : (input : List ℕ) (s : Shown) → ShowsInput false order.Fleet input s → FleetEnd input s
 fleet-end input s told = certificate-end input s (λ p c. ShowsFleet p c s) told
 
 -- a refusal is of the first fault of the input
@@ -28,7 +28,7 @@ fault-end : (input : List ℕ) (ordinal code : ℕ) → FleetEnd input (shown.Ba
 fault-end input ordinal code (both p c is read told) = absurd told
 fault-end input ordinal code (fault f first same) = record { fault = f; first = first; shows = same }
 
-pub fleet-fault : (input : List ℕ) (ordinal code : ℕ) → ShowsInput order.Fleet input (shown.BadInput ordinal code) → ShowsFault (Some order.Fleet) input (shown.BadInput ordinal code)
+pub fleet-fault : (input : List ℕ) (ordinal code : ℕ) → ShowsInput false order.Fleet input (shown.BadInput ordinal code) → ShowsFault (Some order.Fleet) input (shown.BadInput ordinal code)
 fleet-fault input ordinal code told = fault-end input ordinal code (fleet-end input (shown.BadInput ordinal code) told)
 
 -- the plan and the trucks that are shown
@@ -51,7 +51,7 @@ done-end : (input : List ℕ) (s : Shown) → FleetEnd input s → status_of s �
 done-end input s (both p c is read told) done = done-fleet input p c s is read told done
 done-end input s (fault f first same) done = let e : status.BadInput ≡ status.Done = ap status_of (sym same) ∙ done in cc e
 
-pub fleet-done : (input : List ℕ) (s : Shown) → ShowsInput order.Fleet input s → status_of s ≡ status.Done → ShowsTrucks input s
+pub fleet-done : (input : List ℕ) (s : Shown) → ShowsInput false order.Fleet input s → status_of s ≡ status.Done → ShowsTrucks input s
 fleet-done input s told done = done-end input s (fleet-end input s told) done
 
 -- a rejection is of a certificate that tells no plan
@@ -59,7 +59,7 @@ rejection-end : (input : List ℕ) (number : ℕ) → FleetEnd input (shown.Reje
 rejection-end input number (both p c is read told) = record { instance = p; certificate = c; number = number; read = is; certified = read; shows = refl; rejected = told }
 rejection-end input number (fault f first same) = cc same
 
-pub fleet-rejection : (input : List ℕ) (number : ℕ) → ShowsInput order.Fleet input (shown.RejectedPart number) → ShowsNo ShowsUntold input (shown.RejectedPart number)
+pub fleet-rejection : (input : List ℕ) (number : ℕ) → ShowsInput false order.Fleet input (shown.RejectedPart number) → ShowsNo ShowsUntold input (shown.RejectedPart number)
 fleet-rejection input number told = rejection-end input number (fleet-end input (shown.RejectedPart number) told)
 
 -- `fleet` is done, rejects, or refuses its input, and has no other status
@@ -73,7 +73,7 @@ module _ (t : Status) (not_done : status.Done ≡ t → ⊥) (not_rejected : sta
   end-no_other input s (both p c is read told) same = shown-no_other p c s told same
   end-no_other input s (fault f first refused) same = not_refused (ap status_of (sym refused) ∙ same)
 
-  pub fleet-no_other : (input : List ℕ) (s : Shown) → ShowsInput order.Fleet input s → status_of s ≡ t → ⊥
+  pub fleet-no_other : (input : List ℕ) (s : Shown) → ShowsInput false order.Fleet input s → status_of s ≡ t → ⊥
   fleet-no_other input s told same = end-no_other input s (fleet-end input s told) same
 
 pub fleet-status : (p : Problem) (c : Statement) (s : Shown) → ShowsFleet p c s → ToldStatus p c (status_of s)

@@ -6,7 +6,6 @@ use Rattle.fp_model.specs.Problem.{Problem}
 use Rattle.fp_records_fields.specs.Faults.{Fault}
 use Rattle.fp_reader.specs.Generator.{generated}
 use Rattle.fp_certificate_lines.specs.Statements.{Statement}
-use Rattle.fp_session_history.specs.declared.budgets.Budget.{Budget}
 use Rattle.fp_session_history.specs.Solutions.{Solution}
 use Rattle.fp_app_words.specs.declared.orders.Order.{Order}
 use Rattle.fp_app_words.specs.declared.orders.Order.TheVariants.{Direct, Check, Bound, Plan, Trial, Fleet, Replan, Quote, Yard}
@@ -17,7 +16,7 @@ use Rattle.fp_app.specs.Causes.{AloneStatus, CheckStatus, InputStatus, PlanStatu
 use Rattle.fp_app.specs.Checks.{ShowsCheck, scaled}
 use Rattle.fp_app.specs.Inputs.{OfCertificate, certificate_in, instance_at, instance_in, leading_instance_in, limit_of, reads_source, KeptInstance, kept_in, quoted_in}
 use Rattle.fp_app.specs.Runs.{Answers, OfInput, ShowsAlone, ShowsBound, ShowsDirect, ShowsInput, ShowsSearch, ShowsQuote, ShowsReplan}
-use Rattle.fp_app.specs.Searches.{IsSearched, trial_budget}
+use Rattle.fp_app.specs.Searches.{Allowance, IsSearched, trial_allowance, within}
 use Rattle.fp_app.specs.Shown.{search_status, status_of}
 use Rattle.fp_app.specs.Fleets.{ShowsFleet}
 use Rattle.fp_app.specs.Yards.{ShowsYard}
@@ -28,81 +27,83 @@ use Rattle.fp_app.specs.Wanted.{every, keeping}
 use Rattle.fp_app.proofs.QuoteCauses.{quote-status}
 use Rattle.fp_app.proofs.ReplanCauses.{end-status, replan-status}
 
-MatchBool_map : (b : Bool) (X Y V W : Type 0) → (X → V) → (Y → W) → MatchBool b X Y → MatchBool b V W
-MatchBool_map true X Y V W first second x = first x
-MatchBool_map false X Y V W first second y = second y
+-- for a time that can be over or not
+module _ (over : Bool) where
+  MatchBool_map : (b : Bool) (X Y V W : Type 0) → (X → V) → (Y → W) → MatchBool b X Y → MatchBool b V W
+  MatchBool_map true X Y V W first second x = first x
+  MatchBool_map false X Y V W first second y = second y
 
--- what an instance or the fault in its place gives
-MatchResult_map : {A : Type 0} (r : Result A Fault) (P Q : A → Type 0) (s : Shown) → ((x : A) → P x → Q x) →
-    MatchResult r P (λ (f : Fault). s ≡ shown.BadInput f.ordinal f.code) → MatchResult r Q (λ (f : Fault). status_of s ≡ status.BadInput)
-MatchResult_map (Ok x) P Q s each told = each x told
-MatchResult_map (Err f) P Q s each same = ap status_of same
+  -- what an instance or the fault in its place gives
+  MatchResult_map : {A : Type 0} (r : Result A Fault) (P Q : A → Type 0) (s : Shown) → ((x : A) → P x → Q x) →
+      MatchResult r P (λ (f : Fault). s ≡ shown.BadInput f.ordinal f.code) → MatchResult r Q (λ (f : Fault). status_of s ≡ status.BadInput)
+  MatchResult_map (Ok x) P Q s each told = each x told
+  MatchResult_map (Err f) P Q s each same = ap status_of same
 
-direct-status : (p : Problem) (s : Shown) → ShowsDirect p s → PlanStatus p (status_of s)
-direct-status p (shown.Direct q plan) told = let some : 1 ≤ 1 = omega arith in inl (refl, (1, plan, some, told.1))
-direct-status p (shown.Infeasible q shipment time) told = inr (refl, told.2)
-direct-status p _ told = absurd told
+  direct-status : (p : Problem) (s : Shown) → ShowsDirect p s → PlanStatus p (status_of s)
+  direct-status p (shown.Direct q plan) told = let some : 1 ≤ 1 = omega arith in inl (refl, (1, plan, some, told.1))
+  direct-status p (shown.Infeasible q shipment time) told = inr (refl, told.2)
+  direct-status p _ told = absurd told
 
-bound-status : (option : Bool) (p : Problem) (s : Shown) → ShowsBound option p s → PlanStatus p (status_of s)
-bound-status option p (shown.Bound q price tables spans value) told = inl (refl, told.1)
-bound-status option p (shown.Infeasible q shipment time) told = inr (refl, told.2)
-bound-status option p _ told = absurd told
+  bound-status : (option : Bool) (p : Problem) (s : Shown) → ShowsBound option p s → PlanStatus p (status_of s)
+  bound-status option p (shown.Bound q price tables spans value) told = inl (refl, told.1)
+  bound-status option p (shown.Infeasible q shipment time) told = inr (refl, told.2)
+  bound-status option p _ told = absurd told
 
-search-input-status : (p : Problem) (budget : Budget) (spans : Bool) (s : Shown) → ShowsSearch budget spans p s → SearchStatus p every budget (status_of s)
-search-input-status p budget spans (shown.Planned q solved) told = end-status p every budget spans solved told.1 (search-end p every budget solved.certificate.answer told.1.says)
-search-input-status p budget spans (shown.Infeasible q shipment time) told = inr (inr (refl, told.2))
-search-input-status p budget spans _ told = absurd told
+  search-input-status : (p : Problem) (allowed : Allowance) (spans : Bool) (s : Shown) → ShowsSearch allowed spans p s → SearchStatus p every allowed (status_of s)
+  search-input-status p allowed spans (shown.Planned q solved) told = end-status p every allowed spans solved told.1 (search-end p every allowed solved.certificate.answer told.1.says)
+  search-input-status p allowed spans (shown.Infeasible q shipment time) told = inr (inr (refl, told.2))
+  search-input-status p allowed spans _ told = absurd told
 
-trial-status : (p : Problem) (s : Solution) → IsSearched p every trial_budget false s → SearchEnd p every trial_budget s.certificate.answer → TrialStatus p (search_status s.certificate.answer)
-trial-status p s told (optimal cost same plans) = inl (ap search_status same)
-trial-status p s told (unfinished cost bound spent same bounds) = inr (ap search_status same, (spent, bounds.scarce))
+  trial-status : (p : Problem) (s : Solution) → IsSearched p every trial_allowance false s → SearchEnd p every trial_allowance s.certificate.answer → TrialStatus p (search_status s.certificate.answer)
+  trial-status p s told (optimal cost same plans) = inl (ap search_status same)
+  trial-status p s told (unfinished cost bound spent same bounds) = inr (ap search_status same, (spent, bounds.scarce))
 
-ShowsAlone-AloneStatus : (o : Order) (s : Shown) → ShowsAlone o s → AloneStatus o (status_of s)
-ShowsAlone-AloneStatus (Trial seed terminals shipments) (shown.Trial shown_seed None p solved) told =
-    trial-status (generated seed terminals shipments) solved told.2 (search-end (generated seed terminals shipments) every trial_budget solved.certificate.answer told.2.says)
-ShowsAlone-AloneStatus (Trial seed terminals shipments) _ told = absurd told
-ShowsAlone-AloneStatus _ s told = absurd told
+  ShowsAlone-AloneStatus : (o : Order) (s : Shown) → ShowsAlone o s → AloneStatus o (status_of s)
+  ShowsAlone-AloneStatus (Trial seed terminals shipments) (shown.Trial shown_seed None p solved) told =
+      trial-status (generated seed terminals shipments) solved told.2 (search-end (generated seed terminals shipments) every trial_allowance solved.certificate.answer told.2.says)
+  ShowsAlone-AloneStatus (Trial seed terminals shipments) _ told = absurd told
+  ShowsAlone-AloneStatus _ s told = absurd told
 
-check-status : (p : Problem) (c : Statement) (s : Shown) → ShowsCheck p c s → CheckStatus p c (status_of s)
-check-status p c (shown.Accepted kind) told = inl (refl, told.accepted)
-check-status p c (shown.RejectedPart number) told = inr (refl, told.rejected)
-check-status p c _ told = absurd told
+  check-status : (p : Problem) (c : Statement) (s : Shown) → ShowsCheck p c s → CheckStatus p c (status_of s)
+  check-status p c (shown.Accepted kind) told = inl (refl, told.accepted)
+  check-status p c (shown.RejectedPart number) told = inr (refl, told.rejected)
+  check-status p c _ told = absurd told
 
--- what an instance and a certificate or the fault in their place give
-certificate-map : (input : List ℕ) (s : Shown) (P Q : Problem → Statement → Type 0) → ((p : Problem) (c : Statement) → P p c → Q p c) → OfCertificate input s P →
-    MatchResult (leading_instance_in input) (λ p. MatchResult (certificate_in p input) (Q p) (λ (f : Fault). status_of s ≡ status.BadInput)) (λ (f : Fault). status_of s ≡ status.BadInput)
-certificate-map input s P Q each told =
-    MatchResult_map (leading_instance_in input) (λ p. MatchResult (certificate_in p input) (P p) (λ (f : Fault). s ≡ shown.BadInput f.ordinal f.code))
-    (λ p. MatchResult (certificate_in p input) (Q p) (λ (f : Fault). status_of s ≡ status.BadInput)) s (λ p. MatchResult_map (certificate_in p input) (P p) (Q p) s (each p)) told
+  -- what an instance and a certificate or the fault in their place give
+  certificate-map : (input : List ℕ) (s : Shown) (P Q : Problem → Statement → Type 0) → ((p : Problem) (c : Statement) → P p c → Q p c) → OfCertificate input s P →
+      MatchResult (leading_instance_in input) (λ p. MatchResult (certificate_in p input) (Q p) (λ (f : Fault). status_of s ≡ status.BadInput)) (λ (f : Fault). status_of s ≡ status.BadInput)
+  certificate-map input s P Q each told =
+      MatchResult_map (leading_instance_in input) (λ p. MatchResult (certificate_in p input) (P p) (λ (f : Fault). s ≡ shown.BadInput f.ordinal f.code))
+      (λ p. MatchResult (certificate_in p input) (Q p) (λ (f : Fault). status_of s ≡ status.BadInput)) s (λ p. MatchResult_map (certificate_in p input) (P p) (Q p) s (each p)) told
 
-ShowsInput-InputStatus : (o : Order) (input : List ℕ) (s : Shown) → ShowsInput o input s → InputStatus o input (status_of s)
-ShowsInput-InputStatus Direct input s told = MatchResult_map (instance_in input) (λ p. ShowsDirect p s) (λ p. PlanStatus p (status_of s)) s (λ p. direct-status p s) told
-ShowsInput-InputStatus (Bound option) input s told = MatchResult_map (instance_in input) (λ p. ShowsBound option p s) (λ p. PlanStatus p (status_of s)) s (λ p. bound-status option p s) told
-ShowsInput-InputStatus (Plan budget scale spans) input s told =
-    MatchResult_map (instance_at scale input) (λ p. ShowsSearch budget spans p s) (λ p. SearchStatus p every budget (status_of s)) s (λ p. search-input-status p budget spans s) told
-ShowsInput-InputStatus (Trial seed terminals shipments) input s told = absurd told
-ShowsInput-InputStatus (Yard seed) input s told = certificate-map input s (λ p c. ShowsYard seed p c s) (λ p c. ToldStatus p c (status_of s)) (λ p c. yard-status seed p c s) told
-ShowsInput-InputStatus Fleet input s told = certificate-map input s (λ p c. ShowsFleet p c s) (λ p c. ToldStatus p c (status_of s)) (λ p c. fleet-status p c s) told
-ShowsInput-InputStatus (Replan budget spans) input s told =
-    MatchResult_map (kept_in input) (λ (x : KeptInstance). ShowsReplan budget spans x s) (λ (x : KeptInstance). SearchStatus x.instance (keeping x.kept) budget (status_of s)) s (λ (x : KeptInstance). replan-status budget spans x s) told
-ShowsInput-InputStatus (Quote budget spans) input s told =
-    MatchResult_map (quoted_in input) (λ p. ShowsQuote budget spans p s) (λ p. QuoteStatus p budget (status_of s)) s (λ p. quote-status budget spans p s) told
-ShowsInput-InputStatus Check input s told =
-    certificate-map input s (λ p c. ShowsCheck (scaled p c) c s) (λ p c. CheckStatus (scaled p c) c (status_of s)) (λ p c. check-status (scaled p c) c s) told
+  ShowsInput-InputStatus : (o : Order) (input : List ℕ) (s : Shown) → ShowsInput over o input s → InputStatus over o input (status_of s)
+  ShowsInput-InputStatus Direct input s told = MatchResult_map (instance_in input) (λ p. ShowsDirect p s) (λ p. PlanStatus p (status_of s)) s (λ p. direct-status p s) told
+  ShowsInput-InputStatus (Bound option seconds) input s told = MatchResult_map (instance_in input) (λ p. ShowsBound option p s) (λ p. PlanStatus p (status_of s)) s (λ p. bound-status option p s) told
+  ShowsInput-InputStatus (Plan budget scale spans seconds) input s told =
+      MatchResult_map (instance_at scale input) (λ p. ShowsSearch (within budget over) spans p s) (λ p. SearchStatus p every (within budget over) (status_of s)) s (λ p. search-input-status p (within budget over) spans s) told
+  ShowsInput-InputStatus (Trial seed terminals shipments) input s told = absurd told
+  ShowsInput-InputStatus (Yard seed) input s told = certificate-map input s (λ p c. ShowsYard seed p c s) (λ p c. ToldStatus p c (status_of s)) (λ p c. yard-status seed p c s) told
+  ShowsInput-InputStatus Fleet input s told = certificate-map input s (λ p c. ShowsFleet p c s) (λ p c. ToldStatus p c (status_of s)) (λ p c. fleet-status p c s) told
+  ShowsInput-InputStatus (Replan budget spans seconds) input s told =
+      MatchResult_map (kept_in input) (λ (x : KeptInstance). ShowsReplan (within budget over) spans x s) (λ (x : KeptInstance). SearchStatus x.instance (keeping x.kept) (within budget over) (status_of s)) s (λ (x : KeptInstance). replan-status (within budget over) spans x s) told
+  ShowsInput-InputStatus (Quote budget spans seconds) input s told =
+      MatchResult_map (quoted_in input) (λ p. ShowsQuote (within budget over) spans p s) (λ p. QuoteStatus p (within budget over) (status_of s)) s (λ p. quote-status (within budget over) spans p s) told
+  ShowsInput-InputStatus Check input s told =
+      certificate-map input s (λ p c. ShowsCheck (scaled p c) c s) (λ p c. CheckStatus (scaled p c) c (status_of s)) (λ p c. check-status (scaled p c) c s) told
 
-OfInput_told : (o : Order) (input : List ℕ) (new : Option (List ℕ)) (s : Shown) → OfInput (limit_of (Some o)) (Some input) new s (λ i. ShowsInput o i s)
-    → MatchBool (nat_lt (limit_of (Some o)) (length input)) (status_of s ≡ status.TooLong) (InputStatus o input (status_of s))
-OfInput_told o input new s told =
-    MatchBool_map (nat_lt (limit_of (Some o)) (length input)) (s ≡ shown.TooLong) (IsAtEnd new × ShowsInput o input s) (status_of s ≡ status.TooLong) (InputStatus o input (status_of s)) (ap status_of)
-    (λ whole. ShowsInput-InputStatus o input s whole.1)
-    (subst (λ (i : List ℕ). MatchBool (nat_lt (limit_of (Some o)) (length i)) (s ≡ shown.TooLong) (IsAtEnd new × ShowsInput o i s)) told.1 told.2)
+  OfInput_told : (o : Order) (input : List ℕ) (new : Option (List ℕ)) (s : Shown) → OfInput (limit_of (Some o)) (Some input) new s (λ i. ShowsInput over o i s)
+      → MatchBool (nat_lt (limit_of (Some o)) (length input)) (status_of s ≡ status.TooLong) (InputStatus over o input (status_of s))
+  OfInput_told o input new s told =
+      MatchBool_map (nat_lt (limit_of (Some o)) (length input)) (s ≡ shown.TooLong) (IsAtEnd new × ShowsInput over o input s) (status_of s ≡ status.TooLong) (InputStatus over o input (status_of s)) (ap status_of)
+      (λ whole. ShowsInput-InputStatus o input s whole.1)
+      (subst (λ (i : List ℕ). MatchBool (nat_lt (limit_of (Some o)) (length i)) (s ≡ shown.TooLong) (IsAtEnd new × ShowsInput over o i s)) told.1 told.2)
 
-Answers_told : (o : Option Order) (input : List ℕ) (new : Option (List ℕ)) (s : Shown) → Answers o (Some input) new s → StatusOf o input (status_of s)
-Answers_told None input new s same = ap status_of same
-Answers_told (Some o) input new s told =
-    MatchBool_map (reads_source o) (OfInput (limit_of (Some o)) (Some input) new s (λ i. ShowsInput o i s)) (ShowsAlone o s)
-    (MatchBool (nat_lt (limit_of (Some o)) (length input)) (status_of s ≡ status.TooLong) (InputStatus o input (status_of s))) (AloneStatus o (status_of s))
-    (OfInput_told o input new s) (ShowsAlone-AloneStatus o s) told
+  Answers_told : (o : Option Order) (input : List ℕ) (new : Option (List ℕ)) (s : Shown) → Answers over o (Some input) new s → StatusOf over o input (status_of s)
+  Answers_told None input new s same = ap status_of same
+  Answers_told (Some o) input new s told =
+      MatchBool_map (reads_source o) (OfInput (limit_of (Some o)) (Some input) new s (λ i. ShowsInput over o i s)) (ShowsAlone o s)
+      (MatchBool (nat_lt (limit_of (Some o)) (length input)) (status_of s ≡ status.TooLong) (InputStatus over o input (status_of s))) (AloneStatus o (status_of s))
+      (OfInput_told o input new s) (ShowsAlone-AloneStatus o s) told
 
-pub Answers-StatusOf : (o : Option Order) (input : List ℕ) (old new : Option (List ℕ)) (s : Shown) → old ≡ Some input → Answers o old new s → StatusOf o input (status_of s)
-Answers-StatusOf o input old new s is told = Answers_told o input new s (subst (λ (x : Option (List ℕ)). Answers o x new s) is told)
+  pub Answers-StatusOf : (o : Option Order) (input : List ℕ) (old new : Option (List ℕ)) (s : Shown) → old ≡ Some input → Answers over o old new s → StatusOf over o input (status_of s)
+  Answers-StatusOf o input old new s is told = Answers_told o input new s (subst (λ (x : Option (List ℕ)). Answers over o x new s) is told)

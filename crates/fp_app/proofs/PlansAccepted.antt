@@ -1,5 +1,5 @@
 -- `check` accepts what `plan` prints.
-use Rattle.std.proofs.Common.{◌≡◌, ◌∙◌, ℕ, ◌+◌, ◌^◌, List, ◌++◌, length, drop, refl, sym, ap, subst, inl, inr}
+use Rattle.std.proofs.Common.{◌≡◌, ◌∙◌, ℕ, ◌+◌, ◌^◌, false, List, ◌++◌, length, drop, refl, sym, ap, subst, inl, inr}
 use Rattle.std.specs.Prelude.{MatchResult, Result, Ok, Err, nat_lt, not, take_while}
 use Rattle.std.proofs.Math.Seq.{drop-append_seam}
 use Rattle.std.proofs.lemmas.Bool.{cases_Bool}
@@ -82,7 +82,7 @@ module _ (q : Problem) (input longer : List ℕ) (more : Records) (c : Statement
       ∙ ap (λ (lines : Records). certificate_of q (length (records_of input) + 1) lines) (drop-append_seam (records_of input) more)
       ∙ given (length (records_of input) + 1)
 
-  status-check : (result : Status) → InputStatus order.Check longer result → CheckStatus (scaled q c) c result
+  status-check : (result : Status) → InputStatus false order.Check longer result → CheckStatus (scaled q c) c result
   status-check result is =
       let first = subst
       (λ (r : Result Problem Fault). MatchResult r (λ p. MatchResult (certificate_in p longer) (λ d. CheckStatus (scaled p d) d result) (λ (f : Fault). result ≡ status.BadInput)) (λ (f : Fault). result ≡ status.BadInput))
@@ -90,7 +90,7 @@ module _ (q : Problem) (input longer : List ℕ) (more : Records) (c : Statement
       subst (λ (r : Result Statement Fault). MatchResult r (λ d. CheckStatus (scaled q d) d result) (λ (f : Fault). result ≡ status.BadInput)) same-certificate first
 
 pub CheckAcceptsPlans_hold : CheckAcceptsPlans
-CheckAcceptsPlans_hold budget scale spans input longer p s read searched joined result is =
+CheckAcceptsPlans_hold allowed scale spans input longer p s read searched joined result is =
     let source : IsRead scale (instance_in input) p = instance-read scale (instance_in input) p read in
     let q : Problem = source.instance in
     let given : (ordinal : ℕ) → certificate_of q ordinal (records_of (certificate_text p s.certificate)) ≡ Ok s.certificate =

@@ -1,6 +1,6 @@
 -- What `quote` shows, by its status.
 use Rattle.std.proofs.Common.{◌≡◌, ◌∙◌, ℕ, Bool, List, refl, sym, ap, inl, inr}
-use Rattle.std.specs.Prelude.{Ok}
+use Rattle.std.specs.Prelude.{Ok, Option}
 use Rattle.fp_model.specs.Problem.{Problem}
 use Rattle.fp_session_history.specs.declared.budgets.Budget.{Budget}
 use Rattle.fp_session_history.specs.Solutions.{Solution}
@@ -16,25 +16,26 @@ use Rattle.fp_app.specs.Quotes.{IsQuoted}
 use Rattle.fp_app.specs.Runs.{ShowsQuote}
 use Rattle.fp_app.specs.Shown.{both_status, search_status, status_of}
 use Rattle.fp_app.specs.Wanted.{every}
+use Rattle.fp_app.specs.Searches.{Allowance}
 use Rattle.fp_app.proofs.ReadCauses.{MatchResult_shows}
 use Rattle.fp_app.proofs.SearchClaims.{searched-exists}
 use Rattle.fp_app.proofs.SearchEnds.{SearchEnd, both-no_other, optimal, search-end, unfinished}
 
-module _ (budget : Budget) (spans : Bool) (input : List ℕ) (s : Shown) (told : ShowsExtra budget spans input s) where
+module _ (allowed : Allowance) (spans : Bool) (input : List ℕ) (s : Shown) (told : ShowsExtra allowed spans input s) where
   abbrev First : Answer
   First = told.before.certificate.answer
 
   abbrev Second : Answer
   Second = told.after.certificate.answer
 
-  end-exact : SearchEnd (without_last told.instance) every budget First → SearchEnd told.instance every budget Second → both_status First Second ≡ status.Done → ShowsExactExtra budget spans input s
+  end-exact : SearchEnd (without_last told.instance) every allowed First → SearchEnd told.instance every allowed Second → both_status First Second ≡ status.Done → ShowsExactExtra allowed spans input s
   end-exact (optimal least first none) (optimal most second fewer) done =
       record { extra = told; least = least; most = most; without = first; with_it = second; exact = (told.quoted.exact least most first second).0 }
   end-exact (optimal least first none) (unfinished cost bound spent second bounds) done =
       let e : status.Unfinished ≡ status.Done = sym (ap search_status second) ∙ sym (ap (λ (x : Answer). both_status x Second) first) ∙ done in cc e
   end-exact (unfinished cost bound spent first bounds) other done = let e : status.Unfinished ≡ status.Done = sym (ap (λ (x : Answer). both_status x Second) first) ∙ done in cc e
 
-  end-open : SearchEnd (without_last told.instance) every budget First → SearchEnd told.instance every budget Second → both_status First Second ≡ status.Unfinished → ShowsOpenExtra budget spans input s
+  end-open : SearchEnd (without_last told.instance) every allowed First → SearchEnd told.instance every allowed Second → both_status First Second ≡ status.Unfinished → ShowsOpenExtra allowed spans input s
   end-open (optimal least first none) (optimal most second fewer) ends =
       let e : status.Done ≡ status.Unfinished = sym (ap search_status second) ∙ sym (ap (λ (x : Answer). both_status x Second) first) ∙ ends in cc e
   end-open (optimal least first none) (unfinished cost bound spent second bounds) ends =
@@ -42,29 +43,29 @@ module _ (budget : Budget) (spans : Bool) (input : List ℕ) (s : Shown) (told :
   end-open (unfinished cost bound spent first bounds) other ends =
       record { extra = told; one_unfinished = inl (record { cost = cost; bound = bound; spent = spent; answer = first; bounds = bounds }) }
 
-module _ (budget : Budget) (spans : Bool) (input : List ℕ) (p : Problem) (read : quoted_in input ≡ Ok p) where
-  shows-extra : (q : Problem) (before after : Solution) → ShowsQuote budget spans p (shown.Quoted q before after) → ShowsExtra budget spans input (shown.Quoted q before after)
+module _ (allowed : Allowance) (spans : Bool) (input : List ℕ) (p : Problem) (read : quoted_in input ≡ Ok p) where
+  shows-extra : (q : Problem) (before after : Solution) → ShowsQuote allowed spans p (shown.Quoted q before after) → ShowsExtra allowed spans input (shown.Quoted q before after)
   shows-extra q before after told =
       record { instance = p; before = before; after = after; read = read; shows = ap (λ (x : Problem). shown.Quoted x before after) told.0; quoted = told.1 }
 
-  extra-done : (s : Shown) → ShowsQuote budget spans p s → status_of s ≡ status.Done → ShowsExactExtra budget spans input s
+  extra-done : (s : Shown) → ShowsQuote allowed spans p s → status_of s ≡ status.Done → ShowsExactExtra allowed spans input s
   unfolding shows-extra
   extra-done (shown.Quoted q before after) told done =
-      end-exact budget spans input (shown.Quoted q before after) (shows-extra q before after told)
-      (search-end (without_last p) every budget before.certificate.answer told.1.without.says) (search-end p every budget after.certificate.answer told.1.with_it.says) done
+      end-exact allowed spans input (shown.Quoted q before after) (shows-extra q before after told)
+      (search-end (without_last p) every allowed before.certificate.answer told.1.without.says) (search-end p every allowed after.certificate.answer told.1.with_it.says) done
   extra-done (shown.Infeasible q shipment time) told done = let g = done in cc
   extra-done _ told done = absurd told
 
-  extra-open : (s : Shown) → ShowsQuote budget spans p s → status_of s ≡ status.Unfinished → ShowsOpenExtra budget spans input s
+  extra-open : (s : Shown) → ShowsQuote allowed spans p s → status_of s ≡ status.Unfinished → ShowsOpenExtra allowed spans input s
   unfolding shows-extra
   extra-open (shown.Quoted q before after) told ends =
-      end-open budget spans input (shown.Quoted q before after) (shows-extra q before after told)
-      (search-end (without_last p) every budget before.certificate.answer told.1.without.says) (search-end p every budget after.certificate.answer told.1.with_it.says) ends
+      end-open allowed spans input (shown.Quoted q before after) (shows-extra q before after told)
+      (search-end (without_last p) every allowed before.certificate.answer told.1.without.says) (search-end p every allowed after.certificate.answer told.1.with_it.says) ends
   extra-open (shown.Infeasible q shipment time) told ends = let g = ends in cc
   extra-open _ told ends = absurd told
 
-  extra-none : (s : Shown) → ShowsQuote budget spans p s → status_of s ≡ status.Infeasible → ShowsNone (Quote budget spans) input s
-  extra-none (shown.Infeasible q shipment time) told none = record {
+  extra-none : (budget : Budget) (seconds : Option ℕ) (s : Shown) → ShowsQuote allowed spans p s → status_of s ≡ status.Infeasible → ShowsNone (Quote budget spans seconds) input s
+  extra-none budget seconds (shown.Infeasible q shipment time) told none = record {
     instance = p;
     shipment = shipment;
     time = time;
@@ -73,43 +74,43 @@ module _ (budget : Budget) (spans : Bool) (input : List ℕ) (p : Problem) (read
     blocked = told.1;
     none = told.2;
   }
-  extra-none (shown.Quoted q before after) told none =
+  extra-none budget seconds (shown.Quoted q before after) told none =
       absurd (both-no_other before.certificate.answer after.certificate.answer status.Infeasible (λ e. cc e) (λ e. cc e) none)
-  extra-none _ told none = absurd told
+  extra-none budget seconds _ told none = absurd told
 
-pub quote-done : (budget : Budget) (spans : Bool) (input : List ℕ) (s : Shown) → OfQuoted input s (λ p. ShowsQuote budget spans p s) → status_of s ≡ status.Done → ShowsExactExtra budget spans input s
-quote-done budget spans input s told done =
-    MatchResult_shows status.Done (quoted_in input) (quoted_in input) (λ p. ShowsQuote budget spans p s) s (ShowsExactExtra budget spans input s) (λ e. cc e) refl done told
-    (λ p is shows. extra-done budget spans input p is s shows done)
+pub quote-done : (allowed : Allowance) (spans : Bool) (input : List ℕ) (s : Shown) → OfQuoted input s (λ p. ShowsQuote allowed spans p s) → status_of s ≡ status.Done → ShowsExactExtra allowed spans input s
+quote-done allowed spans input s told done =
+    MatchResult_shows status.Done (quoted_in input) (quoted_in input) (λ p. ShowsQuote allowed spans p s) s (ShowsExactExtra allowed spans input s) (λ e. cc e) refl done told
+    (λ p is shows. extra-done allowed spans input p is s shows done)
 
-pub quote-open : (budget : Budget) (spans : Bool) (input : List ℕ) (s : Shown) → OfQuoted input s (λ p. ShowsQuote budget spans p s) → status_of s ≡ status.Unfinished → ShowsOpenExtra budget spans input s
-quote-open budget spans input s told ends =
-    MatchResult_shows status.Unfinished (quoted_in input) (quoted_in input) (λ p. ShowsQuote budget spans p s) s (ShowsOpenExtra budget spans input s) (λ e. cc e) refl ends told
-    (λ p is shows. extra-open budget spans input p is s shows ends)
+pub quote-open : (allowed : Allowance) (spans : Bool) (input : List ℕ) (s : Shown) → OfQuoted input s (λ p. ShowsQuote allowed spans p s) → status_of s ≡ status.Unfinished → ShowsOpenExtra allowed spans input s
+quote-open allowed spans input s told ends =
+    MatchResult_shows status.Unfinished (quoted_in input) (quoted_in input) (λ p. ShowsQuote allowed spans p s) s (ShowsOpenExtra allowed spans input s) (λ e. cc e) refl ends told
+    (λ p is shows. extra-open allowed spans input p is s shows ends)
 
-pub quote-none : (budget : Budget) (spans : Bool) (input : List ℕ) (s : Shown) → OfQuoted input s (λ p. ShowsQuote budget spans p s) → status_of s ≡ status.Infeasible → ShowsNone (Quote budget spans) input s
-quote-none budget spans input s told none =
-    MatchResult_shows status.Infeasible (quoted_in input) (quoted_in input) (λ p. ShowsQuote budget spans p s) s (ShowsNone (Quote budget spans) input s) (λ e. cc e) refl none told
-    (λ p is shows. extra-none budget spans input p is s shows none)
+pub quote-none : (allowed : Allowance) (budget : Budget) (spans : Bool) (seconds : Option ℕ) (input : List ℕ) (s : Shown) → OfQuoted input s (λ p. ShowsQuote allowed spans p s) → status_of s ≡ status.Infeasible → ShowsNone (Quote budget spans seconds) input s
+quote-none allowed budget spans seconds input s told none =
+    MatchResult_shows status.Infeasible (quoted_in input) (quoted_in input) (λ p. ShowsQuote allowed spans p s) s (ShowsNone (Quote budget spans seconds) input s) (λ e. cc e) refl none told
+    (λ p is shows. extra-none allowed spans input p is budget seconds s shows none)
 
 -- the status of two searches
-module _ (p : Problem) (budget : Budget) (spans : Bool) (before after : Solution) (told : IsQuoted p budget spans before after) where
+module _ (p : Problem) (allowed : Allowance) (spans : Bool) (before after : Solution) (told : IsQuoted p allowed spans before after) where
   abbrev Without : Answer
   Without = before.certificate.answer
 
   abbrev With : Answer
   With = after.certificate.answer
 
-  both-ends : SearchEnd (without_last p) every budget Without → SearchEnd p every budget With → QuoteStatus p budget (both_status Without With)
+  both-ends : SearchEnd (without_last p) every allowed Without → SearchEnd p every allowed With → QuoteStatus p allowed (both_status Without With)
   both-ends (optimal least first none) (optimal most second fewer) =
-      inl (ap (λ (x : Answer). both_status x With) first ∙ ap search_status second, searched-exists p every budget spans after told.with_it)
+      inl (ap (λ (x : Answer). both_status x With) first ∙ ap search_status second, searched-exists p every allowed spans after told.with_it)
   both-ends (optimal least first none) (unfinished cost bound spent second bounds) =
-      inr (inl (ap (λ (x : Answer). both_status x With) first ∙ ap search_status second, searched-exists p every budget spans after told.with_it, (spent, λ enough. bounds.scarce enough.1)))
+      inr (inl (ap (λ (x : Answer). both_status x With) first ∙ ap search_status second, searched-exists p every allowed spans after told.with_it, (spent, λ enough. bounds.scarce enough.1)))
   both-ends (unfinished cost bound spent first bounds) other =
-      inr (inl (ap (λ (x : Answer). both_status x With) first, searched-exists p every budget spans after told.with_it, (spent, λ enough. bounds.scarce enough.0)))
+      inr (inl (ap (λ (x : Answer). both_status x With) first, searched-exists p every allowed spans after told.with_it, (spent, λ enough. bounds.scarce enough.0)))
 
-pub quote-status : (budget : Budget) (spans : Bool) (p : Problem) (s : Shown) → ShowsQuote budget spans p s → QuoteStatus p budget (status_of s)
-quote-status budget spans p (shown.Quoted q before after) told =
-    both-ends p budget spans before after told.1 (search-end (without_last p) every budget before.certificate.answer told.1.without.says) (search-end p every budget after.certificate.answer told.1.with_it.says)
-quote-status budget spans p (shown.Infeasible q shipment time) told = inr (inr (refl, told.2))
-quote-status budget spans p _ told = absurd told
+pub quote-status : (allowed : Allowance) (spans : Bool) (p : Problem) (s : Shown) → ShowsQuote allowed spans p s → QuoteStatus p allowed (status_of s)
+quote-status allowed spans p (shown.Quoted q before after) told =
+    both-ends p allowed spans before after told.1 (search-end (without_last p) every allowed before.certificate.answer told.1.without.says) (search-end p every allowed after.certificate.answer told.1.with_it.says)
+quote-status allowed spans p (shown.Infeasible q shipment time) told = inr (inr (refl, told.2))
+quote-status allowed spans p _ told = absurd told

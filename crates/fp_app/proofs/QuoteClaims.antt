@@ -6,27 +6,26 @@ use Rattle.fp_certificate_lines.specs.declared.certificates.Answer.{Answer}
 use Rattle.fp_certificate_lines.specs.declared.certificates.Answer.TheVariants.{Optimal}
 use Rattle.fp_certificate_rules.specs.Accepted.{claim_of}
 use Rattle.fp_certificate_rules.specs.Plans.{routes_of, stated_cost}
-use Rattle.fp_session_history.specs.declared.budgets.Budget.{Budget}
 use Rattle.fp_session_history.specs.Solutions.{Solution}
 use Rattle.fp_replan.specs.Quotes.{AreFigures, IsBetween, IsCostOfPlan, IsExtraCost, IsLeastCost, without_last}
 use Rattle.fp_replan.proofs.PlansWithout.{low-le}
 use Rattle.fp_app.specs.Quotes.{IsQuoted, extra_of}
-use Rattle.fp_app.specs.Searches.{IsSearched}
+use Rattle.fp_app.specs.Searches.{Allowance, IsSearched}
 use Rattle.fp_app.specs.Shown.{CanBeQuoted, IsBracketed}
 use Rattle.fp_app.specs.Wanted.{every}
 use Rattle.fp_app.proofs.SearchEnds.{SearchEnd, optimal, search-end, unfinished}
 
 -- what a search shows is the cost of a plan
-cost-of_plan : (p : Problem) (budget : Budget) (spans : Bool) (s : Solution) → IsSearched p every budget spans s → IsCostOfPlan p (stated_cost s.certificate.answer)
-cost-of_plan p budget spans s told = let some : 1 ≤ 1 = omega arith in (1, routes_of p s.certificate, some, told.timetable.plan.plan, sym told.timetable.cost)
+cost-of_plan : (p : Problem) (allowed : Allowance) (spans : Bool) (s : Solution) → IsSearched p every allowed spans s → IsCostOfPlan p (stated_cost s.certificate.answer)
+cost-of_plan p allowed spans s told = let some : 1 ≤ 1 = omega arith in (1, routes_of p s.certificate, some, told.timetable.plan.plan, sym told.timetable.cost)
 
 -- and no plan costs less than it claims
-claim-least : (p : Problem) (budget : Budget) (a : Answer) → SearchEnd p every budget a → NoPlanCheaper p (claim_of a)
-claim-least p budget a (optimal cost same plans) = subst (NoPlanCheaper p) (sym (ap claim_of same)) plans
-claim-least p budget a (unfinished cost bound spent same bounds) = subst (NoPlanCheaper p) (sym (ap claim_of same)) bounds.plans
+claim-least : (p : Problem) (allowed : Allowance) (a : Answer) → SearchEnd p every allowed a → NoPlanCheaper p (claim_of a)
+claim-least p allowed a (optimal cost same plans) = subst (NoPlanCheaper p) (sym (ap claim_of same)) plans
+claim-least p allowed a (unfinished cost bound spent same bounds) = subst (NoPlanCheaper p) (sym (ap claim_of same)) bounds.plans
 
-figures : (p : Problem) (budget : Budget) (spans : Bool) (s : Solution) → IsSearched p every budget spans s → AreFigures p (claim_of s.certificate.answer) (stated_cost s.certificate.answer)
-figures p budget spans s told = record { low_is = claim-least p budget s.certificate.answer (search-end p every budget s.certificate.answer told.says); cost_is = cost-of_plan p budget spans s told }
+figures : (p : Problem) (allowed : Allowance) (spans : Bool) (s : Solution) → IsSearched p every allowed spans s → AreFigures p (claim_of s.certificate.answer) (stated_cost s.certificate.answer)
+figures p allowed spans s told = record { low_is = claim-least p allowed s.certificate.answer (search-end p every allowed s.certificate.answer told.says); cost_is = cost-of_plan p allowed spans s told }
 
 -- the least cost lies between the figures
 least-above : (p : Problem) (low c n : ℕ) → AreFigures p low c → IsLeastCost p n → low ≤ n
@@ -64,10 +63,10 @@ exact-both p b a least most before after first second = (
   ap (λ (x : Answer). extra_of x a) first ∙ ap (λ (x : Answer). extra_of (Optimal least) x) second,
 )
 
-pub searched-quoted : (p : Problem) (budget : Budget) (spans : Bool) (before after : Solution) → IsSearched (without_last p) every budget spans before → IsSearched p every budget spans after → IsQuoted p budget spans before after
-searched-quoted p budget spans before after first second =
-    let one = figures (without_last p) budget spans before first in
-    let two = figures p budget spans after second in
+pub searched-quoted : (p : Problem) (allowed : Allowance) (spans : Bool) (before after : Solution) → IsSearched (without_last p) every allowed spans before → IsSearched p every allowed spans after → IsQuoted p allowed spans before after
+searched-quoted p allowed spans before after first second =
+    let one = figures (without_last p) allowed spans before first in
+    let two = figures p allowed spans after second in
     record {
       without = first;
       with_it = second;
@@ -75,16 +74,16 @@ searched-quoted p budget spans before after first second =
       exact = λ least most is_least is_most. exact-both p before.certificate.answer after.certificate.answer least most one two is_least is_most;
     }
 
-bracketed : (p : Problem) (budget : Budget) (a : Answer) → SearchEnd p every budget a → IsBracketed a
-bracketed p budget a (optimal cost same plans) = subst IsBracketed (sym same) tt
-bracketed p budget a (unfinished cost bound spent same bounds) = subst IsBracketed (sym same) tt
+bracketed : (p : Problem) (allowed : Allowance) (a : Answer) → SearchEnd p every allowed a → IsBracketed a
+bracketed p allowed a (optimal cost same plans) = subst IsBracketed (sym same) tt
+bracketed p allowed a (unfinished cost bound spent same bounds) = subst IsBracketed (sym same) tt
 
 -- so the two can be printed
-pub searched-can_be_quoted : (p : Problem) (budget : Budget) (spans : Bool) (before after : Solution) → 1 ≤ length p.shipments → IsSearched (without_last p) every budget spans before → IsSearched p every budget spans after →
+pub searched-can_be_quoted : (p : Problem) (allowed : Allowance) (spans : Bool) (before after : Solution) → 1 ≤ length p.shipments → IsSearched (without_last p) every allowed spans before → IsSearched p every allowed spans after →
     CanBeQuoted p before.certificate.answer after.certificate.answer
-searched-can_be_quoted p budget spans before after some first second = record {
+searched-can_be_quoted p allowed spans before after some first second = record {
   shipment = some;
-  without = bracketed (without_last p) budget before.certificate.answer (search-end (without_last p) every budget before.certificate.answer first.says);
-  with_it = bracketed p budget after.certificate.answer (search-end p every budget after.certificate.answer second.says);
-  ascends = low-le p (claim_of before.certificate.answer) (stated_cost after.certificate.answer) (figures (without_last p) budget spans before first).low_is (figures p budget spans after second).cost_is;
+  without = bracketed (without_last p) allowed before.certificate.answer (search-end (without_last p) every allowed before.certificate.answer first.says);
+  with_it = bracketed p allowed after.certificate.answer (search-end p every allowed after.certificate.answer second.says);
+  ascends = low-le p (claim_of before.certificate.answer) (stated_cost after.certificate.answer) (figures (without_last p) allowed spans before first).low_is (figures p allowed spans after second).cost_is;
 }

@@ -1,5 +1,5 @@
 -- What a run shows that rejects a certificate.
-use Rattle.std.proofs.Common.{◌≡◌, ℕ, List, refl, sym, subst, inl, inr}
+use Rattle.std.proofs.Common.{◌≡◌, ℕ, Bool, List, refl, sym, subst, inl, inr}
 use Rattle.std.specs.Prelude.{Option, Some, None, Result, Ok, Err, MatchResult}
 use Rattle.fp_model.specs.Problem.{Problem}
 use Rattle.fp_records_fields.specs.Faults.{Fault}
@@ -19,69 +19,71 @@ use Rattle.fp_app.proofs.SearchEnds.{search-no_other, both-no_other}
 use Rattle.fp_app.proofs.YardCauses.{yard-rejection}
 use Rattle.fp_app.proofs.StatusCauses.{Answers-ShowsOf, ShowsOf}
 
--- a rejection is no fault of a record
-rejection-no_fault : (number : ℕ) (f : Fault) → shown.RejectedPart number ≡ shown.BadInput f.ordinal f.code → ⊥
-rejection-no_fault number f same = cc same
+-- for a time that can be over or not
+module _ (over : Bool) where
+  -- a rejection is no fault of a record
+  rejection-no_fault : (number : ℕ) (f : Fault) → shown.RejectedPart number ≡ shown.BadInput f.ordinal f.code → ⊥
+  rejection-no_fault number f same = cc same
 
-rejection-unread : {A : Type 0} (number : ℕ) (r : Result A Fault) → MatchResult r (λ x. ⊥) (λ (f : Fault). shown.RejectedPart number ≡ shown.BadInput f.ordinal f.code) → ⊥
-rejection-unread number (Ok x) told = told
-rejection-unread number (Err f) told = rejection-no_fault number f told
+  rejection-unread : {A : Type 0} (number : ℕ) (r : Result A Fault) → MatchResult r (λ x. ⊥) (λ (f : Fault). shown.RejectedPart number ≡ shown.BadInput f.ordinal f.code) → ⊥
+  rejection-unread number (Ok x) told = told
+  rejection-unread number (Err f) told = rejection-no_fault number f told
 
--- a certificate that `check` rejects
-abbrev IsUnaccepted : List ℕ → Shown → Type 0
-IsUnaccepted input s = ShowsNo (λ p c number. ShowsRejected (scaled p c) c number) input s
+  -- a certificate that `check` rejects
+  abbrev IsUnaccepted : List ℕ → Shown → Type 0
+  IsUnaccepted input s = ShowsNo (λ p c number. ShowsRejected (scaled p c) c number) input s
 
-ShowsNo_certificate : (input : List ℕ) (number : ℕ) (p : Problem) (q : Result Statement Fault) → leading_instance_in input ≡ Ok p → certificate_in p input ≡ q →
-    MatchResult q (λ c. ShowsCheck (scaled p c) c (shown.RejectedPart number)) (λ (f : Fault). shown.RejectedPart number ≡ shown.BadInput f.ordinal f.code) → IsUnaccepted input (shown.RejectedPart number)
-ShowsNo_certificate input number p (Ok c) is read told = record { instance = p; certificate = c; number = number; read = is; certified = read; shows = refl; rejected = told }
-ShowsNo_certificate input number p (Err f) is read same = absurd (rejection-no_fault number f same)
+  ShowsNo_certificate : (input : List ℕ) (number : ℕ) (p : Problem) (q : Result Statement Fault) → leading_instance_in input ≡ Ok p → certificate_in p input ≡ q →
+      MatchResult q (λ c. ShowsCheck (scaled p c) c (shown.RejectedPart number)) (λ (f : Fault). shown.RejectedPart number ≡ shown.BadInput f.ordinal f.code) → IsUnaccepted input (shown.RejectedPart number)
+  ShowsNo_certificate input number p (Ok c) is read told = record { instance = p; certificate = c; number = number; read = is; certified = read; shows = refl; rejected = told }
+  ShowsNo_certificate input number p (Err f) is read same = absurd (rejection-no_fault number f same)
 
-ShowsNo_check : (input : List ℕ) (number : ℕ) (r : Result Problem Fault) → leading_instance_in input ≡ r →
-    MatchResult r
-    (λ p. MatchResult (certificate_in p input) (λ c. ShowsCheck (scaled p c) c (shown.RejectedPart number)) (λ (f : Fault). shown.RejectedPart number ≡ shown.BadInput f.ordinal f.code))
-    (λ (f : Fault). shown.RejectedPart number ≡ shown.BadInput f.ordinal f.code) → IsUnaccepted input (shown.RejectedPart number)
-ShowsNo_check input number (Ok p) is told = ShowsNo_certificate input number p (certificate_in p input) is refl told
-ShowsNo_check input number (Err f) is same = absurd (rejection-no_fault number f same)
+  ShowsNo_check : (input : List ℕ) (number : ℕ) (r : Result Problem Fault) → leading_instance_in input ≡ r →
+      MatchResult r
+      (λ p. MatchResult (certificate_in p input) (λ c. ShowsCheck (scaled p c) c (shown.RejectedPart number)) (λ (f : Fault). shown.RejectedPart number ≡ shown.BadInput f.ordinal f.code))
+      (λ (f : Fault). shown.RejectedPart number ≡ shown.BadInput f.ordinal f.code) → IsUnaccepted input (shown.RejectedPart number)
+  ShowsNo_check input number (Ok p) is told = ShowsNo_certificate input number p (certificate_in p input) is refl told
+  ShowsNo_check input number (Err f) is same = absurd (rejection-no_fault number f same)
 
--- only `check`, `yard` and `fleet` reject
-ShowsNo_input : (o : Order) (input : List ℕ) (number : ℕ) → ShowsInput o input (shown.RejectedPart number) → ShowsRejection (Some o) input (shown.RejectedPart number)
-ShowsNo_input Direct input number told = absurd (rejection-unread number (instance_in input) told)
-ShowsNo_input (Bound option) input number told = absurd (rejection-unread number (instance_in input) told)
-ShowsNo_input (Plan budget scale spans) input number told = absurd (rejection-unread number (instance_at scale input) told)
-ShowsNo_input (Trial seed terminals shipments) input number told = absurd told
-ShowsNo_input (Yard seed) input number told = yard-rejection seed input number told
-ShowsNo_input Fleet input number told = fleet-rejection input number told
-ShowsNo_input (Replan budget spans) input number told = absurd (rejection-unread number (kept_in input) told)
-ShowsNo_input (Quote budget spans) input number told = absurd (rejection-unread number (quoted_in input) told)
-ShowsNo_input Check input number told = ShowsNo_check input number (leading_instance_in input) refl told
+  -- only `check`, `yard` and `fleet` reject
+  ShowsNo_input : (o : Order) (input : List ℕ) (number : ℕ) → ShowsInput over o input (shown.RejectedPart number) → ShowsRejection (Some o) input (shown.RejectedPart number)
+  ShowsNo_input Direct input number told = absurd (rejection-unread number (instance_in input) told)
+  ShowsNo_input (Bound option seconds) input number told = absurd (rejection-unread number (instance_in input) told)
+  ShowsNo_input (Plan budget scale spans seconds) input number told = absurd (rejection-unread number (instance_at scale input) told)
+  ShowsNo_input (Trial seed terminals shipments) input number told = absurd told
+  ShowsNo_input (Yard seed) input number told = yard-rejection seed input number told
+  ShowsNo_input Fleet input number told = fleet-rejection input number told
+  ShowsNo_input (Replan budget spans seconds) input number told = absurd (rejection-unread number (kept_in input) told)
+  ShowsNo_input (Quote budget spans seconds) input number told = absurd (rejection-unread number (quoted_in input) told)
+  ShowsNo_input Check input number told = ShowsNo_check input number (leading_instance_in input) refl told
 
-alone-no_rejection : (o : Order) (number : ℕ) → ShowsAlone o (shown.RejectedPart number) → ⊥
-alone-no_rejection (Trial seed terminals shipments) number told = told
-alone-no_rejection _ number told = told
+  alone-no_rejection : (o : Order) (number : ℕ) → ShowsAlone o (shown.RejectedPart number) → ⊥
+  alone-no_rejection (Trial seed terminals shipments) number told = told
+  alone-no_rejection _ number told = told
 
-ShowsNo_of : (o : Order) (input : List ℕ) (number : ℕ) → ShowsOf o input (shown.RejectedPart number) → ShowsRejection (Some o) input (shown.RejectedPart number)
-ShowsNo_of o input number (inl told) = ShowsNo_input o input number told
-ShowsNo_of o input number (inr told) = absurd (alone-no_rejection o number told)
+  ShowsNo_of : (o : Order) (input : List ℕ) (number : ℕ) → ShowsOf over o input (shown.RejectedPart number) → ShowsRejection (Some o) input (shown.RejectedPart number)
+  ShowsNo_of o input number (inl told) = ShowsNo_input o input number told
+  ShowsNo_of o input number (inr told) = absurd (alone-no_rejection o number told)
 
-words-no_rejection : (number : ℕ) → shown.RejectedPart number ≡ shown.BadWords → ⊥
-words-no_rejection number same = cc same
+  words-no_rejection : (number : ℕ) → shown.RejectedPart number ≡ shown.BadWords → ⊥
+  words-no_rejection number same = cc same
 
-ShowsNo_answers : (o : Option Order) (input : List ℕ) (new : Option (List ℕ)) (number : ℕ) → Answers o (Some input) new (shown.RejectedPart number) → ShowsRejection o input (shown.RejectedPart number)
-ShowsNo_answers None input new number same = absurd (words-no_rejection number same)
-ShowsNo_answers (Some o) input new number told = ShowsNo_of o input number (Answers-ShowsOf o input new (shown.RejectedPart number) told (λ g. cc g))
+  ShowsNo_answers : (o : Option Order) (input : List ℕ) (new : Option (List ℕ)) (number : ℕ) → Answers over o (Some input) new (shown.RejectedPart number) → ShowsRejection o input (shown.RejectedPart number)
+  ShowsNo_answers None input new number same = absurd (words-no_rejection number same)
+  ShowsNo_answers (Some o) input new number told = ShowsNo_of o input number (Answers-ShowsOf over o input new (shown.RejectedPart number) told (λ g. cc g))
 
--- what is shown with the status of a rejected certificate
-status_of_rejected : (s : Shown) → status_of s ≡ status.Rejected → (number : ℕ) × (s ≡ shown.RejectedPart number)
-status_of_rejected (shown.RejectedPart number) same = (number, refl)
-status_of_rejected (shown.Planned p x) same = absurd (search-no_other x.certificate.answer status.Rejected (λ e. cc e) (λ e. cc e) same)
-status_of_rejected (shown.Trial seed failed p x) same = absurd (search-no_other x.certificate.answer status.Rejected (λ e. cc e) (λ e. cc e) same)
-status_of_rejected (shown.Replanned p kept x) same = absurd (search-no_other x.certificate.answer status.Rejected (λ e. cc e) (λ e. cc e) same)
-status_of_rejected (shown.Quoted p x y) same = absurd (both-no_other x.certificate.answer y.certificate.answer status.Rejected (λ e. cc e) (λ e. cc e) same)
-status_of_rejected _ same = let g = same in cc
+  -- what is shown with the status of a rejected certificate
+  status_of_rejected : (s : Shown) → status_of s ≡ status.Rejected → (number : ℕ) × (s ≡ shown.RejectedPart number)
+  status_of_rejected (shown.RejectedPart number) same = (number, refl)
+  status_of_rejected (shown.Planned p x) same = absurd (search-no_other x.certificate.answer status.Rejected (λ e. cc e) (λ e. cc e) same)
+  status_of_rejected (shown.Trial seed failed p x) same = absurd (search-no_other x.certificate.answer status.Rejected (λ e. cc e) (λ e. cc e) same)
+  status_of_rejected (shown.Replanned p kept x) same = absurd (search-no_other x.certificate.answer status.Rejected (λ e. cc e) (λ e. cc e) same)
+  status_of_rejected (shown.Quoted p x y) same = absurd (both-no_other x.certificate.answer y.certificate.answer status.Rejected (λ e. cc e) (λ e. cc e) same)
+  status_of_rejected _ same = let g = same in cc
 
-pub Rejected-ShowsRejection : (o : Option Order) (input : List ℕ) (old new : Option (List ℕ)) (s : Shown) → old ≡ Some input → Answers o old new s → status_of s ≡ status.Rejected → ShowsRejection o input s
-Rejected-ShowsRejection o input old new s is told same =
-    let rejected = status_of_rejected s same in
-    let here : Answers o (Some input) new s = subst (λ (x : Option (List ℕ)). Answers o x new s) is told in
-    let part : Answers o (Some input) new (shown.RejectedPart rejected.0) = subst (λ (t : Shown). Answers o (Some input) new t) rejected.1 here in
-    subst (λ (t : Shown). ShowsRejection o input t) (sym rejected.1) (ShowsNo_answers o input new rejected.0 part)
+  pub Rejected-ShowsRejection : (o : Option Order) (input : List ℕ) (old new : Option (List ℕ)) (s : Shown) → old ≡ Some input → Answers over o old new s → status_of s ≡ status.Rejected → ShowsRejection o input s
+  Rejected-ShowsRejection o input old new s is told same =
+      let rejected = status_of_rejected s same in
+      let here : Answers over o (Some input) new s = subst (λ (x : Option (List ℕ)). Answers over o x new s) is told in
+      let part : Answers over o (Some input) new (shown.RejectedPart rejected.0) = subst (λ (t : Shown). Answers over o (Some input) new t) rejected.1 here in
+      subst (λ (t : Shown). ShowsRejection o input t) (sym rejected.1) (ShowsNo_answers o input new rejected.0 part)

@@ -1,7 +1,6 @@
 -- What `replan` shows, by its status.
 use Rattle.std.proofs.Common.{◌≡◌, ◌∙◌, ℕ, Bool, List, refl, sym, ap, subst, inl, inr}
 use Rattle.std.specs.Prelude.{Ok}
-use Rattle.fp_session_history.specs.declared.budgets.Budget.{Budget}
 use Rattle.fp_session_history.specs.Solutions.{Solution}
 use Rattle.fp_model.specs.Problem.{Problem}
 use Rattle.fp_app.specs.declared.shown.Shown.{Shown}
@@ -10,39 +9,39 @@ use Rattle.fp_app.specs.declared.shown.Status.TheVariants as status
 use Rattle.fp_app.specs.Causes.{SearchStatus, ShowsKept, ShowsKeptOptimal, ShowsKeptUnfinished, ShowsStuck}
 use Rattle.fp_app.specs.Inputs.{KeptInstance, OfKept, kept_in}
 use Rattle.fp_app.specs.Runs.{ShowsReplan}
-use Rattle.fp_app.specs.Searches.{IsSearched}
+use Rattle.fp_app.specs.Searches.{Allowance, IsSearched}
 use Rattle.fp_app.specs.Shown.{search_status, status_of}
 use Rattle.fp_app.specs.Wanted.{Wanted, keeping}
 use Rattle.fp_app.proofs.ReadCauses.{MatchResult_shows}
 use Rattle.fp_app.proofs.SearchClaims.{searched-exists}
 use Rattle.fp_app.proofs.SearchEnds.{SearchEnd, optimal, search-end, search-no_other, unfinished}
 
-end-optimal : (budget : Budget) (spans : Bool) (input : List ℕ) (s : Shown) (told : ShowsKept budget spans input s) → SearchEnd told.instance (keeping told.kept.items) budget told.solved.certificate.answer →
-    search_status told.solved.certificate.answer ≡ status.Done → ShowsKeptOptimal budget spans input s
-end-optimal budget spans input s told (optimal cost same plans) done = record { solution = told; cost = cost; answer = same; plans = plans }
-end-optimal budget spans input s told (unfinished cost bound spent same bounds) done = let e : status.Unfinished ≡ status.Done = sym (ap search_status same) ∙ done in cc e
+end-optimal : (allowed : Allowance) (spans : Bool) (input : List ℕ) (s : Shown) (told : ShowsKept allowed spans input s) → SearchEnd told.instance (keeping told.kept.items) allowed told.solved.certificate.answer →
+    search_status told.solved.certificate.answer ≡ status.Done → ShowsKeptOptimal allowed spans input s
+end-optimal allowed spans input s told (optimal cost same plans) done = record { solution = told; cost = cost; answer = same; plans = plans }
+end-optimal allowed spans input s told (unfinished cost bound spent same bounds) done = let e : status.Unfinished ≡ status.Done = sym (ap search_status same) ∙ done in cc e
 
-end-unfinished : (budget : Budget) (spans : Bool) (input : List ℕ) (s : Shown) (told : ShowsKept budget spans input s) → SearchEnd told.instance (keeping told.kept.items) budget told.solved.certificate.answer →
-    search_status told.solved.certificate.answer ≡ status.Unfinished → ShowsKeptUnfinished budget spans input s
-end-unfinished budget spans input s told (optimal cost same plans) ends = let e : status.Done ≡ status.Unfinished = sym (ap search_status same) ∙ ends in cc e
-end-unfinished budget spans input s told (unfinished cost bound spent same bounds) ends = record { solution = told; cost = cost; bound = bound; spent = spent; answer = same; bounds = bounds }
+end-unfinished : (allowed : Allowance) (spans : Bool) (input : List ℕ) (s : Shown) (told : ShowsKept allowed spans input s) → SearchEnd told.instance (keeping told.kept.items) allowed told.solved.certificate.answer →
+    search_status told.solved.certificate.answer ≡ status.Unfinished → ShowsKeptUnfinished allowed spans input s
+end-unfinished allowed spans input s told (optimal cost same plans) ends = let e : status.Done ≡ status.Unfinished = sym (ap search_status same) ∙ ends in cc e
+end-unfinished allowed spans input s told (unfinished cost bound spent same bounds) ends = record { solution = told; cost = cost; bound = bound; spent = spent; answer = same; bounds = bounds }
 
-module _ (budget : Budget) (spans : Bool) (input : List ℕ) (x : KeptInstance) (read : kept_in input ≡ Ok x) where
-  kept-done : (s : Shown) → ShowsReplan budget spans x s → status_of s ≡ status.Done → ShowsKeptOptimal budget spans input s
+module _ (allowed : Allowance) (spans : Bool) (input : List ℕ) (x : KeptInstance) (read : kept_in input ≡ Ok x) where
+  kept-done : (s : Shown) → ShowsReplan allowed spans x s → status_of s ≡ status.Done → ShowsKeptOptimal allowed spans input s
   kept-done (shown.Replanned p kept y) told done =
-      end-optimal budget spans input (shown.Replanned p kept y) (record { instance = p; kept = kept; solved = y; read = read ∙ ap Ok told.0; shows = refl; searched = told.1 })
-      (search-end p (keeping kept.items) budget y.certificate.answer told.1.says) done
+      end-optimal allowed spans input (shown.Replanned p kept y) (record { instance = p; kept = kept; solved = y; read = read ∙ ap Ok told.0; shows = refl; searched = told.1 })
+      (search-end p (keeping kept.items) allowed y.certificate.answer told.1.says) done
   kept-done (shown.Stuck p shipment) told done = let g = done in cc
   kept-done _ told done = absurd told
 
-  kept-open : (s : Shown) → ShowsReplan budget spans x s → status_of s ≡ status.Unfinished → ShowsKeptUnfinished budget spans input s
+  kept-open : (s : Shown) → ShowsReplan allowed spans x s → status_of s ≡ status.Unfinished → ShowsKeptUnfinished allowed spans input s
   kept-open (shown.Replanned p kept y) told ends =
-      end-unfinished budget spans input (shown.Replanned p kept y) (record { instance = p; kept = kept; solved = y; read = read ∙ ap Ok told.0; shows = refl; searched = told.1 })
-      (search-end p (keeping kept.items) budget y.certificate.answer told.1.says) ends
+      end-unfinished allowed spans input (shown.Replanned p kept y) (record { instance = p; kept = kept; solved = y; read = read ∙ ap Ok told.0; shows = refl; searched = told.1 })
+      (search-end p (keeping kept.items) allowed y.certificate.answer told.1.says) ends
   kept-open (shown.Stuck p shipment) told ends = let g = ends in cc
   kept-open _ told ends = absurd told
 
-  kept-stuck : (s : Shown) → ShowsReplan budget spans x s → status_of s ≡ status.Infeasible → ShowsStuck input s
+  kept-stuck : (s : Shown) → ShowsReplan allowed spans x s → status_of s ≡ status.Infeasible → ShowsStuck input s
   kept-stuck (shown.Replanned p kept y) told none = absurd (search-no_other y.certificate.answer status.Infeasible (λ e. cc e) (λ e. cc e) none)
   kept-stuck (shown.Stuck p shipment) told none = record {
     instance = x.instance;
@@ -55,29 +54,29 @@ module _ (budget : Budget) (spans : Bool) (input : List ℕ) (x : KeptInstance) 
   }
   kept-stuck _ told none = absurd told
 
-pub replan-done : (budget : Budget) (spans : Bool) (input : List ℕ) (s : Shown) → OfKept input s (λ x. ShowsReplan budget spans x s) → status_of s ≡ status.Done → ShowsKeptOptimal budget spans input s
-replan-done budget spans input s told done =
-    MatchResult_shows status.Done (kept_in input) (kept_in input) (λ (x : KeptInstance). ShowsReplan budget spans x s) s (ShowsKeptOptimal budget spans input s) (λ e. cc e) refl done told
-    (λ x is shows. kept-done budget spans input x is s shows done)
+pub replan-done : (allowed : Allowance) (spans : Bool) (input : List ℕ) (s : Shown) → OfKept input s (λ x. ShowsReplan allowed spans x s) → status_of s ≡ status.Done → ShowsKeptOptimal allowed spans input s
+replan-done allowed spans input s told done =
+    MatchResult_shows status.Done (kept_in input) (kept_in input) (λ (x : KeptInstance). ShowsReplan allowed spans x s) s (ShowsKeptOptimal allowed spans input s) (λ e. cc e) refl done told
+    (λ x is shows. kept-done allowed spans input x is s shows done)
 
-pub replan-open : (budget : Budget) (spans : Bool) (input : List ℕ) (s : Shown) → OfKept input s (λ x. ShowsReplan budget spans x s) → status_of s ≡ status.Unfinished → ShowsKeptUnfinished budget spans input s
-replan-open budget spans input s told ends =
-    MatchResult_shows status.Unfinished (kept_in input) (kept_in input) (λ (x : KeptInstance). ShowsReplan budget spans x s) s (ShowsKeptUnfinished budget spans input s) (λ e. cc e) refl ends told
-    (λ x is shows. kept-open budget spans input x is s shows ends)
+pub replan-open : (allowed : Allowance) (spans : Bool) (input : List ℕ) (s : Shown) → OfKept input s (λ x. ShowsReplan allowed spans x s) → status_of s ≡ status.Unfinished → ShowsKeptUnfinished allowed spans input s
+replan-open allowed spans input s told ends =
+    MatchResult_shows status.Unfinished (kept_in input) (kept_in input) (λ (x : KeptInstance). ShowsReplan allowed spans x s) s (ShowsKeptUnfinished allowed spans input s) (λ e. cc e) refl ends told
+    (λ x is shows. kept-open allowed spans input x is s shows ends)
 
-pub replan-stuck : (budget : Budget) (spans : Bool) (input : List ℕ) (s : Shown) → OfKept input s (λ x. ShowsReplan budget spans x s) → status_of s ≡ status.Infeasible → ShowsStuck input s
-replan-stuck budget spans input s told none =
-    MatchResult_shows status.Infeasible (kept_in input) (kept_in input) (λ (x : KeptInstance). ShowsReplan budget spans x s) s (ShowsStuck input s) (λ e. cc e) refl none told
-    (λ x is shows. kept-stuck budget spans input x is s shows none)
+pub replan-stuck : (allowed : Allowance) (spans : Bool) (input : List ℕ) (s : Shown) → OfKept input s (λ x. ShowsReplan allowed spans x s) → status_of s ≡ status.Infeasible → ShowsStuck input s
+replan-stuck allowed spans input s told none =
+    MatchResult_shows status.Infeasible (kept_in input) (kept_in input) (λ (x : KeptInstance). ShowsReplan allowed spans x s) s (ShowsStuck input s) (λ e. cc e) refl none told
+    (λ x is shows. kept-stuck allowed spans input x is s shows none)
 
 -- the status of a search among wanted plans
-pub end-status : (p : Problem) (wanted : Wanted) (budget : Budget) (spans : Bool) (s : Solution) → IsSearched p wanted budget spans s → SearchEnd p wanted budget s.certificate.answer → SearchStatus p wanted budget (search_status s.certificate.answer)
-end-status p wanted budget spans s told (optimal cost same plans) = inl (ap search_status same, searched-exists p wanted budget spans s told)
-end-status p wanted budget spans s told (unfinished cost bound spent same bounds) = inr (inl (ap search_status same, searched-exists p wanted budget spans s told, (spent, bounds.scarce)))
+pub end-status : (p : Problem) (wanted : Wanted) (allowed : Allowance) (spans : Bool) (s : Solution) → IsSearched p wanted allowed spans s → SearchEnd p wanted allowed s.certificate.answer → SearchStatus p wanted allowed (search_status s.certificate.answer)
+end-status p wanted allowed spans s told (optimal cost same plans) = inl (ap search_status same, searched-exists p wanted allowed spans s told)
+end-status p wanted allowed spans s told (unfinished cost bound spent same bounds) = inr (inl (ap search_status same, searched-exists p wanted allowed spans s told, (spent, bounds.scarce)))
 
-pub replan-status : (budget : Budget) (spans : Bool) (x : KeptInstance) (s : Shown) → ShowsReplan budget spans x s → SearchStatus x.instance (keeping x.kept) budget (status_of s)
-replan-status budget spans x (shown.Replanned p kept y) told =
-    subst (λ (z : KeptInstance). SearchStatus z.instance (keeping z.kept) budget (search_status y.certificate.answer)) (sym told.0)
-    (end-status p (keeping kept.items) budget spans y told.1 (search-end p (keeping kept.items) budget y.certificate.answer told.1.says))
-replan-status budget spans x (shown.Stuck p shipment) told = inr (inr (refl, told.2))
-replan-status budget spans x _ told = absurd told
+pub replan-status : (allowed : Allowance) (spans : Bool) (x : KeptInstance) (s : Shown) → ShowsReplan allowed spans x s → SearchStatus x.instance (keeping x.kept) allowed (status_of s)
+replan-status allowed spans x (shown.Replanned p kept y) told =
+    subst (λ (z : KeptInstance). SearchStatus z.instance (keeping z.kept) allowed (search_status y.certificate.answer)) (sym told.0)
+    (end-status p (keeping kept.items) allowed spans y told.1 (search-end p (keeping kept.items) allowed y.certificate.answer told.1.says))
+replan-status allowed spans x (shown.Stuck p shipment) told = inr (inr (refl, told.2))
+replan-status allowed spans x _ told = absurd told

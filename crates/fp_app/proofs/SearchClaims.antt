@@ -25,7 +25,7 @@ use Rattle.fp_certificate_lines.specs.declared.certificates.Answer.{Answer}
 use Rattle.fp_certificate_lines.specs.declared.certificates.Answer.TheVariants.{Optimal, Unfinished}
 use Rattle.fp_certificate_lines.specs.declared.certificates.Node.{Node}
 use Rattle.fp_certificate_lines.specs.declared.certificates.Node.TheVariants as node
-use Rattle.fp_certificate_lines.specs.declared.certificates.Spent.TheVariants.{Branches, Rounds}
+use Rattle.fp_certificate_lines.specs.declared.certificates.Spent.TheVariants.{Branches, Rounds, Time}
 use Rattle.fp_certificate_lines.specs.Lengths.{TextsAreShort}
 use Rattle.fp_certificate_lines.specs.Ranges.{IsInRange}
 use Rattle.fp_certificate_lines.specs.Statements.{Statement}
@@ -41,10 +41,10 @@ use Rattle.fp_duals_leaves.proofs.WrittenLines.{PriceLinesAreWritten_hold}
 use Rattle.fp_certificate.specs.Readable.{Allows, WrittenReadsBack}
 use Rattle.fp_session_history.specs.declared.budgets.Budget.{Budget}
 use Rattle.fp_session_history.specs.declared.endings.Left.{Left}
-use Rattle.fp_session_history.specs.declared.endings.Left.TheVariants.{Nothing, Several, Timing}
+use Rattle.fp_session_history.specs.declared.endings.Left.TheVariants.{Nothing, Several, Timing, Unsettled}
 use Rattle.fp_session_history.specs.Notes.{History, added_of, points_of}
 use Rattle.fp_session_history.specs.PrintedLeaves.{IsEmptyAt, IsPrintedLeaf, IsWorth, OfLeaf}
-use Rattle.fp_session_history.specs.Solutions.{HasCause, IsEarnedSolution, Solution, branches_shown, history_of, leaves_shown}
+use Rattle.fp_session_history.specs.Solutions.{HasCause, IsEarnedSolution, IsTimely, Solution, branches_shown, history_of, leaves_shown}
 use Rattle.fp_session_history.specs.Splits.{IsEarnedAt, IsValueAt}
 use Rattle.fp_session_history.proofs.AddedPoints.{AreAddedPoints-IsEarnedTrace, points-in_time}
 use Rattle.fp_session_history.proofs.Enough.{EnoughBranches_hold, EnoughRounds_hold}
@@ -52,7 +52,7 @@ use Rattle.fp_session.specs.Certificates.{IsPricedBy}
 use Rattle.fp_session.specs.Sessions.{SessionModel}
 use Rattle.fp_session.specs.Solved.{IsSolved}
 use Rattle.fp_session.specs.Starts.{IsSessionOf}
-use Rattle.fp_app.specs.Searches.{AreInTime, IsPricedAs, IsSearched, IsShortText, SaysOfPlans}
+use Rattle.fp_app.specs.Searches.{Allowance, AreInTime, IsPricedAs, IsSearched, IsShortText, SaysOfPlans}
 use Rattle.fp_app.specs.Wanted.{AreWindowsFor, IsFirstPlan, IsWanted, NoneWantedCheaper, Wanted, WantedExists, every, keeping}
 use Rattle.fp_app.proofs.OneKeptTable.{AreKeptWindowsOf-unique}
 use Rattle.fp_app.proofs.OneTable.{AreWindowsOf_unique}
@@ -99,41 +99,47 @@ wanted-cheaper p every table c windows within = λ d routes some is. within d ro
 wanted-cheaper p (keeping kept) table c windows within = λ d routes some is keeps. within d routes some is ((windows.tell d routes some is).1 keeps)
 
 -- what the answer of a search says, by what it left
-module _ (p : Problem) (wanted : Wanted) (table : WindowTable) (budget : Budget) (started : ℕ) (s : Solution) (windows : AreWindowsFor p wanted table) (range : IsInRange p s.certificate) (earned : IsEarnedSolution p table budget started s) where
+module _ (p : Problem) (wanted : Wanted) (table : WindowTable) (allowed : Allowance) (started : ℕ) (s : Solution) (windows : AreWindowsFor p wanted table) (range : IsInRange p s.certificate) (earned : IsEarnedSolution p table allowed.budget started s) where
   -- its unit is at least 1
   some-unit : IfSome s.certificate.unit (λ u. 1 ≤ u)
   some-unit = IfSome_then s.certificate.unit range.unit (λ u is. is.least)
 
   abbrev Caused : Left → Answer → Type 0
-  Caused = HasCause (history_of p table s) budget (leaves_shown p s) (branches_shown p s)
+  Caused = HasCause (history_of p table s) allowed.budget (leaves_shown p s) (branches_shown p s)
 
-  says-by : (left : Left) (a : Answer) → s.certificate.answer ≡ a → Caused left a → ClaimsWithin p (windows_in table) a → SaysOfPlans p wanted budget a
-  says-by Nothing (Optimal cost) same cause claims = wanted-cheaper p wanted table cost windows claims
-  says-by (Timing leaf relaxed) (Unfinished cost bound Rounds) same cause claims = record {
+  says-by : (left : Left) (a : Answer) → s.certificate.answer ≡ a → Caused left a → IsTimely allowed.over left → ClaimsWithin p (windows_in table) a → SaysOfPlans p wanted allowed a
+  says-by Nothing (Optimal cost) same cause timely claims = wanted-cheaper p wanted table cost windows claims
+  says-by (Timing leaf relaxed) (Unfinished cost bound Rounds) same cause timely claims = record {
     plans = wanted-cheaper p wanted table bound windows claims;
     below = cause.2;
     flat = λ flat least. flat-leaves (history_of p table s) (leaves_shown p s) flat bound some-unit least earned.leaves cause.1.some;
-    scarce = λ enough. EnoughRounds_hold p table budget started s (windows-belong p wanted table windows) earned enough cost bound same;
+    scarce = λ enough. EnoughRounds_hold p table allowed.budget started s (windows-belong p wanted table windows) earned enough cost bound same;
   }
-  says-by (Several leaf shipment) (Unfinished cost bound Branches) same cause claims = record {
+  says-by (Several leaf shipment) (Unfinished cost bound Branches) same cause timely claims = record {
     plans = wanted-cheaper p wanted table bound windows claims;
     below = cause.2;
     flat = λ flat least. flat-leaves (history_of p table s) (leaves_shown p s) flat bound some-unit least earned.leaves cause.1.some;
-    scarce = λ enough. EnoughBranches_hold p table budget started s (windows-belong p wanted table windows).valid earned
-        (subst (λ (t : WindowTable). 2 ^ slack p (windows_in t) [] ≤ budget.branches) (windows-one p wanted enough.0 table enough.1 windows) enough.2) cost bound same;
+    scarce = λ enough. EnoughBranches_hold p table allowed.budget started s (windows-belong p wanted table windows).valid earned
+        (subst (λ (t : WindowTable). 2 ^ slack p (windows_in t) [] ≤ allowed.budget.branches) (windows-one p wanted enough.0 table enough.1 windows) enough.2) cost bound same;
   }
-  says-by _ _ same cause claims = absurd cause
+  says-by (Unsettled leaf) (Unfinished cost bound Time) same cause timely claims = record {
+    plans = wanted-cheaper p wanted table bound windows claims;
+    below = cause.2;
+    flat = λ flat least. flat-leaves (history_of p table s) (leaves_shown p s) flat bound some-unit least earned.leaves cause.1.some;
+    scarce = λ enough. let e : true ≡ false = sym timely ∙ enough in cc e;
+  }
+  says-by _ _ same cause timely claims = absurd cause
 
 -- an answer of a search has a timetable and a tree, and any lines may stand under it
-has-timetable : (p : Problem) (wanted : Wanted) (budget : Budget) (a : Answer) → SaysOfPlans p wanted budget a → Applies a Part.Plan × Applies a Part.Cost × Applies a Part.Trucks × Applies a Part.Tree
-has-timetable p wanted budget (Optimal cost) says = (tt, tt, tt, tt)
-has-timetable p wanted budget (Unfinished cost bound spent) says = (tt, tt, tt, tt)
-has-timetable p wanted budget _ says = absurd says
+has-timetable : (p : Problem) (wanted : Wanted) (allowed : Allowance) (a : Answer) → SaysOfPlans p wanted allowed a → Applies a Part.Plan × Applies a Part.Cost × Applies a Part.Trucks × Applies a Part.Tree
+has-timetable p wanted allowed (Optimal cost) says = (tt, tt, tt, tt)
+has-timetable p wanted allowed (Unfinished cost bound spent) says = (tt, tt, tt, tt)
+has-timetable p wanted allowed _ says = absurd says
 
-allows : (p : Problem) (wanted : Wanted) (budget : Budget) (a : Answer) (c : Statement) → SaysOfPlans p wanted budget a → Allows a c
-allows p wanted budget (Optimal cost) c says = tt
-allows p wanted budget (Unfinished cost bound spent) c says = tt
-allows p wanted budget _ c says = absurd says
+allows : (p : Problem) (wanted : Wanted) (allowed : Allowance) (a : Answer) (c : Statement) → SaysOfPlans p wanted allowed a → Allows a c
+allows p wanted allowed (Optimal cost) c says = tt
+allows p wanted allowed (Unfinished cost bound spent) c says = tt
+allows p wanted allowed _ c says = absurd says
 
 -- the points that a search has added are in time
 earned-in_time : (p : Problem) (table : WindowTable) (budget : Budget) (started : ℕ) (s : Solution) → BelongsTo p table → IsEarnedSolution p table budget started s → AreInTime p s.certificate.points
@@ -158,27 +164,27 @@ short-text p table budget started s valid texts solved applies =
     omega (arith, texts c solved.range solved.countable, few-bytes p c few (solved.accepted Part.Tree applies), PriceLinesAreWritten_hold p c solved.range.beside, solved.lines)
 
 -- what a search shows that began with the first plan
-solved-searched : (p : Problem) (wanted : Wanted) (table : WindowTable) (budget : Budget) (spans : Bool) (first : List (List Leg)) (s : Solution) → AreWindowsFor p wanted table → IsFirstPlan p wanted first → WrittenReadsBack p → TextsAreShort p →
-    IsSolved p table budget (cost p first) s → IsPricedAs p spans s.certificate → IsSearched p wanted budget spans s
-solved-searched p wanted table budget spans first s windows begins back texts solved priced =
+solved-searched : (p : Problem) (wanted : Wanted) (table : WindowTable) (allowed : Allowance) (spans : Bool) (first : List (List Leg)) (s : Solution) → AreWindowsFor p wanted table → IsFirstPlan p wanted first → WrittenReadsBack p → TextsAreShort p →
+    IsSolved p table allowed.budget (cost p first) s → IsTimely allowed.over s.left → IsPricedAs p spans s.certificate → IsSearched p wanted allowed spans s
+solved-searched p wanted table allowed spans first s windows begins back texts solved timely priced =
     let belongs : BelongsTo p table = windows-belong p wanted table windows in
     let claims : ClaimsWithin p (windows_in table) s.certificate.answer = AcceptedClaims_hold.within p table s.certificate belongs.valid solved.range solved.accepted in
-    let says : SaysOfPlans p wanted budget s.certificate.answer = says-by p wanted table budget (cost p first) s windows solved.range solved.earned s.left s.certificate.answer refl solved.earned.cause claims in
-    let parts = has-timetable p wanted budget s.certificate.answer says in
+    let says : SaysOfPlans p wanted allowed s.certificate.answer = says-by p wanted table allowed (cost p first) s windows solved.range solved.earned s.left s.certificate.answer refl solved.earned.cause timely claims in
+    let parts = has-timetable p wanted allowed s.certificate.answer says in
     record {
       table = table;
       windows = windows;
       timetable = record { plan = solved.accepted Part.Plan parts.0; cost = solved.accepted Part.Cost parts.1; trucks = solved.accepted Part.Trucks parts.2 };
       is_wanted = is-wanted p wanted table s.certificate windows (solved.accepted Part.Plan parts.0);
       accepted = solved.accepted;
-      back = back s.certificate solved.range solved.countable (allows p wanted budget s.certificate.answer s.certificate says);
-      short = short-text p table budget (cost p first) s belongs.valid texts solved parts.3;
+      back = back s.certificate solved.range solved.countable (allows p wanted allowed s.certificate.answer s.certificate says);
+      short = short-text p table allowed.budget (cost p first) s belongs.valid texts solved parts.3;
       scale = solved.scale;
       priced = priced;
       first = first;
       begins = begins;
       earned = solved.earned;
-      points = earned-in_time p table budget (cost p first) s belongs solved.earned;
+      points = earned-in_time p table allowed.budget (cost p first) s belongs solved.earned;
       says = says;
     }
 
@@ -193,19 +199,19 @@ priced-as p true own c some priced = subst (λ (o : Option ℕ). IsSomeAnd o (Is
 priced-as p false own c none priced = subst (λ (o : Option ℕ). IsPricedBy o c) none priced
 
 -- what a session of the instance shows
-pub session-searched : (p q : Problem) (wanted : Wanted) (table : WindowTable) (budget : Budget) (spans : Bool) (first : List (List Leg)) (m : SessionModel) (s : Solution) → AreWindowsFor p wanted table → IsFirstPlan p wanted first →
-    WrittenReadsBack p → TextsAreShort p → q ≡ p → IsChosen q table first budget spans m → IsSolved m.instance m.windows m.budget m.started s → IsPricedBy m.prices.unit s.certificate → IsSearched p wanted budget spans s
-session-searched p q wanted table budget spans first m s windows begins back texts same chosen solved priced =
-    let of : IsSessionOf q table first budget m = chosen.of in
+pub session-searched : (p q : Problem) (wanted : Wanted) (table : WindowTable) (allowed : Allowance) (spans : Bool) (first : List (List Leg)) (m : SessionModel) (s : Solution) → AreWindowsFor p wanted table → IsFirstPlan p wanted first →
+    WrittenReadsBack p → TextsAreShort p → q ≡ p → IsChosen q table first allowed.budget spans m → IsSolved m.instance m.windows m.budget m.started s → IsTimely allowed.over s.left → IsPricedBy m.prices.unit s.certificate → IsSearched p wanted allowed spans s
+session-searched p q wanted table allowed spans first m s windows begins back texts same chosen solved timely priced =
+    let of : IsSessionOf q table first allowed.budget m = chosen.of in
     let one : IsSolved p m.windows m.budget m.started s = subst (λ (x : Problem). IsSolved x m.windows m.budget m.started s) (of.instance ∙ same) solved in
     let two : IsSolved p table m.budget m.started s = subst (λ (x : WindowTable). IsSolved p x m.budget m.started s) of.windows one in
-    let three : IsSolved p table budget m.started s = subst (λ (x : Budget). IsSolved p table x m.started s) of.budget two in
+    let three : IsSolved p table allowed.budget m.started s = subst (λ (x : Budget). IsSolved p table x m.started s) of.budget two in
     let begun : m.started ≡ cost p first = of.started ∙ ap (λ (x : Problem). cost x first) same in
-    solved-searched p wanted table budget spans first s windows begins back texts (subst (λ (n : ℕ). IsSolved p table budget n s) begun three)
+    solved-searched p wanted table allowed spans first s windows begins back texts (subst (λ (n : ℕ). IsSolved p table allowed.budget n s) begun three) timely
     (priced-as p spans m.prices.unit s.certificate
     (subst (λ (x : Problem). MatchBool spans (IsSomeAnd m.prices.unit (IsGreatestUnit x)) (m.prices.unit ≡ None)) same chosen.unit) priced)
 
 -- a wanted plan exists where a search shows one
-pub searched-exists : (p : Problem) (wanted : Wanted) (budget : Budget) (spans : Bool) (s : Solution) → IsSearched p wanted budget spans s → WantedExists p wanted
-searched-exists p every budget spans s told = let some : 1 ≤ 1 = omega arith in (1, _, some, told.timetable.plan.plan)
-searched-exists p (keeping kept) budget spans s told = let some : 1 ≤ 1 = omega arith in (1, _, some, told.timetable.plan.plan, told.is_wanted)
+pub searched-exists : (p : Problem) (wanted : Wanted) (allowed : Allowance) (spans : Bool) (s : Solution) → IsSearched p wanted allowed spans s → WantedExists p wanted
+searched-exists p every allowed spans s told = let some : 1 ≤ 1 = omega arith in (1, _, some, told.timetable.plan.plan)
+searched-exists p (keeping kept) allowed spans s told = let some : 1 ≤ 1 = omega arith in (1, _, some, told.timetable.plan.plan, told.is_wanted)

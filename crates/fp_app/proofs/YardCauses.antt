@@ -1,5 +1,5 @@
 -- What `yard` shows with each status.
-use Rattle.std.proofs.Common.{◌≡◌, ℕ, List, refl, sym, ap, ◌∙◌, inl, inr}
+use Rattle.std.proofs.Common.{◌≡◌, ℕ, false, List, refl, sym, ap, ◌∙◌, inl, inr}
 use Rattle.std.specs.Prelude.{Some, Ok}
 use Rattle.fp_model.specs.Problem.{Problem}
 use Rattle.fp_certificate_lines.specs.Statements.{Statement}
@@ -21,7 +21,7 @@ module _ (seed : ℕ) where
   abbrev YardEnd : List ℕ → Shown → Type 0
   YardEnd input s = CertificateEnd input s (λ p c. ShowsYard seed p c s)
 
-  yard-end : (input : List ℕ) (s : Shown) → ShowsInput (order.Yard seed) input s → YardEnd input s
+  yard-end : (input : List ℕ) (s : Shown) → ShowsInput false (order.Yard seed) input s → YardEnd input s
   yard-end input s told = certificate-end input s (λ p c. ShowsYard seed p c s) told
 
   -- a refusal is of the first fault of the input
@@ -29,7 +29,7 @@ module _ (seed : ℕ) where
   fault-end input ordinal code (both p c is read told) = absurd told
   fault-end input ordinal code (fault f first same) = record { fault = f; first = first; shows = same }
 
-  pub yard-fault : (input : List ℕ) (ordinal code : ℕ) → ShowsInput (order.Yard seed) input (shown.BadInput ordinal code) → ShowsFault (Some (order.Yard seed)) input (shown.BadInput ordinal code)
+  pub yard-fault : (input : List ℕ) (ordinal code : ℕ) → ShowsInput false (order.Yard seed) input (shown.BadInput ordinal code) → ShowsFault (Some (order.Yard seed)) input (shown.BadInput ordinal code)
   yard-fault input ordinal code told = fault-end input ordinal code (yard-end input (shown.BadInput ordinal code) told)
 
   -- the plan and the log that are shown
@@ -52,7 +52,7 @@ module _ (seed : ℕ) where
   done-end input s (both p c is read told) done = done-yard input p c s is read told done
   done-end input s (fault f first same) done = let e : status.BadInput ≡ status.Done = ap status_of (sym same) ∙ done in cc e
 
-  pub yard-done : (input : List ℕ) (s : Shown) → ShowsInput (order.Yard seed) input s → status_of s ≡ status.Done → ShowsRun seed input s
+  pub yard-done : (input : List ℕ) (s : Shown) → ShowsInput false (order.Yard seed) input s → status_of s ≡ status.Done → ShowsRun seed input s
   yard-done input s told done = done-end input s (yard-end input s told) done
 
   -- a rejection is of a certificate that tells no plan
@@ -60,7 +60,7 @@ module _ (seed : ℕ) where
   rejection-end input number (both p c is read told) = record { instance = p; certificate = c; number = number; read = is; certified = read; shows = refl; rejected = told }
   rejection-end input number (fault f first same) = cc same
 
-  pub yard-rejection : (input : List ℕ) (number : ℕ) → ShowsInput (order.Yard seed) input (shown.RejectedPart number) → ShowsNo ShowsUntold input (shown.RejectedPart number)
+  pub yard-rejection : (input : List ℕ) (number : ℕ) → ShowsInput false (order.Yard seed) input (shown.RejectedPart number) → ShowsNo ShowsUntold input (shown.RejectedPart number)
   yard-rejection input number told = rejection-end input number (yard-end input (shown.RejectedPart number) told)
 
   -- `yard` is done, rejects, or refuses its input, and has no other status
@@ -73,7 +73,7 @@ module _ (seed : ℕ) where
   end-no_other t not_done not_rejected not_refused input s (both p c is read told) same = shown-no_other t not_done not_rejected p c s told same
   end-no_other t not_done not_rejected not_refused input s (fault f first refused) same = not_refused (ap status_of (sym refused) ∙ same)
 
-  pub yard-no_other : (t : Status) → (status.Done ≡ t → ⊥) → (status.Rejected ≡ t → ⊥) → (status.BadInput ≡ t → ⊥) → (input : List ℕ) (s : Shown) → ShowsInput (order.Yard seed) input s → status_of s ≡ t → ⊥
+  pub yard-no_other : (t : Status) → (status.Done ≡ t → ⊥) → (status.Rejected ≡ t → ⊥) → (status.BadInput ≡ t → ⊥) → (input : List ℕ) (s : Shown) → ShowsInput false (order.Yard seed) input s → status_of s ≡ t → ⊥
   yard-no_other t not_done not_rejected not_refused input s told same = end-no_other t not_done not_rejected not_refused input s (yard-end input s told) same
 
   pub yard-status : (p : Problem) (c : Statement) (s : Shown) → ShowsYard seed p c s → ToldStatus p c (status_of s)

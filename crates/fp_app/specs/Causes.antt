@@ -12,7 +12,6 @@ use Rattle.fp_flatnet.specs.Verdicts.{IsBlocked}
 use Rattle.fp_certificate_lines.specs.declared.certificates.Answer.TheVariants as answer
 use Rattle.fp_certificate_lines.specs.declared.certificates.Spent.{Spent}
 use Rattle.fp_certificate_lines.specs.Statements.{Statement}
-use Rattle.fp_session_history.specs.declared.budgets.Budget.{Budget}
 use Rattle.fp_session_history.specs.Solutions.{Solution}
 use Rattle.fp_prices.specs.declared.leaf_prices.LeafPrice.{LeafPrice}
 use Rattle.fp_prices.specs.Shares.{ClassShare}
@@ -38,7 +37,7 @@ use Rattle.fp_replan.specs.declared.kept.Kept.{Kept}
 use Rattle.fp_replan.specs.KeptWindows.{CanBeKept}
 use Rattle.fp_replan.specs.Quotes.{IsExtraCost, without_last}
 use Rattle.fp_replan.specs.Starts.{IsStuck}
-use Rattle.fp_app.specs.Searches.{IsBoundBelow, IsEnough, IsSearched, trial_budget}
+use Rattle.fp_app.specs.Searches.{Allowance, IsBoundBelow, IsEnough, IsSearched, trial_allowance, within}
 
 -- The input gives an instance, and what is shown is its direct plan.
 pub record ShowsPlan (input : List ℕ) (result : Shown) : Type 0 where
@@ -65,56 +64,56 @@ pub record ShowsNumber (option : Bool) (input : List ℕ) (result : Shown) : Typ
 
 -- There is an instance, of which a plan exists, and what is shown is what a search with a budget, and
 -- with the option of spans or without it, shows of it.
-pub record ShowsSolution (budget : Budget) (spans : Bool) (given : Result Problem Fault) (show : Problem → Solution → Shown) (result : Shown) : Type 0 where
+pub record ShowsSolution (allowed : Allowance) (spans : Bool) (given : Result Problem Fault) (show : Problem → Solution → Shown) (result : Shown) : Type 0 where
   pub instance : Problem
   pub solved : Solution
   pub read : given ≡ Ok instance
   pub shows : result ≡ show instance solved
-  pub searched : IsSearched instance every budget spans solved
+  pub searched : IsSearched instance every allowed spans solved
 
 -- What is shown is optimal: no plan is cheaper, over any denominator.
-pub record ShowsOptimal (budget : Budget) (spans : Bool) (given : Result Problem Fault) (show : Problem → Solution → Shown) (result : Shown) : Type 0 where
-  pub solution : ShowsSolution budget spans given show result
+pub record ShowsOptimal (allowed : Allowance) (spans : Bool) (given : Result Problem Fault) (show : Problem → Solution → Shown) (result : Shown) : Type 0 where
+  pub solution : ShowsSolution allowed spans given show result
   pub cost : ℕ
   pub answer : solution.solved.certificate.answer ≡ answer.Optimal cost
   pub plans : NoPlanCheaper solution.instance cost
 
 -- What is shown is unfinished: no plan costs less than its bound, over any denominator, and it tells
 -- what was spent.
-pub record ShowsUnfinished (budget : Budget) (spans : Bool) (given : Result Problem Fault) (show : Problem → Solution → Shown) (result : Shown) : Type 0 where
-  pub solution : ShowsSolution budget spans given show result
+pub record ShowsUnfinished (allowed : Allowance) (spans : Bool) (given : Result Problem Fault) (show : Problem → Solution → Shown) (result : Shown) : Type 0 where
+  pub solution : ShowsSolution allowed spans given show result
   pub cost : ℕ
   pub bound : ℕ
   pub spent : Spent
   pub answer : solution.solved.certificate.answer ≡ answer.Unfinished cost bound spent
-  pub bounds : IsBoundBelow solution.instance every budget cost bound spent
+  pub bounds : IsBoundBelow solution.instance every allowed cost bound spent
 
 -- The input gives an instance and legs that are kept, which some plan keeps, and what is shown is what
 -- such a search shows among the plans that keep them.
-pub record ShowsKept (budget : Budget) (spans : Bool) (input : List ℕ) (result : Shown) : Type 0 where
+pub record ShowsKept (allowed : Allowance) (spans : Bool) (input : List ℕ) (result : Shown) : Type 0 where
   pub instance : Problem
   pub kept : Vec Kept Global
   pub solved : Solution
   pub read : kept_in input ≡ Ok (record { instance = instance; kept = kept.items })
   pub shows : result ≡ shown.Replanned instance kept solved
-  pub searched : IsSearched instance (keeping kept.items) budget spans solved
+  pub searched : IsSearched instance (keeping kept.items) allowed spans solved
 
 -- What is shown is optimal: no plan that keeps the legs is cheaper, over any denominator.
-pub record ShowsKeptOptimal (budget : Budget) (spans : Bool) (input : List ℕ) (result : Shown) : Type 0 where
-  pub solution : ShowsKept budget spans input result
+pub record ShowsKeptOptimal (allowed : Allowance) (spans : Bool) (input : List ℕ) (result : Shown) : Type 0 where
+  pub solution : ShowsKept allowed spans input result
   pub cost : ℕ
   pub answer : solution.solved.certificate.answer ≡ answer.Optimal cost
   pub plans : NoKeptPlanCheaper solution.instance solution.kept.items cost
 
 -- What is shown is unfinished: no plan that keeps the legs costs less than its bound, over any
 -- denominator, and it tells what was spent.
-pub record ShowsKeptUnfinished (budget : Budget) (spans : Bool) (input : List ℕ) (result : Shown) : Type 0 where
-  pub solution : ShowsKept budget spans input result
+pub record ShowsKeptUnfinished (allowed : Allowance) (spans : Bool) (input : List ℕ) (result : Shown) : Type 0 where
+  pub solution : ShowsKept allowed spans input result
   pub cost : ℕ
   pub bound : ℕ
   pub spent : Spent
   pub answer : solution.solved.certificate.answer ≡ answer.Unfinished cost bound spent
-  pub bounds : IsBoundBelow solution.instance (keeping solution.kept.items) budget cost bound spent
+  pub bounds : IsBoundBelow solution.instance (keeping solution.kept.items) allowed cost bound spent
 
 -- The input gives an instance and legs that no plan keeps, over any denominator, and what is shown is
 -- the first shipment that no legs carry that begin with its kept legs.
@@ -129,17 +128,17 @@ pub record ShowsStuck (input : List ℕ) (result : Shown) : Type 0 where
 
 -- The input gives an instance with a shipment, of which a plan exists, and what is shown is what its
 -- last shipment adds to the cost, by such a search without it and one with it.
-pub record ShowsExtra (budget : Budget) (spans : Bool) (input : List ℕ) (result : Shown) : Type 0 where
+pub record ShowsExtra (allowed : Allowance) (spans : Bool) (input : List ℕ) (result : Shown) : Type 0 where
   pub instance : Problem
   pub before : Solution
   pub after : Solution
   pub read : quoted_in input ≡ Ok instance
   pub shows : result ≡ shown.Quoted instance before after
-  pub quoted : IsQuoted instance budget spans before after
+  pub quoted : IsQuoted instance allowed spans before after
 
 -- Both searches are optimal, and what the shipment adds is exact.
-pub record ShowsExactExtra (budget : Budget) (spans : Bool) (input : List ℕ) (result : Shown) : Type 0 where
-  pub extra : ShowsExtra budget spans input result
+pub record ShowsExactExtra (allowed : Allowance) (spans : Bool) (input : List ℕ) (result : Shown) : Type 0 where
+  pub extra : ShowsExtra allowed spans input result
   pub least : ℕ
   pub most : ℕ
   pub without : extra.before.certificate.answer ≡ answer.Optimal least
@@ -147,17 +146,17 @@ pub record ShowsExactExtra (budget : Budget) (spans : Bool) (input : List ℕ) (
   pub exact : IsExtraCost extra.instance (most - least)
 
 -- a search is unfinished, and has its cause
-pub record IsUnfinished (p : Problem) (budget : Budget) (s : Solution) : Type 0 where
+pub record IsUnfinished (p : Problem) (allowed : Allowance) (s : Solution) : Type 0 where
   pub cost : ℕ
   pub bound : ℕ
   pub spent : Spent
   pub answer : s.certificate.answer ≡ answer.Unfinished cost bound spent
-  pub bounds : IsBoundBelow p every budget cost bound spent
+  pub bounds : IsBoundBelow p every allowed cost bound spent
 
 -- One of the two searches is unfinished.
-pub record ShowsOpenExtra (budget : Budget) (spans : Bool) (input : List ℕ) (result : Shown) : Type 0 where
-  pub extra : ShowsExtra budget spans input result
-  pub one_unfinished : IsUnfinished (without_last extra.instance) budget extra.before ⊎ IsUnfinished extra.instance budget extra.after
+pub record ShowsOpenExtra (allowed : Allowance) (spans : Bool) (input : List ℕ) (result : Shown) : Type 0 where
+  pub extra : ShowsExtra allowed spans input result
+  pub one_unfinished : IsUnfinished (without_last extra.instance) allowed extra.before ⊎ IsUnfinished extra.instance allowed extra.after
 
 -- The input gives an instance of which no plan exists over any denominator, and what is shown is
 -- the first shipment that can't be carried in time, with its fastest time.
@@ -227,30 +226,30 @@ pub record ShowsFault (wanted : Option Order) (input : List ℕ) (result : Shown
 
 -- what is shown where an order is done: a direct plan, that a certificate is accepted, a number
 -- under which no plan costs, a plan than which none is cheaper, or a plan that is run, or its fewest trucks
-abbrev pub ShowsDone : Option Order → List ℕ → Shown → Type 0
-ShowsDone None input result = ⊥
-ShowsDone (Some order.Direct) input result = ShowsPlan input result
-ShowsDone (Some order.Check) input result = ShowsYes input result
-ShowsDone (Some (order.Bound option)) input result = ShowsNumber option input result
-ShowsDone (Some (order.Plan budget scale spans)) input result = ShowsOptimal budget spans (instance_at scale input) shown.Planned result
-ShowsDone (Some (order.Trial seed terminals shipments)) input result = ShowsOptimal trial_budget false (Ok (generated seed terminals shipments)) (shown.Trial seed None) result
-ShowsDone (Some (order.Yard seed)) input result = ShowsRun seed input result
-ShowsDone (Some order.Fleet) input result = ShowsTrucks input result
-ShowsDone (Some (order.Replan budget spans)) input result = ShowsKeptOptimal budget spans input result
-ShowsDone (Some (order.Quote budget spans)) input result = ShowsExactExtra budget spans input result
+abbrev pub ShowsDone : (over : Bool) → Option Order → List ℕ → Shown → Type 0
+ShowsDone over None input result = ⊥
+ShowsDone over (Some order.Direct) input result = ShowsPlan input result
+ShowsDone over (Some order.Check) input result = ShowsYes input result
+ShowsDone over (Some (order.Bound option seconds)) input result = ShowsNumber option input result
+ShowsDone over (Some (order.Plan budget scale spans seconds)) input result = ShowsOptimal (within budget over) spans (instance_at scale input) shown.Planned result
+ShowsDone over (Some (order.Trial seed terminals shipments)) input result = ShowsOptimal trial_allowance false (Ok (generated seed terminals shipments)) (shown.Trial seed None) result
+ShowsDone over (Some (order.Yard seed)) input result = ShowsRun seed input result
+ShowsDone over (Some order.Fleet) input result = ShowsTrucks input result
+ShowsDone over (Some (order.Replan budget spans seconds)) input result = ShowsKeptOptimal (within budget over) spans input result
+ShowsDone over (Some (order.Quote budget spans seconds)) input result = ShowsExactExtra (within budget over) spans input result
 
 -- what is shown where an order is unfinished
-abbrev pub ShowsOpen : Option Order → List ℕ → Shown → Type 0
-ShowsOpen (Some (order.Plan budget scale spans)) input result = ShowsUnfinished budget spans (instance_at scale input) shown.Planned result
-ShowsOpen (Some (order.Trial seed terminals shipments)) input result = ShowsUnfinished trial_budget false (Ok (generated seed terminals shipments)) (shown.Trial seed None) result
-ShowsOpen (Some (order.Replan budget spans)) input result = ShowsKeptUnfinished budget spans input result
-ShowsOpen (Some (order.Quote budget spans)) input result = ShowsOpenExtra budget spans input result
-ShowsOpen _ input result = ⊥
+abbrev pub ShowsOpen : (over : Bool) → Option Order → List ℕ → Shown → Type 0
+ShowsOpen over (Some (order.Plan budget scale spans seconds)) input result = ShowsUnfinished (within budget over) spans (instance_at scale input) shown.Planned result
+ShowsOpen over (Some (order.Trial seed terminals shipments)) input result = ShowsUnfinished trial_allowance false (Ok (generated seed terminals shipments)) (shown.Trial seed None) result
+ShowsOpen over (Some (order.Replan budget spans seconds)) input result = ShowsKeptUnfinished (within budget over) spans input result
+ShowsOpen over (Some (order.Quote budget spans seconds)) input result = ShowsOpenExtra (within budget over) spans input result
+ShowsOpen over _ input result = ⊥
 
 -- what is shown where no plan exists, or none that keeps the legs
 abbrev pub ShowsInfeasible : Option Order → List ℕ → Shown → Type 0
 ShowsInfeasible None input result = ⊥
-ShowsInfeasible (Some (order.Replan budget spans)) input result = ShowsStuck input result
+ShowsInfeasible (Some (order.Replan budget spans seconds)) input result = ShowsStuck input result
 ShowsInfeasible (Some order) input result = ShowsNone order input result
 
 -- what is shown where a certificate is rejected: for `check` it isn't accepted for the instance at the
@@ -268,25 +267,25 @@ PlanStatus p result = ((result ≡ status.Done) × PlanExists p) ⊎ ((result �
 
 -- the status of `plan` and `replan` with a budget: done or unfinished where a wanted plan exists, and
 -- infeasible where none does. Where both the rounds and the branches are enough, it isn't unfinished.
-abbrev pub SearchStatus : Problem → Wanted → Budget → Status → Type 0
-SearchStatus p wanted budget result =
+abbrev pub SearchStatus : Problem → Wanted → Allowance → Status → Type 0
+SearchStatus p wanted allowed result =
     ((result ≡ status.Done) × WantedExists p wanted)
-    ⊎ (((result ≡ status.Unfinished) × WantedExists p wanted × ((spent : Spent) × (IsEnough p wanted budget spent → ⊥)))
+    ⊎ (((result ≡ status.Unfinished) × WantedExists p wanted × ((spent : Spent) × (IsEnough p wanted allowed spent → ⊥)))
     ⊎ ((result ≡ status.Infeasible) × (WantedExists p wanted → ⊥)))
 
 -- the status of `quote` with a budget: done or unfinished where a plan exists, and infeasible where
 -- none does. Where the rounds and the branches are enough without the last shipment and with it, it
 -- isn't unfinished.
-abbrev pub QuoteStatus : Problem → Budget → Status → Type 0
-QuoteStatus p budget result =
+abbrev pub QuoteStatus : Problem → Allowance → Status → Type 0
+QuoteStatus p allowed result =
     ((result ≡ status.Done) × PlanExists p)
-    ⊎ (((result ≡ status.Unfinished) × PlanExists p × ((spent : Spent) × ((IsEnough (without_last p) every budget spent × IsEnough p every budget spent) → ⊥)))
+    ⊎ (((result ≡ status.Unfinished) × PlanExists p × ((spent : Spent) × ((IsEnough (without_last p) every allowed spent × IsEnough p every allowed spent) → ⊥)))
     ⊎ ((result ≡ status.Infeasible) × (PlanExists p → ⊥)))
 
 -- the status of `trial`: done, or unfinished, and that only where the rounds or the branches aren't
 -- enough. Each drawn instance has a plan.
 abbrev pub TrialStatus : Problem → Status → Type 0
-TrialStatus p result = (result ≡ status.Done) ⊎ ((result ≡ status.Unfinished) × ((spent : Spent) × (IsEnough p every trial_budget spent → ⊥)))
+TrialStatus p result = (result ≡ status.Done) ⊎ ((result ≡ status.Unfinished) × ((spent : Spent) × (IsEnough p every trial_allowance spent → ⊥)))
 
 -- the status of `check` for an instance and a certificate: done where it is accepted, and rejected
 -- where it isn't
@@ -299,25 +298,25 @@ abbrev pub ToldStatus : Problem → Statement → Status → Type 0
 ToldStatus p c result = ((result ≡ status.Done) × TellsTimetable p c) ⊎ ((result ≡ status.Rejected) × (TellsTimetable p c → ⊥))
 
 -- the one status of an order for an input within its limit
-abbrev pub InputStatus : Order → List ℕ → Status → Type 0
-InputStatus order.Direct input result = MatchResult (instance_in input) (λ p. PlanStatus p result) (λ f. result ≡ status.BadInput)
-InputStatus order.Check input result =
+abbrev pub InputStatus : (over : Bool) → Order → List ℕ → Status → Type 0
+InputStatus over order.Direct input result = MatchResult (instance_in input) (λ p. PlanStatus p result) (λ f. result ≡ status.BadInput)
+InputStatus over order.Check input result =
     MatchResult (leading_instance_in input)
     (λ p. MatchResult (certificate_in p input) (λ c. CheckStatus (scaled p c) c result) (λ f. result ≡ status.BadInput))
     (λ f. result ≡ status.BadInput)
-InputStatus (order.Bound option) input result = MatchResult (instance_in input) (λ p. PlanStatus p result) (λ f. result ≡ status.BadInput)
-InputStatus (order.Plan budget scale spans) input result = MatchResult (instance_at scale input) (λ p. SearchStatus p every budget result) (λ f. result ≡ status.BadInput)
-InputStatus (order.Trial seed terminals shipments) input result = ⊥
-InputStatus (order.Yard seed) input result =
+InputStatus over (order.Bound option seconds) input result = MatchResult (instance_in input) (λ p. PlanStatus p result) (λ f. result ≡ status.BadInput)
+InputStatus over (order.Plan budget scale spans seconds) input result = MatchResult (instance_at scale input) (λ p. SearchStatus p every (within budget over) result) (λ f. result ≡ status.BadInput)
+InputStatus over (order.Trial seed terminals shipments) input result = ⊥
+InputStatus over (order.Yard seed) input result =
     MatchResult (leading_instance_in input)
     (λ p. MatchResult (certificate_in p input) (λ c. ToldStatus p c result) (λ f. result ≡ status.BadInput))
     (λ f. result ≡ status.BadInput)
-InputStatus order.Fleet input result =
+InputStatus over order.Fleet input result =
     MatchResult (leading_instance_in input)
     (λ p. MatchResult (certificate_in p input) (λ c. ToldStatus p c result) (λ f. result ≡ status.BadInput))
     (λ f. result ≡ status.BadInput)
-InputStatus (order.Replan budget spans) input result = MatchResult (kept_in input) (λ (x : KeptInstance). SearchStatus x.instance (keeping x.kept) budget result) (λ f. result ≡ status.BadInput)
-InputStatus (order.Quote budget spans) input result = MatchResult (quoted_in input) (λ p. QuoteStatus p budget result) (λ f. result ≡ status.BadInput)
+InputStatus over (order.Replan budget spans seconds) input result = MatchResult (kept_in input) (λ (x : KeptInstance). SearchStatus x.instance (keeping x.kept) (within budget over) result) (λ f. result ≡ status.BadInput)
+InputStatus over (order.Quote budget spans seconds) input result = MatchResult (quoted_in input) (λ p. QuoteStatus p (within budget over) result) (λ f. result ≡ status.BadInput)
 
 -- the one status of an order that reads no input
 abbrev pub AloneStatus : Order → Status → Type 0
@@ -325,9 +324,9 @@ AloneStatus (order.Trial seed terminals shipments) result = TrialStatus (generat
 AloneStatus _ result = ⊥
 
 -- the one status that a run with memory and without a fault of its source and its sink has
-abbrev pub StatusOf : Option Order → List ℕ → Status → Type 0
-StatusOf None input result = result ≡ status.BadWords
-StatusOf (Some order) input result =
+abbrev pub StatusOf : (over : Bool) → Option Order → List ℕ → Status → Type 0
+StatusOf over None input result = result ≡ status.BadWords
+StatusOf over (Some order) input result =
     MatchBool (reads_source order)
-    (MatchBool (nat_lt (limit_of (Some order)) (length input)) (result ≡ status.TooLong) (InputStatus order input result))
+    (MatchBool (nat_lt (limit_of (Some order)) (length input)) (result ≡ status.TooLong) (InputStatus over order input result))
     (AloneStatus order result)

@@ -1,15 +1,14 @@
 -- What one run answers to the text of another.
-use Rattle.std.specs.Prelude.{ℕ, ◌≡◌, Bool, List, ◌++◌, Ok}
+use Rattle.std.specs.Prelude.{ℕ, ◌≡◌, Bool, false, List, ◌++◌, Ok}
 use Rattle.fp_model.specs.Problem.{Problem}
 use Rattle.fp_records.specs.Fields.{records_of}
-use Rattle.fp_session_history.specs.declared.budgets.Budget.{Budget}
 use Rattle.fp_session_history.specs.Solutions.{Solution}
 use Rattle.fp_app_words.specs.declared.orders.Order.TheVariants.{Check}
 use Rattle.fp_app.specs.declared.shown.Status.{Status}
 use Rattle.fp_app.specs.declared.shown.Status.TheVariants.{Done}
 use Rattle.fp_app.specs.Causes.{InputStatus}
 use Rattle.fp_app.specs.Inputs.{instance_at}
-use Rattle.fp_app.specs.Searches.{IsSearched}
+use Rattle.fp_app.specs.Searches.{Allowance, IsSearched}
 use Rattle.fp_app.specs.Texts.{certificate_text}
 use Rattle.fp_app.specs.Wanted.{every}
 
@@ -18,5 +17,5 @@ use Rattle.fp_app.specs.Wanted.{every}
 -- solution's certificate, the status of `check` for the longer input is that of an accepted one
 abbrev pub CheckAcceptsPlans : Type 0
 CheckAcceptsPlans =
-    (budget : Budget) (scale : ℕ) (spans : Bool) (input longer : List ℕ) (p : Problem) (s : Solution) → instance_at scale input ≡ Ok p → IsSearched p every budget spans s →
-    records_of longer ≡ records_of input ++ records_of (certificate_text p s.certificate) → (result : Status) → InputStatus Check longer result → result ≡ Done
+    (allowed : Allowance) (scale : ℕ) (spans : Bool) (input longer : List ℕ) (p : Problem) (s : Solution) → instance_at scale input ≡ Ok p → IsSearched p every allowed spans s →
+    records_of longer ≡ records_of input ++ records_of (certificate_text p s.certificate) → (result : Status) → InputStatus false Check longer result → result ≡ Done

@@ -5,11 +5,10 @@ use Rattle.fp_certificate_lines.specs.declared.certificates.Answer.{Answer}
 use Rattle.fp_certificate_lines.specs.declared.certificates.Answer.TheVariants.{Optimal}
 use Rattle.fp_certificate_rules.specs.Accepted.{claim_of}
 use Rattle.fp_certificate_rules.specs.Plans.{stated_cost}
-use Rattle.fp_session_history.specs.declared.budgets.Budget.{Budget}
 use Rattle.fp_session_history.specs.Solutions.{Solution}
 use Rattle.fp_replan.specs.declared.ranges.Bracket.{Bracket}
 use Rattle.fp_replan.specs.Quotes.{IsBetween, IsExtraCost, without_last}
-use Rattle.fp_app.specs.Searches.{IsSearched}
+use Rattle.fp_app.specs.Searches.{Allowance, IsSearched}
 use Rattle.fp_app.specs.Wanted.{every}
 
 -- the least and the greatest that the last shipment can add, by the answers of the searches without
@@ -20,9 +19,9 @@ extra_of before after = record { low = claim_of after - stated_cost before; high
 -- two searches without the last shipment and with it, each with the whole budget and both with the option
 -- of spans or both without it. The extra cost of
 -- the shipment lies between their two figures, and where both answers are optimal it is both of them.
-pub record IsQuoted (p : Problem) (budget : Budget) (spans : Bool) (before after : Solution) : Type 0 where
-  pub without : IsSearched (without_last p) every budget spans before
-  pub with_it : IsSearched p every budget spans after
+pub record IsQuoted (p : Problem) (allowed : Allowance) (spans : Bool) (before after : Solution) : Type 0 where
+  pub without : IsSearched (without_last p) every allowed spans before
+  pub with_it : IsSearched p every allowed spans after
   pub between : (extra : ℕ) → IsExtraCost p extra → IsBetween (extra_of before.certificate.answer after.certificate.answer) extra
   pub exact : (least most : ℕ) → before.certificate.answer ≡ Optimal least → after.certificate.answer ≡ Optimal most →
       IsExtraCost p (most - least) × (extra_of before.certificate.answer after.certificate.answer ≡ record { low = most - least; high = most - least })

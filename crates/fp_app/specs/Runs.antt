@@ -9,7 +9,6 @@ use Rattle.fp_model.specs.Plans.{IsPlan, PlanExists}
 use Rattle.fp_model.specs.Problem.{Problem}
 use Rattle.fp_flatnet.specs.Directs.{IsDirectPlan}
 use Rattle.fp_flatnet.specs.Verdicts.{IsBlocked}
-use Rattle.fp_session_history.specs.declared.budgets.Budget.{Budget}
 use Rattle.fp_reader.specs.Generator.{generated}
 use Rattle.fp_replan.specs.KeptWindows.{CanBeKept}
 use Rattle.fp_replan.specs.Starts.{IsStuck}
@@ -25,7 +24,7 @@ use Rattle.fp_app.specs.Fleets.{ShowsFleet}
 use Rattle.fp_app.specs.Inputs.{OfCertificate, OfInstance, OfScaled, limit_of, reads_source, KeptInstance, OfKept, OfQuoted}
 use Rattle.fp_app.specs.Quotes.{IsQuoted}
 use Rattle.fp_app.specs.Yards.{ShowsYard}
-use Rattle.fp_app.specs.Searches.{IsSearched, trial_budget}
+use Rattle.fp_app.specs.Searches.{Allowance, IsSearched, trial_allowance, within}
 use Rattle.fp_app.specs.Shown.{status_of}
 use Rattle.fp_app.specs.Texts.{IsText}
 use Rattle.fp_app.specs.Wanted.{every, keeping}
@@ -49,35 +48,35 @@ ShowsBound option p _ = ⊥
 
 -- `plan`: where a plan exists, what a search with the budget shows, with the option of spans or without
 -- it, and otherwise the first shipment that can't be carried in time, with its fastest time.
-abbrev pub ShowsSearch : Budget → (spans : Bool) → Problem → Shown → Type 0
-ShowsSearch budget spans p (shown.Planned instance solved) = (instance ≡ p) × IsSearched p every budget spans solved
-ShowsSearch budget spans p (shown.Infeasible instance shipment time) = (instance ≡ p) × IsBlocked p shipment time × (PlanExists p → ⊥)
-ShowsSearch budget spans p _ = ⊥
+abbrev pub ShowsSearch : Allowance → (spans : Bool) → Problem → Shown → Type 0
+ShowsSearch allowed spans p (shown.Planned instance solved) = (instance ≡ p) × IsSearched p every allowed spans solved
+ShowsSearch allowed spans p (shown.Infeasible instance shipment time) = (instance ≡ p) × IsBlocked p shipment time × (PlanExists p → ⊥)
+ShowsSearch allowed spans p _ = ⊥
 
 -- `trial`: what a search of the drawn instance shows, with a small budget and without spans, and that
 -- its certificate is accepted by the check that `check` makes.
 abbrev pub ShowsTrial : (seed terminals shipments : ℕ) → Shown → Type 0
 ShowsTrial seed terminals shipments (shown.Trial shown_seed None instance solved) =
-    (shown_seed ≡ seed) × (instance ≡ generated seed terminals shipments) × IsSearched (generated seed terminals shipments) every trial_budget false solved
+    (shown_seed ≡ seed) × (instance ≡ generated seed terminals shipments) × IsSearched (generated seed terminals shipments) every trial_allowance false solved
     × IsCheckOutcome (generated seed terminals shipments) solved.certificate None
 ShowsTrial seed terminals shipments _ = ⊥
 
 -- `replan`: where a plan keeps the legs, what a search with the budget among those plans shows, with the
 -- option of spans or without it, and otherwise the first shipment that no legs carry that begin with its
 -- kept legs.
-abbrev pub ShowsReplan : Budget → (spans : Bool) → KeptInstance → Shown → Type 0
-ShowsReplan budget spans x (shown.Replanned instance kept solved) =
-    (x ≡ record { instance = instance; kept = kept.items }) × IsSearched instance (keeping kept.items) budget spans solved
-ShowsReplan budget spans x (shown.Stuck instance shipment) = (instance ≡ x.instance) × IsStuck x.instance x.kept shipment × (CanBeKept x.instance x.kept → ⊥)
-ShowsReplan budget spans x _ = ⊥
+abbrev pub ShowsReplan : Allowance → (spans : Bool) → KeptInstance → Shown → Type 0
+ShowsReplan allowed spans x (shown.Replanned instance kept solved) =
+    (x ≡ record { instance = instance; kept = kept.items }) × IsSearched instance (keeping kept.items) allowed spans solved
+ShowsReplan allowed spans x (shown.Stuck instance shipment) = (instance ≡ x.instance) × IsStuck x.instance x.kept shipment × (CanBeKept x.instance x.kept → ⊥)
+ShowsReplan allowed spans x _ = ⊥
 
 -- `quote`: where a plan exists, what searches without the last shipment and with it show, both with the
 -- option of spans or both without it, and otherwise the first shipment that can't be carried in time,
 -- with its fastest time.
-abbrev pub ShowsQuote : Budget → (spans : Bool) → Problem → Shown → Type 0
-ShowsQuote budget spans p (shown.Quoted instance before after) = (instance ≡ p) × IsQuoted p budget spans before after
-ShowsQuote budget spans p (shown.Infeasible instance shipment time) = (instance ≡ p) × IsBlocked p shipment time × (PlanExists p → ⊥)
-ShowsQuote budget spans p _ = ⊥
+abbrev pub ShowsQuote : Allowance → (spans : Bool) → Problem → Shown → Type 0
+ShowsQuote allowed spans p (shown.Quoted instance before after) = (instance ≡ p) × IsQuoted p allowed spans before after
+ShowsQuote allowed spans p (shown.Infeasible instance shipment time) = (instance ≡ p) × IsBlocked p shipment time × (PlanExists p → ⊥)
+ShowsQuote allowed spans p _ = ⊥
 
 -- The whole input was read and P holds of it, or more than the limit came.
 abbrev pub OfInput : ℕ → Option (List ℕ) → Option (List ℕ) → Shown → (List ℕ → Type 0) → Type 0
@@ -99,28 +98,28 @@ TakesWithin limit old new = (taken : List ℕ) × Consumes old new taken × (len
 abbrev pub TakesOneMore : ℕ → Option (List ℕ) → Option (List ℕ) → Type 0
 TakesOneMore limit old new = (taken : List ℕ) × Consumes old new taken × (length taken ≡ limit + 1)
 
--- What an order shows for the whole input. One line for each command.
-abbrev pub ShowsInput : Order → List ℕ → Shown → Type 0
-ShowsInput order.Direct input result = OfInstance input result (λ p. ShowsDirect p result)
-ShowsInput order.Check input result = OfCertificate input result (λ p c. ShowsCheck (scaled p c) c result)
-ShowsInput (order.Bound option) input result = OfInstance input result (λ p. ShowsBound option p result)
-ShowsInput (order.Plan budget scale spans) input result = OfScaled scale input result (λ p. ShowsSearch budget spans p result)
-ShowsInput (order.Trial seed terminals shipments) input result = ⊥
-ShowsInput (order.Yard seed) input result = OfCertificate input result (λ p c. ShowsYard seed p c result)
-ShowsInput order.Fleet input result = OfCertificate input result (λ p c. ShowsFleet p c result)
-ShowsInput (order.Replan budget spans) input result = OfKept input result (λ x. ShowsReplan budget spans x result)
-ShowsInput (order.Quote budget spans) input result = OfQuoted input result (λ p. ShowsQuote budget spans p result)
+-- What an order shows for the whole input, where its time can be over or not. One line for each command.
+abbrev pub ShowsInput : (over : Bool) → Order → List ℕ → Shown → Type 0
+ShowsInput over order.Direct input result = OfInstance input result (λ p. ShowsDirect p result)
+ShowsInput over order.Check input result = OfCertificate input result (λ p c. ShowsCheck (scaled p c) c result)
+ShowsInput over (order.Bound option seconds) input result = OfInstance input result (λ p. ShowsBound option p result)
+ShowsInput over (order.Plan budget scale spans seconds) input result = OfScaled scale input result (λ p. ShowsSearch (within budget over) spans p result)
+ShowsInput over (order.Trial seed terminals shipments) input result = ⊥
+ShowsInput over (order.Yard seed) input result = OfCertificate input result (λ p c. ShowsYard seed p c result)
+ShowsInput over order.Fleet input result = OfCertificate input result (λ p c. ShowsFleet p c result)
+ShowsInput over (order.Replan budget spans seconds) input result = OfKept input result (λ x. ShowsReplan (within budget over) spans x result)
+ShowsInput over (order.Quote budget spans seconds) input result = OfQuoted input result (λ p. ShowsQuote (within budget over) spans p result)
 
 -- What an order shows that reads no input.
 abbrev pub ShowsAlone : Order → Shown → Type 0
 ShowsAlone (order.Trial seed terminals shipments) result = ShowsTrial seed terminals shipments result
 ShowsAlone _ result = ⊥
 
--- what an order shows, by what the source had left and has left now
-abbrev pub Answers : Option Order → Option (List ℕ) → Option (List ℕ) → Shown → Type 0
-Answers None old new result = result ≡ shown.BadWords
-Answers (Some order) old new result =
-    MatchBool (reads_source order) (OfInput (limit_of (Some order)) old new result (λ input. ShowsInput order input result)) (ShowsAlone order result)
+-- what an order shows, where its time can be over or not, by what the source had left and has left now
+abbrev pub Answers : (over : Bool) → Option Order → Option (List ℕ) → Option (List ℕ) → Shown → Type 0
+Answers over None old new result = result ≡ shown.BadWords
+Answers over (Some order) old new result =
+    MatchBool (reads_source order) (OfInput (limit_of (Some order)) old new result (λ input. ShowsInput over order input result)) (ShowsAlone order result)
 
 -- Words of no form leave the source alone, and so does an order that reads no input.
 abbrev pub Leaves : {S : Type 0} → Option Order → S → S → Type 0

@@ -13,7 +13,7 @@ use Rattle.fp_prices.specs.FlatBounds.{IsFlatBound}
 use Rattle.fp_certificate_lines.specs.declared.certificates.Answer.{Answer}
 use Rattle.fp_certificate_lines.specs.declared.certificates.Answer.TheVariants.{Optimal, Unfinished}
 use Rattle.fp_certificate_lines.specs.declared.certificates.Spent.{Spent}
-use Rattle.fp_certificate_lines.specs.declared.certificates.Spent.TheVariants.{Branches, Rounds}
+use Rattle.fp_certificate_lines.specs.declared.certificates.Spent.TheVariants.{Branches, Rounds, Time}
 use Rattle.fp_certificate_lines.specs.Rows.{rows_of}
 use Rattle.fp_certificate_lines.specs.Statements.{Statement}
 use Rattle.fp_certificate_rules.specs.Accepted.{IsAccepted}
@@ -27,30 +27,39 @@ use Rattle.fp_app.specs.Bounds.{whole_units}
 use Rattle.fp_app.specs.declared.limits.TheConstants.{CHECK_LIMIT, INSTANCE_LIMIT}
 use Rattle.fp_app.specs.Wanted.{AreWindowsFor, IsFirstPlan, IsWanted, NoneWantedCheaper, Wanted}
 
--- a budget that a search of the instance can't use up: as many rounds as the terminals times one
--- more than the latest due time, or as many branches as 2 to the power of the slack
-abbrev pub IsEnough : Problem → Wanted → Budget → Spent → Type 0
-IsEnough p wanted budget Rounds = length p.terminals * (horizon p.shipments + 1) ≤ budget.rounds
-IsEnough p wanted budget Branches = (table : WindowTable) × AreWindowsFor p wanted table × (2 ^ slack p (windows_in table) [] ≤ budget.branches)
+-- what a search may spend: its budget, and whether its time can be over
+pub record Allowance : Type 0 where
+  pub budget : Budget
+  pub over : Bool
 
--- the budget of a trial: 40 rounds and 100 branches
-abbrev pub trial_budget : Budget
-trial_budget = record { rounds = 40; branches = 100 }
+abbrev pub within : Budget → Bool → Allowance
+within budget over = record { budget = budget; over = over }
+
+-- what a search of the instance can't use up: as many rounds as the terminals times one more than the
+-- latest due time, as many branches as 2 to the power of the slack, or a time that can't be over
+abbrev pub IsEnough : Problem → Wanted → Allowance → Spent → Type 0
+IsEnough p wanted allowed Rounds = length p.terminals * (horizon p.shipments + 1) ≤ allowed.budget.rounds
+IsEnough p wanted allowed Branches = (table : WindowTable) × AreWindowsFor p wanted table × (2 ^ slack p (windows_in table) [] ≤ allowed.budget.branches)
+IsEnough p wanted allowed Time = allowed.over ≡ false
+
+-- what a trial may spend: 40 rounds and 100 branches, in any time
+abbrev pub trial_allowance : Allowance
+trial_allowance = within (record { rounds = 40; branches = 100 }) false
 
 -- A number under which no wanted plan costs, over any denominator. It is below the cost of the plan that is
 -- shown, and at least the flat bound in whole units; what was spent was not enough.
-pub record IsBoundBelow (p : Problem) (wanted : Wanted) (budget : Budget) (cost bound : ℕ) (spent : Spent) : Type 0 where
+pub record IsBoundBelow (p : Problem) (wanted : Wanted) (allowed : Allowance) (cost bound : ℕ) (spent : Spent) : Type 0 where
   pub plans : NoneWantedCheaper p wanted bound
   pub below : bound < cost
   pub flat : (flat : ℕ) → IsFlatBound p flat → whole_units p flat ≤ bound
-  pub scarce : IsEnough p wanted budget spent → ⊥
+  pub scarce : IsEnough p wanted allowed spent → ⊥
 
 -- what the answer of a search says of the wanted plans, over every denominator: none is cheaper, or none
 -- costs less than a bound
-abbrev pub SaysOfPlans : Problem → Wanted → Budget → Answer → Type 0
-SaysOfPlans p wanted budget (Optimal cost) = NoneWantedCheaper p wanted cost
-SaysOfPlans p wanted budget (Unfinished cost bound spent) = IsBoundBelow p wanted budget cost bound spent
-SaysOfPlans p wanted budget _ = ⊥
+abbrev pub SaysOfPlans : Problem → Wanted → Allowance → Answer → Type 0
+SaysOfPlans p wanted allowed (Optimal cost) = NoneWantedCheaper p wanted cost
+SaysOfPlans p wanted allowed (Unfinished cost bound spent) = IsBoundBelow p wanted allowed cost bound spent
+SaysOfPlans p wanted allowed _ = ⊥
 
 -- each added point is at a terminal, after 0 and by the latest due time; so there are at most as many
 -- as the terminals times that time
@@ -75,7 +84,7 @@ IsShortText p c = INSTANCE_LIMIT + 1 + length (lines_of (rows_of p c)) ≤ CHECK
 -- of spans says.
 -- The search began with the first plan, and has earned what it shows; its points are in time. What its
 -- answer says of the wanted plans is true.
-pub record IsSearched (p : Problem) (wanted : Wanted) (budget : Budget) (spans : Bool) (s : Solution) : Type 0 where
+pub record IsSearched (p : Problem) (wanted : Wanted) (allowed : Allowance) (spans : Bool) (s : Solution) : Type 0 where
   pub table : WindowTable
   pub windows : AreWindowsFor p wanted table
   pub timetable : HasTimetable p (windows_in table) s.certificate
@@ -87,6 +96,6 @@ pub record IsSearched (p : Problem) (wanted : Wanted) (budget : Budget) (spans :
   pub priced : IsPricedAs p spans s.certificate
   pub first : List (List Leg)
   pub begins : IsFirstPlan p wanted first
-  pub earned : IsEarnedSolution p table budget (cost p first) s
+  pub earned : IsEarnedSolution p table allowed.budget (cost p first) s
   pub points : AreInTime p s.certificate.points
-  pub says : SaysOfPlans p wanted budget s.certificate.answer
+  pub says : SaysOfPlans p wanted allowed s.certificate.answer

@@ -1,7 +1,9 @@
 //! The answer to an order, from the source's bytes.
 ghost use Rattle.std.specs.Prelude.{◌≡◌, ◌+◌, ◌≤◌, IfOk, Some, IsErrOf, Ok, length, true};
 ghost use Rattle.fp_ends.specs.Causes.{Rose};
+ghost use Rattle.fp_ends.specs.Deadlines.{has_shown};
 ghost use Rattle.fp_app_words.specs.Settings.{IsWithinLimits};
+ghost use Rattle.fp_app_words.specs.TimeLimits.{seconds_of};
 ghost use Rattle.fp_app_words.specs.Words.{order_of, texts};
 ghost use Rattle.fp_app.specs.Inputs.{limit_of, reads_source};
 ghost use Rattle.fp_app.specs.Runs.{Answers, Leaves, ShowsInput, TakesOneMore, TakesWithin};
@@ -11,6 +13,7 @@ use crate::commands::bounds::bound_shown;
 use crate::commands::checks::check_shown;
 use crate::commands::directs::direct_shown;
 use crate::commands::fleets::fleet_shown;
+use crate::commands::options::SearchOptions;
 use crate::commands::quotes::quote_shown;
 use crate::commands::replans::replan_shown;
 use crate::commands::searches::plan_shown;
@@ -20,12 +23,17 @@ use crate::failures::Failure;
 use crate::inputs::input_bytes::take_input;
 use crate::limits::limit_of;
 use crate::{NoMemory, Order, Shown, WordFault, read_words};
-use fp_ends::Source;
+use fp_ends::{Clock, ClockDeadline, Resources, Source};
 use std::alloc::Global;
 
 /// What the words and the source's bytes show.
-pub fn answer<S: Source>(alloc: Global, words: &[String], source: &mut S) -> Result<Shown, Failure>
-    ensures shown { IfOk result (λ shown. Answers (order_of (texts words.now)) (S.left source.old) (S.left source.new) shown) }
+pub fn answer<S: Source, C: Clock>(
+    alloc: Global,
+    words: &[String],
+    source: &mut S,
+    clock: &mut C,
+) -> Result<Shown, Failure>
+    ensures shown { IfOk result (λ shown. Answers (has_shown (seconds_of (order_of (texts words.now))) (C.moment clock.new) (C.faults clock.old) (C.faults clock.new)) (order_of (texts words.now)) (S.left source.old) (S.left source.new) shown) }
     ensures printable { IfOk result IsPrintable }
     ensures later { S.faults source.old ≤ S.faults source.new }
     ensures within { TakesWithin (limit_of (order_of (texts words.now)) + 1) (S.left source.old) (S.left source.new) }
@@ -47,17 +55,22 @@ pub fn answer<S: Source>(alloc: Global, words: &[String], source: &mut S) -> Res
                 shipments,
             },
         ) => Ok(trial_shown(alloc, seed, terminals, shipments)?),
-        Ok(order) => answer_order(alloc, order, source),
+        Ok(order) => answer_order(alloc, order, source, clock),
         Err(WordFault::BadWords) => Ok(Shown::BadWords),
         Err(WordFault::NoMemory) => Err(Failure::NoMemory),
     }
 }
 
 // What an order that reads the source, and the source's bytes, show.
-fn answer_order<S: Source>(alloc: Global, order: Order, source: &mut S) -> Result<Shown, Failure>
+fn answer_order<S: Source, C: Clock>(
+    alloc: Global,
+    order: Order,
+    source: &mut S,
+    clock: &mut C,
+) -> Result<Shown, Failure>
     requires limits { IsWithinLimits order }
     requires reads { reads_source order ≡ true }
-    ensures shown { IfOk result (Answers (Some order) (S.left source.old) (S.left source.new)) }
+    ensures shown { IfOk result (Answers (has_shown (seconds_of (Some order)) (C.moment clock.new) (C.faults clock.old) (C.faults clock.new)) (Some order) (S.left source.old) (S.left source.new)) }
     ensures printable { IfOk result IsPrintable }
     ensures later { S.faults source.old ≤ S.faults source.new }
     ensures within { TakesWithin (limit_of (Some order) + 1) (S.left source.old) (S.left source.new) }
@@ -72,32 +85,77 @@ fn answer_order<S: Source>(alloc: Global, order: Order, source: &mut S) -> Resul
     ensures leaves { Leaves (Some order) source.old source.new }
 {
     match take_input(alloc, source, limit_of(order))? {
-        Some(bytes) => Ok(input_shown(alloc, order, bytes)?),
+        Some(bytes) => Ok(input_shown(alloc, clock, order, bytes)?),
         None => Ok(Shown::TooLong),
     }
 }
 
 // What an order shows for the bytes of an input.
-fn input_shown(alloc: Global, order: Order, bytes: Vec<u8>) -> Result<Shown, NoMemory>
+fn input_shown<C: Clock>(
+    alloc: Global,
+    clock: &mut C,
+    order: Order,
+    bytes: Vec<u8>,
+) -> Result<Shown, NoMemory>
     requires length { length bytes.items ≤ limit_of (Some order) }
     requires limits { IsWithinLimits order }
     requires reads { reads_source order ≡ true }
-    ensures shown { IfOk result (ShowsInput order bytes.items) }
+    ensures shown { IfOk result (ShowsInput (has_shown (seconds_of (Some order)) (C.moment clock.new) (C.faults clock.old) (C.faults clock.new)) order bytes.items) }
     ensures printable { IfOk result IsPrintable }
 {
     match order {
         Order::Direct => direct_shown(alloc, bytes),
         Order::Check => check_shown(alloc, bytes),
-        Order::Bound { spans } => bound_shown(alloc, bytes, spans),
+        Order::Bound { spans, seconds } => {
+            let deadline = ClockDeadline::new(&*clock, seconds);
+            bound_shown(&Resources { alloc, deadline }, bytes, spans)
+        }
+        Order::Trial { .. } => unreachable!(),
+        Order::Yard { seed } => yard_shown(alloc, bytes, seed),
+        Order::Fleet => fleet_shown(alloc, bytes),
         Order::Plan {
             budget,
             scale,
             spans,
-        } => plan_shown(alloc, bytes, budget, scale, spans),
-        Order::Trial { .. } => unreachable!(),
-        Order::Yard { seed } => yard_shown(alloc, bytes, seed),
-        Order::Fleet => fleet_shown(alloc, bytes),
-        Order::Replan { budget, spans } => replan_shown(alloc, bytes, budget, spans),
-        Order::Quote { budget, spans } => quote_shown(alloc, bytes, budget, spans),
+            seconds,
+        } => plan_shown(
+            alloc,
+            clock,
+            SearchOptions {
+                budget,
+                spans,
+                seconds,
+            },
+            bytes,
+            scale,
+        ),
+        Order::Replan {
+            budget,
+            spans,
+            seconds,
+        } => replan_shown(
+            alloc,
+            clock,
+            SearchOptions {
+                budget,
+                spans,
+                seconds,
+            },
+            bytes,
+        ),
+        Order::Quote {
+            budget,
+            spans,
+            seconds,
+        } => quote_shown(
+            alloc,
+            clock,
+            SearchOptions {
+                budget,
+                spans,
+                seconds,
+            },
+            bytes,
+        ),
     }
 }

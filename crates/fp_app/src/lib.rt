@@ -20,7 +20,7 @@ pub use laws::{check_accepts_plans, input_limits_are_numbers};
 pub use limits::{CHECK_LIMIT, INSTANCE_LIMIT};
 pub use shown::{AnswerKind, Ran, Shown, Status};
 pub use texts::text;
-pub use top::run;
+pub use top::{run, run_within};
 
 /// The error of a call that finds no memory.
 pub type NoMemory = std::alloc::AllocError;

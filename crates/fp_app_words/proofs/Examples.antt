@@ -11,10 +11,10 @@ the-direct = refl
 the-check : order_of (codes "check" ∷ []) ≡ Some Check
 the-check = refl
 
-the-bound : order_of (codes "bound" ∷ []) ≡ Some (Bound false)
+the-bound : order_of (codes "bound" ∷ []) ≡ Some (Bound false None)
 the-bound = refl
 
-with-spans : order_of (codes "bound" ∷ codes "--spans" ∷ []) ≡ Some (Bound true)
+with-spans : order_of (codes "bound" ∷ codes "--spans" ∷ []) ≡ Some (Bound true None)
 unfolding clap_on_literals
 with-spans = refl
 
@@ -65,24 +65,24 @@ dashes = refl
 help : order_of (codes "direct" ∷ codes "--help" ∷ []) ≡ None
 help = refl
 
-usual : order_of (codes "plan" ∷ []) ≡ Some (Plan (record { rounds = 400; branches = 4000 }) 1000000 false)
+usual : order_of (codes "plan" ∷ []) ≡ Some (Plan (record { rounds = 400; branches = 4000 }) 1000000 false None)
 usual = refl
 
 -- in any order, as two words or as one
-all-options : order_of (codes "plan" ∷ codes "--scale" ∷ codes "7" ∷ codes "--rounds=0" ∷ codes "--branches" ∷ codes "0000000005" ∷ []) ≡ Some (Plan (record { rounds = 0; branches = 5 }) 7 false)
+all-options : order_of (codes "plan" ∷ codes "--scale" ∷ codes "7" ∷ codes "--rounds=0" ∷ codes "--branches" ∷ codes "0000000005" ∷ []) ≡ Some (Plan (record { rounds = 0; branches = 5 }) 7 false None)
 unfolding clap_on_literals
 all-options = refl
 
 -- the flag before, among or after options with values
-spans-of-plan : order_of (codes "plan" ∷ codes "--spans" ∷ []) ≡ Some (Plan (record { rounds = 400; branches = 4000 }) 1000000 true)
+spans-of-plan : order_of (codes "plan" ∷ codes "--spans" ∷ []) ≡ Some (Plan (record { rounds = 400; branches = 4000 }) 1000000 true None)
 unfolding clap_on_literals
 spans-of-plan = refl
 
-spans-among : order_of (codes "plan" ∷ codes "--rounds=0" ∷ codes "--spans" ∷ codes "--scale" ∷ codes "7" ∷ []) ≡ Some (Plan (record { rounds = 0; branches = 4000 }) 7 true)
+spans-among : order_of (codes "plan" ∷ codes "--rounds=0" ∷ codes "--spans" ∷ codes "--scale" ∷ codes "7" ∷ []) ≡ Some (Plan (record { rounds = 0; branches = 4000 }) 7 true None)
 unfolding clap_on_literals
 spans-among = refl
 
-spans-last : order_of (codes "plan" ∷ codes "--branches" ∷ codes "5" ∷ codes "--spans" ∷ []) ≡ Some (Plan (record { rounds = 400; branches = 5 }) 1000000 true)
+spans-last : order_of (codes "plan" ∷ codes "--branches" ∷ codes "5" ∷ codes "--spans" ∷ []) ≡ Some (Plan (record { rounds = 400; branches = 5 }) 1000000 true None)
 unfolding clap_on_literals
 spans-last = refl
 
@@ -99,9 +99,41 @@ too-many-rounds : order_of (codes "plan" ∷ codes "--rounds" ∷ codes "4001" �
 unfolding clap_on_literals
 too-many-rounds = refl
 
-most-branches : order_of (codes "plan" ∷ codes "--branches=100000" ∷ []) ≡ Some (Plan (record { rounds = 400; branches = 100000 }) 1000000 false)
+most-branches : order_of (codes "plan" ∷ codes "--branches=100000" ∷ []) ≡ Some (Plan (record { rounds = 400; branches = 100000 }) 1000000 false None)
 unfolding clap_on_literals
 most-branches = refl
+
+-- a limit of time: at least a second, at most a day, once, and without a 0 before it
+within-time : order_of (codes "plan" ∷ codes "--seconds" ∷ codes "86400" ∷ codes "--spans" ∷ []) ≡ Some (Plan (record { rounds = 400; branches = 4000 }) 1000000 true (Some 86400))
+unfolding clap_on_literals
+within-time = refl
+
+bound-in-time : order_of (codes "bound" ∷ codes "--spans" ∷ codes "--seconds=1" ∷ []) ≡ Some (Bound true (Some 1))
+unfolding clap_on_literals
+bound-in-time = refl
+
+quote-in-time : order_of (codes "quote" ∷ codes "--seconds=10" ∷ []) ≡ Some (Quote (record { rounds = 400; branches = 4000 }) false (Some 10))
+unfolding clap_on_literals
+quote-in-time = refl
+
+no-seconds : order_of (codes "plan" ∷ codes "--seconds" ∷ codes "0" ∷ []) ≡ None
+unfolding clap_on_literals
+no-seconds = refl
+
+zero-before-seconds : order_of (codes "plan" ∷ codes "--seconds" ∷ codes "086" ∷ []) ≡ None
+unfolding clap_on_literals
+zero-before-seconds = refl
+
+more-than-a-day : order_of (codes "plan" ∷ codes "--seconds" ∷ codes "86401" ∷ []) ≡ None
+unfolding clap_on_literals
+more-than-a-day = refl
+
+seconds-twice : order_of (codes "replan" ∷ codes "--seconds=5" ∷ codes "--seconds" ∷ codes "5" ∷ []) ≡ None
+unfolding clap_on_literals
+seconds-twice = refl
+
+seconds-of-check : order_of (codes "check" ∷ codes "--seconds=5" ∷ []) ≡ None
+seconds-of-check = refl
 
 no-scale : order_of (codes "plan" ∷ codes "--scale" ∷ codes "0" ∷ []) ≡ None
 unfolding clap_on_literals
@@ -168,19 +200,19 @@ option-in-place = refl
 the-fleet : order_of (codes "fleet" ∷ []) ≡ Some Fleet
 the-fleet = refl
 
-the-replan : order_of (codes "replan" ∷ codes "--branches" ∷ codes "3" ∷ []) ≡ Some (Replan (record { rounds = 400; branches = 3 }) false)
+the-replan : order_of (codes "replan" ∷ codes "--branches" ∷ codes "3" ∷ []) ≡ Some (Replan (record { rounds = 400; branches = 3 }) false None)
 unfolding clap_on_literals
 the-replan = refl
 
-spans-of-replan : order_of (codes "replan" ∷ codes "--branches" ∷ codes "3" ∷ codes "--spans" ∷ []) ≡ Some (Replan (record { rounds = 400; branches = 3 }) true)
+spans-of-replan : order_of (codes "replan" ∷ codes "--branches" ∷ codes "3" ∷ codes "--spans" ∷ []) ≡ Some (Replan (record { rounds = 400; branches = 3 }) true None)
 unfolding clap_on_literals
 spans-of-replan = refl
 
-the-quote : order_of (codes "quote" ∷ codes "--branches=3" ∷ codes "--rounds" ∷ codes "0" ∷ []) ≡ Some (Quote (record { rounds = 0; branches = 3 }) false)
+the-quote : order_of (codes "quote" ∷ codes "--branches=3" ∷ codes "--rounds" ∷ codes "0" ∷ []) ≡ Some (Quote (record { rounds = 0; branches = 3 }) false None)
 unfolding clap_on_literals
 the-quote = refl
 
-spans-of-quote : order_of (codes "quote" ∷ codes "--spans" ∷ codes "--rounds" ∷ codes "0" ∷ []) ≡ Some (Quote (record { rounds = 0; branches = 4000 }) true)
+spans-of-quote : order_of (codes "quote" ∷ codes "--spans" ∷ codes "--rounds" ∷ codes "0" ∷ []) ≡ Some (Quote (record { rounds = 0; branches = 4000 }) true None)
 unfolding clap_on_literals
 spans-of-quote = refl
 

@@ -13,7 +13,7 @@ use Rattle.fp_app_words.specs.declared.orders.TheConstants.{FEWEST_TERMINALS, GR
 use Rattle.fp_app_words.specs.Commands.{app, entered_order, is_dashes, was_given}
 use Rattle.fp_app_words.specs.Options.{Given, is_among, is_given, value_given}
 use Rattle.fp_app_words.specs.Places.{by_places}
-use Rattle.fp_app_words.specs.Settings.{bound_by, bound_options, budget_by, budget_options, is_number_between, names_of, plan_by, plan_options, quote_by, replan_by, trial_settings, yard_settings}
+use Rattle.fp_app_words.specs.Settings.{bound_by, bound_options, budget_by, budget_options, is_number_between, names_of, plan_by, plan_options, quote_by, replan_by, seconds_by, trial_settings, yard_settings}
 use Rattle.fp_app_words.specs.Words.{forms, order_of, texts}
 use Rattle.fp_app_words.proofs.BareWords.{leaf}
 use Rattle.fp_app_words.proofs.FirstWords.{faults-none}
@@ -24,21 +24,24 @@ use Rattle.fp_app_words.proofs.Parses.{AllRead, alone-reads, choice, dashes-by, 
 use Rattle.fp_app_words.proofs.PlaceForms.{places-reads}
 
 -- what options come to, as they were given or by the rows of a parse
-bound_by-rows : (given : List Given) → bound_by (λ name. was_given name (all_rows bound_options.flags given)) ≡ bound_by (is_given given)
-bound_by-rows given = rw (was_given-all_rows bound_options.flags given (codes "spans")) refl
+seconds_by-rows : (flags : List (List ℕ)) (given : List Given) → is_among flags (codes "seconds") ≡ false → seconds_by (λ name. first_of name (all_rows flags given)) ≡ seconds_by (value_given given)
+seconds_by-rows flags given seconds = rw (first_of-all_rows flags given (codes "seconds") seconds) refl
+
+bound_by-rows : (given : List Given) → bound_by (λ name. first_of name (all_rows bound_options.flags given)) (λ name. was_given name (all_rows bound_options.flags given)) ≡ bound_by (value_given given) (is_given given)
+bound_by-rows given = rw (seconds_by-rows bound_options.flags given refl, was_given-all_rows bound_options.flags given (codes "spans")) refl
 
 budget_by-rows : (flags : List (List ℕ)) (given : List Given) → is_among flags (codes "rounds") ≡ false → is_among flags (codes "branches") ≡ false → budget_by (λ name. first_of name (all_rows flags given)) ≡ budget_by (value_given given)
 budget_by-rows flags given rounds branches = rw (first_of-all_rows flags given (codes "rounds") rounds, first_of-all_rows flags given (codes "branches") branches) refl
 
 plan_by-rows : (given : List Given) → plan_by (λ name. first_of name (all_rows plan_options.flags given)) (λ name. was_given name (all_rows plan_options.flags given)) ≡ plan_by (value_given given) (is_given given)
 plan_by-rows given =
-    rw (budget_by-rows plan_options.flags given refl refl, first_of-all_rows plan_options.flags given (codes "scale") refl, was_given-all_rows plan_options.flags given (codes "spans")) refl
+    rw (budget_by-rows plan_options.flags given refl refl, first_of-all_rows plan_options.flags given (codes "scale") refl, seconds_by-rows plan_options.flags given refl, was_given-all_rows plan_options.flags given (codes "spans")) refl
 
 replan_by-rows : (given : List Given) → replan_by (λ name. first_of name (all_rows budget_options.flags given)) (λ name. was_given name (all_rows budget_options.flags given)) ≡ replan_by (value_given given) (is_given given)
-replan_by-rows given = rw (budget_by-rows budget_options.flags given refl refl, was_given-all_rows budget_options.flags given (codes "spans")) refl
+replan_by-rows given = rw (budget_by-rows budget_options.flags given refl refl, seconds_by-rows budget_options.flags given refl, was_given-all_rows budget_options.flags given (codes "spans")) refl
 
 quote_by-rows : (given : List Given) → quote_by (λ name. first_of name (all_rows budget_options.flags given)) (λ name. was_given name (all_rows budget_options.flags given)) ≡ quote_by (value_given given) (is_given given)
-quote_by-rows given = rw (budget_by-rows budget_options.flags given refl refl, was_given-all_rows budget_options.flags given (codes "spans")) refl
+quote_by-rows given = rw (budget_by-rows budget_options.flags given refl refl, seconds_by-rows budget_options.flags given refl, was_given-all_rows budget_options.flags given (codes "spans")) refl
 
 -- three numbers, one after the other or at once
 three-numbers : (a b c : Bool) (x y z : ℕ) →
@@ -76,7 +79,7 @@ all-read = (
   (
     alone-reads (codes "check") Check refl refl,
     (
-      options-reads (codes "bound") bound_options (λ given. Some (bound_by (is_given given))) (λ given. ap (λ order. Some order) (bound_by-rows given)) refl,
+      options-reads (codes "bound") bound_options (λ given. bound_by (value_given given) (is_given given)) bound_by-rows refl,
       (
         options-reads (codes "plan") plan_options (λ given. plan_by (value_given given) (is_given given)) plan_by-rows refl,
         (

@@ -14,4 +14,5 @@ pub mod PlaceRules
 pub mod PlaceWords
 pub mod PlaceForms
 pub mod Forms
+pub mod TimeLimits
 mod Examples

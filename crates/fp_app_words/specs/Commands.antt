@@ -90,7 +90,7 @@ entered_order found =
     let is_given : List ℕ → Bool = λ name. was_given name found.1 in
     if bytes_eq found.0 (codes "direct") then Some Direct
     else if bytes_eq found.0 (codes "check") then Some Check
-    else if bytes_eq found.0 (codes "bound") then Some (bound_by is_given)
+    else if bytes_eq found.0 (codes "bound") then bound_by text is_given
     else if bytes_eq found.0 (codes "plan") then plan_by text is_given
     else if bytes_eq found.0 (codes "trial") then trial_by text
     else if bytes_eq found.0 (codes "yard") then yard_by text

@@ -3,3 +3,4 @@ pub mod Commands
 pub mod Options
 pub mod Places
 pub mod Words
+pub mod TimeLimits

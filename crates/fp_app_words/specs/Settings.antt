@@ -1,6 +1,6 @@
 -- What words give a command: its options and places, the ranges of numbers, and what it orders by
 -- them.
-use Rattle.std.specs.Prelude.{ℕ, ◌≤◌, Bool, List, [], ◌∷◌, ◌++◌, ◌&&◌, length, nat_le, codes, map, if◌then◌else◌, None, Some, option_and_then, option_map}
+use Rattle.std.specs.Prelude.{ℕ, ◌≤◌, Bool, false, nat_eq, List, [], ◌∷◌, ◌++◌, ◌&&◌, length, nat_le, codes, map, if◌then◌else◌, None, Some, IfSome, option_and_then, option_map}
 use Rattle.std.specs.declared.option.Option.{Option}
 use Rattle.fp_records_fields.specs.Fields.{is_number, is_within, number}
 use Rattle.fp_session_history.specs.declared.budgets.Budget.{Budget}
@@ -9,7 +9,7 @@ use Rattle.fp_model.specs.declared.limits.TheConstants.{GREATEST_SCALE, LAST_ROU
 use Rattle.fp_tree.specs.declared.layout.TheConstants.{MOST_SPLITS}
 use Rattle.fp_app_words.specs.declared.orders.Order.{Order}
 use Rattle.fp_app_words.specs.declared.orders.Order.TheVariants.{Bound, Plan, Quote, Replan, Trial, Yard}
-use Rattle.fp_app_words.specs.declared.orders.TheConstants.{FEWEST_TERMINALS, GREATEST_SEED}
+use Rattle.fp_app_words.specs.declared.orders.TheConstants.{FEWEST_TERMINALS, GREATEST_SEED, MOST_SECONDS}
 use Rattle.fp_app_words.specs.declared.settings.TheConstants.{LONGEST_NUMBER, USUAL_BRANCHES, USUAL_ROUNDS}
 
 -- a number that a command takes, as an option or in a place: its name, and the least and the
@@ -28,6 +28,9 @@ branches_setting = record { name = codes "branches"; least = 0; most = MOST_SPLI
 abbrev pub scale_setting : Setting
 scale_setting = record { name = codes "scale"; least = 1; most = GREATEST_SCALE }
 
+abbrev pub seconds_setting : Setting
+seconds_setting = record { name = codes "seconds"; least = 1; most = MOST_SECONDS }
+
 abbrev pub seed_setting : Setting
 seed_setting = record { name = codes "seed"; least = 0; most = GREATEST_SEED }
 
@@ -45,13 +48,13 @@ pub record Options : Type 0 where
   pub settings : List Setting
   pub flags : List (List ℕ)
 
--- the numbers of a budget
+-- the numbers of a budget and of seconds
 abbrev pub budget_settings : List Setting
-budget_settings = rounds_setting ∷ branches_setting ∷ []
+budget_settings = rounds_setting ∷ branches_setting ∷ seconds_setting ∷ []
 
 -- the options of `bound`, those of a command with a budget, and those of `plan`
 abbrev pub bound_options : Options
-bound_options = record { settings = []; flags = codes "spans" ∷ [] }
+bound_options = record { settings = seconds_setting ∷ []; flags = codes "spans" ∷ [] }
 
 abbrev pub budget_options : Options
 budget_options = record { settings = budget_settings; flags = codes "spans" ∷ [] }
@@ -79,6 +82,16 @@ abbrev pub number_or : ℕ → ℕ → ℕ → Option (List ℕ) → Option ℕ
 number_or usual least most None = Some usual
 number_or usual least most (Some text) = number_of least most text
 
+-- whether a text begins with the digit 0
+abbrev pub begins_with_zero : List ℕ → Bool
+begins_with_zero [] = false
+begins_with_zero (byte ∷ bytes) = nat_eq byte 48
+
+-- the number of an option that has no usual one, if it was given: without a 0 before it
+abbrev pub number_if : ℕ → ℕ → Option (List ℕ) → Option (Option ℕ)
+number_if least most None = Some None
+number_if least most (Some text) = if begins_with_zero text then None else option_map (λ n. Some n) (number_of least most text)
+
 -- what the texts of options and places come to, by their names: a number, a budget, and what `trial`
 -- and `yard` order
 abbrev pub option_number : ℕ → Setting → (List ℕ → Option (List ℕ)) → Option ℕ
@@ -92,6 +105,9 @@ budget_by text =
     option_and_then (λ rounds. option_map (λ branches. record { rounds = rounds; branches = branches }) (option_number USUAL_BRANCHES branches_setting text))
     (option_number USUAL_ROUNDS rounds_setting text)
 
+abbrev pub seconds_by : (List ℕ → Option (List ℕ)) → Option (Option ℕ)
+seconds_by text = number_if seconds_setting.least seconds_setting.most (text seconds_setting.name)
+
 abbrev pub trial_by : (List ℕ → Option (List ℕ)) → Option Order
 trial_by text =
     option_and_then (λ seed. option_and_then (λ terminals. option_map (λ shipments. Trial seed terminals shipments) (place_number shipments_setting text))
@@ -100,26 +116,32 @@ trial_by text =
 abbrev pub yard_by : (List ℕ → Option (List ℕ)) → Option Order
 yard_by text = option_map (λ seed. Yard seed) (place_number seed_setting text)
 
--- what `bound` orders, by the flags that were given
-abbrev pub bound_by : (List ℕ → Bool) → Order
-bound_by is_given = Bound (is_given (codes "spans"))
+-- what `bound`, `plan`, `replan` and `quote` order, by the texts of options and by the flags that were
+-- given
+abbrev pub bound_by : (List ℕ → Option (List ℕ)) → (List ℕ → Bool) → Option Order
+bound_by text is_given = option_map (λ seconds. Bound (is_given (codes "spans")) seconds) (seconds_by text)
 
--- what `plan`, `replan` and `quote` order, by the texts of options and by the flags that were given
 abbrev pub plan_by : (List ℕ → Option (List ℕ)) → (List ℕ → Bool) → Option Order
 plan_by text is_given =
-    option_and_then (λ budget. option_map (λ scale. Plan budget scale (is_given (codes "spans"))) (option_number SCALE scale_setting text)) (budget_by text)
+    option_and_then (λ budget. option_and_then (λ scale. option_map (λ seconds. Plan budget scale (is_given (codes "spans")) seconds) (seconds_by text))
+    (option_number SCALE scale_setting text)) (budget_by text)
 
 abbrev pub replan_by : (List ℕ → Option (List ℕ)) → (List ℕ → Bool) → Option Order
-replan_by text is_given = option_map (λ budget. Replan budget (is_given (codes "spans"))) (budget_by text)
+replan_by text is_given = option_and_then (λ budget. option_map (λ seconds. Replan budget (is_given (codes "spans")) seconds) (seconds_by text)) (budget_by text)
 
 abbrev pub quote_by : (List ℕ → Option (List ℕ)) → (List ℕ → Bool) → Option Order
-quote_by text is_given = option_map (λ budget. Quote budget (is_given (codes "spans"))) (budget_by text)
+quote_by text is_given = option_and_then (λ budget. option_map (λ seconds. Quote budget (is_given (codes "spans")) seconds) (seconds_by text)) (budget_by text)
+
+-- a limit of time, if there is one, is within its range
+abbrev pub IsTimeLimit : Option ℕ → Type 0
+IsTimeLimit seconds = IfSome seconds (λ n. (1 ≤ n) × (n ≤ MOST_SECONDS))
 
 -- what is ordered is within the limits
 abbrev pub IsWithinLimits : Order → Type 0
-IsWithinLimits (Plan budget scale spans) = IsBudget budget × (1 ≤ scale) × (scale ≤ GREATEST_SCALE)
+IsWithinLimits (Bound spans seconds) = IsTimeLimit seconds
+IsWithinLimits (Plan budget scale spans seconds) = IsBudget budget × (1 ≤ scale) × (scale ≤ GREATEST_SCALE) × IsTimeLimit seconds
 IsWithinLimits (Trial seed terminals shipments) = (seed ≤ GREATEST_SEED) × (FEWEST_TERMINALS ≤ terminals) × (terminals ≤ MOST_TERMINALS) × (shipments ≤ MOST_SHIPMENTS)
 IsWithinLimits (Yard seed) = seed ≤ GREATEST_SEED
-IsWithinLimits (Replan budget spans) = IsBudget budget
-IsWithinLimits (Quote budget spans) = IsBudget budget
+IsWithinLimits (Replan budget spans seconds) = IsBudget budget × IsTimeLimit seconds
+IsWithinLimits (Quote budget spans seconds) = IsBudget budget × IsTimeLimit seconds
 IsWithinLimits _ = Unit {0}

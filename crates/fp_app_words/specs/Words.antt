@@ -31,7 +31,7 @@ abbrev pub forms : List Form
 forms =
     record { name = codes "direct"; order = alone Direct }
     ∷ record { name = codes "check"; order = alone Check }
-    ∷ record { name = codes "bound"; order = by_options bound_options (λ given. Some (bound_by (is_given given))) }
+    ∷ record { name = codes "bound"; order = by_options bound_options (λ given. bound_by (value_given given) (is_given given)) }
     ∷ record { name = codes "plan"; order = by_options plan_options (λ given. plan_by (value_given given) (is_given given)) }
     ∷ record { name = codes "trial"; order = by_places trial_settings (λ n. Trial (n 0) (n 1) (n 2)) }
     ∷ record { name = codes "yard"; order = by_places yard_settings (λ n. Yard (n 0)) }

@@ -33,24 +33,27 @@ fn place<'a>(alloc: Global, name: &'a str) -> Arg<'a>
     Arg::new(alloc, name).required(true).action(ArgAction::Set)
 }
 
-// The subcommand `bound`, with its flag.
+// The subcommand `bound`, with its options.
 fn bound_command<'a>(alloc: Global) -> Result<Command<'a>, NoMemory>
     ensures shape { IfOk result (λ command. (app_of command).top ≡ with_options (codes "bound") bound_options) }
     ensures local { IfOk result IsLocal }
 {
-    let command = Command::new(alloc, "bound").arg(flag(alloc, "spans"))?;
+    let command = Command::new(alloc, "bound")
+        .arg(option(alloc, "seconds"))?
+        .arg(flag(alloc, "spans"))?;
     Ok(command)
 }
 
-// A subcommand with the numbers of a budget, and no flag yet: those come after all options with a
-// value.
+// A subcommand with the numbers of a budget and of seconds, and no flag yet: those come after all
+// options with a value.
 fn budget_command<'a>(alloc: Global, name: &'a str) -> Result<Command<'a>, NoMemory>
     ensures shape { IfOk result (λ command. app_of command ≡ record (new_app name.entry.now) { top = with_options name.entry.now (record { settings = budget_settings; flags = [] }) }) }
     ensures local { IfOk result IsLocal }
 {
     let command = Command::new(alloc, name)
         .arg(option(alloc, "rounds"))?
-        .arg(option(alloc, "branches"))?;
+        .arg(option(alloc, "branches"))?
+        .arg(option(alloc, "seconds"))?;
     Ok(command)
 }
 
@@ -127,7 +130,7 @@ fn order_by(name: &str, matches: &ArgMatches) -> Option<Order>
     } else if name == "check" {
         Some(Order::Check)
     } else if name == "bound" {
-        Some(bound_by(matches))
+        bound_by(matches)
     } else if name == "plan" {
         plan_by(matches)
     } else if name == "trial" {

@@ -3,7 +3,7 @@ use fp_session_history::Budget;
 use thiserror::Error;
 
 /// A command, with the numbers and flags that its words give. `spans` says that its search seeks
-/// prices of runs of classes too.
+/// prices of runs of classes too, and `seconds`, 1 to [`MOST_SECONDS`], when it ends at the latest.
 #[derive(Clone, Copy, Debug, PartialEq, Eq)]
 pub enum Order {
     /// Each shipment's fastest timetable.
@@ -13,12 +13,14 @@ pub enum Order {
     /// A number under which no plan costs.
     Bound {
         spans: bool,
+        seconds: Option<u32>,
     },
     /// The cheapest plan that a search with this budget finds, at this scale of prices.
     Plan {
         budget: Budget,
         scale: u32,
         spans: bool,
+        seconds: Option<u32>,
     },
     /// What a search of an instance finds that is drawn from a seed, 0 to [`GREATEST_SEED`], with so
     /// many terminals, [`FEWEST_TERMINALS`] to [`MOST_TERMINALS`](fp_model::limits::MOST_TERMINALS),
@@ -39,16 +41,21 @@ pub enum Order {
     Replan {
         budget: Budget,
         spans: bool,
+        seconds: Option<u32>,
     },
     /// What the last shipment adds to the cost, by two searches with this budget each.
     Quote {
         budget: Budget,
         spans: bool,
+        seconds: Option<u32>,
     },
 }
 
 /// The greatest seed of numbers that are drawn.
 pub const GREATEST_SEED: u32 = 2_147_483_647;
+
+/// The most seconds that a search may take: those of a day.
+pub const MOST_SECONDS: u32 = 86_400;
 
 /// The fewest terminals of an instance that is drawn.
 pub const FEWEST_TERMINALS: u32 = 2;

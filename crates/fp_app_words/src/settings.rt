@@ -1,12 +1,12 @@
 //! What words give a command: the values of options, whether a flag is among them, and the words in
 //! places.
-ghost use Rattle.std.specs.Prelude.{◌≡◌, ◌≤◌, IfSome, option_and_then};
+ghost use Rattle.std.specs.Prelude.{◌≡◌, ◌≤◌, IfSome, Some, option_and_then};
 ghost use Rattle.clap.specs.Words.{first_of, found_of, rows_of};
 ghost use Rattle.fp_session_history.specs.Budgets.{IsBudget};
 ghost use Rattle.fp_app_words.specs.Commands.{is_from_words, was_given};
-ghost use Rattle.fp_app_words.specs.Settings.{IsWithinLimits, bound_by, budget_by, number_of, number_or, plan_by, quote_by, replan_by, trial_by, yard_by};
+ghost use Rattle.fp_app_words.specs.Settings.{IsTimeLimit, IsWithinLimits, begins_with_zero, bound_by, budget_by, number_if, number_of, number_or, plan_by, quote_by, replan_by, seconds_by, trial_by, yard_by};
 
-use crate::orders::{FEWEST_TERMINALS, GREATEST_SEED, Order};
+use crate::orders::{FEWEST_TERMINALS, GREATEST_SEED, MOST_SECONDS, Order};
 use clap::ArgMatches;
 use clap::parser::ValueSource;
 use fp_model::SCALE;
@@ -49,6 +49,41 @@ fn number_or(matches: &ArgMatches, name: &str, least: u32, most: u32, usual: u32
     }
 }
 
+// Whether a text begins with the digit 0.
+fn begins_with_zero(text: &str) -> bool
+    ensures { result ≡ begins_with_zero text.now }
+{
+    let bytes = text.as_bytes();
+    !bytes.is_empty() && bytes[0] == b'0'
+}
+
+// The number that a text writes which doesn't begin with 0, as that of an option that was given; `None`
+// exactly where it is none.
+fn number_given(text: &str, least: u32, most: u32) -> Option<Option<u32>>
+    ensures number { result ≡ number_if least most (Some text.now) }
+    ensures range { IfSome result (λ n. IfSome n (λ n. (least ≤ n) × (n ≤ most))) }
+{
+    if begins_with_zero(text) {
+        return None;
+    }
+    match number_of(text, least, most) {
+        Some(number) => Some(Some(number)),
+        None => None,
+    }
+}
+
+// The number of the option of this name, where it was given; `None` exactly where its text is no such
+// number, or begins with 0.
+fn number_if(matches: &ArgMatches, name: &str, least: u32, most: u32) -> Option<Option<u32>>
+    ensures number { result ≡ number_if least most (first_of name.now (rows_of (found_of matches.now))) }
+    ensures range { IfSome result (λ n. IfSome n (λ n. (least ≤ n) × (n ≤ most))) }
+{
+    match matches.get_str(name) {
+        Some(text) => number_given(text, least, most),
+        None => Some(None),
+    }
+}
+
 // The number in the place of this name.
 fn number_in(matches: &ArgMatches, name: &str, least: u32, most: u32) -> Option<u32>
     ensures number { result ≡ option_and_then (number_of least most) (first_of name.now (rows_of (found_of matches.now))) }
@@ -87,13 +122,23 @@ fn budget_by(matches: &ArgMatches) -> Option<Budget>
     Some(Budget { rounds, branches })
 }
 
-/// What the options of `bound` order.
-pub fn bound_by(matches: &ArgMatches) -> Order
-    ensures { result ≡ bound_by (λ name. was_given name (rows_of (found_of matches.now))) }
+// The seconds that the options give, where they give some.
+fn seconds_by(matches: &ArgMatches) -> Option<Option<u32>>
+    ensures seconds { result ≡ seconds_by (λ name. first_of name (rows_of (found_of matches.now))) }
+    ensures range { IfSome result IsTimeLimit }
 {
-    Order::Bound {
-        spans: was_given(matches, "spans"),
-    }
+    number_if(matches, "seconds", 1, MOST_SECONDS)
+}
+
+/// What the options of `bound` order; `None` exactly where the text of one is no number in its
+/// range.
+pub fn bound_by(matches: &ArgMatches) -> Option<Order>
+    ensures order { result ≡ bound_by (λ name. first_of name (rows_of (found_of matches.now))) (λ name. was_given name (rows_of (found_of matches.now))) }
+    ensures range { IfSome result IsWithinLimits }
+{
+    let seconds = seconds_by(matches)?;
+    let spans = was_given(matches, "spans");
+    Some(Order::Bound { spans, seconds })
 }
 
 /// What the options of `plan` order; `None` exactly where the text of one is no number in its
@@ -104,11 +149,13 @@ pub fn plan_by(matches: &ArgMatches) -> Option<Order>
 {
     let budget = budget_by(matches)?;
     let scale = number_or(matches, "scale", 1, GREATEST_SCALE, SCALE as u32)?;
+    let seconds = seconds_by(matches)?;
     let spans = was_given(matches, "spans");
     Some(Order::Plan {
         budget,
         scale,
         spans,
+        seconds,
     })
 }
 
@@ -119,8 +166,13 @@ pub fn replan_by(matches: &ArgMatches) -> Option<Order>
     ensures range { IfSome result IsWithinLimits }
 {
     let budget = budget_by(matches)?;
+    let seconds = seconds_by(matches)?;
     let spans = was_given(matches, "spans");
-    Some(Order::Replan { budget, spans })
+    Some(Order::Replan {
+        budget,
+        spans,
+        seconds,
+    })
 }
 
 /// The same for `quote`.
@@ -129,8 +181,13 @@ pub fn quote_by(matches: &ArgMatches) -> Option<Order>
     ensures range { IfSome result IsWithinLimits }
 {
     let budget = budget_by(matches)?;
+    let seconds = seconds_by(matches)?;
     let spans = was_given(matches, "spans");
-    Some(Order::Quote { budget, spans })
+    Some(Order::Quote {
+        budget,
+        spans,
+        seconds,
+    })
 }
 
 /// What the words in the places of `trial` order; `None` exactly where one is no number in its

@@ -295,6 +295,13 @@ unfinished-step p cost bound spent.Branches costs bounds =
       clean = rw (cost-is.is, bound-is.is, within-back 0 largest_figure cost (omega arith) costs cost-is, within-back 0 largest_figure bound (omega arith) bounds bound-is) refl;
       gives = rw (cost-is.value, bound-is.value) refl;
     }
+unfinished-step p cost bound spent.Time costs bounds =
+    let cost-is = large-back cost costs in
+    let bound-is = large-back bound bounds in
+    record {
+      clean = rw (cost-is.is, bound-is.is, within-back 0 largest_figure cost (omega arith) costs cost-is, within-back 0 largest_figure bound (omega arith) bounds bound-is) refl;
+      gives = rw (cost-is.value, bound-is.value) refl;
+    }
 
 infeasible-step : (p : Problem) (shipment : ℕ) (time : Option ℕ) → IsValid p → shipment < length p.shipments → IfSome time (λ t. t ≤ LONGEST_FASTEST)
     → IsStep p nothing_read (answer_fields p (answer.Infeasible shipment time)) (with_answer nothing_read (answer.Infeasible shipment time))

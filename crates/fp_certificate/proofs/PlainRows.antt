@@ -78,6 +78,7 @@ answer-plain p (answer.Direct cost) named r = rw (large-back cost r).plain refl
 answer-plain p (answer.Optimal cost) named r = rw (large-back cost r).plain refl
 answer-plain p (answer.Unfinished cost bound spent.Rounds) named r = rw ((large-back cost r.0).plain, (large-back bound r.1).plain) refl
 answer-plain p (answer.Unfinished cost bound spent.Branches) named r = rw ((large-back cost r.0).plain, (large-back bound r.1).plain) refl
+answer-plain p (answer.Unfinished cost bound spent.Time) named r = rw ((large-back cost r.0).plain, (large-back bound r.1).plain) refl
 answer-plain p (answer.Infeasible shipment None) named r = rw (shipment-plain p shipment named r.0) refl
 answer-plain p (answer.Infeasible shipment (Some time)) named r = rw (shipment-plain p shipment named r.0, (number-back time (omega (arith, r.1))).plain) refl
 

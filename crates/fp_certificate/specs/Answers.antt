@@ -9,7 +9,7 @@ use Rattle.fp_records_fields.specs.Fields.{field, has_number, has_word, is_betwe
 use Rattle.fp_certificate_lines.specs.declared.certificates.Answer.{Answer}
 use Rattle.fp_certificate_lines.specs.declared.certificates.Answer.TheVariants as answer
 use Rattle.fp_certificate_lines.specs.declared.certificates.Spent.{Spent}
-use Rattle.fp_certificate_lines.specs.declared.certificates.Spent.TheVariants.{Rounds, Branches}
+use Rattle.fp_certificate_lines.specs.declared.certificates.Spent.TheVariants.{Rounds, Branches, Time}
 use Rattle.fp_certificate.specs.declared.drafts.Draft.{Draft}
 use Rattle.fp_certificate.specs.declared.lines.groups.Group.TheVariants as group
 use Rattle.fp_certificate.specs.Groups.{is_misplaced}
@@ -32,7 +32,7 @@ cost_faults before fields =
 -- whether the numbers and the word of an unfinished answer are such
 abbrev pub has_unfinished_digits : List (List ℕ) → Bool
 has_unfinished_digits fields =
-    has_number fields 2 && has_number fields 3 && (has_word (codes "rounds") fields 4 || has_word (codes "branches") fields 4)
+    has_number fields 2 && has_number fields 3 && (has_word (codes "rounds") fields 4 || has_word (codes "branches") fields 4 || has_word (codes "time") fields 4)
 
 -- the faults of `answer,unfinished,COST,BOUND,SPENT`
 abbrev pub unfinished_faults : Draft → List (List ℕ) → List Finding
@@ -63,7 +63,7 @@ infeasible_faults p before fields =
 
 -- what was spent by an unfinished answer
 abbrev pub spent_in : List (List ℕ) → Spent
-spent_in fields = if has_word (codes "rounds") fields 4 then Rounds else Branches
+spent_in fields = if has_word (codes "rounds") fields 4 then Rounds else if has_word (codes "branches") fields 4 then Branches else Time
 
 -- the fastest time of an infeasible answer
 abbrev pub time_in : List (List ℕ) → Option ℕ

@@ -28,7 +28,7 @@ use Rattle.fp_certificate_lines.specs.declared.certificates.Answer.TheVariants.{
 use Rattle.fp_certificate_lines.specs.declared.certificates.Node.{Node}
 use Rattle.fp_certificate_lines.specs.declared.certificates.Node.TheVariants.{Branch, Leaf}
 use Rattle.fp_certificate_lines.specs.declared.certificates.Spent.{Spent}
-use Rattle.fp_certificate_lines.specs.declared.certificates.Spent.TheVariants.{Rounds, Branches}
+use Rattle.fp_certificate_lines.specs.declared.certificates.Spent.TheVariants.{Rounds, Branches, Time}
 use Rattle.fp_certificate_lines.specs.Lengths.{most_bytes, node_bytes, price_rows}
 use Rattle.fp_certificate_lines.specs.Ranges.{HaveNames, IsAnswerInRange, IsInRange, IsLegInRange, IsNodeInRange, IsPointInRange, IsScaleInRange, IsShareInRange, IsSpanInRange, IsSplitInRange, IsTruckInRange, IsUnitInRange, IsWeightInRange, largest_figure}
 use Rattle.fp_certificate_lines.specs.Rows.{answer_fields, end_fields, head_name, kind_text, leg_fields, mode_text, node_fields, point_fields, rows_of, scale_rows, share_fields, share_rows, shipment_name, span_fields, span_rows, spent_text, split_fields, table_fields, table_rows, tables_rows, tail_name, terminal_name, time_text, truck_fields, unit_rows, weight_fields}
@@ -238,6 +238,7 @@ module _ (p : Problem) (valid : IsValid p) (names : HaveNames p) where
   spent-short : (spent : Spent) → length (spent_text spent) ≤ 8
   spent-short Rounds = omega (arith, word (codes "rounds") 6 refl)
   spent-short Branches = omega (arith, word (codes "branches") 8 refl)
+  spent-short Time = omega (arith, word (codes "time") 4 refl)
 
   fastest-short : (time : Option ℕ) → IfSome time (λ t. t ≤ LONGEST_FASTEST) → length (time_text time) ≤ 8
   fastest-short None r = omega (arith, word (codes "none") 4 refl)

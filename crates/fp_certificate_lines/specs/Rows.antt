@@ -22,7 +22,7 @@ use Rattle.fp_certificate_lines.specs.declared.certificates.Answer.TheVariants.{
 use Rattle.fp_certificate_lines.specs.declared.certificates.Node.{Node}
 use Rattle.fp_certificate_lines.specs.declared.certificates.Node.TheVariants.{Branch, Leaf}
 use Rattle.fp_certificate_lines.specs.declared.certificates.Spent.{Spent}
-use Rattle.fp_certificate_lines.specs.declared.certificates.Spent.TheVariants.{Rounds, Branches}
+use Rattle.fp_certificate_lines.specs.declared.certificates.Spent.TheVariants.{Rounds, Branches, Time}
 use Rattle.fp_certificate_lines.specs.Statements.{Statement}
 
 -- the name of the terminal with a number
@@ -49,6 +49,7 @@ with_ends line p arc = with_field (with_field line (tail_name p arc)) (head_name
 abbrev pub spent_text : Spent → List ℕ
 spent_text Rounds = codes "rounds"
 spent_text Branches = codes "branches"
+spent_text Time = codes "time"
 
 -- a fastest time, or `none`
 abbrev pub time_text : Option ℕ → List ℕ

@@ -13,6 +13,8 @@ pub enum Spent {
     Rounds,
     /// All the branches that it was given.
     Branches,
+    /// All the time that it was given.
+    Time,
 }
 
 /// What a certificate claims. Costs and bounds are in the input's unit of money, at most `2^127 -

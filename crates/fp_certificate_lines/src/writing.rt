@@ -33,7 +33,7 @@ fn write_end(line: &mut Line) -> Result<(), NoMemory>
 /// without leading zeros, and names stand without quotes. The lines are, in this order:
 ///
 /// - `answer,direct,COST`, `answer,optimal,COST`, `answer,unfinished,COST,BOUND,SPENT` with
-///   `rounds` or `branches`, or `answer,infeasible,SHIPMENT,TIME` with a fastest time or `none`.
+///   `rounds`, `branches` or `time`, or `answer,infeasible,SHIPMENT,TIME` with a fastest time or `none`.
 /// - `scale,N`, where the certificate has a scale, and `unit,Q`, where it has a unit.
 /// - `leg,SHIPMENT,FROM,TO,DEPART,ARRIVE` for each leg, `truck,FROM,TO,DEPART,TRUCKS,LOAD` for each
 ///   departure, and `point,TERMINAL,TIME,ROUND` for each added point.

@@ -11,6 +11,7 @@ use crate::run_tables::Tables;
 use crate::searches::Search;
 use crate::starts::Start;
 use crate::table_tests::is_fit;
+use fp_ends::{Deadline, Resources};
 use fp_prices::{Kind, Leaf, LeafBound, Table};
 use std::alloc::Global;
 
@@ -57,8 +58,8 @@ fn prices_by(
 
 // A table in a mode, of at most so many price lines, which are left, by which the leaf is worth more
 // than by a start. The tables are as before.
-fn better_in_mode(
-    alloc: Global,
+fn better_in_mode<D: Deadline>(
+    resources: &Resources<D>,
     leaf: &Leaf,
     search: &mut Search,
     lines: u32,
@@ -71,13 +72,13 @@ fn better_in_mode(
     ensures same { tables.new ≡ tables.old }
     ensures better { IfOk result (λ found. IfSome found (IsBetter leaf.now tables.old lines start)) }
 {
-    let Some(table) = search.table(alloc, tables.list(), start, forced, lines)? else {
+    let Some(table) = search.table(resources, tables.list(), start, forced, lines)? else {
         return Ok(None);
     };
     if !is_fit(leaf.round().instance(), &table, lines) {
         return Ok(None);
     }
-    match prices_by(alloc, leaf, tables, table, lines, forced)? {
+    match prices_by(resources.alloc, leaf, tables, table, lines, forced)? {
         Some(found) if search.is_worth(found.start.value, start.value) => Ok(Some(found)),
         _ => Ok(None),
     }
@@ -104,8 +105,8 @@ fn better_of(first: Option<Candidate>, second: Option<Candidate>) -> Option<Cand
 
 /// A table of at most so many price lines by which a leaf is worth more than by a start, in one of
 /// the two modes. The tables are as before.
-pub(crate) fn better_table(
-    alloc: Global,
+pub(crate) fn better_table<D: Deadline>(
+    resources: &Resources<D>,
     leaf: &Leaf,
     search: &mut Search,
     room: u32,
@@ -117,10 +118,10 @@ pub(crate) fn better_table(
     ensures better { IfOk result (λ found. IfSome found (IsBetter leaf.now tables.old room start)) }
 {
     let lines = search.lines(tables.left().min(room));
-    let same = better_in_mode(alloc, leaf, search, lines, tables, start, start.forced)?;
+    let same = better_in_mode(resources, leaf, search, lines, tables, start, start.forced)?;
     if !search.modes_differ() {
         return Ok(same);
     }
-    let other = better_in_mode(alloc, leaf, search, lines, tables, start, !start.forced)?;
+    let other = better_in_mode(resources, leaf, search, lines, tables, start, !start.forced)?;
     Ok(better_of(same, other))
 }

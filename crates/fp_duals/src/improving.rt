@@ -22,6 +22,7 @@ use crate::starts::Start;
 use crate::tabled_leaves::TabledLeaf;
 use fp_duals_nets::LentNets;
 use fp_duals_shares::Effort;
+use fp_ends::{Deadline, Resources};
 use fp_flatnet::Windows;
 use fp_longestarcs::TimedWalk;
 use fp_model::Instance;
@@ -54,8 +55,8 @@ fn least_walks(
 
 // The best start, or the prices by a table that is better, has at most so many price lines, and is
 // added to the tables.
-fn choice(
-    alloc: Global,
+fn choice<D: Deadline>(
+    resources: &Resources<D>,
     leaf: &Leaf,
     search: &mut Search,
     inherited: Kind,
@@ -70,7 +71,7 @@ fn choice(
     ensures lines { IfOk result (λ _. line_total tables.new ≤ line_total tables.old + room) }
     ensures err { OnErr result (tables.new ≡ tables.old) }
 {
-    match better_table(alloc, leaf, search, room, tables, start)? {
+    match better_table(resources, leaf, search, room, tables, start)? {
         Some(found) => {
             tables.push(found.table)?;
             Ok(found.start)
@@ -80,8 +81,8 @@ fn choice(
 }
 
 // The price of a leaf from the best of its starting prices, or from a table that is better.
-fn priced(
-    alloc: Global,
+fn priced<D: Deadline>(
+    resources: &Resources<D>,
     leaf: &Leaf,
     search: &mut Search,
     round: u32,
@@ -103,8 +104,8 @@ fn priced(
     // reaches one is the only walk.
     let _windows = leaf.windows();
     let count = tables.list().len() as u32;
-    let chosen = choice(alloc, leaf, search, inherited, start, room, tables)?;
-    match least_walks(alloc, leaf, search, tables.list(), chosen) {
+    let chosen = choice(resources, leaf, search, inherited, start, room, tables)?;
+    match least_walks(resources.alloc, leaf, search, tables.list(), chosen) {
         Ok(walks) => Ok(Improved::Priced {
             price: LeafPrice {
                 kind: chosen.kind,
@@ -137,8 +138,8 @@ fn priced(
 /// order and within the price rule, before and after, and a table that `inherited` names is one of
 /// them; its round and mode aren't used. `NoMemory` only where no memory is found; then the tables
 /// are as before, and so are the nets, of which contracts see nothing.
-pub fn improve_leaf(
-    alloc: Global,
+pub fn improve_leaf<D: Deadline>(
+    resources: &Resources<D>,
     leaf: &Leaf,
     nets: &mut LentNets,
     round: u32,
@@ -158,7 +159,7 @@ pub fn improve_leaf(
     ensures err { OnErr result (tables.new ≡ tables.old) }
     ensures nets { OnErr result (nets.new ≡ nets.old) }
 {
-    match leaf.bound(alloc, tables.list(), Kind::Linear, true)? {
+    match leaf.bound(resources.alloc, tables.list(), Kind::Linear, true)? {
         LeafBound::Empty { shipment } => Ok(Improved::Empty { shipment }),
         LeafBound::Value { value } => {
             let first = Start {
@@ -171,9 +172,18 @@ pub fn improve_leaf(
                 leaf,
                 tables: tables.list(),
             };
-            let start = first.best(alloc, &tabled, kind)?;
-            let mut search = Search::of(alloc, leaf, nets, effort)?;
-            priced(alloc, leaf, &mut search, round, kind, start, room, tables)
+            let start = first.best(resources.alloc, &tabled, kind)?;
+            let mut search = Search::of(resources.alloc, leaf, nets, effort)?;
+            priced(
+                resources,
+                leaf,
+                &mut search,
+                round,
+                kind,
+                start,
+                room,
+                tables,
+            )
         }
     }
 }
@@ -210,7 +220,8 @@ pub fn improve(
     let mut nets = LentNets::new();
     let effort = &Effort::ROOT;
     let room = tables.left();
+    let resources = &Resources::endless(alloc);
     improve_leaf(
-        alloc, &leaf, &mut nets, round, inherited, effort, room, tables,
+        resources, &leaf, &mut nets, round, inherited, effort, room, tables,
     )
 }

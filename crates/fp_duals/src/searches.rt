@@ -7,6 +7,7 @@ use crate::starts::Start;
 use fp_allowed::ChainEnd;
 use fp_duals_nets::LentNets;
 use fp_duals_shares::{Ascent, Effort};
+use fp_ends::{Deadline, Resources};
 use fp_longestarcs::TimedWalk;
 use fp_prices::{Leaf, Table};
 use std::alloc::Global;
@@ -85,9 +86,9 @@ impl<'a> Search<'a> {
     }
 
     /// A table for a mode from the prices of a start, where one is sought and found.
-    pub(crate) fn table(
+    pub(crate) fn table<D: Deadline>(
         &mut self,
-        alloc: Global,
+        resources: &Resources<D>,
         tables: &[Table],
         start: Start,
         forced: bool,
@@ -96,7 +97,7 @@ impl<'a> Search<'a> {
         let effort = self.effort;
         match &mut self.ascent {
             Some(ascent) if effort.turns > 0 || effort.settle_passes > 0 => ascent.table(
-                alloc,
+                resources,
                 tables,
                 start.kind,
                 start.forced,

@@ -10,6 +10,7 @@ use crate::span_prices::SpanPrice;
 use crate::span_tests::are_sound;
 use fp_duals_nets::LentNets;
 use fp_duals_spans::{SpanEffort, StartPrices, proposed_spans};
+use fp_ends::{Deadline, Resources};
 use fp_prices::{Kind, Leaf, LeafBound};
 use fp_prices_spans::{Span, span_bound};
 use std::alloc::Global;
@@ -43,8 +44,8 @@ fn price_by(
 ///
 /// They are sought from some prices, over the nets of the leaf. What is found keeps both rules of spans, so no plan of the leaf costs less than it's worth by them.
 /// Nothing is promised of when spans are found. `NoMemory` only where no memory is found.
-pub(crate) fn better_spans(
-    alloc: Global,
+pub(crate) fn better_spans<D: Deadline>(
+    resources: &Resources<D>,
     leaf: &Leaf,
     nets: &mut LentNets,
     start: StartPrices,
@@ -57,10 +58,10 @@ pub(crate) fn better_spans(
         (IsBetterPrice leaf.now.setting.problem (windows_in leaf.now.setting.windows)
         (points_in leaf.now.setting.network) leaf.now.sides value)) }
 {
-    let model = nets.at(alloc, leaf)?;
-    let spans = proposed_spans(alloc, leaf, model, start, effort)?;
+    let model = nets.at(resources.alloc, leaf)?;
+    let spans = proposed_spans(resources, leaf, model, start, effort)?;
     if spans.is_empty() {
         return Ok(None);
     }
-    price_by(alloc, leaf, spans, value)
+    price_by(resources.alloc, leaf, spans, value)
 }

@@ -13,6 +13,7 @@ ghost use Rattle.fp_duals_leaves.specs.Pricing.{IsImprovedBy};
 use crate::NoMemory;
 use fp_duals::{Effort, Improved, Tables, improve_leaf};
 use fp_duals_nets::LentNets;
+use fp_ends::{Deadline, Resources};
 use fp_prices::{Kind, Leaf, LeafPrice, Table};
 use fp_prices_spans::{Span, TableSpans, spans_beside};
 use std::alloc::Global;
@@ -163,9 +164,9 @@ impl Prices {
 
     /// Improves a leaf's price by tables alone. A table that comes has no spans beside it, and no more
     /// price lines than are left.
-    pub(crate) fn improve(
+    pub(crate) fn improve<D: Deadline>(
         &mut self,
-        alloc: Global,
+        resources: &Resources<D>,
         leaf: &Leaf,
         nets: &mut LentNets,
         round: u32,
@@ -183,11 +184,11 @@ impl Prices {
         let plain = self.without_spans(inherited);
         let room = self.left();
         let tables = &mut self.tables;
-        let improved = improve_leaf(alloc, leaf, nets, round, plain, effort, room, tables)?;
+        let improved = improve_leaf(resources, leaf, nets, round, plain, effort, room, tables)?;
         if self.tables.list().len() <= self.spans.len() {
             return Ok(improved);
         }
-        let spans = Vec::new(alloc);
+        let spans = Vec::new(resources.alloc);
         if let Err(error) = self.spans.push(TableSpans { spans }) {
             self.tables.cut(count);
             return Err(error.into());

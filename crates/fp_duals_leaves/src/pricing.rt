@@ -13,6 +13,7 @@ use crate::prices::Prices;
 use fp_duals::Improved;
 use fp_duals_nets::LentNets;
 use fp_duals_spans::{SpanEffort, StartPrices};
+use fp_ends::{Deadline, Resources};
 use fp_prices::{Kind, Leaf, LeafBound, LeafPrice};
 use fp_prices_spans::span_bound;
 use std::alloc::Global;
@@ -61,8 +62,8 @@ fn by_inherited(
 // What a leaf is worth, as of the same round, by spans that are sought from a price, where such are
 // found and there is room for them.
 #[tactic(auto, using(crate::proofs::GrownPrices::HaveGrown_none))]
-fn by_spans(
-    alloc: Global,
+fn by_spans<D: Deadline>(
+    resources: &Resources<D>,
     leaf: &Leaf,
     nets: &mut LentNets,
     effort: &SpanEffort,
@@ -84,12 +85,12 @@ fn by_spans(
         forced,
         spans: prices.spans_beside(kind),
     };
-    let found = better_spans(alloc, leaf, nets, start, first.value, effort)?;
+    let found = better_spans(resources, leaf, nets, start, first.value, effort)?;
     let Some(found) = found else {
         return Ok(first);
     };
     let id = prices.count() + 1;
-    if !prices.push_spans(alloc, found.spans)? {
+    if !prices.push_spans(resources.alloc, found.spans)? {
         return Ok(first);
     }
     Ok(Worth {
@@ -105,8 +106,8 @@ fn by_spans(
 // What a leaf is worth, as of the same round, by spans, where that is more: by those that it inherits, or by
 // others that are sought.
 #[tactic(auto, using(crate::proofs::GrownPrices::HaveGrown_none))]
-fn spanned(
-    alloc: Global,
+fn spanned<D: Deadline>(
+    resources: &Resources<D>,
     leaf: &Leaf,
     nets: &mut LentNets,
     inherited: LeafPrice,
@@ -125,16 +126,16 @@ fn spanned(
     if prices.unit().is_none() {
         return Ok(first);
     }
-    let worth = by_inherited(alloc, leaf, inherited, first, prices)?;
+    let worth = by_inherited(resources.alloc, leaf, inherited, first, prices)?;
     match &effort.spans {
-        Some(effort) => by_spans(alloc, leaf, nets, effort, worth, prices),
+        Some(effort) => by_spans(resources, leaf, nets, effort, worth, prices),
         None => Ok(worth),
     }
 }
 
 // A price of a leaf as of a round, as `improve` has it; without memory the prices may have grown.
-fn improve_further(
-    alloc: Global,
+fn improve_further<D: Deadline>(
+    resources: &Resources<D>,
     leaf: &Leaf,
     nets: &mut LentNets,
     round: u32,
@@ -149,7 +150,7 @@ fn improve_further(
         (IsImprovedBy leaf.now.setting.problem (windows_in leaf.now.setting.windows)
         (points_in leaf.now.setting.network) leaf.now.sides prices.new round) }
 {
-    match prices.improve(alloc, leaf, nets, round, inherited, &effort.tables)? {
+    match prices.improve(resources, leaf, nets, round, inherited, &effort.tables)? {
         Improved::Empty { shipment } => Ok(Improved::Empty { shipment }),
         Improved::Priced {
             price,
@@ -157,7 +158,7 @@ fn improve_further(
             walks,
         } => {
             let first = Worth { price, value };
-            let worth = spanned(alloc, leaf, nets, inherited, effort, first, prices)?;
+            let worth = spanned(resources, leaf, nets, inherited, effort, first, prices)?;
             Ok(Improved::Priced {
                 price: worth.price,
                 value: worth.value,
@@ -175,8 +176,8 @@ fn improve_further(
 /// worth by it in parts of a unit of money, and an allowed walk of each shipment. The prices grow by
 /// at most two tables. `NoMemory` only where no memory is found; then they are as before.
 #[tactic(auto, using(crate::proofs::GrownPrices::HaveGrown_none))]
-pub fn improve(
-    alloc: Global,
+pub fn improve<D: Deadline>(
+    resources: &Resources<D>,
     leaf: &Leaf,
     nets: &mut LentNets,
     round: u32,
@@ -193,7 +194,7 @@ pub fn improve(
     ensures err { OnErr result (prices.new ≡ prices.old) }
 {
     let count = prices.count();
-    match improve_further(alloc, leaf, nets, round, inherited, effort, prices) {
+    match improve_further(resources, leaf, nets, round, inherited, effort, prices) {
         Ok(improved) => Ok(improved),
         Err(error) => {
             prices.cut(count);

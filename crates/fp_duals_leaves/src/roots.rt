@@ -14,11 +14,11 @@ use crate::prices::Prices;
 use crate::pricing::improve;
 use fp_duals::Improved;
 use fp_duals_nets::LentNets;
+use fp_ends::{Deadline, Resources};
 use fp_flatnet::Windows;
 use fp_longestarcs::Network;
 use fp_model::Instance;
 use fp_prices::{Kind, Leaf, LeafPrice, RoundNetwork};
-use std::alloc::Global;
 
 // Linear prices as of round 0.
 const LINEAR: LeafPrice = LeafPrice {
@@ -33,8 +33,8 @@ const LINEAR: LeafPrice = LeafPrice {
 /// The windows belong to the instance, for which the network is whole; it has at most
 /// [`MOST_POINTS`](fp_timenodes::MOST_POINTS) points. `NoMemory` only where no memory is found.
 #[tactic(auto, using(crate::proofs::GrownPrices::HaveGrown_none))]
-pub fn improve_root(
-    alloc: Global,
+pub fn improve_root<D: Deadline>(
+    resources: &Resources<D>,
     instance: &Instance,
     windows: &Windows,
     network: Network,
@@ -49,8 +49,8 @@ pub fn improve_root(
     ensures improved { IfOk result
         (IsImprovedBy instance.now (windows_in windows.now) (points_in network) [] prices.new 0) }
 {
-    let round = RoundNetwork::over(alloc, instance, network)?;
-    let leaf = Leaf::of(alloc, &round, windows, &[])?;
+    let round = RoundNetwork::over(resources.alloc, instance, network)?;
+    let leaf = Leaf::of(resources.alloc, &round, windows, &[])?;
     let mut nets = LentNets::new();
-    improve(alloc, &leaf, &mut nets, 0, LINEAR, effort, prices)
+    improve(resources, &leaf, &mut nets, 0, LINEAR, effort, prices)
 }

@@ -10,6 +10,7 @@ use crate::subgradients::ascend;
 use fp_duals_nets::{
     LeafNets, LoadCosts, SharedWalks, class_users, least_walks, loads_where, timed_walks,
 };
+use fp_ends::{Deadline, Resources};
 use fp_longestarcs::TimedWalk;
 use fp_prices::{Kind, Leaf, Table};
 use std::alloc::Global;
@@ -80,9 +81,9 @@ impl<'a> Ascent<'a> {
     ///
     /// One search over each net for each turn of the effort. Takes memory that grows with the
     /// edges of the nets.
-    pub fn table(
+    pub fn table<D: Deadline>(
         &mut self,
-        alloc: Global,
+        resources: &Resources<D>,
         tables: &[Table],
         kind: Kind,
         start_forced: bool,
@@ -98,21 +99,21 @@ impl<'a> Ascent<'a> {
             kind,
             forced: start_forced,
         };
-        let mut pools = self.pools(alloc, &prices, forced)?;
+        let mut pools = self.pools(resources.alloc, &prices, forced)?;
         let model = &mut *self.model;
         if effort.turns > 0 {
-            ascend(alloc, &mut model.nets, &mut pools, base, effort)?;
+            ascend(resources, &mut model.nets, &mut pools, base, effort)?;
         }
         if effort.settle_passes > 0 {
-            settle(alloc, &mut pools, &mut model.nets, effort.settle_passes)?;
+            settle(resources, &mut pools, &mut model.nets, effort.settle_passes)?;
         }
         let shared = effort.share_passes > 0;
-        pools.trim(alloc, &mut model.nets, shared)?;
+        pools.trim(resources.alloc, &mut model.nets, shared)?;
         if shared {
-            self.keep_walks(alloc, &mut pools, effort)?;
+            self.keep_walks(resources.alloc, &mut pools, effort)?;
         }
         let model = &*self.model;
-        pools.table(alloc, &model.classes, model.unit, lines)
+        pools.table(resources.alloc, &model.classes, model.unit, lines)
     }
 
     /// For each shipment a walk of least cost at the prices of a kind, which may name one of the

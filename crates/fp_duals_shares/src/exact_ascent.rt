@@ -5,7 +5,7 @@ use crate::NoMemory;
 use crate::pools::{Pool, Pools};
 use fp_duals_ascent::{find_all_needs, find_needs};
 use fp_duals_nets::{EdgeUse, Net, Nets, part_mut};
-use std::alloc::Global;
+use fp_ends::{Deadline, Resources};
 
 // Raises the costs of a net's edges by what is left in each class.
 fn offer(nets: &mut Nets, net: &Net, pools: &[Pool]) {
@@ -62,13 +62,13 @@ fn pass(pools: &mut Pools, nets: &mut Nets, needs: &mut [u64]) -> u64 {
 
 /// At most so many passes of the ascent in which no least cost falls; it ends before where a pass
 /// gains nothing.
-pub(crate) fn settle(
-    alloc: Global,
+pub(crate) fn settle<D: Deadline>(
+    resources: &Resources<D>,
     pools: &mut Pools,
     nets: &mut Nets,
     passes: u32,
 ) -> Result<(), NoMemory> {
-    let mut needs = vec![in alloc; 0u64; nets.edges.len()]?;
+    let mut needs = vec![in resources.alloc; 0u64; nets.edges.len()]?;
     pools.set_costs(nets);
     find_all_needs(nets, &mut needs);
     pools.fit(&needs, true);
@@ -76,7 +76,7 @@ pub(crate) fn settle(
     let mut known = 0;
     for _ in 0..passes {
         let sum = pass(pools, nets, &mut needs);
-        if sum <= known {
+        if sum <= known || resources.is_over() {
             break;
         }
         known = sum;

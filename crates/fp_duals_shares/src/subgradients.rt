@@ -7,6 +7,7 @@ use crate::pools::{Payer, Pool, Pools, WHOLE, parts_of, set_pool_costs};
 use crate::projection::project;
 use fp_duals_ascent::{Target, Way, rate};
 use fp_duals_nets::{Edge, EdgeUse, Net, Nets, copy_all, last_edge, part_mut};
+use fp_ends::{Deadline, Resources};
 use std::alloc::Global;
 
 // The walks' use of each part, as an average over the turns that gives the newest the most weight.
@@ -192,16 +193,16 @@ impl Climb {
 }
 
 /// Moves the prices of the pools to better ones, where the bases of the mode come to `base`.
-pub(crate) fn ascend(
-    alloc: Global,
+pub(crate) fn ascend<D: Deadline>(
+    resources: &Resources<D>,
     nets: &mut Nets,
     pools: &mut Pools,
     base: u64,
     effort: &Effort,
 ) -> Result<(), NoMemory> {
-    let mut climb = Climb::of(alloc, nets, pools, base, effort)?;
+    let mut climb = Climb::of(resources.alloc, nets, pools, base, effort)?;
     for _ in 0..effort.turns {
-        if !climb.turn(nets, pools) {
+        if !climb.turn(nets, pools) || resources.is_over() {
             break;
         }
     }

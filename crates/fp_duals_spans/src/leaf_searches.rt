@@ -10,6 +10,7 @@ use crate::searches::Search;
 use crate::starts::Start;
 use fp_duals_layouts::{Layout, SpanPrices};
 use fp_duals_nets::{LeafNets, LoadCosts, least_walks, loads_where, timed_walks};
+use fp_ends::{Deadline, Resources};
 use fp_longestarcs::TimedWalk;
 use fp_prices::{Kind, Leaf, Table};
 use fp_prices_spans::Span;
@@ -85,8 +86,8 @@ pub fn proposed_walks(
 ///
 /// One search over each net for each turn of the effort, and one over the sets of each span
 /// whose prices move. Takes memory that grows with the edges of the nets.
-pub fn proposed_spans(
-    alloc: Global,
+pub fn proposed_spans<D: Deadline>(
+    resources: &Resources<D>,
     leaf: &Leaf,
     model: &mut LeafNets,
     start: StartPrices,
@@ -96,11 +97,11 @@ pub fn proposed_spans(
     requires kind { HasKind start.tables.now start.kind }
     ensures { OnErr result (model.new ≡ model.old) }
 {
-    let Laid { layout, prices } = lay(alloc, leaf, model, start)?;
+    let Laid { layout, prices } = lay(resources.alloc, leaf, model, start)?;
     let search = Search {
         layout,
         prices,
         effort,
     };
-    search.best_spans(alloc, model)
+    search.best_spans(resources, model)
 }

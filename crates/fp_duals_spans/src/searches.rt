@@ -11,6 +11,7 @@ use crate::proposals::Proposal;
 use crate::separation::separate;
 use fp_duals_layouts::{Layout, Run, SpanPrices};
 use fp_duals_nets::{LeafNets, Nets};
+use fp_ends::{Deadline, Resources};
 use fp_prices_spans::Span;
 use std::alloc::Global;
 
@@ -54,18 +55,32 @@ fn proposed(
 
 impl<'a> Search<'a> {
     // Spans by prices near those that the ascent came to, which stay.
-    fn settled(&self, alloc: Global, model: &mut LeafNets) -> Result<Found, NoMemory> {
-        let mut prices = self.prices.copied(alloc)?;
+    fn settled<D: Deadline>(
+        &self,
+        resources: &Resources<D>,
+        model: &mut LeafNets,
+    ) -> Result<Found, NoMemory> {
+        let mut prices = self.prices.copied(resources.alloc)?;
         let passes = self.effort.settle_passes;
-        let value = settle(alloc, &self.layout, &mut model.nets, &mut prices, passes)?;
-        let spans = proposed(alloc, model, &self.layout, &prices)?;
+        let value = settle(
+            resources,
+            &self.layout,
+            &mut model.nets,
+            &mut prices,
+            passes,
+        )?;
+        let spans = proposed(resources.alloc, model, &self.layout, &prices)?;
         Ok(Found { value, spans })
     }
 
     // The ascent; what it came to over all turns.
-    fn ascend(&mut self, alloc: Global, model: &mut LeafNets) -> Result<Averages, NoMemory> {
+    fn ascend<D: Deadline>(
+        &mut self,
+        resources: &Resources<D>,
+        model: &mut LeafNets,
+    ) -> Result<Averages, NoMemory> {
         ascend(
-            alloc,
+            resources,
             &self.layout,
             &mut model.nets,
             &mut self.prices,
@@ -96,23 +111,26 @@ impl<'a> Search<'a> {
     }
 
     /// The best spans that are found.
-    pub(crate) fn best_spans(
+    pub(crate) fn best_spans<D: Deadline>(
         self,
-        alloc: Global,
+        resources: &Resources<D>,
         model: &mut LeafNets,
     ) -> Result<Vec<Span>, NoMemory> {
         let mut search = self;
-        let mut averages = search.ascend(alloc, model)?;
-        let mut best = search.settled(alloc, model)?;
+        let mut averages = search.ascend(resources, model)?;
+        let mut best = search.settled(resources, model)?;
         let mut before = best.value;
         for _ in 0..search.effort.joins {
-            let runs = search.runs(alloc, &model.nets, &averages)?;
+            if resources.is_over() {
+                break;
+            }
+            let runs = search.runs(resources.alloc, &model.nets, &averages)?;
             if runs.is_empty() {
                 break;
             }
-            search = search.join(alloc, &model.nets, &runs)?;
-            averages = search.ascend(alloc, model)?;
-            let found = search.settled(alloc, model)?;
+            search = search.join(resources.alloc, &model.nets, &runs)?;
+            averages = search.ascend(resources, model)?;
+            let found = search.settled(resources, model)?;
             let last = is_little_more(found.value, before);
             before = found.value;
             if found.value > best.value {

@@ -7,9 +7,9 @@ use crate::allowed_walks::are_allowed_walks;
 use crate::exchanges::{Found, improved};
 use crate::starts::start;
 use fp_duals_nets::{LeafNets, LentNets, LoadCosts, timed_walks};
+use fp_ends::{Deadline, Resources};
 use fp_longestarcs::TimedWalk;
 use fp_prices::Leaf;
-use std::alloc::Global;
 
 // The cheaper one of what was found before and now.
 fn cheaper(before: Option<Found>, now: Found) -> Found {
@@ -20,8 +20,8 @@ fn cheaper(before: Option<Found>, now: Found) -> Found {
 }
 
 // The best walks that a search from each of the starts finds, in so many turns each.
-fn best_walks(
-    alloc: Global,
+fn best_walks<D: Deadline>(
+    resources: &Resources<D>,
     leaf: &Leaf,
     model: &LeafNets,
     starts: &[&[TimedWalk]],
@@ -30,12 +30,12 @@ fn best_walks(
     let costs = LoadCosts::of(model);
     let mut best: Option<Found> = None;
     for given in starts {
-        let (shared, cost) = start(alloc, leaf, model, *given)?;
-        let found = improved(alloc, costs, shared, cost, turns)?;
+        let (shared, cost) = start(resources.alloc, leaf, model, *given)?;
+        let found = improved(resources, costs, shared, cost, turns)?;
         best = Some(cheaper(best, found));
     }
     match best {
-        Some(found) => Ok(Some(timed_walks(alloc, &costs, &found.walks)?)),
+        Some(found) => Ok(Some(timed_walks(resources.alloc, &costs, &found.walks)?)),
         None => Ok(None),
     }
 }
@@ -49,8 +49,8 @@ fn best_walks(
 /// walk. Equal starts and turns give equal walks. `NoMemory` only where no memory is found; then the
 /// nets are as before, as far as contracts see them. Takes for each turn a few passes over the edges
 /// of at most five nets.
-pub fn cheap_walks(
-    alloc: Global,
+pub fn cheap_walks<D: Deadline>(
+    resources: &Resources<D>,
     leaf: &Leaf,
     nets: &mut LentNets,
     starts: &[&[TimedWalk]],
@@ -59,8 +59,8 @@ pub fn cheap_walks(
     ensures walks { IfOk result (λ found. IfSome found (λ walks. AreAllowedWalks leaf.now walks.items)) }
     ensures err { OnErr result (nets.new ≡ nets.old) }
 {
-    let model = nets.at(alloc, leaf)?;
-    match best_walks(alloc, leaf, model, starts, turns)? {
+    let model = nets.at(resources.alloc, leaf)?;
+    match best_walks(resources, leaf, model, starts, turns)? {
         Some(walks) => {
             if are_allowed_walks(leaf, &walks) {
                 Ok(Some(walks))

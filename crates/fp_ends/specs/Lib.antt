@@ -1,4 +1,5 @@
 pub mod Causes
+pub mod Deadlines
 pub mod Memory
 pub mod Moves
 pub mod Standard

@@ -2,19 +2,27 @@
 //! A source or sink counts its faults, so that a caller can trace each failure to one of them.
 #![tactic(auto)]
 
+mod clock;
+mod clocks;
 mod copying;
+mod deadline;
 mod memory_sink;
 mod memory_source;
 mod reading;
+mod resources;
 mod sink;
 mod source;
 mod standard;
 mod sure;
 mod writing;
 
+pub use clock::Clock;
+pub use clocks::{MemClock, StdClock, StillClock};
+pub use deadline::{ClockDeadline, Deadline, NoDeadline, PartDeadline, have_passed};
 pub use memory_sink::MemSink;
 pub use memory_source::MemSource;
 pub use reading::{ReadEnd, read_all};
+pub use resources::Resources;
 pub use sink::Sink;
 pub use source::{Failed, Source};
 pub use standard::{StdSink, StdSource};

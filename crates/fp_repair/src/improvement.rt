@@ -6,10 +6,10 @@ ghost use Rattle.fp_repair.specs.Candidates.{IsCandidate, IsPlanWithin};
 
 use crate::NoMemory;
 use crate::candidates::{Candidate, Starts, cheaper};
+use fp_ends::{Deadline, Resources};
 use fp_flatnet::Windows;
 use fp_model::{Instance, Plan};
 use fp_repair_search::{Search, local_search};
-use std::alloc::Global;
 
 // The search begins once the plan in hand is at most this part of the relaxed cost above it. Before
 // that more points of time raise the relaxed cost at little expense, and a cheap plan that comes
@@ -49,8 +49,8 @@ fn searches_for(instance: &Instance) -> Searches {
 }
 
 // The cheapest of a candidate and what searches from a plan find.
-fn cheapest_found(
-    alloc: Global,
+fn cheapest_found<D: Deadline>(
+    resources: &Resources<D>,
     instance: &Instance,
     windows: &Windows,
     in_hand: Candidate,
@@ -71,8 +71,8 @@ fn cheapest_found(
             turns,
             loose: *loose,
         };
-        let found = local_search(alloc, instance, windows, start, search)?;
-        best = cheaper(alloc, instance, windows, best, found)?;
+        let found = local_search(resources, instance, windows, start, search)?;
+        best = cheaper(resources.alloc, instance, windows, best, found)?;
     }
     Ok(best)
 }
@@ -80,8 +80,8 @@ fn cheapest_found(
 // A candidate that costs no more than the cheapest plan so far: what local searches from the plans
 // find, once that is near the cost of the relaxed plan. The seeds come from that cost, so a call
 // repeats.
-pub(crate) fn improvement(
-    alloc: Global,
+pub(crate) fn improvement<D: Deadline>(
+    resources: &Resources<D>,
     instance: &Instance,
     windows: &Windows,
     starts: Starts,
@@ -98,10 +98,10 @@ pub(crate) fn improvement(
         return Ok(cheapest);
     }
     let seed = (relaxed_cost % (1 << 64)) as u64;
-    let start = cheapest.plan.copy(alloc)?;
-    let best = cheapest_found(alloc, instance, windows, cheapest, &start, seed)?;
+    let start = cheapest.plan.copy(resources.alloc)?;
+    let best = cheapest_found(resources, instance, windows, cheapest, &start, seed)?;
     match grouped {
-        Some(plan) => cheapest_found(alloc, instance, windows, best, &plan, seed),
+        Some(plan) => cheapest_found(resources, instance, windows, best, &plan, seed),
         None => Ok(best),
     }
 }

@@ -14,7 +14,7 @@ mod improvement;
 mod repairs;
 mod timings;
 
-pub use repairs::{Repaired, repair};
+pub use repairs::{Repaired, repair, repair_within};
 
 /// The error of a call that finds no memory.
 pub type NoMemory = std::alloc::AllocError;

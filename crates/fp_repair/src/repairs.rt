@@ -19,6 +19,7 @@ use crate::candidates::starting_plans;
 use crate::class_costs::classes_cost;
 use crate::improvement::improvement;
 use crate::timings::least_times;
+use fp_ends::{Deadline, Resources};
 use fp_flatnet::Windows;
 use fp_model::{Instance, Plan};
 use fp_relaxmodel::{RelaxedPlan, groups};
@@ -71,13 +72,45 @@ pub fn repair(
         IsEarliest instance.now (windows_in windows.now) (arc_lists relaxed.now) kept legs →
         cost instance.now r.plan ≤ cost instance.now legs) }
 {
-    let routes = relaxed.arcs(alloc)?;
-    let groups = groups(alloc, relaxed)?;
+    let resources = &Resources::endless(alloc);
+    repair_within(resources, instance, windows, relaxed, incumbent)
+}
+
+/// The same in the time that there is: where it is over the local searches end with what they have.
+pub fn repair_within<D: Deadline>(
+    resources: &Resources<D>,
+    instance: &Instance,
+    windows: &Windows,
+    relaxed: &RelaxedPlan,
+    incumbent: &Plan,
+) -> Result<Repaired, NoMemory>
+    requires belongs { BelongsTo instance.now windows.now }
+    requires relaxed { HasRoutes instance.now relaxed.now }
+    requires incumbent { IsPlan instance.now 1 incumbent.now }
+    requires within { PlanLiesWithin (windows_in windows.now) 1 incumbent.now }
+    ensures plan { IfOk result (λ r. IsPlan instance.now 1 r.plan) }
+    ensures within { IfOk result (λ r. PlanLiesWithin (windows_in windows.now) 1 r.plan) }
+    ensures cheaper { IfOk result (λ r. cost instance.now r.plan ≤ cost instance.now incumbent.now) }
+    ensures timed { IfOk result (λ r. (groups : List (List Member)) → AreGroups relaxed.now groups →
+        (IsTrue r.timed ↔ HaveTimes instance.now (windows_in windows.now) (arc_lists relaxed.now) groups)) }
+    ensures together { IfOk result
+        (λ r. IsTrue r.timed → cost instance.now r.plan ≤ cost instance.now relaxed.now) }
+    ensures apart { IfOk result (λ r. (legs : List (List Leg)) →
+        IsEarliest instance.now (windows_in windows.now) (arc_lists relaxed.now) [] legs →
+        cost instance.now r.plan ≤ cost instance.now legs) }
+    ensures kept { IfOk result (λ r. (groups kept : List (List Member)) (legs : List (List Leg)) →
+        AreGroups relaxed.now groups →
+        AreKeptGroups instance.now (windows_in windows.now) (arc_lists relaxed.now) groups kept →
+        IsEarliest instance.now (windows_in windows.now) (arc_lists relaxed.now) kept legs →
+        cost instance.now r.plan ≤ cost instance.now legs) }
+{
+    let routes = relaxed.arcs(resources.alloc)?;
+    let groups = groups(resources.alloc, relaxed)?;
     let relaxed_cost = classes_cost(instance, &routes, &groups);
-    let timings = least_times(alloc, instance, windows, &routes, groups)?;
+    let timings = least_times(resources.alloc, instance, windows, &routes, groups)?;
     let timed = timings.timed;
-    let starts = starting_plans(alloc, instance, windows, incumbent, timings)?;
-    let best = improvement(alloc, instance, windows, starts, relaxed_cost)?;
+    let starts = starting_plans(resources.alloc, instance, windows, incumbent, timings)?;
+    let best = improvement(resources, instance, windows, starts, relaxed_cost)?;
     Ok(Repaired {
         plan: best.plan,
         timed,

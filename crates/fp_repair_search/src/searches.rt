@@ -10,6 +10,7 @@ ghost use Rattle.fp_flatnet.specs.Windows.{PlanLiesWithin};
 use crate::NoMemory;
 use crate::acceptance::is_no_dearer;
 use crate::turns::Turns;
+use fp_ends::{Deadline, Resources};
 use fp_flatnet::Windows;
 use fp_model::{Instance, Leg, Plan};
 use fp_repair_groups::{Group, GroupedLeg, Solution, UsableArcs, all_usable_arcs, solution_of};
@@ -31,8 +32,8 @@ pub struct Search {
 /// In each turn some shipments are taken out and put back one after the other, each on the path
 /// that adds least to the cost, alone or together with others. The draws are a function of the
 /// arguments, so a call repeats. `NoMemory` only where no memory is found.
-pub fn local_search(
-    alloc: Global,
+pub fn local_search<D: Deadline>(
+    resources: &Resources<D>,
     instance: &Instance,
     windows: &Windows,
     start: &Plan,
@@ -45,31 +46,34 @@ pub fn local_search(
     ensures within { IfOk result (λ r. PlanLiesWithin (windows_in windows.now) 1 r) }
     ensures cheaper { IfOk result (λ r. cost_of instance.now r ≤ cost_of instance.now start.now) }
 {
-    let usable = all_usable_arcs(alloc, instance, windows)?;
-    let found = found_plan(alloc, instance, usable, start, search)?;
-    if is_no_dearer(alloc, instance, windows, &found, start)? {
+    let usable = all_usable_arcs(resources.alloc, instance, windows)?;
+    let found = found_plan(resources, instance, usable, start, search)?;
+    if is_no_dearer(resources.alloc, instance, windows, &found, start)? {
         return Ok(found);
     }
-    start.copy(alloc)
+    start.copy(resources.alloc)
 }
 
 // What the search finds over the arcs that each shipment may use. It need not be a plan.
-fn found_plan(
-    alloc: Global,
+fn found_plan<D: Deadline>(
+    resources: &Resources<D>,
     instance: &Instance,
     usable: Vec<UsableArcs>,
     start: &Plan,
     search: Search,
 ) -> Result<Plan, NoMemory> {
-    let solution = solution_of(alloc, instance, &usable, start)?;
-    let mut turns = Turns::new(alloc, instance, usable, solution, search.seed)?;
+    let solution = solution_of(resources.alloc, instance, &usable, start)?;
+    let mut turns = Turns::new(resources.alloc, instance, usable, solution, search.seed)?;
     for turn in 0..search.turns {
+        if resources.is_over() {
+            break;
+        }
         let left = u128::from(search.turns.saturating_sub(turn));
         let loose = u128::from(search.loose).saturating_mul(left);
         let loose = loose.checked_div(u128::from(search.turns)).unwrap_or(0);
         turns.turn(instance, loose)?;
     }
-    best_plan(alloc, turns)
+    best_plan(resources.alloc, turns)
 }
 
 // The plan in which the groups of the best state leave as early as they can.

@@ -1,21 +1,21 @@
 -- What a search knows after a step's parts: of an open leaf something is kept, and it is closed,
 -- divided, or left.
 use Rattle.std.proofs.Common.{◌≡◌, ℕ, zero, suc, ◌+◌, ◌<◌, false, List, [], ◌∷◌, Result, Ok, Err, refl, sym, ap, ◌∙◌, subst, arith}
-use Rattle.std.specs.Prelude.{IsSomeAnd, None, OnErr, OnOk, Option, Some, slice_get}
+use Rattle.std.specs.Prelude.{⊤, IsSomeAnd, None, OnErr, OnOk, Option, Some, slice_get}
 use Rattle.std.proofs.lemmas.Option.{none-some, same_Some}
 use Rattle.fp_tree.specs.Nodes.{Node, close_leaf, closed_of, divide_leaf, fork_of, leaf_at, open_leaf, put_leaf, split_count}
 use Rattle.fp_tree.specs.Trees.{Leaf, tree_leaves, with_leaf}
 use Rattle.fp_tree.proofs.LeafChange.{leaves_of-with_leaf, with_element}
 use Rattle.fp_duals_leaves.specs.Prices.{PriceLists}
 use Rattle.fp_session_history.specs.declared.endings.Left.{Left}
-use Rattle.fp_session_history.specs.declared.endings.Left.TheVariants.{Nothing, Several, Timing}
+use Rattle.fp_session_history.specs.declared.endings.Left.TheVariants.{Nothing, Several, Timing, Unsettled}
 use Rattle.fp_session_history.specs.PrintedLeaves.{IsOpenBelow}
 use Rattle.fp_session_history.specs.Solutions.{AreWalksUnder, HasSeveral}
 use Rattle.fp_session.specs.declared.kept.Kept.{Kept}
 use Rattle.fp_session.specs.declared.moves.Division.{Division}
 use Rattle.fp_session.specs.declared.payloads.Payload.{Payload}
 use Rattle.fp_session.specs.declared.searches.Search.{Search}
-use Rattle.fp_session.specs.Moves.{AtOpenLeaf, IsDivision, IsLeftAt, IsUnsettled, fork_in, points_now}
+use Rattle.fp_session.specs.Moves.{AtOpenLeaf, IsDivision, IsStopAt, IsUnsettled, fork_in, points_now}
 use Rattle.fp_session.specs.Nodes.{IsEarnedAs, IsKept, IsSettled}
 use Rattle.fp_session.specs.Searches.{IsLeft, IsSearch, history}
 use Rattle.fp_session_history.specs.Notes.{worth_of}
@@ -108,7 +108,7 @@ module _ (s : Search) (prices : PriceLists) (is : IsSearch s prices) (going : s.
 
   -- or the search ends with what is left there
   pub stop-applied : (kept : Kept) (left : Left) (nodes : List (Node Payload)) → AtOpenLeaf s.tree k (λ l. IsKept (history s prices) l.sides kept.payload kept.value) →
-      AtOpenLeaf s.tree k (λ l. IsUnsettled (history s prices) s.cost l.sides kept) → AtOpenLeaf s.tree k (λ l. IsLeftAt s k l.sides left) →
+      AtOpenLeaf s.tree k (λ l. IsUnsettled (history s prices) s.cost l.sides kept) → AtOpenLeaf s.tree k (λ l. IsStopAt s k l.sides left) →
       nodes ≡ with_leaf fork_of (put_leaf kept.payload kept.value) k s.tree → split_count nodes ≡ split_count s.tree → IsSearch (record s { tree = nodes; left = Some left }) prices
   stop-applied kept left nodes keeps unsettled lefts changed count =
       IsSearch-stop (record s { tree = nodes }) prices (put-applied kept.payload kept.value nodes keeps changed count) going left (why left lefts)
@@ -143,10 +143,10 @@ module _ (s : Search) (prices : PriceLists) (is : IsSearch s prices) (going : s.
       here : (n : ℕ) → n ≡ k → (P : Leaf (Node Payload) → Type 0) → P now → IsSomeAnd (leaf_at nodes n) P
       here n own P holds = subst (λ (o : Option (Leaf (Node Payload))). IsSomeAnd o P) (sym (ap (leaf_at nodes) own ∙ at)) holds
 
-      why : (what : Left) → AtOpenLeaf s.tree k (λ m. IsLeftAt s k m.sides what) → IsLeft (record s { tree = nodes }) prices what
-      why Nothing all = absurd (of-value (leaf_at s.tree k) l (λ (m : Leaf (Node Payload)). (closed_of m.node ≡ false) × IsLeftAt s k m.sides Nothing) keepsat.1 all).1
+      why : (what : Left) → AtOpenLeaf s.tree k (λ m. IsStopAt s k m.sides what) → IsLeft (record s { tree = nodes }) prices what
+      why Nothing all = absurd (of-value (leaf_at s.tree k) l (λ (m : Leaf (Node Payload)). (closed_of m.node ≡ false) × IsStopAt s k m.sides Nothing) keepsat.1 all).1
       why (Timing leaf relaxed) all =
-          let own = (of-value (leaf_at s.tree k) l (λ (m : Leaf (Node Payload)). (closed_of m.node ≡ false) × IsLeftAt s k m.sides (Timing leaf relaxed)) keepsat.1 all).1 in (
+          let own = (of-value (leaf_at s.tree k) l (λ (m : Leaf (Node Payload)). (closed_of m.node ≡ false) × IsStopAt s k m.sides (Timing leaf relaxed)) keepsat.1 all).1 in (
             own.1.spent,
             own.1.clashes,
             record {
@@ -155,10 +155,16 @@ module _ (s : Search) (prices : PriceLists) (is : IsSearch s prices) (going : s.
             },
           )
       why (Several leaf shipment) all =
-          let own = (of-value (leaf_at s.tree k) l (λ (m : Leaf (Node Payload)). (closed_of m.node ≡ false) × IsLeftAt s k m.sides (Several leaf shipment)) keepsat.1 all).1 in (
+          let own = (of-value (leaf_at s.tree k) l (λ (m : Leaf (Node Payload)). (closed_of m.node ≡ false) × IsStopAt s k m.sides (Several leaf shipment)) keepsat.1 all).1 in (
             omega (arith, count, own.1.spent),
             record {
               open_at = here leaf own.0 (λ m. IsOpenBelow (history s prices) s.cost m.sides m.node.payload.price) below;
               holds = here leaf own.0 (λ m. HasSeveral s.instance s.windows (points_now s) m.sides shipment) own.1.several;
             },
           )
+      why (Unsettled leaf) all =
+          let own = (of-value (leaf_at s.tree k) l (λ (m : Leaf (Node Payload)). (closed_of m.node ≡ false) × IsStopAt s k m.sides (Unsettled leaf)) keepsat.1 all).1 in
+          record {
+            open_at = here leaf own (λ m. IsOpenBelow (history s prices) s.cost m.sides m.node.payload.price) below;
+            holds = here leaf own (λ m. ⊤) tt;
+          }

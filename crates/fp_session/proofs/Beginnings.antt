@@ -1,10 +1,9 @@
 -- What a search knows before its first step.
-use Rattle.std.proofs.Common.{◌≡◌, ℕ, List, [], subst, arith}
+use Rattle.std.proofs.Common.{◌≡◌, ℕ, List, [], subst}
 use Rattle.fp_model.specs.declared.parts.Leg.{Leg}
 use Rattle.fp_model.specs.Problem.{IsValid, Problem}
 use Rattle.fp_flatnet.specs.Tables.{WindowTable}
 use Rattle.fp_longestarcs.specs.Networks.{TimedNetwork, points_in}
-use Rattle.fp_tree.specs.Nodes.{closed_of, value_of}
 use Rattle.fp_allowed.specs.SamePoints.{AgreeOnPoints}
 use Rattle.fp_allowed.specs.Settings.{Setting}
 use Rattle.fp_prices.specs.declared.leaf_prices.LeafPrice.{LeafPrice}

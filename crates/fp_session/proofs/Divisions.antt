@@ -1,5 +1,5 @@
 -- A split that was chosen divides a leaf.
-use Rattle.std.proofs.Common.{◌≡◌, ℕ, ◌<◌, List, [], ◌∷◌, ◌++◌, length, refl, sym, ap, ◌∙◌, subst, arith}
+use Rattle.std.proofs.Common.{ℕ, ◌<◌, List, length, refl, sym, subst, arith}
 use Rattle.std.specs.Prelude.{Option}
 use Rattle.fp_model.specs.Problem.{Problem}
 use Rattle.fp_relaxmodel.proofs.MetTerminals.{arc-within}

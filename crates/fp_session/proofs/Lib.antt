@@ -9,6 +9,7 @@ pub mod PrintedTree
 pub mod PlanCosts
 pub mod LineRanges
 pub mod TableRanges
+pub mod TimelyMoves
 pub mod PriceRanges
 pub mod PointRanges
 pub mod TreeRanges

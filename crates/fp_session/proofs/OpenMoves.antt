@@ -29,6 +29,8 @@ use Rattle.fp_relaxmodel.specs.Relaxed.{AreTimedWalks, IsRelaxedPlan}
 use Rattle.fp_relaxmodel.specs.Terminals.{terminals_on}
 use Rattle.fp_relaxmodel.proofs.RelaxedWalks.{IsRelaxedPlan-timed}
 use Rattle.fp_prices.specs.Rounds.{LeafModel}
+use Rattle.fp_session_history.specs.declared.endings.Left.{Left}
+use Rattle.fp_session_history.specs.declared.endings.Left.TheVariants as left
 use Rattle.fp_session_history.specs.Notes.{worth_of}
 use Rattle.fp_session_history.specs.Solutions.{AreWalksUnder, HasSeveral}
 use Rattle.fp_session.specs.declared.dividing.Several.{Several}
@@ -38,7 +40,7 @@ use Rattle.fp_session.specs.declared.moves.Move.TheVariants as move
 use Rattle.fp_session.specs.declared.payloads.Payload.{Payload}
 use Rattle.fp_session.specs.declared.searches.Search.{Search}
 use Rattle.fp_session.specs.Dividing.{IsSeveral, NoneSeveral}
-use Rattle.fp_session.specs.Moves.{AtOpenLeaf, IsMove, IsMoveAt, IsOpenMove, IsUnsettled, points_now}
+use Rattle.fp_session.specs.Moves.{AtOpenLeaf, IsLeftAt, IsMove, IsMoveAt, IsOpenMove, IsStopAt, IsUnsettled, points_now}
 use Rattle.fp_session.specs.Nodes.{IsKept, IsKeptAs, IsLeafOf, IsSettled}
 use Rattle.fp_session.specs.Outcomes.{IsFound}
 use Rattle.fp_duals_leaves.specs.Prices.{ArePrices, HaveGrown, PriceLists}
@@ -95,14 +97,21 @@ IsSeveral-now s prices leaf sides several is setting are has =
       ends = subst (λ (a : ℕ → Leg → Bool). EndsAs s.instance (a several.shipment) (shipment_at s.instance several.shipment) own.chain (end.Several several.terminal)) same own.ends;
     }
 
+-- what may be left at a leaf whatever the time may be left there
+IsStopAt-left : (s : Search) (leaf : ℕ) (sides : List Side) (what : Left) → IsLeftAt s leaf sides what → IsStopAt s leaf sides what
+IsStopAt-left s leaf sides left.Nothing is = absurd is
+IsStopAt-left s leaf sides (left.Timing at relaxed) is = is
+IsStopAt-left s leaf sides (left.Several at shipment) is = is
+IsStopAt-left s leaf sides (left.Unsettled at) is = absurd is
+
 -- what may be done at a leaf that has something to search for may be done at it
 pub IsMoveAt-open : (s : Search) (prices : PriceLists) (leaf : ℕ) (sides : List Side) (kept : Kept) (m : Move) → IsUnsettled (history s prices) s.cost sides kept →
     IsOpenMove s prices leaf sides m → IsMoveAt s prices leaf sides kept m
 IsMoveAt-open s prices leaf sides kept move.Close unsettled is = absurd is
-IsMoveAt-open s prices leaf sides kept (move.Better cheaper) unsettled is = (unsettled, is)
+IsMoveAt-open s prices leaf sides kept (move.Better cheaper) unsettled is = is
 IsMoveAt-open s prices leaf sides kept (move.Refine note refined) unsettled is = (unsettled, is.0, is.1)
 IsMoveAt-open s prices leaf sides kept (move.Divide division) unsettled is = (unsettled, is.0, is.1, is.2)
-IsMoveAt-open s prices leaf sides kept (move.Stop left) unsettled is = (unsettled, is)
+IsMoveAt-open s prices leaf sides kept (move.Stop left) unsettled is = (unsettled, IsStopAt-left s leaf sides left is)
 
 -- a leaf of which something is found has something to search for, where it is worth less than the cost
 pub IsUnsettled-found : (s : Search) (before after : PriceLists) (sides : List Side) (kept : Kept) (walks : List (List Leg)) → IsFound (history s before) sides kept walks →
@@ -159,6 +168,12 @@ module _ (s : Search) (before after : PriceLists) (k : ℕ) (sides : List Side) 
   dear-move kept walks found no_less dear =
       let settled : IsSettled (history s after) s.cost kept.payload kept.value = inr dear in chosen-move kept move.Close found.kept (λ some. no_less) settled
 
+  -- at another the search ends where the time is over
+  pub late-move : (kept : Kept) (walks : List (List Leg)) → IsFound (history s after) sides kept walks → old.value ≤ kept.value → worth_of (history s after) kept.value < s.cost →
+      IsMove s after k kept (move.Stop (left.Unsettled k))
+  late-move kept walks found no_less below =
+      chosen-move kept (move.Stop (left.Unsettled k)) found.kept (λ some. no_less) (IsUnsettled-found s after after sides kept walks found below, refl)
+
   -- at another the move is one that may be made there
   pub found-move : (between : PriceLists) (kept : Kept) (walks : List (List Leg)) (m : Move) → IsFound (history s between) sides kept walks → ArePrices s.instance between → HaveGrown s.instance between after →
       old.value ≤ kept.value → worth_of (history s between) kept.value < s.cost → IsOpenMove s after k sides m → IsMove s after k kept m
@@ -190,10 +205,10 @@ AtOpenLeaf-both nodes k P still holds = both (leaf_at nodes k) still holds
     both None one other = absurd one
     both (Some l) one other = (one, other)
 
--- an open leaf that was empty is closed
-pub empty-stays : (s : Search) (prices : PriceLists) (k : ℕ) (old : Kept) → IsSearch s prices → AtOpenLeaf s.tree k (λ l. IsKeptAs l old) → old.payload.empty ≡ true → IsMove s prices k old move.Close
-empty-stays s prices k old is was empty =
+-- at an open leaf, of which what was kept stays: it is settled, and closed
+pub settled-stays : (s : Search) (prices : PriceLists) (k : ℕ) (old : Kept) → IsSearch s prices → AtOpenLeaf s.tree k (λ l. IsKeptAs l old) → IsSettled (history s prices) s.cost old.payload old.value → IsMove s prices k old move.Close
+settled-stays s prices k old is was settled =
     let found = some-value (leaf_at s.tree k) (λ (l : Leaf (Node Payload)). (closed_of l.node ≡ false) × IsKeptAs l old) was in
     let on : IsSomeAnd (leaf_at s.tree k) (λ (l : Leaf (Node Payload)). l.sides ≡ found.0.sides) =
     subst (λ (o : Option (Leaf (Node Payload))). IsSomeAnd o (λ (l : Leaf (Node Payload)). l.sides ≡ found.0.sides)) (sym found.1) refl in
-    empty-move s prices prices k found.0.sides old was on old (was-kept s prices prices k found.0.sides old was on is) empty
+    chosen-move s prices prices k found.0.sides old was on old move.Close (was-kept s prices prices k found.0.sides old was on is) (λ some. omega arith) settled

@@ -1,13 +1,13 @@
 -- What a search knows depends on what it has in hand alone.
 use Rattle.std.proofs.Common.{◌≡◌, ℕ, ◌≤◌, List, length, sym, ap, ◌∙◌, subst, arith}
-use Rattle.std.specs.Prelude.{All, IfSome, None, Option, Some}
+use Rattle.std.specs.Prelude.{All, IfSome, None, Option, Some, ⊤}
 use Rattle.std.specs.declared.alloc.Global.{Global}
 use Rattle.std.specs.declared.vec.Vec.{Vec}
 use Rattle.fp_longestarcs.specs.Whole.{IsNetworkOf}
 use Rattle.fp_tree.specs.Nodes.{fork_of, split_count}
 use Rattle.fp_tree.specs.Trees.{tree_branches, tree_leaves}
 use Rattle.fp_session_history.specs.declared.endings.Left.{Left}
-use Rattle.fp_session_history.specs.declared.endings.Left.TheVariants.{Nothing, Several, Timing}
+use Rattle.fp_session_history.specs.declared.endings.Left.TheVariants.{Nothing, Several, Timing, Unsettled}
 use Rattle.fp_session_history.specs.Clashes.{ClashesBelow}
 use Rattle.fp_session_history.specs.Notes.{History, Refinement, added_of, last_round, points_of}
 use Rattle.fp_session_history.specs.Solutions.{AreWalksUnder, HasSeveral}
@@ -37,6 +37,7 @@ module _ (s : Search) (prices : PriceLists) where
         is
     left-trace (Some (Several leaf shipment)) is =
         at (λ h. (split_count s.tree ≡ s.budget.branches) × IsLeftOpen h s.cost s.tree leaf (λ sides. HasSeveral s.instance s.windows (points_of h (last_round h)) sides shipment)) is
+    left-trace (Some (Unsettled leaf)) is = at (λ h. IsLeftOpen h s.cost s.tree leaf (λ sides. ⊤)) is
 
     -- a search with the same notes
     pub IsSearch-trace : IsSearch s prices → IsSearch (record s { trace = trace }) prices
@@ -82,6 +83,7 @@ module _ (s : Search) (prices : PriceLists) where
   IsLeft-taken Nothing is = is
   IsLeft-taken (Timing leaf relaxed) is = is
   IsLeft-taken (Several leaf shipment) is = is
+  IsLeft-taken (Unsettled leaf) is = is
 
 -- a search of what is in hand, with a vector of its notes
 abbrev rebuild : InHand → Vec Refinement Global → Search

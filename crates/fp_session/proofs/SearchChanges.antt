@@ -19,7 +19,7 @@ use Rattle.fp_allowed.specs.Allowed.{tails_of}
 use Rattle.fp_prices.specs.Shares.{ClassShare}
 use Rattle.fp_prices_spans.specs.Spans.{ClassSpan}
 use Rattle.fp_session_history.specs.declared.endings.Left.{Left}
-use Rattle.fp_session_history.specs.declared.endings.Left.TheVariants.{Nothing, Several, Timing}
+use Rattle.fp_session_history.specs.declared.endings.Left.TheVariants.{Nothing, Several, Timing, Unsettled}
 use Rattle.fp_session_history.specs.Notes.{History, Refinement, added_of, last_round, points_added, with_note, with_tables, worth_of}
 use Rattle.fp_session_history.specs.PrintedLeaves.{IsEmptyAt}
 use Rattle.fp_session_history.specs.Splits.{IsEarnedSplit}
@@ -278,3 +278,4 @@ module _ (s : Search) (prices : PriceLists) (is : IsSearch s prices) (going : s.
       by_left Nothing all = all
       by_left (Timing leaf relaxed) all = all
       by_left (Several leaf shipment) all = all
+      by_left (Unsettled leaf) all = all

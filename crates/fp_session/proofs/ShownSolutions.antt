@@ -22,7 +22,7 @@ use Rattle.fp_prices_spans.specs.Spans.{ClassSpan}
 use Rattle.fp_certificate_lines.specs.declared.certificates.Answer.{Answer}
 use Rattle.fp_certificate_lines.specs.declared.certificates.Answer.TheVariants.{Direct, Infeasible, Optimal, Unfinished}
 use Rattle.fp_certificate_lines.specs.declared.certificates.Node.{Node as Line}
-use Rattle.fp_certificate_lines.specs.declared.certificates.Spent.TheVariants.{Branches, Rounds}
+use Rattle.fp_certificate_lines.specs.declared.certificates.Spent.TheVariants.{Branches, Rounds, Time}
 use Rattle.fp_certificate_lines.specs.Ranges.{IsAnswerInRange, IsInRange, IsLeafInRange, IsScaleInRange, IsSplitInRange, largest_figure}
 use Rattle.fp_certificate_lines.specs.Statements.{Statement}
 use Rattle.fp_certificate_rules.specs.Accepted.{Applies, Holds, Part, claim_of}
@@ -30,7 +30,7 @@ use Rattle.fp_certificate_rules.specs.Leaves.{AreLeavesWorth, IsLeafWorth}
 use Rattle.fp_certificate_rules.specs.Plans.{stated_cost}
 use Rattle.fp_duals.specs.PriceLines.{AreWithinLimits}
 use Rattle.fp_session_history.specs.declared.endings.Left.{Left}
-use Rattle.fp_session_history.specs.declared.endings.Left.TheVariants.{Nothing, Several, Timing}
+use Rattle.fp_session_history.specs.declared.endings.Left.TheVariants.{Nothing, Several, Timing, Unsettled}
 use Rattle.fp_session_history.specs.declared.notes.SplitNote.{SplitNote}
 use Rattle.fp_session_history.specs.Notes.{History, added_of, last_round, points_of, worth_of}
 use Rattle.fp_session_history.specs.PrintedLeaves.{IsOpenBelow}
@@ -212,18 +212,35 @@ module _ (s : Search) (prices : PriceLists) (search : IsSearch s prices) (whole 
         least-worth h s.cost s.tree search.tails whole search.leaves bound is.1 lt,
         omega (arith, lt, is.0),
       )
+  shown-answer (Unfinished n bound Time) (Unsettled leaf) left is =
+      let lt : bound < s.cost = bound-lt h s.cost s.tree search.tails whole search.leaves bound is.1 leaf left.open_at in
+      shown-of (Unfinished n bound Time) (Unsettled leaf) is.0 (λ none. none) (omega (arith, is.0, cost-small), omega (arith, lt, cost-small))
+      (leaves-worth (Unfinished n bound Time) bound (bound-le h s.cost s.tree search.tails whole search.leaves bound is.1)) (
+        subst (λ (m : ℕ). Rattle.fp_session_history.specs.Solutions.HasUsedTime h (leaves_shown s.instance (solution (Unfinished n bound Time) (Unsettled leaf))) m leaf) (sym is.0)
+            (record { leaf_left = left-shown h s.cost s.tree search.tails whole search.leaves (λ price sides. IsOpenBelow h s.cost sides price) leaf left.open_at }),
+        least-worth h s.cost s.tree search.tails whole search.leaves bound is.1 lt,
+        omega (arith, lt, is.0),
+      )
   shown-answer (Optimal n) (Timing leaf relaxed) left is = absurd is
   shown-answer (Optimal n) (Several leaf shipment) left is = absurd is
+  shown-answer (Optimal n) (Unsettled leaf) left is = absurd is
   shown-answer (Unfinished n bound Rounds) Nothing left is = absurd is
+  shown-answer (Unfinished n bound Rounds) (Several leaf shipment) left is = absurd is
+  shown-answer (Unfinished n bound Rounds) (Unsettled leaf) left is = absurd is
   shown-answer (Unfinished n bound Branches) Nothing left is = absurd is
   shown-answer (Unfinished n bound Branches) (Timing leaf relaxed) left is = absurd is
-  shown-answer (Unfinished n bound Rounds) (Several leaf shipment) left is = absurd is
+  shown-answer (Unfinished n bound Branches) (Unsettled leaf) left is = absurd is
+  shown-answer (Unfinished n bound Time) Nothing left is = absurd is
+  shown-answer (Unfinished n bound Time) (Timing leaf relaxed) left is = absurd is
+  shown-answer (Unfinished n bound Time) (Several leaf shipment) left is = absurd is
   shown-answer (Direct n) Nothing left is = absurd is
   shown-answer (Direct n) (Timing leaf relaxed) left is = absurd is
   shown-answer (Direct n) (Several leaf shipment) left is = absurd is
+  shown-answer (Direct n) (Unsettled leaf) left is = absurd is
   shown-answer (Infeasible shipment time) Nothing left is = absurd is
   shown-answer (Infeasible shipment time) (Timing leaf relaxed) left is = absurd is
   shown-answer (Infeasible shipment time) (Several leaf at) left is = absurd is
+  shown-answer (Infeasible shipment time) (Unsettled leaf) left is = absurd is
 
 -- a certificate of a search is the one with its parts
 pub IsShown-certificate : (s : Search) (prices : PriceLists) (kept : Left) (stated : Answer) (c : Statement) (splits : List SplitNote) → IsSearch s prices → IsLeft s prices kept →

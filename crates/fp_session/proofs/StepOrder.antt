@@ -1,5 +1,5 @@
 -- What was planned is done in order: at the least open leaf, and a round before a split.
-use Rattle.std.proofs.Common.{◌≡◌, ℕ, ◌<◌, ◌≤◌, ⊎_elim, Bool, true, false, List, [], ◌∷◌, ◌++◌, refl, sym, ap, ◌∙◌, subst}
+use Rattle.std.proofs.Common.{◌≡◌, ℕ, ◌<◌, ◌≤◌, ⊎_elim, Bool, true, false, List, sym, ap, ◌∙◌, subst}
 use Rattle.std.specs.Prelude.{All, IfOk, IsSomeAnd, None, Option, Some, Result, Ok, Err}
 use Rattle.std.specs.declared.alloc.AllocError.{AllocError}
 use Rattle.std.proofs.lemmas.Bool.{cases_lt, false≢true}
@@ -13,7 +13,7 @@ use Rattle.fp_tree.specs.Trees.{Leaf}
 use Rattle.fp_duals_leaves.specs.Prices.{PriceLists}
 use Rattle.fp_session_history.specs.declared.endings.Ending.{Ending}
 use Rattle.fp_session_history.specs.declared.endings.Left.{Left}
-use Rattle.fp_session_history.specs.declared.endings.Left.TheVariants.{Nothing, Several, Timing}
+use Rattle.fp_session_history.specs.declared.endings.Left.TheVariants.{Nothing, Several, Timing, Unsettled}
 use Rattle.fp_session_history.specs.Notes.{Refinement}
 use Rattle.fp_session_history.specs.Solutions.{AreWalksUnder}
 use Rattle.fp_session.specs.declared.kept.Kept.{Kept}
@@ -26,8 +26,8 @@ use Rattle.fp_session.specs.declared.payloads.Payload.{Payload}
 use Rattle.fp_session.specs.declared.searches.Search.{Search}
 use Rattle.fp_session.specs.declared.steps.Step.{Step}
 use Rattle.fp_session.specs.declared.steps.Step.TheVariants as step
-use Rattle.fp_session.specs.Moves.{AtOpenLeaf, IsLeftAt, IsMove, IsMoveAt, fork_in, points_now}
-use Rattle.fp_session.specs.Order.{AreWalksHad, AtLeafSides, HasDearWalks, IsInOrder, IsWorkAt, LeavesAt, WorksAtLeast, with_closed, with_cost, with_divided, with_kept}
+use Rattle.fp_session.specs.Moves.{AtOpenLeaf, IsMove, IsMoveAt, fork_in, points_now}
+use Rattle.fp_session.specs.Order.{AreWalksHad, HasDearWalks, IsInOrder, IsWorkAt, LeavesAt, WorksAtLeast, with_closed, with_cost, with_divided, with_kept}
 use Rattle.fp_session.specs.Searches.{InHand, in_hand}
 use Rattle.fp_session.specs.StepCauses.{ending_of, with_incumbent, with_round, with_tree}
 use Rattle.fp_session.proofs.Applied.{some-value}
@@ -113,3 +113,5 @@ module _ (s : Search) (prices : PriceLists) (k : ℕ) (kept : Kept) (m : Move) (
           works t (step.Done (ending_of (Timing leaf relaxed))) (tree, subst (LeavesAt k) (sym what_other) (at-own (Timing leaf relaxed) same_other).2.1.1.0)
       by_left (Several leaf shipment) same_other what_other =
           works t (step.Done (ending_of (Several leaf shipment))) (tree, subst (LeavesAt k) (sym what_other) (at-own (Several leaf shipment) same_other).2.1.1.0)
+      by_left (Unsettled leaf) same_other what_other =
+          works t (step.Done (ending_of (Unsettled leaf))) (tree, subst (LeavesAt k) (sym what_other) (at-own (Unsettled leaf) same_other).2.1.1)

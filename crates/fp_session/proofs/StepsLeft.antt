@@ -1,5 +1,5 @@
 -- Each step leaves fewer steps.
-use Rattle.std.proofs.Common.{◌≡◌, ℕ, ◌+◌, ◌*◌, ◌-◌, ◌<◌, ◌≤◌, List, [], ◌∷◌, ◌++◌, length, refl, sym, ap, ◌∙◌, arith}
+use Rattle.std.proofs.Common.{◌≡◌, ◌+◌, ◌<◌, ◌≤◌, List, [], ◌∷◌, ◌++◌, length, refl, sym, ap, ◌∙◌, arith}
 use Rattle.std.specs.Prelude.{IsSomeAnd, None, Option, Some}
 use Rattle.std.proofs.lemmas.List.{length-append}
 use Rattle.fp_tree.specs.Nodes.{split_count}

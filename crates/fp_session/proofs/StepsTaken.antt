@@ -15,7 +15,7 @@ use Rattle.fp_session.specs.declared.moves.Move.TheVariants as move
 use Rattle.fp_session.specs.declared.moves.Refined.{Refined}
 use Rattle.fp_session.specs.declared.payloads.Payload.{Payload}
 use Rattle.fp_session.specs.declared.searches.Search.{Search}
-use Rattle.fp_session.specs.Moves.{AtOpenLeaf, IsCheaper, IsDivision, IsLeftAt, IsMove, IsMoveAt, IsNextRound, IsUnsettled}
+use Rattle.fp_session.specs.Moves.{AtOpenLeaf, IsCheaper, IsDivision, IsStopAt, IsMove, IsMoveAt, IsNextRound, IsUnsettled}
 use Rattle.fp_session.specs.Nodes.{IsKept, IsLeafOf, IsSettled}
 use Rattle.fp_session.specs.Searches.{InHand, history, in_hand}
 use Rattle.fp_session.specs.StepCauses.{open_count, with_incumbent, with_round, with_tree}
@@ -47,8 +47,7 @@ module _ (s : Search) (prices : PriceLists) (k : ℕ) (kept : Kept) (m : Move) (
   -- a plan that is to be taken is cheaper
   pub better-cheaper : (c : Cheaper) → m ≡ move.Better c → IsCheaper s c
   better-cheaper c same =
-      AtOpenLeaf-fact s.tree k (IsCheaper s c)
-      (AtOpenLeaf-map s.tree k (λ l. IsMoveAt s prices k l.sides kept (move.Better c)) (λ l. IsCheaper s c) (λ l both. both.1) (planned-as (move.Better c) same))
+      AtOpenLeaf-fact s.tree k (IsCheaper s c) (planned-as (move.Better c) same)
 
   -- a round that is to be added is the next one
   pub refine-next : (note : Refinement) (r : Refined) → m ≡ move.Refine note r → IsNextRound s note r
@@ -80,9 +79,9 @@ module _ (s : Search) (prices : PriceLists) (k : ℕ) (kept : Kept) (m : Move) (
         AtOpenLeaf-map s.tree k (λ l. IsMoveAt s prices k l.sides kept (move.Stop left)) (λ l. IsUnsettled (history s prices) s.cost l.sides kept) (λ l all. all.0) (planned-as (move.Stop left) same)
 
     -- and this is left there
-    pub stop-left : AtOpenLeaf s.tree k (λ l. IsLeftAt s k l.sides left)
+    pub stop-left : AtOpenLeaf s.tree k (λ l. IsStopAt s k l.sides left)
     stop-left =
-        AtOpenLeaf-map s.tree k (λ l. IsMoveAt s prices k l.sides kept (move.Stop left)) (λ l. IsLeftAt s k l.sides left) (λ l all. all.1) (planned-as (move.Stop left) same)
+        AtOpenLeaf-map s.tree k (λ l. IsMoveAt s prices k l.sides kept (move.Stop left)) (λ l. IsStopAt s k l.sides left) (λ l all. all.1) (planned-as (move.Stop left) same)
 
 -- what is kept of a leaf stays true with one more note
 IsKept-with_note : (h : History) (started cost : ℕ) (n : Refinement) (sides : List Side) (payload : Payload) (value : ℕ) → n.round ≡ last_round h + 1 → IsKept h sides payload value →

@@ -1,6 +1,6 @@
 -- A candidate that was tried, and what is kept of the leaves below it.
-use Rattle.std.proofs.Common.{◌≡◌, ℕ, ◌+◌, ◌≤◌, true, List, [], ◌∷◌, ◌++◌, length, refl, sym, ap, ap₂, ◌∙◌, subst, arith, append-nil}
-use Rattle.std.specs.Prelude.{Bool, IfSome, None, Option, Some}
+use Rattle.std.proofs.Common.{◌≡◌, ℕ, ◌≤◌, List, [], ◌∷◌, ◌++◌, length, refl, sym, ap, ap₂, ◌∙◌, subst, arith, append-nil}
+use Rattle.std.specs.Prelude.{IfSome, None, Option, Some}
 use Rattle.std.proofs.lemmas.List.{length-append}
 use Rattle.fp_model.specs.Problem.{Problem}
 use Rattle.fp_tree.specs.declared.sides.Side.{Side}

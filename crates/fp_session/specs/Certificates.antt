@@ -7,14 +7,14 @@ use Rattle.fp_prices.specs.Tables.{AreCountable}
 use Rattle.fp_prices_spans.specs.Spans.{ClassSpan}
 use Rattle.fp_certificate_lines.specs.declared.certificates.Answer.{Answer}
 use Rattle.fp_certificate_lines.specs.declared.certificates.Answer.TheVariants.{Optimal, Unfinished}
-use Rattle.fp_certificate_lines.specs.declared.certificates.Spent.TheVariants.{Branches, Rounds}
+use Rattle.fp_certificate_lines.specs.declared.certificates.Spent.TheVariants.{Branches, Rounds, Time}
 use Rattle.fp_certificate_lines.specs.Ranges.{IsInRange}
 use Rattle.fp_certificate_lines.specs.Statements.{Statement}
 use Rattle.fp_certificate_rules.specs.Accepted.{IsAccepted}
 use Rattle.fp_certificate_rules.specs.Plans.{routes_of, stated_cost}
 use Rattle.fp_duals.specs.PriceLines.{AreWithinLimits}
 use Rattle.fp_session_history.specs.declared.endings.Left.{Left}
-use Rattle.fp_session_history.specs.declared.endings.Left.TheVariants.{Nothing, Several, Timing}
+use Rattle.fp_session_history.specs.declared.endings.Left.TheVariants.{Nothing, Several, Timing, Unsettled}
 use Rattle.fp_session_history.specs.Solutions.{IsEarnedSolution, Solution}
 use Rattle.fp_session.specs.declared.searches.Search.{Search}
 use Rattle.fp_duals_leaves.specs.PriceLines.{AreFewLines}
@@ -31,6 +31,7 @@ abbrev pub IsAnswer : Search → PriceLists → Left → Answer → Type 0
 IsAnswer s prices Nothing (Optimal cost) = cost ≡ s.cost
 IsAnswer s prices (Timing leaf relaxed) (Unfinished cost bound Rounds) = (cost ≡ s.cost) × IsBound s prices bound
 IsAnswer s prices (Several leaf shipment) (Unfinished cost bound Branches) = (cost ≡ s.cost) × IsBound s prices bound
+IsAnswer s prices (Unsettled leaf) (Unfinished cost bound Time) = (cost ≡ s.cost) × IsBound s prices bound
 IsAnswer s prices left answer = ⊥
 
 -- the scale that a certificate names: none where it is 1,000,000

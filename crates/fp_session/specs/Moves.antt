@@ -1,5 +1,5 @@
 -- What a step may do, before it does it.
-use Rattle.std.specs.Prelude.{ℕ, ◌+◌, ◌<◌, ◌≤◌, ◌≡◌, List, [], ◌∷◌, ◌++◌, false, IsSomeAnd}
+use Rattle.std.specs.Prelude.{ℕ, ◌+◌, ◌<◌, ◌≤◌, ◌≡◌, ⊤, Bool, List, [], ◌∷◌, ◌++◌, false, IsSomeAnd}
 use Rattle.fp_model.specs.declared.parts.Leg.{Leg}
 use Rattle.fp_flatnet.specs.Tables.{windows_in}
 use Rattle.fp_tree.specs.declared.sides.Side.{Side}
@@ -11,10 +11,10 @@ use Rattle.fp_allowed.specs.Slack.{DividesSome}
 use Rattle.fp_certificate_lines.specs.Ranges.{IsSplitInRange}
 use Rattle.fp_duals_leaves.specs.Prices.{PriceLists, no_prices}
 use Rattle.fp_session_history.specs.declared.endings.Left.{Left}
-use Rattle.fp_session_history.specs.declared.endings.Left.TheVariants.{Nothing, Several, Timing}
+use Rattle.fp_session_history.specs.declared.endings.Left.TheVariants.{Nothing, Several, Timing, Unsettled}
 use Rattle.fp_session_history.specs.Clashes.{ClashesBelow}
 use Rattle.fp_session_history.specs.Notes.{History, Refinement, last_round, points_of, worth_of}
-use Rattle.fp_session_history.specs.Solutions.{AreWalksUnder, HasSeveral}
+use Rattle.fp_session_history.specs.Solutions.{AreWalksUnder, HasSeveral, IsTimely}
 use Rattle.fp_session_history.specs.Traces.{IsEarnedRound}
 use Rattle.fp_session.specs.declared.kept.Kept.{Kept}
 use Rattle.fp_session.specs.declared.moves.Cheaper.{Cheaper}
@@ -71,11 +71,19 @@ pub record IsSeveralLeft (s : Search) (sides : List Side) (shipment : ℕ) : Typ
   pub spent : split_count s.tree ≡ s.budget.branches
   pub several : HasSeveral s.instance s.windows (points_now s) sides shipment
 
--- what is left at a leaf with a number
+-- what is left at a leaf with a number, whatever the time
 abbrev pub IsLeftAt : Search → ℕ → List Side → Left → Type 0
 IsLeftAt s leaf sides Nothing = ⊥
 IsLeftAt s leaf sides (Timing at relaxed) = (at ≡ leaf) × IsTimingLeft s sides relaxed
 IsLeftAt s leaf sides (Several at shipment) = (at ≡ leaf) × IsSeveralLeft s sides shipment
+IsLeftAt s leaf sides (Unsettled at) = ⊥
+
+-- the same, or that leaf itself where the time is over
+abbrev pub IsStopAt : Search → ℕ → List Side → Left → Type 0
+IsStopAt s leaf sides Nothing = ⊥
+IsStopAt s leaf sides (Timing at relaxed) = IsLeftAt s leaf sides (Timing at relaxed)
+IsStopAt s leaf sides (Several at shipment) = IsLeftAt s leaf sides (Several at shipment)
+IsStopAt s leaf sides (Unsettled at) = at ≡ leaf
 
 -- a leaf has something to search for: it isn't empty, is worth less than the cost, and at least its
 -- values by linear and by even prices
@@ -96,12 +104,20 @@ IsOpenMove s prices leaf sides (move.Stop left) = IsLeftAt s leaf sides left
 -- what a step may do at a leaf of which this is kept
 abbrev pub IsMoveAt : Search → PriceLists → (leaf : ℕ) → List Side → Kept → Move → Type 0
 IsMoveAt s prices leaf sides kept move.Close = IsSettled (history s prices) s.cost kept.payload kept.value
-IsMoveAt s prices leaf sides kept (move.Better cheaper) = IsUnsettled (history s prices) s.cost sides kept × IsCheaper s cheaper
+IsMoveAt s prices leaf sides kept (move.Better cheaper) = IsCheaper s cheaper
 IsMoveAt s prices leaf sides kept (move.Refine note refined) =
     IsUnsettled (history s prices) s.cost sides kept × IsNextRound s note refined × AreWalksHad (in_hand s) sides note.relaxed
 IsMoveAt s prices leaf sides kept (move.Divide division) =
     IsUnsettled (history s prices) s.cost sides kept × (split_count s.tree < s.budget.branches) × IsDivision (history s prices) sides division × HasDearWalks (in_hand s) sides
-IsMoveAt s prices leaf sides kept (move.Stop left) = IsUnsettled (history s prices) s.cost sides kept × IsLeftAt s leaf sides left
+IsMoveAt s prices leaf sides kept (move.Stop left) = IsUnsettled (history s prices) s.cost sides kept × IsStopAt s leaf sides left
+
+-- a step ends a search for want of time only where the time is over
+abbrev pub IsTimelyMove : (over : Bool) → Move → Type 0
+IsTimelyMove over move.Close = ⊤
+IsTimelyMove over (move.Better cheaper) = ⊤
+IsTimelyMove over (move.Refine note refined) = ⊤
+IsTimelyMove over (move.Divide division) = ⊤
+IsTimelyMove over (move.Stop left) = IsTimely over left
 
 -- the leaf with a number is open, and it is so of its sides and its value
 abbrev pub AtOpenLeaf : List (Node Payload) → ℕ → (Leaf (Node Payload) → Type 0) → Type 0

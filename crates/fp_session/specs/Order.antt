@@ -10,7 +10,7 @@ use Rattle.fp_tree.specs.Sides.{Fork}
 use Rattle.fp_tree.specs.Trees.{Leaf, tree_leaves, with_leaf}
 use Rattle.fp_session_history.specs.declared.endings.Ending.TheVariants.{Optimal, Unfinished}
 use Rattle.fp_session_history.specs.declared.endings.Left.{Left}
-use Rattle.fp_session_history.specs.declared.endings.Left.TheVariants.{Nothing, Several, Timing}
+use Rattle.fp_session_history.specs.declared.endings.Left.TheVariants.{Nothing, Several, Timing, Unsettled}
 use Rattle.fp_session_history.specs.Notes.{Refinement, points_of}
 use Rattle.fp_session_history.specs.Solutions.{AreWalksUnder}
 use Rattle.fp_session.specs.declared.kept.Kept.{Kept}
@@ -74,6 +74,7 @@ LeavesAt leaf None = ⊥
 LeavesAt leaf (Some Nothing) = ⊥
 LeavesAt leaf (Some (Timing at relaxed)) = at ≡ leaf
 LeavesAt leaf (Some (Several at shipment)) = at ≡ leaf
+LeavesAt leaf (Some (Unsettled at)) = at ≡ leaf
 
 -- what a step makes of the leaf at which it works, of which this is kept
 abbrev pub IsWorkAt : InHand → InHand → ℕ → Kept → Step → Type 0

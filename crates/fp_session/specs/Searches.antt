@@ -1,5 +1,5 @@
 -- What a search knows of what it has in hand.
-use Rattle.std.specs.Prelude.{ℕ, ◌≤◌, ◌≡◌, List, true, All, IfSome, IsSomeAnd, Option}
+use Rattle.std.specs.Prelude.{ℕ, ◌≤◌, ◌≡◌, ⊤, List, true, All, IfSome, IsSomeAnd, Option}
 use Rattle.fp_model.specs.declared.parts.Leg.{Leg}
 use Rattle.fp_model.specs.Costs.{cost}
 use Rattle.fp_model.specs.Plans.{IsPlan}
@@ -17,7 +17,7 @@ use Rattle.fp_allowed.specs.Allowed.{tails_of}
 use Rattle.fp_allowed.specs.Settings.{Setting}
 use Rattle.fp_session_history.specs.declared.budgets.Budget.{Budget}
 use Rattle.fp_session_history.specs.declared.endings.Left.{Left}
-use Rattle.fp_session_history.specs.declared.endings.Left.TheVariants.{Nothing, Several, Timing}
+use Rattle.fp_session_history.specs.declared.endings.Left.TheVariants.{Nothing, Several, Timing, Unsettled}
 use Rattle.fp_session_history.specs.Budgets.{IsBudget}
 use Rattle.fp_session_history.specs.Clashes.{ClashesBelow}
 use Rattle.fp_session_history.specs.Notes.{History, Refinement, added_of, last_round, points_of}
@@ -60,6 +60,7 @@ IsLeft s prices (Timing leaf relaxed) =
 IsLeft s prices (Several leaf shipment) =
     (split_count s.tree ≡ s.budget.branches)
     × IsLeftOpen (history s prices) s.cost s.tree leaf (λ sides. HasSeveral s.instance s.windows (points_of (history s prices) (last_round (history s prices))) sides shipment)
+IsLeft s prices (Unsettled leaf) = IsLeftOpen (history s prices) s.cost s.tree leaf (λ sides. ⊤)
 
 -- what a search has in hand, with its notes as a list
 pub record InHand : Type 0 where

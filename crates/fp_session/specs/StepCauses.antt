@@ -2,11 +2,11 @@
 use Rattle.std.specs.Prelude.{ℕ, List, [], ◌∷◌, ◌++◌, not, count_by}
 use Rattle.fp_tree.specs.Nodes.{Node, closed_of, fork_of}
 use Rattle.fp_tree.specs.Trees.{Leaf, tree_leaves}
-use Rattle.fp_certificate_lines.specs.declared.certificates.Spent.TheVariants.{Branches, Rounds}
+use Rattle.fp_certificate_lines.specs.declared.certificates.Spent.TheVariants.{Branches, Rounds, Time}
 use Rattle.fp_session_history.specs.declared.endings.Ending.{Ending}
 use Rattle.fp_session_history.specs.declared.endings.Ending.TheVariants.{Optimal, Unfinished}
 use Rattle.fp_session_history.specs.declared.endings.Left.{Left}
-use Rattle.fp_session_history.specs.declared.endings.Left.TheVariants.{Nothing, Several, Timing}
+use Rattle.fp_session_history.specs.declared.endings.Left.TheVariants.{Nothing, Several, Timing, Unsettled}
 use Rattle.fp_session_history.specs.Notes.{Refinement}
 use Rattle.fp_session.specs.declared.moves.Cheaper.{Cheaper}
 use Rattle.fp_session.specs.declared.moves.Refined.{Refined}
@@ -19,6 +19,7 @@ abbrev pub ending_of : Left → Ending
 ending_of Nothing = Optimal
 ending_of (Timing leaf relaxed) = Unfinished Rounds
 ending_of (Several leaf shipment) = Unfinished Branches
+ending_of (Unsettled leaf) = Unfinished Time
 
 -- how many leaves of a tree are open
 abbrev pub open_count : List (Node Payload) → ℕ

@@ -1,25 +1,73 @@
 //! A search goes on by one step.
-ghost use Rattle.std.specs.Prelude.{◌≡◌, ⊤, None, Ok, IfOk, IfSome, IsSomeAnd, OnErr, OnOk};
-ghost use Rattle.fp_tree.specs.Nodes.{IsBestOpen};
+ghost use Rattle.std.specs.Prelude.{◌≡◌, ◌<◌, ⊤, false, true, None, Ok, IfOk, IfSome, IsSomeAnd, OnErr, OnOk};
+ghost use Rattle.fp_ends.specs.Deadlines.{IsLater, has_shown};
+ghost use Rattle.fp_tree.specs.Nodes.{IsBestOpen, closed_of, leaf_at, leaf_count};
+ghost use Rattle.fp_session.specs.Moves.{IsMove, IsTimelyMove};
 ghost use Rattle.fp_session.specs.Order.{IsInOrder};
 ghost use Rattle.fp_session.specs.declared.steps.Step.TheVariants.{Done};
 ghost use Rattle.fp_duals_leaves.specs.Prices.{HaveGrown};
 ghost use Rattle.fp_session.specs.Searches.{IsSearch, in_hand};
+ghost use Rattle.fp_session_history.specs.Solutions.{IsTimely};
 ghost use Rattle.fp_session.specs.StepCauses.{ending_of as ending_in};
 ghost use Rattle.fp_session.specs.Steps.{HasGoneOn, IsStep, StayFixed};
 
 use crate::NoMemory;
 use crate::applying::ending_of;
-use crate::planning::next_move;
+use crate::moves::Move;
+use crate::planning::{Planned, next_move};
 use crate::searches::Search;
 use crate::steps::Step;
 use fp_duals_leaves::Prices;
+use fp_ends::{Clock, ClockDeadline, Resources, have_passed};
 use fp_session_history::{Ending, Left};
 use std::alloc::Global;
 
-// One step at the best open leaf. Without memory the prices may have grown, and all else is as before.
-fn attempt(
+// Whether a step is going to end a search for want of time.
+fn is_given_up(planned: &Move) -> bool
+    ensures { result ≡ false → IsTimelyMove false planned.now }
+{
+    match planned {
+        Move::Stop { left } => matches!(left, Left::Unsettled { .. }),
+        Move::Close | Move::Better { .. } | Move::Refine { .. } | Move::Divide { .. } => false,
+    }
+}
+
+// What a step is going to do at an open leaf in the time that there is. Where it gave up, and the
+// clock doesn't show that the time is over, it is planned once more without a deadline. Also without
+// memory the prices have only grown.
+fn planned_in_time<C: Clock>(
     alloc: Global,
+    clock: &mut C,
+    seconds: Option<u32>,
+    search: &Search,
+    number: u32,
+    prices: &mut Prices,
+) -> Result<Planned, NoMemory>
+    requires search { IsSearch search.now prices.old }
+    requires going { search.now.left ≡ None }
+    requires leaf { number < leaf_count search.now.tree }
+    requires still_open { IsSomeAnd (leaf_at search.now.tree number) (λ l. closed_of l.node ≡ false) }
+    ensures grown { HaveGrown search.now.instance prices.old prices.new }
+    ensures planned { IfOk result
+        (λ p. IsMove search.now prices.new number p.kept p.planned) }
+    ensures timely { IfOk result
+        (λ p. IsTimelyMove (has_shown seconds (C.moment clock.new) (C.faults clock.old) (C.faults clock.new)) p.planned) }
+    ensures later { IsLater (C.moment clock.old) (C.moment clock.new) (C.faults clock.old) (C.faults clock.new) }
+{
+    let deadline = ClockDeadline::new(&*clock, seconds);
+    let within = Resources { alloc, deadline };
+    let planned = next_move(&within, search, number, prices)?;
+    if !is_given_up(&planned.planned) || have_passed(clock, seconds) {
+        return Ok(planned);
+    }
+    next_move(&Resources::endless(alloc), search, number, prices)
+}
+
+// One step at the best open leaf. Without memory the prices may have grown, and all else is as before.
+fn attempt<C: Clock>(
+    alloc: Global,
+    clock: &mut C,
+    seconds: Option<u32>,
     search: &mut Search,
     prices: &mut Prices,
     leaf: u32,
@@ -32,20 +80,30 @@ fn attempt(
     ensures fixed { StayFixed (in_hand search.old) (in_hand search.new) }
     ensures step { IfOk result (IsStep (in_hand search.old) (in_hand search.new)) }
     ensures order { IfOk result (IsInOrder (in_hand search.old) (in_hand search.new)) }
+    ensures timed { IfSome search.new.left (IsTimely (has_shown seconds (C.moment clock.new) (C.faults clock.old) (C.faults clock.new))) }
+    ensures later { IsLater (C.moment clock.old) (C.moment clock.new) (C.faults clock.old) (C.faults clock.new) }
     ensures err { OnErr result (in_hand search.new ≡ in_hand search.old) }
 {
-    let planned = next_move(alloc, search, leaf, prices)?;
+    let planned = planned_in_time(alloc, clock, seconds, search, leaf, prices)?;
     search.apply(alloc, prices, leaf, planned)
 }
 
 // One step of a search that hasn't ended. Without memory all is as before.
-fn advance_open(alloc: Global, search: &mut Search, prices: &mut Prices) -> Result<Step, NoMemory>
+fn advance_open<C: Clock>(
+    alloc: Global,
+    clock: &mut C,
+    seconds: Option<u32>,
+    search: &mut Search,
+    prices: &mut Prices,
+) -> Result<Step, NoMemory>
     requires search { IsSearch search.old prices.old }
     requires going { search.old.left ≡ None }
     ensures search { IsSearch search.new prices.new }
     ensures fixed { StayFixed (in_hand search.old) (in_hand search.new) }
     ensures step { IfOk result (IsStep (in_hand search.old) (in_hand search.new)) }
     ensures order { IfOk result (IsInOrder (in_hand search.old) (in_hand search.new)) }
+    ensures timed { IfSome search.new.left (IsTimely (has_shown seconds (C.moment clock.new) (C.faults clock.old) (C.faults clock.new))) }
+    ensures later { IsLater (C.moment clock.old) (C.moment clock.new) (C.faults clock.old) (C.faults clock.new) }
     ensures hand { OnErr result (in_hand search.new ≡ in_hand search.old) }
     ensures unit { prices.new.unit ≡ prices.old.unit }
     ensures prices { OnErr result (prices.new ≡ prices.old) }
@@ -53,7 +111,7 @@ fn advance_open(alloc: Global, search: &mut Search, prices: &mut Prices) -> Resu
     match search.tree.best_open() {
         Some(leaf) => {
             let count = prices.count();
-            match attempt(alloc, search, prices, leaf) {
+            match attempt(alloc, clock, seconds, search, prices, leaf) {
                 Ok(step) => Ok(step),
                 Err(error) => {
                     prices.cut(count);
@@ -71,8 +129,10 @@ fn advance_open(alloc: Global, search: &mut Search, prices: &mut Prices) -> Resu
 }
 
 // One step. A search that has ended stays as it is, and so does one without memory.
-pub(crate) fn advance(
+pub(crate) fn advance<C: Clock>(
     alloc: Global,
+    clock: &mut C,
+    seconds: Option<u32>,
     search: &mut Search,
     prices: &mut Prices,
 ) -> Result<Step, NoMemory>
@@ -81,6 +141,8 @@ pub(crate) fn advance(
     ensures fixed { StayFixed (in_hand search.old) (in_hand search.new) }
     ensures step { IfOk result (IsStep (in_hand search.old) (in_hand search.new)) }
     ensures order { IfOk result (λ step. search.old.left ≡ None → IsInOrder (in_hand search.old) (in_hand search.new) step) }
+    ensures timed { search.old.left ≡ None → IfSome search.new.left (IsTimely (has_shown seconds (C.moment clock.new) (C.faults clock.old) (C.faults clock.new))) }
+    ensures later { IsLater (C.moment clock.old) (C.moment clock.new) (C.faults clock.old) (C.faults clock.new) }
     ensures answer { IfSome search.old.left (λ left. result ≡ Ok (Done (ending_in left))) }
     ensures ended { IfSome search.old.left (λ left. in_hand search.new ≡ in_hand search.old) }
     ensures kept { IfSome search.old.left (λ left. prices.new ≡ prices.old) }
@@ -92,13 +154,15 @@ pub(crate) fn advance(
         Some(left) => Ok(Step::Done {
             ending: ending_of(left),
         }),
-        None => advance_open(alloc, search, prices),
+        None => advance_open(alloc, clock, seconds, search, prices),
     }
 }
 
 // Goes on until the search has ended.
-pub(crate) fn finish(
+pub(crate) fn finish<C: Clock>(
     alloc: Global,
+    clock: &mut C,
+    seconds: Option<u32>,
     search: &mut Search,
     prices: &mut Prices,
 ) -> Result<(), NoMemory>
@@ -107,10 +171,12 @@ pub(crate) fn finish(
     ensures fixed { StayFixed (in_hand search.old) (in_hand search.new) }
     ensures onward { OnOk result (HasGoneOn (in_hand search.old) (in_hand search.new)) }
     ensures unit { prices.new.unit ≡ prices.old.unit }
+    ensures timed { search.old.left ≡ None → IfSome search.new.left (IsTimely (has_shown seconds (C.moment clock.new) (C.faults clock.old) (C.faults clock.new))) }
+    ensures later { IsLater (C.moment clock.old) (C.moment clock.new) (C.faults clock.old) (C.faults clock.new) }
     ensures ended { OnOk result (IsSomeAnd search.new.left (λ left. ⊤)) }
 {
     while search.left.is_none() {
-        advance(alloc, search, prices)?;
+        advance(alloc, clock, seconds, search, prices)?;
     }
     Ok(())
 }

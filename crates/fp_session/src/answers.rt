@@ -35,5 +35,10 @@ pub(crate) fn answer(search: &Search, prices: &Prices, left: &Left) -> Answer
             bound: bound(search, prices),
             spent: Spent::Branches,
         },
+        Left::Unsettled { .. } => Answer::Unfinished {
+            cost,
+            bound: bound(search, prices),
+            spent: Spent::Time,
+        },
     }
 }

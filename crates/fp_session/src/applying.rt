@@ -1,8 +1,9 @@
 //! A step does what was planned.
-ghost use Rattle.std.specs.Prelude.{◌≡◌, ◌<◌, None, Some, IfOk, OnErr, OnOk};
+ghost use Rattle.std.specs.Prelude.{◌≡◌, ◌<◌, None, Some, IfOk, IfSome, OnErr, OnOk};
 ghost use Rattle.fp_tree.specs.Nodes.{IsBestOpen, fork_of, split_count};
 ghost use Rattle.fp_tree.specs.Trees.{tree_branches};
-ghost use Rattle.fp_session.specs.Moves.{AtOpenLeaf, IsCheaper, IsDivision, IsLeftAt, IsMove, IsNextRound, IsUnsettled, fork_in};
+ghost use Rattle.fp_session.specs.Moves.{AtOpenLeaf, IsCheaper, IsDivision, IsStopAt, IsMove, IsNextRound, IsUnsettled, fork_in};
+ghost use Rattle.fp_session.specs.declared.moves.Move.TheVariants.{Stop};
 ghost use Rattle.fp_session.specs.Nodes.{IsKept, IsSettled};
 ghost use Rattle.fp_session.specs.Order.{IsInOrder, with_closed, with_cost, with_divided, with_kept};
 ghost use Rattle.fp_session.specs.Searches.{IsSearch, history, in_hand};
@@ -34,6 +35,7 @@ pub(crate) fn ending_of(left: &Left) -> Ending
         Left::Several { .. } => Ending::Unfinished {
             spent: Spent::Branches,
         },
+        Left::Unsettled { .. } => Ending::Unfinished { spent: Spent::Time },
     }
 }
 
@@ -143,7 +145,7 @@ impl Search {
         requires going { self.old.left ≡ None }
         requires unsettled { AtOpenLeaf self.old.tree leaf (λ l. IsUnsettled (history self.old prices.now) self.old.cost l.sides kept) }
         requires kept { AtOpenLeaf self.old.tree leaf (λ l. IsKept (history self.old prices.now) l.sides kept.payload kept.value) }
-        requires left { AtOpenLeaf self.old.tree leaf (λ l. IsLeftAt self.old leaf l.sides left) }
+        requires left { AtOpenLeaf self.old.tree leaf (λ l. IsStopAt self.old leaf l.sides left) }
         ensures search { IsSearch self.new prices.now }
         ensures fixed { StayFixed (in_hand self.old) (in_hand self.new) }
         ensures ended { HasEnded (in_hand self.old) (in_hand self.new) (ending_in left) }
@@ -170,6 +172,7 @@ impl Search {
         ensures fixed { StayFixed (in_hand self.old) (in_hand self.new) }
         ensures step { IfOk result (IsStep (in_hand self.old) (in_hand self.new)) }
         ensures order { IfOk result (IsInOrder (in_hand self.old) (in_hand self.new)) }
+        ensures left { OnOk result (IfSome self.new.left (λ left. planned.planned ≡ Stop left)) }
         ensures err { OnErr result (in_hand self.new ≡ in_hand self.old) }
     {
         let kept = planned.kept;

@@ -13,6 +13,7 @@ use crate::searches::Search;
 use fp_duals::Improved;
 use fp_duals_leaves::{PriceEffort, Prices, improve};
 use fp_duals_nets::LentNets;
+use fp_ends::{Deadline, Resources};
 use fp_longestarcs::Network;
 use fp_prices::{Leaf, LeafPrice, RoundNetwork};
 use fp_tree::Side;
@@ -30,8 +31,8 @@ fn sides_below(alloc: Global, leaf: &Leaf, side: Side) -> Result<Vec<Side>, NoMe
 // What is kept of the leaf on one side of a split of a leaf, improved with little effort from a price
 // of the leaf above.
 #[tactic(auto, using(fp_duals_leaves::proofs::GrownPrices::HaveGrown_none))]
-pub(crate) fn new_child(
-    alloc: Global,
+pub(crate) fn new_child<D: Deadline>(
+    resources: &Resources<D>,
     search: &Search,
     leaf: &Leaf,
     side: Side,
@@ -45,12 +46,14 @@ pub(crate) fn new_child(
     ensures kept { IfOk result (λ kept.
         IsKept (history search.now prices.new) (leaf.now.sides ++ (side ∷ [])) kept.payload kept.value) }
 {
-    let sides = sides_below(alloc, leaf, side)?;
-    let below = Leaf::of(alloc, leaf.round(), leaf.windows(), &sides)?;
+    let sides = sides_below(resources.alloc, leaf, side)?;
+    let below = Leaf::of(resources.alloc, leaf.round(), leaf.windows(), &sides)?;
     let number = search.trace.len() as u32;
     let mut nets = LentNets::new();
     let effort = &PriceEffort::CHILD;
-    match improve(alloc, &below, &mut nets, number, inherited, effort, prices)? {
+    match improve(
+        resources, &below, &mut nets, number, inherited, effort, prices,
+    )? {
         Improved::Empty { .. } => Ok(emptied(number)),
         Improved::Priced { price, value, .. } => Ok(priced(price, value)),
     }
@@ -58,8 +61,8 @@ pub(crate) fn new_child(
 
 // What is kept of such a leaf of which this was kept, improved with more effort.
 #[tactic(auto, using(fp_duals_leaves::proofs::GrownPrices::HaveGrown_none))]
-fn better_child(
-    alloc: Global,
+fn better_child<D: Deadline>(
+    resources: &Resources<D>,
     search: &Search,
     leaf: &Leaf,
     side: Side,
@@ -74,11 +77,11 @@ fn better_child(
     ensures kept { IfOk result (λ kept.
         IsKept (history search.now prices.new) (leaf.now.sides ++ (side ∷ [])) kept.payload kept.value) }
 {
-    let sides = sides_below(alloc, leaf, side)?;
-    let below = Leaf::of(alloc, leaf.round(), leaf.windows(), &sides)?;
+    let sides = sides_below(resources.alloc, leaf, side)?;
+    let below = Leaf::of(resources.alloc, leaf.round(), leaf.windows(), &sides)?;
     let mut nets = LentNets::new();
     let effort = &PriceEffort::CHOSEN;
-    match improved(alloc, search, &below, &mut nets, old, effort, prices)? {
+    match improved(resources, search, &below, &mut nets, old, effort, prices)? {
         Outcome::Empty { kept } => Ok(kept),
         Outcome::Open { kept, .. } => Ok(kept),
     }
@@ -88,8 +91,8 @@ fn better_child(
 // to it as of the round that the price is of: points that were added since can make a table worth
 // less.
 #[tactic(auto, using(fp_duals_leaves::proofs::GrownPrices::HaveGrown_none))]
-fn as_above(
-    alloc: Global,
+fn as_above<D: Deadline>(
+    resources: &Resources<D>,
     search: &Search,
     leaf: &Leaf,
     side: Side,
@@ -105,13 +108,26 @@ fn as_above(
     ensures kept { IfOk result (λ kept.
         IsKept (history search.now prices.new) (leaf.now.sides ++ (side ∷ [])) kept.payload kept.value) }
 {
-    let network = Network::of(alloc, &search.instance, &search.points, above.round)?;
-    let round = RoundNetwork::over(alloc, &search.instance, network)?;
-    let sides = sides_below(alloc, leaf, side)?;
-    let below = Leaf::of(alloc, &round, &search.windows, &sides)?;
+    let network = Network::of(
+        resources.alloc,
+        &search.instance,
+        &search.points,
+        above.round,
+    )?;
+    let round = RoundNetwork::over(resources.alloc, &search.instance, network)?;
+    let sides = sides_below(resources.alloc, leaf, side)?;
+    let below = Leaf::of(resources.alloc, &round, &search.windows, &sides)?;
     let mut nets = LentNets::new();
     let effort = &PriceEffort::NONE;
-    match improve(alloc, &below, &mut nets, above.round, above, effort, prices)? {
+    match improve(
+        resources,
+        &below,
+        &mut nets,
+        above.round,
+        above,
+        effort,
+        prices,
+    )? {
         Improved::Empty { .. } => Ok(old),
         Improved::Priced { price, value, .. } => Ok(greater(old, price, value)),
     }
@@ -121,8 +137,8 @@ fn as_above(
 // kept: improved with more effort where it is worth less than the leaf above, and at last, where
 // spans are sought, by the price of that leaf as of its round.
 #[tactic(auto, using(fp_duals_leaves::proofs::GrownPrices::HaveGrown_none))]
-pub(crate) fn raised(
-    alloc: Global,
+pub(crate) fn raised<D: Deadline>(
+    resources: &Resources<D>,
     search: &Search,
     leaf: &Leaf,
     side: Side,
@@ -143,18 +159,18 @@ pub(crate) fn raised(
     if kept.payload.empty || kept.value >= above.value {
         return Ok(kept);
     }
-    let kept = better_child(alloc, search, leaf, side, kept, prices)?;
+    let kept = better_child(resources, search, leaf, side, kept, prices)?;
     let price = above.payload.price;
     let earlier = (price.round as usize) < search.trace.len();
     if kept.payload.empty || kept.value >= above.value || !earlier || prices.unit().is_none() {
         return Ok(kept);
     }
-    as_above(alloc, search, leaf, side, price, kept, prices)
+    as_above(resources, search, leaf, side, price, kept, prices)
 }
 
 // What is kept of the leaf on one side of a split, below a leaf of which this is kept.
-pub(crate) fn child(
-    alloc: Global,
+pub(crate) fn child<D: Deadline>(
+    resources: &Resources<D>,
     search: &Search,
     leaf: &Leaf,
     side: Side,
@@ -170,6 +186,6 @@ pub(crate) fn child(
     ensures kept { IfOk result (λ kept.
         IsKept (history search.now prices.new) (leaf.now.sides ++ (side ∷ [])) kept.payload kept.value) }
 {
-    let kept = new_child(alloc, search, leaf, side, above.payload.price, prices)?;
-    raised(alloc, search, leaf, side, kept, above, prices)
+    let kept = new_child(resources, search, leaf, side, above.payload.price, prices)?;
+    raised(resources, search, leaf, side, kept, above, prices)
 }

@@ -13,10 +13,10 @@ use crate::dividing::Several;
 use crate::kept::{Below, Kept};
 use crate::searches::Search;
 use fp_duals_leaves::Prices;
+use fp_ends::{Deadline, Resources};
 use fp_prices::{Leaf, LeafPrice};
 use fp_relaxmodel::TimedWalk;
 use fp_session_branching::{Candidate, candidates};
-use std::alloc::Global;
 
 // So many candidates are tried. More of them cost time and were measured to gain nothing on lines
 // and hubs.
@@ -70,8 +70,8 @@ fn promise_of(search: &Search, below: Below) -> Promise {
 }
 
 // What is kept of the sides of a candidate's split after little effort.
-fn both_sides(
-    alloc: Global,
+fn both_sides<D: Deadline>(
+    resources: &Resources<D>,
     search: &Search,
     leaf: &Leaf,
     candidate: Candidate,
@@ -87,8 +87,15 @@ fn both_sides(
 {
     let split = candidate.split;
     let tail = candidate.terminal;
-    let first = new_child(alloc, search, leaf, split.first(), inherited, prices)?;
-    let second = new_child(alloc, search, leaf, split.second(tail), inherited, prices)?;
+    let first = new_child(resources, search, leaf, split.first(), inherited, prices)?;
+    let second = new_child(
+        resources,
+        search,
+        leaf,
+        split.second(tail),
+        inherited,
+        prices,
+    )?;
     Ok(Below { first, second })
 }
 
@@ -105,8 +112,8 @@ fn trial_of(search: &Search, candidate: Candidate, below: Below, before: u32, af
 }
 
 // A trial of a candidate. The prices are as before: further tables serve the trial alone.
-fn tried(
-    alloc: Global,
+fn tried<D: Deadline>(
+    resources: &Resources<D>,
     search: &Search,
     leaf: &Leaf,
     candidate: Candidate,
@@ -122,7 +129,7 @@ fn tried(
     ensures chosen { IfOk result (λ trial. IsChosen (history search.now prices.old) leaf.now trial.chosen) }
 {
     let count = prices.count();
-    match both_sides(alloc, search, leaf, candidate, inherited, prices) {
+    match both_sides(resources, search, leaf, candidate, inherited, prices) {
         Ok(below) => {
             let after = prices.count();
             prices.cut(count);
@@ -135,9 +142,10 @@ fn tried(
     }
 }
 
-// The candidate whose sides promise most, the first of these. The prices are as before.
-fn best(
-    alloc: Global,
+// The candidate whose sides promise most, the first of these, of those that are tried in time. The
+// prices are as before.
+fn best<D: Deadline>(
+    resources: &Resources<D>,
     search: &Search,
     leaf: &Leaf,
     list: &[Candidate],
@@ -153,9 +161,12 @@ fn best(
     ensures same { prices.new ≡ prices.old }
     ensures chosen { IfOk result (IsChosen (history search.now prices.old) leaf.now) }
 {
-    let mut best = tried(alloc, search, leaf, list[0], inherited, prices)?;
+    let mut best = tried(resources, search, leaf, list[0], inherited, prices)?;
     for place in 1..list.len() {
-        let next = tried(alloc, search, leaf, list[place], inherited, prices)?;
+        if resources.is_over() {
+            break;
+        }
+        let next = tried(resources, search, leaf, list[place], inherited, prices)?;
         if is_more(next.promise, best.promise) {
             best = next;
         }
@@ -165,9 +176,9 @@ fn best(
 
 // By which candidate a leaf is split in which a shipment has several ways to go: of the first few,
 // by the leaf's price and by walks of least cost under it, the one whose sides promise most. One
-// alone isn't tried. The prices are as before.
-pub(crate) fn choice(
-    alloc: Global,
+// alone isn't tried, and none where the time is over. The prices are as before.
+pub(crate) fn choice<D: Deadline>(
+    resources: &Resources<D>,
     search: &Search,
     leaf: &Leaf,
     several: Several,
@@ -184,7 +195,7 @@ pub(crate) fn choice(
     ensures chosen { IfOk result (IsChosen (history search.now prices.old) leaf.now) }
 {
     let list = candidates(
-        alloc,
+        resources.alloc,
         leaf,
         prices.tables(),
         price.kind,
@@ -192,11 +203,11 @@ pub(crate) fn choice(
         walks,
         MOST_TRIED,
     )?;
-    if list.len() == 1 {
+    if list.len() == 1 || resources.is_over() {
         return Ok(Chosen {
             candidate: list[0],
             below: None,
         });
     }
-    best(alloc, search, leaf, &list, price, prices)
+    best(resources, search, leaf, &list, price, prices)
 }

@@ -15,6 +15,7 @@ use crate::moves::Division;
 use crate::searches::Search;
 use fp_allowed::ChainEnd;
 use fp_duals_leaves::Prices;
+use fp_ends::{Deadline, Resources};
 use fp_prices::Leaf;
 use std::alloc::Global;
 
@@ -58,8 +59,8 @@ pub(crate) fn first_several(
 
 // What is kept of the two leaves below a leaf of which that is kept and that is split by a candidate.
 // Where a trial told what is kept of them, they aren't priced again with little effort.
-fn leaves_below(
-    alloc: Global,
+fn leaves_below<D: Deadline>(
+    resources: &Resources<D>,
     search: &Search,
     leaf: &Leaf,
     chosen: Chosen,
@@ -79,21 +80,21 @@ fn leaves_below(
     let other = chosen.candidate.split.second(chosen.candidate.terminal);
     match chosen.below {
         Some(tried) => {
-            let first = raised(alloc, search, leaf, one, tried.first, above, prices)?;
-            let second = raised(alloc, search, leaf, other, tried.second, above, prices)?;
+            let first = raised(resources, search, leaf, one, tried.first, above, prices)?;
+            let second = raised(resources, search, leaf, other, tried.second, above, prices)?;
             Ok(Below { first, second })
         }
         None => {
-            let first = child(alloc, search, leaf, one, above, prices)?;
-            let second = child(alloc, search, leaf, other, above, prices)?;
+            let first = child(resources, search, leaf, one, above, prices)?;
+            let second = child(resources, search, leaf, other, above, prices)?;
             Ok(Below { first, second })
         }
     }
 }
 
 // The division of a leaf of which this is kept, by a candidate that was chosen.
-pub(crate) fn division(
-    alloc: Global,
+pub(crate) fn division<D: Deadline>(
+    resources: &Resources<D>,
     search: &Search,
     leaf: &Leaf,
     chosen: Chosen,
@@ -109,7 +110,7 @@ pub(crate) fn division(
     ensures grown { HaveGrown search.now.instance prices.old prices.new }
     ensures division { IfOk result (IsDivision (history search.now prices.new) leaf.now.sides) }
 {
-    let below = leaves_below(alloc, search, leaf, chosen, above, prices)?;
+    let below = leaves_below(resources, search, leaf, chosen, above, prices)?;
     Ok(Division {
         split: chosen.candidate.split,
         tail: chosen.candidate.terminal,

@@ -14,9 +14,9 @@ use crate::searches::Search;
 use fp_duals::Improved;
 use fp_duals_leaves::{PriceEffort, Prices, improve};
 use fp_duals_nets::LentNets;
+use fp_ends::{Deadline, Resources};
 use fp_prices::{Kind, Leaf, LeafPrice};
 use fp_tree::Side;
-use std::alloc::Global;
 
 // What is kept of a leaf that is empty as of a round.
 pub(crate) fn emptied(round: u32) -> Kept
@@ -66,8 +66,8 @@ pub(crate) fn greater(old: Kept, price: LeafPrice, value: u128) -> Kept
 
 // What is kept of a leaf of which this was kept before, after its price was improved as of the last
 // round. The new price is kept only where its value is greater.
-pub(crate) fn improved(
-    alloc: Global,
+pub(crate) fn improved<D: Deadline>(
+    resources: &Resources<D>,
     search: &Search,
     leaf: &Leaf,
     nets: &mut LentNets,
@@ -85,7 +85,7 @@ pub(crate) fn improved(
 {
     let round = search.trace.len() as u32;
     let inherited = old.payload.price;
-    match improve(alloc, leaf, nets, round, inherited, effort, prices)? {
+    match improve(resources, leaf, nets, round, inherited, effort, prices)? {
         Improved::Empty { .. } => Ok(Outcome::Empty {
             kept: emptied(round),
         }),
@@ -101,7 +101,8 @@ pub(crate) fn improved(
 }
 
 // The effort at a leaf that a step has chosen: more at the root. One that was improved before over
-// the same points keeps its price, and its walks alone are found again.
+// the same points keeps its price, and its walks alone are found again; so it is where the time is
+// over.
 fn effort_at(sides: &[Side], again: bool) -> PriceEffort {
     if again {
         PriceEffort::NONE
@@ -110,6 +111,12 @@ fn effort_at(sides: &[Side], again: bool) -> PriceEffort {
     } else {
         PriceEffort::CHOSEN
     }
+}
+
+// How many hundredths of a time that has an end may be over while a leaf is improved: the root leaves
+// some for walks that make cheaper plans.
+fn share_of(sides: &[Side]) -> u32 {
+    if sides.is_empty() { 70 } else { 100 }
 }
 
 // What came of improving a leaf, with a note that a step did so as of a round.
@@ -132,8 +139,8 @@ fn noted(outcome: Outcome, round: u32) -> Outcome
 }
 
 // What comes of improving a leaf that a step has chosen, of which this was kept before.
-pub(crate) fn improved_by_step(
-    alloc: Global,
+pub(crate) fn improved_by_step<D: Deadline>(
+    resources: &Resources<D>,
     search: &Search,
     leaf: &Leaf,
     nets: &mut LentNets,
@@ -149,7 +156,9 @@ pub(crate) fn improved_by_step(
         (IsOutcome (history search.now prices.new) leaf.now.sides old) }
 {
     let round = search.trace.len() as u32;
-    let effort = effort_at(leaf.sides(), old.payload.improved == Some(round));
-    let outcome = improved(alloc, search, leaf, nets, old, &effort, prices)?;
+    let again = old.payload.improved == Some(round);
+    let effort = effort_at(leaf.sides(), again || resources.is_over());
+    let within = resources.part(share_of(leaf.sides()));
+    let outcome = improved(&within, search, leaf, nets, old, &effort, prices)?;
     Ok(noted(outcome, round))
 }

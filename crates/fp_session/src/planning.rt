@@ -1,5 +1,5 @@
 //! What a step is going to do at an open leaf.
-ghost use Rattle.std.specs.Prelude.{◌≡◌, ◌<◌, ◌≤◌, None, IfOk, IsTrue, ◌↔◌, IsSomeAnd, false, length};
+ghost use Rattle.std.specs.Prelude.{◌≡◌, ◌<◌, ◌≤◌, None, IfOk, IsTrue, ◌↔◌, IsSomeAnd, false, true, length};
 ghost use Rattle.fp_base_lists.specs.Distinct.{AreDistinct};
 ghost use Rattle.fp_model.specs.Costs.{cost as cost_of};
 ghost use Rattle.fp_model.specs.Routes.{ArcsExist};
@@ -11,8 +11,8 @@ ghost use Rattle.fp_prices.specs.Tables.{HasKind};
 ghost use Rattle.fp_session_history.specs.Notes.{worth_of};
 ghost use Rattle.fp_session_history.specs.Solutions.{AreWalksUnder};
 ghost use Rattle.fp_session.specs.Dividing.{IsSeveral};
-ghost use Rattle.fp_session.specs.Moves.{AtOpenLeaf, IsDivision, IsMove, IsOpenMove, points_now};
-ghost use Rattle.fp_session.specs.Nodes.{IsKeptAs};
+ghost use Rattle.fp_session.specs.Moves.{AtOpenLeaf, IsDivision, IsMove, IsOpenMove, IsTimelyMove, points_now};
+ghost use Rattle.fp_session.specs.Nodes.{IsKeptAs, IsSettled};
 ghost use Rattle.fp_session.specs.Outcomes.{IsFound};
 ghost use Rattle.fp_duals_leaves.specs.Prices.{ArePrices, HaveGrown};
 ghost use Rattle.fp_session.specs.Searches.{IsSearch, history, setting_of};
@@ -24,13 +24,14 @@ use crate::improving::improved_by_step;
 use crate::kept::Kept;
 use crate::moves::{Division, Move};
 use crate::outcomes::Outcome;
-use crate::redrawing::unless_cheaper;
+use crate::redrawing::{first_look, unless_cheaper};
 use crate::searches::Search;
 use crate::timing::{Timing, timed};
 use crate::walks::{are_cheaper, cheaper_walks, walks_by_price, walks_to_split_by};
 use fp_certificate_rules::reaches;
 use fp_duals_leaves::Prices;
 use fp_duals_nets::LentNets;
+use fp_ends::{Deadline, Resources};
 use fp_prices::{Leaf, RoundNetwork};
 use fp_relaxmodel::{RelaxedPlan, TimedWalk};
 use fp_session_history::Left;
@@ -63,8 +64,8 @@ fn is_dear(search: &Search, prices: &Prices, value: u128) -> bool
 
 // What a step is going to do where a relaxed plan under the sides of a leaf costs less than the
 // incumbent.
-fn timed_move(
-    alloc: Global,
+fn timed_move<D: Deadline>(
+    resources: &Resources<D>,
     search: &Search,
     leaf: &Leaf,
     number: u32,
@@ -79,7 +80,7 @@ fn timed_move(
     requires cheaper { cost_of search.now.instance relaxed < search.now.cost }
     ensures { IfOk result (IsOpenMove search.now prices.now number leaf.now.sides) }
 {
-    match timed(alloc, search, prices, relaxed)? {
+    match timed(resources, search, prices, relaxed)? {
         Timing::Better { cheaper } => Ok(Move::Better { cheaper }),
         Timing::Refine { round } => Ok(Move::Refine {
             note: round.note,
@@ -97,8 +98,8 @@ fn timed_move(
 // How a leaf is divided in which a shipment has several ways to go, and of whose walks no cheaper plan
 // can come, where a branch is left.
 #[tactic(auto, using(fp_duals_leaves::proofs::GrownPrices::HaveGrown_none))]
-fn several_move(
-    alloc: Global,
+fn several_move<D: Deadline>(
+    resources: &Resources<D>,
     search: &Search,
     leaf: &Leaf,
     several: Several,
@@ -116,16 +117,16 @@ fn several_move(
     ensures division { IfOk result (IsDivision (history search.now prices.new) leaf.now.sides) }
 {
     let price = kept.payload.price;
-    let chosen = choice(alloc, search, leaf, several, price, walks, prices)?;
-    division(alloc, search, leaf, chosen, kept, prices)
+    let chosen = choice(resources, search, leaf, several, price, walks, prices)?;
+    division(resources, search, leaf, chosen, kept, prices)
 }
 
 // What a step is going to do at an open leaf that is worth less than the incumbent costs, where these
 // are walks under its sides. It is split by them, or by its walks by tables, where these are others;
 // but only where a cheaper plan can't come of them: such walks call for a round.
 #[tactic(auto, using(fp_duals_leaves::proofs::GrownPrices::HaveGrown_none))]
-fn move_by(
-    alloc: Global,
+fn move_by<D: Deadline>(
+    resources: &Resources<D>,
     search: &Search,
     leaf: &Leaf,
     nets: &mut LentNets,
@@ -148,18 +149,18 @@ fn move_by(
     } = found;
     let least = &relaxed.walks;
     let priced = kept.payload.price.round;
-    if let Some(cheaper) = cheaper_walks(alloc, search, leaf, nets, least, priced, prices)? {
-        match timed_move(alloc, search, leaf, number, cheaper, prices)? {
+    if let Some(cheaper) = cheaper_walks(resources, search, leaf, nets, least, priced, prices)? {
+        match timed_move(resources, search, leaf, number, cheaper, prices)? {
             // No round is left, but there may be a branch.
             Move::Stop { .. } => {}
             planned => return Ok(planned),
         }
     }
     if are_cheaper(search, &relaxed) {
-        return timed_move(alloc, search, leaf, number, relaxed, prices);
+        return timed_move(resources, search, leaf, number, relaxed, prices);
     }
     let shipments = search.instance.shipments().len() as u32;
-    match first_several(alloc, leaf, shipments)? {
+    match first_several(resources.alloc, leaf, shipments)? {
         // Where no shipment has several ways to go, the walks are routes and cost less.
         None => unreachable!(),
         Some(several) => {
@@ -172,7 +173,7 @@ fn move_by(
                 });
             }
             let walks = walks_to_split_by(&search.instance, &relaxed, by_tables.as_deref());
-            let division = several_move(alloc, search, leaf, several, kept, walks, prices)?;
+            let division = several_move(resources, search, leaf, several, kept, walks, prices)?;
             Ok(Move::Divide { division })
         }
     }
@@ -224,8 +225,8 @@ fn kept_at(search: &Search, number: u32) -> Kept
 // What a step is going to do at an open leaf of which this was kept and which isn't known to be
 // empty, and what it keeps of it.
 #[tactic(auto, using(fp_duals_leaves::proofs::GrownPrices::HaveGrown_none))]
-fn open_move(
-    alloc: Global,
+fn open_move<D: Deadline>(
+    resources: &Resources<D>,
     search: &Search,
     number: u32,
     old: Kept,
@@ -239,13 +240,14 @@ fn open_move(
     ensures grown { HaveGrown search.now.instance prices.old prices.new }
     ensures planned { IfOk result
         (λ p. IsMove search.now prices.new number p.kept p.planned) }
+    ensures timely { IfOk result (λ p. IsTimelyMove (D.ends resources.now.deadline) p.planned) }
 {
-    let network = search.network.copy(alloc)?;
-    let round = RoundNetwork::over(alloc, &search.instance, network)?;
-    let sides = search.tree.leaf_sides(alloc, number)?;
-    let leaf = Leaf::of(alloc, &round, &search.windows, &sides)?;
+    let network = search.network.copy(resources.alloc)?;
+    let round = RoundNetwork::over(resources.alloc, &search.instance, network)?;
+    let sides = search.tree.leaf_sides(resources.alloc, number)?;
+    let leaf = Leaf::of(resources.alloc, &round, &search.windows, &sides)?;
     let mut nets = LentNets::new();
-    match improved_by_step(alloc, search, &leaf, &mut nets, old, prices)? {
+    match improved_by_step(resources, search, &leaf, &mut nets, old, prices)? {
         Outcome::Empty { kept } => Ok(Planned {
             kept,
             planned: Move::Close,
@@ -257,19 +259,50 @@ fn open_move(
                     planned: Move::Close,
                 });
             }
-            let found = found_at(alloc, search, &leaf, &mut nets, kept, walks, prices)?;
-            let planned = move_by(alloc, search, &leaf, &mut nets, number, found, prices)?;
-            let planned = unless_cheaper(alloc, search, &leaf, number, planned, prices)?;
+            if resources.is_over() {
+                let left = Left::Unsettled { leaf: number };
+                return Ok(Planned {
+                    kept,
+                    planned: Move::Stop { left },
+                });
+            }
+            let found = found_at(
+                resources.alloc,
+                search,
+                &leaf,
+                &mut nets,
+                kept,
+                walks,
+                prices,
+            )?;
+            let planned = move_by(resources, search, &leaf, &mut nets, number, found, prices)?;
+            let planned = unless_cheaper(resources, search, &leaf, number, planned, prices)?;
             Ok(Planned { kept, planned })
         }
     }
 }
 
-// What a step is going to do at an open leaf, and what it keeps of it. Also without memory the
-// prices have only grown.
+// Whether a leaf of which this was kept is known to be settled: it is empty, or, which is asked where
+// the time is over alone, worth at least what the incumbent costs.
+fn is_settled<D: Deadline>(
+    resources: &Resources<D>,
+    search: &Search,
+    prices: &Prices,
+    old: Kept,
+) -> bool
+    requires { ArePrices search.now.instance prices.now }
+    ensures settled { result ≡ true
+        → IsSettled (history search.now prices.now) search.now.cost old.payload old.value }
+    ensures some { result ≡ false → old.payload.empty ≡ false }
+{
+    old.payload.empty || resources.is_over() && is_dear(search, prices, old.value)
+}
+
+// What a step is going to do at an open leaf, and what it keeps of it. Where the time is over it ends
+// the search, unless it finds the leaf settled. Also without memory the prices have only grown.
 #[tactic(auto, using(fp_duals_leaves::proofs::GrownPrices::HaveGrown_none))]
-pub(crate) fn next_move(
-    alloc: Global,
+pub(crate) fn next_move<D: Deadline>(
+    resources: &Resources<D>,
     search: &Search,
     number: u32,
     prices: &mut Prices,
@@ -281,13 +314,20 @@ pub(crate) fn next_move(
     ensures grown { HaveGrown search.now.instance prices.old prices.new }
     ensures planned { IfOk result
         (λ p. IsMove search.now prices.new number p.kept p.planned) }
+    ensures timely { IfOk result (λ p. IsTimelyMove (D.ends resources.now.deadline) p.planned) }
 {
     let old = kept_at(search, number);
-    if old.payload.empty {
+    if is_settled(resources, search, prices, old) {
         return Ok(Planned {
             kept: old,
             planned: Move::Close,
         });
     }
-    open_move(alloc, search, number, old, prices)
+    if let Some(cheaper) = first_look(resources, search, prices)? {
+        return Ok(Planned {
+            kept: old,
+            planned: Move::Better { cheaper },
+        });
+    }
+    open_move(resources, search, number, old, prices)
 }

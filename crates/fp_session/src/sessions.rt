@@ -1,11 +1,13 @@
 //! A search, step by step.
-ghost use Rattle.std.specs.Prelude.{◌≡◌, None, Ok, IfOk, IfSome, IsSomeAnd, OnErr};
+ghost use Rattle.std.specs.Prelude.{◌≡◌, None, Ok, IfOk, IfSome, IsSomeAnd, OnErr, false};
+ghost use Rattle.fp_ends.specs.Deadlines.{IsLater, has_shown};
 ghost use Rattle.fp_model.specs.Plans.{IsPlan};
 ghost use Rattle.fp_flatnet.specs.Belonging.{BelongsTo};
 ghost use Rattle.fp_flatnet.specs.Tables.{windows_in};
 ghost use Rattle.fp_flatnet.specs.Windows.{PlanLiesWithin};
 ghost use Rattle.fp_session.specs.declared.steps.Step.TheVariants.{Done};
 ghost use Rattle.fp_session_history.specs.Budgets.{IsBudget};
+ghost use Rattle.fp_session_history.specs.Solutions.{IsTimely};
 ghost use Rattle.fp_session.specs.Certificates.{IsPricedBy};
 ghost use Rattle.fp_certificate_rules.specs.Units.{IsGreatestUnit};
 ghost use Rattle.fp_duals_leaves.specs.Prices.{ArePrices};
@@ -24,6 +26,7 @@ use crate::starts::started;
 use crate::steps::Step;
 use fp_certificate_rules::unit_of;
 use fp_duals_leaves::Prices;
+use fp_ends::{Clock, StillClock};
 use fp_flatnet::Windows;
 use fp_model::{Instance, Plan};
 use fp_session_history::Budget;
@@ -132,13 +135,37 @@ impl Session {
         ensures step { IfOk result (IsStep (hand_of self.old) (hand_of self.new)) }
         ensures order { IfOk result (λ step. self.old.left ≡ None → IsInOrder (hand_of self.old) (hand_of self.new) step) }
         ensures fixed { StayFixed (hand_of self.old) (hand_of self.new) }
+        ensures timed { self.old.left ≡ None → IfSome self.new.left (IsTimely false) }
         ensures answer { IfSome self.old.left (λ left. result ≡ Ok (Done (ending_of left))) }
         ensures ended { IfSome self.old.left (λ left. self.new ≡ self.old) }
         ensures err { OnErr result (self.new ≡ self.old) }
         ensures sound { IsSound self.new }
         ensures unit { self.new.prices.unit ≡ self.old.prices.unit }
     {
-        advance(alloc, &mut self.search, &mut self.prices)
+        self.step_within(alloc, &mut StillClock::new(), None)
+    }
+
+    /// The same in the time that there is: until a clock shows so many seconds, or fails. Then the step
+    /// closes a leaf that is settled, or ends the search at one that isn't; before, or with no seconds, no
+    /// search ends so.
+    pub fn step_within<C: Clock>(
+        &mut self,
+        alloc: Global,
+        clock: &mut C,
+        seconds: Option<u32>,
+    ) -> Result<Step, NoMemory>
+        ensures step { IfOk result (IsStep (hand_of self.old) (hand_of self.new)) }
+        ensures order { IfOk result (λ step. self.old.left ≡ None → IsInOrder (hand_of self.old) (hand_of self.new) step) }
+        ensures fixed { StayFixed (hand_of self.old) (hand_of self.new) }
+        ensures timed { self.old.left ≡ None → IfSome self.new.left (IsTimely (has_shown seconds (C.moment clock.new) (C.faults clock.old) (C.faults clock.new))) }
+        ensures later { IsLater (C.moment clock.old) (C.moment clock.new) (C.faults clock.old) (C.faults clock.new) }
+        ensures answer { IfSome self.old.left (λ left. result ≡ Ok (Done (ending_of left))) }
+        ensures ended { IfSome self.old.left (λ left. self.new ≡ self.old) }
+        ensures err { OnErr result (self.new ≡ self.old) }
+        ensures sound { IsSound self.new }
+        ensures unit { self.new.prices.unit ≡ self.old.prices.unit }
+    {
+        advance(alloc, clock, seconds, &mut self.search, &mut self.prices)
     }
 
     /// Steps until the search has ended, and what it shows then: the plan costs no more than the one
@@ -148,10 +175,28 @@ impl Session {
         ensures solved { IfOk result (IsSolved self.instance self.windows self.budget self.started) }
         ensures onward { IfOk result (GoesOnFrom (hand_of self)) }
         ensures priced { IfOk result (λ x. IsPricedBy self.prices.unit x.certificate) }
+        ensures timed { self.left ≡ None → IfOk result (λ x. IsTimely false x.left) }
+    {
+        self.solve_within(alloc, &mut StillClock::new(), None)
+    }
+
+    /// The same until a clock shows so many seconds, or fails: it ends for want of time only where the
+    /// clock did so in this call.
+    pub fn solve_within<C: Clock>(
+        self,
+        alloc: Global,
+        clock: &mut C,
+        seconds: Option<u32>,
+    ) -> Result<Solved, NoMemory>
+        ensures solved { IfOk result (IsSolved self.instance self.windows self.budget self.started) }
+        ensures onward { IfOk result (GoesOnFrom (hand_of self)) }
+        ensures priced { IfOk result (λ x. IsPricedBy self.prices.unit x.certificate) }
+        ensures timed { self.left ≡ None → IfOk result (λ x. IsTimely (has_shown seconds (C.moment clock.new) (C.faults clock.old) (C.faults clock.new)) x.left) }
+        ensures later { IsLater (C.moment clock.old) (C.moment clock.new) (C.faults clock.old) (C.faults clock.new) }
     {
         let mut search = self.search;
         let mut prices = self.prices;
-        finish(alloc, &mut search, &mut prices)?;
+        finish(alloc, clock, seconds, &mut search, &mut prices)?;
         let Some(left) = search.left.take() else {
             unreachable!()
         };

@@ -23,6 +23,7 @@ use crate::searches::Search;
 use fp_duals::Improved;
 use fp_duals_leaves::{PriceEffort, Prices, improve};
 use fp_duals_nets::LentNets;
+use fp_ends::Resources;
 use fp_flatnet::{Windows, initial};
 use fp_longestarcs::Network;
 use fp_model::{Instance, Plan};
@@ -58,7 +59,8 @@ fn root(
     };
     let mut nets = LentNets::new();
     let effort = &PriceEffort::CHILD;
-    match improve(alloc, &leaf, &mut nets, 0, linear, effort, prices)? {
+    let resources = &Resources::endless(alloc);
+    match improve(resources, &leaf, &mut nets, 0, linear, effort, prices)? {
         Improved::Empty { .. } => Ok(emptied(0)),
         Improved::Priced { price, value, .. } => Ok(priced(price, value)),
     }

@@ -14,8 +14,9 @@ use crate::moves::{Cheaper, Refined};
 use crate::refining::{places_of, refined};
 use crate::searches::Search;
 use fp_duals_leaves::Prices;
+use fp_ends::{Deadline, Resources};
 use fp_relaxmodel::RelaxedPlan;
-use fp_repair::repair;
+use fp_repair::repair_within;
 use fp_session_history::RoundNote;
 use fp_shortarcs::too_short;
 use fp_timetable::cost;
@@ -74,8 +75,8 @@ fn next_round(
 }
 
 // What comes of a relaxed plan that costs less than the incumbent.
-pub(crate) fn timed(
-    alloc: Global,
+pub(crate) fn timed<D: Deadline>(
+    resources: &Resources<D>,
     search: &Search,
     prices: &Prices,
     relaxed: RelaxedPlan,
@@ -86,15 +87,15 @@ pub(crate) fn timed(
     requires cheaper { cost_of search.now.instance relaxed < search.now.cost }
     ensures { IfOk result (IsTiming search.now relaxed) }
 {
-    let plan = repair(
-        alloc,
+    let plan = repair_within(
+        resources,
         &search.instance,
         &search.windows,
         &relaxed,
         &search.incumbent,
     )?
     .plan;
-    let cost = cost(alloc, &search.instance, &plan)?;
+    let cost = cost(resources.alloc, &search.instance, &plan)?;
     if cost < search.cost {
         return Ok(Timing::Better {
             cheaper: Cheaper { plan, cost },
@@ -103,6 +104,6 @@ pub(crate) fn timed(
     if search.trace.len() >= search.budget.rounds as usize {
         return Ok(Timing::Spent { relaxed });
     }
-    let round = next_round(alloc, search, prices, relaxed)?;
+    let round = next_round(resources.alloc, search, prices, relaxed)?;
     Ok(Timing::Refine { round })
 }

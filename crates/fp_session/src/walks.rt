@@ -16,6 +16,7 @@ use crate::searches::Search;
 use fp_duals_leaves::{Prices, walks_by_spans};
 use fp_duals_nets::LentNets;
 use fp_duals_walks::cheap_walks;
+use fp_ends::{Deadline, Resources};
 use fp_model::Instance;
 use fp_prices::{Leaf, LeafPrice};
 use fp_relaxmodel::{RelaxedPlan, TimedWalk, coarsen, is_route, relaxed_cost};
@@ -69,8 +70,8 @@ pub(crate) fn are_cheaper(search: &Search, relaxed: &RelaxedPlan) -> bool
 // Walks under the sides of a leaf that are routes and cost less than the incumbent, where spans are
 // sought, the price of the leaf is of one of the last rounds, and a local search over the leaf's nets
 // finds such walks: from the classes of the incumbent, and from the given walks.
-pub(crate) fn cheaper_walks(
-    alloc: Global,
+pub(crate) fn cheaper_walks<D: Deadline>(
+    resources: &Resources<D>,
     search: &Search,
     leaf: &Leaf,
     nets: &mut LentNets,
@@ -88,8 +89,14 @@ pub(crate) fn cheaper_walks(
         return Ok(None);
     }
     let incumbent = &search.incumbent;
-    let coarse = coarsen(alloc, instance, &search.windows, &search.network, incumbent)?;
-    match cheap_walks(alloc, leaf, nets, &[&coarse.walks, least], TURNS)? {
+    let coarse = coarsen(
+        resources.alloc,
+        instance,
+        &search.windows,
+        &search.network,
+        incumbent,
+    )?;
+    match cheap_walks(resources, leaf, nets, &[&coarse.walks, least], TURNS)? {
         Some(walks) => {
             let relaxed = RelaxedPlan { walks };
             if are_cheaper(search, &relaxed) {

@@ -20,7 +20,7 @@ use Rattle.fp_certificate_rules.specs.Leaves.{fork_of}
 use Rattle.fp_certificate_rules.specs.Plans.{stated_cost}
 use Rattle.fp_session_history.specs.declared.budgets.Budget.{Budget}
 use Rattle.fp_session_history.specs.declared.endings.Left.{Left}
-use Rattle.fp_session_history.specs.declared.endings.Left.TheVariants.{Nothing, Several, Timing}
+use Rattle.fp_session_history.specs.declared.endings.Left.TheVariants.{Nothing, Several, Timing, Unsettled}
 use Rattle.fp_session_history.specs.Clashes.{ClashesBelow}
 use Rattle.fp_session_history.specs.Enough.{EnoughBranches, EnoughRounds}
 use Rattle.fp_session_history.specs.Notes.{History}
@@ -33,6 +33,7 @@ rounds-used : (h : History) (budget : Budget) (leaves : List (Leaf Node)) (branc
 rounds-used h budget leaves branches Nothing cost bound cause = absurd cause
 rounds-used h budget leaves branches (Timing leaf relaxed) cost bound cause = (leaf, relaxed, cause.0)
 rounds-used h budget leaves branches (Several leaf shipment) cost bound cause = absurd cause
+rounds-used h budget leaves branches (Unsettled leaf) cost bound cause = absurd cause
 
 -- where branches were used up, they were as many as the budget has
 branches-used : (h : History) (budget : Budget) (leaves : List (Leaf Node)) (branches : List (Branch Node)) (left : Left) (cost bound : ℕ) → HasCause h budget leaves branches left (Unfinished cost bound Branches) →
@@ -40,6 +41,7 @@ branches-used : (h : History) (budget : Budget) (leaves : List (Leaf Node)) (bra
 branches-used h budget leaves branches Nothing cost bound cause = absurd cause
 branches-used h budget leaves branches (Timing leaf relaxed) cost bound cause = absurd cause
 branches-used h budget leaves branches (Several leaf shipment) cost bound cause = cause.0.spent
+branches-used h budget leaves branches (Unsettled leaf) cost bound cause = absurd cause
 
 -- no walks have times
 no-walks : (p : Problem) (table : WindowTable) → HaveTimes p (windows_in table) [] []

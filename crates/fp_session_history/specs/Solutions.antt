@@ -1,5 +1,5 @@
 -- What a search shows when it has ended, and when it has earned it.
-use Rattle.std.specs.Prelude.{ℕ, ◌<◌, ◌≤◌, ◌≡◌, List, length, IsSomeAnd, slice_get}
+use Rattle.std.specs.Prelude.{ℕ, ◌<◌, ◌≤◌, ◌≡◌, ⊤, Bool, true, List, length, IsSomeAnd, slice_get}
 use Rattle.std.specs.List.{AllByRecursion}
 use Rattle.fp_base_lists.specs.Numbered.{AllZipFrom}
 use Rattle.fp_model.specs.declared.parts.Leg.{Leg}
@@ -17,13 +17,13 @@ use Rattle.fp_allowed.specs.Walks.{IsTimedWalk}
 use Rattle.fp_certificate_lines.specs.declared.certificates.Answer.{Answer}
 use Rattle.fp_certificate_lines.specs.declared.certificates.Answer.TheVariants.{Optimal, Unfinished}
 use Rattle.fp_certificate_lines.specs.declared.certificates.Node.{Node}
-use Rattle.fp_certificate_lines.specs.declared.certificates.Spent.TheVariants.{Branches, Rounds}
+use Rattle.fp_certificate_lines.specs.declared.certificates.Spent.TheVariants.{Branches, Rounds, Time}
 use Rattle.fp_certificate_lines.specs.Statements.{Statement}
 use Rattle.fp_certificate_rules.specs.Leaves.{fork_of}
 use Rattle.fp_certificate_rules.specs.Plans.{stated_cost}
 use Rattle.fp_session_history.specs.declared.budgets.Budget.{Budget}
 use Rattle.fp_session_history.specs.declared.endings.Left.{Left}
-use Rattle.fp_session_history.specs.declared.endings.Left.TheVariants.{Nothing, Several, Timing}
+use Rattle.fp_session_history.specs.declared.endings.Left.TheVariants.{Nothing, Several, Timing, Unsettled}
 use Rattle.fp_session_history.specs.declared.notes.SplitNote.{SplitNote}
 use Rattle.fp_session_history.specs.Clashes.{ClashesBelow}
 use Rattle.fp_session_history.specs.Notes.{History, Refinement, added_of, last_round, points_of}
@@ -80,15 +80,29 @@ pub record HasUsedBranches (h : History) (budget : Budget) (leaves : List (Leaf 
   pub leaf_left : AtLeaf leaves leaf (λ price sides. IsOpenBelow h cost sides price)
   pub several : AtLeaf leaves leaf (λ price sides. HasSeveral h.problem h.windows (points_of h (last_round h)) sides shipment)
 
+-- the time was over: a leaf is left that is worth less than the cost
+pub record HasUsedTime (h : History) (leaves : List (Leaf Node)) (cost leaf : ℕ) : Type 0 where
+  pub leaf_left : AtLeaf leaves leaf (λ price sides. IsOpenBelow h cost sides price)
+
 -- an answer has its cause: it is optimal, and nothing was left; or it is unfinished, with the least
--- that a leaf is worth as its bound, below the cost, and all that it says was spent was used
+-- that a leaf is worth as its bound, below the cost, and all that it says was spent was used (for
+-- time see IsTimely)
 abbrev pub HasCause : History → Budget → List (Leaf Node) → List (Branch Node) → Left → Answer → Type 0
 HasCause h budget leaves branches Nothing (Optimal cost) = Unit {0}
 HasCause h budget leaves branches (Timing leaf relaxed) (Unfinished cost bound Rounds) =
     HasUsedRounds h budget leaves cost leaf relaxed × IsLeastWorth h leaves bound × (bound < cost)
 HasCause h budget leaves branches (Several leaf shipment) (Unfinished cost bound Branches) =
     HasUsedBranches h budget leaves branches cost leaf shipment × IsLeastWorth h leaves bound × (bound < cost)
+HasCause h budget leaves branches (Unsettled leaf) (Unfinished cost bound Time) =
+    HasUsedTime h leaves cost leaf × IsLeastWorth h leaves bound × (bound < cost)
 HasCause h budget leaves branches left answer = ⊥
+
+-- a search ended for want of time only where the time was over
+abbrev pub IsTimely : (over : Bool) → Left → Type 0
+IsTimely over Nothing = ⊤
+IsTimely over (Timing leaf relaxed) = ⊤
+IsTimely over (Several leaf shipment) = ⊤
+IsTimely over (Unsettled leaf) = over ≡ true
 
 -- a search has earned what it shows, from a plan of this cost on: its points are those that its
 -- rounds added, its rounds, its splits and its leaves are earned, each split divides departures, and

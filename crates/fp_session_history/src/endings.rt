@@ -7,7 +7,7 @@ use fp_relaxmodel::RelaxedPlan;
 pub enum Ending {
     /// Nothing is left to search: no plan is cheaper than the incumbent.
     Optimal,
-    /// It had spent all its rounds or all its branches.
+    /// It had spent all its rounds, all its branches or all its time.
     Unfinished { spent: Spent },
 }
 
@@ -21,4 +21,6 @@ pub enum Left {
     Timing { leaf: u32, relaxed: RelaxedPlan },
     /// A leaf in which a shipment has several ways to go.
     Several { leaf: u32, shipment: u32 },
+    /// A leaf that isn't empty and is worth less than the incumbent costs, where the time was over.
+    Unsettled { leaf: u32 },
 }

@@ -1,8 +1,8 @@
-//! The program: its words, its standard streams, and the top call.
+//! The program: its words, its standard streams, its clock, and the top call.
 #![tactic(auto)]
 
-use fp_app::{Status, run};
-use fp_ends::{StdSink, StdSource};
+use fp_app::{Status, run_within};
+use fp_ends::{StdClock, StdSink, StdSource};
 use std::process::ExitCode;
 use std::{env, io};
 
@@ -11,6 +11,7 @@ use std::{env, io};
 const NO_WORDS: u8 = 41;
 
 fn main(rt: HostRuntime) -> ExitCode {
+    let mut clock = StdClock::new(&rt);
     let words = match words(&rt) {
         Ok(words) => words,
         Err(error) if error.kind() == io::ErrorKind::OutOfMemory => {
@@ -20,7 +21,7 @@ fn main(rt: HostRuntime) -> ExitCode {
     };
     let mut source = StdSource::new(rt.stdin());
     let mut sink = StdSink::new(rt.stdout());
-    let ran = run(rt.alloc(), &words, &mut source, &mut sink);
+    let ran = run_within(rt.alloc(), &words, &mut source, &mut sink, &mut clock);
     ExitCode::from(ran.status.code())
 }
 

@@ -17,7 +17,7 @@ ENDS = (("FROM", "arc"), ("TO", "arc"))
 LINES = {
     "answer,direct": (("COST", FIGURE),),
     "answer,optimal": (("COST", FIGURE),),
-    "answer,unfinished": (("COST", FIGURE), ("BOUND", FIGURE), ("SPENT", ("rounds", "branches"))),
+    "answer,unfinished": (("COST", FIGURE), ("BOUND", FIGURE), ("SPENT", ("rounds", "branches", "time"))),
     "answer,infeasible": (("SHIPMENT", "shipment"), ("TIME", (0, FASTEST, "none"))),
     "scale": (("N", (1, GREATEST_SCALE)),),
     "unit": (("Q", (1, GREATEST)),),

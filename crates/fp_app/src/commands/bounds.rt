@@ -13,6 +13,7 @@ use crate::{NoMemory, Shown};
 use fp_certificate_rules::unit_of;
 use fp_duals::Improved;
 use fp_duals_leaves::{PriceEffort, Prices, improve_root};
+use fp_ends::{Deadline, Resources};
 use fp_flatnet::{Verdict, Windows, feasible, initial};
 use fp_longestarcs::Network;
 use fp_model::Instance;
@@ -20,25 +21,34 @@ use fp_prices::Kind;
 use fp_prices_spans::{Span, TableSpans};
 use std::alloc::Global;
 
-/// What `bound` shows for the bytes of an input, with the option of spans or without it.
-pub fn bound_shown(alloc: Global, bytes: Vec<u8>, option: bool) -> Result<Shown, NoMemory>
+/// What `bound` shows for the bytes of an input, in the time that there is, and with the option of
+/// spans or without it.
+pub fn bound_shown<D: Deadline>(
+    resources: &Resources<D>,
+    bytes: Vec<u8>,
+    option: bool,
+) -> Result<Shown, NoMemory>
     requires { length bytes.items ≤ INSTANCE_LIMIT }
     ensures shown { IfOk result (λ shown. OfInstance bytes.items shown (λ p. ShowsBound option p shown)) }
     ensures printable { IfOk result IsPrintable }
 {
-    match read_instance(alloc, bytes)? {
-        InstanceInput::Read { instance } => bound_plans(alloc, instance, option),
+    match read_instance(resources.alloc, bytes)? {
+        InstanceInput::Read { instance } => bound_plans(resources, instance, option),
         InstanceInput::Fault { ordinal, code } => Ok(Shown::BadInput { ordinal, code }),
     }
 }
 
 // What the plans of an instance cost at least, or the first shipment that can't be carried in time.
-fn bound_plans(alloc: Global, instance: Instance, option: bool) -> Result<Shown, NoMemory>
+fn bound_plans<D: Deadline>(
+    resources: &Resources<D>,
+    instance: Instance,
+    option: bool,
+) -> Result<Shown, NoMemory>
     ensures shown { IfOk result (ShowsBound option instance) }
     ensures printable { IfOk result IsPrintable }
 {
-    match feasible(alloc, &instance)? {
-        Verdict::All => bound_root(alloc, instance, option),
+    match feasible(resources.alloc, &instance)? {
+        Verdict::All => bound_root(resources, instance, option),
         Verdict::Blocked { shipment, distance } => Ok(Shown::Infeasible {
             instance,
             shipment,
@@ -78,17 +88,22 @@ fn taken_beside(alloc: Global, lists: Vec<TableSpans>, kind: Kind) -> Vec<Span>
 
 // What the plans of an instance cost at least, of which there is one: the best price found for the
 // leaf without sides, by spans too where these are wanted.
-fn bound_root(alloc: Global, instance: Instance, option: bool) -> Result<Shown, NoMemory>
+fn bound_root<D: Deadline>(
+    resources: &Resources<D>,
+    instance: Instance,
+    option: bool,
+) -> Result<Shown, NoMemory>
     requires { PlanExists instance }
     ensures shown { IfOk result (ShowsBound option instance) }
     ensures printable { IfOk result IsPrintable }
 {
+    let alloc = resources.alloc;
     let windows = Windows::of(alloc, &instance)?;
     let points = initial(alloc, &instance, &windows)?;
     let network = Network::of(alloc, &instance, &points, 0)?;
     let mut prices = first_prices(alloc, &instance, option);
     let effort = &PriceEffort::ROOT;
-    match improve_root(alloc, &instance, &windows, network, effort, &mut prices)? {
+    match improve_root(resources, &instance, &windows, network, effort, &mut prices)? {
         Improved::Priced { price, value, .. } => {
             let (tables, lists, _) = prices.into_parts();
             let spans = taken_beside(alloc, lists, price.kind);

@@ -1,60 +1,76 @@
 //! What `quote` shows.
 ghost use Rattle.std.specs.Prelude.{◌≡◌, ◌≤◌, length, IfOk};
+ghost use Rattle.fp_ends.specs.Deadlines.{IsLater, has_shown};
 ghost use Rattle.fp_session_history.specs.Budgets.{IsBudget};
 ghost use Rattle.fp_model.specs.Plans.{PlanExists};
+ghost use Rattle.fp_app_words.specs.TimeLimits.{halved};
 ghost use Rattle.fp_app.specs.declared.limits.TheConstants.{INSTANCE_LIMIT};
 ghost use Rattle.fp_app.specs.Inputs.{OfQuoted};
 ghost use Rattle.fp_app.specs.Runs.{ShowsQuote};
-ghost use Rattle.fp_app.specs.Searches.{IsSearched};
+ghost use Rattle.fp_app.specs.Searches.{IsSearched, within};
 ghost use Rattle.fp_app.specs.Shown.{IsPrintable};
 ghost use Rattle.fp_app.specs.Wanted.{every};
 ghost use Rattle.fp_replan.specs.Quotes.{without_last as without_last_of};
 
+use crate::commands::options::SearchOptions;
 use crate::commands::searches::solve;
 use crate::inputs::instances::{InstanceInput, read_quoted};
 use crate::{NoMemory, Shown};
+use fp_ends::Clock;
 use fp_flatnet::{Verdict, feasible};
 use fp_model::Instance;
 use fp_replan::without_last;
 use fp_session::Solved;
-use fp_session_history::Budget;
 use std::alloc::Global;
 
-/// What `quote` shows for the bytes of an input, with a budget within its limits, and with the option
-/// of spans or without it.
-pub fn quote_shown(
+/// What `quote` shows for the bytes of an input, with a budget within its limits, in the time that
+/// there is, of which the first search has half, and with the option of spans or without it.
+pub fn quote_shown<C: Clock>(
     alloc: Global,
+    clock: &mut C,
+    options: SearchOptions,
     bytes: Vec<u8>,
-    budget: Budget,
-    spans: bool,
 ) -> Result<Shown, NoMemory>
     requires length { length bytes.items ≤ INSTANCE_LIMIT }
-    requires budget { IsBudget budget }
-    ensures shown { IfOk result (λ shown. OfQuoted bytes.items shown (λ p. ShowsQuote budget spans p shown)) }
+    requires budget { IsBudget options.budget }
+    ensures shown { IfOk result (λ shown. OfQuoted bytes.items shown (λ p. ShowsQuote (within options.budget (has_shown (halved options.seconds) (C.moment clock.new) (C.faults clock.old) (C.faults clock.new))) options.spans p shown)) }
     ensures printable { IfOk result IsPrintable }
 {
     match read_quoted(alloc, bytes)? {
-        InstanceInput::Read { instance } => quote_last(alloc, instance, budget, spans),
+        InstanceInput::Read { instance } => quote_last(alloc, clock, options, instance),
         InstanceInput::Fault { ordinal, code } => Ok(Shown::BadInput { ordinal, code }),
     }
 }
 
+// The same search, which ends after half of its seconds.
+fn first_half(options: SearchOptions) -> SearchOptions
+    ensures { result ≡ record options { seconds = halved options.seconds } }
+{
+    match options.seconds {
+        Some(seconds) => SearchOptions {
+            seconds: Some(seconds.div_ceil(2)),
+            ..options
+        },
+        None => options,
+    }
+}
+
 // What the last shipment adds to the cost, or the first shipment that can't be carried in time.
-fn quote_last(
+fn quote_last<C: Clock>(
     alloc: Global,
+    clock: &mut C,
+    options: SearchOptions,
     instance: Instance,
-    budget: Budget,
-    spans: bool,
 ) -> Result<Shown, NoMemory>
     requires shipment { 1 ≤ length instance.shipments }
-    requires budget { IsBudget budget }
-    ensures shown { IfOk result (ShowsQuote budget spans instance) }
+    requires budget { IsBudget options.budget }
+    ensures shown { IfOk result (ShowsQuote (within options.budget (has_shown (halved options.seconds) (C.moment clock.new) (C.faults clock.old) (C.faults clock.new))) options.spans instance) }
     ensures printable { IfOk result IsPrintable }
 {
     match feasible(alloc, &instance)? {
         Verdict::All => {
-            let before = solve_without_last(alloc, &instance, budget, spans)?;
-            let after = solve(alloc, &instance, budget, spans)?;
+            let before = solve_without_last(alloc, clock, first_half(options), &instance)?;
+            let after = solve(alloc, clock, options, &instance)?;
             Ok(Shown::Quoted {
                 instance,
                 before,
@@ -70,20 +86,21 @@ fn quote_last(
 }
 
 // What a search shows without the last shipment.
-fn solve_without_last(
+fn solve_without_last<C: Clock>(
     alloc: Global,
+    clock: &mut C,
+    options: SearchOptions,
     instance: &Instance,
-    budget: Budget,
-    spans: bool,
 ) -> Result<Solved, NoMemory>
     requires shipment { 1 ≤ length instance.now.shipments }
     requires exists { PlanExists instance.now }
-    requires budget { IsBudget budget }
-    ensures { IfOk result (IsSearched (without_last_of instance.now) every budget spans) }
+    requires budget { IsBudget options.budget }
+    ensures searched { IfOk result (IsSearched (without_last_of instance.now) every (within options.budget (has_shown options.seconds (C.moment clock.new) (C.faults clock.old) (C.faults clock.new))) options.spans) }
+    ensures later { IsLater (C.moment clock.old) (C.moment clock.new) (C.faults clock.old) (C.faults clock.new) }
 {
     let earlier = without_last(alloc, instance)?;
     match feasible(alloc, &earlier)? {
-        Verdict::All => solve(alloc, &earlier, budget, spans),
+        Verdict::All => solve(alloc, clock, options, &earlier),
         // A plan of all shipments carries these too.
         Verdict::Blocked { .. } => unreachable!(),
     }

@@ -1,6 +1,7 @@
 //! What `replan` shows.
 ghost use Rattle.std.specs.Prelude.{◌≡◌, ◌<◌, ◌≤◌, ◌-◌, ◌^◌, length, not, IfOk};
 ghost use Rattle.std.specs.List.{prefix_len};
+ghost use Rattle.fp_ends.specs.Deadlines.{has_shown};
 ghost use Rattle.fp_session_history.specs.Budgets.{IsBudget};
 ghost use Rattle.fp_replan.specs.declared.kept.TheConstants.{MOST_KEPT};
 ghost use Rattle.fp_replan.specs.KeptLegs.{AreKept};
@@ -9,19 +10,20 @@ ghost use Rattle.fp_app.specs.declared.limits.TheConstants.{INSTANCE_LIMIT};
 ghost use Rattle.fp_app.specs.Inputs.{OfKept, is_kept};
 ghost use Rattle.fp_app.specs.KeptInputs.{CanKeep, IsKeptInput, IsKeptInputOf};
 ghost use Rattle.fp_app.specs.Runs.{ShowsReplan};
-ghost use Rattle.fp_app.specs.Searches.{IsSearched};
+ghost use Rattle.fp_app.specs.Searches.{IsSearched, within};
 ghost use Rattle.fp_app.specs.Shown.{IsPrintable};
 ghost use Rattle.fp_app.specs.Wanted.{IsFirstPlan, keeping};
 
+use crate::commands::options::SearchOptions;
 use crate::commands::searches::search_from;
 use crate::{NoMemory, Shown};
+use fp_ends::Clock;
 use fp_model::{Instance, Plan};
 use fp_reader::{InputFault, Tail, instance};
 use fp_records::{Record, records};
 use fp_records_fields::fields::is_of_kind;
 use fp_replan::{Kept, KeptFault, Started, read_kept, start, windows};
 use fp_session::Solved;
-use fp_session_history::Budget;
 use std::alloc::{AllocError, Global};
 
 /// What an input gives.
@@ -33,21 +35,21 @@ pub enum KeptInput {
     Fault { ordinal: u32, code: u32 },
 }
 
-/// What `replan` shows for the bytes of an input, with a budget within its limits, and with the
-/// option of spans or without it.
-pub fn replan_shown(
+/// What `replan` shows for the bytes of an input, with a budget within its limits, in the time that
+/// there is, and with the option of spans or without it.
+pub fn replan_shown<C: Clock>(
     alloc: Global,
+    clock: &mut C,
+    options: SearchOptions,
     bytes: Vec<u8>,
-    budget: Budget,
-    spans: bool,
 ) -> Result<Shown, NoMemory>
     requires length { length bytes.items ≤ INSTANCE_LIMIT }
-    requires budget { IsBudget budget }
-    ensures shown { IfOk result (λ shown. OfKept bytes.items shown (λ x. ShowsReplan budget spans x shown)) }
+    requires budget { IsBudget options.budget }
+    ensures shown { IfOk result (λ shown. OfKept bytes.items shown (λ x. ShowsReplan (within options.budget (has_shown options.seconds (C.moment clock.new) (C.faults clock.old) (C.faults clock.new))) options.spans x shown)) }
     ensures printable { IfOk result IsPrintable }
 {
     match read_both(alloc, bytes)? {
-        KeptInput::Both { instance, kept } => search_keeping(alloc, instance, kept, budget, spans),
+        KeptInput::Both { instance, kept } => search_keeping(alloc, clock, options, instance, kept),
         KeptInput::Fault { ordinal, code } => Ok(Shown::BadInput { ordinal, code }),
     }
 }
@@ -101,22 +103,22 @@ fn read_legs(
 }
 
 // What a search shows among the plans that keep legs, or the first shipment that is stuck.
-fn search_keeping(
+fn search_keeping<C: Clock>(
     alloc: Global,
+    clock: &mut C,
+    options: SearchOptions,
     instance: Instance,
     kept: Vec<Kept>,
-    budget: Budget,
-    spans: bool,
 ) -> Result<Shown, NoMemory>
     requires kept { AreKept instance kept.items }
     requires few { length kept.items ≤ MOST_KEPT }
-    requires budget { IsBudget budget }
-    ensures shown { IfOk result (ShowsReplan budget spans (record { instance = instance; kept = kept.items })) }
+    requires budget { IsBudget options.budget }
+    ensures shown { IfOk result (ShowsReplan (within options.budget (has_shown options.seconds (C.moment clock.new) (C.faults clock.old) (C.faults clock.new))) options.spans (record { instance = instance; kept = kept.items })) }
     ensures printable { IfOk result IsPrintable }
 {
     match start(alloc, &instance, &kept)? {
         Started::Plan { plan } => {
-            let solved = solve_keeping(alloc, &instance, &kept, plan, budget, spans)?;
+            let solved = solve_keeping(alloc, clock, options, &instance, &kept, plan)?;
             Ok(Shown::Replanned {
                 instance,
                 kept,
@@ -128,21 +130,21 @@ fn search_keeping(
 }
 
 // What a search shows among the plans that keep legs, which begins with one of them.
-fn solve_keeping(
+fn solve_keeping<C: Clock>(
     alloc: Global,
+    clock: &mut C,
+    options: SearchOptions,
     instance: &Instance,
     kept: &[Kept],
     first: Plan,
-    budget: Budget,
-    spans: bool,
 ) -> Result<Solved, NoMemory>
     requires kept { AreKept instance.now kept.now }
     requires few { length kept.now ≤ MOST_KEPT }
     requires first { IsFirstPlan instance.now (keeping kept.now) first }
-    requires budget { IsBudget budget }
-    ensures searched { IfOk result (IsSearched instance.now (keeping kept.now) budget spans) }
+    requires budget { IsBudget options.budget }
+    ensures searched { IfOk result (IsSearched instance.now (keeping kept.now) (within options.budget (has_shown options.seconds (C.moment clock.new) (C.faults clock.old) (C.faults clock.new))) options.spans) }
     ensures checkable { IfOk result (λ solved. CanBeChecked instance.now solved.certificate) }
 {
     let windows = windows(alloc, instance, kept)?;
-    search_from(alloc, instance, windows, first, budget, spans)
+    search_from(alloc, clock, options, instance, windows, first)
 }

@@ -5,13 +5,15 @@ ghost use Rattle.fp_certificate_lines.specs.Ranges.{AnswerExists};
 ghost use Rattle.fp_model.specs.declared.limits.TheConstants.{MOST_SHIPMENTS, MOST_TERMINALS};
 ghost use Rattle.fp_app.specs.Checks.{IsCheckOutcome};
 ghost use Rattle.fp_app.specs.Runs.{ShowsTrial};
-ghost use Rattle.fp_app.specs.Searches.{IsSearched, trial_budget};
+ghost use Rattle.fp_app.specs.Searches.{IsSearched, trial_allowance};
 ghost use Rattle.fp_app.specs.Shown.{IsPrintable};
 ghost use Rattle.fp_app.specs.Wanted.{every};
 
 use crate::check_outcomes::{CheckOutcome, check_outcome};
+use crate::commands::options::SearchOptions;
 use crate::commands::searches::solve;
 use crate::{NoMemory, Shown};
+use fp_ends::StillClock;
 use fp_flatnet::{Verdict, feasible};
 use fp_model::Instance;
 use fp_reader::generate;
@@ -58,7 +60,7 @@ pub fn trial_shown(
 #[tactic(auto, using(crate::proofs::Verdicts::IsCheckOutcome_accepted))]
 fn solve_and_check(alloc: Global, instance: &Instance) -> Result<(Solved, CheckOutcome), NoMemory>
     requires { AllInTime instance.now }
-    ensures searched { IfOk result (λ tried. IsSearched instance.now every trial_budget false tried.0) }
+    ensures searched { IfOk result (λ tried. IsSearched instance.now every trial_allowance false tried.0) }
     ensures named { IfOk result (λ tried. AnswerExists instance.now tried.0.certificate.answer) }
     ensures outcome { IfOk result (λ tried. IsCheckOutcome instance.now tried.0.certificate tried.1) }
     ensures accepted { IfOk result (λ tried. tried.1 ≡ None) }
@@ -67,7 +69,12 @@ fn solve_and_check(alloc: Global, instance: &Instance) -> Result<(Solved, CheckO
         rounds: TRIAL_ROUNDS,
         branches: TRIAL_BRANCHES,
     };
-    let solved = solve(alloc, instance, budget, false)?;
+    let options = SearchOptions {
+        budget,
+        spans: false,
+        seconds: None,
+    };
+    let solved = solve(alloc, &mut StillClock::new(), options, instance)?;
     let outcome = check_outcome(alloc, instance, &solved.certificate)?;
     Ok((solved, outcome))
 }

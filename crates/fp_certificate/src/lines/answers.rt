@@ -66,7 +66,9 @@ fn has_unfinished_digits(line: &Record) -> bool
 {
     has_number(line, 2)
         && has_number(line, 3)
-        && (has_word(line, 4, b"rounds") || has_word(line, 4, b"branches"))
+        && (has_word(line, 4, b"rounds")
+            || has_word(line, 4, b"branches")
+            || has_word(line, 4, b"time"))
 }
 
 // What was spent by an unfinished answer.
@@ -75,8 +77,10 @@ fn spent_of(line: &Record) -> Spent
 {
     if has_word(line, 4, b"rounds") {
         Spent::Rounds
-    } else {
+    } else if has_word(line, 4, b"branches") {
         Spent::Branches
+    } else {
+        Spent::Time
     }
 }
 

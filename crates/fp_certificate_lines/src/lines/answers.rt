@@ -29,6 +29,7 @@ fn write_spent(line: &mut Line, spent: Spent) -> Result<(), NoMemory>
     match spent {
         Spent::Rounds => line.word(b"rounds"),
         Spent::Branches => line.word(b"branches"),
+        Spent::Time => line.word(b"time"),
     }
 }
 

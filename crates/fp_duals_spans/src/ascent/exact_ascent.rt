@@ -5,7 +5,7 @@ use crate::NoMemory;
 use fp_duals_ascent::find_needs;
 use fp_duals_layouts::{Charges, Layout, SpanPrices, change_costs};
 use fp_duals_nets::{Net, Nets, part_mut};
-use std::alloc::Global;
+use fp_ends::{Deadline, Resources};
 
 /// The most loads by which sets are told apart here.
 const MOST_LOADS: u64 = 4096;
@@ -106,10 +106,11 @@ impl Settling<'_> {
         Ok(())
     }
 
-    // One pass over the shipments, which are offered what the charges leave where `offers`. What
-    // their least costs come to.
-    fn pass(
+    // One pass over the shipments, which are offered what the charges leave where `offers`, as long as
+    // there is time. What their least costs come to.
+    fn pass<D: Deadline>(
         &mut self,
+        resources: &Resources<D>,
         nets: &mut Nets,
         prices: &mut SpanPrices,
         offers: bool,
@@ -117,7 +118,7 @@ impl Settling<'_> {
         let mut sum = 0u64;
         for number in 0..nets.list.len() {
             if let Some(net) = nets.list.get(number).copied() {
-                if offers {
+                if offers && !resources.is_over() {
                     self.offer(prices, number)?;
                 }
                 let least = self.cut_to_needs(nets, &net, prices, number);
@@ -136,8 +137,8 @@ impl Settling<'_> {
 
 /// Cuts the prices to needs, and makes at most so many passes of the ascent in which the value
 /// doesn't fall; it ends before where a pass gains nothing. The value.
-pub(crate) fn settle(
-    alloc: Global,
+pub(crate) fn settle<D: Deadline>(
+    resources: &Resources<D>,
     layout: &Layout,
     nets: &mut Nets,
     prices: &mut SpanPrices,
@@ -145,18 +146,18 @@ pub(crate) fn settle(
 ) -> Result<u64, NoMemory> {
     let mut settling = Settling {
         layout,
-        charges: Charges::of(alloc, layout, MOST_LOADS)?,
-        needs: vec![in alloc; 0u64; nets.edges.len()]?,
+        charges: Charges::of(resources.alloc, layout, MOST_LOADS)?,
+        needs: vec![in resources.alloc; 0u64; nets.edges.len()]?,
     };
-    let mut known = settling.pass(nets, prices, false)?;
+    let mut known = settling.pass(resources, nets, prices, false)?;
     let mut charges = settling.find_charges(prices)?;
     for _ in 0..passes {
-        let sum = settling.pass(nets, prices, true)?;
+        let sum = settling.pass(resources, nets, prices, true)?;
         let left = settling.find_charges(prices)?;
         let gained = sum > known || left < charges;
         known = sum;
         charges = left;
-        if !gained {
+        if !gained || resources.is_over() {
             break;
         }
     }

@@ -8,6 +8,7 @@ use crate::efforts::SpanEffort;
 use fp_duals_ascent::{Target, Way, rate};
 use fp_duals_layouts::{Charges, Layout, SpanPrices, change_costs};
 use fp_duals_nets::Nets;
+use fp_ends::{Deadline, Resources};
 use std::alloc::Global;
 
 // Where the ascent stands.
@@ -173,19 +174,19 @@ impl Climb {
 }
 
 /// Moves the prices by the spans of a layout to better ones. The averages over the turns.
-pub(crate) fn ascend(
-    alloc: Global,
+pub(crate) fn ascend<D: Deadline>(
+    resources: &Resources<D>,
     layout: &Layout,
     nets: &mut Nets,
     prices: &mut SpanPrices,
     effort: &SpanEffort,
 ) -> Result<Averages, NoMemory> {
-    let mut climb = Climb::of(alloc, layout, nets, prices, effort)?;
+    let mut climb = Climb::of(resources.alloc, layout, nets, prices, effort)?;
     for turn in 0..effort.turns {
         if !climb.step(layout, nets, prices, turn)? {
             break;
         }
-        if !climb.come_nearer(layout, nets, prices)? {
+        if !climb.come_nearer(layout, nets, prices)? || resources.is_over() {
             break;
         }
     }

@@ -1,5 +1,6 @@
 //! Local searches from direct plans.
 
+use fp_ends::Resources;
 use fp_flatnet::{Verdict, Windows, direct, feasible};
 use fp_model::{Instance, cost};
 use fp_repair_search::{NoMemory, Search, local_search};
@@ -19,7 +20,13 @@ fn costs(alloc: Global, instance: &Instance) -> Result<Option<(u128, u128)>, NoM
         turns: 20,
         loose: 10,
     };
-    let found = local_search(alloc, instance, &windows, &plan, search)?;
+    let found = local_search(
+        &Resources::endless(alloc),
+        instance,
+        &windows,
+        &plan,
+        search,
+    )?;
     Ok(Some((cost(instance, &plan), cost(instance, &found))))
 }
 

@@ -39,7 +39,7 @@ const ROWS: [Row; 36] = [
         ONE_ARC,
         PROOF,
         "optimal,104",
-        "unfinished,104,104,time",
+        "unfinished,104,104,times",
         "refused,5,23\n",
     ),
     (

@@ -1,7 +1,7 @@
 //! Runs over memory, and texts that are put together.
 
-use fp_app::run;
-use fp_ends::{MemSink, MemSource};
+use fp_app::{run, run_within};
+use fp_ends::{MemClock, MemSink, MemSource};
 use std::alloc::{AllocError, Global};
 
 /// The words of a line.
@@ -29,6 +29,21 @@ pub fn run_on(alloc: Global, line: &str, input: &str) -> Result<(u8, Vec<u8>), A
     let source = source_of(alloc, input.as_bytes(), 4096, &[])?;
     let sink = sink_of(alloc, 20_000, 7, &[])?;
     run_over(alloc, line, source, sink)
+}
+
+/// The same by a clock whose looks and glances show these milliseconds, and fail after them.
+pub fn run_by(
+    alloc: Global,
+    line: &str,
+    input: &str,
+    shown: &[u64],
+) -> Result<(u8, Vec<u8>), AllocError> {
+    let mut source = source_of(alloc, input.as_bytes(), 4096, &[])?;
+    let mut sink = sink_of(alloc, 20_000, 7, &[])?;
+    let mut clock = MemClock::new(shown.to_vec(alloc)?);
+    let words = words_of(alloc, line)?;
+    let ran = run_within(alloc, &words, &mut source, &mut sink, &mut clock);
+    Ok((ran.status.code(), sink.bytes().to_vec(alloc)?))
 }
 
 /// A source of these bytes. The calls with these numbers fail.

@@ -4,7 +4,7 @@ use crate::tests::runs::run_on;
 use fp_tests_examples::ONE_ARC;
 use std::test::Fail;
 
-const LINES: [&str; 46] = [
+const LINES: [&str; 52] = [
     "",
     "fly",
     "Direct",
@@ -45,6 +45,12 @@ const LINES: [&str; 46] = [
     "plan --rounds=-1",
     "plan --round 5",
     "plan -r 5",
+    "plan --seconds 0",
+    "plan --seconds 086",
+    "plan --seconds 86401",
+    "plan --seconds 5 --seconds=5",
+    "check --seconds 5",
+    "trial 1 2 1 --seconds 5",
     "--rounds 5 plan",
     "trial",
     "trial 1 1 1",
@@ -54,7 +60,7 @@ const LINES: [&str; 46] = [
 ];
 
 // Words with options, which may stand in any order.
-const PLANS: [&str; 8] = [
+const PLANS: [&str; 10] = [
     "plan",
     "plan --rounds 4000",
     "plan --rounds=0 --branches=0",
@@ -63,6 +69,8 @@ const PLANS: [&str; 8] = [
     "plan --scale=1000000000 --branches 7 --rounds=7",
     "plan --spans",
     "plan --rounds 7 --spans --scale 1",
+    "plan --seconds 86400 --spans",
+    "plan --rounds 7 --seconds=1",
 ];
 
 // One shipment that can't be carried in time.

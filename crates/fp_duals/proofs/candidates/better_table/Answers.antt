@@ -8,11 +8,11 @@ use Rattle.fp_duals.proofs.ChosenPrices.{better-room}
 use Rattle.fp_duals.proofs.candidates.better_table.Goals as goal
 
 pub returns-then-not-modes_differ-clause-better : goal.returns-then-not-modes_differ-clause-better
-returns-then-not-modes_differ-clause-better c =
+returns-then-not-modes_differ-clause-better g c =
     better-room c.args.leaf.now c.args.tables.now c.lines-lines.result c.args.room c.args.start c.in_ok-same.same (omega (arith, c.lines-lines.ensures, c.min.ensures)) c.in_ok-same.ensures.better
 
 pub returns-clause-better : goal.returns-clause-better
-returns-clause-better c =
+returns-clause-better g c =
     let le : c.lines-lines.result ≤ c.args.room = omega (arith, c.lines-lines.ensures, c.min.ensures) in
     let same = better-room c.args.leaf.now c.args.tables.now c.lines-lines.result c.args.room c.args.start c.in_ok-same.same le c.in_ok-same.ensures.better in
     let other =

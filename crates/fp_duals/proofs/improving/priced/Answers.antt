@@ -8,10 +8,10 @@ use Rattle.fp_duals.proofs.ReachedValues.{reached-value}
 use Rattle.fp_duals.proofs.improving.priced.Goals as goal
 
 pub overflow_cast-count : goal.overflow_cast-count
-overflow_cast-count c = omega (arith, tables-le-lines c.args.tables.now, c.list.ensures.within.lines, ap length c.list.ensures.same)
+overflow_cast-count g c = omega (arith, tables-le-lines c.args.tables.now, c.list.ensures.within.lines, ap length c.list.ensures.same)
 
 pub returns-in-Ok-clause-improved : goal.returns-in-Ok-clause-improved
-returns-in-Ok-clause-improved c =
+returns-in-Ok-clause-improved g c =
     let leaf = c.args.leaf.now in
     let p = leaf.setting.problem in
     let chosen = c.in_ok-chosen.chosen in

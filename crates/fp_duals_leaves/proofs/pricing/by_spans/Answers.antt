@@ -14,7 +14,7 @@ use Rattle.fp_duals_leaves.proofs.Worths.{worth-added}
 use Rattle.fp_duals_leaves.proofs.pricing.by_spans.Goals as goal
 
 pub overflow_add-id : goal.overflow_add-id
-overflow_add-id c = omega (arith, tables-le-lines c.args.prices.now.tables, c.tables.ensures.within.lines, c.count-id.ensures)
+overflow_add-id g c = omega (arith, tables-le-lines c.args.prices.now.tables, c.tables.ensures.within.lines, c.count-id.ensures)
 
 -- what is known of the prices after spans were added
 added-told : (b : Bool) (before after : PriceLists) (spans : List ClassSpan) → b ≡ true → MatchBool b (after ≡ with_more before ([] ∷ []) (spans ∷ [])) (after ≡ before) → after ≡ with_more before ([] ∷ []) (spans ∷ [])
@@ -26,13 +26,13 @@ better-told : (leaf : LeafModel) (value : ℕ) (o : Option SpanPrice) (found : S
 better-told leaf value o found is told = subst (λ (x : Option SpanPrice). IfSome x (IsBetterPrice leaf.setting.problem (windows_in leaf.setting.windows) (points_in leaf.setting.network) leaf.sides value)) is told
 
 pub returns-clause-grown : goal.returns-clause-grown
-returns-clause-grown c =
+returns-clause-grown g c =
     HaveGrown-spans c.args.leaf.now.setting.problem c.args.prices.now c.push_spans.new.self c.in-Some.found.spans.items c.requires.prices c.requires.unit
     (better-told c.args.leaf.now c.args.first.value c.in_ok-found.found c.in-Some.found c.in-Some.is c.in_ok-found.ensures).sound
     (added-told c.in_ok-push_spans.field-0 c.args.prices.now c.push_spans.new.self c.in-Some.found.spans.items c.if-not-branch.false c.in_ok-push_spans.ensures.added)
 
 pub returns-clause-worth : goal.returns-clause-worth
-returns-clause-worth c =
+returns-clause-worth g c =
     let leaf = c.args.leaf.now in
     let better = better-told leaf c.args.first.value c.in_ok-found.found c.in-Some.found c.in-Some.is c.in_ok-found.ensures in
     inr (

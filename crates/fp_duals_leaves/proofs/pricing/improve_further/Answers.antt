@@ -8,7 +8,7 @@ use Rattle.fp_duals_leaves.proofs.Worths.{found-no-less, found-stays}
 use Rattle.fp_duals_leaves.proofs.pricing.improve_further.Goals as goal
 
 pub returns-in_ok-worth-in-Priced-clause-improved : goal.returns-in_ok-worth-in-Priced-clause-improved
-returns-in_ok-worth-in-Priced-clause-improved c =
+returns-in_ok-worth-in-Priced-clause-improved g c =
     let leaf = c.args.leaf.now in
     let first : Worth = record { price = c.in-Priced.price; value = c.in-Priced.value } in
     let found : IsPriceFound leaf.setting.problem (windows_in leaf.setting.windows) (points_in leaf.setting.network) leaf.sides c.improve.new.self c.args.round first c.in-Priced.walks.items =

@@ -8,7 +8,7 @@ use Rattle.fp_duals_leaves.proofs.Worths.{no-less-round, no-less_told}
 use Rattle.fp_duals_leaves.proofs.pricing.spanned.Goals as goal
 
 pub returns-in-Some-clause-worth : goal.returns-in-Some-clause-worth
-returns-in-Some-clause-worth c =
+returns-in-Some-clause-worth g c =
     let leaf = c.args.leaf.now in
     no-less_told leaf.setting.problem (windows_in leaf.setting.windows) (points_in leaf.setting.network) leaf.sides c.args.prices.now c.by_spans.new.prices c.args.first.price.round c.args.first c.in_ok-worth.worth c.by_spans.result
     c.requires.prices.beside c.by_spans.ensures.grown c.in_ok-worth.ensures

@@ -5,7 +5,7 @@ use Rattle.fp_repair.proofs.improvement.cheapest_found.Given as goal
 
 -- the best so far is a candidate that costs no more than the one in hand
 abbrev pub invariant-loop-number : goal.invariant-loop-number
-invariant-loop-number l = record {
+invariant-loop-number g l = record {
   candidate : IsCandidate l.instance (windows_in l.windows) l.best;
   cheaper : l.best.cost ≤ l.initial.best.cost;
 }

@@ -6,7 +6,7 @@ use Rattle.fp_session.proofs.StepOrder.{order-any}
 use Rattle.fp_session.proofs.advances.advance.Goals as goal
 
 pub returns-in-Some-clause-order : goal.returns-in-Some-clause-order
-returns-in-Some-clause-order c = λ none. absurd (none-some _ (sym none ∙ c.in-Some.is))
+returns-in-Some-clause-order g c = λ none. absurd (none-some _ (sym none ∙ c.in-Some.is))
 
 pub returns-in-None-clause-order : goal.returns-in-None-clause-order
-returns-in-None-clause-order c = order-any (in_hand c.args.search.now) (in_hand c.advance_open.new.search) c.advance_open.result c.advance_open.ensures.order
+returns-in-None-clause-order g c = order-any (in_hand c.args.search.now) (in_hand c.advance_open.new.search) c.advance_open.result c.advance_open.ensures.order

@@ -16,10 +16,10 @@ use Rattle.fp_session.proofs.PointLimits.{few-of}
 use Rattle.fp_session.proofs.children.as_above.Goals as goal
 
 pub over-requires-clause-few : goal.over-requires-clause-few
-over-requires-clause-few c = few-of c.args.search.now c.args.prices.now c.requires.search (point_count c.in_ok-network.network) c.in_ok-network.ensures.few
+over-requires-clause-few g c = few-of c.args.search.now c.args.prices.now c.requires.search (point_count c.in_ok-network.network) c.in_ok-network.ensures.few
 
 pub returns-in-Empty-clause-kept : goal.returns-in-Empty-clause-kept
-returns-in-Empty-clause-kept c =
+returns-in-Empty-clause-kept g c =
     let s : Search = c.args.search.now in
     let setting = leaf-setting_with s c.in_ok-network.network c.in_ok-round.round c.in_ok-below.below.setting c.in_ok-round.ensures c.in_ok-below.ensures.setting in
     let grown : HaveGrown s.instance c.args.prices.now c.improve.new.prices =
@@ -27,7 +27,7 @@ returns-in-Empty-clause-kept c =
     IsKept-grown s c.args.prices.now c.improve.new.prices (c.args.leaf.now.sides ++ (c.args.side ∷ [])) c.args.old c.requires.search.prices grown c.requires.kept
 
 pub returns-clause-kept : goal.returns-clause-kept
-returns-clause-kept c =
+returns-clause-kept g c =
     let s : Search = c.args.search.now in
     let before : PriceLists = c.args.prices.now in
     let after : PriceLists = c.improve.new.prices in

@@ -17,17 +17,17 @@ kept-under s prices own sides kept made way is keeps =
     subst (λ (k : Kept). IsKept (history s prices) sides k.payload k.value) (sym is) (subst (λ (l : List Side). IsKept (history s prices) l made.payload made.value) way keeps)
 
 pub of-requires : goal.of-requires
-of-requires c = belongs-here c.args.leaf.now.setting c.round.result.now.problem c.windows.result.now c.round.ensures.problem c.windows.ensures.same c.windows.ensures.belongs
+of-requires g c = belongs-here c.args.leaf.now.setting c.round.result.now.problem c.windows.result.now c.round.ensures.problem c.windows.ensures.same c.windows.ensures.belongs
 
 pub returns-in-Empty-clause-kept : goal.returns-in-Empty-clause-kept
-returns-in-Empty-clause-kept c =
+returns-in-Empty-clause-kept g c =
     kept-under c.args.search.now c.improve.new.prices c.in_ok-below.below.sides (c.args.leaf.now.sides ++ (c.args.side ∷ [])) c.emptied.result (empty_kept c.len-number.result)
     (c.in_ok-below.ensures.sides ∙ c.deref.ensures.value ∙ c.in_ok-sides.ensures) c.emptied.ensures
     (empty-here c.args.search.now c.args.prices.now c.improve.new.prices c.requires.search c.in_ok-below.below.sides c.in_ok-below.below.setting (leaf-setting_of c.args.search.now c.args.leaf.now.setting c.in_ok-below.below.setting c.round.result.now.problem c.windows.result.now c.round.result.now.network c.requires.setting c.round.ensures.problem c.windows.ensures.same c.round.ensures.network c.in_ok-below.ensures.setting) c.len-number.result
     c.in_ok-improve.field-0 c.in_ok-improve.ensures.improved (omega (arith, c.len-number.ensures, c.args.search.now.trace.ok)) c.in-Empty.shipment c.in-Empty.is)
 
 pub returns-clause-kept : goal.returns-clause-kept
-returns-clause-kept c =
+returns-clause-kept g c =
     kept-under c.args.search.now c.improve.new.prices c.in_ok-below.below.sides (c.args.leaf.now.sides ++ (c.args.side ∷ [])) c.priced.result (priced_kept c.in-Priced.price c.in-Priced.value)
     (c.in_ok-below.ensures.sides ∙ c.deref.ensures.value ∙ c.in_ok-sides.ensures) c.priced.ensures
     (priced-here c.args.search.now c.args.prices.now c.improve.new.prices c.requires.search c.in_ok-below.below.sides c.in_ok-below.below.setting (leaf-setting_of c.args.search.now c.args.leaf.now.setting c.in_ok-below.below.setting c.round.result.now.problem c.windows.result.now c.round.result.now.network c.requires.setting c.round.ensures.problem c.windows.ensures.same c.round.ensures.network c.in_ok-below.ensures.setting) c.len-number.result

@@ -8,7 +8,7 @@ use Rattle.fp_session.proofs.choices.best.Goals as goal
 use Rattle.fp_session.proofs.choices.best.Goals.{then-is_more, else-is_more}
 
 pub loop-place-preserved : goal.loop-place-preserved
-loop-place-preserved c = record {
+loop-place-preserved g c = record {
   same = c.tried-in-loop-place.ensures.same ∙ c.loop-place.invariant.same;
   chosen = elim c.if-is_more.branch [
     | then-is_more w ↦

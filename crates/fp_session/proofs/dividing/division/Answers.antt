@@ -11,7 +11,7 @@ use Rattle.fp_session.proofs.Divisions.{DividesSome-at, HasTail-at, IsSplitInRan
 use Rattle.fp_session.proofs.dividing.division.Goals as goal
 
 pub returns-clause-division : goal.returns-clause-division
-returns-clause-division c =
+returns-clause-division g c =
     let s : Search = c.args.search.now in
     let k : ℕ = c.args.chosen.candidate.shipment in
     let terminal : ℕ = c.args.chosen.candidate.terminal in

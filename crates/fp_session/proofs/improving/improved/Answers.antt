@@ -9,10 +9,10 @@ use Rattle.fp_session.proofs.Improvements.{empty-here, found-here}
 use Rattle.fp_session.proofs.improving.improved.Goals as goal
 
 pub overflow_cast-round : goal.overflow_cast-round
-overflow_cast-round c = omega (arith, c.requires.search.rounds, c.requires.search.budget.rounds)
+overflow_cast-round g c = omega (arith, c.requires.search.rounds, c.requires.search.budget.rounds)
 
 pub returns-in-Empty-clause-outcome : goal.returns-in-Empty-clause-outcome
-returns-in-Empty-clause-outcome c = (
+returns-in-Empty-clause-outcome g c = (
   subst (λ (k : Kept). IsKept (history c.args.search.now c.improve.new.prices) c.args.leaf.now.sides k.payload k.value) (sym c.emptied.ensures)
       (empty-here c.args.search.now c.args.prices.now c.improve.new.prices c.requires.search c.args.leaf.now.sides c.args.leaf.now.setting c.requires.setting c.len-round.result
       c.in_ok-improve.field-0 c.in_ok-improve.ensures.improved (omega (arith, c.len-round.ensures, c.args.search.now.trace.ok)) c.in-Empty.shipment c.in-Empty.is),
@@ -20,7 +20,7 @@ returns-in-Empty-clause-outcome c = (
 )
 
 pub returns-in-Priced-clause-outcome : goal.returns-in-Priced-clause-outcome
-returns-in-Priced-clause-outcome c =
+returns-in-Priced-clause-outcome g c =
     found-here c.args.search.now c.args.prices.now c.improve.new.prices c.requires.search c.args.leaf.now.sides c.args.leaf.now.setting c.requires.setting c.len-round.result
     c.in_ok-improve.field-0 c.in_ok-improve.ensures.improved (omega (arith, c.len-round.ensures, c.args.search.now.trace.ok)) c.in-Priced.price c.in-Priced.value c.in-Priced.walks c.in-Priced.is
     (subst (λ (x : Setting). HaveGrown x.problem c.args.prices.now c.improve.new.prices) c.requires.setting c.improve.ensures.grown) c.args.old c.greater.result c.requires.kept c.requires.some c.greater.ensures

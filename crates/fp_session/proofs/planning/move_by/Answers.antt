@@ -16,28 +16,28 @@ use Rattle.fp_session.proofs.StepOrder.{dear-walks}
 use Rattle.fp_session.proofs.planning.move_by.Goals as goal
 
 pub are_cheaper-requires-clause-exist : goal.are_cheaper-requires-clause-exist
-are_cheaper-requires-clause-exist c = under-exist c.args.search.now c.args.leaf.now.sides c.args.found.relaxed c.requires.found.walks
+are_cheaper-requires-clause-exist g c = under-exist c.args.search.now c.args.leaf.now.sides c.args.found.relaxed c.requires.found.walks
 
 pub are_cheaper-requires-clause-routes : goal.are_cheaper-requires-clause-routes
-are_cheaper-requires-clause-routes c = λ apart.
+are_cheaper-requires-clause-routes g c = λ apart.
     HasRoutes-relaxed c.args.search.now.instance (windows_in c.args.search.now.windows) (points_now c.args.search.now) c.args.found.relaxed
     (under-relaxed c.args.search.now c.args.leaf.now.sides c.args.found.relaxed c.requires.found.walks c.args.prices.now c.requires.search apart)
 
 pub timed_move-requires-clause-relaxed : goal.timed_move-requires-clause-relaxed
-timed_move-requires-clause-relaxed c =
+timed_move-requires-clause-relaxed g c =
     let found : AreCheaperWalks c.args.search.now c.args.leaf.now.sides c.in-Some.cheaper =
     subst (λ (o : Option (List (List Leg))). IfSome o (AreCheaperWalks c.args.search.now c.args.leaf.now.sides)) c.in-Some.is c.in_ok-cheaper.ensures in
     under-relaxed c.args.search.now c.args.leaf.now.sides c.in-Some.cheaper found.under c.args.prices.now c.requires.search found.apart
 
 pub timed_move-requires-then-are_cheaper-clause-relaxed : goal.timed_move-requires-then-are_cheaper-clause-relaxed
-timed_move-requires-then-are_cheaper-clause-relaxed c =
+timed_move-requires-then-are_cheaper-clause-relaxed g c =
     under-relaxed c.args.search.now c.args.leaf.now.sides c.args.found.relaxed c.requires.found.walks c.args.prices.now c.requires.search (c.are_cheaper.ensures.0 c.if-are_cheaper.true).0
 
 pub timed_move-requires-then-are_cheaper-clause-cheaper : goal.timed_move-requires-then-are_cheaper-clause-cheaper
-timed_move-requires-then-are_cheaper-clause-cheaper c = (c.are_cheaper.ensures.0 c.if-are_cheaper.true).1
+timed_move-requires-then-are_cheaper-clause-cheaper g c = (c.are_cheaper.ensures.0 c.if-are_cheaper.true).1
 
 pub unreachable-requires : goal.unreachable-requires
-unreachable-requires c =
+unreachable-requires g c =
     let none : NoneSeveral c.args.leaf.now (length c.shipments.result.now) =
     subst (λ (o : Option Several). MatchOption o (NoneSeveral c.args.leaf.now (length c.shipments.result.now)) (IsSeveral c.args.leaf.now)) c.in-None.is c.in_ok-first_several.ensures in
     absurd
@@ -48,10 +48,10 @@ unreachable-requires c =
     c.requires.found c.requires.below (omega (arith, ap (λ (ss : List Shipment). length ss) c.shipments.ensures.same)) none)))
 
 pub walks_to_split_by-walks-requires : goal.walks_to_split_by-walks-requires
-walks_to_split_by-walks-requires c = under-exist c.args.search.now c.args.leaf.now.sides c.args.found.relaxed c.requires.found.walks
+walks_to_split_by-walks-requires g c = under-exist c.args.search.now c.args.leaf.now.sides c.args.found.relaxed c.requires.found.walks
 
 pub returns-then-splits-search-clause-planned : goal.returns-then-splits-search-clause-planned
-returns-then-splits-search-clause-planned c =
+returns-then-splits-search-clause-planned g c =
     let some : IsSeveral c.args.leaf.now c.in-Some-2.several =
     subst (λ (o : Option Several). MatchOption o (NoneSeveral c.args.leaf.now (length c.shipments.result.now)) (IsSeveral c.args.leaf.now)) c.in-Some-2.is c.in_ok-first_several.ensures in (
       refl,
@@ -62,7 +62,7 @@ returns-then-splits-search-clause-planned c =
     )
 
 pub returns-clause-planned : goal.returns-clause-planned
-returns-clause-planned c = (
+returns-clause-planned g c = (
   omega (arith, c.splits.ensures.count, c.if-splits-search.false),
   c.in_ok-division-in-Some-2.ensures.division,
   dear-walks c.args.search.now c.args.leaf.now.sides c.args.found.relaxed c.are_cheaper.result c.requires.found.walks c.if-are_cheaper.false c.are_cheaper.ensures.1,

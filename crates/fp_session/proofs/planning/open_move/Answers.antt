@@ -15,7 +15,7 @@ use Rattle.fp_session.specs.declared.payloads.Payload.{Payload}
 use Rattle.fp_session.specs.Outcomes.{IsOutcome}
 use Rattle.fp_session.specs.Searches.{history}
 use Rattle.fp_session.proofs.SameHands.{IsSearch-grown}
-use Rattle.fp_session.proofs.OpenMoves.{dear-move, empty-move, found-move, was-kept}
+use Rattle.fp_session.proofs.OpenMoves.{dear-move, empty-move, found-move, late-move, was-kept}
 use Rattle.fp_session.proofs.PointLimits.{few-points}
 use Rattle.fp_session.proofs.planning.open_move.Goals as goal
 
@@ -25,48 +25,56 @@ below-cost worth cost dear not_dear is =
     ⊎_elim (λ (less : worth < cost). less) (λ (more : cost ≤ worth). absurd (false≢true (sym not_dear ∙ is more))) (cases_lt worth cost)
 
 pub over-requires-clause-whole : goal.over-requires-clause-whole
-over-requires-clause-whole c = subst (IsWholeNetwork c.args.search.now.instance) (sym c.in_ok-network.ensures) c.requires.search.network.whole
+over-requires-clause-whole g c = subst (IsWholeNetwork c.args.search.now.instance) (sym c.in_ok-network.ensures) c.requires.search.network.whole
 
 pub over-requires-clause-few : goal.over-requires-clause-few
-over-requires-clause-few c = subst (λ (net : TimedNetwork). point_count net ≤ MOST_POINTS) (sym c.in_ok-network.ensures) (few-points c.args.search.now c.args.prices.now c.requires.search)
+over-requires-clause-few g c = subst (λ (net : TimedNetwork). point_count net ≤ MOST_POINTS) (sym c.in_ok-network.ensures) (few-points c.args.search.now c.args.prices.now c.requires.search)
 
 pub improved_by_step-requires-clause-kept : goal.improved_by_step-requires-clause-kept
-improved_by_step-requires-clause-kept c =
+improved_by_step-requires-clause-kept g c =
     was-kept c.args.search.now c.args.prices.now c.args.prices.now c.args.number c.in_ok-leaf.leaf.sides c.args.old c.requires.old
     (subst (λ (ss : List Side). IsSomeAnd (leaf_at c.args.search.now.tree c.args.number) (λ (l : Leaf (Node Payload)). l.sides ≡ ss)) (sym (c.in_ok-leaf.ensures.sides ∙ c.deref.ensures.value)) c.in_ok-sides.ensures) c.requires.search
 
 pub returns-in-Empty-clause-planned : goal.returns-in-Empty-clause-planned
-returns-in-Empty-clause-planned c =
+returns-in-Empty-clause-planned g c =
     let came : IsOutcome (history c.args.search.now c.improved_by_step.new.prices) c.in_ok-leaf.leaf.sides c.args.old (outcome.Empty c.in-Empty.kept) =
     subst (IsOutcome (history c.args.search.now c.improved_by_step.new.prices) c.in_ok-leaf.leaf.sides c.args.old) c.in-Empty.is c.in_ok-kept.ensures.outcome in
     empty-move c.args.search.now c.args.prices.now c.improved_by_step.new.prices c.args.number c.in_ok-leaf.leaf.sides c.args.old c.requires.old
     (subst (λ (ss : List Side). IsSomeAnd (leaf_at c.args.search.now.tree c.args.number) (λ (l : Leaf (Node Payload)). l.sides ≡ ss)) (sym (c.in_ok-leaf.ensures.sides ∙ c.deref.ensures.value)) c.in_ok-sides.ensures) c.in-Empty.kept came.0 came.1
 
 pub returns-then-is_dear-clause-planned : goal.returns-then-is_dear-clause-planned
-returns-then-is_dear-clause-planned c =
+returns-then-is_dear-clause-planned g c =
     let came : IsOutcome (history c.args.search.now c.improved_by_step.new.prices) c.in_ok-leaf.leaf.sides c.args.old (outcome.Open c.in-Open.kept c.in-Open.walks) =
     subst (IsOutcome (history c.args.search.now c.improved_by_step.new.prices) c.in_ok-leaf.leaf.sides c.args.old) c.in-Open.is c.in_ok-kept.ensures.outcome in
     dear-move c.args.search.now c.args.prices.now c.improved_by_step.new.prices c.args.number c.in_ok-leaf.leaf.sides c.args.old c.requires.old
     (subst (λ (ss : List Side). IsSomeAnd (leaf_at c.args.search.now.tree c.args.number) (λ (l : Leaf (Node Payload)). l.sides ≡ ss)) (sym (c.in_ok-leaf.ensures.sides ∙ c.deref.ensures.value)) c.in_ok-sides.ensures) c.in-Open.kept c.in-Open.walks.items came.0 came.1 (c.is_dear.ensures.0 c.if-is_dear.true)
 
+pub returns-then-is_over-clause-planned : goal.returns-then-is_over-clause-planned
+returns-then-is_over-clause-planned g c =
+    let came : IsOutcome (history c.args.search.now c.improved_by_step.new.prices) c.in_ok-leaf.leaf.sides c.args.old (outcome.Open c.in-Open.kept c.in-Open.walks) =
+    subst (IsOutcome (history c.args.search.now c.improved_by_step.new.prices) c.in_ok-leaf.leaf.sides c.args.old) c.in-Open.is c.in_ok-kept.ensures.outcome in
+    late-move c.args.search.now c.args.prices.now c.improved_by_step.new.prices c.args.number c.in_ok-leaf.leaf.sides c.args.old c.requires.old
+    (subst (λ (ss : List Side). IsSomeAnd (leaf_at c.args.search.now.tree c.args.number) (λ (l : Leaf (Node Payload)). l.sides ≡ ss)) (sym (c.in_ok-leaf.ensures.sides ∙ c.deref.ensures.value)) c.in_ok-sides.ensures) c.in-Open.kept c.in-Open.walks.items came.0 came.1
+    (below-cost (worth_of (history c.args.search.now c.improved_by_step.new.prices) c.in-Open.kept.value) c.args.search.now.cost c.is_dear.result c.if-is_dear.false c.is_dear.ensures.1)
+
 pub found_at-requires-clause-search : goal.found_at-requires-clause-search
-found_at-requires-clause-search c = IsSearch-grown c.args.search.now c.args.prices.now c.improved_by_step.new.prices c.improved_by_step.ensures.grown c.requires.going c.requires.search
+found_at-requires-clause-search g c = IsSearch-grown c.args.search.now c.args.prices.now c.improved_by_step.new.prices c.improved_by_step.ensures.grown c.requires.going c.requires.search
 
 pub move_by-requires-clause-search : goal.move_by-requires-clause-search
-move_by-requires-clause-search c = IsSearch-grown c.args.search.now c.args.prices.now c.improved_by_step.new.prices c.improved_by_step.ensures.grown c.requires.going c.requires.search
+move_by-requires-clause-search g c = IsSearch-grown c.args.search.now c.args.prices.now c.improved_by_step.new.prices c.improved_by_step.ensures.grown c.requires.going c.requires.search
 
 pub move_by-requires-clause-below : goal.move_by-requires-clause-below
-move_by-requires-clause-below c =
+move_by-requires-clause-below g c =
     subst (λ (k : Kept). worth_of (history c.args.search.now c.improved_by_step.new.prices) k.value < c.args.search.now.cost) (sym c.in_ok-found-in-Open.ensures.kept)
     (below-cost (worth_of (history c.args.search.now c.improved_by_step.new.prices) c.in-Open.kept.value) c.args.search.now.cost c.is_dear.result c.if-is_dear.false c.is_dear.ensures.1)
 
 pub unless_cheaper-requires-clause-search : goal.unless_cheaper-requires-clause-search
-unless_cheaper-requires-clause-search c =
+unless_cheaper-requires-clause-search g c =
     IsSearch-grown c.args.search.now c.improved_by_step.new.prices c.move_by.new.prices c.move_by.ensures.grown c.requires.going
     (IsSearch-grown c.args.search.now c.args.prices.now c.improved_by_step.new.prices c.improved_by_step.ensures.grown c.requires.going c.requires.search)
 
 pub returns-clause-planned : goal.returns-clause-planned
-returns-clause-planned c =
+returns-clause-planned g c =
     let came : IsOutcome (history c.args.search.now c.improved_by_step.new.prices) c.in_ok-leaf.leaf.sides c.args.old (outcome.Open c.in-Open.kept c.in-Open.walks) =
     subst (IsOutcome (history c.args.search.now c.improved_by_step.new.prices) c.in_ok-leaf.leaf.sides c.args.old) c.in-Open.is c.in_ok-kept.ensures.outcome in
     let below : worth_of (history c.args.search.now c.improved_by_step.new.prices) c.in-Open.kept.value < c.args.search.now.cost =

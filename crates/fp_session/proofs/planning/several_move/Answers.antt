@@ -7,15 +7,15 @@ use Rattle.fp_session.specs.Searches.{IsSearch, history}
 use Rattle.fp_session.proofs.planning.several_move.Goals as goal
 
 pub division-requires-clause-search : goal.division-requires-clause-search
-division-requires-clause-search c = subst (IsSearch c.args.search.now) (sym c.choice.ensures.same) c.requires.search
+division-requires-clause-search g c = subst (IsSearch c.args.search.now) (sym c.choice.ensures.same) c.requires.search
 
 pub division-requires-clause-chosen : goal.division-requires-clause-chosen
-division-requires-clause-chosen c =
+division-requires-clause-chosen g c =
     subst (λ (x : PriceLists). IsChosen (history c.args.search.now x) c.args.leaf.now c.in_ok-chosen.chosen) (sym c.choice.ensures.same) c.in_ok-chosen.ensures.chosen
 
 pub division-requires-clause-kind : goal.division-requires-clause-kind
-division-requires-clause-kind c = subst (λ (x : PriceLists). HasKind x.tables c.args.kept.payload.price.kind) (sym c.choice.ensures.same) c.requires.kind
+division-requires-clause-kind g c = subst (λ (x : PriceLists). HasKind x.tables c.args.kept.payload.price.kind) (sym c.choice.ensures.same) c.requires.kind
 
 pub returns-clause-grown : goal.returns-clause-grown
-returns-clause-grown c =
+returns-clause-grown g c =
     subst (λ (ts : PriceLists). HaveGrown c.args.search.now.instance ts c.division.new.prices) c.choice.ensures.same c.division.ensures.grown

@@ -4,4 +4,4 @@ use Rattle.fp_session.proofs.redrawing.redrawn.Given as goal
 
 -- what was found so far is cheaper than the incumbent
 abbrev pub invariant-loop-number : goal.invariant-loop-number
-invariant-loop-number l = IfSome l.best (IsCheaper l.search)
+invariant-loop-number g l = IfSome l.best (IsCheaper l.search)

@@ -14,7 +14,7 @@ use Rattle.fp_app.proofs.RootValues.{IsPriceFound-IsRootBound, root-not_empty}
 use Rattle.fp_app.proofs.commands.bounds.bound_root.Goals as goal
 
 pub returns-clause-shown : goal.returns-clause-shown
-returns-clause-shown c =
+returns-clause-shown g c =
     let p = c.args.instance in
     let after = c.improve_root.new.prices in
     let windows : AreWindowsOf p c.in_ok-windows.windows =
@@ -35,7 +35,7 @@ returns-clause-shown c =
 
 -- a plan exists, so each shipment has an allowed walk
 pub unreachable-requires : goal.unreachable-requires
-unreachable-requires c =
+unreachable-requires g c =
     let none =
     subst (IsImprovedBy c.args.instance (windows_in c.in_ok-windows.windows) (points_in c.in_ok-network.network) [] c.improve_root.new.prices 0) c.in-Empty.is c.in_ok-price.ensures.improved in
     root-not_empty c.args.instance (windows_in c.in_ok-windows.windows) (points_in c.in_ok-network.network) c.in-Empty.shipment c.in_ok-windows.ensures.covers c.requires none

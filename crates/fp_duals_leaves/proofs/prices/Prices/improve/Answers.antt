@@ -12,12 +12,12 @@ use Rattle.fp_duals_leaves.proofs.ImprovedPrices.{cut-front, grown-added, grown-
 use Rattle.fp_duals_leaves.proofs.prices.Prices.improve.Goals as goal
 
 pub returns-in_err-improved-clause-grown : goal.returns-in_err-improved-clause-grown
-returns-in_err-improved-clause-grown c =
+returns-in_err-improved-clause-grown g c =
     HaveGrown-same c.args.leaf.now.setting.problem c.args.self.now (record { tables = c.improve_leaf.new.tables; spans = c.self.inside.spans.items; unit = c.self.inside.unit })
     (ap (λ (ts : List (List ClassShare)). record { tables = ts; spans = c.self.inside.spans.items; unit = c.self.inside.unit }) c.in_err-improved.ensures.err ∙ c.self.view_is) c.requires.prices
 
 pub returns-then-list-len-clause-improved : goal.returns-then-list-len-clause-improved
-returns-then-list-len-clause-improved c =
+returns-then-list-len-clause-improved g c =
     let leaf = c.args.leaf.now in
     let inside : PriceLists = record { tables = c.self.inside.tables; spans = c.self.inside.spans.items; unit = c.self.inside.unit } in
     improved-same leaf.setting.problem (windows_in leaf.setting.windows) (points_in leaf.setting.network) leaf.sides inside (subst (ArePrices leaf.setting.problem) (sym c.self.view_is) c.requires.prices)
@@ -26,7 +26,7 @@ returns-then-list-len-clause-improved c =
     (omega (arith, ap length c.list.ensures.same, c.if-list-len.true, c.len.ensures, c.self.inside.spans.ok))
 
 pub returns-then-list-len-clause-grown : goal.returns-then-list-len-clause-grown
-returns-then-list-len-clause-grown c =
+returns-then-list-len-clause-grown g c =
     let leaf = c.args.leaf.now in
     let inside : PriceLists = record { tables = c.self.inside.tables; spans = c.self.inside.spans.items; unit = c.self.inside.unit } in
     subst (λ (x : PriceLists). HaveGrown leaf.setting.problem x (record { tables = c.improve_leaf.new.tables; spans = c.self.inside.spans.items; unit = c.self.inside.unit })) c.self.view_is
@@ -36,7 +36,7 @@ returns-then-list-len-clause-grown c =
     (omega (arith, ap length c.list.ensures.same, c.if-list-len.true, c.len.ensures, c.self.inside.spans.ok)))
 
 pub returns-in-Err-clause-grown : goal.returns-in-Err-clause-grown
-returns-in-Err-clause-grown c =
+returns-in-Err-clause-grown g c =
     let leaf = c.args.leaf.now in
     let inside : PriceLists = record { tables = c.self.inside.tables; spans = c.self.inside.spans.items; unit = c.self.inside.unit } in
     let back : c.cut.new.self ≡ c.self.inside.tables =
@@ -49,7 +49,7 @@ returns-in-Err-clause-grown c =
     ∙ ap (λ (ss : List (List ClassSpan)). record { tables = c.self.inside.tables; spans = ss; unit = c.self.inside.unit }) c.in-Err.ensures.items ∙ c.self.view_is) c.requires.prices
 
 pub returns-clause-improved : goal.returns-clause-improved
-returns-clause-improved c =
+returns-clause-improved g c =
     let leaf = c.args.leaf.now in
     let inside : PriceLists = record { tables = c.self.inside.tables; spans = c.self.inside.spans.items; unit = c.self.inside.unit } in
     subst (λ (ss : List (List ClassSpan)). IsImprovedBy leaf.setting.problem (windows_in leaf.setting.windows) (points_in leaf.setting.network) leaf.sides (record { tables = c.improve_leaf.new.tables; spans = ss; unit = c.self.inside.unit }) c.args.round c.in_ok-improved.improved)
@@ -60,7 +60,7 @@ returns-clause-improved c =
     (omega (arith, ap length c.list.ensures.same, c.if-list-len.false, c.len.ensures, c.self.inside.spans.ok)))
 
 pub returns-clause-grown : goal.returns-clause-grown
-returns-clause-grown c =
+returns-clause-grown g c =
     let leaf = c.args.leaf.now in
     let inside : PriceLists = record { tables = c.self.inside.tables; spans = c.self.inside.spans.items; unit = c.self.inside.unit } in
     subst (λ (x : PriceLists). HaveGrown leaf.setting.problem x (record { tables = c.improve_leaf.new.tables; spans = c.push.new.self.items; unit = c.self.inside.unit })) c.self.view_is

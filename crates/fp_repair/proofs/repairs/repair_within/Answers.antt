@@ -14,28 +14,28 @@ use Rattle.fp_relaxmodel.proofs.GroupsOfRoutes.{AreGroupsOf-walks}
 use Rattle.fp_relaxmodel.proofs.RouteLengths.{HasRoutes-few_legs, HasRoutes-few_walks}
 use Rattle.fp_repair.specs.KeptGroups.{AreKeptGroups, IsKeptPlan}
 use Rattle.fp_repair.proofs.EarliestPlans.{IsRoute-HasRoutes, cost-le-earliest, cost-le-kept, cost-le-walks}
-use Rattle.fp_repair.proofs.repairs.repair.Goals as goal
+use Rattle.fp_repair.proofs.repairs.repair_within.Goals as goal
 
 pub groups-requires-clause-few_walks : goal.groups-requires-clause-few_walks
-groups-requires-clause-few_walks c = HasRoutes-few_walks c.args.instance.now c.args.relaxed.now c.requires.belongs.valid c.requires.relaxed
+groups-requires-clause-few_walks g c = HasRoutes-few_walks c.args.instance.now c.args.relaxed.now c.requires.belongs.valid c.requires.relaxed
 
 pub groups-requires-clause-few_legs : goal.groups-requires-clause-few_legs
-groups-requires-clause-few_legs c = HasRoutes-few_legs c.args.instance.now c.args.relaxed.now c.requires.belongs.valid c.requires.relaxed
+groups-requires-clause-few_legs g c = HasRoutes-few_legs c.args.instance.now c.args.relaxed.now c.requires.belongs.valid c.requires.relaxed
 
 -- the routes are the walks' lists of arcs
 pub least_times-requires-clause-routes : goal.least_times-requires-clause-routes
-least_times-requires-clause-routes c =
+least_times-requires-clause-routes g c =
     let routes : lists_of c.deref-3.result.now ≡ arc_lists c.args.relaxed.now = ap (λ (rs : List (Vec ℕ Global)). lists_of rs) c.deref-3.ensures.value ∙ c.in_ok-routes.ensures in
     subst (AllZip (IsRoute c.args.instance.now) c.args.instance.now.shipments) (sym routes) (IsRoute-HasRoutes c.args.instance.now c.args.relaxed.now c.requires.relaxed)
 
 pub least_times-requires-clause-groups : goal.least_times-requires-clause-groups
-least_times-requires-clause-groups c =
+least_times-requires-clause-groups g c =
     let routes : lists_of c.deref-3.result.now ≡ arc_lists c.args.relaxed.now = ap (λ (rs : List (Vec ℕ Global)). lists_of rs) c.deref-3.ensures.value ∙ c.in_ok-routes.ensures in
     subst (λ (rs : List (List ℕ)). AreGroupsOf rs (lists_of c.in_ok-groups.groups.items)) (sym routes)
     (AreGroupsOf-walks c.args.relaxed.now (lists_of c.in_ok-groups.groups.items) c.in_ok-groups.ensures.groups)
 
 pub returns-clause-timed : goal.returns-clause-timed
-returns-clause-timed c groups are =
+returns-clause-timed g c groups are =
     let p = c.args.instance.now in
     let w = windows_in c.args.windows.now in
     let routes : lists_of c.deref-3.result.now ≡ arc_lists c.args.relaxed.now = ap (λ (rs : List (Vec ℕ Global)). lists_of rs) c.deref-3.ensures.value ∙ c.in_ok-routes.ensures in
@@ -44,7 +44,7 @@ returns-clause-timed c groups are =
     (subst (λ (rs : List (List ℕ)). IsTrue c.in_ok-timings.timings.timed ↔ HaveTimes p w rs (lists_of c.in_ok-groups.groups.items)) routes c.in_ok-timings.ensures.timed)
 
 pub returns-clause-together : goal.returns-clause-together
-returns-clause-together c timed =
+returns-clause-together g c timed =
     let p = c.args.instance.now in
     let w = windows_in c.args.windows.now in
     let groups : List (List Member) = lists_of c.in_ok-groups.groups.items in
@@ -61,7 +61,7 @@ returns-clause-together c timed =
     )
 
 pub returns-clause-apart : goal.returns-clause-apart
-returns-clause-apart c legs is =
+returns-clause-apart g c legs is =
     let p = c.args.instance.now in
     let w = windows_in c.args.windows.now in
     let routes : lists_of c.deref-3.result.now ≡ arc_lists c.args.relaxed.now = ap (λ (rs : List (Vec ℕ Global)). lists_of rs) c.deref-3.ensures.value ∙ c.in_ok-routes.ensures in
@@ -75,7 +75,7 @@ returns-clause-apart c legs is =
     )
 
 pub returns-clause-kept : goal.returns-clause-kept
-returns-clause-kept c others kept legs of are is =
+returns-clause-kept g c others kept legs of are is =
     let p = c.args.instance.now in
     let w = windows_in c.args.windows.now in
     let groups : List (List Member) = lists_of c.in_ok-groups.groups.items in
