@@ -6,13 +6,13 @@ _freight_options() {
   local words=
   case $1 in
   direct) words='-o --output --certificate --timetable-only --allow-empty -h --help' ;;
-  plan) words='--rounds --branches --scale --seconds --spans -o --output --certificate --timetable-only --allow-empty -h --help' ;;
+  plan) words='--rounds --branches --scale --seconds --spans --notes -o --output --certificate --timetable-only --allow-empty -h --help' ;;
   bound) words='--seconds --spans -o --output --allow-empty -h --help' ;;
   check) words='-o --output --allow-empty -h --help' ;;
   yard) words='-o --output --allow-empty -h --help' ;;
   fleet) words='-o --output --allow-empty -h --help' ;;
-  replan) words='--rounds --branches --seconds --spans -o --output --certificate --timetable-only --allow-empty -h --help' ;;
-  quote) words='--rounds --branches --seconds --spans -o --output --allow-empty -h --help' ;;
+  replan) words='--rounds --branches --seconds --spans --notes -o --output --certificate --timetable-only --allow-empty -h --help' ;;
+  quote) words='--rounds --branches --seconds --spans --notes -o --output --allow-empty -h --help' ;;
   trial) words='-o --output -h --help' ;;
   import) words='-o --output --names --columns --zone --day --dates --decimal --time-unit -h --help' ;;
   export) words='-o --output --names --instance --fleet --by --to -h --help' ;;

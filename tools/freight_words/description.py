@@ -69,6 +69,7 @@ BRANCHES = Option("--branches", "the most splits of the search's tree", "N", Ran
 SECONDS = Option("--seconds", "it ends after so many with the best it has", "N", Range(1, 86_400, padded=False))
 SCALE = Option("--scale", "how many parts of prices make a unit of money", "N", Range(1, 1_000_000_000), 1_000_000)
 SPANS = Option("--spans", "prices of runs of classes too: it takes longer, and mostly proves more")
+NOTES = Option("--notes", "cost, bound and each cheaper timetable on standard error meanwhile")
 
 HELP = Option("--help", "this page, on standard output", short="-h")
 OUTPUT = Option("--output", "the answer goes to FILE: whole, or not at all", "FILE", short="-o")
@@ -103,13 +104,13 @@ PICTURE = (
 )
 
 SEED = Range(0, 2_147_483_647)
-SEARCH = (ROUNDS, BRANCHES, SECONDS, SPANS)
+SEARCH = (ROUNDS, BRANCHES, SECONDS, SPANS, NOTES)
 READER = (OUTPUT, ALLOW_EMPTY, HELP)
 PLANNER = (OUTPUT, CERTIFICATE, TIMETABLE_ONLY, ALLOW_EMPTY, HELP)
 
 COMMANDS = (
     Command("direct", "each shipment's fastest timetable; it joins nothing", "INSTANCE", own=PLANNER),
-    Command("plan", "the cheapest timetable, with all that tells why", "INSTANCE", options=(ROUNDS, BRANCHES, SCALE, SECONDS, SPANS), own=PLANNER),
+    Command("plan", "the cheapest timetable, with all that tells why", "INSTANCE", options=(ROUNDS, BRANCHES, SCALE, SECONDS, SPANS, NOTES), own=PLANNER),
     Command("bound", "a number under which no plan costs", "INSTANCE", options=(SECONDS, SPANS), own=READER),
     Command("check", "whether an answer's certificate is accepted for the instance", "INSTANCE ANSWER", own=READER),
     Command("yard", "each terminal's sheet of the answer's timetable, and one run of it", "INSTANCE ANSWER", (Place("SEED", SEED),), own=READER),
@@ -180,6 +181,9 @@ STATUSES = (
     Status(41, "the system gave no words"),
     Status(126, "the program can't be run: not executable, or made for another machine", launcher=True),
     Status(127, "the program, or what it needs to start, isn't there", launcher=True),
+    Status(129, "a search was stopped by SIGHUP: the best timetable so far is handed over", launcher=True),
+    Status(130, "a search was stopped by SIGINT, which is Ctrl-C: likewise", launcher=True),
+    Status(143, "a search was stopped by SIGTERM: likewise", launcher=True),
 )
 
 EXAMPLES = (

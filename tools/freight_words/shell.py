@@ -38,6 +38,8 @@ def table():
         *array("least", {name: str(it.least) for name, it in limits.items()}),
         *array("most", {name: str(it.most) for name, it in limits.items()}),
         *array("ranges", {name: str(it) for name, it in limits.items()}),
+        "# Of each option with a number: the one that it has without being named.",
+        *array("without", {option.name: str(option.without) for it in COMMANDS for option in it.options if option.without is not None}),
         "# Those before which no 0 stands.", f"unpadded='{' '.join(name for name, it in limits.items() if not it.padded)}'",
     ]  # fmt: skip
     return "\n".join(lines) + "\n"

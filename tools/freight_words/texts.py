@@ -7,6 +7,7 @@ from .description import COMMANDS, EXAMPLES, LIMITS, RECORDS, STATUSES, TITLE, V
 WIDTH = 130
 HANDED = "The words go to tools/{script}, which isn't proved and needs Python 3.9 or later; tools/{script} --help says more of its options."
 MORE = (
+    "Ctrl-C or SIGTERM ends a search of plan and replan with the best timetable so far, and one of quote with its figures so far.",
     "FREIGHT_QUIET=1 keeps standard error silent. ./freight help COMMAND has a command's options.",
     "docs/launcher.md has files, statuses and completions, docs/formats.md every field, line and refusal.",
 )

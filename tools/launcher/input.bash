@@ -4,8 +4,9 @@
 folder='' starts=()
 
 # A folder of its own below a place, where a million bytes fit and a pipe can stand: sets `folder`, or `why` there is none.
+# No signal ends what makes it, so that it is known and taken away.
 open_folder() {
-  folder=$(mktemp -d "$1/freight.XXXXXX" 2>/dev/null) || {
+  folder=$(trap '' HUP INT TERM; mktemp -d "$1/freight.XXXXXX" 2>/dev/null) || {
     folder='' why="$1 isn't a folder that can be written to"
     return 1
   }

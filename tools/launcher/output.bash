@@ -29,10 +29,11 @@ set_mode() {
 } 2>/dev/null
 
 # Opens a new file beside one that an answer is to take the place of. No run on another machine opens the same.
+# No signal ends what makes it, so that it is known and taken away.
 open_part() {
   local target part
   look_at_target "$1"
-  if ! target=$(readlink -f -- "$1") || ! part=$(mktemp "${target%/*}/.freight.XXXXXX" 2>/dev/null); then
+  if ! target=$(readlink -f -- "$1") || ! part=$(trap '' HUP INT TERM; mktemp "${target%/*}/.freight.XXXXXX" 2>/dev/null); then
     say "$1 can't be written there: its folder isn't here, or nothing may be written to it"
     exit 31
   fi

@@ -9,10 +9,10 @@ scripts='import export picture'
 readers='direct plan bound check yard fleet replan quote'
 # Of each command: the options of the program, those of the launcher, and the numbers that stand after it.
 declare -A options=(
-  [plan]='--rounds --branches --scale --seconds --spans'
+  [plan]='--rounds --branches --scale --seconds --spans --notes'
   [bound]='--seconds --spans'
-  [replan]='--rounds --branches --seconds --spans'
-  [quote]='--rounds --branches --seconds --spans'
+  [replan]='--rounds --branches --seconds --spans --notes'
+  [quote]='--rounds --branches --seconds --spans --notes'
 )
 declare -A own_options=(
   [direct]='-o --output --certificate --timetable-only --allow-empty -h --help'
@@ -63,6 +63,12 @@ declare -A ranges=(
   [trial.SEED]='0 to 2,147,483,647'
   [trial.TERMINALS]='2 to 100'
   [trial.SHIPMENTS]='0 to 500'
+)
+# Of each option with a number: the one that it has without being named.
+declare -A without=(
+  [--rounds]='400'
+  [--branches]='4000'
+  [--scale]='1000000'
 )
 # Those before which no 0 stands.
 unpadded='--seconds'

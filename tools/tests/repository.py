@@ -19,10 +19,11 @@ TIMETABLE = "answer,unfinished,300,200,rounds\nleg,S1\ntruck,A\nend\n"
 
 # Says which program it is, and keeps a list of its runs and what it read last. `direct` answers, `plan` ends unfinished, with a
 # certificate, `bound` refuses what it reads, `yard 1` shows what it read, `fleet` has the status that the
-# file `ends` has, and `trial` that of its seed.
+# file `ends` has, and `trial` that of its seed. It takes --notes at the end, and writes none.
 PROGRAM = """#!/bin/sh
 echo "{name} $*" >>"{top}/runs"
-case "$*" in
+words=$*
+case ${{words% --notes}} in
 direct | bound | 'yard 1') cat >"{top}/read" || exit 30 ;;
 plan | 'plan --rounds 0') cat >"{top}/read" || exit 30; printf %s '{plan}'; exit 10 ;;
 fleet) exit "$(cat "{top}/ends")" ;;

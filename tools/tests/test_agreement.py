@@ -38,6 +38,24 @@ class Agreement(unittest.TestCase):
                 with self.subTest(name=name, options=options):
                     self.agrees(text, options, direct, bound)
 
+    def test_notes(self):
+        for name, text in INSTANCES.items():
+            for options in SEARCHES[:3]:
+                with self.subTest(name=name, options=options):
+                    self.is_noted(text, options)
+
+    def is_noted(self, text, options):
+        """Notes change no answer, get no worse, and hold a timetable that is accepted, at the cost of the last one."""
+        done = subprocess.run([proved(), "plan", *options.split(), "--notes"], input=text.encode(), capture_output=True)
+        self.assertEqual(done.stdout.decode(), self.prints(f"plan {options}", text)[1])
+        notes = done.stderr.decode()
+        figures = [tuple(map(int, it.split(",")[3:])) for it in notes.splitlines() if it.startswith("note,")]
+        costs, bounds = zip(*figures)
+        self.assertEqual((list(costs), list(bounds)), (sorted(costs, reverse=True), sorted(bounds)))
+        timetable = "answer,direct," + notes.split("answer,direct,")[-1].split("end\n")[0] + "end\n"
+        self.assertEqual(self.prints("check", text + timetable)[0], ["accepted", "direct"])
+        self.assertEqual(int(timetable.split("\n")[0].split(",")[2]), costs[-1])
+
     def agrees(self, text, options, direct, bound):
         (_, kind, cost, *rest), answer = self.prints(f"plan {options}", text)
         self.assertEqual(self.prints("check", text + answer)[0], ["accepted", kind])

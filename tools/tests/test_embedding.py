@@ -1,6 +1,9 @@
 """The pages on calling the program and on the launcher: each of their blocks is run as it stands, from the top of a repository."""
 
+import os
 import pathlib
+import shlex
+import signal
 import subprocess
 import sys
 import unittest
@@ -9,7 +12,8 @@ sys.dont_write_bytecode = True
 sys.path.insert(0, str(pathlib.Path(__file__).resolve().parent))
 from pages_written import blocks  # noqa: E402
 from programs import TOP, proved  # noqa: E402
-from repository import UNFINISHED, InRepository  # noqa: E402
+from repository import INSTANCE, UNFINISHED, InRepository  # noqa: E402
+from searches import CHEAP, Searches  # noqa: E402
 
 EMBEDDING, LAUNCHER = (TOP / "docs" / name for name in ("embedding.md", "launcher.md"))
 NAMES = ("1", "2", "a day", "it's", 'a "quoted" day')
@@ -70,6 +74,35 @@ class Queues(Blocks):
         self.write("days/.freight.7.0", b"half")
         self.types(block_with("rm -f"))
         self.assertEqual(list((self.top / "days").glob(".freight*")), [])
+
+
+class Stopped(Searches):
+    """Queues that are stopped while a day is planned: the signal goes to all of their processes."""
+
+    def setUp(self):
+        super().setUp()
+        self.write("days/1.csv", INSTANCE)
+
+    def queue(self, command, name, answer):
+        """Stops a queue, and waits until the day has its answer: its status."""
+        names = self.repository.names(False, False, {"TMPDIR": str(self.folder), "SLURM_ARRAY_TASK_ID": "1"})
+        run = subprocess.Popen(["sh", "-c", command], cwd=self.top, env=names, stderr=subprocess.DEVNULL, start_new_session=True)
+        self.addCleanup(run.wait)
+        self.wait_for(self.is_noted)
+        os.killpg(run.pid, name)
+        self.wait_for(lambda: (self.top / answer).exists())
+        self.assertEqual((self.top / answer).read_text(), CHEAP)
+        self.wait_for(lambda: not list(self.folder.iterdir()))
+        self.leaves_nothing()
+        return run.wait()
+
+    def test_xargs(self):
+        self.queue(block_with("xargs"), signal.SIGINT, "days/1.csv.answer")
+        done = subprocess.run(["sh", "-c", block_with("grep -l")], cwd=self.top, capture_output=True, text=True)
+        self.assertEqual(done.stdout, "days/1.csv.answer\n")
+
+    def test_slurm(self):
+        self.assertEqual(self.queue(shlex.split(block_with("sbatch"))[-1], signal.SIGTERM, "days/1.answer"), 143)
 
 
 @unittest.skipIf(proved() is None, "the proved program of these sources isn't here")

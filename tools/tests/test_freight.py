@@ -99,8 +99,8 @@ class Answers(InRepository):
         done = self.repository.run("plan --rounds 0")
         self.assertEqual((done.returncode, done.stdout), (10, UNFINISHED.encode()))
         self.assertIn("no plan costs less than 200", done.stderr.decode())
-        # The words are tried over no input, and then the program runs once.
-        self.assertEqual(self.repository.lines("runs"), ["shipped plan --rounds 0"] * 2)
+        # The words are tried over no input, and then the program runs once, with its notes.
+        self.assertEqual(self.repository.lines("runs"), ["shipped plan --rounds 0", "shipped plan --rounds 0 --notes"])
 
     def test_quiet(self):
         done = self.repository.run("plan", quiet=True)

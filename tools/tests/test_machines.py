@@ -10,7 +10,7 @@ import unittest
 sys.dont_write_bytecode = True
 sys.path.insert(0, str(pathlib.Path(__file__).resolve().parent))
 from programs import TOP  # noqa: E402
-from repository import INSTANCE, InRepository  # noqa: E402
+from repository import INSTANCE, UNFINISHED, InRepository  # noqa: E402
 
 ANSWER = "answer,shipped,104\n"
 REFUSED = "refused,1,1\n"
@@ -19,7 +19,7 @@ REFUSED = "refused,1,1\n"
 SCRIPTS = ("freight", "tools/records", "tools/record", "tools/sources", *sorted(f"tools/launcher/{it.name}" for it in (TOP / "tools/launcher").glob("*.bash")))
 THROUGH_FILES = ("<(", ">(", "<<", "/dev/fd", "/dev/std", "/proc", "coproc", "tee ")
 
-# What the launcher needs beside bash: with these commands alone on the path it answers.
+# What the launcher needs beside bash: with these commands alone on the path it answers. With awk it keeps notes too.
 COMMANDS = (
     "cat", "chmod", "cut", "dirname", "find", "grep", "mkfifo", "mktemp", "mv", "readlink", "rm", "sed", "sha256sum", "sort", "tail", "tr", "uname", "wc", "xargs",
     "env", "bash", "sh",
@@ -62,6 +62,12 @@ class Path(InRepository):
         self.assertEqual(self.ran((0, ANSWER), "direct"), "")
         self.assertEqual(self.ran((0, ANSWER), ["direct", self.write("day", INSTANCE)]), "")
         self.ran((0, ""), ["direct", "-o", str(self.top / "out")])
+
+    def test_notes_need_awk(self):
+        self.ran((10, UNFINISHED), "plan")
+        (self.path / "awk").symlink_to(shutil.which("awk"))
+        self.ran((10, UNFINISHED), "plan")
+        self.assertEqual(self.repository.lines("runs"), ["shipped plan"] * 3 + ["shipped plan --notes"])
 
     def test_python(self):
         wanted = "install Python 3.9 or later, with its whole library"

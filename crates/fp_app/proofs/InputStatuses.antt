@@ -27,7 +27,7 @@ use Rattle.fp_app.specs.Wanted.{every, keeping}
 use Rattle.fp_app.proofs.QuoteCauses.{quote-status}
 use Rattle.fp_app.proofs.ReplanCauses.{end-status, replan-status}
 
--- for a time that can be over or not
+-- for a time that is known to be over or not
 module _ (over : Bool) where
   MatchBool_map : (b : Bool) (X Y V W : Type 0) → (X → V) → (Y → W) → MatchBool b X Y → MatchBool b V W
   MatchBool_map true X Y V W first second x = first x
@@ -79,14 +79,14 @@ module _ (over : Bool) where
   ShowsInput-InputStatus : (o : Order) (input : List ℕ) (s : Shown) → ShowsInput over o input s → InputStatus over o input (status_of s)
   ShowsInput-InputStatus Direct input s told = MatchResult_map (instance_in input) (λ p. ShowsDirect p s) (λ p. PlanStatus p (status_of s)) s (λ p. direct-status p s) told
   ShowsInput-InputStatus (Bound option seconds) input s told = MatchResult_map (instance_in input) (λ p. ShowsBound option p s) (λ p. PlanStatus p (status_of s)) s (λ p. bound-status option p s) told
-  ShowsInput-InputStatus (Plan budget scale spans seconds) input s told =
+  ShowsInput-InputStatus (Plan budget scale spans seconds notes) input s told =
       MatchResult_map (instance_at scale input) (λ p. ShowsSearch (within budget over) spans p s) (λ p. SearchStatus p every (within budget over) (status_of s)) s (λ p. search-input-status p (within budget over) spans s) told
   ShowsInput-InputStatus (Trial seed terminals shipments) input s told = absurd told
   ShowsInput-InputStatus (Yard seed) input s told = certificate-map input s (λ p c. ShowsYard seed p c s) (λ p c. ToldStatus p c (status_of s)) (λ p c. yard-status seed p c s) told
   ShowsInput-InputStatus Fleet input s told = certificate-map input s (λ p c. ShowsFleet p c s) (λ p c. ToldStatus p c (status_of s)) (λ p c. fleet-status p c s) told
-  ShowsInput-InputStatus (Replan budget spans seconds) input s told =
+  ShowsInput-InputStatus (Replan budget spans seconds notes) input s told =
       MatchResult_map (kept_in input) (λ (x : KeptInstance). ShowsReplan (within budget over) spans x s) (λ (x : KeptInstance). SearchStatus x.instance (keeping x.kept) (within budget over) (status_of s)) s (λ (x : KeptInstance). replan-status (within budget over) spans x s) told
-  ShowsInput-InputStatus (Quote budget spans seconds) input s told =
+  ShowsInput-InputStatus (Quote budget spans seconds notes) input s told =
       MatchResult_map (quoted_in input) (λ p. ShowsQuote (within budget over) spans p s) (λ p. QuoteStatus p (within budget over) (status_of s)) s (λ p. quote-status (within budget over) spans p s) told
   ShowsInput-InputStatus Check input s told =
       certificate-map input s (λ p c. ShowsCheck (scaled p c) c s) (λ p c. CheckStatus (scaled p c) c (status_of s)) (λ p c. check-status (scaled p c) c s) told

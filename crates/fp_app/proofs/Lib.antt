@@ -26,3 +26,4 @@ pub mod StillClocks
 pub mod UntoldPlans
 pub mod Verdicts
 pub mod YardCauses
+pub mod NotesTaken

@@ -64,8 +64,8 @@ module _ (allowed : Allowance) (spans : Bool) (input : List ℕ) (p : Problem) (
   extra-open (shown.Infeasible q shipment time) told ends = let g = ends in cc
   extra-open _ told ends = absurd told
 
-  extra-none : (budget : Budget) (seconds : Option ℕ) (s : Shown) → ShowsQuote allowed spans p s → status_of s ≡ status.Infeasible → ShowsNone (Quote budget spans seconds) input s
-  extra-none budget seconds (shown.Infeasible q shipment time) told none = record {
+  extra-none : (budget : Budget) (seconds : Option ℕ) (notes : Bool) (s : Shown) → ShowsQuote allowed spans p s → status_of s ≡ status.Infeasible → ShowsNone (Quote budget spans seconds notes) input s
+  extra-none budget seconds notes (shown.Infeasible q shipment time) told none = record {
     instance = p;
     shipment = shipment;
     time = time;
@@ -74,9 +74,9 @@ module _ (allowed : Allowance) (spans : Bool) (input : List ℕ) (p : Problem) (
     blocked = told.1;
     none = told.2;
   }
-  extra-none budget seconds (shown.Quoted q before after) told none =
+  extra-none budget seconds notes (shown.Quoted q before after) told none =
       absurd (both-no_other before.certificate.answer after.certificate.answer status.Infeasible (λ e. cc e) (λ e. cc e) none)
-  extra-none budget seconds _ told none = absurd told
+  extra-none budget seconds notes _ told none = absurd told
 
 pub quote-done : (allowed : Allowance) (spans : Bool) (input : List ℕ) (s : Shown) → OfQuoted input s (λ p. ShowsQuote allowed spans p s) → status_of s ≡ status.Done → ShowsExactExtra allowed spans input s
 quote-done allowed spans input s told done =
@@ -88,10 +88,10 @@ quote-open allowed spans input s told ends =
     MatchResult_shows status.Unfinished (quoted_in input) (quoted_in input) (λ p. ShowsQuote allowed spans p s) s (ShowsOpenExtra allowed spans input s) (λ e. cc e) refl ends told
     (λ p is shows. extra-open allowed spans input p is s shows ends)
 
-pub quote-none : (allowed : Allowance) (budget : Budget) (spans : Bool) (seconds : Option ℕ) (input : List ℕ) (s : Shown) → OfQuoted input s (λ p. ShowsQuote allowed spans p s) → status_of s ≡ status.Infeasible → ShowsNone (Quote budget spans seconds) input s
-quote-none allowed budget spans seconds input s told none =
-    MatchResult_shows status.Infeasible (quoted_in input) (quoted_in input) (λ p. ShowsQuote allowed spans p s) s (ShowsNone (Quote budget spans seconds) input s) (λ e. cc e) refl none told
-    (λ p is shows. extra-none allowed spans input p is budget seconds s shows none)
+pub quote-none : (allowed : Allowance) (budget : Budget) (spans : Bool) (seconds : Option ℕ) (notes : Bool) (input : List ℕ) (s : Shown) → OfQuoted input s (λ p. ShowsQuote allowed spans p s) → status_of s ≡ status.Infeasible → ShowsNone (Quote budget spans seconds notes) input s
+quote-none allowed budget spans seconds notes input s told none =
+    MatchResult_shows status.Infeasible (quoted_in input) (quoted_in input) (λ p. ShowsQuote allowed spans p s) s (ShowsNone (Quote budget spans seconds notes) input s) (λ e. cc e) refl none told
+    (λ p is shows. extra-none allowed spans input p is budget seconds notes s shows none)
 
 -- the status of two searches
 module _ (p : Problem) (allowed : Allowance) (spans : Bool) (before after : Solution) (told : IsQuoted p allowed spans before after) where

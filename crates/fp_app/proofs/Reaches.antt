@@ -22,7 +22,7 @@ use Rattle.fp_app.specs.Texts.{IsText}
 use Rattle.fp_app.specs.Searches.{Allowance, within}
 use Rattle.fp_app.proofs.SearchEnds.{both-no_other, search-no_other}
 
--- for a time that can be over or not
+-- for a time that is known to be over or not
 module _ (over : Bool) where
   -- neither of two holds
   MatchBool_neither : (b : Bool) (X Y : Type 0) → (X → ⊥) → (Y → ⊥) → MatchBool b X Y → ⊥
@@ -47,12 +47,12 @@ module _ (over : Bool) where
     no-input : (o : Order) (input : List ℕ) → ShowsInput over o input s → ⊥
     no-input Direct input told = MatchResult_neither (instance_in input) (λ p. ShowsDirect p s) (λ (f : Fault). s ≡ shown.BadInput f.ordinal f.code) direct fault told
     no-input (Bound option seconds) input told = MatchResult_neither (instance_in input) (λ p. ShowsBound option p s) (λ (f : Fault). s ≡ shown.BadInput f.ordinal f.code) (bound option) fault told
-    no-input (Plan budget scale spans seconds) input told =
+    no-input (Plan budget scale spans seconds notes) input told =
         MatchResult_neither (instance_at scale input) (λ p. ShowsSearch (within budget over) spans p s) (λ (f : Fault). s ≡ shown.BadInput f.ordinal f.code) (search_none (within budget over) spans) fault told
     no-input (Trial seed terminals shipments) input told = told
-    no-input (Replan budget spans seconds) input told =
+    no-input (Replan budget spans seconds notes) input told =
         MatchResult_neither (kept_in input) (λ (x : KeptInstance). ShowsReplan (within budget over) spans x s) (λ (f : Fault). s ≡ shown.BadInput f.ordinal f.code) (replan (within budget over) spans) fault told
-    no-input (Quote budget spans seconds) input told = MatchResult_neither (quoted_in input) (λ p. ShowsQuote (within budget over) spans p s) (λ (f : Fault). s ≡ shown.BadInput f.ordinal f.code) (quote (within budget over) spans) fault told
+    no-input (Quote budget spans seconds notes) input told = MatchResult_neither (quoted_in input) (λ p. ShowsQuote (within budget over) spans p s) (λ (f : Fault). s ≡ shown.BadInput f.ordinal f.code) (quote (within budget over) spans) fault told
     no-input (Yard seed) input told = no-certificate input (λ p c. ShowsYard seed p c s) (yard seed) told
     no-input Fleet input told = no-certificate input (λ p c. ShowsFleet p c s) fleet told
     no-input Check input told = no-certificate input (λ p c. ShowsCheck (scaled p c) c s) (λ p c. check (scaled p c) c) told

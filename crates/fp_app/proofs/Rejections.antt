@@ -19,7 +19,7 @@ use Rattle.fp_app.proofs.SearchEnds.{search-no_other, both-no_other}
 use Rattle.fp_app.proofs.YardCauses.{yard-rejection}
 use Rattle.fp_app.proofs.StatusCauses.{Answers-ShowsOf, ShowsOf}
 
--- for a time that can be over or not
+-- for a time that is known to be over or not
 module _ (over : Bool) where
   -- a rejection is no fault of a record
   rejection-no_fault : (number : ℕ) (f : Fault) → shown.RejectedPart number ≡ shown.BadInput f.ordinal f.code → ⊥
@@ -49,12 +49,12 @@ module _ (over : Bool) where
   ShowsNo_input : (o : Order) (input : List ℕ) (number : ℕ) → ShowsInput over o input (shown.RejectedPart number) → ShowsRejection (Some o) input (shown.RejectedPart number)
   ShowsNo_input Direct input number told = absurd (rejection-unread number (instance_in input) told)
   ShowsNo_input (Bound option seconds) input number told = absurd (rejection-unread number (instance_in input) told)
-  ShowsNo_input (Plan budget scale spans seconds) input number told = absurd (rejection-unread number (instance_at scale input) told)
+  ShowsNo_input (Plan budget scale spans seconds notes) input number told = absurd (rejection-unread number (instance_at scale input) told)
   ShowsNo_input (Trial seed terminals shipments) input number told = absurd told
   ShowsNo_input (Yard seed) input number told = yard-rejection seed input number told
   ShowsNo_input Fleet input number told = fleet-rejection input number told
-  ShowsNo_input (Replan budget spans seconds) input number told = absurd (rejection-unread number (kept_in input) told)
-  ShowsNo_input (Quote budget spans seconds) input number told = absurd (rejection-unread number (quoted_in input) told)
+  ShowsNo_input (Replan budget spans seconds notes) input number told = absurd (rejection-unread number (kept_in input) told)
+  ShowsNo_input (Quote budget spans seconds notes) input number told = absurd (rejection-unread number (quoted_in input) told)
   ShowsNo_input Check input number told = ShowsNo_check input number (leading_instance_in input) refl told
 
   alone-no_rejection : (o : Order) (number : ℕ) → ShowsAlone o (shown.RejectedPart number) → ⊥

@@ -27,7 +27,7 @@ use Rattle.fp_app.proofs.ReadCauses.{MatchResult_shows}
 use Rattle.fp_app.proofs.ReplanCauses.{replan-done, replan-open, replan-stuck}
 use Rattle.fp_app.proofs.YardCauses.{yard-done, yard-fault, yard-no_other}
 
--- for a time that can be over or not
+-- for a time that is known to be over or not
 module _ (over : Bool) where
   -- the second of two, where the first is not so
   MatchBool_second : (b : Bool) (X Y : Type 0) → MatchBool b X Y → (X → ⊥) → Y
@@ -82,15 +82,15 @@ module _ (over : Bool) where
   ShowsFault_input : (o : Order) (input : List ℕ) (ordinal code : ℕ) → ShowsInput over o input (shown.BadInput ordinal code) → ShowsFault (Some o) input (shown.BadInput ordinal code)
   ShowsFault_input Direct input ordinal code told = ShowsFault_instance Direct input ordinal code (λ p. ShowsDirect p (shown.BadInput ordinal code)) (instance_in input) (λ p none. none) refl (instance_in input) refl told
   ShowsFault_input (Bound option seconds) input ordinal code told = ShowsFault_instance (Bound option seconds) input ordinal code (λ p. ShowsBound option p (shown.BadInput ordinal code)) (instance_in input) (λ p none. none) refl (instance_in input) refl told
-  ShowsFault_input (Plan budget scale spans seconds) input ordinal code told =
-      ShowsFault_instance (Plan budget scale spans seconds) input ordinal code (λ p. ShowsSearch (within budget over) spans p (shown.BadInput ordinal code)) (instance_at scale input) (λ p none. none) refl (instance_at scale input) refl told
+  ShowsFault_input (Plan budget scale spans seconds notes) input ordinal code told =
+      ShowsFault_instance (Plan budget scale spans seconds notes) input ordinal code (λ p. ShowsSearch (within budget over) spans p (shown.BadInput ordinal code)) (instance_at scale input) (λ p none. none) refl (instance_at scale input) refl told
   ShowsFault_input (Trial seed terminals shipments) input ordinal code told = absurd told
   ShowsFault_input (Yard seed) input ordinal code told = yard-fault seed input ordinal code told
   ShowsFault_input Fleet input ordinal code told = fleet-fault input ordinal code told
-  ShowsFault_input (Replan budget spans seconds) input ordinal code told =
-      ShowsFault_instance (Replan budget spans seconds) input ordinal code (λ (x : KeptInstance). ShowsReplan (within budget over) spans x (shown.BadInput ordinal code)) (kept_in input) (λ x none. none) refl (kept_in input) refl told
-  ShowsFault_input (Quote budget spans seconds) input ordinal code told =
-      ShowsFault_instance (Quote budget spans seconds) input ordinal code (λ p. ShowsQuote (within budget over) spans p (shown.BadInput ordinal code)) (quoted_in input) (λ p none. none) refl (quoted_in input) refl told
+  ShowsFault_input (Replan budget spans seconds notes) input ordinal code told =
+      ShowsFault_instance (Replan budget spans seconds notes) input ordinal code (λ (x : KeptInstance). ShowsReplan (within budget over) spans x (shown.BadInput ordinal code)) (kept_in input) (λ x none. none) refl (kept_in input) refl told
+  ShowsFault_input (Quote budget spans seconds notes) input ordinal code told =
+      ShowsFault_instance (Quote budget spans seconds notes) input ordinal code (λ p. ShowsQuote (within budget over) spans p (shown.BadInput ordinal code)) (quoted_in input) (λ p none. none) refl (quoted_in input) refl told
   ShowsFault_input Check input ordinal code told = ShowsFault_check input ordinal code (leading_instance_in input) refl told
 
   -- an order that reads no input refuses none
@@ -222,12 +222,12 @@ module _ (over : Bool) where
   ShowsDone_input : (o : Order) (input : List ℕ) (s : Shown) → ShowsInput over o input s → status_of s ≡ status.Done → ShowsDone over (Some o) input s
   ShowsDone_input Direct input s told done = ShowsPlan_direct input s (instance_in input) refl told done
   ShowsDone_input (Bound option seconds) input s told done = ShowsNumber_bound option input s (instance_in input) refl told done
-  ShowsDone_input (Plan budget scale spans seconds) input s told done = ShowsOptimal_search (within budget over) spans (instance_at scale input) s (instance_at scale input) refl told done
+  ShowsDone_input (Plan budget scale spans seconds notes) input s told done = ShowsOptimal_search (within budget over) spans (instance_at scale input) s (instance_at scale input) refl told done
   ShowsDone_input (Trial seed terminals shipments) input s told done = absurd told
   ShowsDone_input (Yard seed) input s told done = yard-done seed input s told done
   ShowsDone_input Fleet input s told done = fleet-done input s told done
-  ShowsDone_input (Replan budget spans seconds) input s told done = replan-done (within budget over) spans input s told done
-  ShowsDone_input (Quote budget spans seconds) input s told done = quote-done (within budget over) spans input s told done
+  ShowsDone_input (Replan budget spans seconds notes) input s told done = replan-done (within budget over) spans input s told done
+  ShowsDone_input (Quote budget spans seconds notes) input s told done = quote-done (within budget over) spans input s told done
   ShowsDone_input Check input s told done = ShowsYes_check input s (leading_instance_in input) refl told done
 
   -- what an order shows that is done without an input
@@ -281,8 +281,8 @@ module _ (over : Bool) where
   none-bound option seconds input p (shown.Bound q price tables spans value) is told same = let g = same in cc
   none-bound option seconds input p _ is told same = absurd told
 
-  none-search : (allowed : Allowance) (budget : Budget) (scale : ℕ) (spans : Bool) (seconds : Option ℕ) (input : List ℕ) (p : Problem) (s : Shown) → instance_at scale input ≡ Ok p → ShowsSearch allowed spans p s → status_of s ≡ status.Infeasible → ShowsNone (Plan budget scale spans seconds) input s
-  none-search allowed budget scale spans seconds input p (shown.Infeasible q shipment time) is told same = record {
+  none-search : (allowed : Allowance) (budget : Budget) (scale : ℕ) (spans : Bool) (seconds : Option ℕ) (notes : Bool) (input : List ℕ) (p : Problem) (s : Shown) → instance_at scale input ≡ Ok p → ShowsSearch allowed spans p s → status_of s ≡ status.Infeasible → ShowsNone (Plan budget scale spans seconds notes) input s
+  none-search allowed budget scale spans seconds notes input p (shown.Infeasible q shipment time) is told same = record {
     instance = p;
     shipment = shipment;
     time = time;
@@ -291,8 +291,8 @@ module _ (over : Bool) where
     blocked = told.1;
     none = told.2;
   }
-  none-search allowed budget scale spans seconds input p (shown.Planned q x) is told same = absurd (search-no_other x.certificate.answer status.Infeasible (λ e. cc e) (λ e. cc e) same)
-  none-search allowed budget scale spans seconds input p _ is told same = absurd told
+  none-search allowed budget scale spans seconds notes input p (shown.Planned q x) is told same = absurd (search-no_other x.certificate.answer status.Infeasible (λ e. cc e) (λ e. cc e) same)
+  none-search allowed budget scale spans seconds notes input p _ is told same = absurd told
 
   -- `check` shows none
   none-check : (p : Problem) (c : Statement) (s : Shown) → ShowsCheck p c s → status_of s ≡ status.Infeasible → ⊥
@@ -303,13 +303,13 @@ module _ (over : Bool) where
   ShowsNone_input : (o : Order) (input : List ℕ) (s : Shown) → ShowsInput over o input s → status_of s ≡ status.Infeasible → ShowsInfeasible (Some o) input s
   ShowsNone_input Direct input s told none = MatchResult_shows status.Infeasible (instance_in input) (instance_in input) (λ p. ShowsDirect p s) s (ShowsNone Direct input s) (λ e. cc e) refl none told (λ p is shows. none-direct input p s is shows none)
   ShowsNone_input (Bound option seconds) input s told none = MatchResult_shows status.Infeasible (instance_in input) (instance_in input) (λ p. ShowsBound option p s) s (ShowsNone (Bound option seconds) input s) (λ e. cc e) refl none told (λ p is shows. none-bound option seconds input p s is shows none)
-  ShowsNone_input (Plan budget scale spans seconds) input s told none =
-      MatchResult_shows status.Infeasible (instance_at scale input) (instance_at scale input) (λ p. ShowsSearch (within budget over) spans p s) s (ShowsNone (Plan budget scale spans seconds) input s) (λ e. cc e) refl none told (λ p is shows. none-search (within budget over) budget scale spans seconds input p s is shows none)
+  ShowsNone_input (Plan budget scale spans seconds notes) input s told none =
+      MatchResult_shows status.Infeasible (instance_at scale input) (instance_at scale input) (λ p. ShowsSearch (within budget over) spans p s) s (ShowsNone (Plan budget scale spans seconds notes) input s) (λ e. cc e) refl none told (λ p is shows. none-search (within budget over) budget scale spans seconds notes input p s is shows none)
   ShowsNone_input (Trial seed terminals shipments) input s told none = absurd told
   ShowsNone_input (Yard seed) input s told none = absurd (yard-no_other seed status.Infeasible (λ e. cc e) (λ e. cc e) (λ e. cc e) input s told none)
   ShowsNone_input Fleet input s told none = absurd (fleet-no_other status.Infeasible (λ e. cc e) (λ e. cc e) (λ e. cc e) input s told none)
-  ShowsNone_input (Replan budget spans seconds) input s told none = replan-stuck (within budget over) spans input s told none
-  ShowsNone_input (Quote budget spans seconds) input s told none = quote-none (within budget over) budget spans seconds input s told none
+  ShowsNone_input (Replan budget spans seconds notes) input s told none = replan-stuck (within budget over) spans input s told none
+  ShowsNone_input (Quote budget spans seconds notes) input s told none = quote-none (within budget over) budget spans seconds notes input s told none
   ShowsNone_input Check input s told none =
       MatchResult_shows status.Infeasible (leading_instance_in input) (leading_instance_in input)
       (λ p. MatchResult (certificate_in p input) (λ c. ShowsCheck (scaled p c) c s) (λ (f : Fault). s ≡ shown.BadInput f.ordinal f.code)) s (ShowsNone Check input s) (λ e. cc e) refl none told
@@ -356,13 +356,13 @@ module _ (over : Bool) where
   ShowsOpen_input : (o : Order) (input : List ℕ) (s : Shown) → ShowsInput over o input s → status_of s ≡ status.Unfinished → ShowsOpen over (Some o) input s
   ShowsOpen_input Direct input s told ends = MatchResult_shows status.Unfinished (instance_in input) (instance_in input) (λ p. ShowsDirect p s) s ⊥ (λ e. cc e) refl ends told (λ p is shows. direct-not_open p s shows ends)
   ShowsOpen_input (Bound option seconds) input s told ends = MatchResult_shows status.Unfinished (instance_in input) (instance_in input) (λ p. ShowsBound option p s) s ⊥ (λ e. cc e) refl ends told (λ p is shows. bound-not_open option p s shows ends)
-  ShowsOpen_input (Plan budget scale spans seconds) input s told ends =
+  ShowsOpen_input (Plan budget scale spans seconds notes) input s told ends =
       MatchResult_shows status.Unfinished (instance_at scale input) (instance_at scale input) (λ p. ShowsSearch (within budget over) spans p s) s (ShowsUnfinished (within budget over) spans (instance_at scale input) shown.Planned s) (λ e. cc e) refl ends told (λ p is shows. open-search (within budget over) spans (instance_at scale input) p s is shows ends)
   ShowsOpen_input (Trial seed terminals shipments) input s told ends = absurd told
   ShowsOpen_input (Yard seed) input s told ends = absurd (yard-no_other seed status.Unfinished (λ e. cc e) (λ e. cc e) (λ e. cc e) input s told ends)
   ShowsOpen_input Fleet input s told ends = absurd (fleet-no_other status.Unfinished (λ e. cc e) (λ e. cc e) (λ e. cc e) input s told ends)
-  ShowsOpen_input (Replan budget spans seconds) input s told ends = replan-open (within budget over) spans input s told ends
-  ShowsOpen_input (Quote budget spans seconds) input s told ends = quote-open (within budget over) spans input s told ends
+  ShowsOpen_input (Replan budget spans seconds notes) input s told ends = replan-open (within budget over) spans input s told ends
+  ShowsOpen_input (Quote budget spans seconds notes) input s told ends = quote-open (within budget over) spans input s told ends
   ShowsOpen_input Check input s told ends =
       MatchResult_shows status.Unfinished (leading_instance_in input) (leading_instance_in input)
       (λ p. MatchResult (certificate_in p input) (λ c. ShowsCheck (scaled p c) c s) (λ (f : Fault). s ≡ shown.BadInput f.ordinal f.code)) s ⊥ (λ e. cc e) refl ends told

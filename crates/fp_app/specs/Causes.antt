@@ -231,25 +231,25 @@ ShowsDone over None input result = ⊥
 ShowsDone over (Some order.Direct) input result = ShowsPlan input result
 ShowsDone over (Some order.Check) input result = ShowsYes input result
 ShowsDone over (Some (order.Bound option seconds)) input result = ShowsNumber option input result
-ShowsDone over (Some (order.Plan budget scale spans seconds)) input result = ShowsOptimal (within budget over) spans (instance_at scale input) shown.Planned result
+ShowsDone over (Some (order.Plan budget scale spans seconds notes)) input result = ShowsOptimal (within budget over) spans (instance_at scale input) shown.Planned result
 ShowsDone over (Some (order.Trial seed terminals shipments)) input result = ShowsOptimal trial_allowance false (Ok (generated seed terminals shipments)) (shown.Trial seed None) result
 ShowsDone over (Some (order.Yard seed)) input result = ShowsRun seed input result
 ShowsDone over (Some order.Fleet) input result = ShowsTrucks input result
-ShowsDone over (Some (order.Replan budget spans seconds)) input result = ShowsKeptOptimal (within budget over) spans input result
-ShowsDone over (Some (order.Quote budget spans seconds)) input result = ShowsExactExtra (within budget over) spans input result
+ShowsDone over (Some (order.Replan budget spans seconds notes)) input result = ShowsKeptOptimal (within budget over) spans input result
+ShowsDone over (Some (order.Quote budget spans seconds notes)) input result = ShowsExactExtra (within budget over) spans input result
 
 -- what is shown where an order is unfinished
 abbrev pub ShowsOpen : (over : Bool) → Option Order → List ℕ → Shown → Type 0
-ShowsOpen over (Some (order.Plan budget scale spans seconds)) input result = ShowsUnfinished (within budget over) spans (instance_at scale input) shown.Planned result
+ShowsOpen over (Some (order.Plan budget scale spans seconds notes)) input result = ShowsUnfinished (within budget over) spans (instance_at scale input) shown.Planned result
 ShowsOpen over (Some (order.Trial seed terminals shipments)) input result = ShowsUnfinished trial_allowance false (Ok (generated seed terminals shipments)) (shown.Trial seed None) result
-ShowsOpen over (Some (order.Replan budget spans seconds)) input result = ShowsKeptUnfinished (within budget over) spans input result
-ShowsOpen over (Some (order.Quote budget spans seconds)) input result = ShowsOpenExtra (within budget over) spans input result
+ShowsOpen over (Some (order.Replan budget spans seconds notes)) input result = ShowsKeptUnfinished (within budget over) spans input result
+ShowsOpen over (Some (order.Quote budget spans seconds notes)) input result = ShowsOpenExtra (within budget over) spans input result
 ShowsOpen over _ input result = ⊥
 
 -- what is shown where no plan exists, or none that keeps the legs
 abbrev pub ShowsInfeasible : Option Order → List ℕ → Shown → Type 0
 ShowsInfeasible None input result = ⊥
-ShowsInfeasible (Some (order.Replan budget spans seconds)) input result = ShowsStuck input result
+ShowsInfeasible (Some (order.Replan budget spans seconds notes)) input result = ShowsStuck input result
 ShowsInfeasible (Some order) input result = ShowsNone order input result
 
 -- what is shown where a certificate is rejected: for `check` it isn't accepted for the instance at the
@@ -305,7 +305,7 @@ InputStatus over order.Check input result =
     (λ p. MatchResult (certificate_in p input) (λ c. CheckStatus (scaled p c) c result) (λ f. result ≡ status.BadInput))
     (λ f. result ≡ status.BadInput)
 InputStatus over (order.Bound option seconds) input result = MatchResult (instance_in input) (λ p. PlanStatus p result) (λ f. result ≡ status.BadInput)
-InputStatus over (order.Plan budget scale spans seconds) input result = MatchResult (instance_at scale input) (λ p. SearchStatus p every (within budget over) result) (λ f. result ≡ status.BadInput)
+InputStatus over (order.Plan budget scale spans seconds notes) input result = MatchResult (instance_at scale input) (λ p. SearchStatus p every (within budget over) result) (λ f. result ≡ status.BadInput)
 InputStatus over (order.Trial seed terminals shipments) input result = ⊥
 InputStatus over (order.Yard seed) input result =
     MatchResult (leading_instance_in input)
@@ -315,8 +315,8 @@ InputStatus over order.Fleet input result =
     MatchResult (leading_instance_in input)
     (λ p. MatchResult (certificate_in p input) (λ c. ToldStatus p c result) (λ f. result ≡ status.BadInput))
     (λ f. result ≡ status.BadInput)
-InputStatus over (order.Replan budget spans seconds) input result = MatchResult (kept_in input) (λ (x : KeptInstance). SearchStatus x.instance (keeping x.kept) (within budget over) result) (λ f. result ≡ status.BadInput)
-InputStatus over (order.Quote budget spans seconds) input result = MatchResult (quoted_in input) (λ p. QuoteStatus p (within budget over) result) (λ f. result ≡ status.BadInput)
+InputStatus over (order.Replan budget spans seconds notes) input result = MatchResult (kept_in input) (λ (x : KeptInstance). SearchStatus x.instance (keeping x.kept) (within budget over) result) (λ f. result ≡ status.BadInput)
+InputStatus over (order.Quote budget spans seconds notes) input result = MatchResult (quoted_in input) (λ p. QuoteStatus p (within budget over) result) (λ f. result ≡ status.BadInput)
 
 -- the one status of an order that reads no input
 abbrev pub AloneStatus : Order → Status → Type 0

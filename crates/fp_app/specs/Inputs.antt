@@ -30,12 +30,12 @@ limit_of None = 0
 limit_of (Some order.Direct) = INSTANCE_LIMIT
 limit_of (Some order.Check) = CHECK_LIMIT
 limit_of (Some (order.Bound option seconds)) = INSTANCE_LIMIT
-limit_of (Some (order.Plan budget scale spans seconds)) = INSTANCE_LIMIT
+limit_of (Some (order.Plan budget scale spans seconds notes)) = INSTANCE_LIMIT
 limit_of (Some (order.Trial seed terminals shipments)) = 0
 limit_of (Some (order.Yard seed)) = CHECK_LIMIT
 limit_of (Some order.Fleet) = CHECK_LIMIT
-limit_of (Some (order.Replan budget spans seconds)) = INSTANCE_LIMIT
-limit_of (Some (order.Quote budget spans seconds)) = INSTANCE_LIMIT
+limit_of (Some (order.Replan budget spans seconds notes)) = INSTANCE_LIMIT
+limit_of (Some (order.Quote budget spans seconds notes)) = INSTANCE_LIMIT
 
 -- what an input alone gives: the instance of its records, or their first fault
 abbrev pub instance_in : List ℕ → Result Problem Fault
@@ -177,12 +177,12 @@ fault_in None input = None
 fault_in (Some order.Direct) input = fault_of (instance_in input)
 fault_in (Some order.Check) input = input_fault input (leading_instance_in input)
 fault_in (Some (order.Bound option seconds)) input = fault_of (instance_in input)
-fault_in (Some (order.Plan budget scale spans seconds)) input = fault_of (instance_at scale input)
+fault_in (Some (order.Plan budget scale spans seconds notes)) input = fault_of (instance_at scale input)
 fault_in (Some (order.Trial seed terminals shipments)) input = None
 fault_in (Some (order.Yard seed)) input = input_fault input (leading_instance_in input)
 fault_in (Some order.Fleet) input = input_fault input (leading_instance_in input)
-fault_in (Some (order.Replan budget spans seconds)) input = fault_of (kept_in input)
-fault_in (Some (order.Quote budget spans seconds)) input = fault_of (quoted_in input)
+fault_in (Some (order.Replan budget spans seconds notes)) input = fault_of (kept_in input)
+fault_in (Some (order.Quote budget spans seconds notes)) input = fault_of (quoted_in input)
 
 -- the instance that an order is about: that of the input, or its first fault, and for `trial` the one
 -- that is drawn
@@ -190,9 +190,9 @@ abbrev pub given_to : Order → List ℕ → Result Problem Fault
 given_to order.Direct input = instance_in input
 given_to order.Check input = leading_instance_in input
 given_to (order.Bound option seconds) input = instance_in input
-given_to (order.Plan budget scale spans seconds) input = instance_at scale input
+given_to (order.Plan budget scale spans seconds notes) input = instance_at scale input
 given_to (order.Trial seed terminals shipments) input = Ok (generated seed terminals shipments)
 given_to (order.Yard seed) input = leading_instance_in input
 given_to order.Fleet input = leading_instance_in input
-given_to (order.Replan budget spans seconds) input = unkept_instance_in input
-given_to (order.Quote budget spans seconds) input = quoted_in input
+given_to (order.Replan budget spans seconds notes) input = unkept_instance_in input
+given_to (order.Quote budget spans seconds notes) input = quoted_in input

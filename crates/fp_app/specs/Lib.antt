@@ -14,3 +14,4 @@ pub mod Yards
 pub mod Runs
 pub mod Causes
 pub mod Laws
+pub mod Notes

@@ -98,24 +98,24 @@ TakesWithin limit old new = (taken : List ℕ) × Consumes old new taken × (len
 abbrev pub TakesOneMore : ℕ → Option (List ℕ) → Option (List ℕ) → Type 0
 TakesOneMore limit old new = (taken : List ℕ) × Consumes old new taken × (length taken ≡ limit + 1)
 
--- What an order shows for the whole input, where its time can be over or not. One line for each command.
+-- What an order shows for the whole input, where its time is known to be over or not. One line for each command.
 abbrev pub ShowsInput : (over : Bool) → Order → List ℕ → Shown → Type 0
 ShowsInput over order.Direct input result = OfInstance input result (λ p. ShowsDirect p result)
 ShowsInput over order.Check input result = OfCertificate input result (λ p c. ShowsCheck (scaled p c) c result)
 ShowsInput over (order.Bound option seconds) input result = OfInstance input result (λ p. ShowsBound option p result)
-ShowsInput over (order.Plan budget scale spans seconds) input result = OfScaled scale input result (λ p. ShowsSearch (within budget over) spans p result)
+ShowsInput over (order.Plan budget scale spans seconds notes) input result = OfScaled scale input result (λ p. ShowsSearch (within budget over) spans p result)
 ShowsInput over (order.Trial seed terminals shipments) input result = ⊥
 ShowsInput over (order.Yard seed) input result = OfCertificate input result (λ p c. ShowsYard seed p c result)
 ShowsInput over order.Fleet input result = OfCertificate input result (λ p c. ShowsFleet p c result)
-ShowsInput over (order.Replan budget spans seconds) input result = OfKept input result (λ x. ShowsReplan (within budget over) spans x result)
-ShowsInput over (order.Quote budget spans seconds) input result = OfQuoted input result (λ p. ShowsQuote (within budget over) spans p result)
+ShowsInput over (order.Replan budget spans seconds notes) input result = OfKept input result (λ x. ShowsReplan (within budget over) spans x result)
+ShowsInput over (order.Quote budget spans seconds notes) input result = OfQuoted input result (λ p. ShowsQuote (within budget over) spans p result)
 
 -- What an order shows that reads no input.
 abbrev pub ShowsAlone : Order → Shown → Type 0
 ShowsAlone (order.Trial seed terminals shipments) result = ShowsTrial seed terminals shipments result
 ShowsAlone _ result = ⊥
 
--- what an order shows, where its time can be over or not, by what the source had left and has left now
+-- what an order shows, where its time is known to be over or not, by what the source had left and has left now
 abbrev pub Answers : (over : Bool) → Option Order → Option (List ℕ) → Option (List ℕ) → Shown → Type 0
 Answers over None old new result = result ≡ shown.BadWords
 Answers over (Some order) old new result =

@@ -27,7 +27,7 @@ use Rattle.fp_app.specs.Bounds.{whole_units}
 use Rattle.fp_app.specs.declared.limits.TheConstants.{CHECK_LIMIT, INSTANCE_LIMIT}
 use Rattle.fp_app.specs.Wanted.{AreWindowsFor, IsFirstPlan, IsWanted, NoneWantedCheaper, Wanted}
 
--- what a search may spend: its budget, and whether its time can be over
+-- what a search may spend: its budget, and whether its time is known to be over
 pub record Allowance : Type 0 where
   pub budget : Budget
   pub over : Bool
@@ -36,7 +36,7 @@ abbrev pub within : Budget → Bool → Allowance
 within budget over = record { budget = budget; over = over }
 
 -- what a search of the instance can't use up: as many rounds as the terminals times one more than the
--- latest due time, as many branches as 2 to the power of the slack, or a time that can't be over
+-- latest due time, as many branches as 2 to the power of the slack, or a time that is not known to be over
 abbrev pub IsEnough : Problem → Wanted → Allowance → Spent → Type 0
 IsEnough p wanted allowed Rounds = length p.terminals * (horizon p.shipments + 1) ≤ allowed.budget.rounds
 IsEnough p wanted allowed Branches = (table : WindowTable) × AreWindowsFor p wanted table × (2 ^ slack p (windows_in table) [] ≤ allowed.budget.branches)

@@ -1,11 +1,12 @@
 //! The answer to an order, from the source's bytes.
-ghost use Rattle.std.specs.Prelude.{◌≡◌, ◌+◌, ◌≤◌, IfOk, Some, IsErrOf, Ok, length, true};
+ghost use Rattle.std.specs.Prelude.{ℕ, ◌≡◌, ◌+◌, ◌≤◌, List, IfOk, Some, IsErrOf, Ok, length, true};
 ghost use Rattle.fp_ends.specs.Causes.{Rose};
 ghost use Rattle.fp_ends.specs.Deadlines.{has_shown};
 ghost use Rattle.fp_app_words.specs.Settings.{IsWithinLimits};
 ghost use Rattle.fp_app_words.specs.TimeLimits.{seconds_of};
 ghost use Rattle.fp_app_words.specs.Words.{order_of, texts};
 ghost use Rattle.fp_app.specs.Inputs.{limit_of, reads_source};
+ghost use Rattle.fp_app.specs.Notes.{NotesOf};
 ghost use Rattle.fp_app.specs.Runs.{Answers, Leaves, ShowsInput, TakesOneMore, TakesWithin};
 ghost use Rattle.fp_app.specs.Shown.{IsPrintable};
 
@@ -23,15 +24,16 @@ use crate::failures::Failure;
 use crate::inputs::input_bytes::take_input;
 use crate::limits::limit_of;
 use crate::{NoMemory, Order, Shown, WordFault, read_words};
-use fp_ends::{Clock, ClockDeadline, Resources, Source};
+use fp_ends::{Clock, ClockDeadline, Resources, Sink, Source};
 use std::alloc::Global;
 
 /// What the words and the source's bytes show.
-pub fn answer<S: Source, C: Clock>(
+pub fn answer<S: Source, C: Clock, N: Sink>(
     alloc: Global,
     words: &[String],
     source: &mut S,
     clock: &mut C,
+    notes: &mut N,
 ) -> Result<Shown, Failure>
     ensures shown { IfOk result (λ shown. Answers (has_shown (seconds_of (order_of (texts words.now))) (C.moment clock.new) (C.faults clock.old) (C.faults clock.new)) (order_of (texts words.now)) (S.left source.old) (S.left source.new) shown) }
     ensures printable { IfOk result IsPrintable }
@@ -46,6 +48,7 @@ pub fn answer<S: Source, C: Clock>(
     ensures long_within { result ≡ Ok Shown.TooLong
         → TakesOneMore (limit_of (order_of (texts words.now))) (S.left source.old) (S.left source.new) }
     ensures leaves { Leaves (order_of (texts words.now)) source.old source.new }
+    ensures noted { (input : List ℕ) → S.left source.old ≡ Some input → NotesOf (order_of (texts words.now)) input (N.taken notes.old) (N.taken notes.new) }
 {
     match read_words(alloc, words) {
         Ok(
@@ -55,18 +58,19 @@ pub fn answer<S: Source, C: Clock>(
                 shipments,
             },
         ) => Ok(trial_shown(alloc, seed, terminals, shipments)?),
-        Ok(order) => answer_order(alloc, order, source, clock),
+        Ok(order) => answer_order(alloc, order, source, clock, notes),
         Err(WordFault::BadWords) => Ok(Shown::BadWords),
         Err(WordFault::NoMemory) => Err(Failure::NoMemory),
     }
 }
 
 // What an order that reads the source, and the source's bytes, show.
-fn answer_order<S: Source, C: Clock>(
+fn answer_order<S: Source, C: Clock, N: Sink>(
     alloc: Global,
     order: Order,
     source: &mut S,
     clock: &mut C,
+    notes: &mut N,
 ) -> Result<Shown, Failure>
     requires limits { IsWithinLimits order }
     requires reads { reads_source order ≡ true }
@@ -83,17 +87,19 @@ fn answer_order<S: Source, C: Clock>(
     ensures long_within { result ≡ Ok Shown.TooLong
         → TakesOneMore (limit_of (Some order)) (S.left source.old) (S.left source.new) }
     ensures leaves { Leaves (Some order) source.old source.new }
+    ensures noted { (input : List ℕ) → S.left source.old ≡ Some input → NotesOf (Some order) input (N.taken notes.old) (N.taken notes.new) }
 {
     match take_input(alloc, source, limit_of(order))? {
-        Some(bytes) => Ok(input_shown(alloc, clock, order, bytes)?),
+        Some(bytes) => Ok(input_shown(alloc, clock, notes, order, bytes)?),
         None => Ok(Shown::TooLong),
     }
 }
 
 // What an order shows for the bytes of an input.
-fn input_shown<C: Clock>(
+fn input_shown<C: Clock, N: Sink>(
     alloc: Global,
     clock: &mut C,
+    notes: &mut N,
     order: Order,
     bytes: Vec<u8>,
 ) -> Result<Shown, NoMemory>
@@ -102,6 +108,7 @@ fn input_shown<C: Clock>(
     requires reads { reads_source order ≡ true }
     ensures shown { IfOk result (ShowsInput (has_shown (seconds_of (Some order)) (C.moment clock.new) (C.faults clock.old) (C.faults clock.new)) order bytes.items) }
     ensures printable { IfOk result IsPrintable }
+    ensures noted { NotesOf (Some order) bytes.items (N.taken notes.old) (N.taken notes.new) }
 {
     match order {
         Order::Direct => direct_shown(alloc, bytes),
@@ -118,44 +125,28 @@ fn input_shown<C: Clock>(
             scale,
             spans,
             seconds,
-        } => plan_shown(
-            alloc,
-            clock,
-            SearchOptions {
-                budget,
-                spans,
-                seconds,
-            },
-            bytes,
-            scale,
-        ),
+            notes: wanted,
+        } => {
+            let options = SearchOptions::new(budget, spans, seconds, wanted);
+            plan_shown(alloc, clock, notes, options, bytes, scale)
+        }
         Order::Replan {
             budget,
             spans,
             seconds,
-        } => replan_shown(
-            alloc,
-            clock,
-            SearchOptions {
-                budget,
-                spans,
-                seconds,
-            },
-            bytes,
-        ),
+            notes: wanted,
+        } => {
+            let options = SearchOptions::new(budget, spans, seconds, wanted);
+            replan_shown(alloc, clock, notes, options, bytes)
+        }
         Order::Quote {
             budget,
             spans,
             seconds,
-        } => quote_shown(
-            alloc,
-            clock,
-            SearchOptions {
-                budget,
-                spans,
-                seconds,
-            },
-            bytes,
-        ),
+            notes: wanted,
+        } => {
+            let options = SearchOptions::new(budget, spans, seconds, wanted);
+            quote_shown(alloc, clock, notes, options, bytes)
+        }
     }
 }

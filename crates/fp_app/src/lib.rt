@@ -8,6 +8,8 @@ mod failures;
 mod inputs;
 mod laws;
 mod limits;
+mod no_notes;
+mod notes;
 mod shown;
 mod texts;
 mod top;

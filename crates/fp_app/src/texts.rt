@@ -1,5 +1,6 @@
 //! The text of an answer.
 ghost use Rattle.std.specs.Prelude.{◌≡◌, ◌-◌, ◌∷◌, ◌++◌, [], length, codes, decimal, false, IfOk, OnOk};
+ghost use Rattle.fp_model.specs.Plans.{IsPlan};
 ghost use Rattle.fp_records.specs.Text.{line_of};
 ghost use Rattle.fp_certificate_lines.specs.Ranges.{AnswerExists};
 ghost use Rattle.fp_certificate_lines.specs.Rows.{shipment_name};
@@ -14,7 +15,7 @@ use crate::{AnswerKind, NoMemory, Shown};
 use fp_certificate::{Answer, write};
 use fp_certificate_lines::write_answer;
 use fp_fleet::write as write_fleet;
-use fp_model::{Instance, Name};
+use fp_model::{Instance, Name, Plan};
 use fp_records::Line;
 use fp_replan::{Bracket, extra_range};
 use fp_yard_sheets::write as write_yard;
@@ -191,6 +192,18 @@ fn quote_text(
     extra_text(alloc, &instance.shipment(last).name, extra)
 }
 
+/// The text of a plan as an answer of the kind `direct`.
+pub(crate) fn direct_text(
+    alloc: Global,
+    instance: &Instance,
+    plan: &Plan,
+) -> Result<Vec<u8>, NoMemory>
+    requires { IsPlan instance.now 1 plan.now }
+    ensures { IfOk result (λ text. IsText (Shown.Direct instance.now plan.now) text.items) }
+{
+    write(alloc, instance, &direct_certificate(alloc, instance, plan)?)
+}
+
 /// The text of what is shown: fields joined by commas, lines ended by line feeds. What is shown as
 /// a certificate is written as one.
 ///
@@ -201,9 +214,7 @@ pub fn text(alloc: Global, shown: &Shown) -> Result<Vec<u8>, NoMemory>
     ensures { IfOk result (λ text. IsText shown.now text.items) }
 {
     match shown {
-        Shown::Direct { instance, plan } => {
-            write(alloc, instance, &direct_certificate(alloc, instance, plan)?)
-        }
+        Shown::Direct { instance, plan } => direct_text(alloc, instance, plan),
         Shown::Bound {
             instance,
             value,

@@ -4,6 +4,7 @@ ghost use Rattle.fp_ends.specs.Causes.{Rose};
 ghost use Rattle.fp_ends.specs.Deadlines.{has_shown};
 ghost use Rattle.fp_app.specs.Causes.{ShowsDone, ShowsFault, ShowsInfeasible, ShowsOpen, ShowsRejection, StatusOf};
 ghost use Rattle.fp_app.specs.Inputs.{limit_of};
+ghost use Rattle.fp_app.specs.Notes.{NotesOf};
 ghost use Rattle.fp_app.specs.Texts.{IsText};
 ghost use Rattle.fp_app.specs.Runs.{Answers, Leaves, Settles, TakesOneMore, TakesWithin, Writes, reach_of};
 ghost use Rattle.fp_app_words.specs.TimeLimits.{seconds_of};
@@ -11,6 +12,7 @@ ghost use Rattle.fp_app_words.specs.Words.{order_of, texts};
 
 use crate::answer::answer;
 use crate::failures::Failure;
+use crate::no_notes::NoNotes;
 use crate::{Ran, Shown, Status, text};
 use fp_app_words::time_limits_hold;
 use fp_ends::{Clock, Sink, Source, StillClock, WriteFault, write_all};
@@ -96,17 +98,26 @@ pub fn run<S: Source, K: Sink>(alloc: Global, words: &[String], source: &mut S, 
 {
     // A clock that stands shows no second.
     time_limits_hold();
-    run_within(alloc, words, source, sink, &mut StillClock::new())
+    run_within(
+        alloc,
+        words,
+        source,
+        sink,
+        &mut StillClock::new(),
+        &mut NoNotes::new(),
+    )
 }
 
 /// The same by a clock: where the words give seconds, a search ends once the clock shows them, or
-/// fails. An answer for want of time comes only where it did so in this call.
-pub fn run_within<S: Source, K: Sink, C: Clock>(
+/// fails. An answer for want of time comes only where it did so in this call. And with notes: where
+/// the words want them, a third end is told of a search while it goes on.
+pub fn run_within<S: Source, K: Sink, C: Clock, N: Sink>(
     alloc: Global,
     words: &[String],
     source: &mut S,
     sink: &mut K,
     clock: &mut C,
+    notes: &mut N,
 ) -> Ran
     // What is shown answers the words and the input, and the status is its own.
     ensures answers { Settles (reach_of result.status) result.status result.shown
@@ -162,12 +173,15 @@ pub fn run_within<S: Source, K: Sink, C: Clock>(
         → (Rose (S.faults source.old) (S.faults source.new) → ⊥) → (Rose (K.faults sink.old) (K.faults sink.new) → ⊥)
         → (result.status ≡ Status.NoMemory) ⊎ StatusOf (has_shown (seconds_of (order_of (texts words.now))) (C.moment clock.new) (C.faults clock.old) (C.faults clock.new)) (order_of (texts words.now)) input result.status }
 
+    // What is noted of a search is true, whatever comes of it.
+    ensures noted { (input : List ℕ) → S.left source.old ≡ Some input → NotesOf (order_of (texts words.now)) input (N.taken notes.old) (N.taken notes.new) }
+
     // So it is, but for want of memory, over a source that is sure and a sink that surely has room.
     ensures follows { (input : List ℕ) → S.left source.old ≡ Some input → S.is_sure source.old ≡ true
         → ((text : List ℕ) → IsText result.shown text → length text ≤ K.sure_room sink.old)
         → (result.status ≡ Status.NoMemory) ⊎ StatusOf (has_shown (seconds_of (order_of (texts words.now))) (C.moment clock.new) (C.faults clock.old) (C.faults clock.new)) (order_of (texts words.now)) input result.status }
 {
-    let shown = match answer(alloc, words, source, clock) {
+    let shown = match answer(alloc, words, source, clock, notes) {
         Ok(shown) => shown,
         Err(Failure::ReadFault) => return without_answer(Status::ReadFault),
         Err(Failure::NoMemory) => return without_answer(Status::NoMemory),

@@ -18,6 +18,10 @@ with-spans : order_of (codes "bound" ∷ codes "--spans" ∷ []) ≡ Some (Bound
 unfolding clap_on_literals
 with-spans = refl
 
+notes-among : order_of (codes "plan" ∷ codes "--notes" ∷ codes "--seconds" ∷ codes "5" ∷ []) ≡ Some (Plan (record { rounds = 400; branches = 4000 }) 1000000 false (Some 5) true)
+unfolding clap_on_literals
+notes-among = refl
+
 spans-twice : order_of (codes "bound" ∷ codes "--spans" ∷ codes "--spans" ∷ []) ≡ None
 unfolding clap_on_literals
 spans-twice = refl
@@ -65,24 +69,24 @@ dashes = refl
 help : order_of (codes "direct" ∷ codes "--help" ∷ []) ≡ None
 help = refl
 
-usual : order_of (codes "plan" ∷ []) ≡ Some (Plan (record { rounds = 400; branches = 4000 }) 1000000 false None)
+usual : order_of (codes "plan" ∷ []) ≡ Some (Plan (record { rounds = 400; branches = 4000 }) 1000000 false None false)
 usual = refl
 
 -- in any order, as two words or as one
-all-options : order_of (codes "plan" ∷ codes "--scale" ∷ codes "7" ∷ codes "--rounds=0" ∷ codes "--branches" ∷ codes "0000000005" ∷ []) ≡ Some (Plan (record { rounds = 0; branches = 5 }) 7 false None)
+all-options : order_of (codes "plan" ∷ codes "--scale" ∷ codes "7" ∷ codes "--rounds=0" ∷ codes "--branches" ∷ codes "0000000005" ∷ []) ≡ Some (Plan (record { rounds = 0; branches = 5 }) 7 false None false)
 unfolding clap_on_literals
 all-options = refl
 
 -- the flag before, among or after options with values
-spans-of-plan : order_of (codes "plan" ∷ codes "--spans" ∷ []) ≡ Some (Plan (record { rounds = 400; branches = 4000 }) 1000000 true None)
+spans-of-plan : order_of (codes "plan" ∷ codes "--spans" ∷ []) ≡ Some (Plan (record { rounds = 400; branches = 4000 }) 1000000 true None false)
 unfolding clap_on_literals
 spans-of-plan = refl
 
-spans-among : order_of (codes "plan" ∷ codes "--rounds=0" ∷ codes "--spans" ∷ codes "--scale" ∷ codes "7" ∷ []) ≡ Some (Plan (record { rounds = 0; branches = 4000 }) 7 true None)
+spans-among : order_of (codes "plan" ∷ codes "--rounds=0" ∷ codes "--spans" ∷ codes "--scale" ∷ codes "7" ∷ []) ≡ Some (Plan (record { rounds = 0; branches = 4000 }) 7 true None false)
 unfolding clap_on_literals
 spans-among = refl
 
-spans-last : order_of (codes "plan" ∷ codes "--branches" ∷ codes "5" ∷ codes "--spans" ∷ []) ≡ Some (Plan (record { rounds = 400; branches = 5 }) 1000000 true None)
+spans-last : order_of (codes "plan" ∷ codes "--branches" ∷ codes "5" ∷ codes "--spans" ∷ []) ≡ Some (Plan (record { rounds = 400; branches = 5 }) 1000000 true None false)
 unfolding clap_on_literals
 spans-last = refl
 
@@ -99,12 +103,12 @@ too-many-rounds : order_of (codes "plan" ∷ codes "--rounds" ∷ codes "4001" �
 unfolding clap_on_literals
 too-many-rounds = refl
 
-most-branches : order_of (codes "plan" ∷ codes "--branches=100000" ∷ []) ≡ Some (Plan (record { rounds = 400; branches = 100000 }) 1000000 false None)
+most-branches : order_of (codes "plan" ∷ codes "--branches=100000" ∷ []) ≡ Some (Plan (record { rounds = 400; branches = 100000 }) 1000000 false None false)
 unfolding clap_on_literals
 most-branches = refl
 
 -- a limit of time: at least a second, at most a day, once, and without a 0 before it
-within-time : order_of (codes "plan" ∷ codes "--seconds" ∷ codes "86400" ∷ codes "--spans" ∷ []) ≡ Some (Plan (record { rounds = 400; branches = 4000 }) 1000000 true (Some 86400))
+within-time : order_of (codes "plan" ∷ codes "--seconds" ∷ codes "86400" ∷ codes "--spans" ∷ []) ≡ Some (Plan (record { rounds = 400; branches = 4000 }) 1000000 true (Some 86400) false)
 unfolding clap_on_literals
 within-time = refl
 
@@ -112,7 +116,7 @@ bound-in-time : order_of (codes "bound" ∷ codes "--spans" ∷ codes "--seconds
 unfolding clap_on_literals
 bound-in-time = refl
 
-quote-in-time : order_of (codes "quote" ∷ codes "--seconds=10" ∷ []) ≡ Some (Quote (record { rounds = 400; branches = 4000 }) false (Some 10))
+quote-in-time : order_of (codes "quote" ∷ codes "--seconds=10" ∷ []) ≡ Some (Quote (record { rounds = 400; branches = 4000 }) false (Some 10) false)
 unfolding clap_on_literals
 quote-in-time = refl
 
@@ -200,19 +204,19 @@ option-in-place = refl
 the-fleet : order_of (codes "fleet" ∷ []) ≡ Some Fleet
 the-fleet = refl
 
-the-replan : order_of (codes "replan" ∷ codes "--branches" ∷ codes "3" ∷ []) ≡ Some (Replan (record { rounds = 400; branches = 3 }) false None)
+the-replan : order_of (codes "replan" ∷ codes "--branches" ∷ codes "3" ∷ []) ≡ Some (Replan (record { rounds = 400; branches = 3 }) false None false)
 unfolding clap_on_literals
 the-replan = refl
 
-spans-of-replan : order_of (codes "replan" ∷ codes "--branches" ∷ codes "3" ∷ codes "--spans" ∷ []) ≡ Some (Replan (record { rounds = 400; branches = 3 }) true None)
+spans-of-replan : order_of (codes "replan" ∷ codes "--branches" ∷ codes "3" ∷ codes "--spans" ∷ []) ≡ Some (Replan (record { rounds = 400; branches = 3 }) true None false)
 unfolding clap_on_literals
 spans-of-replan = refl
 
-the-quote : order_of (codes "quote" ∷ codes "--branches=3" ∷ codes "--rounds" ∷ codes "0" ∷ []) ≡ Some (Quote (record { rounds = 0; branches = 3 }) false None)
+the-quote : order_of (codes "quote" ∷ codes "--branches=3" ∷ codes "--rounds" ∷ codes "0" ∷ []) ≡ Some (Quote (record { rounds = 0; branches = 3 }) false None false)
 unfolding clap_on_literals
 the-quote = refl
 
-spans-of-quote : order_of (codes "quote" ∷ codes "--spans" ∷ codes "--rounds" ∷ codes "0" ∷ []) ≡ Some (Quote (record { rounds = 0; branches = 4000 }) true None)
+spans-of-quote : order_of (codes "quote" ∷ codes "--spans" ∷ codes "--rounds" ∷ codes "0" ∷ []) ≡ Some (Quote (record { rounds = 0; branches = 4000 }) true None false)
 unfolding clap_on_literals
 spans-of-quote = refl
 

@@ -35,13 +35,13 @@ budget_by-rows flags given rounds branches = rw (first_of-all_rows flags given (
 
 plan_by-rows : (given : List Given) → plan_by (λ name. first_of name (all_rows plan_options.flags given)) (λ name. was_given name (all_rows plan_options.flags given)) ≡ plan_by (value_given given) (is_given given)
 plan_by-rows given =
-    rw (budget_by-rows plan_options.flags given refl refl, first_of-all_rows plan_options.flags given (codes "scale") refl, seconds_by-rows plan_options.flags given refl, was_given-all_rows plan_options.flags given (codes "spans")) refl
+    rw (budget_by-rows plan_options.flags given refl refl, first_of-all_rows plan_options.flags given (codes "scale") refl, seconds_by-rows plan_options.flags given refl, was_given-all_rows plan_options.flags given (codes "spans"), was_given-all_rows plan_options.flags given (codes "notes")) refl
 
 replan_by-rows : (given : List Given) → replan_by (λ name. first_of name (all_rows budget_options.flags given)) (λ name. was_given name (all_rows budget_options.flags given)) ≡ replan_by (value_given given) (is_given given)
-replan_by-rows given = rw (budget_by-rows budget_options.flags given refl refl, seconds_by-rows budget_options.flags given refl, was_given-all_rows budget_options.flags given (codes "spans")) refl
+replan_by-rows given = rw (budget_by-rows budget_options.flags given refl refl, seconds_by-rows budget_options.flags given refl, was_given-all_rows budget_options.flags given (codes "spans"), was_given-all_rows budget_options.flags given (codes "notes")) refl
 
 quote_by-rows : (given : List Given) → quote_by (λ name. first_of name (all_rows budget_options.flags given)) (λ name. was_given name (all_rows budget_options.flags given)) ≡ quote_by (value_given given) (is_given given)
-quote_by-rows given = rw (budget_by-rows budget_options.flags given refl refl, seconds_by-rows budget_options.flags given refl, was_given-all_rows budget_options.flags given (codes "spans")) refl
+quote_by-rows given = rw (budget_by-rows budget_options.flags given refl refl, seconds_by-rows budget_options.flags given refl, was_given-all_rows budget_options.flags given (codes "spans"), was_given-all_rows budget_options.flags given (codes "notes")) refl
 
 -- three numbers, one after the other or at once
 three-numbers : (a b c : Bool) (x y z : ℕ) →

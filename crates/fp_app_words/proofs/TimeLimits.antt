@@ -57,19 +57,19 @@ module _ (text : List ℕ → Option (List ℕ)) (given : List ℕ → Bool) whe
 
   plan-holds : Holds (plan_by text given)
   plan-holds =
-      then-holds (λ (budget : Budget). option_and_then (λ scale. option_map (λ seconds. Plan budget scale (given (codes "spans")) seconds) (seconds_by text)) (option_number SCALE scale_setting text))
-      (λ budget. then-holds (λ scale. option_map (λ seconds. Plan budget scale (given (codes "spans")) seconds) (seconds_by text))
-      (λ scale. limit-holds (λ seconds. Plan budget scale (given (codes "spans")) seconds) (λ s is. is) (text (codes "seconds"))) (option_number SCALE scale_setting text)) (budget_by text)
+      then-holds (λ (budget : Budget). option_and_then (λ scale. option_map (λ seconds. Plan budget scale (given (codes "spans")) seconds (given (codes "notes"))) (seconds_by text)) (option_number SCALE scale_setting text))
+      (λ budget. then-holds (λ scale. option_map (λ seconds. Plan budget scale (given (codes "spans")) seconds (given (codes "notes"))) (seconds_by text))
+      (λ scale. limit-holds (λ seconds. Plan budget scale (given (codes "spans")) seconds (given (codes "notes"))) (λ s is. is) (text (codes "seconds"))) (option_number SCALE scale_setting text)) (budget_by text)
 
   replan-holds : Holds (replan_by text given)
   replan-holds =
-      then-holds (λ (budget : Budget). option_map (λ seconds. Replan budget (given (codes "spans")) seconds) (seconds_by text))
-      (λ budget. limit-holds (λ seconds. Replan budget (given (codes "spans")) seconds) (λ s is. is) (text (codes "seconds"))) (budget_by text)
+      then-holds (λ (budget : Budget). option_map (λ seconds. Replan budget (given (codes "spans")) seconds (given (codes "notes"))) (seconds_by text))
+      (λ budget. limit-holds (λ seconds. Replan budget (given (codes "spans")) seconds (given (codes "notes"))) (λ s is. is) (text (codes "seconds"))) (budget_by text)
 
   quote-holds : Holds (quote_by text given)
   quote-holds =
-      then-holds (λ (budget : Budget). option_map (λ seconds. Quote budget (given (codes "spans")) seconds) (seconds_by text))
-      (λ budget. limit-holds (λ seconds. Quote budget (given (codes "spans")) seconds) halved-holds (text (codes "seconds"))) (budget_by text)
+      then-holds (λ (budget : Budget). option_map (λ seconds. Quote budget (given (codes "spans")) seconds (given (codes "notes"))) (seconds_by text))
+      (λ budget. limit-holds (λ seconds. Quote budget (given (codes "spans")) seconds (given (codes "notes"))) halved-holds (text (codes "seconds"))) (budget_by text)
 
 -- a form's orders hold
 abbrev FormHolds : Form → Type 0

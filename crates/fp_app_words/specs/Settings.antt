@@ -52,15 +52,19 @@ pub record Options : Type 0 where
 abbrev pub budget_settings : List Setting
 budget_settings = rounds_setting ∷ branches_setting ∷ seconds_setting ∷ []
 
+-- the flags of a command with a budget
+abbrev pub search_flags : List (List ℕ)
+search_flags = codes "spans" ∷ codes "notes" ∷ []
+
 -- the options of `bound`, those of a command with a budget, and those of `plan`
 abbrev pub bound_options : Options
 bound_options = record { settings = seconds_setting ∷ []; flags = codes "spans" ∷ [] }
 
 abbrev pub budget_options : Options
-budget_options = record { settings = budget_settings; flags = codes "spans" ∷ [] }
+budget_options = record { settings = budget_settings; flags = search_flags }
 
 abbrev pub plan_options : Options
-plan_options = record { settings = budget_settings ++ scale_setting ∷ []; flags = codes "spans" ∷ [] }
+plan_options = record { settings = budget_settings ++ scale_setting ∷ []; flags = search_flags }
 
 -- the places of `trial` and of `yard`
 abbrev pub trial_settings : List Setting
@@ -123,14 +127,14 @@ bound_by text is_given = option_map (λ seconds. Bound (is_given (codes "spans")
 
 abbrev pub plan_by : (List ℕ → Option (List ℕ)) → (List ℕ → Bool) → Option Order
 plan_by text is_given =
-    option_and_then (λ budget. option_and_then (λ scale. option_map (λ seconds. Plan budget scale (is_given (codes "spans")) seconds) (seconds_by text))
+    option_and_then (λ budget. option_and_then (λ scale. option_map (λ seconds. Plan budget scale (is_given (codes "spans")) seconds (is_given (codes "notes"))) (seconds_by text))
     (option_number SCALE scale_setting text)) (budget_by text)
 
 abbrev pub replan_by : (List ℕ → Option (List ℕ)) → (List ℕ → Bool) → Option Order
-replan_by text is_given = option_and_then (λ budget. option_map (λ seconds. Replan budget (is_given (codes "spans")) seconds) (seconds_by text)) (budget_by text)
+replan_by text is_given = option_and_then (λ budget. option_map (λ seconds. Replan budget (is_given (codes "spans")) seconds (is_given (codes "notes"))) (seconds_by text)) (budget_by text)
 
 abbrev pub quote_by : (List ℕ → Option (List ℕ)) → (List ℕ → Bool) → Option Order
-quote_by text is_given = option_and_then (λ budget. option_map (λ seconds. Quote budget (is_given (codes "spans")) seconds) (seconds_by text)) (budget_by text)
+quote_by text is_given = option_and_then (λ budget. option_map (λ seconds. Quote budget (is_given (codes "spans")) seconds (is_given (codes "notes"))) (seconds_by text)) (budget_by text)
 
 -- a limit of time, if there is one, is within its range
 abbrev pub IsTimeLimit : Option ℕ → Type 0
@@ -139,9 +143,9 @@ IsTimeLimit seconds = IfSome seconds (λ n. (1 ≤ n) × (n ≤ MOST_SECONDS))
 -- what is ordered is within the limits
 abbrev pub IsWithinLimits : Order → Type 0
 IsWithinLimits (Bound spans seconds) = IsTimeLimit seconds
-IsWithinLimits (Plan budget scale spans seconds) = IsBudget budget × (1 ≤ scale) × (scale ≤ GREATEST_SCALE) × IsTimeLimit seconds
+IsWithinLimits (Plan budget scale spans seconds notes) = IsBudget budget × (1 ≤ scale) × (scale ≤ GREATEST_SCALE) × IsTimeLimit seconds
 IsWithinLimits (Trial seed terminals shipments) = (seed ≤ GREATEST_SEED) × (FEWEST_TERMINALS ≤ terminals) × (terminals ≤ MOST_TERMINALS) × (shipments ≤ MOST_SHIPMENTS)
 IsWithinLimits (Yard seed) = seed ≤ GREATEST_SEED
-IsWithinLimits (Replan budget spans seconds) = IsBudget budget × IsTimeLimit seconds
-IsWithinLimits (Quote budget spans seconds) = IsBudget budget × IsTimeLimit seconds
+IsWithinLimits (Replan budget spans seconds notes) = IsBudget budget × IsTimeLimit seconds
+IsWithinLimits (Quote budget spans seconds notes) = IsBudget budget × IsTimeLimit seconds
 IsWithinLimits _ = Unit {0}

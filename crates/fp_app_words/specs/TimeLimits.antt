@@ -16,9 +16,9 @@ halved seconds = option_map (λ n. div_ceil n 2) seconds
 abbrev pub seconds_of : Option Order → Option ℕ
 seconds_of None = None
 seconds_of (Some (Bound spans seconds)) = seconds
-seconds_of (Some (Plan budget scale spans seconds)) = seconds
-seconds_of (Some (Replan budget spans seconds)) = seconds
-seconds_of (Some (Quote budget spans seconds)) = halved seconds
+seconds_of (Some (Plan budget scale spans seconds notes)) = seconds
+seconds_of (Some (Replan budget spans seconds notes)) = seconds
+seconds_of (Some (Quote budget spans seconds notes)) = halved seconds
 seconds_of (Some _) = None
 
 -- whatever the words, a limit of time is within its range

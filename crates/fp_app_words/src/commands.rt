@@ -62,7 +62,9 @@ fn search_command<'a>(alloc: Global, name: &'a str) -> Result<Command<'a>, NoMem
     ensures shape { IfOk result (λ command. (app_of command).top ≡ with_options name.entry.now budget_options) }
     ensures local { IfOk result IsLocal }
 {
-    let command = budget_command(alloc, name)?.arg(flag(alloc, "spans"))?;
+    let command = budget_command(alloc, name)?
+        .arg(flag(alloc, "spans"))?
+        .arg(flag(alloc, "notes"))?;
     Ok(command)
 }
 
@@ -73,7 +75,8 @@ fn plan_command<'a>(alloc: Global) -> Result<Command<'a>, NoMemory>
 {
     let command = budget_command(alloc, "plan")?
         .arg(option(alloc, "scale"))?
-        .arg(flag(alloc, "spans"))?;
+        .arg(flag(alloc, "spans"))?
+        .arg(flag(alloc, "notes"))?;
     Ok(command)
 }
 

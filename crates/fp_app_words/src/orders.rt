@@ -3,7 +3,8 @@ use fp_session_history::Budget;
 use thiserror::Error;
 
 /// A command, with the numbers and flags that its words give. `spans` says that its search seeks
-/// prices of runs of classes too, and `seconds`, 1 to [`MOST_SECONDS`], when it ends at the latest.
+/// prices of runs of classes too, `seconds`, 1 to [`MOST_SECONDS`], when it ends at the latest, and
+/// `notes` that it is told of while it goes on.
 #[derive(Clone, Copy, Debug, PartialEq, Eq)]
 pub enum Order {
     /// Each shipment's fastest timetable.
@@ -21,6 +22,7 @@ pub enum Order {
         scale: u32,
         spans: bool,
         seconds: Option<u32>,
+        notes: bool,
     },
     /// What a search of an instance finds that is drawn from a seed, 0 to [`GREATEST_SEED`], with so
     /// many terminals, [`FEWEST_TERMINALS`] to [`MOST_TERMINALS`](fp_model::limits::MOST_TERMINALS),
@@ -42,12 +44,14 @@ pub enum Order {
         budget: Budget,
         spans: bool,
         seconds: Option<u32>,
+        notes: bool,
     },
     /// What the last shipment adds to the cost, by two searches with this budget each.
     Quote {
         budget: Budget,
         spans: bool,
         seconds: Option<u32>,
+        notes: bool,
     },
 }
 

@@ -151,11 +151,13 @@ pub fn plan_by(matches: &ArgMatches) -> Option<Order>
     let scale = number_or(matches, "scale", 1, GREATEST_SCALE, SCALE as u32)?;
     let seconds = seconds_by(matches)?;
     let spans = was_given(matches, "spans");
+    let notes = was_given(matches, "notes");
     Some(Order::Plan {
         budget,
         scale,
         spans,
         seconds,
+        notes,
     })
 }
 
@@ -168,10 +170,12 @@ pub fn replan_by(matches: &ArgMatches) -> Option<Order>
     let budget = budget_by(matches)?;
     let seconds = seconds_by(matches)?;
     let spans = was_given(matches, "spans");
+    let notes = was_given(matches, "notes");
     Some(Order::Replan {
         budget,
         spans,
         seconds,
+        notes,
     })
 }
 
@@ -183,10 +187,12 @@ pub fn quote_by(matches: &ArgMatches) -> Option<Order>
     let budget = budget_by(matches)?;
     let seconds = seconds_by(matches)?;
     let spans = was_given(matches, "spans");
+    let notes = was_given(matches, "notes");
     Some(Order::Quote {
         budget,
         spans,
         seconds,
+        notes,
     })
 }
 

@@ -70,7 +70,7 @@ HaveTails-fork_of p (node.Branch split ∷ nodes) = (IsTailOfSplit-split_tail p 
 HaveTails-fork_of p (node.Leaf price ∷ nodes) = (tt, HaveTails-fork_of p nodes)
 
 -- where each leaf is worth the claim, no plan within the windows costs less
-AreLeavesWorth-NoPlanWithinCheaper : (p : Problem) (table : WindowTable) (c : Statement) (claim : ℕ) → IsValid p → AreKept p c → HasTree p c → AreLeavesWorth p table c claim →
+pub AreLeavesWorth-NoPlanWithinCheaper : (p : Problem) (table : WindowTable) (c : Statement) (claim : ℕ) → IsValid p → AreKept p c → HasTree p c → AreLeavesWorth p table c claim →
     NoPlanWithinCheaper p (windows_in table) claim
 AreLeavesWorth-NoPlanWithinCheaper p table c claim valid keep tree worth d plan some is within =
     AnyByRecursion-all _ (λ (l : Leaf Node). IsLeafWorth p table c claim l.node l.sides) (claim ≤ cost p plan)
@@ -94,7 +94,7 @@ IsTooLate-PlanExists p k time exists is plan =
 IsAccepted-NoPlanWithinCheaper : (p : Problem) (table : WindowTable) (c : Statement) (claim : ℕ) → IsValid p → IsInRange p c → IsAccepted p table c → Applies c.answer Part.Prices → Applies c.answer Part.Tree →
     Applies c.answer Part.Leaves → claim_of c.answer ≡ claim → NoPlanWithinCheaper p (windows_in table) claim
 IsAccepted-NoPlanWithinCheaper p table c claim valid range accepted prices tree leaves claimed =
-    AreLeavesWorth-NoPlanWithinCheaper p table c claim valid (HasPrices-kept p c valid range (accepted Part.Prices prices)) (accepted Part.Tree tree)
+    AreLeavesWorth-NoPlanWithinCheaper p table c claim valid (HasPrices-kept p c valid range.spans range.unit (accepted Part.Prices prices)) (accepted Part.Tree tree)
     (subst (λ (n : ℕ). AreLeavesWorth p table c n) claimed (accepted Part.Leaves leaves))
 
 ClaimsWithin_answer : (p : Problem) (table : WindowTable) (c : Statement) (answer : Answer) → c.answer ≡ answer → IsValid p → IsInRange p c → IsAnswerInRange p answer → IsAccepted p table c →

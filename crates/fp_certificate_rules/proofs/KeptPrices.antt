@@ -12,7 +12,7 @@ use Rattle.fp_prices_spans.specs.SpanKinds.{spans_beside}
 use Rattle.fp_prices_spans.specs.SpanLists.{IsSpanOf}
 use Rattle.fp_prices_spans.specs.SpanRules.{KeepSpanRules}
 use Rattle.fp_prices_spans.proofs.SoundSpans.{sound_spans-keep_rules}
-use Rattle.fp_certificate_lines.specs.Ranges.{IsInRange, IsSpanInRange, IsUnitInRange}
+use Rattle.fp_certificate_lines.specs.Ranges.{IsSpanInRange, IsUnitInRange}
 use Rattle.fp_certificate_lines.specs.Statements.{Statement}
 use Rattle.fp_certificate_lines.proofs.SpanRanges.{IsSpanInRange-of}
 use Rattle.fp_certificate_rules.specs.Prices.{HasPrices}
@@ -48,11 +48,11 @@ beside-keep p spans valid range are (Table id) =
     at-all (KeepSpanRules p) spans (id - 1) [] (none-keep p)
     (All-both (All (IsSpanInRange p)) (ArePaidSpans p) (KeepSpanRules p) [] (λ s r h. ArePaidSpans-keep p s valid r h) spans range are)
 
--- the prices of a certificate in range that hold are kept
-pub HasPrices-kept : (p : Problem) (c : Statement) → IsValid p → IsInRange p c → HasPrices p c → AreKept p c
-HasPrices-kept p c valid range has = record {
+-- the prices of a certificate that hold are kept, where its spans and its unit are in range
+pub HasPrices-kept : (p : Problem) (c : Statement) → IsValid p → All (All (IsSpanInRange p)) c.spans → IfSome c.unit IsUnitInRange → HasPrices p c → AreKept p c
+HasPrices-kept p c valid spans unit has = record {
   tables = has.tables.rule;
-  spans = beside-keep p c.spans valid range.spans has.spans;
-  range = range.unit;
+  spans = beside-keep p c.spans valid spans has.spans;
+  range = unit;
   unit = has.unit;
 }

@@ -35,3 +35,4 @@ pub mod StepsTaken
 pub mod StepOrder
 pub mod PointLimits
 pub mod BestOpen
+pub mod BoundClaims

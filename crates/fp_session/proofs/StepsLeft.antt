@@ -1,6 +1,6 @@
 -- Each step leaves fewer steps.
 use Rattle.std.proofs.Common.{◌≡◌, ◌+◌, ◌<◌, ◌≤◌, List, [], ◌∷◌, ◌++◌, length, refl, sym, ap, ◌∙◌, arith}
-use Rattle.std.specs.Prelude.{IsSomeAnd, None, Option, Some}
+use Rattle.std.specs.Prelude.{Err, IfOk, IsSomeAnd, None, Ok, OnOk, Option, Result, Some}
 use Rattle.std.proofs.lemmas.List.{length-append}
 use Rattle.fp_tree.specs.Nodes.{split_count}
 use Rattle.fp_session_history.specs.declared.budgets.Budget.{Budget}
@@ -43,6 +43,12 @@ module _ (s t : InHand) (going : s.left ≡ None) (fixed : StayFixed s t) where
   fewer-left step.Branch is rounds branches = omega (arith, is.leaves, is.splits, is.cost, long is.trace, goes is.going, one, branches, rounds-same, branches-same)
   fewer-left (step.Done ending) is rounds branches =
       omega (arith, is.leaves, is.splits, is.cost, long is.trace, last_step-some t.left (λ left. ending ≡ ending_of left) is.left, one, rounds-same, branches-same)
+
+-- where there is memory for a step
+pub step-fewer : {E : Type 0} (s t : InHand) (r : Result Step E) → s.left ≡ None → StayFixed s t → IfOk r (IsStep s t) → length t.trace ≤ t.budget.rounds → split_count t.tree ≤ t.budget.branches →
+    OnOk r (steps_left t < steps_left s)
+step-fewer s t (Ok a) going fixed is rounds branches = fewer-left s t going fixed a is rounds branches
+step-fewer s t (Err e) going fixed is rounds branches = tt
 
 -- what stays fixed by no step, and by two
 pub fixed-same : (s : InHand) → StayFixed s s

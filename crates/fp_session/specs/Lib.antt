@@ -15,3 +15,4 @@ pub mod Certificates
 pub mod Starts
 pub mod Sessions
 pub mod Solved
+pub mod Progress

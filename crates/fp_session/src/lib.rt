@@ -20,6 +20,7 @@ mod moves;
 mod outcomes;
 mod payloads;
 mod planning;
+mod progress;
 mod redrawing;
 mod refining;
 mod searches;
@@ -32,6 +33,7 @@ mod tree_lines;
 mod walks;
 
 pub use fp_session_history::{Budget, Ending, Left, RoundNote, SplitNote};
+pub use progress::Progress;
 pub use sessions::Session;
 pub use solutions::Solved;
 pub use steps::Step;

@@ -1,5 +1,6 @@
 //! A search, step by step.
-ghost use Rattle.std.specs.Prelude.{◌≡◌, None, Ok, IfOk, IfSome, IsSomeAnd, OnErr, false};
+ghost use Rattle.std.specs.Prelude.{◌≡◌, ◌<◌, ⊤, OnOk, None, Ok, IfOk, IfSome, IsSomeAnd, OnErr, false};
+ghost use Rattle.std.specs.Option.{is_some};
 ghost use Rattle.fp_ends.specs.Deadlines.{IsLater, has_shown};
 ghost use Rattle.fp_model.specs.Plans.{IsPlan};
 ghost use Rattle.fp_flatnet.specs.Belonging.{BelongsTo};
@@ -12,14 +13,16 @@ ghost use Rattle.fp_session.specs.Certificates.{IsPricedBy};
 ghost use Rattle.fp_certificate_rules.specs.Units.{IsGreatestUnit};
 ghost use Rattle.fp_duals_leaves.specs.Prices.{ArePrices};
 ghost use Rattle.fp_session.specs.Order.{IsInOrder};
+ghost use Rattle.fp_session.specs.Progress.{IsProgress};
 ghost use Rattle.fp_session.specs.Sessions.{IsSound, hand_of};
-ghost use Rattle.fp_session.specs.Solved.{GoesOnFrom, IsSolved};
+ghost use Rattle.fp_session.specs.Solved.{GoesOnFrom, IsSolved, ShowsInHand};
 ghost use Rattle.fp_session.specs.Starts.{IsSessionOf};
 ghost use Rattle.fp_session.specs.StepCauses.{ending_of};
-ghost use Rattle.fp_session.specs.Steps.{IsStep, StayFixed};
+ghost use Rattle.fp_session.specs.Steps.{IsStep, StayFixed, steps_left};
 
 use crate::NoMemory;
 use crate::advances::{advance, finish};
+use crate::progress::{Progress, progress_of};
 use crate::searches::Search;
 use crate::solutions::{Solved, solution};
 use crate::starts::started;
@@ -155,6 +158,7 @@ impl Session {
         seconds: Option<u32>,
     ) -> Result<Step, NoMemory>
         ensures step { IfOk result (IsStep (hand_of self.old) (hand_of self.new)) }
+        ensures fewer { self.old.left ≡ None → OnOk result (steps_left (hand_of self.new) < steps_left (hand_of self.old)) }
         ensures order { IfOk result (λ step. self.old.left ≡ None → IsInOrder (hand_of self.old) (hand_of self.new) step) }
         ensures fixed { StayFixed (hand_of self.old) (hand_of self.new) }
         ensures timed { self.old.left ≡ None → IfSome self.new.left (IsTimely (has_shown seconds (C.moment clock.new) (C.faults clock.old) (C.faults clock.new))) }
@@ -177,29 +181,60 @@ impl Session {
         ensures priced { IfOk result (λ x. IsPricedBy self.prices.unit x.certificate) }
         ensures timed { self.left ≡ None → IfOk result (λ x. IsTimely false x.left) }
     {
-        self.solve_within(alloc, &mut StillClock::new(), None)
-    }
-
-    /// The same until a clock shows so many seconds, or fails: it ends for want of time only where the
-    /// clock did so in this call.
-    pub fn solve_within<C: Clock>(
-        self,
-        alloc: Global,
-        clock: &mut C,
-        seconds: Option<u32>,
-    ) -> Result<Solved, NoMemory>
-        ensures solved { IfOk result (IsSolved self.instance self.windows self.budget self.started) }
-        ensures onward { IfOk result (GoesOnFrom (hand_of self)) }
-        ensures priced { IfOk result (λ x. IsPricedBy self.prices.unit x.certificate) }
-        ensures timed { self.left ≡ None → IfOk result (λ x. IsTimely (has_shown seconds (C.moment clock.new) (C.faults clock.old) (C.faults clock.new)) x.left) }
-        ensures later { IsLater (C.moment clock.old) (C.moment clock.new) (C.faults clock.old) (C.faults clock.new) }
-    {
         let mut search = self.search;
         let mut prices = self.prices;
-        finish(alloc, clock, seconds, &mut search, &mut prices)?;
+        finish(
+            alloc,
+            &mut StillClock::new(),
+            None,
+            &mut search,
+            &mut prices,
+        )?;
         let Some(left) = search.left.take() else {
             unreachable!()
         };
         solution(alloc, search, prices, left)
+    }
+
+    /// What a search shows that has ended. `NoMemory` only where no memory is found.
+    pub fn solved(self, alloc: Global) -> Result<Solved, NoMemory>
+        requires { IsSomeAnd self.left (λ left. ⊤) }
+        ensures solved { IfOk result (IsSolved self.instance self.windows self.budget self.started) }
+        ensures shown { IfOk result (λ x. IfSome self.left (λ left. ShowsInHand (hand_of self) left x)) }
+        ensures priced { IfOk result (λ x. IsPricedBy self.prices.unit x.certificate) }
+    {
+        let mut search = self.search;
+        let Some(left) = search.left.take() else {
+            unreachable!()
+        };
+        solution(alloc, search, self.prices, left)
+    }
+
+    /// What it has in hand, in numbers.
+    pub fn progress(&self) -> Progress
+        ensures { IsProgress self.now result }
+    {
+        progress_of(&self.search, &self.prices)
+    }
+
+    /// The plan in hand.
+    pub fn incumbent(&self) -> &Plan
+        ensures { result.now ≡ self.now.incumbent }
+    {
+        &self.search.incumbent
+    }
+
+    /// The instance.
+    pub fn instance(&self) -> &Instance
+        ensures { result.now ≡ self.now.instance }
+    {
+        &self.search.instance
+    }
+
+    /// Whether it has ended.
+    pub fn has_ended(&self) -> bool
+        ensures { result ≡ is_some self.now.left }
+    {
+        self.search.left.is_some()
     }
 }

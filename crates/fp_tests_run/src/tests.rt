@@ -9,6 +9,7 @@ mod directs;
 mod dispatch;
 mod failing_ends;
 mod input_faults;
+mod notes;
 mod plans;
 mod quotes;
 mod replans;

@@ -21,7 +21,15 @@ fn main(rt: HostRuntime) -> ExitCode {
     };
     let mut source = StdSource::new(rt.stdin());
     let mut sink = StdSink::new(rt.stdout());
-    let ran = run_within(rt.alloc(), &words, &mut source, &mut sink, &mut clock);
+    let mut notes = StdSink::new(rt.stderr());
+    let ran = run_within(
+        rt.alloc(),
+        &words,
+        &mut source,
+        &mut sink,
+        &mut clock,
+        &mut notes,
+    );
     ExitCode::from(ran.status.code())
 }
 

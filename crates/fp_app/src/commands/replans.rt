@@ -1,5 +1,5 @@
 //! What `replan` shows.
-ghost use Rattle.std.specs.Prelude.{◌≡◌, ◌<◌, ◌≤◌, ◌-◌, ◌^◌, length, not, IfOk};
+ghost use Rattle.std.specs.Prelude.{◌≡◌, ◌<◌, ◌≤◌, ◌-◌, ◌^◌, length, not, IfOk, Ok};
 ghost use Rattle.std.specs.List.{prefix_len};
 ghost use Rattle.fp_ends.specs.Deadlines.{has_shown};
 ghost use Rattle.fp_session_history.specs.Budgets.{IsBudget};
@@ -7,7 +7,8 @@ ghost use Rattle.fp_replan.specs.declared.kept.TheConstants.{MOST_KEPT};
 ghost use Rattle.fp_replan.specs.KeptLegs.{AreKept};
 ghost use Rattle.fp_app.specs.CheckInputs.{CanBeChecked};
 ghost use Rattle.fp_app.specs.declared.limits.TheConstants.{INSTANCE_LIMIT};
-ghost use Rattle.fp_app.specs.Inputs.{OfKept, is_kept};
+ghost use Rattle.fp_app.specs.Inputs.{KeptInstance, OfKept, is_kept, kept_in};
+ghost use Rattle.fp_app.specs.Notes.{IsNotedFor, MayNote};
 ghost use Rattle.fp_app.specs.KeptInputs.{CanKeep, IsKeptInput, IsKeptInputOf};
 ghost use Rattle.fp_app.specs.Runs.{ShowsReplan};
 ghost use Rattle.fp_app.specs.Searches.{IsSearched, within};
@@ -17,7 +18,7 @@ ghost use Rattle.fp_app.specs.Wanted.{IsFirstPlan, keeping};
 use crate::commands::options::SearchOptions;
 use crate::commands::searches::search_from;
 use crate::{NoMemory, Shown};
-use fp_ends::Clock;
+use fp_ends::{Clock, Sink};
 use fp_model::{Instance, Plan};
 use fp_reader::{InputFault, Tail, instance};
 use fp_records::{Record, records};
@@ -37,9 +38,10 @@ pub enum KeptInput {
 
 /// What `replan` shows for the bytes of an input, with a budget within its limits, in the time that
 /// there is, and with the option of spans or without it.
-pub fn replan_shown<C: Clock>(
+pub fn replan_shown<C: Clock, N: Sink>(
     alloc: Global,
     clock: &mut C,
+    notes: &mut N,
     options: SearchOptions,
     bytes: Vec<u8>,
 ) -> Result<Shown, NoMemory>
@@ -47,9 +49,12 @@ pub fn replan_shown<C: Clock>(
     requires budget { IsBudget options.budget }
     ensures shown { IfOk result (λ shown. OfKept bytes.items shown (λ x. ShowsReplan (within options.budget (has_shown options.seconds (C.moment clock.new) (C.faults clock.old) (C.faults clock.new))) options.spans x shown)) }
     ensures printable { IfOk result IsPrintable }
+    ensures noted { MayNote options.notes ((x : KeptInstance) × (kept_in bytes.items ≡ Ok x) × IsNotedFor x.instance (keeping x.kept) (N.taken notes.old) (N.taken notes.new)) (N.taken notes.old) (N.taken notes.new) }
 {
     match read_both(alloc, bytes)? {
-        KeptInput::Both { instance, kept } => search_keeping(alloc, clock, options, instance, kept),
+        KeptInput::Both { instance, kept } => search_keeping(
+            alloc, clock, notes, options, instance, kept,
+        ),
         KeptInput::Fault { ordinal, code } => Ok(Shown::BadInput { ordinal, code }),
     }
 }
@@ -103,9 +108,10 @@ fn read_legs(
 }
 
 // What a search shows among the plans that keep legs, or the first shipment that is stuck.
-fn search_keeping<C: Clock>(
+fn search_keeping<C: Clock, N: Sink>(
     alloc: Global,
     clock: &mut C,
+    notes: &mut N,
     options: SearchOptions,
     instance: Instance,
     kept: Vec<Kept>,
@@ -115,10 +121,11 @@ fn search_keeping<C: Clock>(
     requires budget { IsBudget options.budget }
     ensures shown { IfOk result (ShowsReplan (within options.budget (has_shown options.seconds (C.moment clock.new) (C.faults clock.old) (C.faults clock.new))) options.spans (record { instance = instance; kept = kept.items })) }
     ensures printable { IfOk result IsPrintable }
+    ensures noted { MayNote options.notes (IsNotedFor instance (keeping kept.items) (N.taken notes.old) (N.taken notes.new)) (N.taken notes.old) (N.taken notes.new) }
 {
     match start(alloc, &instance, &kept)? {
         Started::Plan { plan } => {
-            let solved = solve_keeping(alloc, clock, options, &instance, &kept, plan)?;
+            let solved = solve_keeping(alloc, clock, notes, options, &instance, &kept, plan)?;
             Ok(Shown::Replanned {
                 instance,
                 kept,
@@ -130,9 +137,10 @@ fn search_keeping<C: Clock>(
 }
 
 // What a search shows among the plans that keep legs, which begins with one of them.
-fn solve_keeping<C: Clock>(
+fn solve_keeping<C: Clock, N: Sink>(
     alloc: Global,
     clock: &mut C,
+    notes: &mut N,
     options: SearchOptions,
     instance: &Instance,
     kept: &[Kept],
@@ -144,7 +152,8 @@ fn solve_keeping<C: Clock>(
     requires budget { IsBudget options.budget }
     ensures searched { IfOk result (IsSearched instance.now (keeping kept.now) (within options.budget (has_shown options.seconds (C.moment clock.new) (C.faults clock.old) (C.faults clock.new))) options.spans) }
     ensures checkable { IfOk result (λ solved. CanBeChecked instance.now solved.certificate) }
+    ensures noted { MayNote options.notes (IsNotedFor instance.now (keeping kept.now) (N.taken notes.old) (N.taken notes.new)) (N.taken notes.old) (N.taken notes.new) }
 {
     let windows = windows(alloc, instance, kept)?;
-    search_from(alloc, clock, options, instance, windows, first)
+    search_from(alloc, clock, notes, options, instance, windows, first)
 }

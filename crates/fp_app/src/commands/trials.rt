@@ -12,6 +12,7 @@ ghost use Rattle.fp_app.specs.Wanted.{every};
 use crate::check_outcomes::{CheckOutcome, check_outcome};
 use crate::commands::options::SearchOptions;
 use crate::commands::searches::solve;
+use crate::no_notes::NoNotes;
 use crate::{NoMemory, Shown};
 use fp_ends::StillClock;
 use fp_flatnet::{Verdict, feasible};
@@ -73,8 +74,15 @@ fn solve_and_check(alloc: Global, instance: &Instance) -> Result<(Solved, CheckO
         budget,
         spans: false,
         seconds: None,
+        notes: false,
     };
-    let solved = solve(alloc, &mut StillClock::new(), options, instance)?;
+    let solved = solve(
+        alloc,
+        &mut StillClock::new(),
+        &mut NoNotes::new(),
+        options,
+        instance,
+    )?;
     let outcome = check_outcome(alloc, instance, &solved.certificate)?;
     Ok((solved, outcome))
 }

@@ -38,12 +38,32 @@ pub fn run_by(
     input: &str,
     shown: &[u64],
 ) -> Result<(u8, Vec<u8>), AllocError> {
+    let (status, text, _) = noted_by(alloc, line, input, shown)?;
+    Ok((status, text))
+}
+
+/// The same, with what is noted meanwhile.
+pub fn noted_by(
+    alloc: Global,
+    line: &str,
+    input: &str,
+    shown: &[u64],
+) -> Result<(u8, Vec<u8>, Vec<u8>), AllocError> {
     let mut source = source_of(alloc, input.as_bytes(), 4096, &[])?;
     let mut sink = sink_of(alloc, 20_000, 7, &[])?;
     let mut clock = MemClock::new(shown.to_vec(alloc)?);
     let words = words_of(alloc, line)?;
-    let ran = run_within(alloc, &words, &mut source, &mut sink, &mut clock);
-    Ok((ran.status.code(), sink.bytes().to_vec(alloc)?))
+    let mut notes = sink_of(alloc, 20_000, 11, &[])?;
+    let ran = run_within(
+        alloc,
+        &words,
+        &mut source,
+        &mut sink,
+        &mut clock,
+        &mut notes,
+    );
+    let text = sink.bytes().to_vec(alloc)?;
+    Ok((ran.status.code(), text, notes.bytes().to_vec(alloc)?))
 }
 
 /// A source of these bytes. The calls with these numbers fail.

@@ -6,9 +6,11 @@ use Rattle.fp_app_words.proofs.commands.plan_command.Goals as goal
 pub returns-clause-shape : goal.returns-clause-shape
 returns-clause-shape c =
     let scale = app_of-arg _ _ _ _ _ c.in_ok-arg.ensures c.in_ok-budget_command.ensures.shape c.option.ensures.rule c.option.ensures.local in
-    ap (λ (x : App). x.top) (app_of-arg _ _ _ _ _ c.in_ok-command.ensures scale c.flag.ensures.rule c.flag.ensures.local)
+    let spans = app_of-arg _ _ _ _ _ c.in_ok-arg-2.ensures scale c.flag.ensures.rule c.flag.ensures.local in
+    ap (λ (x : App). x.top) (app_of-arg _ _ _ _ _ c.in_ok-command.ensures spans c.flag-2.ensures.rule c.flag-2.ensures.local)
 
 pub returns-clause-local : goal.returns-clause-local
 returns-clause-local c =
     let scale = has_globals-arg _ _ _ c.in_ok-arg.ensures c.in_ok-budget_command.ensures.local c.option.ensures.local in
-    has_globals-arg _ _ _ c.in_ok-command.ensures scale c.flag.ensures.local
+    let spans = has_globals-arg _ _ _ c.in_ok-arg-2.ensures scale c.flag.ensures.local in
+    has_globals-arg _ _ _ c.in_ok-command.ensures spans c.flag-2.ensures.local
