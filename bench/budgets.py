@@ -9,9 +9,9 @@ without `--spans` and with it, on generated instances and on a carrier's lines a
 PROGRAM is the built program; without it the proved one in crates/freight/out is taken, or the one in dist/. OTHER is a
 program of the same words, whose rows stand below those of PROGRAM. Each answer is handed back to the `check` of the
 program that gave it. A row ends with `dearer` where a larger budget gave a dearer plan than some smaller one, and with
-`lower` where it gave a lower bound; the last lines say how many rows do. Nothing promises that there are none: a search
-with more rounds or seconds is another search. Instances of more than 50 shipments, which take minutes a row, are run where
-ONLY is set and their names have its word.
+`lower` where it gave a lower bound; the last lines say how many rows do. A search with more of a budget does first what one
+with less does (docs/policies.md), but a split may lower a bound, and no clause promises it. Instances of more than 50
+shipments, which take minutes a row, are run where ONLY is set and their names have its word.
 """
 import os
 import sys

@@ -1,34 +1,30 @@
 #!/usr/bin/env python3
-"""How good and how quick the local search's plans are, on generated instances.
+"""How good and how quick the local search's plans are: on generated instances, on lines and hubs, and on carriers' days.
 
     bench/local_search.py [TURNS [LOOSE...]]
+    ONLY=WORD bench/local_search.py ..         the rows alone whose names have the word, as `day`
 
-From the direct plan of each instance it makes a search of TURNS turns for each LOOSE, and prints the direct plan's cost, that of the cheapest plan
-found, and the seconds of all searches. The program is proved first, which takes some minutes where nothing is kept.
+From the direct plan of each instance it makes a search of TURNS turns for each LOOSE, with draws of its own, and prints the direct plan's cost, that
+of the cheapest plan found, and the seconds of all searches. The program is proved first, which takes some minutes where nothing is kept.
 """
+import os
 import subprocess
 import sys
 
-from instances import generated
-from kit import proved
+from instances import generated, hubs, line
+from kit import TOP, is_wanted, proved
 
-# The seed, the terminals and the shipments of each instance.
-SIZES = ((1, 6, 15), (2, 6, 15), (3, 6, 15), (1, 8, 30), (2, 8, 30), (1, 10, 40), (1, 12, 50), (2, 12, 50), (1, 20, 60), (1, 50, 200))
+# The seed, the terminals and the shipments of each generated instance.
+SIZES = ((1, 6, 15), (2, 6, 15), (3, 6, 15), (1, 8, 30), (2, 8, 30), (7, 8, 30), (1, 10, 40), (1, 12, 50), (2, 12, 50), (1, 20, 60), (1, 50, 200))
 
-CRATES = [
-    "fp_base_lists:",
-    "fp_ends: thiserror",
-    "fp_model: fp_base_lists",
-    "fp_records: fp_base_lists csv itoa",
-    "fp_labels: fp_base_lists",
-    "fp_timenodes: fp_base_lists",
-    "fp_records_fields: fp_base_lists fp_model fp_records indexmap",
-    "fp_reader: fp_base_lists fp_model fp_records fp_records_fields thiserror",
-    "fp_flatnet: fp_base_lists fp_model fp_labels fp_timenodes",
-    "fp_timetable: fp_base_lists fp_model",
-    "fp_repair_groups: fp_base_lists fp_model fp_timenodes fp_flatnet",
-    "fp_repair_search: fp_base_lists fp_model fp_timenodes fp_flatnet fp_timetable fp_repair_groups",
-]
+# What each carrier's day is called, and the words of tools/day that make it.
+DAYS = (
+    ("day 20x60", "1 --terminals 20 --hubs 3 --arcs 62 --shipments 60 --pallets 6"),
+    ("day 30x150 s1", "1"),
+    ("day 30x150 s2", "2"),
+    ("day 30x150 s3", "3"),
+    ("day 50x300", "1 --terminals 50 --hubs 5 --arcs 170 --shipments 300 --pallets 6"),
+)
 
 USES = ["fp_ends", "fp_model", "fp_records", "fp_reader", "fp_flatnet", "fp_timetable", "fp_repair_search", "anyhow"]
 
@@ -36,7 +32,7 @@ SOURCE = """//! Local searches from the direct plan of an instance on standard i
 #![tactic(auto)]
 
 use anyhow::{Result, bail};
-use fp_ends::{StdSource, read_all};
+use fp_ends::{Resources, StdSource, read_all};
 use fp_flatnet::{Verdict, Windows, direct, feasible};
 use fp_repair_search::{Search, local_search};
 use fp_model::Instance;
@@ -68,14 +64,14 @@ fn searched(alloc: Global, instance: &Instance, turns: u32, looses: &[u32]) -> R
     let windows = Windows::of(alloc, instance)?;
     let first = cost(alloc, instance, &plan)?;
     let mut least = first;
-    for loose in looses {
-        let seed = u64::try_from(first).unwrap_or(0).wrapping_add(u64::from(*loose));
+    let seed = u64::try_from(first).unwrap_or(0);
+    for (number, loose) in looses.iter().enumerate() {
         let search = Search {
-            seed,
+            seed: seed.wrapping_add(number as u64),
             turns,
             loose: *loose,
         };
-        let found = local_search(alloc, instance, &windows, &plan, search)?;
+        let found = local_search(&Resources::endless(alloc), instance, &windows, &plan, search)?;
         least = least.min(cost(alloc, instance, &found)?);
     }
     Ok((first, least))
@@ -103,16 +99,41 @@ fn main(rt: HostRuntime) -> Result<()> {
 """
 
 
+def crates_below(names):
+    """The lines of crates.txt of some crates and of those below them, in its order."""
+    with open(os.path.join(TOP, "crates.txt")) as file:
+        lines = [line.strip() for line in file if ":" in line and not line.startswith("#")]
+    below = {line.split(":")[0]: line.split(":")[1].split() for line in lines}
+    wanted = set()
+    while names:
+        name = names.pop()
+        if name in below and name not in wanted:
+            wanted.add(name)
+            names += below[name]
+    return [line for line in lines if line.split(":")[0] in wanted]
+
+
+def rows():
+    """What each instance is called, and its records."""
+    for seed, terminals, shipments in SIZES:
+        yield f"{terminals}x{shipments} s{seed}", generated(seed, terminals, shipments)
+    yield "line 6 with 20", line(6, 20, 720)
+    yield "hub of 10 with 30", hubs(1, 9, 30, 720)
+    yield "hubs 2x6 with 30", hubs(2, 6, 30, 720)
+    for name, words in DAYS:
+        made = subprocess.run([sys.executable, os.path.join(TOP, "tools", "day")] + words.split(), stdout=subprocess.PIPE, check=True)
+        yield name, made.stdout.decode()
+
+
 def main():
     words = sys.argv[1:] if len(sys.argv) > 2 else (sys.argv[1:] or ["20000"]) + ["30", "60"]
-    with proved(SOURCE, CRATES, USES) as program:
-        print("instance     direct   search  seconds")
-        for seed, terminals, shipments in SIZES:
-            text = generated(seed, terminals, shipments)
-            done = subprocess.run([program] + words, input=text.encode(), stdout=subprocess.PIPE, check=True)
-            direct, least, taken = done.stdout.decode().split()
-            name = f"{terminals}x{shipments} s{seed}"
-            print(f"{name:10} {direct:>8} {least:>8} {int(taken) / 1000:8.3f}")
+    with proved(SOURCE, crates_below(list(USES)), USES) as program:
+        print(f"{'instance':18} {'direct':>9} {'search':>9}  seconds")
+        for name, text in rows():
+            if is_wanted(name):
+                done = subprocess.run([program] + words, input=text.encode(), stdout=subprocess.PIPE, check=True)
+                direct, least, taken = done.stdout.decode().split()
+                print(f"{name:18} {direct:>9} {least:>9} {int(taken) / 1000:8.3f}")
 
 
 main()

@@ -7,6 +7,7 @@ _freight_options() {
   case $1 in
   direct) words='-o --output --certificate --timetable-only --allow-empty -h --help' ;;
   plan) words='--rounds --branches --scale --seconds --spans --notes -o --output --certificate --timetable-only --allow-empty -h --help' ;;
+  improve) words='--rounds --branches --scale --seconds --spans --notes -o --output --certificate --timetable-only --allow-empty -h --help' ;;
   bound) words='--seconds --spans -o --output --allow-empty -h --help' ;;
   check) words='-o --output --allow-empty -h --help' ;;
   yard) words='-o --output --allow-empty -h --help' ;;
@@ -27,8 +28,8 @@ _freight() {
   COMPREPLY=()
   case $before in --rounds | --branches | --scale | --seconds | -o | --output | --certificate | --names | --instance | --fleet | --columns | --zone | --day | --dates | --decimal | --time-unit | --by | --to | --zero | --unit) return ;; esac
   case "$COMP_CWORD ${COMP_WORDS[1]} $word" in
-  1\ *) words='direct plan bound check yard fleet replan quote trial import export picture help -h --help --version' ;;
-  2\ help\ *) words='direct plan bound check yard fleet replan quote trial import export picture help' ;;
+  1\ *) words='direct plan improve bound check yard fleet replan quote trial import export picture help -h --help --version' ;;
+  2\ help\ *) words='direct plan improve bound check yard fleet replan quote trial import export picture help' ;;
   *\ -*) words=$(_freight_options "${COMP_WORDS[1]}") ;;
   esac
   # shellcheck disable=SC2207 # no word has a blank

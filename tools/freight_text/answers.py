@@ -14,7 +14,9 @@ STATUSES = {
     41: "the system didn't hand over the words as text; nothing was done",
 }
 SMALL, LARGE = 16_777_216, 134_217_728
-LIMITS = {"direct": SMALL, "plan": SMALL, "bound": SMALL, "replan": SMALL, "quote": SMALL, "check": LARGE, "yard": LARGE, "fleet": LARGE}
+LIMITS = {
+    **dict.fromkeys(("direct", "plan", "bound", "replan", "quote"), SMALL), **dict.fromkeys(("check", "yard", "fleet", "improve"), LARGE),
+}  # fmt: skip
 # Beyond so many bytes the place of a fault isn't looked for, since that would take longer than the answer did.
 READ_AGAIN = 32_000_000
 

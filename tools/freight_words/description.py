@@ -64,9 +64,9 @@ class Command:
     form: str = ""
 
 
-ROUNDS = Option("--rounds", "the most rounds in which the search may add time points", "N", Range(0, 4_000), 400)
+ROUNDS = Option("--rounds", "the most rounds that may add time points", "N", Range(0, 4_000), 400)
 BRANCHES = Option("--branches", "the most splits of the search's tree", "N", Range(0, 100_000), 4_000)
-SECONDS = Option("--seconds", "it ends after so many with the best it has", "N", Range(1, 86_400, padded=False))
+SECONDS = Option("--seconds", "it ends then with the best it has", "N", Range(1, 86_400, padded=False))
 SCALE = Option("--scale", "how many parts of prices make a unit of money", "N", Range(1, 1_000_000_000), 1_000_000)
 SPANS = Option("--spans", "prices of runs of classes too: it takes longer, and mostly proves more")
 NOTES = Option("--notes", "cost, bound and each cheaper timetable on standard error meanwhile")
@@ -105,12 +105,14 @@ PICTURE = (
 
 SEED = Range(0, 2_147_483_647)
 SEARCH = (ROUNDS, BRANCHES, SECONDS, SPANS, NOTES)
+PLAN = (ROUNDS, BRANCHES, SCALE, SECONDS, SPANS, NOTES)
 READER = (OUTPUT, ALLOW_EMPTY, HELP)
 PLANNER = (OUTPUT, CERTIFICATE, TIMETABLE_ONLY, ALLOW_EMPTY, HELP)
 
 COMMANDS = (
     Command("direct", "each shipment's fastest timetable; it joins nothing", "INSTANCE", own=PLANNER),
-    Command("plan", "the cheapest timetable, with all that tells why", "INSTANCE", options=(ROUNDS, BRANCHES, SCALE, SECONDS, SPANS, NOTES), own=PLANNER),
+    Command("plan", "the cheapest timetable, with all that tells why", "INSTANCE", options=PLAN, own=PLANNER),
+    Command("improve", "the cheapest timetable, going on from the answer's, so at most as dear", "INSTANCE ANSWER", options=PLAN, own=PLANNER),
     Command("bound", "a number under which no plan costs", "INSTANCE", options=(SECONDS, SPANS), own=READER),
     Command("check", "whether an answer's certificate is accepted for the instance", "INSTANCE ANSWER", own=READER),
     Command("yard", "each terminal's sheet of the answer's timetable, and one run of it", "INSTANCE ANSWER", (Place("SEED", SEED),), own=READER),
@@ -151,7 +153,7 @@ RECORDS = (
     "KEPT, after it: kept,SHIPMENT,FROM,TO,DEPART.   ANSWER is what plan or direct printed of the instance.",
     "Files are read one after the other, as cat would; without a file it's standard input that is read, and - stands for it.",
 )
-LIMITS = "100 terminals, 1,000 arcs, 500 shipments, times to 100,000, 16 MB of input, 128 MB for check, yard and fleet"
+LIMITS = "100 terminals, 1,000 arcs, 500 shipments, times to 100,000, 16 MB of input, 128 MB for check, yard, fleet and improve"
 
 
 @dataclass(frozen=True)

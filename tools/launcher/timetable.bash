@@ -16,13 +16,18 @@ reason() {
   fi
 }
 
-# The instance alone: the records before the first kept leg. A lone carriage return ends a line too.
+# The records before the first of a kind, as a program reads them: a lone carriage return ends a line too.
+before_first() {
+  LC_ALL=C tr '\r' '\n' <"$folder/input" | LC_ALL=C sed "/^[[:blank:]\"]*$1[[:blank:]\",]/,\$d"
+}
+
+# The instance alone: without the legs that are kept, and without the answer that is gone on from.
 instance() {
-  if [ "${words[0]}" = replan ]; then
-    LC_ALL=C tr '\r' '\n' <"$folder/input" | LC_ALL=C sed '/^[[:blank:]"]*kept[[:blank:]",]/,$d'
-  else
-    cat "$folder/input"
-  fi
+  case ${words[0]} in
+  replan) before_first kept ;;
+  improve) before_first answer ;;
+  *) cat "$folder/input" ;;
+  esac
 }
 
 # Has the program check the timetable of a file, and sets `status` to what it ends with.

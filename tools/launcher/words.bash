@@ -1,15 +1,16 @@
 # Made by tools/words from tools/freight_words/description.py: change that, and run tools/words.
 # shellcheck shell=bash disable=SC2034 # the launcher sources this
 version='0.2'
-commands='direct plan bound check yard fleet replan quote trial import export picture help'
+commands='direct plan improve bound check yard fleet replan quote trial import export picture help'
 whole_words='-h --help --version'
 answers='0 10 11 12 13'
 # The commands that go to a script of tools/, and those that read records.
 scripts='import export picture'
-readers='direct plan bound check yard fleet replan quote'
+readers='direct plan improve bound check yard fleet replan quote'
 # Of each command: the options of the program, those of the launcher, and the numbers that stand after it.
 declare -A options=(
   [plan]='--rounds --branches --scale --seconds --spans --notes'
+  [improve]='--rounds --branches --scale --seconds --spans --notes'
   [bound]='--seconds --spans'
   [replan]='--rounds --branches --seconds --spans --notes'
   [quote]='--rounds --branches --seconds --spans --notes'
@@ -17,6 +18,7 @@ declare -A options=(
 declare -A own_options=(
   [direct]='-o --output --certificate --timetable-only --allow-empty -h --help'
   [plan]='-o --output --certificate --timetable-only --allow-empty -h --help'
+  [improve]='-o --output --certificate --timetable-only --allow-empty -h --help'
   [bound]='-o --output --allow-empty -h --help'
   [check]='-o --output --allow-empty -h --help'
   [yard]='-o --output --allow-empty -h --help'

@@ -55,6 +55,8 @@ INPUTS = (
     ("direct", ENDS + f"arc,A,B,5,1,{GREAT},0\nshipment,S1,A,B,{GREAT},0,10\n", 12),
     ("plan --scale 1000000000", ENDS + f"arc,A,B,5,10,{GREAT},1\nshipment,S1,A,B,1000000000,0,10\n", 12),
     ("plan --scale 1", ENDS + f"arc,A,B,5,1,{GREAT},0\nshipment,S1,A,B,{GREAT},0,10\n", 12),
+    ("improve --scale 1000000000", ENDS + f"arc,A,B,5,10,{GREAT},1\nshipment,S1,A,B,1000000000,0,10\nanswer,direct,1\nend\n", 12),
+    ("improve --scale 1000000000", ENDS + f"arc,A,B,5,10,{GREAT},1\nshipment,S1,A,B,1000000000,0,10\nanswer,direct,1\n", 26),
     ("check", ENDS + f"arc,A,B,5,1,{GREAT},0\nshipment,S1,A,B,{GREAT},0,10\nanswer\n", 12),
     ("replan", ENDS + f"arc,A,B,5,1,{GREAT},0\nshipment,S1,A,B,{GREAT},0,10\nkept\n", 12),
     ("check", ANSWER + "lag,S1,A,B,0,5\n", 21),

@@ -39,15 +39,15 @@ FAULTS = (
     ("bound --seconds=86401", "and 86401 is out of that range"),
     ("quote --seconds 086", "--seconds takes 1 to 86,400 without a 0 before it, and 086 has one"),
     ("plan --seconds 5 --seconds=5", "--seconds stands here twice"),
-    ("check --seconds 5", "check doesn't take --seconds: it is an option of plan, bound, replan, quote"),
+    ("check --seconds 5", "check doesn't take --seconds: it is an option of plan, improve, bound, replan, quote"),
     ("plan --round 5", "plan has no option --round: did you mean --rounds?"),
     ("plan --round=5", "did you mean --rounds?"),
     ("plan --turns 3", "plan has no option --turns\n"),
     ("plan --rounds 5 --rounds=6", "--rounds stands here twice"),
     ("plan --spans --spans", "--spans stands here twice"),
     ("plan --spans=3", "--spans takes no value"),
-    ("bound --rounds 5", "bound doesn't take --rounds: it is an option of plan, replan, quote"),
-    ("replan --scale 7", "replan doesn't take --scale: it is an option of plan"),
+    ("bound --rounds 5", "bound doesn't take --rounds: it is an option of plan, improve, replan, quote"),
+    ("replan --scale 7", "replan doesn't take --scale: it is an option of plan, improve"),
     ("plan --", "-- is no word here"),
     ("yard", "yard takes SEED too, 0 to 2,147,483,647"),
     ("yard 2147483648", "SEED takes 0 to 2,147,483,647, and 2147483648 is out of that range"),
@@ -68,14 +68,14 @@ OWN_FAULTS = (
     ("plan --certificate a --certificate=a", "--certificate stands here twice"),
     ("plan --allow-empty=yes", "--allow-empty takes no value"),
     ("plan --timetable", "plan has no option --timetable: did you mean --timetable-only?"),
-    ("bound --certificate a", "bound doesn't take --certificate: it is an option of direct, plan, replan"),
+    ("bound --certificate a", "bound doesn't take --certificate: it is an option of direct, plan, improve, replan"),
     ("trial 7 8 30 --allow-empty", "trial doesn't take --allow-empty"),
 )
 
 # Words in which none is at fault.
 RIGHT = (
     "direct", "plan", "plan --rounds 4000 --branches=0 --scale 1 --spans", "plan --seconds=86400", "bound --spans --seconds 1", "check", "yard 0000000001", "fleet",
-    "replan --spans --rounds 0", "quote --branches 100000",
+    "replan --spans --rounds 0", "quote --branches 100000", "improve --notes --scale=7 --rounds 0",
 )  # fmt: skip
 
 SOURCES = "say() { echo \"$*\"; }; for part in words command_line faults; do . tools/launcher/$part.bash; done; refused() { read_words \"$@\" || echo refused; }; "
@@ -154,7 +154,7 @@ class Made(unittest.TestCase):
 
 # What is typed, and what bash, zsh and fish offer for it, or some of it.
 COMPLETED = (
-    ("pl", {"plan"}), ("re", {"replan"}), ("--v", {"--version"}), ("help ya", {"yard"}), ("plan --ro", {"--rounds"}),
+    ("pl", {"plan"}), ("im", {"import", "improve"}), ("re", {"replan"}), ("--v", {"--version"}), ("help ya", {"yard"}), ("plan --ro", {"--rounds"}),
     ("bound --s", {"--seconds", "--spans"}), ("bound --ro", set()), ("plan --timetable", {"--timetable-only"}), ("trial 1 2 3 --a", set()),
 )  # fmt: skip
 

@@ -8,19 +8,21 @@ use Rattle.fp_reader.specs.Generator.{generated}
 use Rattle.fp_certificate_lines.specs.Statements.{Statement}
 use Rattle.fp_session_history.specs.Solutions.{Solution}
 use Rattle.fp_app_words.specs.declared.orders.Order.{Order}
-use Rattle.fp_app_words.specs.declared.orders.Order.TheVariants.{Direct, Check, Bound, Plan, Trial, Fleet, Replan, Quote, Yard}
+use Rattle.fp_app_words.specs.declared.orders.Order.TheVariants.{Direct, Check, Bound, Plan, Improve, Trial, Fleet, Replan, Quote, Yard}
 use Rattle.fp_app.specs.declared.shown.Shown.{Shown}
 use Rattle.fp_app.specs.declared.shown.Shown.TheVariants as shown
 use Rattle.fp_app.specs.declared.shown.Status.TheVariants as status
-use Rattle.fp_app.specs.Causes.{AloneStatus, CheckStatus, InputStatus, PlanStatus, SearchStatus, StatusOf, ToldStatus, TrialStatus, QuoteStatus}
+use Rattle.fp_app.specs.Causes.{AloneStatus, CheckStatus, ImproveStatus, InputStatus, PlanStatus, SearchStatus, StatusOf, ToldStatus, TrialStatus, QuoteStatus}
 use Rattle.fp_app.specs.Checks.{ShowsCheck, scaled}
-use Rattle.fp_app.specs.Inputs.{OfCertificate, certificate_in, instance_at, instance_in, leading_instance_in, limit_of, reads_source, KeptInstance, kept_in, quoted_in}
+use Rattle.fp_app.specs.Improvements.{ShowsImprove}
+use Rattle.fp_app.specs.Inputs.{CertifiedInstance, OfCertificate, certificate_in, certified_at, instance_at, instance_in, leading_instance_in, limit_of, reads_source, KeptInstance, kept_in, quoted_in}
 use Rattle.fp_app.specs.Runs.{Answers, OfInput, ShowsAlone, ShowsBound, ShowsDirect, ShowsInput, ShowsSearch, ShowsQuote, ShowsReplan}
 use Rattle.fp_app.specs.Searches.{Allowance, IsSearched, trial_allowance, within}
 use Rattle.fp_app.specs.Shown.{search_status, status_of}
 use Rattle.fp_app.specs.Fleets.{ShowsFleet}
 use Rattle.fp_app.specs.Yards.{ShowsYard}
 use Rattle.fp_app.proofs.FleetCauses.{fleet-status}
+use Rattle.fp_app.proofs.ImproveCauses.{improve-status}
 use Rattle.fp_app.proofs.YardCauses.{yard-status}
 use Rattle.fp_app.proofs.SearchEnds.{SearchEnd, optimal, search-end, unfinished}
 use Rattle.fp_app.specs.Wanted.{every, keeping}
@@ -81,6 +83,9 @@ module _ (over : Bool) where
   ShowsInput-InputStatus (Bound option seconds) input s told = MatchResult_map (instance_in input) (λ p. ShowsBound option p s) (λ p. PlanStatus p (status_of s)) s (λ p. bound-status option p s) told
   ShowsInput-InputStatus (Plan budget scale spans seconds notes) input s told =
       MatchResult_map (instance_at scale input) (λ p. ShowsSearch (within budget over) spans p s) (λ p. SearchStatus p every (within budget over) (status_of s)) s (λ p. search-input-status p (within budget over) spans s) told
+  ShowsInput-InputStatus (Improve budget scale spans seconds notes) input s told =
+      MatchResult_map (certified_at scale input) (λ (x : CertifiedInstance). ShowsImprove (within budget over) spans x s) (λ (x : CertifiedInstance). ImproveStatus x.instance x.certificate (within budget over) (status_of s)) s
+      (λ (x : CertifiedInstance). improve-status (within budget over) spans x s) told
   ShowsInput-InputStatus (Trial seed terminals shipments) input s told = absurd told
   ShowsInput-InputStatus (Yard seed) input s told = certificate-map input s (λ p c. ShowsYard seed p c s) (λ p c. ToldStatus p c (status_of s)) (λ p c. yard-status seed p c s) told
   ShowsInput-InputStatus Fleet input s told = certificate-map input s (λ p c. ShowsFleet p c s) (λ p c. ToldStatus p c (status_of s)) (λ p c. fleet-status p c s) told

@@ -1,9 +1,11 @@
 pub mod AnswerRecords
 pub mod CertificateInputs
 pub mod CertificateScales
+pub mod CertifiedInputs
 pub mod DrawnLogs
 pub mod FleetCauses
 pub mod GeneratedInTime
+pub mod ImproveCauses
 pub mod InputStatuses
 pub mod LaterSearches
 pub mod OneKeptTable
@@ -17,6 +19,7 @@ pub mod ReadCauses
 pub mod Rejections
 pub mod ReplanCauses
 pub mod RootValues
+pub mod ScaledCertificates
 pub mod SearchClaims
 pub mod SearchEnds
 pub mod SmallestFleets

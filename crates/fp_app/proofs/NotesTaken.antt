@@ -116,6 +116,7 @@ module _ (p : Problem) (table : WindowTable) where
 pub notes-same : (o : Option Order) (input : List ℕ) (known : Option (List ℕ)) → NotesOf o input known known
 notes-same None input known = refl
 notes-same (Some (order.Plan budget scale spans seconds notes)) input known = inl refl
+notes-same (Some (order.Improve budget scale spans seconds notes)) input known = inl refl
 notes-same (Some (order.Replan budget spans seconds notes)) input known = inl refl
 notes-same (Some (order.Quote budget spans seconds notes)) input known = inl refl
 notes-same (Some order.Direct) input known = refl

@@ -1,11 +1,11 @@
 -- `check` accepts what `plan` prints.
-use Rattle.std.proofs.Common.{◌≡◌, ◌∙◌, ℕ, ◌+◌, ◌^◌, false, List, ◌++◌, length, drop, refl, sym, ap, subst, inl, inr}
-use Rattle.std.specs.Prelude.{MatchResult, Result, Ok, Err, nat_lt, not, take_while}
+use Rattle.std.proofs.Common.{◌≡◌, ◌∙◌, ℕ, ◌+◌, false, List, ◌++◌, length, drop, refl, sym, ap, subst, inl, inr}
+use Rattle.std.specs.Prelude.{MatchResult, Result, Ok, Err, not, take_while}
 use Rattle.std.proofs.Math.Seq.{drop-append_seam}
-use Rattle.std.proofs.lemmas.Bool.{cases_Bool}
-use Rattle.fp_model.specs.Problem.{Problem, weight_at}
+use Rattle.fp_model.specs.Problem.{Problem}
 use Rattle.fp_records.specs.Fields.{records_of}
 use Rattle.fp_records_fields.specs.Faults.{Fault}
+use Rattle.fp_flatnet.specs.Tables.{WindowTable}
 use Rattle.fp_reader.specs.Input.{is_answer, parts_from, weighed_parts}
 use Rattle.fp_reader.specs.Parts.{nothing_read as no_parts}
 use Rattle.fp_certificate.specs.Reading.{certificate_of, nothing_read}
@@ -14,12 +14,14 @@ use Rattle.fp_app_words.specs.declared.orders.Order.TheVariants as order
 use Rattle.fp_app.specs.declared.shown.Status.{Status}
 use Rattle.fp_app.specs.declared.shown.Status.TheVariants as status
 use Rattle.fp_app.specs.Causes.{CheckStatus, InputStatus}
-use Rattle.fp_app.specs.Checks.{IsAcceptedFor, scale_of, scaled}
-use Rattle.fp_app.specs.Inputs.{at_scale, certificate_in, instance_in, leading_instance_in, read_at_scale}
+use Rattle.fp_app.specs.Checks.{AreWindowsOf, IsAcceptedFor, scale_of, scaled}
+use Rattle.fp_app.specs.Inputs.{certificate_in, instance_in, leading_instance_in, read_at_scale}
 use Rattle.fp_app.specs.Laws.{CheckAcceptsPlans}
 use Rattle.fp_app.specs.Texts.{certificate_text}
+use Rattle.fp_app.specs.Wanted.{AreWindowsFor, LooksForAll, Wanted, every, every_from, keeping}
 use Rattle.fp_app.proofs.AnswerRecords.{BeginsWithAnswer, certificate-begins, instance-before_answer}
 use Rattle.fp_app.proofs.CertificateScales.{certificate-scale, scale_of-named}
+use Rattle.fp_app.proofs.CertifiedInputs.{at_scale-is}
 
 abbrev Records : Type 0
 Records = List (List (List ℕ))
@@ -34,15 +36,8 @@ record IsRead (scale : ℕ) (r : Result Problem Fault) (p : Problem) : Type 0 wh
   pub read : r ≡ Ok instance
   pub at : p ≡ record instance { scale = scale }
 
-fitting : (scale : ℕ) (p q : Problem) → at_scale scale q ≡ Ok p → p ≡ record q { scale = scale }
-fitting scale p q is =
-    elim (cases_Bool (nat_lt (weight_at scale q.arcs q.shipments) (2 ^ 127))) [
-      | inl fits ↦ let same : Ok (record q { scale = scale }) ≡ Ok p = rw fits at is in cc same
-      | inr large ↦ let none = rw large at is in cc none
-    ]
-
 instance-read : (scale : ℕ) (r : Result Problem Fault) (p : Problem) → read_at_scale scale r ≡ Ok p → IsRead scale r p
-instance-read scale (Ok q) p is = record { instance = q; read = refl; at = fitting scale p q is }
+instance-read scale (Ok q) p is = record { instance = q; read = refl; at = at_scale-is scale p q is }
 instance-read scale (Err f) p is = cc is
 
 -- the parts were read of an instance that was
@@ -89,8 +84,14 @@ module _ (q : Problem) (input longer : List ℕ) (more : Records) (c : Statement
       same-instance is in
       subst (λ (r : Result Statement Fault). MatchResult r (λ d. CheckStatus (scaled q d) d result) (λ (f : Fault). result ≡ status.BadInput)) same-certificate first
 
+-- the windows of a search for all plans are those of the instance
+all-windows : (p : Problem) (wanted : Wanted) (table : WindowTable) → LooksForAll wanted → AreWindowsFor p wanted table → AreWindowsOf p table
+all-windows p every table all windows = windows
+all-windows p (every_from plan) table all windows = windows
+all-windows p (keeping kept) table all windows = absurd all
+
 pub CheckAcceptsPlans_hold : CheckAcceptsPlans
-CheckAcceptsPlans_hold allowed scale spans input longer p s read searched joined result is =
+CheckAcceptsPlans_hold allowed wanted scale spans input longer p s all read searched joined result is =
     let source : IsRead scale (instance_in input) p = instance-read scale (instance_in input) p read in
     let q : Problem = source.instance in
     let given : (ordinal : ℕ) → certificate_of q ordinal (records_of (certificate_text p s.certificate)) ≡ Ok s.certificate =
@@ -100,5 +101,5 @@ CheckAcceptsPlans_hold allowed scale spans input longer p s read searched joined
     let own : scale_of s.certificate.scale ≡ scale = ap scale_of searched.scale ∙ scale_of-named p.scale ∙ ap (λ (x : Problem). x.scale) source.at in
     let same : p ≡ scaled q s.certificate = source.at ∙ ap (λ (n : ℕ). record q { scale = n }) (sym own) in
     accepted-done (scaled q s.certificate) s.certificate result
-    (subst (λ (x : Problem). IsAcceptedFor x s.certificate) same (record { table = searched.table; windows = searched.windows; accepted = searched.accepted }))
+    (subst (λ (x : Problem). IsAcceptedFor x s.certificate) same (record { table = searched.table; windows = all-windows p wanted searched.table all searched.windows; accepted = searched.accepted }))
     (status-check q input longer (records_of (certificate_text p s.certificate)) s.certificate source.read joined given result is)

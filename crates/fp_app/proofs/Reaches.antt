@@ -8,13 +8,14 @@ use Rattle.fp_certificate_lines.specs.declared.certificates.Answer.{Answer}
 use Rattle.fp_certificate_lines.specs.declared.certificates.Answer.TheVariants as answer
 use Rattle.fp_certificate_lines.specs.Statements.{Statement}
 use Rattle.fp_app_words.specs.declared.orders.Order.{Order}
-use Rattle.fp_app_words.specs.declared.orders.Order.TheVariants.{Direct, Check, Bound, Plan, Trial, Fleet, Replan, Quote, Yard}
+use Rattle.fp_app_words.specs.declared.orders.Order.TheVariants.{Direct, Check, Bound, Plan, Improve, Trial, Fleet, Replan, Quote, Yard}
 use Rattle.fp_app.specs.declared.shown.Shown.{Shown}
 use Rattle.fp_app.specs.declared.shown.Shown.TheVariants as shown
 use Rattle.fp_app.specs.declared.shown.Status.TheVariants as status
 use Rattle.fp_app.specs.Checks.{ShowsCheck, scaled}
 use Rattle.fp_app.specs.Fleets.{ShowsFleet}
-use Rattle.fp_app.specs.Inputs.{OfCertificate, certificate_in, instance_at, instance_in, leading_instance_in, limit_of, reads_source, KeptInstance, kept_in, quoted_in}
+use Rattle.fp_app.specs.Improvements.{ShowsImprove}
+use Rattle.fp_app.specs.Inputs.{CertifiedInstance, OfCertificate, certificate_in, certified_at, instance_at, instance_in, leading_instance_in, limit_of, reads_source, KeptInstance, kept_in, quoted_in}
 use Rattle.fp_app.specs.Runs.{Answers, OfInput, Reach, ShowsAlone, ShowsBound, ShowsDirect, ShowsInput, ShowsSearch, ShowsTrial, Writes, reach_of, whole, ShowsQuote, ShowsReplan}
 use Rattle.fp_app.specs.Shown.{search_status, status_of, both_status}
 use Rattle.fp_app.specs.Yards.{ShowsYard}
@@ -38,7 +39,7 @@ module _ (over : Bool) where
       (bound : (option : Bool) (p : Problem) → ShowsBound option p s → ⊥) (search_none : (allowed : Allowance) (spans : Bool) (p : Problem) → ShowsSearch allowed spans p s → ⊥) (check : (p : Problem) (c : Statement) → ShowsCheck p c s → ⊥)
       (replan : (allowed : Allowance) (spans : Bool) (x : KeptInstance) → ShowsReplan allowed spans x s → ⊥) (quote : (allowed : Allowance) (spans : Bool) (p : Problem) → ShowsQuote allowed spans p s → ⊥)
       (alone : (o : Order) → ShowsAlone o s → ⊥) (yard : (seed : ℕ) (p : Problem) (c : Statement) → ShowsYard seed p c s → ⊥)
-      (fleet : (p : Problem) (c : Statement) → ShowsFleet p c s → ⊥) where
+      (fleet : (p : Problem) (c : Statement) → ShowsFleet p c s → ⊥) (improve : (allowed : Allowance) (spans : Bool) (x : CertifiedInstance) → ShowsImprove allowed spans x s → ⊥) where
     no-certificate : (input : List ℕ) (P : Problem → Statement → Type 0) → ((p : Problem) (c : Statement) → P p c → ⊥) → OfCertificate input s P → ⊥
     no-certificate input P none told =
         MatchResult_neither (leading_instance_in input) (λ p. MatchResult (certificate_in p input) (P p) (λ (f : Fault). s ≡ shown.BadInput f.ordinal f.code)) (λ (f : Fault). s ≡ shown.BadInput f.ordinal f.code)
@@ -49,6 +50,8 @@ module _ (over : Bool) where
     no-input (Bound option seconds) input told = MatchResult_neither (instance_in input) (λ p. ShowsBound option p s) (λ (f : Fault). s ≡ shown.BadInput f.ordinal f.code) (bound option) fault told
     no-input (Plan budget scale spans seconds notes) input told =
         MatchResult_neither (instance_at scale input) (λ p. ShowsSearch (within budget over) spans p s) (λ (f : Fault). s ≡ shown.BadInput f.ordinal f.code) (search_none (within budget over) spans) fault told
+    no-input (Improve budget scale spans seconds notes) input told =
+        MatchResult_neither (certified_at scale input) (λ (x : CertifiedInstance). ShowsImprove (within budget over) spans x s) (λ (f : Fault). s ≡ shown.BadInput f.ordinal f.code) (improve (within budget over) spans) fault told
     no-input (Trial seed terminals shipments) input told = told
     no-input (Replan budget spans seconds notes) input told =
         MatchResult_neither (kept_in input) (λ (x : KeptInstance). ShowsReplan (within budget over) spans x s) (λ (f : Fault). s ≡ shown.BadInput f.ordinal f.code) (replan (within budget over) spans) fault told
@@ -71,11 +74,11 @@ module _ (over : Bool) where
 
   nothing-no_order : (o : Order) (old new : Option (List ℕ)) → Answers over (Some o) old new shown.Nothing → ⊥
   nothing-no_order o old new told =
-      no-answer shown.Nothing (λ f e. cc e) (λ e. cc e) (λ p none. none) (λ option p none. none) (λ allowed spans p none. none) (λ p c none. none) (λ allowed spans x none. none) (λ allowed spans p none. none) (alone-shows_trial shown.Nothing (λ seed terminals shipments none. none)) (λ seed p c none. none) (λ p c none. none) o old new told
+      no-answer shown.Nothing (λ f e. cc e) (λ e. cc e) (λ p none. none) (λ option p none. none) (λ allowed spans p none. none) (λ p c none. none) (λ allowed spans x none. none) (λ allowed spans p none. none) (alone-shows_trial shown.Nothing (λ seed terminals shipments none. none)) (λ seed p c none. none) (λ p c none. none) (λ allowed spans x none. none) o old new told
 
   words-no_order : (o : Order) (old new : Option (List ℕ)) → Answers over (Some o) old new shown.BadWords → ⊥
   words-no_order o old new told =
-      no-answer shown.BadWords (λ f e. cc e) (λ e. cc e) (λ p none. none) (λ option p none. none) (λ allowed spans p none. none) (λ p c none. none) (λ allowed spans x none. none) (λ allowed spans p none. none) (alone-shows_trial shown.BadWords (λ seed terminals shipments none. none)) (λ seed p c none. none) (λ p c none. none) o old new told
+      no-answer shown.BadWords (λ f e. cc e) (λ e. cc e) (λ p none. none) (λ option p none. none) (λ allowed spans p none. none) (λ p c none. none) (λ allowed spans x none. none) (λ allowed spans p none. none) (alone-shows_trial shown.BadWords (λ seed terminals shipments none. none)) (λ seed p c none. none) (λ p c none. none) (λ allowed spans x none. none) o old new told
 
   nothing-no_answer : (o : Option Order) (old new : Option (List ℕ)) → Answers over o old new shown.Nothing → ⊥
   nothing-no_answer None old new told = cc told

@@ -5,7 +5,7 @@ use Rattle.fp_model.specs.Problem.{Problem}
 use Rattle.fp_records_fields.specs.Faults.{Fault}
 use Rattle.fp_certificate_lines.specs.Statements.{Statement}
 use Rattle.fp_app_words.specs.declared.orders.Order.{Order}
-use Rattle.fp_app_words.specs.declared.orders.Order.TheVariants.{Direct, Check, Bound, Plan, Trial, Fleet, Replan, Quote, Yard}
+use Rattle.fp_app_words.specs.declared.orders.Order.TheVariants.{Direct, Check, Bound, Plan, Improve, Trial, Fleet, Replan, Quote, Yard}
 use Rattle.fp_app.specs.declared.shown.Shown.{Shown}
 use Rattle.fp_app.specs.declared.shown.Shown.TheVariants as shown
 use Rattle.fp_app.specs.declared.shown.Status.TheVariants as status
@@ -13,8 +13,10 @@ use Rattle.fp_app.specs.Causes.{ShowsNo, ShowsRejection}
 use Rattle.fp_app.specs.Checks.{ShowsCheck, ShowsRejected, scaled}
 use Rattle.fp_app.specs.Inputs.{certificate_in, instance_at, instance_in, leading_instance_in, kept_in, quoted_in}
 use Rattle.fp_app.specs.Runs.{Answers, ShowsAlone, ShowsInput}
+use Rattle.fp_app.specs.Searches.{within}
 use Rattle.fp_app.specs.Shown.{status_of}
 use Rattle.fp_app.proofs.FleetCauses.{fleet-rejection}
+use Rattle.fp_app.proofs.ImproveCauses.{improve-rejection}
 use Rattle.fp_app.proofs.SearchEnds.{search-no_other, both-no_other}
 use Rattle.fp_app.proofs.YardCauses.{yard-rejection}
 use Rattle.fp_app.proofs.StatusCauses.{Answers-ShowsOf, ShowsOf}
@@ -45,11 +47,12 @@ module _ (over : Bool) where
   ShowsNo_check input number (Ok p) is told = ShowsNo_certificate input number p (certificate_in p input) is refl told
   ShowsNo_check input number (Err f) is same = absurd (rejection-no_fault number f same)
 
-  -- only `check`, `yard` and `fleet` reject
+  -- only `check`, `yard`, `fleet` and `improve` reject
   ShowsNo_input : (o : Order) (input : List ℕ) (number : ℕ) → ShowsInput over o input (shown.RejectedPart number) → ShowsRejection (Some o) input (shown.RejectedPart number)
   ShowsNo_input Direct input number told = absurd (rejection-unread number (instance_in input) told)
   ShowsNo_input (Bound option seconds) input number told = absurd (rejection-unread number (instance_in input) told)
   ShowsNo_input (Plan budget scale spans seconds notes) input number told = absurd (rejection-unread number (instance_at scale input) told)
+  ShowsNo_input (Improve budget scale spans seconds notes) input number told = improve-rejection (within budget over) scale spans input number told
   ShowsNo_input (Trial seed terminals shipments) input number told = absurd told
   ShowsNo_input (Yard seed) input number told = yard-rejection seed input number told
   ShowsNo_input Fleet input number told = fleet-rejection input number told

@@ -53,7 +53,7 @@ use Rattle.fp_session.specs.Sessions.{SessionModel}
 use Rattle.fp_session.specs.Solved.{IsSolved}
 use Rattle.fp_session.specs.Starts.{IsSessionOf}
 use Rattle.fp_app.specs.Searches.{Allowance, AreInTime, IsPricedAs, IsSearched, IsShortText, SaysOfPlans}
-use Rattle.fp_app.specs.Wanted.{AreWindowsFor, IsFirstPlan, IsWanted, NoneWantedCheaper, Wanted, WantedExists, every, keeping}
+use Rattle.fp_app.specs.Wanted.{AreWindowsFor, IsFirstPlan, IsWanted, NoneWantedCheaper, Wanted, WantedExists, every, every_from, keeping}
 use Rattle.fp_app.proofs.OneKeptTable.{AreKeptWindowsOf-unique}
 use Rattle.fp_app.proofs.OneTable.{AreWindowsOf_unique}
 use Rattle.fp_app.proofs.PlainValues.{flat-le_leaf}
@@ -86,16 +86,19 @@ flat-leaves h (l ∷ leaves) flat bound some least all (inr later) = flat-leaves
 -- the windows of the wanted plans belong to the instance
 windows-belong : (p : Problem) (wanted : Wanted) (table : WindowTable) → AreWindowsFor p wanted table → BelongsTo p table
 windows-belong p every table windows = windows.belongs
+windows-belong p (every_from plan) table windows = windows.belongs
 windows-belong p (keeping kept) table windows = windows.belongs
 
 -- there is one table of them
 windows-one : (p : Problem) (wanted : Wanted) (one two : WindowTable) → AreWindowsFor p wanted one → AreWindowsFor p wanted two → one ≡ two
 windows-one p every one two first second = AreWindowsOf_unique p one two first second
+windows-one p (every_from plan) one two first second = AreWindowsOf_unique p one two first second
 windows-one p (keeping kept) one two first second = AreKeptWindowsOf-unique p kept one two first second
 
 -- what no plan within them costs less than, no wanted plan does
 wanted-cheaper : (p : Problem) (wanted : Wanted) (table : WindowTable) (c : ℕ) → AreWindowsFor p wanted table → NoPlanWithinCheaper p (windows_in table) c → NoneWantedCheaper p wanted c
 wanted-cheaper p every table c windows within = λ d routes some is. within d routes some is (CoverPlans-from_windows p (windows_in table) windows.exact d routes some is)
+wanted-cheaper p (every_from plan) table c windows within = λ d routes some is. within d routes some is (CoverPlans-from_windows p (windows_in table) windows.exact d routes some is)
 wanted-cheaper p (keeping kept) table c windows within = λ d routes some is keeps. within d routes some is ((windows.tell d routes some is).1 keeps)
 
 -- what the answer of a search says, by what it left
@@ -153,6 +156,7 @@ earned-in_time p table budget started s belongs earned =
 -- the plan of the certificate is wanted
 is-wanted : (p : Problem) (wanted : Wanted) (table : WindowTable) (c : Statement) → AreWindowsFor p wanted table → HasPlan p (windows_in table) c → IsWanted wanted (routes_of p c)
 is-wanted p every table c windows has = tt
+is-wanted p (every_from plan) table c windows has = tt
 is-wanted p (keeping kept) table c windows has = let some : 1 ≤ 1 = omega arith in (windows.tell 1 (routes_of p c) some has.plan).0 has.within
 
 -- the text of the certificate is short: its lines are few, and so are those of its prices
@@ -214,4 +218,5 @@ session-searched p q wanted table allowed spans first m s windows begins back te
 -- a wanted plan exists where a search shows one
 pub searched-exists : (p : Problem) (wanted : Wanted) (allowed : Allowance) (spans : Bool) (s : Solution) → IsSearched p wanted allowed spans s → WantedExists p wanted
 searched-exists p every allowed spans s told = let some : 1 ≤ 1 = omega arith in (1, _, some, told.timetable.plan.plan)
+searched-exists p (every_from plan) allowed spans s told = let some : 1 ≤ 1 = omega arith in (1, _, some, told.timetable.plan.plan)
 searched-exists p (keeping kept) allowed spans s told = let some : 1 ≤ 1 = omega arith in (1, _, some, told.timetable.plan.plan, told.is_wanted)

@@ -30,9 +30,10 @@ use Rattle.fp_yard.specs.declared.events.Event.{Event}
 use Rattle.fp_app.specs.Fleets.{IsSmallestFleet}
 use Rattle.fp_app.specs.Yards.{IsDrawnLog}
 use Rattle.fp_app.specs.Plans.{IsToldPlan, ShowsUntold, TellsTimetable}
-use Rattle.fp_app.specs.Inputs.{certificate_in, fault_in, given_to, instance_at, instance_in, leading_instance_in, limit_of, reads_source, KeptInstance, kept_in, quoted_in}
+use Rattle.fp_app.specs.Improvements.{IsImproved}
+use Rattle.fp_app.specs.Inputs.{CertifiedInstance, certificate_in, certified_at, fault_in, given_to, instance_at, instance_in, leading_instance_in, limit_of, reads_source, KeptInstance, kept_in, quoted_in}
 use Rattle.fp_app.specs.Quotes.{IsQuoted}
-use Rattle.fp_app.specs.Wanted.{NoKeptPlanCheaper, Wanted, WantedExists, every, keeping}
+use Rattle.fp_app.specs.Wanted.{NoKeptPlanCheaper, Wanted, WantedExists, every, every_from, keeping}
 use Rattle.fp_replan.specs.declared.kept.Kept.{Kept}
 use Rattle.fp_replan.specs.KeptWindows.{CanBeKept}
 use Rattle.fp_replan.specs.Quotes.{IsExtraCost, without_last}
@@ -87,6 +88,33 @@ pub record ShowsUnfinished (allowed : Allowance) (spans : Bool) (given : Result 
   pub spent : Spent
   pub answer : solution.solved.certificate.answer ≡ answer.Unfinished cost bound spent
   pub bounds : IsBoundBelow solution.instance every allowed cost bound spent
+
+-- The input gives an instance at a scale and a certificate that tells a plan, and what is shown is what
+-- such a search shows that begins with that plan. It costs no more than that plan.
+pub record ShowsImproved (allowed : Allowance) (scale : ℕ) (spans : Bool) (input : List ℕ) (result : Shown) : Type 0 where
+  pub instance : Problem
+  pub certificate : Statement
+  pub solved : Solution
+  pub read : certified_at scale input ≡ Ok (record { instance = instance; certificate = certificate })
+  pub shows : result ≡ shown.Planned instance solved
+  pub improved : IsImproved instance certificate allowed spans solved
+
+-- What is shown is optimal: no plan is cheaper, over any denominator.
+pub record ShowsImprovedOptimal (allowed : Allowance) (scale : ℕ) (spans : Bool) (input : List ℕ) (result : Shown) : Type 0 where
+  pub solution : ShowsImproved allowed scale spans input result
+  pub cost : ℕ
+  pub answer : solution.solved.certificate.answer ≡ answer.Optimal cost
+  pub plans : NoPlanCheaper solution.instance cost
+
+-- What is shown is unfinished: no plan costs less than its bound, over any denominator, and it tells
+-- what was spent.
+pub record ShowsImprovedUnfinished (allowed : Allowance) (scale : ℕ) (spans : Bool) (input : List ℕ) (result : Shown) : Type 0 where
+  pub solution : ShowsImproved allowed scale spans input result
+  pub cost : ℕ
+  pub bound : ℕ
+  pub spent : Spent
+  pub answer : solution.solved.certificate.answer ≡ answer.Unfinished cost bound spent
+  pub bounds : IsBoundBelow solution.instance (every_from solution.improved.plan) allowed cost bound spent
 
 -- The input gives an instance and legs that are kept, which some plan keeps, and what is shown is what
 -- such a search shows among the plans that keep them.
@@ -232,6 +260,7 @@ ShowsDone over (Some order.Direct) input result = ShowsPlan input result
 ShowsDone over (Some order.Check) input result = ShowsYes input result
 ShowsDone over (Some (order.Bound option seconds)) input result = ShowsNumber option input result
 ShowsDone over (Some (order.Plan budget scale spans seconds notes)) input result = ShowsOptimal (within budget over) spans (instance_at scale input) shown.Planned result
+ShowsDone over (Some (order.Improve budget scale spans seconds notes)) input result = ShowsImprovedOptimal (within budget over) scale spans input result
 ShowsDone over (Some (order.Trial seed terminals shipments)) input result = ShowsOptimal trial_allowance false (Ok (generated seed terminals shipments)) (shown.Trial seed None) result
 ShowsDone over (Some (order.Yard seed)) input result = ShowsRun seed input result
 ShowsDone over (Some order.Fleet) input result = ShowsTrucks input result
@@ -241,6 +270,7 @@ ShowsDone over (Some (order.Quote budget spans seconds notes)) input result = Sh
 -- what is shown where an order is unfinished
 abbrev pub ShowsOpen : (over : Bool) → Option Order → List ℕ → Shown → Type 0
 ShowsOpen over (Some (order.Plan budget scale spans seconds notes)) input result = ShowsUnfinished (within budget over) spans (instance_at scale input) shown.Planned result
+ShowsOpen over (Some (order.Improve budget scale spans seconds notes)) input result = ShowsImprovedUnfinished (within budget over) scale spans input result
 ShowsOpen over (Some (order.Trial seed terminals shipments)) input result = ShowsUnfinished trial_allowance false (Ok (generated seed terminals shipments)) (shown.Trial seed None) result
 ShowsOpen over (Some (order.Replan budget spans seconds notes)) input result = ShowsKeptUnfinished (within budget over) spans input result
 ShowsOpen over (Some (order.Quote budget spans seconds notes)) input result = ShowsOpenExtra (within budget over) spans input result
@@ -249,15 +279,18 @@ ShowsOpen over _ input result = ⊥
 -- what is shown where no plan exists, or none that keeps the legs
 abbrev pub ShowsInfeasible : Option Order → List ℕ → Shown → Type 0
 ShowsInfeasible None input result = ⊥
+ShowsInfeasible (Some (order.Improve budget scale spans seconds notes)) input result = ⊥
 ShowsInfeasible (Some (order.Replan budget spans seconds notes)) input result = ShowsStuck input result
 ShowsInfeasible (Some order) input result = ShowsNone order input result
 
 -- what is shown where a certificate is rejected: for `check` it isn't accepted for the instance at the
--- certificate's scale, and for `yard` and `fleet` it tells no plan
+-- certificate's scale, and for `yard`, `fleet` and `improve` it tells no plan, for `improve` of the
+-- instance at the scale of the words
 abbrev pub ShowsRejection : Option Order → List ℕ → Shown → Type 0
 ShowsRejection (Some order.Check) input result = ShowsNo (λ p c number. ShowsRejected (scaled p c) c number) input result
 ShowsRejection (Some (order.Yard seed)) input result = ShowsNo ShowsUntold input result
 ShowsRejection (Some order.Fleet) input result = ShowsNo ShowsUntold input result
+ShowsRejection (Some (order.Improve budget scale spans seconds notes)) input result = ShowsNo (λ p c number. ShowsUntold (record p { scale = scale }) c number) input result
 ShowsRejection _ input result = ⊥
 
 -- the status of an order that asks for plans of an instance: done where a plan exists, and
@@ -297,6 +330,15 @@ CheckStatus p c result = ((result ≡ status.Done) × IsAcceptedFor p c) ⊎ ((r
 abbrev pub ToldStatus : Problem → Statement → Status → Type 0
 ToldStatus p c result = ((result ≡ status.Done) × TellsTimetable p c) ⊎ ((result ≡ status.Rejected) × (TellsTimetable p c → ⊥))
 
+-- the status of `improve` with a budget for an instance and a certificate: done or unfinished where it
+-- tells a plan, and rejected where it tells none. Where both the rounds and the branches are enough, it
+-- isn't unfinished.
+abbrev pub ImproveStatus : Problem → Statement → Allowance → Status → Type 0
+ImproveStatus p c allowed result =
+    ((result ≡ status.Done) × TellsTimetable p c)
+    ⊎ (((result ≡ status.Unfinished) × TellsTimetable p c × ((spent : Spent) × (IsEnough p every allowed spent → ⊥)))
+    ⊎ ((result ≡ status.Rejected) × (TellsTimetable p c → ⊥)))
+
 -- the one status of an order for an input within its limit
 abbrev pub InputStatus : (over : Bool) → Order → List ℕ → Status → Type 0
 InputStatus over order.Direct input result = MatchResult (instance_in input) (λ p. PlanStatus p result) (λ f. result ≡ status.BadInput)
@@ -306,6 +348,8 @@ InputStatus over order.Check input result =
     (λ f. result ≡ status.BadInput)
 InputStatus over (order.Bound option seconds) input result = MatchResult (instance_in input) (λ p. PlanStatus p result) (λ f. result ≡ status.BadInput)
 InputStatus over (order.Plan budget scale spans seconds notes) input result = MatchResult (instance_at scale input) (λ p. SearchStatus p every (within budget over) result) (λ f. result ≡ status.BadInput)
+InputStatus over (order.Improve budget scale spans seconds notes) input result =
+    MatchResult (certified_at scale input) (λ (x : CertifiedInstance). ImproveStatus x.instance x.certificate (within budget over) result) (λ f. result ≡ status.BadInput)
 InputStatus over (order.Trial seed terminals shipments) input result = ⊥
 InputStatus over (order.Yard seed) input result =
     MatchResult (leading_instance_in input)

@@ -9,12 +9,22 @@ use Rattle.fp_certificate.specs.Reading.{certificate_of}
 use Rattle.fp_app.specs.declared.commands.checks.CheckInput.{CheckInput}
 use Rattle.fp_app.specs.declared.commands.checks.CheckInput.TheVariants.{Fault, Both}
 use Rattle.fp_app_words.specs.declared.orders.Order.TheVariants.{Check}
-use Rattle.fp_app.specs.Inputs.{certificate_in, fault_in, leading_instance_in}
+use Rattle.fp_app.specs.Inputs.{at_scale, certificate_in, certified_at, fault_in, leading_instance_in}
 
 -- it is the instance and the certificate of the input, or the first fault
 abbrev pub IsCheckInput : List ℕ → CheckInput → Type 0
 IsCheckInput input (Both p c) = (leading_instance_in input ≡ Ok p) × (certificate_in p input ≡ Ok c)
 IsCheckInput input (Fault ordinal code) = fault_in (Some Check) input ≡ Some (record { ordinal = ordinal; code = code })
+
+-- it is the instance of the input at a scale and the certificate, or the first fault
+abbrev pub IsCertifiedInput : ℕ → List ℕ → CheckInput → Type 0
+IsCertifiedInput scale input (Both p c) = certified_at scale input ≡ Ok (record { instance = p; certificate = c })
+IsCertifiedInput scale input (Fault ordinal code) = certified_at scale input ≡ Err (record { ordinal = ordinal; code = code })
+
+-- it is an instance at a scale and a certificate, or that the scale doesn't fit
+abbrev pub IsCertifiedOf : ℕ → Problem → Statement → CheckInput → Type 0
+IsCertifiedOf scale p c (Both q d) = (at_scale scale p ≡ Ok q) × (d ≡ c)
+IsCertifiedOf scale p c (Fault ordinal code) = at_scale scale p ≡ Err (record { ordinal = ordinal; code = code })
 
 -- it is the instance and the certificate of the records from a place on, or the
 -- first fault of these records

@@ -31,6 +31,7 @@ limit_of (Some order.Direct) = INSTANCE_LIMIT
 limit_of (Some order.Check) = CHECK_LIMIT
 limit_of (Some (order.Bound option seconds)) = INSTANCE_LIMIT
 limit_of (Some (order.Plan budget scale spans seconds notes)) = INSTANCE_LIMIT
+limit_of (Some (order.Improve budget scale spans seconds notes)) = CHECK_LIMIT
 limit_of (Some (order.Trial seed terminals shipments)) = 0
 limit_of (Some (order.Yard seed)) = CHECK_LIMIT
 limit_of (Some order.Fleet) = CHECK_LIMIT
@@ -67,6 +68,30 @@ leading_count input = length (instance_records Certificate (records_of input))
 -- fault
 abbrev pub certificate_in : Problem → List ℕ → Result Statement Fault
 certificate_in p input = certificate_of p (leading_count input + 1) (drop (leading_count input) (records_of input))
+
+-- an instance, and a certificate
+pub record CertifiedInstance : Type 0 where
+  pub instance : Problem
+  pub certificate : Statement
+
+-- an instance at a scale with a certificate, or the first fault: the certificate's before that the scale
+-- doesn't fit
+abbrev pub certified : Statement → Result Problem Fault → Result CertifiedInstance Fault
+certified c (Ok p) = Ok (record { instance = p; certificate = c })
+certified c (Err f) = Err f
+
+abbrev pub certified_scaled : ℕ → Problem → Result Statement Fault → Result CertifiedInstance Fault
+certified_scaled scale p (Ok c) = certified c (at_scale scale p)
+certified_scaled scale p (Err f) = Err f
+
+abbrev pub certified_after : ℕ → List ℕ → Result Problem Fault → Result CertifiedInstance Fault
+certified_after scale input (Ok p) = certified_scaled scale p (certificate_in p input)
+certified_after scale input (Err f) = Err f
+
+-- the instance of an input at a scale and the certificate after it, or the first fault: the instance's,
+-- then the certificate's, and then that the scale doesn't fit
+abbrev pub certified_at : ℕ → List ℕ → Result CertifiedInstance Fault
+certified_at scale input = certified_after scale input (leading_instance_in input)
 
 -- whether a record is one of a kept leg
 abbrev pub is_kept : List (List ℕ) → Bool
@@ -153,6 +178,10 @@ OfQuoted input result P = MatchResult (quoted_in input) P (λ (f : Fault). resul
 abbrev pub OfKept : List ℕ → Shown → (KeptInstance → Type 0) → Type 0
 OfKept input result P = MatchResult (kept_in input) P (λ (f : Fault). result ≡ shown.BadInput f.ordinal f.code)
 
+-- the instance of the input's records at a scale and the certificate after it, or the first fault
+abbrev pub OfCertified : ℕ → List ℕ → Shown → (CertifiedInstance → Type 0) → Type 0
+OfCertified scale input result P = MatchResult (certified_at scale input) P (λ (f : Fault). result ≡ shown.BadInput f.ordinal f.code)
+
 -- the instance of the input's records and the certificate after it, or the first fault: the
 -- instance's before the certificate's
 abbrev pub OfCertificate : List ℕ → Shown → (Problem → Statement → Type 0) → Type 0
@@ -178,6 +207,7 @@ fault_in (Some order.Direct) input = fault_of (instance_in input)
 fault_in (Some order.Check) input = input_fault input (leading_instance_in input)
 fault_in (Some (order.Bound option seconds)) input = fault_of (instance_in input)
 fault_in (Some (order.Plan budget scale spans seconds notes)) input = fault_of (instance_at scale input)
+fault_in (Some (order.Improve budget scale spans seconds notes)) input = fault_of (certified_at scale input)
 fault_in (Some (order.Trial seed terminals shipments)) input = None
 fault_in (Some (order.Yard seed)) input = input_fault input (leading_instance_in input)
 fault_in (Some order.Fleet) input = input_fault input (leading_instance_in input)
@@ -191,6 +221,7 @@ given_to order.Direct input = instance_in input
 given_to order.Check input = leading_instance_in input
 given_to (order.Bound option seconds) input = instance_in input
 given_to (order.Plan budget scale spans seconds notes) input = instance_at scale input
+given_to (order.Improve budget scale spans seconds notes) input = read_at_scale scale (leading_instance_in input)
 given_to (order.Trial seed terminals shipments) input = Ok (generated seed terminals shipments)
 given_to (order.Yard seed) input = leading_instance_in input
 given_to order.Fleet input = leading_instance_in input

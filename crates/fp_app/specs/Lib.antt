@@ -9,6 +9,7 @@ pub mod Quotes
 pub mod CheckInputs
 pub mod Plans
 pub mod Fleets
+pub mod Improvements
 pub mod KeptInputs
 pub mod Yards
 pub mod Runs

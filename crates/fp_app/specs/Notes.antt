@@ -17,7 +17,7 @@ use Rattle.fp_session.specs.Sessions.{SessionModel}
 use Rattle.fp_replan.specs.Quotes.{without_last}
 use Rattle.fp_app_words.specs.declared.orders.Order.{Order}
 use Rattle.fp_app_words.specs.declared.orders.Order.TheVariants as order
-use Rattle.fp_app.specs.Inputs.{KeptInstance, instance_at, kept_in, quoted_in}
+use Rattle.fp_app.specs.Inputs.{CertifiedInstance, KeptInstance, certified_at, instance_at, kept_in, quoted_in}
 use Rattle.fp_app.specs.Wanted.{AreWindowsFor, Wanted, every, keeping}
 use Rattle.fp_app.specs.declared.notes.Figures.{Figures}
 use Rattle.fp_app.specs.declared.notes.Noted.{Noted}
@@ -144,6 +144,8 @@ AreQuoteNotes p old new =
 abbrev pub NotesOf : Option Order → List ℕ → (old new : Option (List ℕ)) → Type 0
 NotesOf (Some (order.Plan budget scale spans seconds notes)) input old new =
     MayNote notes ((p : Problem) × (instance_at scale input ≡ Ok p) × IsNotedFor p every old new) old new
+NotesOf (Some (order.Improve budget scale spans seconds notes)) input old new =
+    MayNote notes ((x : CertifiedInstance) × (certified_at scale input ≡ Ok x) × IsNotedFor x.instance every old new) old new
 NotesOf (Some (order.Replan budget spans seconds notes)) input old new =
     MayNote notes ((x : KeptInstance) × (kept_in input ≡ Ok x) × IsNotedFor x.instance (keeping x.kept) old new) old new
 NotesOf (Some (order.Quote budget spans seconds notes)) input old new =

@@ -21,7 +21,8 @@ use Rattle.fp_app.specs.declared.shown.Status.TheVariants as status
 use Rattle.fp_app.specs.Bounds.{IsRootBound}
 use Rattle.fp_app.specs.Checks.{IsCheckOutcome, ShowsCheck, scaled}
 use Rattle.fp_app.specs.Fleets.{ShowsFleet}
-use Rattle.fp_app.specs.Inputs.{OfCertificate, OfInstance, OfScaled, limit_of, reads_source, KeptInstance, OfKept, OfQuoted}
+use Rattle.fp_app.specs.Improvements.{ShowsImprove}
+use Rattle.fp_app.specs.Inputs.{OfCertificate, OfCertified, OfInstance, OfScaled, limit_of, reads_source, KeptInstance, OfKept, OfQuoted}
 use Rattle.fp_app.specs.Quotes.{IsQuoted}
 use Rattle.fp_app.specs.Yards.{ShowsYard}
 use Rattle.fp_app.specs.Searches.{Allowance, IsSearched, trial_allowance, within}
@@ -104,6 +105,7 @@ ShowsInput over order.Direct input result = OfInstance input result (λ p. Shows
 ShowsInput over order.Check input result = OfCertificate input result (λ p c. ShowsCheck (scaled p c) c result)
 ShowsInput over (order.Bound option seconds) input result = OfInstance input result (λ p. ShowsBound option p result)
 ShowsInput over (order.Plan budget scale spans seconds notes) input result = OfScaled scale input result (λ p. ShowsSearch (within budget over) spans p result)
+ShowsInput over (order.Improve budget scale spans seconds notes) input result = OfCertified scale input result (λ x. ShowsImprove (within budget over) spans x result)
 ShowsInput over (order.Trial seed terminals shipments) input result = ⊥
 ShowsInput over (order.Yard seed) input result = OfCertificate input result (λ p c. ShowsYard seed p c result)
 ShowsInput over order.Fleet input result = OfCertificate input result (λ p c. ShowsFleet p c result)

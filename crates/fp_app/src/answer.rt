@@ -14,6 +14,7 @@ use crate::commands::bounds::bound_shown;
 use crate::commands::checks::check_shown;
 use crate::commands::directs::direct_shown;
 use crate::commands::fleets::fleet_shown;
+use crate::commands::improvements::improve_shown;
 use crate::commands::options::SearchOptions;
 use crate::commands::quotes::quote_shown;
 use crate::commands::replans::replan_shown;
@@ -129,6 +130,16 @@ fn input_shown<C: Clock, N: Sink>(
         } => {
             let options = SearchOptions::new(budget, spans, seconds, wanted);
             plan_shown(alloc, clock, notes, options, bytes, scale)
+        }
+        Order::Improve {
+            budget,
+            scale,
+            spans,
+            seconds,
+            notes: wanted,
+        } => {
+            let options = SearchOptions::new(budget, spans, seconds, wanted);
+            improve_shown(alloc, clock, notes, options, bytes, scale)
         }
         Order::Replan {
             budget,

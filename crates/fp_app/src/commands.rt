@@ -3,6 +3,7 @@ pub(crate) mod bounds;
 pub(crate) mod checks;
 pub(crate) mod directs;
 pub(crate) mod fleets;
+pub(crate) mod improvements;
 pub(crate) mod options;
 pub(crate) mod plans;
 pub(crate) mod quotes;

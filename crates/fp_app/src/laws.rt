@@ -4,9 +4,9 @@ ghost use Rattle.fp_app.specs.Laws.{CheckAcceptsPlans};
 
 use crate::limits::{CHECK_LIMIT, INSTANCE_LIMIT};
 
-/// `check` accepts what `plan` prints: where the records of an input are those of an instance and
-/// after them those of the text that `plan` prints of it, the status that `check` has for the input
-/// is 0, with memory and without a fault of its source and its sink.
+/// `check` accepts what `plan` and `improve` print: where the records of an input are those of an
+/// instance and after them those of the text that one of them prints of it, the status that `check`
+/// has for the input is 0, with memory and without a fault of its source and its sink.
 ///
 /// The instance may be at any scale that fits it: the text names it. The search may be with the
 /// option of spans or without it.

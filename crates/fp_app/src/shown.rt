@@ -117,8 +117,9 @@ pub enum Shown {
         spans: Vec<Span>,
         value: u128,
     },
-    /// What a search shows of an instance, at the scale of the words: its certificate, which is
-    /// optimal or unfinished, the notes on its rounds and splits, and what it left.
+    /// What a search shows of an instance, at the scale of the words, which began with the direct plan or
+    /// with that of a certificate: its certificate, which is optimal or unfinished, the notes on its rounds
+    /// and splits, and what it left.
     Planned {
         instance: Instance,
         solved: Solved,

@@ -2,7 +2,7 @@
 use Rattle.std.proofs.Common.{◌≡◌, true, false, [], ◌∷◌, refl}
 use Rattle.std.specs.Prelude.{Some, None, codes}
 use Rattle.clap.proofs.OnLiterals.{clap_on_literals}
-use Rattle.fp_app_words.specs.declared.orders.Order.TheVariants.{Direct, Check, Bound, Plan, Trial, Yard, Fleet, Replan, Quote}
+use Rattle.fp_app_words.specs.declared.orders.Order.TheVariants.{Direct, Check, Bound, Plan, Improve, Trial, Yard, Fleet, Replan, Quote}
 use Rattle.fp_app_words.specs.Words.{order_of}
 
 the-direct : order_of (codes "direct" ∷ []) ≡ Some Direct
@@ -76,6 +76,18 @@ usual = refl
 all-options : order_of (codes "plan" ∷ codes "--scale" ∷ codes "7" ∷ codes "--rounds=0" ∷ codes "--branches" ∷ codes "0000000005" ∷ []) ≡ Some (Plan (record { rounds = 0; branches = 5 }) 7 false None false)
 unfolding clap_on_literals
 all-options = refl
+
+-- `improve` takes the same options
+the-improve : order_of (codes "improve" ∷ []) ≡ Some (Improve (record { rounds = 400; branches = 4000 }) 1000000 false None false)
+the-improve = refl
+
+improve-options : order_of (codes "improve" ∷ codes "--scale" ∷ codes "7" ∷ codes "--rounds=0" ∷ codes "--spans" ∷ codes "--seconds" ∷ codes "5" ∷ codes "--notes" ∷ []) ≡ Some (Improve (record { rounds = 0; branches = 4000 }) 7 true (Some 5) true)
+unfolding clap_on_literals
+improve-options = refl
+
+improve-word : order_of (codes "improve" ∷ codes "answer" ∷ []) ≡ None
+unfolding clap_on_literals
+improve-word = refl
 
 -- the flag before, among or after options with values
 spans-of-plan : order_of (codes "plan" ∷ codes "--spans" ∷ []) ≡ Some (Plan (record { rounds = 400; branches = 4000 }) 1000000 true None false)

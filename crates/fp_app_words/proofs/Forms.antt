@@ -1,6 +1,6 @@
 -- What a parse of the words says of their order.
 use Rattle.std.proofs.Common.{◌≡◌, ◌∙◌, ℕ, Bool, true, false, List, [], ◌∷◌, arith, length, map, refl, sym, ap, String, Global}
-use Rattle.std.specs.Prelude.{Some, None, codes, option_and_then, option_map, if◌then◌else◌, string_bytes, ◌&&◌, ◌||◌}
+use Rattle.std.specs.Prelude.{Option, Some, None, codes, option_and_then, option_map, if◌then◌else◌, string_bytes, ◌&&◌, ◌||◌}
 use Rattle.std.specs.List.{list_any, zip}
 use Rattle.std.proofs.lemmas.Bool.{or_parts}
 use Rattle.clap.specs.Faults.{fault_of}
@@ -8,12 +8,14 @@ use Rattle.clap.specs.Simple.{Shape, subcommand_of}
 use Rattle.clap.specs.Walk.{first_of}
 use Rattle.fp_records_fields.specs.Fields.{number}
 use Rattle.fp_model.specs.declared.limits.TheConstants.{MOST_SHIPMENTS, MOST_TERMINALS}
-use Rattle.fp_app_words.specs.declared.orders.Order.TheVariants.{Direct, Check, Trial, Yard, Fleet}
+use Rattle.fp_session_history.specs.declared.budgets.Budget.{Budget}
+use Rattle.fp_app_words.specs.declared.orders.Order.{Order}
+use Rattle.fp_app_words.specs.declared.orders.Order.TheVariants.{Direct, Check, Improve, Plan, Trial, Yard, Fleet}
 use Rattle.fp_app_words.specs.declared.orders.TheConstants.{FEWEST_TERMINALS, GREATEST_SEED}
 use Rattle.fp_app_words.specs.Commands.{app, entered_order, is_dashes, was_given}
 use Rattle.fp_app_words.specs.Options.{Given, is_among, is_given, value_given}
 use Rattle.fp_app_words.specs.Places.{by_places}
-use Rattle.fp_app_words.specs.Settings.{bound_by, bound_options, budget_by, budget_options, is_number_between, names_of, plan_by, plan_options, quote_by, replan_by, seconds_by, trial_settings, yard_settings}
+use Rattle.fp_app_words.specs.Settings.{bound_by, bound_options, budget_by, budget_options, improve_by, is_number_between, names_of, plan_by, plan_options, quote_by, replan_by, scaled_by, seconds_by, trial_settings, yard_settings}
 use Rattle.fp_app_words.specs.Words.{forms, order_of, texts}
 use Rattle.fp_app_words.proofs.BareWords.{leaf}
 use Rattle.fp_app_words.proofs.FirstWords.{faults-none}
@@ -33,8 +35,8 @@ bound_by-rows given = rw (seconds_by-rows bound_options.flags given refl, was_gi
 budget_by-rows : (flags : List (List ℕ)) (given : List Given) → is_among flags (codes "rounds") ≡ false → is_among flags (codes "branches") ≡ false → budget_by (λ name. first_of name (all_rows flags given)) ≡ budget_by (value_given given)
 budget_by-rows flags given rounds branches = rw (first_of-all_rows flags given (codes "rounds") rounds, first_of-all_rows flags given (codes "branches") branches) refl
 
-plan_by-rows : (given : List Given) → plan_by (λ name. first_of name (all_rows plan_options.flags given)) (λ name. was_given name (all_rows plan_options.flags given)) ≡ plan_by (value_given given) (is_given given)
-plan_by-rows given =
+scaled_by-rows : (order : Budget → ℕ → Bool → Option ℕ → Bool → Order) (given : List Given) → scaled_by order (λ name. first_of name (all_rows plan_options.flags given)) (λ name. was_given name (all_rows plan_options.flags given)) ≡ scaled_by order (value_given given) (is_given given)
+scaled_by-rows order given =
     rw (budget_by-rows plan_options.flags given refl refl, first_of-all_rows plan_options.flags given (codes "scale") refl, seconds_by-rows plan_options.flags given refl, was_given-all_rows plan_options.flags given (codes "spans"), was_given-all_rows plan_options.flags given (codes "notes")) refl
 
 replan_by-rows : (given : List Given) → replan_by (λ name. first_of name (all_rows budget_options.flags given)) (λ name. was_given name (all_rows budget_options.flags given)) ≡ replan_by (value_given given) (is_given given)
@@ -81,16 +83,19 @@ all-read = (
     (
       options-reads (codes "bound") bound_options (λ given. bound_by (value_given given) (is_given given)) bound_by-rows refl,
       (
-        options-reads (codes "plan") plan_options (λ given. plan_by (value_given given) (is_given given)) plan_by-rows refl,
+        options-reads (codes "plan") plan_options (λ given. plan_by (value_given given) (is_given given)) (scaled_by-rows (λ budget scale spans seconds notes. Plan budget scale spans seconds notes)) refl,
         (
-          places-reads (codes "trial") trial_settings (λ n. Trial (n 0) (n 1) (n 2)) trial-gives refl (refl, refl, refl, λ seed. (refl, refl, refl, λ terminals. (refl, refl, refl, λ shipments. refl))),
+          options-reads (codes "improve") plan_options (λ given. improve_by (value_given given) (is_given given)) (scaled_by-rows (λ budget scale spans seconds notes. Improve budget scale spans seconds notes)) refl,
           (
-            places-reads (codes "yard") yard_settings (λ n. Yard (n 0)) yard-gives refl (refl, refl, refl, λ seed. refl),
+            places-reads (codes "trial") trial_settings (λ n. Trial (n 0) (n 1) (n 2)) trial-gives refl (refl, refl, refl, λ seed. (refl, refl, refl, λ terminals. (refl, refl, refl, λ shipments. refl))),
             (
-              alone-reads (codes "fleet") Fleet refl refl,
+              places-reads (codes "yard") yard_settings (λ n. Yard (n 0)) yard-gives refl (refl, refl, refl, λ seed. refl),
               (
-                options-reads (codes "replan") budget_options (λ given. replan_by (value_given given) (is_given given)) replan_by-rows refl,
-                (options-reads (codes "quote") budget_options (λ given. quote_by (value_given given) (is_given given)) quote_by-rows refl, tt),
+                alone-reads (codes "fleet") Fleet refl refl,
+                (
+                  options-reads (codes "replan") budget_options (λ given. replan_by (value_given given) (is_given given)) replan_by-rows refl,
+                  (options-reads (codes "quote") budget_options (λ given. quote_by (value_given given) (is_given given)) quote_by-rows refl, tt),
+                ),
               ),
             ),
           ),

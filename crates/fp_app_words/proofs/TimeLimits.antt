@@ -7,12 +7,12 @@ use Rattle.fp_records_fields.specs.Fields.{is_number, is_within, number, number_
 use Rattle.fp_model.specs.declared.limits.TheConstants.{SCALE}
 use Rattle.fp_session_history.specs.declared.budgets.Budget.{Budget}
 use Rattle.fp_app_words.specs.declared.orders.Order.{Order}
-use Rattle.fp_app_words.specs.declared.orders.Order.TheVariants.{Bound, Check, Direct, Fleet, Plan, Quote, Replan, Trial, Yard}
+use Rattle.fp_app_words.specs.declared.orders.Order.TheVariants.{Bound, Check, Direct, Fleet, Improve, Plan, Quote, Replan, Trial, Yard}
 use Rattle.fp_app_words.specs.declared.orders.TheConstants.{MOST_SECONDS}
 use Rattle.fp_app_words.specs.declared.settings.TheConstants.{LONGEST_NUMBER}
 use Rattle.fp_app_words.specs.Options.{Given, by_options, is_given, options_of, value_given}
 use Rattle.fp_app_words.specs.Places.{are_numbers, by_places}
-use Rattle.fp_app_words.specs.Settings.{IsTimeLimit, Options, Setting, begins_with_zero, bound_by, bound_options, budget_by, budget_options, is_number_between, number_if, option_number, plan_by, plan_options, quote_by, replan_by, scale_setting, seconds_by, trial_settings, yard_settings}
+use Rattle.fp_app_words.specs.Settings.{IsTimeLimit, Options, Setting, begins_with_zero, bound_by, bound_options, budget_by, budget_options, improve_by, is_number_between, number_if, option_number, plan_by, plan_options, quote_by, replan_by, scale_setting, scaled_by, seconds_by, trial_settings, yard_settings}
 use Rattle.fp_app_words.specs.TimeLimits.{TimeLimitsHold, halved, seconds_of}
 use Rattle.fp_app_words.specs.Words.{Form, alone, forms, order_by}
 
@@ -55,11 +55,17 @@ module _ (text : List ℕ → Option (List ℕ)) (given : List ℕ → Bool) whe
   bound-holds : Holds (bound_by text given)
   bound-holds = limit-holds (λ seconds. Bound (given (codes "spans")) seconds) (λ s is. is) (text (codes "seconds"))
 
+  scaled-holds : (order : Budget → ℕ → Bool → Option ℕ → Bool → Order) → ((budget : Budget) (scale : ℕ) (spans : Bool) (s : Option ℕ) (notes : Bool) → IsTimeLimit s → Holds (Some (order budget scale spans s notes))) → Holds (scaled_by order text given)
+  scaled-holds order each =
+      then-holds (λ (budget : Budget). option_and_then (λ scale. option_map (λ seconds. order budget scale (given (codes "spans")) seconds (given (codes "notes"))) (seconds_by text)) (option_number SCALE scale_setting text))
+      (λ budget. then-holds (λ scale. option_map (λ seconds. order budget scale (given (codes "spans")) seconds (given (codes "notes"))) (seconds_by text))
+      (λ scale. limit-holds (λ seconds. order budget scale (given (codes "spans")) seconds (given (codes "notes"))) (λ s is. each budget scale (given (codes "spans")) s (given (codes "notes")) is) (text (codes "seconds"))) (option_number SCALE scale_setting text)) (budget_by text)
+
   plan-holds : Holds (plan_by text given)
-  plan-holds =
-      then-holds (λ (budget : Budget). option_and_then (λ scale. option_map (λ seconds. Plan budget scale (given (codes "spans")) seconds (given (codes "notes"))) (seconds_by text)) (option_number SCALE scale_setting text))
-      (λ budget. then-holds (λ scale. option_map (λ seconds. Plan budget scale (given (codes "spans")) seconds (given (codes "notes"))) (seconds_by text))
-      (λ scale. limit-holds (λ seconds. Plan budget scale (given (codes "spans")) seconds (given (codes "notes"))) (λ s is. is) (text (codes "seconds"))) (option_number SCALE scale_setting text)) (budget_by text)
+  plan-holds = scaled-holds (λ budget scale spans seconds notes. Plan budget scale spans seconds notes) (λ budget scale spans s notes is. is)
+
+  improve-holds : Holds (improve_by text given)
+  improve-holds = scaled-holds (λ budget scale spans seconds notes. Improve budget scale spans seconds notes) (λ budget scale spans s notes is. is)
 
   replan-holds : Holds (replan_by text given)
   replan-holds =
@@ -112,16 +118,19 @@ all-hold = (
       (
         options-hold plan_options (λ given. plan_by (value_given given) (is_given given)) (λ given. plan-holds (value_given given) (is_given given)),
         (
-          places-hold trial_settings (λ n. Trial (n 0) (n 1) (n 2)) (λ n. tt),
+          options-hold plan_options (λ given. improve_by (value_given given) (is_given given)) (λ given. improve-holds (value_given given) (is_given given)),
           (
-            places-hold yard_settings (λ n. Yard (n 0)) (λ n. tt),
+            places-hold trial_settings (λ n. Trial (n 0) (n 1) (n 2)) (λ n. tt),
             (
-              alone-holds Fleet tt,
+              places-hold yard_settings (λ n. Yard (n 0)) (λ n. tt),
               (
-                options-hold budget_options (λ given. replan_by (value_given given) (is_given given)) (λ given. replan-holds (value_given given) (is_given given)),
+                alone-holds Fleet tt,
                 (
-                  options-hold budget_options (λ given. quote_by (value_given given) (is_given given)) (λ given. quote-holds (value_given given) (is_given given)),
-                  tt,
+                  options-hold budget_options (λ given. replan_by (value_given given) (is_given given)) (λ given. replan-holds (value_given given) (is_given given)),
+                  (
+                    options-hold budget_options (λ given. quote_by (value_given given) (is_given given)) (λ given. quote-holds (value_given given) (is_given given)),
+                    tt,
+                  ),
                 ),
               ),
             ),

@@ -11,7 +11,7 @@ use Rattle.clap.specs.declared.parser.matches.ValueSource.{ValueSource}
 use Rattle.clap.specs.declared.parser.matches.ValueSource.TheVariants.{CommandLine, DefaultValue}
 use Rattle.fp_app_words.specs.declared.orders.Order.{Order}
 use Rattle.fp_app_words.specs.declared.orders.Order.TheVariants.{Direct, Check, Fleet}
-use Rattle.fp_app_words.specs.Settings.{Options, bound_by, bound_options, budget_options, names_of, plan_by, plan_options, quote_by, replan_by, trial_by, trial_settings, yard_by, yard_settings}
+use Rattle.fp_app_words.specs.Settings.{Options, bound_by, bound_options, budget_options, improve_by, names_of, plan_by, plan_options, quote_by, replan_by, trial_by, trial_settings, yard_by, yard_settings}
 
 -- the word is `--`
 abbrev pub is_dashes : List ℕ → Bool
@@ -67,6 +67,7 @@ app = above (
     ∷ bare (codes "check")
     ∷ with_options (codes "bound") bound_options
     ∷ with_options (codes "plan") plan_options
+    ∷ with_options (codes "improve") plan_options
     ∷ with_places (codes "trial") (names_of trial_settings)
     ∷ with_places (codes "yard") (names_of yard_settings)
     ∷ bare (codes "fleet")
@@ -92,6 +93,7 @@ entered_order found =
     else if bytes_eq found.0 (codes "check") then Some Check
     else if bytes_eq found.0 (codes "bound") then bound_by text is_given
     else if bytes_eq found.0 (codes "plan") then plan_by text is_given
+    else if bytes_eq found.0 (codes "improve") then improve_by text is_given
     else if bytes_eq found.0 (codes "trial") then trial_by text
     else if bytes_eq found.0 (codes "yard") then yard_by text
     else if bytes_eq found.0 (codes "fleet") then Some Fleet

@@ -8,7 +8,7 @@ use Rattle.fp_session_history.specs.Budgets.{IsBudget}
 use Rattle.fp_model.specs.declared.limits.TheConstants.{GREATEST_SCALE, LAST_ROUND, MOST_SHIPMENTS, MOST_TERMINALS, SCALE}
 use Rattle.fp_tree.specs.declared.layout.TheConstants.{MOST_SPLITS}
 use Rattle.fp_app_words.specs.declared.orders.Order.{Order}
-use Rattle.fp_app_words.specs.declared.orders.Order.TheVariants.{Bound, Plan, Quote, Replan, Trial, Yard}
+use Rattle.fp_app_words.specs.declared.orders.Order.TheVariants.{Bound, Improve, Plan, Quote, Replan, Trial, Yard}
 use Rattle.fp_app_words.specs.declared.orders.TheConstants.{FEWEST_TERMINALS, GREATEST_SEED, MOST_SECONDS}
 use Rattle.fp_app_words.specs.declared.settings.TheConstants.{LONGEST_NUMBER, USUAL_BRANCHES, USUAL_ROUNDS}
 
@@ -56,7 +56,7 @@ budget_settings = rounds_setting ∷ branches_setting ∷ seconds_setting ∷ []
 abbrev pub search_flags : List (List ℕ)
 search_flags = codes "spans" ∷ codes "notes" ∷ []
 
--- the options of `bound`, those of a command with a budget, and those of `plan`
+-- the options of `bound`, those of a command with a budget, and those of `plan` and `improve`
 abbrev pub bound_options : Options
 bound_options = record { settings = seconds_setting ∷ []; flags = codes "spans" ∷ [] }
 
@@ -120,15 +120,21 @@ trial_by text =
 abbrev pub yard_by : (List ℕ → Option (List ℕ)) → Option Order
 yard_by text = option_map (λ seed. Yard seed) (place_number seed_setting text)
 
--- what `bound`, `plan`, `replan` and `quote` order, by the texts of options and by the flags that were
+-- what `bound`, `plan`, `improve`, `replan` and `quote` order, by the texts of options and by the flags that were
 -- given
 abbrev pub bound_by : (List ℕ → Option (List ℕ)) → (List ℕ → Bool) → Option Order
 bound_by text is_given = option_map (λ seconds. Bound (is_given (codes "spans")) seconds) (seconds_by text)
 
-abbrev pub plan_by : (List ℕ → Option (List ℕ)) → (List ℕ → Bool) → Option Order
-plan_by text is_given =
-    option_and_then (λ budget. option_and_then (λ scale. option_map (λ seconds. Plan budget scale (is_given (codes "spans")) seconds (is_given (codes "notes"))) (seconds_by text))
+abbrev pub scaled_by : (Budget → (scale : ℕ) → (spans : Bool) → (seconds : Option ℕ) → (notes : Bool) → Order) → (List ℕ → Option (List ℕ)) → (List ℕ → Bool) → Option Order
+scaled_by order text is_given =
+    option_and_then (λ budget. option_and_then (λ scale. option_map (λ seconds. order budget scale (is_given (codes "spans")) seconds (is_given (codes "notes"))) (seconds_by text))
     (option_number SCALE scale_setting text)) (budget_by text)
+
+abbrev pub plan_by : (List ℕ → Option (List ℕ)) → (List ℕ → Bool) → Option Order
+plan_by text is_given = scaled_by (λ budget scale spans seconds notes. Plan budget scale spans seconds notes) text is_given
+
+abbrev pub improve_by : (List ℕ → Option (List ℕ)) → (List ℕ → Bool) → Option Order
+improve_by text is_given = scaled_by (λ budget scale spans seconds notes. Improve budget scale spans seconds notes) text is_given
 
 abbrev pub replan_by : (List ℕ → Option (List ℕ)) → (List ℕ → Bool) → Option Order
 replan_by text is_given = option_and_then (λ budget. option_map (λ seconds. Replan budget (is_given (codes "spans")) seconds (is_given (codes "notes"))) (seconds_by text)) (budget_by text)
@@ -144,6 +150,7 @@ IsTimeLimit seconds = IfSome seconds (λ n. (1 ≤ n) × (n ≤ MOST_SECONDS))
 abbrev pub IsWithinLimits : Order → Type 0
 IsWithinLimits (Bound spans seconds) = IsTimeLimit seconds
 IsWithinLimits (Plan budget scale spans seconds notes) = IsBudget budget × (1 ≤ scale) × (scale ≤ GREATEST_SCALE) × IsTimeLimit seconds
+IsWithinLimits (Improve budget scale spans seconds notes) = IsBudget budget × (1 ≤ scale) × (scale ≤ GREATEST_SCALE) × IsTimeLimit seconds
 IsWithinLimits (Trial seed terminals shipments) = (seed ≤ GREATEST_SEED) × (FEWEST_TERMINALS ≤ terminals) × (terminals ≤ MOST_TERMINALS) × (shipments ≤ MOST_SHIPMENTS)
 IsWithinLimits (Yard seed) = seed ≤ GREATEST_SEED
 IsWithinLimits (Replan budget spans seconds notes) = IsBudget budget × IsTimeLimit seconds

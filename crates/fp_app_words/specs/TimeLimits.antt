@@ -3,7 +3,7 @@ use Rattle.std.specs.Prelude.{ℕ, List, None, Some, option_map}
 use Rattle.std.specs.Int.{div_ceil}
 use Rattle.std.specs.declared.option.Option.{Option}
 use Rattle.fp_app_words.specs.declared.orders.Order.{Order}
-use Rattle.fp_app_words.specs.declared.orders.Order.TheVariants.{Bound, Plan, Quote, Replan}
+use Rattle.fp_app_words.specs.declared.orders.Order.TheVariants.{Bound, Improve, Plan, Quote, Replan}
 use Rattle.fp_app_words.specs.Settings.{IsTimeLimit}
 use Rattle.fp_app_words.specs.Words.{order_of}
 
@@ -17,6 +17,7 @@ abbrev pub seconds_of : Option Order → Option ℕ
 seconds_of None = None
 seconds_of (Some (Bound spans seconds)) = seconds
 seconds_of (Some (Plan budget scale spans seconds notes)) = seconds
+seconds_of (Some (Improve budget scale spans seconds notes)) = seconds
 seconds_of (Some (Replan budget spans seconds notes)) = seconds
 seconds_of (Some (Quote budget spans seconds notes)) = halved seconds
 seconds_of (Some _) = None

@@ -7,7 +7,7 @@ use Rattle.fp_app_words.specs.declared.orders.Order.{Order}
 use Rattle.fp_app_words.specs.declared.orders.Order.TheVariants.{Direct, Check, Trial, Yard, Fleet}
 use Rattle.fp_app_words.specs.Options.{by_options, is_given, value_given}
 use Rattle.fp_app_words.specs.Places.{by_places}
-use Rattle.fp_app_words.specs.Settings.{bound_by, bound_options, budget_options, plan_by, plan_options, quote_by, replan_by, trial_settings, yard_settings}
+use Rattle.fp_app_words.specs.Settings.{bound_by, bound_options, budget_options, improve_by, plan_by, plan_options, quote_by, replan_by, trial_settings, yard_settings}
 use Rattle.fp_app_words.specs.declared.orders.WordFault.{WordFault}
 use Rattle.fp_app_words.specs.declared.orders.WordFault.TheVariants.{BadWords, NoMemory}
 
@@ -33,6 +33,7 @@ forms =
     ∷ record { name = codes "check"; order = alone Check }
     ∷ record { name = codes "bound"; order = by_options bound_options (λ given. bound_by (value_given given) (is_given given)) }
     ∷ record { name = codes "plan"; order = by_options plan_options (λ given. plan_by (value_given given) (is_given given)) }
+    ∷ record { name = codes "improve"; order = by_options plan_options (λ given. improve_by (value_given given) (is_given given)) }
     ∷ record { name = codes "trial"; order = by_places trial_settings (λ n. Trial (n 0) (n 1) (n 2)) }
     ∷ record { name = codes "yard"; order = by_places yard_settings (λ n. Yard (n 0)) }
     ∷ record { name = codes "fleet"; order = alone Fleet }

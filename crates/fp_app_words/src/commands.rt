@@ -4,7 +4,7 @@ ghost use Rattle.clap.specs.Words.{app_of, found_of, new_app, rows_of, rule_of, 
 ghost use Rattle.fp_app_words.specs.Commands.{IsLocal, app, entered_order, flag_rule, option_rule, place_rule, with_options, with_places};
 ghost use Rattle.fp_app_words.specs.Settings.{IsWithinLimits, bound_options, budget_options, budget_settings, names_of, plan_options, trial_settings, yard_settings};
 
-use crate::settings::{bound_by, plan_by, quote_by, replan_by, trial_by, yard_by};
+use crate::settings::{bound_by, improve_by, plan_by, quote_by, replan_by, trial_by, yard_by};
 use crate::{NoMemory, Order};
 use clap::{Arg, ArgAction, ArgMatches, Command};
 use std::alloc::Global;
@@ -68,12 +68,12 @@ fn search_command<'a>(alloc: Global, name: &'a str) -> Result<Command<'a>, NoMem
     Ok(command)
 }
 
-// The subcommand `plan`, with its options.
-fn plan_command<'a>(alloc: Global) -> Result<Command<'a>, NoMemory>
-    ensures shape { IfOk result (λ command. (app_of command).top ≡ with_options (codes "plan") plan_options) }
+// A subcommand with the options of `plan`: `plan` or `improve`.
+fn plan_command<'a>(alloc: Global, name: &'a str) -> Result<Command<'a>, NoMemory>
+    ensures shape { IfOk result (λ command. (app_of command).top ≡ with_options name.entry.now plan_options) }
     ensures local { IfOk result IsLocal }
 {
-    let command = budget_command(alloc, "plan")?
+    let command = budget_command(alloc, name)?
         .arg(option(alloc, "scale"))?
         .arg(flag(alloc, "spans"))?
         .arg(flag(alloc, "notes"))?;
@@ -114,7 +114,8 @@ pub fn command<'a>(alloc: Global) -> Result<Command<'a>, NoMemory>
         .subcommand(Command::new(alloc, "direct"))?
         .subcommand(Command::new(alloc, "check"))?
         .subcommand(bound_command(alloc)?)?
-        .subcommand(plan_command(alloc)?)?
+        .subcommand(plan_command(alloc, "plan")?)?
+        .subcommand(plan_command(alloc, "improve")?)?
         .subcommand(trial_command(alloc)?)?
         .subcommand(yard_command(alloc)?)?
         .subcommand(Command::new(alloc, "fleet"))?
@@ -136,6 +137,8 @@ fn order_by(name: &str, matches: &ArgMatches) -> Option<Order>
         bound_by(matches)
     } else if name == "plan" {
         plan_by(matches)
+    } else if name == "improve" {
+        improve_by(matches)
     } else if name == "trial" {
         trial_by(matches)
     } else if name == "yard" {

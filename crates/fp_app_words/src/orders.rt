@@ -24,6 +24,14 @@ pub enum Order {
         seconds: Option<u32>,
         notes: bool,
     },
+    /// The cheapest plan that such a search finds which begins with a plan in hand.
+    Improve {
+        budget: Budget,
+        scale: u32,
+        spans: bool,
+        seconds: Option<u32>,
+        notes: bool,
+    },
     /// What a search of an instance finds that is drawn from a seed, 0 to [`GREATEST_SEED`], with so
     /// many terminals, [`FEWEST_TERMINALS`] to [`MOST_TERMINALS`](fp_model::limits::MOST_TERMINALS),
     /// and at most [`MOST_SHIPMENTS`](fp_model::limits::MOST_SHIPMENTS) shipments.

@@ -22,9 +22,9 @@ fn has_dashes(words: &[String]) -> bool
 ///
 /// `BadWords` comes exactly where they have none of the forms: a command's name and the words that
 /// it takes. These are none for `direct`, `check` and `fleet`. For `bound` they are the flag
-/// `--spans`, at most once. For `plan` they are this flag, which is one word, and the options
-/// `--rounds N`, `--branches N` and `--scale N`, which are two words or one, `--rounds=N`: in any
-/// order, each at most once. For `replan` and `quote` they are the same without `--scale N`. For
+/// `--spans`, at most once. For `plan` and `improve` they are this flag, which is one word, and the
+/// options `--rounds N`, `--branches N` and `--scale N`, which are two words or one, `--rounds=N`: in
+/// any order, each at most once. For `replan` and `quote` they are the same without `--scale N`. For
 /// `trial` they are three numbers, SEED TERMINALS SHIPMENTS, and for `yard` one, SEED. A number is 1
 /// to 10 ASCII digits with a value in its range: at most [`LAST_ROUND`](fp_model::LAST_ROUND)
 /// rounds, at most [`MOST_SPLITS`](fp_tree::MOST_SPLITS) branches, a scale from 1 to

@@ -4,7 +4,7 @@ ghost use Rattle.std.specs.Prelude.{◌≡◌, ◌≤◌, IfSome, Some, option_a
 ghost use Rattle.clap.specs.Words.{first_of, found_of, rows_of};
 ghost use Rattle.fp_session_history.specs.Budgets.{IsBudget};
 ghost use Rattle.fp_app_words.specs.Commands.{is_from_words, was_given};
-ghost use Rattle.fp_app_words.specs.Settings.{IsTimeLimit, IsWithinLimits, begins_with_zero, bound_by, budget_by, number_if, number_of, number_or, plan_by, quote_by, replan_by, seconds_by, trial_by, yard_by};
+ghost use Rattle.fp_app_words.specs.Settings.{IsTimeLimit, IsWithinLimits, begins_with_zero, bound_by, budget_by, improve_by, number_if, number_of, number_or, plan_by, quote_by, replan_by, seconds_by, trial_by, yard_by};
 
 use crate::orders::{FEWEST_TERMINALS, GREATEST_SEED, MOST_SECONDS, Order};
 use clap::ArgMatches;
@@ -153,6 +153,25 @@ pub fn plan_by(matches: &ArgMatches) -> Option<Order>
     let spans = was_given(matches, "spans");
     let notes = was_given(matches, "notes");
     Some(Order::Plan {
+        budget,
+        scale,
+        spans,
+        seconds,
+        notes,
+    })
+}
+
+/// The same for `improve`.
+pub fn improve_by(matches: &ArgMatches) -> Option<Order>
+    ensures order { result ≡ improve_by (λ name. first_of name (rows_of (found_of matches.now))) (λ name. was_given name (rows_of (found_of matches.now))) }
+    ensures range { IfSome result IsWithinLimits }
+{
+    let budget = budget_by(matches)?;
+    let scale = number_or(matches, "scale", 1, GREATEST_SCALE, SCALE as u32)?;
+    let seconds = seconds_by(matches)?;
+    let spans = was_given(matches, "spans");
+    let notes = was_given(matches, "notes");
+    Some(Order::Improve {
         budget,
         scale,
         spans,

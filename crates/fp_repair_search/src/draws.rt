@@ -16,13 +16,21 @@ impl Draws {
 
     // A number below another one, or 0.
     pub(crate) fn below(&mut self, end: u32) -> u32 {
+        self.bits().checked_rem(end).unwrap_or(0)
+    }
+
+    // A place in a list of so many, or 0.
+    pub(crate) fn place(&mut self, length: usize) -> usize {
+        self.below(u32::try_from(length).unwrap_or(u32::MAX)) as usize
+    }
+
+    // A number of 31 bits.
+    pub(crate) fn bits(&mut self) -> u32 {
         self.state = self
             .state
             .wrapping_mul(6_364_136_223_846_793_005)
             .wrapping_add(1_442_695_040_888_963_407);
         // The low bits of such a generator have short periods.
-        let high = self.state >> 33;
-        let drawn = high.checked_rem(u64::from(end)).unwrap_or(0);
-        u32::try_from(drawn).unwrap_or(0)
+        u32::try_from(self.state >> 33).unwrap_or(0)
     }
 }

@@ -92,16 +92,23 @@ impl Labels {
         self.push(0, label)
     }
 
-    // Adds a label at a cost, if it is earlier than each that was looked at at its terminal, and
-    // earlier or cheaper than the cheapest.
+    // Whether a label at a cost would be added: if it is earlier than each that was looked at at its
+    // terminal, and earlier or cheaper than the cheapest.
+    pub(crate) fn can_add(&self, cost: u128, terminal: u32, time: u32) -> bool {
+        match self.known.get(terminal as usize) {
+            Some(known) => time < known.earliest && (cost < known.cost || time < known.time),
+            None => false,
+        }
+    }
+
+    // Adds a label at a cost, if it can be.
     pub(crate) fn push(&mut self, cost: u128, label: Label) -> Result<(), NoMemory> {
-        let Some(known) = self.known.get_mut(label.terminal as usize) else {
-            return Ok(());
-        };
-        if label.time >= known.earliest || (cost >= known.cost && label.time >= known.time) {
+        if !self.can_add(cost, label.terminal, label.time) {
             return Ok(());
         }
-        if cost <= known.cost {
+        if let Some(known) = self.known.get_mut(label.terminal as usize)
+            && cost <= known.cost
+        {
             known.cost = cost;
             known.time = label.time;
         }

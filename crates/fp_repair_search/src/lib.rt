@@ -11,7 +11,10 @@
 mod acceptance;
 mod draws;
 mod labels;
+mod load_factors;
 mod paths;
+mod plans;
+mod relatedness;
 mod removal;
 mod searches;
 mod turns;

@@ -50,14 +50,23 @@ impl Paths {
         }
         self.before.clear();
         for (number, group) in groups.iter().enumerate() {
-            let mut before = None;
-            if group.count > 0
-                && let Some(last) = self.last.get_mut(group.arc as usize)
-            {
-                before = *last;
-                *last = Some(number);
+            if group.count > 0 {
+                self.list_group(number, group.arc)?;
             }
-            self.before.push(before)?;
+        }
+        Ok(())
+    }
+
+    // Lists a group of an arc that isn't listed.
+    pub(crate) fn list_group(&mut self, number: usize, arc: u32) -> Result<(), NoMemory> {
+        for _ in self.before.len()..number.saturating_add(1) {
+            self.before.push(None)?;
+        }
+        if let Some(last) = self.last.get_mut(arc as usize)
+            && let Some(before) = self.before.get_mut(number)
+        {
+            *before = *last;
+            *last = Some(number);
         }
         Ok(())
     }
@@ -172,10 +181,10 @@ impl Paths {
         shift: bool,
     ) -> Result<(), NoMemory> {
         let leave = onward.from.max(group.early);
-        let time = leave.saturating_add(onward.arc.step);
         let late = leave > onward.arc.hi || leave > group.late;
         let shifts = leave > group.early && !shift;
-        if late || shifts {
+        let time = leave.saturating_add(onward.arc.step);
+        if late || shifts || !self.labels.can_add(onward.base, onward.arc.to, time) {
             return Ok(());
         }
         let Some(arc) = instance.arcs().get(onward.arc.number as usize) else {

@@ -2,13 +2,20 @@
 
 use crate::NoMemory;
 use crate::draws::Draws;
+use crate::load_factors::emptiest;
+use crate::relatedness::{Passage, has_arc, is_in, shares_arc};
 use fp_model::Instance;
-use fp_repair_groups::{GroupedLeg, size_of};
+use fp_repair_groups::{GroupedLeg, Solution, size_of};
 use std::alloc::Global;
 use std::cmp::Reverse;
 
-// The most shipments that are taken out in a turn.
-const MOST_OUT: u32 = 8;
+// The most shipments that are taken out in a turn, among few and among many.
+const MOST_OUT_OF_FEW: u32 = 12;
+
+const MOST_OUT_OF_MANY: u32 = 8;
+
+// So many shipments are many.
+const MANY: usize = 300;
 
 // A shipment that is taken out, with its size.
 #[derive(Clone, Copy)]
@@ -17,51 +24,61 @@ pub(crate) struct Taken {
     size: u64,
 }
 
-// The shipments that are taken out, and the ones that they are drawn from.
+// The shipments that are taken out, the ones that they are drawn from, and those that pass a terminal
+// by how far from a moment. `most` is how many are taken out at once at most.
 #[derive(Drop)]
 pub(crate) struct Removal {
     pub taken: Vec<Taken>,
     near: Vec<usize>,
-}
-
-// Whether two routes share an arc.
-fn shares_arc(route: &[GroupedLeg], other: &[GroupedLeg]) -> bool {
-    for leg in route {
-        for leg_of_other in other {
-            if leg.arc == leg_of_other.arc {
-                return true;
-            }
-        }
-    }
-    false
+    passing: Vec<(u32, usize)>,
+    most: u32,
 }
 
 impl Removal {
     // Nothing taken out.
-    pub(crate) fn new(alloc: Global) -> Removal {
+    pub(crate) fn new(alloc: Global, instance: &Instance) -> Removal {
+        let most = if instance.shipments().len() < MANY {
+            MOST_OUT_OF_FEW
+        } else {
+            MOST_OUT_OF_MANY
+        };
         Removal {
             taken: Vec::new(alloc),
             near: Vec::new(alloc),
+            passing: Vec::new(alloc),
+            most,
         }
     }
 
-    // Draws a shipment and some others: three times in four such that share an arc with it.
+    // Draws shipments that have to do with each other. Every other time they are those of an ill
+    // filled departure and others by its arc; else they share arcs, or pass a terminal at about one
+    // moment.
     pub(crate) fn draw(
         &mut self,
         instance: &Instance,
-        routes: &[Vec<GroupedLeg>],
+        solution: &Solution,
         draws: &mut Draws,
     ) -> Result<(), NoMemory> {
         self.taken.clear();
-        let count = u32::try_from(routes.len()).unwrap_or(u32::MAX);
-        let first = draws.below(count) as usize;
-        self.take(instance, first)?;
-        let wanted = draws.below(MOST_OUT);
-        let any = draws.below(4) == 0;
-        self.list_near(routes, first, any)?;
-        let near = u32::try_from(self.near.len()).unwrap_or(u32::MAX);
-        for _ in 0..wanted {
-            let drawn = draws.below(near) as usize;
+        self.near.clear();
+        let wanted = draws.below(self.most).saturating_add(1);
+        match draws.below(4) {
+            0 => self.draw_sharing(instance, &solution.routes, draws)?,
+            1 => self.draw_passing(instance, solution, wanted, draws)?,
+            _ => self.draw_departure(instance, solution, draws)?,
+        }
+        self.take_near(instance, wanted, draws)
+    }
+
+    // Takes shipments that are drawn from those that are near, until so many are.
+    fn take_near(
+        &mut self,
+        instance: &Instance,
+        wanted: u32,
+        draws: &mut Draws,
+    ) -> Result<(), NoMemory> {
+        for _ in self.taken.len()..wanted as usize {
+            let drawn = draws.place(self.near.len());
             if let Some(shipment) = self.near.get(drawn).copied() {
                 self.take(instance, shipment)?;
             }
@@ -81,20 +98,89 @@ impl Removal {
         Ok(())
     }
 
-    // Lists the shipments that share an arc with one, or all.
-    fn list_near(
+    // Takes a drawn shipment, and lists those that share an arc with it, or one time in four all.
+    fn draw_sharing(
         &mut self,
+        instance: &Instance,
         routes: &[Vec<GroupedLeg>],
-        first: usize,
-        any: bool,
+        draws: &mut Draws,
     ) -> Result<(), NoMemory> {
-        self.near.clear();
+        let first = draws.place(routes.len());
+        let any = draws.below(4) == 0;
         let Some(own) = routes.get(first) else {
             return Ok(());
         };
+        self.take(instance, first)?;
         for (shipment, route) in routes.iter().enumerate() {
             if any || shares_arc(own, route) {
                 self.near.push(shipment)?;
+            }
+        }
+        Ok(())
+    }
+
+    // Takes the shipments of an ill filled departure, and lists those that go by its arc, or every
+    // other time by an arc with one of its ends.
+    fn draw_departure(
+        &mut self,
+        instance: &Instance,
+        solution: &Solution,
+        draws: &mut Draws,
+    ) -> Result<(), NoMemory> {
+        let Some(number) = emptiest(instance, &solution.groups, self.most, draws) else {
+            return self.draw_sharing(instance, &solution.routes, draws);
+        };
+        let nearly = draws.below(2) == 0;
+        let Some(by) = solution.groups.get(number).map(|group| group.arc) else {
+            return Ok(());
+        };
+        let Some(arc) = instance.arcs().get(by as usize) else {
+            return Ok(());
+        };
+        for (shipment, route) in solution.routes.iter().enumerate() {
+            if is_in(route, number) {
+                self.take(instance, shipment)?;
+            } else if has_arc(instance, route, by, arc, nearly) {
+                self.near.push(shipment)?;
+            }
+        }
+        Ok(())
+    }
+
+    // Lists the shipments that leave the terminal of a drawn leg nearest to its departure, or every
+    // other time that leave it or come there: twice as many as are wanted.
+    fn draw_passing(
+        &mut self,
+        instance: &Instance,
+        solution: &Solution,
+        wanted: u32,
+        draws: &mut Draws,
+    ) -> Result<(), NoMemory> {
+        let Some(passage) = drawn_passage(instance, solution, draws) else {
+            return Ok(());
+        };
+        self.list_passing(instance, solution, passage)?;
+        self.passing.sort_unstable();
+        let end = (wanted as usize).saturating_mul(2);
+        for (_, shipment) in self.passing.iter().take(end) {
+            self.near.push(*shipment)?;
+        }
+        Ok(())
+    }
+
+    // Lists the shipments that pass a terminal, by how far from a moment.
+    fn list_passing(
+        &mut self,
+        instance: &Instance,
+        solution: &Solution,
+        passage: Passage,
+    ) -> Result<(), NoMemory> {
+        self.passing.clear();
+        for (shipment, route) in solution.routes.iter().enumerate() {
+            for leg in route {
+                if let Some(far) = passage.distance(instance, &solution.groups, leg) {
+                    self.passing.push((far, shipment))?;
+                }
             }
         }
         Ok(())
@@ -109,6 +195,20 @@ impl Removal {
             shuffle(&mut self.taken, draws);
         }
     }
+}
+
+// The terminal that a drawn leg leaves, when it does, and every other time with what comes there.
+fn drawn_passage(instance: &Instance, solution: &Solution, draws: &mut Draws) -> Option<Passage> {
+    let shipment = draws.place(solution.routes.len());
+    let route = solution.routes.get(shipment)?;
+    let leg = route.get(draws.place(route.len()))?;
+    let arc = instance.arcs().get(leg.arc as usize)?;
+    let group = solution.groups.get(leg.group)?;
+    Some(Passage {
+        terminal: arc.from,
+        moment: group.early,
+        comes: draws.below(2) == 0,
+    })
 }
 
 // Puts shipments into a drawn order.

@@ -12,9 +12,8 @@ use crate::acceptance::is_no_dearer;
 use crate::turns::Turns;
 use fp_ends::{Deadline, Resources};
 use fp_flatnet::Windows;
-use fp_model::{Instance, Leg, Plan};
-use fp_repair_groups::{Group, GroupedLeg, Solution, UsableArcs, all_usable_arcs, solution_of};
-use std::alloc::Global;
+use fp_model::{Instance, Plan};
+use fp_repair_groups::{UsableArcs, all_usable_arcs, solution_of};
 
 /// How a local search goes: the seed of its draws, how many turns it makes, and how much dearer
 /// than the best state met its state may be in the first turn, in parts of 1024 of the cost. The
@@ -54,6 +53,10 @@ pub fn local_search<D: Deadline>(
     start.copy(resources.alloc)
 }
 
+// So many turns are made between two looks at the clock. Before each the cheapest plan met is kept, and
+// no other is: so a call that is cut off later finds no dearer one.
+const TURNS_AT_ONCE: u32 = 64;
+
 // What the search finds over the arcs that each shipment may use. It need not be a plan.
 fn found_plan<D: Deadline>(
     resources: &Resources<D>,
@@ -62,54 +65,28 @@ fn found_plan<D: Deadline>(
     start: &Plan,
     search: Search,
 ) -> Result<Plan, NoMemory> {
-    let solution = solution_of(resources.alloc, instance, &usable, start)?;
-    let mut turns = Turns::new(resources.alloc, instance, usable, solution, search.seed)?;
+    let alloc = resources.alloc;
+    let solution = solution_of(alloc, instance, &usable, start)?;
+    let mut turns = Turns::new(alloc, instance, usable, solution, search.seed)?;
     for turn in 0..search.turns {
-        if resources.is_over() {
-            break;
+        if turn % TURNS_AT_ONCE == 0 {
+            turns.keep_plan(alloc, instance)?;
+            if resources.is_over() {
+                break;
+            }
         }
-        let left = u128::from(search.turns.saturating_sub(turn));
-        let loose = u128::from(search.loose).saturating_mul(left);
-        let loose = loose.checked_div(u128::from(search.turns)).unwrap_or(0);
-        turns.turn(instance, loose)?;
+        turns.turn(instance, allowance(search, turn))?;
     }
-    best_plan(resources.alloc, turns)
+    turns.keep_plan(alloc, instance)?;
+    let Turns { plan, .. } = turns;
+    Ok(plan)
 }
 
-// The plan in which the groups of the best state leave as early as they can.
-fn best_plan(alloc: Global, turns: Turns) -> Result<Plan, NoMemory> {
-    let Turns {
-        mut solution,
-        best,
-        ..
-    } = turns;
-    solution.routes = best;
-    solution.set_times();
-    plan_of(alloc, &solution)
-}
-
-// The plan in which each leg leaves at the least time of its group.
-fn plan_of(alloc: Global, solution: &Solution) -> Result<Plan, NoMemory> {
-    let mut routes = Vec::with_capacity(alloc, solution.routes.len())?;
-    for route in &solution.routes {
-        routes.push(timed_route(alloc, route, &solution.groups)?)?;
-    }
-    Ok(Plan { routes })
-}
-
-// The legs of a route at the least times of their groups.
-fn timed_route(
-    alloc: Global,
-    route: &[GroupedLeg],
-    groups: &[Group],
-) -> Result<Vec<Leg>, NoMemory> {
-    let mut legs = Vec::with_capacity(alloc, route.len())?;
-    for leg in route {
-        let depart = groups.get(leg.group).map_or(0, |group| group.early);
-        legs.push(Leg {
-            arc: leg.arc,
-            depart,
-        })?;
-    }
-    Ok(legs)
+// How much dearer than the best state met the state may be in a turn, in parts of 1024 of the cost.
+fn allowance(search: Search, turn: u32) -> u128 {
+    let left = u128::from(search.turns.saturating_sub(turn));
+    u128::from(search.loose)
+        .saturating_mul(left)
+        .checked_div(u128::from(search.turns))
+        .unwrap_or(0)
 }

@@ -3,15 +3,13 @@
 use crate::NoMemory;
 use crate::draws::Draws;
 use crate::paths::Paths;
+use crate::plans::{plan_cost, plan_of};
 use crate::removal::Removal;
-use fp_model::Instance;
+use fp_model::{Instance, Plan};
 use fp_repair_groups::{
     GroupedLeg, PARTS, SavedTimes, Solution, TimeChanges, UsableArcs, empty_routes,
 };
 use std::alloc::Global;
-
-// In doubt, at least so many parts of a truck's cost count by trucks.
-const LEAST_BELIEF: u32 = 2;
 
 // A leg that was taken out, and its shipment.
 #[derive(Clone, Copy)]
@@ -20,12 +18,17 @@ struct Undone {
     leg: GroupedLeg,
 }
 
-// What the turns work on. `best` has the routes of the least cost met.
+// What the turns work on. `best` has the routes of the state of least cost met, and `plan` is the
+// cheapest of the plans that were kept, with what it costs.
 #[derive(Drop)]
 pub(crate) struct Turns {
-    pub solution: Solution,
-    pub best: Vec<Vec<GroupedLeg>>,
+    pub plan: Plan,
+    plan_cost: Option<u128>,
+    solution: Solution,
+    best: Vec<Vec<GroupedLeg>>,
     best_cost: u128,
+    // Whether the best state has no plan that was looked at.
+    is_new: bool,
     usable: Vec<UsableArcs>,
     paths: Paths,
     removal: Removal,
@@ -50,12 +53,17 @@ impl Turns {
         let mut best = empty_routes(alloc, solution.routes.len())?;
         copy_routes(&solution.routes, &mut best)?;
         Ok(Turns {
+            plan: Plan {
+                routes: Vec::new(alloc),
+            },
+            plan_cost: None,
             best,
             best_cost: solution.cost,
+            is_new: true,
             solution,
             usable,
             paths: Paths::new(alloc, instance)?,
-            removal: Removal::new(alloc),
+            removal: Removal::new(alloc, instance),
             draws: Draws::new(seed),
             undone: Vec::new(alloc),
             changes: TimeChanges::new(alloc),
@@ -71,7 +79,7 @@ impl Turns {
         let limit = self.best_cost.saturating_add(above.unwrap_or(0));
         let limit = limit.max(self.solution.cost);
         self.removal
-            .draw(instance, &self.solution.routes, &mut self.draws)?;
+            .draw(instance, &self.solution, &mut self.draws)?;
         self.take_out(instance)?;
         self.removal.order(&mut self.draws);
         self.draw_belief();
@@ -100,21 +108,26 @@ impl Turns {
         Ok(())
     }
 
-    // Draws in two of three turns how many parts of a truck's cost count by trucks on each arc;
-    // else all do.
+    // Draws in two of three turns how many parts of a truck's cost count by trucks on each arc, one
+    // at least; else all do. The bits of a draw are enough for seven arcs.
     fn draw_belief(&mut self) {
         let doubts = self.draws.below(3) > 0;
-        for belief in self.paths.belief.iter_mut() {
+        let mut bits = 0;
+        for (number, belief) in self.paths.belief.iter_mut().enumerate() {
             *belief = PARTS;
             if doubts {
-                let drawn = self.draws.below(PARTS.saturating_sub(LEAST_BELIEF) + 1);
-                *belief = LEAST_BELIEF.saturating_add(drawn);
+                if number % 7 == 0 {
+                    bits = self.draws.bits();
+                }
+                *belief = PARTS.saturating_sub(bits % PARTS);
+                bits /= PARTS;
             }
         }
     }
 
     // Puts the drawn shipments back. Answers whether all are, at a cost up to a limit.
     fn put_back(&mut self, instance: &Instance, limit: u128) -> Result<bool, NoMemory> {
+        self.paths.list_groups(&self.solution.groups)?;
         for at in 0..self.removal.taken.len() {
             let Some(shipment) = self.removal.taken.get(at).map(|taken| taken.shipment) else {
                 return Ok(false);
@@ -122,6 +135,7 @@ impl Turns {
             if !self.put_one_back(instance, shipment)? || self.solution.cost > limit {
                 return Ok(false);
             }
+            self.list_opened(shipment)?;
         }
         Ok(true)
     }
@@ -129,7 +143,6 @@ impl Turns {
     // Puts one shipment back: on the cheapest path, or where the groups then have no times, on the
     // cheapest one that makes no group leave later.
     fn put_one_back(&mut self, instance: &Instance, shipment: usize) -> Result<bool, NoMemory> {
-        self.paths.list_groups(&self.solution.groups)?;
         self.beside.save(&self.solution.groups)?;
         if !self.put_on_path(instance, shipment, true)? {
             return Ok(false);
@@ -143,6 +156,21 @@ impl Turns {
             return Ok(false);
         }
         Ok(self.changes.narrow(&mut self.solution, shipment))
+    }
+
+    // Lists the groups that a shipment is alone in: they are new.
+    fn list_opened(&mut self, shipment: usize) -> Result<(), NoMemory> {
+        let Some(route) = self.solution.routes.get(shipment) else {
+            return Ok(());
+        };
+        for leg in route {
+            if let Some(group) = self.solution.groups.get(leg.group)
+                && group.count == 1
+            {
+                self.paths.list_group(leg.group, leg.arc)?;
+            }
+        }
+        Ok(())
     }
 
     // Puts a shipment in on the cheapest path. Answers whether there is one.
@@ -171,7 +199,30 @@ impl Turns {
     fn keep_best(&mut self) -> Result<(), NoMemory> {
         if self.solution.cost < self.best_cost {
             self.best_cost = self.solution.cost;
+            self.is_new = true;
             copy_routes(&self.solution.routes, &mut self.best)?;
+        }
+        Ok(())
+    }
+
+    // Looks at the plan in which the groups of the best state leave as early as they can, and keeps it
+    // where none was cheaper. Between two turns; the state stays.
+    pub(crate) fn keep_plan(&mut self, alloc: Global, instance: &Instance) -> Result<(), NoMemory> {
+        if !self.is_new {
+            return Ok(());
+        }
+        self.is_new = false;
+        self.before.save(&self.solution.groups)?;
+        std::mem::swap(&mut self.solution.routes, &mut self.best);
+        self.solution.set_times();
+        let plan = plan_of(alloc, &self.solution)?;
+        std::mem::swap(&mut self.solution.routes, &mut self.best);
+        self.before.load(&mut self.solution.groups);
+        if let Some(cost) = plan_cost(alloc, instance, &plan)?
+            && self.plan_cost.is_none_or(|least| cost < least)
+        {
+            self.plan = plan;
+            self.plan_cost = Some(cost);
         }
         Ok(())
     }

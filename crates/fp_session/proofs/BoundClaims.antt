@@ -3,7 +3,7 @@
 use Rattle.std.proofs.Common.{ℕ, List, [], arith}
 use Rattle.std.specs.Prelude.{None}
 use Rattle.fp_flatnet.specs.Tables.{windows_in}
-use Rattle.fp_tree.specs.Nodes.{Node, fork_of as fork_at, leaf_at, value_of}
+use Rattle.fp_tree.specs.Nodes.{fork_of as fork_at, value_of}
 use Rattle.fp_tree.specs.Trees.{IsTree, Leaf}
 use Rattle.fp_certificate_lines.specs.declared.certificates.Answer.TheVariants.{Direct}
 use Rattle.fp_certificate_lines.specs.declared.certificates.Node.{Node as Line}
@@ -14,7 +14,6 @@ use Rattle.fp_certificate_rules.proofs.Claims.{AreLeavesWorth-NoPlanWithinCheape
 use Rattle.fp_certificate_rules.proofs.KeptPrices.{HasPrices-kept}
 use Rattle.fp_duals_leaves.specs.Prices.{PriceLists}
 use Rattle.fp_session_history.specs.Notes.{History, added_of}
-use Rattle.fp_session.specs.declared.payloads.Payload.{Payload}
 use Rattle.fp_session.specs.declared.searches.Search.{Search}
 use Rattle.fp_session.specs.Certificates.{IsBound}
 use Rattle.fp_session.specs.Searches.{IsSearch, history}

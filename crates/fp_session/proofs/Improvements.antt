@@ -1,48 +1,45 @@
 -- What comes of improving an open leaf.
-use Rattle.std.proofs.Common.{◌≡◌, ℕ, ◌<◌, ◌≤◌, ⊎_elim, false, List, refl, sym, subst, arith}
+use Rattle.std.proofs.Common.{◌≡◌, ℕ, ◌<◌, ◌≤◌, ⊎_elim, false, List, ◌++◌, refl, sym, ap, ap₂, ◌∙◌, subst, append_assoc, arith}
 use Rattle.std.specs.declared.alloc.Global.{Global}
 use Rattle.std.specs.declared.vec.Vec.{Vec}
 use Rattle.fp_model.specs.declared.parts.Leg.{Leg}
+use Rattle.fp_model.specs.Problem.{Problem}
 use Rattle.fp_flatnet.specs.Tables.{windows_in}
 use Rattle.fp_longestarcs.specs.Networks.{points_in}
 use Rattle.fp_tree.specs.declared.sides.Side.{Side}
 use Rattle.fp_allowed.specs.Settings.{Setting}
 use Rattle.fp_prices.specs.declared.leaf_prices.LeafPrice.{LeafPrice}
+use Rattle.fp_prices.specs.Shares.{ClassShare}
+use Rattle.fp_prices_spans.specs.Spans.{ClassSpan}
 use Rattle.fp_duals.specs.declared.improvements.Improved.{Improved}
 use Rattle.fp_duals.specs.declared.improvements.Improved.TheVariants as improved
 use Rattle.fp_session_history.specs.Notes.{History, last_round}
 use Rattle.fp_session.specs.declared.kept.Kept.{Kept}
-use Rattle.fp_session.specs.declared.outcomes.Outcome.{Outcome}
-use Rattle.fp_session.specs.declared.outcomes.Outcome.TheVariants as outcome
 use Rattle.fp_session.specs.declared.searches.Search.{Search}
 use Rattle.fp_session.specs.Nodes.{IsKept}
-use Rattle.fp_session.specs.Outcomes.{IsFound, IsGreater, IsOutcome, empty_kept, noted_kept, noted_outcome, priced_kept}
-use Rattle.fp_duals_leaves.specs.Prices.{ArePrices, HaveGrown, PriceLists}
+use Rattle.fp_session.specs.Outcomes.{IsFound, IsGreater, empty_kept, priced_kept}
+use Rattle.fp_duals_leaves.specs.Prices.{ArePrices, HaveGrown, PriceLists, with_more}
 use Rattle.fp_duals_leaves.specs.Pricing.{IsImprovedBy, IsPriceFound}
 use Rattle.fp_session.specs.Searches.{IsSearch, history, setting_of}
 use Rattle.fp_session.proofs.ImprovedLeaves.{IsKept-with_tables, found-priced, kept-empty, kept-priced}
 use Rattle.fp_session.proofs.NextRounds.{agree-now}
+
+-- prices that grow twice have grown
+pub HaveGrown-twice : (p : Problem) (before between after : PriceLists) → HaveGrown p before between → HaveGrown p between after → HaveGrown p before after
+HaveGrown-twice p before between after one two = record {
+  tables = one.tables ++ two.tables;
+  spans = one.spans ++ two.spans;
+  is =
+      let lists : List (List ClassShare) → List (List ClassSpan) → PriceLists = λ ts ss. record before { tables = ts; spans = ss } in
+      two.is ∙ ap (λ (x : PriceLists). with_more x two.tables two.spans) one.is ∙ ap₂ lists (append_assoc before.tables one.tables two.tables) (append_assoc before.spans one.spans two.spans);
+  prices = two.prices;
+}
 
 -- what is kept stays true
 pub IsKept-grown : (s : Search) (before after : PriceLists) (sides : List Side) (kept : Kept) → ArePrices s.instance before → HaveGrown s.instance before after → IsKept (history s before) sides kept.payload kept.value →
     IsKept (history s after) sides kept.payload kept.value
 IsKept-grown s before after sides kept are grown is =
     subst (λ (x : PriceLists). IsKept (history s x) sides kept.payload kept.value) (sym grown.is) (IsKept-with_tables (history s before) grown.tables grown.spans sides kept.payload kept.value are.beside is)
-
--- what is found of a leaf doesn't speak of the round as of which a step improved it
-pub IsFound-noted : (h : History) (sides : List Side) (kept : Kept) (walks : List (List Leg)) (round : ℕ) → IsFound h sides kept walks → IsFound h sides (noted_kept round kept) walks
-IsFound-noted h sides kept walks round found = record {
-  kept = record { price = found.kept.price; worth = found.kept.worth };
-  some = found.some;
-  starts = found.starts;
-  walks = found.walks;
-  reached = found.reached;
-}
-
--- nor does what came of improving it
-pub IsOutcome-noted : (h : History) (sides : List Side) (old : Kept) (o : Outcome) (round : ℕ) → IsOutcome h sides old o → IsOutcome h sides old (noted_outcome round o)
-IsOutcome-noted h sides old (outcome.Empty kept) round came = came
-IsOutcome-noted h sides old (outcome.Open kept walks) round came = (IsFound-noted h sides kept walks.items round came.0, came.1)
 
 -- what comes of improving a leaf in a setting
 abbrev pub ImprovedIn : Setting → List Side → PriceLists → ℕ → Improved → Type 0

@@ -35,16 +35,18 @@ use Rattle.fp_session_history.specs.Notes.{worth_of}
 use Rattle.fp_session_history.specs.Solutions.{AreWalksUnder, HasSeveral}
 use Rattle.fp_session.specs.declared.dividing.Several.{Several}
 use Rattle.fp_session.specs.declared.kept.Kept.{Kept}
+use Rattle.fp_session.specs.declared.moves.Cheaper.{Cheaper}
 use Rattle.fp_session.specs.declared.moves.Move.{Move}
 use Rattle.fp_session.specs.declared.moves.Move.TheVariants as move
 use Rattle.fp_session.specs.declared.payloads.Payload.{Payload}
 use Rattle.fp_session.specs.declared.searches.Search.{Search}
 use Rattle.fp_session.specs.Dividing.{IsSeveral, NoneSeveral}
-use Rattle.fp_session.specs.Moves.{AtOpenLeaf, IsLeftAt, IsMove, IsMoveAt, IsOpenMove, IsStopAt, IsUnsettled, points_now}
+use Rattle.fp_session.specs.Moves.{AtOpenLeaf, IsCheaper, IsLeftAt, IsMove, IsMoveAt, IsOpenMove, IsStopAt, IsUnsettled, points_now}
 use Rattle.fp_session.specs.Nodes.{IsKept, IsKeptAs, IsLeafOf, IsSettled}
 use Rattle.fp_session.specs.Outcomes.{IsFound}
 use Rattle.fp_duals_leaves.specs.Prices.{ArePrices, HaveGrown, PriceLists}
 use Rattle.fp_session.specs.Searches.{IsSearch, history, setting_of}
+use Rattle.fp_session.specs.Stages.{IsRaised}
 use Rattle.fp_session.proofs.Applied.{of-value, some-value}
 use Rattle.fp_session.proofs.GrownWorths.{worth-grown}
 use Rattle.fp_duals_leaves.proofs.GrownPrices.{unit-some}
@@ -173,6 +175,17 @@ module _ (s : Search) (before after : PriceLists) (k : ℕ) (sides : List Side) 
       IsMove s after k kept (move.Stop (left.Unsettled k))
   late-move kept walks found no_less below =
       chosen-move kept (move.Stop (left.Unsettled k)) found.kept (λ some. no_less) (IsUnsettled-found s after after sides kept walks found below, refl)
+
+  -- so it does after work by which the prices have grown
+  pub late-move-grown : (between : PriceLists) (kept : Kept) (walks : List (List Leg)) → IsFound (history s between) sides kept walks → ArePrices s.instance between → HaveGrown s.instance between after →
+      old.value ≤ kept.value → worth_of (history s between) kept.value < s.cost → IsMove s after k kept (move.Stop (left.Unsettled k))
+  late-move-grown between kept walks found are grown no_less below =
+      chosen-move kept (move.Stop (left.Unsettled k)) (IsKept-grown s between after sides kept are grown found.kept) (λ some. no_less)
+      (IsUnsettled-found s between after sides kept walks found (omega (arith, worth-grown s between after kept.value grown, below)), refl)
+
+  -- where a cheaper plan was found on the way, it is taken
+  pub better-move : (kept : Kept) (cheaper : Cheaper) → IsRaised (history s after) sides old kept → IsCheaper s cheaper → IsMove s after k kept (move.Better cheaper)
+  better-move kept cheaper raised is = chosen-move kept (move.Better cheaper) raised.keeps (λ some. raised.no_less) is
 
   -- at another the move is one that may be made there
   pub found-move : (between : PriceLists) (kept : Kept) (walks : List (List Leg)) (m : Move) → IsFound (history s between) sides kept walks → ArePrices s.instance between → HaveGrown s.instance between after →

@@ -12,6 +12,7 @@ pub mod Steps
 pub mod Choices
 pub mod TreeLines
 pub mod Certificates
+pub mod Stages
 pub mod Starts
 pub mod Sessions
 pub mod Solved

@@ -15,6 +15,7 @@ use Rattle.fp_session_history.specs.Solutions.{AreWalksUnder}
 use Rattle.fp_session.specs.declared.kept.Kept.{Kept}
 use Rattle.fp_session.specs.declared.outcomes.Outcome.{Outcome}
 use Rattle.fp_session.specs.declared.outcomes.Outcome.TheVariants.{Empty, Open}
+use Rattle.fp_session.specs.declared.payloads.Improvement.{Improvement}
 use Rattle.fp_session.specs.Nodes.{IsKept}
 
 -- a value is at least those of the leaf by linear and by even prices over the points as of the last
@@ -42,9 +43,9 @@ empty_kept round = record { payload = record { price = record { kind = Linear; r
 abbrev pub priced_kept : LeafPrice → ℕ → Kept
 priced_kept price value = record { payload = record { price = price; empty = false; incumbent = 0; improved = None }; value = value }
 
--- what was kept of a leaf, with a note that a step improved it as of a round
-abbrev pub noted_kept : ℕ → Kept → Kept
-noted_kept round kept = record { payload = record kept.payload { improved = Some round }; value = kept.value }
+-- what was kept of a leaf, with a note on how far it was improved
+abbrev pub noted_kept : Improvement → Kept → Kept
+noted_kept far kept = record { payload = record kept.payload { improved = Some far }; value = kept.value }
 
 -- of what was kept and of another price with its value, the other where its value is greater
 abbrev pub IsGreater : Kept → LeafPrice → ℕ → Kept → Type 0
@@ -54,8 +55,3 @@ IsGreater old price value kept = ((kept ≡ priced_kept price value) × (old.val
 abbrev pub IsOutcome : History → List Side → Kept → Outcome → Type 0
 IsOutcome h sides old (Empty kept) = IsKept h sides kept.payload kept.value × (kept.payload.empty ≡ true)
 IsOutcome h sides old (Open kept walks) = IsFound h sides kept walks.items × (old.value ≤ kept.value)
-
--- what came of improving a leaf, with a note that a step did so as of a round
-abbrev pub noted_outcome : ℕ → Outcome → Outcome
-noted_outcome round (Empty kept) = Empty kept
-noted_outcome round (Open kept walks) = Open (noted_kept round kept) walks

@@ -3,8 +3,8 @@ ghost use Rattle.std.specs.Prelude.{◌≡◌};
 ghost use Rattle.fp_session.specs.Certificates.{IsAnswer, IsBound};
 ghost use Rattle.fp_duals_leaves.specs.Prices.{ArePrices};
 
-use crate::least_worth::least_worth;
 use crate::searches::Search;
+use crate::worths::least_worth;
 use fp_certificate_lines::{Answer, Spent};
 use fp_duals_leaves::Prices;
 use fp_session_history::Left;

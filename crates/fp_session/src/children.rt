@@ -81,7 +81,16 @@ fn better_child<D: Deadline>(
     let below = Leaf::of(resources.alloc, leaf.round(), leaf.windows(), &sides)?;
     let mut nets = LentNets::new();
     let effort = &PriceEffort::CHOSEN;
-    match improved(resources, search, &below, &mut nets, old, effort, prices)? {
+    match improved(
+        resources,
+        search,
+        &below,
+        &mut nets,
+        old,
+        old.payload.price,
+        effort,
+        prices,
+    )? {
         Outcome::Empty { kept } => Ok(kept),
         Outcome::Open { kept, .. } => Ok(kept),
     }

@@ -6,7 +6,7 @@ ghost use Rattle.fp_model.specs.Routes.{ArcsExist};
 ghost use Rattle.fp_flatnet.specs.Tables.{windows_in};
 ghost use Rattle.fp_relaxmodel.specs.Relaxed.{HasRoutes, IsRelaxedPlan};
 ghost use Rattle.fp_relaxmodel.specs.Terminals.{terminals_on};
-ghost use Rattle.fp_tree.specs.Nodes.{closed_of, leaf_at, leaf_count};
+ghost use Rattle.fp_tree.specs.Nodes.{closed_of, leaf_at, leaf_count, split_count};
 ghost use Rattle.fp_prices.specs.Tables.{HasKind};
 ghost use Rattle.fp_session_history.specs.Notes.{worth_of};
 ghost use Rattle.fp_session_history.specs.Solutions.{AreWalksUnder};
@@ -20,15 +20,15 @@ ghost use Rattle.fp_session.specs.Searches.{IsSearch, history, setting_of};
 use crate::NoMemory;
 use crate::choices::choice;
 use crate::dividing::{Several, division, first_several};
-use crate::improving::improved_by_step;
 use crate::kept::Kept;
+use crate::looks::unless_cheaper;
 use crate::moves::{Division, Move};
-use crate::outcomes::Outcome;
-use crate::redrawing::{first_look, unless_cheaper};
+use crate::outcomes::Work;
 use crate::searches::Search;
+use crate::stages::work_at;
 use crate::timing::{Timing, timed};
 use crate::walks::{are_cheaper, cheaper_walks, walks_by_price, walks_to_split_by};
-use fp_certificate_rules::reaches;
+use crate::worths::is_dear;
 use fp_duals_leaves::Prices;
 use fp_duals_nets::LentNets;
 use fp_ends::{Deadline, Resources};
@@ -51,15 +51,6 @@ struct Found {
     kept: Kept,
     relaxed: RelaxedPlan,
     by_tables: Option<Vec<TimedWalk>>,
-}
-
-// Whether a leaf with this value is worth at least what the incumbent costs.
-fn is_dear(search: &Search, prices: &Prices, value: u128) -> bool
-    requires { ArePrices search.now.instance prices.now }
-    ensures { IsTrue result ↔ (search.now.cost ≤ worth_of (history search.now prices.now) value) }
-{
-    let amount = value.div_ceil(u128::from(search.instance.scale()));
-    reaches(amount, prices.unit(), search.cost)
 }
 
 // What a step is going to do where a relaxed plan under the sides of a leaf costs less than the
@@ -121,6 +112,13 @@ fn several_move<D: Deadline>(
     division(resources, search, leaf, chosen, kept, prices)
 }
 
+// Whether a branch is left.
+fn has_branches(search: &Search) -> bool
+    ensures { IsTrue result ↔ (split_count search.now.tree < search.now.budget.branches) }
+{
+    search.tree.splits() < search.budget.branches
+}
+
 // What a step is going to do at an open leaf that is worth less than the incumbent costs, where these
 // are walks under its sides. It is split by them, or by its walks by tables, where these are others;
 // but only where a cheaper plan can't come of them: such walks call for a round.
@@ -151,8 +149,8 @@ fn move_by<D: Deadline>(
     let priced = kept.payload.price.round;
     if let Some(cheaper) = cheaper_walks(resources, search, leaf, nets, least, priced, prices)? {
         match timed_move(resources, search, leaf, number, cheaper, prices)? {
-            // No round is left, but there may be a branch.
-            Move::Stop { .. } => {}
+            // No round is left, but a branch is.
+            Move::Stop { .. } if has_branches(search) => {}
             planned => return Ok(planned),
         }
     }
@@ -222,6 +220,11 @@ fn kept_at(search: &Search, number: u32) -> Kept
     }
 }
 
+// Whether a step is going to split its leaf.
+fn is_division(planned: &Move) -> bool {
+    matches!(planned, Move::Divide { .. })
+}
+
 // What a step is going to do at an open leaf of which this was kept and which isn't known to be
 // empty, and what it keeps of it.
 #[tactic(auto, using(fp_duals_leaves::proofs::GrownPrices::HaveGrown_none))]
@@ -247,24 +250,30 @@ fn open_move<D: Deadline>(
     let sides = search.tree.leaf_sides(resources.alloc, number)?;
     let leaf = Leaf::of(resources.alloc, &round, &search.windows, &sides)?;
     let mut nets = LentNets::new();
-    match improved_by_step(resources, search, &leaf, &mut nets, old, prices)? {
-        Outcome::Empty { kept } => Ok(Planned {
+    match work_at(resources, search, &leaf, &mut nets, old, prices)? {
+        Work::Empty { kept } => Ok(Planned {
             kept,
             planned: Move::Close,
         }),
-        Outcome::Open { kept, walks } => {
+        Work::Better { kept, cheaper } => Ok(Planned {
+            kept,
+            planned: Move::Better { cheaper },
+        }),
+        Work::Open { kept, walks } => {
             if is_dear(search, prices, kept.value) {
                 return Ok(Planned {
                     kept,
                     planned: Move::Close,
                 });
             }
+            let late = Planned {
+                kept,
+                planned: Move::Stop {
+                    left: Left::Unsettled { leaf: number },
+                },
+            };
             if resources.is_over() {
-                let left = Left::Unsettled { leaf: number };
-                return Ok(Planned {
-                    kept,
-                    planned: Move::Stop { left },
-                });
+                return Ok(late);
             }
             let found = found_at(
                 resources.alloc,
@@ -276,6 +285,10 @@ fn open_move<D: Deadline>(
                 prices,
             )?;
             let planned = move_by(resources, search, &leaf, &mut nets, number, found, prices)?;
+            // A split that was worked out in haste may lower what its leaf is worth.
+            if is_division(&planned) && resources.is_over() {
+                return Ok(late);
+            }
             let planned = unless_cheaper(resources, search, &leaf, number, planned, prices)?;
             Ok(Planned { kept, planned })
         }
@@ -321,12 +334,6 @@ pub(crate) fn next_move<D: Deadline>(
         return Ok(Planned {
             kept: old,
             planned: Move::Close,
-        });
-    }
-    if let Some(cheaper) = first_look(resources, search, prices)? {
-        return Ok(Planned {
-            kept: old,
-            planned: Move::Better { cheaper },
         });
     }
     open_move(resources, search, number, old, prices)

@@ -6,8 +6,8 @@ ghost use Rattle.fp_tree.specs.Nodes.{split_count};
 ghost use Rattle.fp_certificate_rules.specs.Claims.{NoPlanWithinCheaper};
 ghost use Rattle.fp_session.specs.Searches.{IsSearch};
 
-use crate::least_worth::least_worth;
 use crate::searches::Search;
+use crate::worths::least_worth;
 use fp_duals_leaves::Prices;
 use fp_tree::leaves_cover_all;
 

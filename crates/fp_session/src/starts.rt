@@ -33,7 +33,7 @@ use fp_timetable::cost;
 use fp_tree::Tree;
 use std::alloc::Global;
 
-// What is kept of the root before any round, priced with little effort.
+// What is kept of the root before any round, by the prices that every leaf has.
 #[tactic(auto, using(fp_duals_leaves::proofs::GrownPrices::HaveGrown_none))]
 fn root(
     alloc: Global,
@@ -58,7 +58,7 @@ fn root(
         forced: false,
     };
     let mut nets = LentNets::new();
-    let effort = &PriceEffort::CHILD;
+    let effort = &PriceEffort::NONE;
     let resources = &Resources::endless(alloc);
     match improve(resources, &leaf, &mut nets, 0, linear, effort, prices)? {
         Improved::Empty { .. } => Ok(emptied(0)),

@@ -10,6 +10,7 @@ ghost use Rattle.fp_session.specs.Timing.{IsTiming};
 ghost use Rattle.fp_session_history.specs.Notes.{last_round};
 
 use crate::NoMemory;
+use crate::looks::looked_from_found;
 use crate::moves::{Cheaper, Refined};
 use crate::refining::{places_of, refined};
 use crate::searches::Search;
@@ -29,8 +30,8 @@ pub(crate) struct NextRound {
     pub refined: Refined,
 }
 
-// What comes of a relaxed plan that costs less than the incumbent: a cheaper plan; one more round; or
-// the relaxed plan, where no round is left.
+// What comes of a relaxed plan that costs less than the incumbent: a cheaper plan, or a still cheaper
+// one that a look finds from it; one more round; or the relaxed plan, where no round is left.
 #[derive(Drop)]
 pub(crate) enum Timing {
     Better { cheaper: Cheaper },
@@ -97,9 +98,9 @@ pub(crate) fn timed<D: Deadline>(
     .plan;
     let cost = cost(resources.alloc, &search.instance, &plan)?;
     if cost < search.cost {
-        return Ok(Timing::Better {
-            cheaper: Cheaper { plan, cost },
-        });
+        let found = Cheaper { plan, cost };
+        let cheaper = looked_from_found(resources, search, found, prices)?;
+        return Ok(Timing::Better { cheaper });
     }
     if search.trace.len() >= search.budget.rounds as usize {
         return Ok(Timing::Spent { relaxed });

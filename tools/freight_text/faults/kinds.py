@@ -15,7 +15,7 @@ SEPARATORS = {";": "semicolons", "\t": "tabs", "|": "bars"}
 COMMENTS = ("#", "//", "--")
 ORDER = "hand on the instance first and then its answer, as in: cat day.csv answer.csv | ./freight check"
 KEPT_ORDER = "the instance's records stand before all kept legs: move them up"
-CHECKERS = ("check", "yard", "fleet")
+CHECKERS = ("check", "yard", "fleet", "improve")
 # The first field of what may follow the instance.
 TAILS = {**dict.fromkeys(CHECKERS, ("answer",)), "replan": ("kept",)}
 # First fields of what commands print that is no answer, and second fields of answers that aren't checked.
@@ -57,7 +57,7 @@ def command_hint(record, command):
         return 'an answer begins with its line "answer": none stands before this one'
     if record.ordinal == 1:
         return f"this is an answer: {command} reads an instance, from which it makes one"
-    return f"{command} reads an instance alone: an answer after it is for ./freight check, yard or fleet"
+    return f"{command} reads an instance alone: an answer after it is for ./freight check, yard, fleet or improve"
 
 
 def instance_kind_hint(record, command):

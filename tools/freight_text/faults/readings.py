@@ -17,16 +17,22 @@ def findings_of(words, records, data):
     draft = InstanceReading(command, own, data)
     findings.add_all(draft, own)
     total = None if findings.listed else alone_cost(instance_of(own))
-    if total:
-        for fault in weight_faults(total, option(words, "--scale", SCALE)):
-            findings.add(fault)
+    scale = option(words, "--scale", SCALE)
+    add_weights(findings, total, SCALE if command in CHECKERS else scale)
     if command in CHECKERS:
         add_certificate(findings, CertificateReading(draft, total), records, rest)
+        add_weights(findings, None if findings.listed else total, scale)
     elif command == "replan":
         findings.add_all(KeptReading(draft), rest)
     elif command == "quote" and not draft.counts["shipment"]:
         findings.add(no_shipment_fault())
     return findings
+
+
+def add_weights(findings, total, scale):
+    """The fault of an instance at a scale, where its records have none."""
+    for fault in weight_faults(total, scale) if total else ():
+        findings.add(fault)
 
 
 def add_certificate(findings, reading, records, certificate):

@@ -35,8 +35,9 @@ pub fn read_instance(alloc: Global, bytes: Vec<u8>) -> Result<InstanceInput, NoM
     }
 }
 
-// The instance at a scale, or a fault of the input as a whole where the scale doesn't fit.
-fn at_scale(instance: Instance, scale: u32) -> InstanceInput
+/// The instance at a scale within its limits, or a fault of the input as a whole, with ordinal 0 and
+/// code 12, where the scale doesn't fit.
+pub fn at_scale(instance: Instance, scale: u32) -> InstanceInput
     requires { (1 ≤ scale) × (scale ≤ GREATEST_SCALE) }
     ensures { IsAtScale scale instance result }
 {

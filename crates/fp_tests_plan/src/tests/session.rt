@@ -4,6 +4,7 @@ ghost use Rattle.fp_session_history.specs.Budgets.{IsBudget};
 use fp_certificate_lines::{Answer, Spent};
 use fp_flatnet::{Verdict, Windows, direct, feasible};
 use fp_model::Instance;
+use fp_reader::generate;
 use fp_session::{Budget, Ending, NoMemory, Session, Step};
 use fp_tests_examples::{LINE, PAIR, TRIO, instance_of};
 use std::alloc::Global;
@@ -106,6 +107,47 @@ fn steps(rt: HostRuntime) -> Result<(), Fail> {
         let steps = first_steps(alloc, &mut session)?;
         assert!(rt; steps.contains(&step), "{text}");
         assert_eq!(rt; steps.last(), Some(&done));
+    }
+    Ok(())
+}
+
+// What a search of an instance prints, with a budget: cost and bound.
+fn figures(
+    alloc: Global,
+    instance: &Instance,
+    budget: Budget,
+) -> Result<Option<(u128, u128)>, NoMemory>
+    requires { IsBudget budget }
+{
+    let Some(session) = session_of(alloc, instance.copy(alloc)?, budget)? else {
+        return Ok(None);
+    };
+    Ok(match session.solve(alloc)?.certificate.answer {
+        Answer::Optimal { cost } => Some((cost, cost)),
+        Answer::Unfinished { cost, bound, .. } => Some((cost, bound)),
+        Answer::Direct { .. } | Answer::Infeasible { .. } => None,
+    })
+}
+
+#[test]
+fn more_rounds_give_no_less(rt: HostRuntime) -> Result<(), Fail> {
+    let alloc = rt.alloc();
+    for seed in [1, 2, 3] {
+        let instance = generate(alloc, seed, 6, 15)?;
+        let mut before = None;
+        for rounds in [0, 2, 6] {
+            let budget = Budget {
+                rounds,
+                branches: 0,
+            };
+            assert!(rt; rounds <= 400);
+            let now = figures(alloc, &instance, budget)?;
+            if let (Some((cost, bound)), Some((less, more))) = (before, now) {
+                assert!(rt; less <= cost && bound <= more, "{seed} {rounds}");
+            }
+            before = now;
+        }
+        assert!(rt; before.is_some());
     }
     Ok(())
 }

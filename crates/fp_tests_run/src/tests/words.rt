@@ -4,7 +4,7 @@ use crate::tests::runs::run_on;
 use fp_tests_examples::ONE_ARC;
 use std::test::Fail;
 
-const LINES: [&str; 52] = [
+const LINES: [&str; 56] = [
     "",
     "fly",
     "Direct",
@@ -49,6 +49,10 @@ const LINES: [&str; 52] = [
     "plan --seconds 086",
     "plan --seconds 86401",
     "plan --seconds 5 --seconds=5",
+    "improve now",
+    "improve --turns 3",
+    "improve --scale 0",
+    "improve --notes --notes",
     "check --seconds 5",
     "trial 1 2 1 --seconds 5",
     "--rounds 5 plan",

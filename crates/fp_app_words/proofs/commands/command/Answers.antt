@@ -12,8 +12,9 @@ returns c =
     let check = app_of-subcommand _ _ _ _ _ c.in_ok-subcommand-2.ensures direct (top_of _ _ c.new-3.ensures.app) c.new-3.ensures.local in
     let bound = app_of-subcommand _ _ _ _ _ c.in_ok-subcommand-3.ensures check c.in_ok-bound_command.ensures.shape c.in_ok-bound_command.ensures.local in
     let plan = app_of-subcommand _ _ _ _ _ c.in_ok-subcommand-4.ensures bound c.in_ok-plan_command.ensures.shape c.in_ok-plan_command.ensures.local in
-    let trial = app_of-subcommand _ _ _ _ _ c.in_ok-subcommand-5.ensures plan c.in_ok-trial_command.ensures.shape c.in_ok-trial_command.ensures.local in
-    let yard = app_of-subcommand _ _ _ _ _ c.in_ok-subcommand-6.ensures trial c.in_ok-yard_command.ensures.shape c.in_ok-yard_command.ensures.local in
-    let fleet = app_of-subcommand _ _ _ _ _ c.in_ok-subcommand-7.ensures yard (top_of _ _ c.new-4.ensures.app) c.new-4.ensures.local in
-    let replan = app_of-subcommand _ _ _ _ _ c.in_ok-subcommand-8.ensures fleet c.in_ok-search_command.ensures.shape c.in_ok-search_command.ensures.local in
+    let improve = app_of-subcommand _ _ _ _ _ c.in_ok-subcommand-5.ensures plan c.in_ok-plan_command-2.ensures.shape c.in_ok-plan_command-2.ensures.local in
+    let trial = app_of-subcommand _ _ _ _ _ c.in_ok-subcommand-6.ensures improve c.in_ok-trial_command.ensures.shape c.in_ok-trial_command.ensures.local in
+    let yard = app_of-subcommand _ _ _ _ _ c.in_ok-subcommand-7.ensures trial c.in_ok-yard_command.ensures.shape c.in_ok-yard_command.ensures.local in
+    let fleet = app_of-subcommand _ _ _ _ _ c.in_ok-subcommand-8.ensures yard (top_of _ _ c.new-4.ensures.app) c.new-4.ensures.local in
+    let replan = app_of-subcommand _ _ _ _ _ c.in_ok-subcommand-9.ensures fleet c.in_ok-search_command.ensures.shape c.in_ok-search_command.ensures.local in
     app_of-subcommand _ _ _ _ _ c.in_ok-command.ensures replan c.in_ok-search_command-2.ensures.shape c.in_ok-search_command-2.ensures.local

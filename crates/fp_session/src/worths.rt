@@ -1,13 +1,23 @@
-//! The least that a leaf of a tree is worth.
-ghost use Rattle.std.specs.Prelude.{◌<◌, IsSomeAnd};
+//! What leaves are worth.
+ghost use Rattle.std.specs.Prelude.{◌<◌, ◌≤◌, IsSomeAnd, IsTrue, ◌↔◌};
 ghost use Rattle.fp_tree.specs.Nodes.{leaf_at, leaf_count};
 ghost use Rattle.fp_duals_leaves.specs.Prices.{ArePrices};
+ghost use Rattle.fp_session_history.specs.Notes.{worth_of};
 ghost use Rattle.fp_session.specs.Searches.{history};
 ghost use Rattle.fp_session.specs.TreeLines.{IsLeastBelow, IsWorthBelow};
 
 use crate::searches::Search;
-use fp_certificate_rules::rounded_below;
+use fp_certificate_rules::{reaches, rounded_below};
 use fp_duals_leaves::Prices;
+
+// Whether a leaf with this value is worth at least what the incumbent costs.
+pub(crate) fn is_dear(search: &Search, prices: &Prices, value: u128) -> bool
+    requires { ArePrices search.now.instance prices.now }
+    ensures { IsTrue result ↔ (search.now.cost ≤ worth_of (history search.now prices.now) value) }
+{
+    let amount = value.div_ceil(u128::from(search.instance.scale()));
+    reaches(amount, prices.unit(), search.cost)
+}
 
 // What a leaf is worth, in whole units of money, rounded up by the unit: none where it is empty, or
 // where that isn't below a ceiling.
