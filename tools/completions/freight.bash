@@ -11,7 +11,7 @@ _freight_options() {
   bound) words='--seconds --spans -o --output --allow-empty -h --help' ;;
   check) words='-o --output --allow-empty -h --help' ;;
   yard) words='-o --output --allow-empty -h --help' ;;
-  fleet) words='-o --output --allow-empty -h --help' ;;
+  fleet) words='--trucks -o --output --allow-empty -h --help' ;;
   replan) words='--rounds --branches --seconds --spans --notes -o --output --certificate --timetable-only --allow-empty -h --help' ;;
   quote) words='--rounds --branches --seconds --spans --notes -o --output --allow-empty -h --help' ;;
   trial) words='-o --output -h --help' ;;

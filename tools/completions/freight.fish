@@ -56,6 +56,7 @@ complete -c freight -n '__fish_seen_subcommand_from check' -s h -l help -d 'this
 complete -c freight -n '__fish_seen_subcommand_from yard' -s o -l output -r -F -d 'the answer goes to FILE: whole, or not at all'
 complete -c freight -n '__fish_seen_subcommand_from yard' -l allow-empty -d 'an instance without shipments is as good as any: status 0, and no warning'
 complete -c freight -n '__fish_seen_subcommand_from yard' -s h -l help -d 'this page, on standard output'
+complete -c freight -n '__fish_seen_subcommand_from fleet' -l trucks -d 'what each truck runs too, with its load'
 complete -c freight -n '__fish_seen_subcommand_from fleet' -s o -l output -r -F -d 'the answer goes to FILE: whole, or not at all'
 complete -c freight -n '__fish_seen_subcommand_from fleet' -l allow-empty -d 'an instance without shipments is as good as any: status 0, and no warning'
 complete -c freight -n '__fish_seen_subcommand_from fleet' -s h -l help -d 'this page, on standard output'

@@ -147,7 +147,7 @@ class TableReader:
         self.instance, self.scale = instance, scale
         self.arc_place = {ends: place for place, ends in enumerate(instance.arcs)}
         self.shipment_place = {name: place for place, name in enumerate(instance.shipments)}
-        self.share, self.last_share, self.last_weight, self.spans = None, None, None, []
+        self.share, self.last_share, self.last_weight, self.last_moment, self.spans = None, None, None, None, []
 
     def take(self, it):
         """Takes a line, and says what is wrong with it or with the share before it."""
@@ -156,12 +156,14 @@ class TableReader:
             self.share, self.last_share, self.spans = None, None, []
         elif it.kind == "span":
             fault = fault or self.span_fault(it)
-            self.share, self.last_weight = None, None
+            self.share, self.last_weight, self.last_moment = None, None, int(it.fields[3])
         elif it.kind == "share":
             key = (self.arc_place[it.fields[1], it.fields[2]], int(it.fields[3]))
             if self.last_share is not None and key <= self.last_share:
                 fault = fault or f"line {it.line}: shares ascend by the arc's place in the input and then by point"
             self.last_share, self.last_weight, self.share = key, None, [it, 0]
+        elif it.kind == "group":
+            fault = self.moment_fault(it)
         else:
             place = self.shipment_place[it.fields[1]]
             if self.last_weight is not None and place <= self.last_weight:
@@ -182,6 +184,14 @@ class TableReader:
         most = self.scale * self.instance.arcs[it.fields[1], it.fields[2]].truck
         return f"line {it.line}: at {point} the spans of the arc have {held:,}, and scale times TRUCK is {most:,}" if held > most else None
 
+    def moment_fault(self, it):
+        """What is wrong with the moment of a group; it is kept."""
+        moment, before = int(it.fields[1]), self.last_moment
+        self.last_moment = moment
+        if before < moment < self.spans[-1][2]:
+            return None
+        return f"line {it.line}: the MOMENTs of a span ascend, after its POINT and before its UNTIL"
+
     def rule_fault(self):
         if self.share is None:
             return None
@@ -194,11 +204,11 @@ class TableReader:
 def table_fault(instance, certificate):
     reader = TableReader(instance, scale_of(certificate))
     for it in certificate:
-        if it.kind in ("table", "share", "span", "weight"):
+        if it.kind in ("table", "share", "span", "weight", "group"):
             fault = reader.take(it)
             if fault:
                 return fault
-    return reader.rule_fault() or unit_fault(instance, certificate) or "the CHARGE of a span doesn't pay for all its weights together"
+    return reader.rule_fault() or unit_fault(instance, certificate) or "the CHARGE of a span doesn't pay for the weights of its groups"
 
 
 def unit_fault(instance, certificate):

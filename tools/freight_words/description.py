@@ -70,6 +70,7 @@ SECONDS = Option("--seconds", "it ends then with the best it has", "N", Range(1,
 SCALE = Option("--scale", "how many parts of prices make a unit of money", "N", Range(1, 1_000_000_000), 1_000_000)
 SPANS = Option("--spans", "prices of runs of classes too: it takes longer, and mostly proves more")
 NOTES = Option("--notes", "cost, bound and each cheaper timetable on standard error meanwhile")
+TRUCKS = Option("--trucks", "what each truck runs too, with its load")
 
 HELP = Option("--help", "this page, on standard output", short="-h")
 OUTPUT = Option("--output", "the answer goes to FILE: whole, or not at all", "FILE", short="-o")
@@ -116,7 +117,7 @@ COMMANDS = (
     Command("bound", "a number under which no plan costs", "INSTANCE", options=(SECONDS, SPANS), own=READER),
     Command("check", "whether an answer's certificate is accepted for the instance", "INSTANCE ANSWER", own=READER),
     Command("yard", "each terminal's sheet of the answer's timetable, and one run of it", "INSTANCE ANSWER", (Place("SEED", SEED),), own=READER),
-    Command("fleet", "the fewest trucks that run the answer's timetable, and which line each runs next", "INSTANCE ANSWER", own=READER),
+    Command("fleet", "the fewest trucks that run the answer's timetable, and which line each runs next", "INSTANCE ANSWER", options=(TRUCKS,), own=READER),
     Command("replan", "the cheapest timetable that keeps the legs of trucks that roll already", "INSTANCE KEPT", options=SEARCH, own=PLANNER),
     Command("quote", "what the last shipment adds to the cost: at least and at most", "INSTANCE", options=SEARCH, own=READER),
     Command(

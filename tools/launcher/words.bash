@@ -12,6 +12,7 @@ declare -A options=(
   [plan]='--rounds --branches --scale --seconds --spans --notes'
   [improve]='--rounds --branches --scale --seconds --spans --notes'
   [bound]='--seconds --spans'
+  [fleet]='--trucks'
   [replan]='--rounds --branches --seconds --spans --notes'
   [quote]='--rounds --branches --seconds --spans --notes'
 )

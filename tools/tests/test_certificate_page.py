@@ -19,10 +19,10 @@ def shown_lines():
 @unittest.skipIf(proved() is None, "the proved program of these sources isn't here")
 class Page(unittest.TestCase):
     def test_lines(self):
-        first, second = (TOP / "examples/hub-proof.csv").read_bytes(), (TOP / "examples/three-trucks.csv").read_bytes()
+        first, second, third = ((TOP / f"examples/{name}.csv").read_bytes() for name in ("hub-proof", "three-trucks", "two-groups"))
         answer = self.prints("plan --spans --branches 0", second)
-        self.assertEqual("\n".join(shown_lines()) + "\n", (first + second + answer).decode())
-        for data in (first, second + answer):
+        self.assertEqual("\n".join(shown_lines()) + "\n", (first + second + answer + third).decode())
+        for data in (first, second + answer, third):
             self.assertEqual(self.prints("check", data), b"accepted,optimal\n")
 
     def prints(self, words, data):

@@ -88,7 +88,7 @@ module _ (over : Bool) where
       (λ (x : CertifiedInstance). improve-status (within budget over) spans x s) told
   ShowsInput-InputStatus (Trial seed terminals shipments) input s told = absurd told
   ShowsInput-InputStatus (Yard seed) input s told = certificate-map input s (λ p c. ShowsYard seed p c s) (λ p c. ToldStatus p c (status_of s)) (λ p c. yard-status seed p c s) told
-  ShowsInput-InputStatus Fleet input s told = certificate-map input s (λ p c. ShowsFleet p c s) (λ p c. ToldStatus p c (status_of s)) (λ p c. fleet-status p c s) told
+  ShowsInput-InputStatus (Fleet trucks) input s told = certificate-map input s (λ p c. ShowsFleet trucks p c s) (λ p c. ToldStatus p c (status_of s)) (λ p c. fleet-status trucks p c s) told
   ShowsInput-InputStatus (Replan budget spans seconds notes) input s told =
       MatchResult_map (kept_in input) (λ (x : KeptInstance). ShowsReplan (within budget over) spans x s) (λ (x : KeptInstance). SearchStatus x.instance (keeping x.kept) (within budget over) (status_of s)) s (λ (x : KeptInstance). replan-status (within budget over) spans x s) told
   ShowsInput-InputStatus (Quote budget spans seconds notes) input s told =

@@ -124,4 +124,4 @@ notes-same (Some order.Check) input known = refl
 notes-same (Some (order.Bound option seconds)) input known = refl
 notes-same (Some (order.Trial seed terminals shipments)) input known = refl
 notes-same (Some (order.Yard seed)) input known = refl
-notes-same (Some order.Fleet) input known = refl
+notes-same (Some (order.Fleet trucks)) input known = refl

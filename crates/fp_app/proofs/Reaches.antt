@@ -39,7 +39,7 @@ module _ (over : Bool) where
       (bound : (option : Bool) (p : Problem) → ShowsBound option p s → ⊥) (search_none : (allowed : Allowance) (spans : Bool) (p : Problem) → ShowsSearch allowed spans p s → ⊥) (check : (p : Problem) (c : Statement) → ShowsCheck p c s → ⊥)
       (replan : (allowed : Allowance) (spans : Bool) (x : KeptInstance) → ShowsReplan allowed spans x s → ⊥) (quote : (allowed : Allowance) (spans : Bool) (p : Problem) → ShowsQuote allowed spans p s → ⊥)
       (alone : (o : Order) → ShowsAlone o s → ⊥) (yard : (seed : ℕ) (p : Problem) (c : Statement) → ShowsYard seed p c s → ⊥)
-      (fleet : (p : Problem) (c : Statement) → ShowsFleet p c s → ⊥) (improve : (allowed : Allowance) (spans : Bool) (x : CertifiedInstance) → ShowsImprove allowed spans x s → ⊥) where
+      (fleet : (trucks : Bool) (p : Problem) (c : Statement) → ShowsFleet trucks p c s → ⊥) (improve : (allowed : Allowance) (spans : Bool) (x : CertifiedInstance) → ShowsImprove allowed spans x s → ⊥) where
     no-certificate : (input : List ℕ) (P : Problem → Statement → Type 0) → ((p : Problem) (c : Statement) → P p c → ⊥) → OfCertificate input s P → ⊥
     no-certificate input P none told =
         MatchResult_neither (leading_instance_in input) (λ p. MatchResult (certificate_in p input) (P p) (λ (f : Fault). s ≡ shown.BadInput f.ordinal f.code)) (λ (f : Fault). s ≡ shown.BadInput f.ordinal f.code)
@@ -57,7 +57,7 @@ module _ (over : Bool) where
         MatchResult_neither (kept_in input) (λ (x : KeptInstance). ShowsReplan (within budget over) spans x s) (λ (f : Fault). s ≡ shown.BadInput f.ordinal f.code) (replan (within budget over) spans) fault told
     no-input (Quote budget spans seconds notes) input told = MatchResult_neither (quoted_in input) (λ p. ShowsQuote (within budget over) spans p s) (λ (f : Fault). s ≡ shown.BadInput f.ordinal f.code) (quote (within budget over) spans) fault told
     no-input (Yard seed) input told = no-certificate input (λ p c. ShowsYard seed p c s) (yard seed) told
-    no-input Fleet input told = no-certificate input (λ p c. ShowsFleet p c s) fleet told
+    no-input (Fleet trucks) input told = no-certificate input (λ p c. ShowsFleet trucks p c s) (fleet trucks) told
     no-input Check input told = no-certificate input (λ p c. ShowsCheck (scaled p c) c s) (λ p c. check (scaled p c) c) told
 
     no-whole : (o : Order) (old new : Option (List ℕ)) → OfInput (limit_of (Some o)) old new s (λ input. ShowsInput over o input s) → ⊥
@@ -74,11 +74,11 @@ module _ (over : Bool) where
 
   nothing-no_order : (o : Order) (old new : Option (List ℕ)) → Answers over (Some o) old new shown.Nothing → ⊥
   nothing-no_order o old new told =
-      no-answer shown.Nothing (λ f e. cc e) (λ e. cc e) (λ p none. none) (λ option p none. none) (λ allowed spans p none. none) (λ p c none. none) (λ allowed spans x none. none) (λ allowed spans p none. none) (alone-shows_trial shown.Nothing (λ seed terminals shipments none. none)) (λ seed p c none. none) (λ p c none. none) (λ allowed spans x none. none) o old new told
+      no-answer shown.Nothing (λ f e. cc e) (λ e. cc e) (λ p none. none) (λ option p none. none) (λ allowed spans p none. none) (λ p c none. none) (λ allowed spans x none. none) (λ allowed spans p none. none) (alone-shows_trial shown.Nothing (λ seed terminals shipments none. none)) (λ seed p c none. none) (λ trucks p c none. none) (λ allowed spans x none. none) o old new told
 
   words-no_order : (o : Order) (old new : Option (List ℕ)) → Answers over (Some o) old new shown.BadWords → ⊥
   words-no_order o old new told =
-      no-answer shown.BadWords (λ f e. cc e) (λ e. cc e) (λ p none. none) (λ option p none. none) (λ allowed spans p none. none) (λ p c none. none) (λ allowed spans x none. none) (λ allowed spans p none. none) (alone-shows_trial shown.BadWords (λ seed terminals shipments none. none)) (λ seed p c none. none) (λ p c none. none) (λ allowed spans x none. none) o old new told
+      no-answer shown.BadWords (λ f e. cc e) (λ e. cc e) (λ p none. none) (λ option p none. none) (λ allowed spans p none. none) (λ p c none. none) (λ allowed spans x none. none) (λ allowed spans p none. none) (alone-shows_trial shown.BadWords (λ seed terminals shipments none. none)) (λ seed p c none. none) (λ trucks p c none. none) (λ allowed spans x none. none) o old new told
 
   nothing-no_answer : (o : Option Order) (old new : Option (List ℕ)) → Answers over o old new shown.Nothing → ⊥
   nothing-no_answer None old new told = cc told

@@ -55,7 +55,7 @@ module _ (over : Bool) where
   ShowsNo_input (Improve budget scale spans seconds notes) input number told = improve-rejection (within budget over) scale spans input number told
   ShowsNo_input (Trial seed terminals shipments) input number told = absurd told
   ShowsNo_input (Yard seed) input number told = yard-rejection seed input number told
-  ShowsNo_input Fleet input number told = fleet-rejection input number told
+  ShowsNo_input (Fleet trucks) input number told = fleet-rejection trucks input number told
   ShowsNo_input (Replan budget spans seconds notes) input number told = absurd (rejection-unread number (kept_in input) told)
   ShowsNo_input (Quote budget spans seconds notes) input number told = absurd (rejection-unread number (quoted_in input) told)
   ShowsNo_input Check input number told = ShowsNo_check input number (leading_instance_in input) refl told

@@ -1,5 +1,5 @@
 -- The bound of an instance from what its root is worth.
-use Rattle.std.proofs.Common.{◌≡◌, ℕ, ◌*◌, ◌<◌, ◌≤◌, Bool, List, [], ◌∙◌, arith, mul_comm, subst}
+use Rattle.std.proofs.Common.{◌≡◌, ℕ, ◌*◌, ◌<◌, ◌≤◌, Bool, List, [], ◌∙◌, arith, mul_comm, subst, sym}
 use Rattle.std.specs.Prelude.{Option}
 use Rattle.fp_base_lists.proofs.Ceilings.{div_ceil-least, div_ceil_mono}
 use Rattle.fp_model.specs.declared.parts.Leg.{Leg}
@@ -29,6 +29,7 @@ use Rattle.fp_prices.proofs.PlanBounds.{leaf-empty}
 use Rattle.fp_prices.proofs.SamePoints.{bound-same}
 use Rattle.fp_prices_spans.specs.SpanKinds.{spans_beside}
 use Rattle.fp_prices_spans.specs.SpanLeaves.{IsSpanLeafValue}
+use Rattle.fp_prices_spans.specs.MomentRuns.{AreAmong}
 use Rattle.fp_prices_spans.specs.Spans.{ClassSpan}
 use Rattle.fp_prices_spans.proofs.SameSpanValues.{span_value-same}
 use Rattle.fp_prices_spans.proofs.SpanBounds.{span_leaf-bounds}
@@ -50,11 +51,11 @@ root-not_empty p windows points k covers exists first =
     leaf-empty p windows points [] (record { shipment = k; exists = first.exists; none = first.none }) exists.0 exists.1 (IsPlanOfLeaf-root p windows covers exists.0 exists.1 exists.2 exists.3)
 
 -- no plan costs less than a value of the root in whole units
-root-plans : (p : Problem) (windows : ℕ → ℕ → Option Window) (points : ℕ → List ℕ) (tables : List (List ClassShare)) (spans : List ClassSpan) (kind : Kind) (forced : Bool) (value : ℕ) → IsValid p → AreTables p tables →
-    AreSoundSpans p spans → CoverPlans p windows → IsSpanLeafValue p windows points [] tables spans kind forced value → NoPlanCheaper p (whole_units p value)
-root-plans p windows points tables spans kind forced value valid prices sound covers is d routes some plan =
+root-plans : (p : Problem) (table : WindowTable) (points : ℕ → List ℕ) (tables : List (List ClassShare)) (spans : List ClassSpan) (kind : Kind) (forced : Bool) (value : ℕ) → IsValid p → AreAmong p (initial_points p table.anchors) points →
+    AreTables p tables → AreSoundSpans p table spans → CoverPlans p (windows_in table) → IsSpanLeafValue p (windows_in table) points [] tables spans kind forced value → NoPlanCheaper p (whole_units p value)
+root-plans p table points tables spans kind forced value valid among prices sound covers is d routes some plan =
     let bounds : value ≤ p.scale * cost p routes =
-    span_leaf-bounds p windows points [] tables spans kind forced value valid prices.rule sound.rules is d routes (IsPlanOfLeaf-root p windows covers d routes some plan) in
+    span_leaf-bounds p (windows_in table) (initial_points p table.anchors) points [] tables spans kind forced value valid among prices.rule sound.rules is d routes (IsPlanOfLeaf-root p (windows_in table) covers d routes some plan) in
     let scale : 0 < p.scale = omega (arith, valid.scale.0) in
     div_ceil-least value p.scale (cost p routes) scale (omega (arith, bounds, mul_comm p.scale (cost p routes)))
 
@@ -76,17 +77,18 @@ initial-points p table points net unanchored begins is =
 
 -- a price that was found for the root makes the bound of the instance
 pub IsPriceFound-IsRootBound : (p : Problem) (table : WindowTable) (points : TimePoints) (net : TimedNetwork) (x : PriceLists) (price : LeafPrice) (value : ℕ) (walks : List (List Leg)) → AreWindowsOf p table → CoverPlans p (windows_in table) →
-    BeginAt p table.anchors points → IsNetworkOf p points 0 net → ArePrices p x →
+    BeginAt p table.anchors points → IsNetworkOf p points 0 net → ArePrices p table x →
     IsPriceFound p (windows_in table) (points_in net) [] x 0 (record { price = price; value = value }) walks → IsRootBound p price x.tables (spans_beside x.spans price.kind) value
 IsPriceFound-IsRootBound p table points net x price value walks windows covers begins is prices found =
     let valid : IsValid p = windows.belongs.valid in
     let spans : List ClassSpan = spans_beside x.spans price.kind in
-    let sound : AreSoundSpans p spans = beside-sound p x price.kind prices in
+    let sound : AreSoundSpans p table spans = beside-sound p table x price.kind prices in
+    let among : AreAmong p (initial_points p table.anchors) (initial_points p []) = subst (λ (anchors : List Place). AreAmong p (initial_points p anchors) (initial_points p [])) (sym windows.unanchored) (λ terminal lt at has. has) in
     let here : IsEarnedValue p (windows_in table) (initial_points p []) price x.tables spans value =
     IsEarnedValue-same p (windows_in table) (points_in net) (initial_points p []) price x.tables spans value valid (initial-points p table points net windows.unanchored begins is)
     (record { is = found.worth.is; linear = found.linear; even = found.even }) in
     record {
       root = record { table = table; windows = windows; prices = prices.tables.in_order; sound = sound; kind = found.worth.kind; round = found.worth.of_round; earned = here };
       flat = λ least lower. div_ceil_mono least value p.scale (flat-le_leaf p (windows_in table) (initial_points p []) [] x.tables spans price.kind price.forced least value lower here.is here.linear);
-      plans = root-plans p (windows_in table) (initial_points p []) x.tables spans price.kind price.forced value valid prices.tables.in_order sound covers here.is;
+      plans = root-plans p table (initial_points p []) x.tables spans price.kind price.forced value valid among prices.tables.in_order sound covers here.is;
     }

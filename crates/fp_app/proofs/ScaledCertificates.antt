@@ -60,6 +60,7 @@ module _ (p : Problem) (scale : ℕ) where
     money = is.money;
     charge = is.charge;
     weights = weights-in_range s.weights is.weights;
+    groups = is.groups;
   }
 
   node-in_range : (tables : List (List ClassShare)) (n : Node) → IsNodeInRange p tables n → IsNodeInRange rescaled tables n

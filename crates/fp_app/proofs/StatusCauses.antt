@@ -90,7 +90,7 @@ module _ (over : Bool) where
       ShowsFault_instance (Improve budget scale spans seconds notes) input ordinal code (λ (x : CertifiedInstance). ShowsImprove (within budget over) spans x (shown.BadInput ordinal code)) (certified_at scale input) (λ x none. none) refl (certified_at scale input) refl told
   ShowsFault_input (Trial seed terminals shipments) input ordinal code told = absurd told
   ShowsFault_input (Yard seed) input ordinal code told = yard-fault seed input ordinal code told
-  ShowsFault_input Fleet input ordinal code told = fleet-fault input ordinal code told
+  ShowsFault_input (Fleet trucks) input ordinal code told = fleet-fault trucks input ordinal code told
   ShowsFault_input (Replan budget spans seconds notes) input ordinal code told =
       ShowsFault_instance (Replan budget spans seconds notes) input ordinal code (λ (x : KeptInstance). ShowsReplan (within budget over) spans x (shown.BadInput ordinal code)) (kept_in input) (λ x none. none) refl (kept_in input) refl told
   ShowsFault_input (Quote budget spans seconds notes) input ordinal code told =
@@ -230,7 +230,7 @@ module _ (over : Bool) where
   ShowsDone_input (Improve budget scale spans seconds notes) input s told done = improve-done (within budget over) scale spans input s told done
   ShowsDone_input (Trial seed terminals shipments) input s told done = absurd told
   ShowsDone_input (Yard seed) input s told done = yard-done seed input s told done
-  ShowsDone_input Fleet input s told done = fleet-done input s told done
+  ShowsDone_input (Fleet trucks) input s told done = fleet-done trucks input s told done
   ShowsDone_input (Replan budget spans seconds notes) input s told done = replan-done (within budget over) spans input s told done
   ShowsDone_input (Quote budget spans seconds notes) input s told done = quote-done (within budget over) spans input s told done
   ShowsDone_input Check input s told done = ShowsYes_check input s (leading_instance_in input) refl told done
@@ -313,7 +313,7 @@ module _ (over : Bool) where
   ShowsNone_input (Improve budget scale spans seconds notes) input s told none = improve-not_none (within budget over) scale spans input s told none
   ShowsNone_input (Trial seed terminals shipments) input s told none = absurd told
   ShowsNone_input (Yard seed) input s told none = absurd (yard-no_other seed status.Infeasible (λ e. cc e) (λ e. cc e) (λ e. cc e) input s told none)
-  ShowsNone_input Fleet input s told none = absurd (fleet-no_other status.Infeasible (λ e. cc e) (λ e. cc e) (λ e. cc e) input s told none)
+  ShowsNone_input (Fleet trucks) input s told none = absurd (fleet-no_other status.Infeasible (λ e. cc e) (λ e. cc e) (λ e. cc e) trucks input s told none)
   ShowsNone_input (Replan budget spans seconds notes) input s told none = replan-stuck (within budget over) spans input s told none
   ShowsNone_input (Quote budget spans seconds notes) input s told none = quote-none (within budget over) budget spans seconds notes input s told none
   ShowsNone_input Check input s told none =
@@ -367,7 +367,7 @@ module _ (over : Bool) where
   ShowsOpen_input (Improve budget scale spans seconds notes) input s told ends = improve-open (within budget over) scale spans input s told ends
   ShowsOpen_input (Trial seed terminals shipments) input s told ends = absurd told
   ShowsOpen_input (Yard seed) input s told ends = absurd (yard-no_other seed status.Unfinished (λ e. cc e) (λ e. cc e) (λ e. cc e) input s told ends)
-  ShowsOpen_input Fleet input s told ends = absurd (fleet-no_other status.Unfinished (λ e. cc e) (λ e. cc e) (λ e. cc e) input s told ends)
+  ShowsOpen_input (Fleet trucks) input s told ends = absurd (fleet-no_other status.Unfinished (λ e. cc e) (λ e. cc e) (λ e. cc e) trucks input s told ends)
   ShowsOpen_input (Replan budget spans seconds notes) input s told ends = replan-open (within budget over) spans input s told ends
   ShowsOpen_input (Quote budget spans seconds notes) input s told ends = quote-open (within budget over) spans input s told ends
   ShowsOpen_input Check input s told ends =

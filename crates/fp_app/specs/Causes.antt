@@ -27,7 +27,7 @@ use Rattle.fp_app.specs.Bounds.{IsRootBound}
 use Rattle.fp_app.specs.Checks.{IsAcceptedFor, ShowsAccepted, ShowsRejected, scaled}
 use Rattle.fp_fleet.specs.Fleets.{Assignment}
 use Rattle.fp_yard.specs.declared.events.Event.{Event}
-use Rattle.fp_app.specs.Fleets.{IsSmallestFleet}
+use Rattle.fp_app.specs.Fleets.{IsShownFleet, IsSmallestFleet}
 use Rattle.fp_app.specs.Yards.{IsDrawnLog}
 use Rattle.fp_app.specs.Plans.{IsToldPlan, ShowsUntold, TellsTimetable}
 use Rattle.fp_app.specs.Improvements.{IsImproved}
@@ -221,15 +221,16 @@ pub record ShowsNo (Rejects : Problem → Statement → ℕ → Type 0) (input :
   pub rejected : Rejects instance certificate number
 
 -- The input gives an instance and a certificate that tells a plan, and what is shown is that plan with
--- a fleet of its truck lines that no roster of them undercuts.
-pub record ShowsTrucks (input : List ℕ) (result : Shown) : Type 0 where
+-- a fleet of its truck lines that no roster of them undercuts, with the option of trucks also what each
+-- truck runs.
+pub record ShowsTrucks (trucks : Bool) (input : List ℕ) (result : Shown) : Type 0 where
   pub instance : Problem
   pub certificate : Statement
   pub plan : List (List Leg)
   pub fleet : Assignment
   pub read : leading_instance_in input ≡ Ok instance
   pub certified : certificate_in instance input ≡ Ok certificate
-  pub shows : result ≡ shown.Fleet instance plan fleet
+  pub shows : IsShownFleet trucks instance certificate.trucks plan fleet result
   pub told : IsToldPlan instance certificate plan
   pub smallest : IsSmallestFleet instance certificate.trucks fleet
 
@@ -263,7 +264,7 @@ ShowsDone over (Some (order.Plan budget scale spans seconds notes)) input result
 ShowsDone over (Some (order.Improve budget scale spans seconds notes)) input result = ShowsImprovedOptimal (within budget over) scale spans input result
 ShowsDone over (Some (order.Trial seed terminals shipments)) input result = ShowsOptimal trial_allowance false (Ok (generated seed terminals shipments)) (shown.Trial seed None) result
 ShowsDone over (Some (order.Yard seed)) input result = ShowsRun seed input result
-ShowsDone over (Some order.Fleet) input result = ShowsTrucks input result
+ShowsDone over (Some (order.Fleet trucks)) input result = ShowsTrucks trucks input result
 ShowsDone over (Some (order.Replan budget spans seconds notes)) input result = ShowsKeptOptimal (within budget over) spans input result
 ShowsDone over (Some (order.Quote budget spans seconds notes)) input result = ShowsExactExtra (within budget over) spans input result
 
@@ -289,7 +290,7 @@ ShowsInfeasible (Some order) input result = ShowsNone order input result
 abbrev pub ShowsRejection : Option Order → List ℕ → Shown → Type 0
 ShowsRejection (Some order.Check) input result = ShowsNo (λ p c number. ShowsRejected (scaled p c) c number) input result
 ShowsRejection (Some (order.Yard seed)) input result = ShowsNo ShowsUntold input result
-ShowsRejection (Some order.Fleet) input result = ShowsNo ShowsUntold input result
+ShowsRejection (Some (order.Fleet trucks)) input result = ShowsNo ShowsUntold input result
 ShowsRejection (Some (order.Improve budget scale spans seconds notes)) input result = ShowsNo (λ p c number. ShowsUntold (record p { scale = scale }) c number) input result
 ShowsRejection _ input result = ⊥
 
@@ -355,7 +356,7 @@ InputStatus over (order.Yard seed) input result =
     MatchResult (leading_instance_in input)
     (λ p. MatchResult (certificate_in p input) (λ c. ToldStatus p c result) (λ f. result ≡ status.BadInput))
     (λ f. result ≡ status.BadInput)
-InputStatus over order.Fleet input result =
+InputStatus over (order.Fleet trucks) input result =
     MatchResult (leading_instance_in input)
     (λ p. MatchResult (certificate_in p input) (λ c. ToldStatus p c result) (λ f. result ≡ status.BadInput))
     (λ f. result ≡ status.BadInput)

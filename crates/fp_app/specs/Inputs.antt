@@ -34,7 +34,7 @@ limit_of (Some (order.Plan budget scale spans seconds notes)) = INSTANCE_LIMIT
 limit_of (Some (order.Improve budget scale spans seconds notes)) = CHECK_LIMIT
 limit_of (Some (order.Trial seed terminals shipments)) = 0
 limit_of (Some (order.Yard seed)) = CHECK_LIMIT
-limit_of (Some order.Fleet) = CHECK_LIMIT
+limit_of (Some (order.Fleet trucks)) = CHECK_LIMIT
 limit_of (Some (order.Replan budget spans seconds notes)) = INSTANCE_LIMIT
 limit_of (Some (order.Quote budget spans seconds notes)) = INSTANCE_LIMIT
 
@@ -210,7 +210,7 @@ fault_in (Some (order.Plan budget scale spans seconds notes)) input = fault_of (
 fault_in (Some (order.Improve budget scale spans seconds notes)) input = fault_of (certified_at scale input)
 fault_in (Some (order.Trial seed terminals shipments)) input = None
 fault_in (Some (order.Yard seed)) input = input_fault input (leading_instance_in input)
-fault_in (Some order.Fleet) input = input_fault input (leading_instance_in input)
+fault_in (Some (order.Fleet trucks)) input = input_fault input (leading_instance_in input)
 fault_in (Some (order.Replan budget spans seconds notes)) input = fault_of (kept_in input)
 fault_in (Some (order.Quote budget spans seconds notes)) input = fault_of (quoted_in input)
 
@@ -224,6 +224,6 @@ given_to (order.Plan budget scale spans seconds notes) input = instance_at scale
 given_to (order.Improve budget scale spans seconds notes) input = read_at_scale scale (leading_instance_in input)
 given_to (order.Trial seed terminals shipments) input = Ok (generated seed terminals shipments)
 given_to (order.Yard seed) input = leading_instance_in input
-given_to order.Fleet input = leading_instance_in input
+given_to (order.Fleet trucks) input = leading_instance_in input
 given_to (order.Replan budget spans seconds notes) input = unkept_instance_in input
 given_to (order.Quote budget spans seconds notes) input = quoted_in input

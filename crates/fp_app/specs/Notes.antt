@@ -13,7 +13,7 @@ use Rattle.fp_flatnet.specs.Tables.{WindowTable, windows_in}
 use Rattle.fp_flatnet.specs.Windows.{PlanLiesWithin}
 use Rattle.fp_certificate_rules.specs.Claims.{NoPlanWithinCheaper}
 use Rattle.fp_session.specs.declared.progress.Progress.{Progress}
-use Rattle.fp_session.specs.Sessions.{SessionModel}
+use Rattle.fp_session.specs.Sessions.{SessionModel, cheapest_of}
 use Rattle.fp_replan.specs.Quotes.{without_last}
 use Rattle.fp_app_words.specs.declared.orders.Order.{Order}
 use Rattle.fp_app_words.specs.declared.orders.Order.TheVariants as order
@@ -60,9 +60,9 @@ IsPlanText p plan is_told text = MatchBool is_told (IsText (shown.Direct p plan)
 
 -- what a search has in hand makes a note: its rounds and splits aside, its plan at this cost, and this bound
 pub record IsNoteOf (m : SessionModel) (x : Progress) : Type 0 where
-  pub plan : IsPlan m.instance 1 m.incumbent
-  pub within : PlanLiesWithin (windows_in m.windows) 1 m.incumbent
-  pub cost : x.cost ≡ cost m.instance m.incumbent
+  pub plan : IsPlan m.instance 1 (cheapest_of m)
+  pub within : PlanLiesWithin (windows_in m.windows) 1 (cheapest_of m)
+  pub cost : x.cost ≡ cost m.instance (cheapest_of m)
   pub bound : NoPlanWithinCheaper m.instance (windows_in m.windows) x.bound
 
 -- the text of a note: where its plan is cheaper than what was noted before that plan first, as an answer of

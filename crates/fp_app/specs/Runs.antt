@@ -108,7 +108,7 @@ ShowsInput over (order.Plan budget scale spans seconds notes) input result = OfS
 ShowsInput over (order.Improve budget scale spans seconds notes) input result = OfCertified scale input result (λ x. ShowsImprove (within budget over) spans x result)
 ShowsInput over (order.Trial seed terminals shipments) input result = ⊥
 ShowsInput over (order.Yard seed) input result = OfCertificate input result (λ p c. ShowsYard seed p c result)
-ShowsInput over order.Fleet input result = OfCertificate input result (λ p c. ShowsFleet p c result)
+ShowsInput over (order.Fleet trucks) input result = OfCertificate input result (λ p c. ShowsFleet trucks p c result)
 ShowsInput over (order.Replan budget spans seconds notes) input result = OfKept input result (λ x. ShowsReplan (within budget over) spans x result)
 ShowsInput over (order.Quote budget spans seconds notes) input result = OfQuoted input result (λ p. ShowsQuote (within budget over) spans p result)
 

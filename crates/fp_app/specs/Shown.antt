@@ -9,6 +9,7 @@ use Rattle.fp_certificate_lines.specs.declared.certificates.Answer.TheVariants a
 use Rattle.fp_certificate_lines.specs.Ranges.{AnswerExists, IsNamed}
 use Rattle.fp_timetable.specs.declared.lines.TruckLine.{TruckLine}
 use Rattle.fp_timetable.specs.Lines.{AreTruckLines}
+use Rattle.fp_fleet.specs.DayRows.{RunsExist}
 use Rattle.fp_fleet.specs.Rows.{IsShowable}
 use Rattle.fp_yard_sheets.specs.Rows.{EventsExist}
 use Rattle.fp_app.specs.declared.shown.Shown.{Shown}
@@ -40,6 +41,7 @@ status_of (shown.Accepted kind) = status.Done
 status_of (shown.RejectedPart number) = status.Rejected
 status_of (shown.Yard instance plan log) = status.Done
 status_of (shown.Fleet instance plan fleet) = status.Done
+status_of (shown.Trucks instance plan fleet told) = status.Done
 status_of shown.BadWords = status.BadWords
 status_of (shown.BadInput ordinal code) = status.BadInput
 status_of shown.TooLong = status.TooLong
@@ -83,4 +85,7 @@ IsPrintable (shown.Quoted instance before after) = CanBeQuoted instance before.c
 IsPrintable (shown.Infeasible instance shipment time) = shipment < length instance.shipments
 IsPrintable (shown.Yard instance plan log) = IsPlan instance 1 plan × ((lines : List TruckLine) → AreTruckLines instance plan lines → EventsExist lines log.items)
 IsPrintable (shown.Fleet instance plan fleet) = IsPlan instance 1 plan × ((lines : List TruckLine) → AreTruckLines instance plan lines → IsShowable instance lines fleet)
+IsPrintable (shown.Trucks instance plan fleet told) =
+    IsPlan instance 1 plan × ((lines : List TruckLine) → AreTruckLines instance plan lines → IsShowable instance lines fleet)
+    × ((lines : List TruckLine) → AreTruckLines instance plan lines → RunsExist (length lines) told)
 IsPrintable _ = ⊤

@@ -12,6 +12,7 @@ use Rattle.fp_certificate_lines.specs.declared.certificates.Answer.{Answer}
 use Rattle.fp_certificate_lines.specs.declared.certificates.Answer.TheVariants as answer
 use Rattle.fp_certificate_lines.specs.Rows.{answer_fields, rows_of, shipment_name}
 use Rattle.fp_certificate_lines.specs.Statements.{Statement}
+use Rattle.fp_fleet.specs.DayRows.{fleet_day_rows}
 use Rattle.fp_fleet.specs.Rows.{fleet_rows}
 use Rattle.fp_replan.specs.declared.ranges.Bracket.{Bracket}
 use Rattle.fp_yard_sheets.specs.Rows.{IsYardText}
@@ -84,6 +85,7 @@ IsText (shown.Accepted kind) text = text ≡ line_of (codes "accepted" ∷ kind_
 IsText (shown.RejectedPart number) text = text ≡ line_of (codes "rejected" ∷ decimal number ∷ [])
 IsText (shown.Yard p plan log) text = (lines : List TruckLine) → AreTruckLines p plan lines → IsYardText p plan lines log.items text
 IsText (shown.Fleet p plan fleet) text = (lines : List TruckLine) → AreTruckLines p plan lines → text ≡ lines_of (fleet_rows p lines fleet)
+IsText (shown.Trucks p plan fleet told) text = (lines : List TruckLine) → AreTruckLines p plan lines → text ≡ lines_of (fleet_day_rows p lines fleet told)
 IsText shown.BadWords text = text ≡ line_of (codes "refused" ∷ codes "words" ∷ [])
 IsText (shown.BadInput ordinal code) text = text ≡ line_of (codes "refused" ∷ decimal ordinal ∷ decimal code ∷ [])
 IsText shown.TooLong text = text ≡ line_of (codes "refused" ∷ codes "long" ∷ [])

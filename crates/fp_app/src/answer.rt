@@ -120,7 +120,7 @@ fn input_shown<C: Clock, N: Sink>(
         }
         Order::Trial { .. } => unreachable!(),
         Order::Yard { seed } => yard_shown(alloc, bytes, seed),
-        Order::Fleet => fleet_shown(alloc, bytes),
+        Order::Fleet { trucks } => fleet_shown(alloc, bytes, trucks),
         Order::Plan {
             budget,
             scale,

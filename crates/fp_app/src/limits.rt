@@ -17,7 +17,8 @@ pub(crate) fn limit_of(order: Order) -> usize
     match order {
         Order::Direct | Order::Bound { .. } | Order::Plan { .. } => INSTANCE_LIMIT,
         Order::Replan { .. } | Order::Quote { .. } => INSTANCE_LIMIT,
-        Order::Check | Order::Yard { .. } | Order::Fleet | Order::Improve { .. } => CHECK_LIMIT,
+        Order::Check | Order::Yard { .. } | Order::Fleet { .. } => CHECK_LIMIT,
+        Order::Improve { .. } => CHECK_LIMIT,
         Order::Trial { .. } => 0,
     }
 }

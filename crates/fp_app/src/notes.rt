@@ -4,6 +4,7 @@ ghost use Rattle.fp_flatnet.specs.Tables.{windows_in};
 ghost use Rattle.fp_model.specs.Plans.{IsPlan};
 ghost use Rattle.fp_certificate_rules.specs.Claims.{NoPlanWithinCheaper};
 ghost use Rattle.fp_session.specs.Progress.{IsProgress};
+ghost use Rattle.fp_session.specs.Sessions.{cheapest_of};
 ghost use Rattle.fp_app.specs.Notes.{IsLook, IsNoWorse, IsNoteOf, IsPlanText, is_cheaper, note_line};
 
 use crate::NoMemory;
@@ -77,11 +78,11 @@ fn is_cheaper(before: Option<Figures>, cost: u128) -> bool
 // The plan of a search as an answer, where it is cheaper than what was noted before, and nothing
 // elsewhere.
 fn plan_text(alloc: Global, session: &Session, is_cheaper: bool) -> Result<Vec<u8>, NoMemory>
-    requires { IsPlan session.now.instance 1 session.now.incumbent }
-    ensures { IfOk result (λ text. IsPlanText session.now.instance session.now.incumbent is_cheaper text.items) }
+    requires { IsPlan session.now.instance 1 (cheapest_of session.now) }
+    ensures { IfOk result (λ text. IsPlanText session.now.instance (cheapest_of session.now) is_cheaper text.items) }
 {
     if is_cheaper {
-        direct_text(alloc, session.instance(), session.incumbent())
+        direct_text(alloc, session.instance(), session.cheapest())
     } else {
         Ok(Vec::new(alloc))
     }

@@ -5,7 +5,7 @@ ghost use Rattle.fp_app.specs.Shown.{both_status, search_status, status_of, stat
 
 use crate::{CheckOutcome, Kept, Solved};
 use fp_certificate::Answer;
-use fp_fleet::Fleet;
+use fp_fleet::{Fleet, TruckDays};
 use fp_model::{Instance, Plan};
 use fp_prices::{LeafPrice, Table};
 use fp_prices_spans::Span;
@@ -180,6 +180,13 @@ pub enum Shown {
         plan: Plan,
         fleet: Fleet,
     },
+    /// The same, with what each truck runs; `None` where that is too much to tell.
+    Trucks {
+        instance: Instance,
+        plan: Plan,
+        fleet: Fleet,
+        told: Option<TruckDays>,
+    },
     /// The words are none of the forms.
     BadWords,
     /// The record with this ordinal, from 1, is the first with a fault, and this is the fault's
@@ -236,6 +243,7 @@ impl Shown {
             Shown::RejectedPart { .. } => Status::Rejected,
             Shown::Yard { .. } => Status::Done,
             Shown::Fleet { .. } => Status::Done,
+            Shown::Trucks { .. } => Status::Done,
             Shown::BadWords => Status::BadWords,
             Shown::BadInput { .. } => Status::BadInput,
             Shown::TooLong => Status::TooLong,

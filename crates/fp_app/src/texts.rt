@@ -14,7 +14,7 @@ use crate::inputs::certificates::{direct_certificate, infeasible_certificate};
 use crate::{AnswerKind, NoMemory, Shown};
 use fp_certificate::{Answer, write};
 use fp_certificate_lines::write_answer;
-use fp_fleet::write as write_fleet;
+use fp_fleet::{write as write_fleet, write_trucks};
 use fp_model::{Instance, Name, Plan};
 use fp_records::Line;
 use fp_replan::{Bracket, extra_range};
@@ -272,6 +272,12 @@ pub fn text(alloc: Global, shown: &Shown) -> Result<Vec<u8>, NoMemory>
             plan,
             fleet,
         } => write_fleet(alloc, instance, plan, fleet),
+        Shown::Trucks {
+            instance,
+            plan,
+            fleet,
+            told,
+        } => write_trucks(alloc, instance, plan, fleet, told),
         Shown::BadWords => pair_text(alloc, b"refused", b"words"),
         Shown::BadInput { ordinal, code } => fault_text(alloc, *ordinal, *code),
         Shown::TooLong => pair_text(alloc, b"refused", b"long"),

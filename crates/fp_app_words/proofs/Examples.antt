@@ -213,8 +213,19 @@ the-yard = refl
 option-in-place : order_of (codes "yard" ∷ codes "--rounds=1" ∷ codes "1" ∷ []) ≡ None
 option-in-place = refl
 
-the-fleet : order_of (codes "fleet" ∷ []) ≡ Some Fleet
+the-fleet : order_of (codes "fleet" ∷ []) ≡ Some (Fleet false)
 the-fleet = refl
+
+fleet-trucks : order_of (codes "fleet" ∷ codes "--trucks" ∷ []) ≡ Some (Fleet true)
+unfolding clap_on_literals
+fleet-trucks = refl
+
+fleet-trucks_twice : order_of (codes "fleet" ∷ codes "--trucks" ∷ codes "--trucks" ∷ []) ≡ None
+unfolding clap_on_literals
+fleet-trucks_twice = refl
+
+trucks-of-check : order_of (codes "check" ∷ codes "--trucks" ∷ []) ≡ None
+trucks-of-check = refl
 
 the-replan : order_of (codes "replan" ∷ codes "--branches" ∷ codes "3" ∷ []) ≡ Some (Replan (record { rounds = 400; branches = 3 }) false None false)
 unfolding clap_on_literals

@@ -10,12 +10,12 @@ use Rattle.fp_records_fields.specs.Fields.{number}
 use Rattle.fp_model.specs.declared.limits.TheConstants.{MOST_SHIPMENTS, MOST_TERMINALS}
 use Rattle.fp_session_history.specs.declared.budgets.Budget.{Budget}
 use Rattle.fp_app_words.specs.declared.orders.Order.{Order}
-use Rattle.fp_app_words.specs.declared.orders.Order.TheVariants.{Direct, Check, Improve, Plan, Trial, Yard, Fleet}
+use Rattle.fp_app_words.specs.declared.orders.Order.TheVariants.{Direct, Check, Improve, Plan, Trial, Yard}
 use Rattle.fp_app_words.specs.declared.orders.TheConstants.{FEWEST_TERMINALS, GREATEST_SEED}
 use Rattle.fp_app_words.specs.Commands.{app, entered_order, is_dashes, was_given}
 use Rattle.fp_app_words.specs.Options.{Given, is_among, is_given, value_given}
 use Rattle.fp_app_words.specs.Places.{by_places}
-use Rattle.fp_app_words.specs.Settings.{bound_by, bound_options, budget_by, budget_options, improve_by, is_number_between, names_of, plan_by, plan_options, quote_by, replan_by, scaled_by, seconds_by, trial_settings, yard_settings}
+use Rattle.fp_app_words.specs.Settings.{bound_by, bound_options, budget_by, budget_options, fleet_by, fleet_options, improve_by, is_number_between, names_of, plan_by, plan_options, quote_by, replan_by, scaled_by, seconds_by, trial_settings, yard_settings}
 use Rattle.fp_app_words.specs.Words.{forms, order_of, texts}
 use Rattle.fp_app_words.proofs.BareWords.{leaf}
 use Rattle.fp_app_words.proofs.FirstWords.{faults-none}
@@ -31,6 +31,9 @@ seconds_by-rows flags given seconds = rw (first_of-all_rows flags given (codes "
 
 bound_by-rows : (given : List Given) → bound_by (λ name. first_of name (all_rows bound_options.flags given)) (λ name. was_given name (all_rows bound_options.flags given)) ≡ bound_by (value_given given) (is_given given)
 bound_by-rows given = rw (seconds_by-rows bound_options.flags given refl, was_given-all_rows bound_options.flags given (codes "spans")) refl
+
+fleet_by-rows : (given : List Given) → fleet_by (λ name. was_given name (all_rows fleet_options.flags given)) ≡ fleet_by (is_given given)
+fleet_by-rows given = rw (was_given-all_rows fleet_options.flags given (codes "trucks")) refl
 
 budget_by-rows : (flags : List (List ℕ)) (given : List Given) → is_among flags (codes "rounds") ≡ false → is_among flags (codes "branches") ≡ false → budget_by (λ name. first_of name (all_rows flags given)) ≡ budget_by (value_given given)
 budget_by-rows flags given rounds branches = rw (first_of-all_rows flags given (codes "rounds") rounds, first_of-all_rows flags given (codes "branches") branches) refl
@@ -91,7 +94,7 @@ all-read = (
             (
               places-reads (codes "yard") yard_settings (λ n. Yard (n 0)) yard-gives refl (refl, refl, refl, λ seed. refl),
               (
-                alone-reads (codes "fleet") Fleet refl refl,
+                options-reads (codes "fleet") fleet_options (λ given. fleet_by (is_given given)) fleet_by-rows refl,
                 (
                   options-reads (codes "replan") budget_options (λ given. replan_by (value_given given) (is_given given)) replan_by-rows refl,
                   (options-reads (codes "quote") budget_options (λ given. quote_by (value_given given) (is_given given)) quote_by-rows refl, tt),

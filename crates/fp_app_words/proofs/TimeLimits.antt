@@ -7,12 +7,12 @@ use Rattle.fp_records_fields.specs.Fields.{is_number, is_within, number, number_
 use Rattle.fp_model.specs.declared.limits.TheConstants.{SCALE}
 use Rattle.fp_session_history.specs.declared.budgets.Budget.{Budget}
 use Rattle.fp_app_words.specs.declared.orders.Order.{Order}
-use Rattle.fp_app_words.specs.declared.orders.Order.TheVariants.{Bound, Check, Direct, Fleet, Improve, Plan, Quote, Replan, Trial, Yard}
+use Rattle.fp_app_words.specs.declared.orders.Order.TheVariants.{Bound, Check, Direct, Improve, Plan, Quote, Replan, Trial, Yard}
 use Rattle.fp_app_words.specs.declared.orders.TheConstants.{MOST_SECONDS}
 use Rattle.fp_app_words.specs.declared.settings.TheConstants.{LONGEST_NUMBER}
 use Rattle.fp_app_words.specs.Options.{Given, by_options, is_given, options_of, value_given}
 use Rattle.fp_app_words.specs.Places.{are_numbers, by_places}
-use Rattle.fp_app_words.specs.Settings.{IsTimeLimit, Options, Setting, begins_with_zero, bound_by, bound_options, budget_by, budget_options, improve_by, is_number_between, number_if, option_number, plan_by, plan_options, quote_by, replan_by, scale_setting, scaled_by, seconds_by, trial_settings, yard_settings}
+use Rattle.fp_app_words.specs.Settings.{IsTimeLimit, Options, Setting, begins_with_zero, bound_by, bound_options, budget_by, budget_options, fleet_by, fleet_options, improve_by, is_number_between, number_if, option_number, plan_by, plan_options, quote_by, replan_by, scale_setting, scaled_by, seconds_by, trial_settings, yard_settings}
 use Rattle.fp_app_words.specs.TimeLimits.{TimeLimitsHold, halved, seconds_of}
 use Rattle.fp_app_words.specs.Words.{Form, alone, forms, order_by}
 
@@ -124,7 +124,7 @@ all-hold = (
             (
               places-hold yard_settings (λ n. Yard (n 0)) (λ n. tt),
               (
-                alone-holds Fleet tt,
+                options-hold fleet_options (λ given. fleet_by (is_given given)) (λ given. tt),
                 (
                   options-hold budget_options (λ given. replan_by (value_given given) (is_given given)) (λ given. replan-holds (value_given given) (is_given given)),
                   (

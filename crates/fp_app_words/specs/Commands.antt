@@ -10,8 +10,8 @@ use Rattle.clap.specs.declared.builder.command.Command.TheViews.{out-Command}
 use Rattle.clap.specs.declared.parser.matches.ValueSource.{ValueSource}
 use Rattle.clap.specs.declared.parser.matches.ValueSource.TheVariants.{CommandLine, DefaultValue}
 use Rattle.fp_app_words.specs.declared.orders.Order.{Order}
-use Rattle.fp_app_words.specs.declared.orders.Order.TheVariants.{Direct, Check, Fleet}
-use Rattle.fp_app_words.specs.Settings.{Options, bound_by, bound_options, budget_options, improve_by, names_of, plan_by, plan_options, quote_by, replan_by, trial_by, trial_settings, yard_by, yard_settings}
+use Rattle.fp_app_words.specs.declared.orders.Order.TheVariants.{Direct, Check}
+use Rattle.fp_app_words.specs.Settings.{Options, bound_by, bound_options, budget_options, fleet_by, fleet_options, improve_by, names_of, plan_by, plan_options, quote_by, replan_by, trial_by, trial_settings, yard_by, yard_settings}
 
 -- the word is `--`
 abbrev pub is_dashes : List ℕ → Bool
@@ -70,7 +70,7 @@ app = above (
     ∷ with_options (codes "improve") plan_options
     ∷ with_places (codes "trial") (names_of trial_settings)
     ∷ with_places (codes "yard") (names_of yard_settings)
-    ∷ bare (codes "fleet")
+    ∷ with_options (codes "fleet") fleet_options
     ∷ with_options (codes "replan") budget_options
     ∷ with_options (codes "quote") budget_options
     ∷ [])
@@ -96,7 +96,7 @@ entered_order found =
     else if bytes_eq found.0 (codes "improve") then improve_by text is_given
     else if bytes_eq found.0 (codes "trial") then trial_by text
     else if bytes_eq found.0 (codes "yard") then yard_by text
-    else if bytes_eq found.0 (codes "fleet") then Some Fleet
+    else if bytes_eq found.0 (codes "fleet") then fleet_by is_given
     else if bytes_eq found.0 (codes "replan") then replan_by text is_given
     else if bytes_eq found.0 (codes "quote") then quote_by text is_given
     else None

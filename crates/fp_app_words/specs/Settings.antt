@@ -8,7 +8,7 @@ use Rattle.fp_session_history.specs.Budgets.{IsBudget}
 use Rattle.fp_model.specs.declared.limits.TheConstants.{GREATEST_SCALE, LAST_ROUND, MOST_SHIPMENTS, MOST_TERMINALS, SCALE}
 use Rattle.fp_tree.specs.declared.layout.TheConstants.{MOST_SPLITS}
 use Rattle.fp_app_words.specs.declared.orders.Order.{Order}
-use Rattle.fp_app_words.specs.declared.orders.Order.TheVariants.{Bound, Improve, Plan, Quote, Replan, Trial, Yard}
+use Rattle.fp_app_words.specs.declared.orders.Order.TheVariants.{Bound, Fleet, Improve, Plan, Quote, Replan, Trial, Yard}
 use Rattle.fp_app_words.specs.declared.orders.TheConstants.{FEWEST_TERMINALS, GREATEST_SEED, MOST_SECONDS}
 use Rattle.fp_app_words.specs.declared.settings.TheConstants.{LONGEST_NUMBER, USUAL_BRANCHES, USUAL_ROUNDS}
 
@@ -66,6 +66,10 @@ budget_options = record { settings = budget_settings; flags = search_flags }
 abbrev pub plan_options : Options
 plan_options = record { settings = budget_settings ++ scale_setting ∷ []; flags = search_flags }
 
+-- the flag of `fleet`
+abbrev pub fleet_options : Options
+fleet_options = record { settings = []; flags = codes "trucks" ∷ [] }
+
 -- the places of `trial` and of `yard`
 abbrev pub trial_settings : List Setting
 trial_settings = seed_setting ∷ terminals_setting ∷ shipments_setting ∷ []
@@ -119,6 +123,10 @@ trial_by text =
 
 abbrev pub yard_by : (List ℕ → Option (List ℕ)) → Option Order
 yard_by text = option_map (λ seed. Yard seed) (place_number seed_setting text)
+
+-- what `fleet` orders, by the flags that were given
+abbrev pub fleet_by : (List ℕ → Bool) → Option Order
+fleet_by is_given = Some (Fleet (is_given (codes "trucks")))
 
 -- what `bound`, `plan`, `improve`, `replan` and `quote` order, by the texts of options and by the flags that were
 -- given

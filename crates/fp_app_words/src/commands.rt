@@ -2,9 +2,11 @@
 ghost use Rattle.std.specs.Prelude.{◌≡◌, [], codes, false, IfOk, IfSome, option_and_then};
 ghost use Rattle.clap.specs.Words.{app_of, found_of, new_app, rows_of, rule_of, subcommand_rows_of};
 ghost use Rattle.fp_app_words.specs.Commands.{IsLocal, app, entered_order, flag_rule, option_rule, place_rule, with_options, with_places};
-ghost use Rattle.fp_app_words.specs.Settings.{IsWithinLimits, bound_options, budget_options, budget_settings, names_of, plan_options, trial_settings, yard_settings};
+ghost use Rattle.fp_app_words.specs.Settings.{IsWithinLimits, bound_options, budget_options, budget_settings, fleet_options, names_of, plan_options, trial_settings, yard_settings};
 
-use crate::settings::{bound_by, improve_by, plan_by, quote_by, replan_by, trial_by, yard_by};
+use crate::settings::{
+    bound_by, fleet_by, improve_by, plan_by, quote_by, replan_by, trial_by, yard_by,
+};
 use crate::{NoMemory, Order};
 use clap::{Arg, ArgAction, ArgMatches, Command};
 use std::alloc::Global;
@@ -80,6 +82,15 @@ fn plan_command<'a>(alloc: Global, name: &'a str) -> Result<Command<'a>, NoMemor
     Ok(command)
 }
 
+// The subcommand `fleet`, with its flag.
+fn fleet_command<'a>(alloc: Global) -> Result<Command<'a>, NoMemory>
+    ensures shape { IfOk result (λ command. (app_of command).top ≡ with_options (codes "fleet") fleet_options) }
+    ensures local { IfOk result IsLocal }
+{
+    let command = Command::new(alloc, "fleet").arg(flag(alloc, "trucks"))?;
+    Ok(command)
+}
+
 // The subcommand `trial`, with its places.
 fn trial_command<'a>(alloc: Global) -> Result<Command<'a>, NoMemory>
     ensures shape { IfOk result (λ command. (app_of command).top ≡ with_places (codes "trial") (names_of trial_settings)) }
@@ -118,7 +129,7 @@ pub fn command<'a>(alloc: Global) -> Result<Command<'a>, NoMemory>
         .subcommand(plan_command(alloc, "improve")?)?
         .subcommand(trial_command(alloc)?)?
         .subcommand(yard_command(alloc)?)?
-        .subcommand(Command::new(alloc, "fleet"))?
+        .subcommand(fleet_command(alloc)?)?
         .subcommand(search_command(alloc, "replan")?)?
         .subcommand(search_command(alloc, "quote")?)?;
     Ok(command)
@@ -144,7 +155,7 @@ fn order_by(name: &str, matches: &ArgMatches) -> Option<Order>
     } else if name == "yard" {
         yard_by(matches)
     } else if name == "fleet" {
-        Some(Order::Fleet)
+        Some(fleet_by(matches))
     } else if name == "replan" {
         replan_by(matches)
     } else if name == "quote" {

@@ -45,8 +45,10 @@ pub enum Order {
     Yard {
         seed: u32,
     },
-    /// The fewest trucks that run a plan.
-    Fleet,
+    /// The fewest trucks that run a plan, and with `trucks` what each of them runs.
+    Fleet {
+        trucks: bool,
+    },
     /// The cheapest plan that a search with this budget finds and that keeps legs which stand.
     Replan {
         budget: Budget,

@@ -21,15 +21,15 @@ fn has_dashes(words: &[String]) -> bool
 /// The order that the words after the program's name give.
 ///
 /// `BadWords` comes exactly where they have none of the forms: a command's name and the words that
-/// it takes. These are none for `direct`, `check` and `fleet`. For `bound` they are the flag
-/// `--spans`, at most once. For `plan` and `improve` they are this flag, which is one word, and the
-/// options `--rounds N`, `--branches N` and `--scale N`, which are two words or one, `--rounds=N`: in
-/// any order, each at most once. For `replan` and `quote` they are the same without `--scale N`. For
-/// `trial` they are three numbers, SEED TERMINALS SHIPMENTS, and for `yard` one, SEED. A number is 1
-/// to 10 ASCII digits with a value in its range: at most [`LAST_ROUND`](fp_model::LAST_ROUND)
-/// rounds, at most [`MOST_SPLITS`](fp_tree::MOST_SPLITS) branches, a scale from 1 to
-/// [`GREATEST_SCALE`](fp_model::GREATEST_SCALE), and what [`Order`] says of the others. `NoMemory`
-/// only where no memory is found.
+/// it takes, with flags and options in any order, each at most once. `direct` and `check` take none,
+/// and `fleet` the flag `--trucks`. `bound` takes the flag `--spans` and the option `--seconds N`,
+/// which is two words or one, `--seconds=N`. `plan` and `improve` take these, the flag `--notes`, and
+/// the options `--rounds N`, `--branches N` and `--scale N`; `replan` and `quote` take the same
+/// without `--scale N`. `trial` takes three numbers, SEED TERMINALS SHIPMENTS, and `yard` one, SEED.
+/// A number is 1 to 10 ASCII digits with a value in its range: at most
+/// [`LAST_ROUND`](fp_model::LAST_ROUND) rounds, at most [`MOST_SPLITS`](fp_tree::MOST_SPLITS)
+/// branches, a scale from 1 to [`GREATEST_SCALE`](fp_model::GREATEST_SCALE), and what [`Order`] says
+/// of the others; seconds don't begin with a 0. `NoMemory` only where no memory is found.
 pub fn read_words(alloc: Global, words: &[String]) -> Result<Order, WordFault>
     ensures order { Orders (order_of (texts words.now)) result }
     ensures range { IfOk result IsWithinLimits }

@@ -4,7 +4,7 @@ ghost use Rattle.std.specs.Prelude.{◌≡◌, ◌≤◌, IfSome, Some, option_a
 ghost use Rattle.clap.specs.Words.{first_of, found_of, rows_of};
 ghost use Rattle.fp_session_history.specs.Budgets.{IsBudget};
 ghost use Rattle.fp_app_words.specs.Commands.{is_from_words, was_given};
-ghost use Rattle.fp_app_words.specs.Settings.{IsTimeLimit, IsWithinLimits, begins_with_zero, bound_by, budget_by, improve_by, number_if, number_of, number_or, plan_by, quote_by, replan_by, seconds_by, trial_by, yard_by};
+ghost use Rattle.fp_app_words.specs.Settings.{IsTimeLimit, IsWithinLimits, begins_with_zero, bound_by, budget_by, fleet_by, improve_by, number_if, number_of, number_or, plan_by, quote_by, replan_by, seconds_by, trial_by, yard_by};
 
 use crate::orders::{FEWEST_TERMINALS, GREATEST_SEED, MOST_SECONDS, Order};
 use clap::ArgMatches;
@@ -213,6 +213,14 @@ pub fn quote_by(matches: &ArgMatches) -> Option<Order>
         seconds,
         notes,
     })
+}
+
+/// What the flag of `fleet` orders.
+pub fn fleet_by(matches: &ArgMatches) -> Order
+    ensures { Some result ≡ fleet_by (λ name. was_given name (rows_of (found_of matches.now))) }
+{
+    let trucks = was_given(matches, "trucks");
+    Order::Fleet { trucks }
 }
 
 /// What the words in the places of `trial` order; `None` exactly where one is no number in its

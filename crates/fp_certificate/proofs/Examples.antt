@@ -136,13 +136,16 @@ span until charge = codes "span" ∷ codes "A" ∷ codes "B" ∷ codes "7" ∷ u
 abbrev weight : List ℕ → List (List ℕ)
 weight w = codes "weight" ∷ codes "S1" ∷ w ∷ []
 
+abbrev group : List ℕ → List (List ℕ)
+group moment = codes "group" ∷ moment ∷ []
+
 -- a weight is that of the share or the span before it
 reads-span : read (answer ∷ table ∷ share ∷ weight (codes "3") ∷ span (codes "9") (codes "5") ∷ weight (codes "4") ∷ last ∷ [])
     ≡ Ok (record best {
       legs = [];
       trucks = [];
       tables = ((record { arc = 0; point = 7; v = 20; weights = (record { shipment = 0; w = 3 }) ∷ [] }) ∷ []) ∷ [];
-      spans = ((record { arc = 0; point = 7; until = 9; money = 100; charge = 5; weights = (record { shipment = 0; w = 4 }) ∷ [] }) ∷ []) ∷ [];
+      spans = ((record { arc = 0; point = 7; until = 9; money = 100; charge = 5; weights = (record { shipment = 0; w = 4 }) ∷ []; groups = [] }) ∷ []) ∷ [];
       tree = [];
     })
 reads-span = refl
@@ -171,6 +174,36 @@ span-charge = refl
 -- a weight in neither a share nor a span of its table
 no-span : read (answer ∷ table ∷ span (codes "9") (codes "5") ∷ (codes "table" ∷ codes "2" ∷ []) ∷ weight (codes "1") ∷ []) ≡ bad 9 24
 no-span = refl
+
+-- groups are those of the span before them
+reads-groups : read (answer ∷ table ∷ span (codes "9") (codes "5") ∷ group (codes "8") ∷ span (codes "11") (codes "5") ∷ weight (codes "4") ∷ group (codes "8") ∷ group (codes "10") ∷ last ∷ [])
+    ≡ Ok (record best {
+      legs = [];
+      trucks = [];
+      tables = [] ∷ [];
+      spans = ((record { arc = 0; point = 7; until = 9; money = 100; charge = 5; weights = []; groups = 8 ∷ [] })
+          ∷ (record { arc = 0; point = 7; until = 11; money = 100; charge = 5; weights = (record { shipment = 0; w = 4 }) ∷ []; groups = 8 ∷ 10 ∷ [] }) ∷ []) ∷ [];
+      tree = [];
+    })
+reads-groups = refl
+
+-- in which order the moments stand isn't asked here, but each is at most 100,000
+groups-fall : read (answer ∷ table ∷ span (codes "9") (codes "5") ∷ group (codes "100000") ∷ group (codes "8") ∷ []) ≡ bad 10 26
+groups-fall = refl
+
+group-past : read (answer ∷ table ∷ span (codes "9") (codes "5") ∷ group (codes "100001") ∷ []) ≡ bad 8 28
+group-past = refl
+
+-- no weight stands after a group of its span
+weight-after-group : read (answer ∷ table ∷ span (codes "9") (codes "5") ∷ group (codes "8") ∷ weight (codes "1") ∷ []) ≡ bad 9 24
+weight-after-group = refl
+
+-- a group stands in a span, and in no share
+group-of-share : read (answer ∷ table ∷ share ∷ group (codes "8") ∷ []) ≡ bad 8 24
+group-of-share = refl
+
+group-of-table : read (answer ∷ table ∷ span (codes "9") (codes "5") ∷ (codes "table" ∷ codes "2" ∷ []) ∷ group (codes "8") ∷ []) ≡ bad 9 24
+group-of-table = refl
 
 -- the name goes before the range
 name-first : read (answer ∷ (codes "point" ∷ codes "C" ∷ codes "0" ∷ codes "4001" ∷ []) ∷ []) ≡ bad 6 25

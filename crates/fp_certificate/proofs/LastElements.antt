@@ -1,10 +1,10 @@
 -- The last element of a list, by its place.
-use Rattle.std.proofs.Common.{◌≡◌, ◌≢◌, ◌∙◌, ◌-◌, ◌<◌, false, List, [], ◌∷◌, length, get_or, refl, sym, ap, arith}
+use Rattle.std.proofs.Common.{◌≡◌, ◌≢◌, ◌∙◌, ◌-◌, ◌<◌, Bool, false, List, [], ◌∷◌, length, get_or, refl, sym, ap, arith}
 use Rattle.std.specs.Prelude.{Result, Ok, Err, OnOk, suc}
 use Rattle.std.proofs.Math.ListN.{set}
 use Rattle.std.proofs.lemmas.Bool.{eqb-false}
 use Rattle.fp_records.specs.Fields.{is_empty}
-use Rattle.fp_certificate.specs.Tables.{lacks_last, with_last}
+use Rattle.fp_certificate.specs.Tables.{lacks_last, last_is, with_last}
 
 -- a write at the last place
 pub with_last-set : {A : Type 0} (f : A → A) (xs : List A) (d : A) → 0 < length xs → set xs (length xs - 1) (f (get_or xs (length xs - 1) d)) ≡ with_last f xs
@@ -21,6 +21,14 @@ lacks_last-last (list ∷ []) d some = refl
 lacks_last-last (list ∷ next ∷ lists) d some =
     let e : length (list ∷ next ∷ lists) - 1 ≡ suc (length (next ∷ lists) - 1) = omega arith in
     rw e (lacks_last-last (next ∷ lists) d (omega arith))
+
+-- the last element decides a test of the last one
+pub last_is-last : {A : Type 0} (test : A → Bool) (xs : List A) (d : A) → 0 < length xs → last_is test xs ≡ test (get_or xs (length xs - 1) d)
+last_is-last test [] d some = absurd (omega arith)
+last_is-last test (x ∷ []) d some = refl
+last_is-last test (x ∷ y ∷ xs) d some =
+    let e : length (x ∷ y ∷ xs) - 1 ≡ suc (length (y ∷ xs) - 1) = omega arith in
+    rw e (last_is-last test (y ∷ xs) d (omega arith))
 
 -- where no element is missing, there is a list, and the last one has an element
 pub has-list : {A : Type 0} (lists : List (List A)) → lacks_last lists ≡ false → 0 < length lists

@@ -26,14 +26,14 @@ use Rattle.fp_certificate_lines.specs.declared.certificates.Node.TheVariants as 
 use Rattle.fp_certificate_lines.specs.declared.certificates.Spent.{Spent}
 use Rattle.fp_certificate_lines.specs.declared.certificates.Spent.TheVariants as spent
 use Rattle.fp_certificate.specs.declared.drafts.Draft.{Draft}
-use Rattle.fp_certificate.specs.declared.lines.groups.Group.TheVariants as group
+use Rattle.fp_certificate.specs.declared.lines.sections.Section.TheVariants as section
 use Rattle.fp_certificate.specs.Answers.{with_answer, with_scale, with_unit}
-use Rattle.fp_certificate.specs.Groups.{has_ended, is_misplaced}
+use Rattle.fp_certificate.specs.Sections.{has_ended, is_misplaced}
 use Rattle.fp_certificate.specs.Points.{with_point}
-use Rattle.fp_certificate_lines.specs.Ranges.{IsAnswerInRange, IsLeafInRange, IsLegInRange, IsNodeInRange, IsPointInRange, IsScaleInRange, IsShareInRange, IsSpanInRange, IsSplitInRange, IsTruckInRange, IsUnitInRange, IsWeightInRange, largest_figure}
+use Rattle.fp_certificate_lines.specs.Ranges.{IsAnswerInRange, IsGroupInRange, IsLeafInRange, IsLegInRange, IsNodeInRange, IsPointInRange, IsScaleInRange, IsShareInRange, IsSpanInRange, IsSplitInRange, IsTruckInRange, IsUnitInRange, IsWeightInRange, largest_figure}
 use Rattle.fp_certificate.specs.Reading.{line_code, nothing_read, with_line}
-use Rattle.fp_certificate_lines.specs.Rows.{answer_fields, end_fields, kind_text, leaf_fields, leg_fields, mode_text, node_fields, point_fields, scale_fields, share_fields, span_fields, split_fields, table_fields, truck_fields, unit_fields, weight_fields}
-use Rattle.fp_certificate.specs.Tables.{and_last_share_weight, and_last_span_weight, has_span, lacks_share, with_lists, with_share, with_span, with_table}
+use Rattle.fp_certificate_lines.specs.Rows.{answer_fields, end_fields, group_fields, kind_text, leaf_fields, leg_fields, mode_text, node_fields, point_fields, scale_fields, share_fields, span_fields, split_fields, table_fields, truck_fields, unit_fields, weight_fields}
+use Rattle.fp_certificate.specs.Tables.{and_last_share_weight, and_last_span_weight, has_group, has_span, lacks_share, with_group, with_lists, with_share, with_span, with_table}
 use Rattle.fp_certificate.specs.Timetables.{with_leg, with_truck}
 use Rattle.fp_certificate.specs.Trees.{with_end, with_node}
 use Rattle.fp_certificate.proofs.NamesBack.{arc-back, shipment-back, terminal-back}
@@ -44,7 +44,7 @@ pub record IsStep (p : Problem) (before : Draft) (fields : List (List ℕ)) (aft
   pub clean : line_code p before fields ≡ None
   pub gives : with_line p before fields ≡ after
 
-pub leg-step : (p : Problem) (before : Draft) (l : LegLine) → IsValid p → IsLegInRange p l → has_ended before ≡ false → is_misplaced before group.Legs ≡ false
+pub leg-step : (p : Problem) (before : Draft) (l : LegLine) → IsValid p → IsLegInRange p l → has_ended before ≡ false → is_misplaced before section.Legs ≡ false
     → IsStep p before (leg_fields p l) (with_leg before l)
 leg-step p before l v r open_still placed =
     let shipment = shipment-back p l.shipment v r.exists.0 in
@@ -56,7 +56,7 @@ leg-step p before l v r open_still placed =
       gives = rw (shipment, arc, depart.value, arrive.value) refl;
     }
 
-pub truck-step : (p : Problem) (before : Draft) (t : TruckLine) → IsValid p → IsTruckInRange p t → has_ended before ≡ false → is_misplaced before group.Trucks ≡ false
+pub truck-step : (p : Problem) (before : Draft) (t : TruckLine) → IsValid p → IsTruckInRange p t → has_ended before ≡ false → is_misplaced before section.Trucks ≡ false
     → IsStep p before (truck_fields p t) (with_truck before t)
 truck-step p before t v r open_still placed =
     let arc = arc-back p t.arc v r.exists in
@@ -80,7 +80,7 @@ truck-step p before t v r open_still placed =
     }
 
 pub point-step : (p : Problem) (before : Draft) (point : AddedPoint) → IsValid p → IsPointInRange p point → has_ended before ≡ false
-    → is_misplaced before group.Points ≡ false → IsStep p before (point_fields p point) (with_point before point)
+    → is_misplaced before section.Points ≡ false → IsStep p before (point_fields p point) (with_point before point)
 point-step p before point v r open_still placed =
     let terminal = terminal-back p point.terminal v r.terminal in
     let at = time-back point.at r.time in
@@ -100,7 +100,7 @@ point-step p before point v r open_still placed =
     }
 
 -- a scale, where there is none yet
-pub scale-step : (p : Problem) (before : Draft) (n : ℕ) → IsScaleInRange p n → has_ended before ≡ false → is_misplaced before group.Scale ≡ false
+pub scale-step : (p : Problem) (before : Draft) (n : ℕ) → IsScaleInRange p n → has_ended before ≡ false → is_misplaced before section.Scale ≡ false
     → is_some before.certificate.scale ≡ false → IsStep p before (scale_fields n) (with_scale before n)
 scale-step p before n r open_still placed none =
     let back = number-back n (omega (arith, r.most)) in
@@ -110,7 +110,7 @@ scale-step p before n r open_still placed none =
     }
 
 -- a unit, where there is none yet
-pub unit-step : (p : Problem) (before : Draft) (n : ℕ) → IsUnitInRange n → has_ended before ≡ false → is_misplaced before group.Unit ≡ false
+pub unit-step : (p : Problem) (before : Draft) (n : ℕ) → IsUnitInRange n → has_ended before ≡ false → is_misplaced before section.Unit ≡ false
     → is_some before.certificate.unit ≡ false → IsStep p before (unit_fields n) (with_unit before n)
 unit-step p before n r open_still placed none =
     let back = large-back n r.most in
@@ -121,7 +121,7 @@ unit-step p before n r open_still placed none =
 
 -- a table with the next number
 pub table-step : (p : Problem) (before : Draft) (id : ℕ) → id ≡ length before.certificate.tables + 1 → id < 10 ^ 64 → has_ended before ≡ false
-    → is_misplaced before group.Tables ≡ false → IsStep p before (table_fields id) (with_table before)
+    → is_misplaced before section.Tables ≡ false → IsStep p before (table_fields id) (with_table before)
 table-step p before id next small open_still placed =
     let back = number-back id small in
     record {
@@ -131,7 +131,7 @@ table-step p before id next small open_still placed =
 
 -- a share, without its weights, in a table that has no span yet
 pub share-step : (p : Problem) (before : Draft) (s : ClassShare) → IsValid p → IsShareInRange p s → has_ended before ≡ false
-    → is_misplaced before group.Tables ≡ false → is_empty before.certificate.tables ≡ false → has_span before.certificate.spans ≡ false
+    → is_misplaced before section.Tables ≡ false → is_empty before.certificate.tables ≡ false → has_span before.certificate.spans ≡ false
     → IsStep p before (share_fields p s) (with_share before (record s { weights = [] }))
 share-step p before s v r open_still placed some bare =
     let arc = arc-back p s.arc v r.arc in
@@ -153,10 +153,10 @@ share-step p before s v r open_still placed some bare =
       gives = rw (arc, point.value, v-back.value) refl;
     }
 
--- a span, without its weights
+-- a span, without its weights and groups
 pub span-step : (p : Problem) (before : Draft) (s : ClassSpan) → IsValid p → IsSpanInRange p s → has_ended before ≡ false
-    → is_misplaced before group.Tables ≡ false → is_empty before.certificate.spans ≡ false
-    → IsStep p before (span_fields p s) (with_span before (record s { weights = [] }))
+    → is_misplaced before section.Tables ≡ false → is_empty before.certificate.spans ≡ false
+    → IsStep p before (span_fields p s) (with_span before (record s { weights = []; groups = [] }))
 span-step p before s v r open_still placed some =
     let arc = arc-back p s.arc v r.arc in
     let point = time-back s.point r.point in
@@ -185,7 +185,7 @@ span-step p before s v r open_still placed some =
 
 -- a weight in the last share of a table that has no span
 pub weight-step : (p : Problem) (before : Draft) (w : Weight) → IsValid p → IsWeightInRange p w → has_ended before ≡ false
-    → is_misplaced before group.Tables ≡ false → lacks_share before.certificate.tables ≡ false → has_span before.certificate.spans ≡ false
+    → is_misplaced before section.Tables ≡ false → lacks_share before.certificate.tables ≡ false → has_span before.certificate.spans ≡ false
     → IsStep p before (weight_fields p w) (with_lists before (and_last_share_weight w before.certificate.tables) before.certificate.spans)
 weight-step p before w v r open_still placed some bare =
     let shipment = shipment-back p w.shipment v r.shipment in
@@ -195,20 +195,31 @@ weight-step p before w v r open_still placed some bare =
       gives = rw (bare, shipment, back.value) refl;
     }
 
--- a weight in the last span of a table
+-- a weight in the last span of a table, which has no group yet
 pub span-weight-step : (p : Problem) (before : Draft) (w : Weight) → IsValid p → IsWeightInRange p w → has_ended before ≡ false
-    → is_misplaced before group.Tables ≡ false → has_span before.certificate.spans ≡ true
+    → is_misplaced before section.Tables ≡ false → has_span before.certificate.spans ≡ true → has_group before.certificate.spans ≡ false
     → IsStep p before (weight_fields p w) (with_lists before before.certificate.tables (and_last_span_weight w before.certificate.spans))
-span-weight-step p before w v r open_still placed some =
+span-weight-step p before w v r open_still placed some weighing =
     let shipment = shipment-back p w.shipment v r.shipment in
     let back = large-back w.w r.small in
     record {
-      clean = rw (open_still, placed, some, back.is, shipment, within-back 0 largest_figure w.w (omega arith) r.small back) refl;
+      clean = rw (open_still, placed, some, weighing, back.is, shipment, within-back 0 largest_figure w.w (omega arith) r.small back) refl;
       gives = rw (some, shipment, back.value) refl;
     }
 
+-- a group of the last span of a table
+pub group-step : (p : Problem) (before : Draft) (m : ℕ) → IsGroupInRange m → has_ended before ≡ false
+    → is_misplaced before section.Tables ≡ false → has_span before.certificate.spans ≡ true
+    → IsStep p before (group_fields m) (with_group before m)
+group-step p before m r open_still placed some =
+    let back = time-back m r in
+    record {
+      clean = rw (open_still, placed, some, back.is, within-back 0 LATEST m (omega arith) r back) refl;
+      gives = rw back.value refl;
+    }
+
 -- a split
-split-step : (p : Problem) (before : Draft) (s : Split) → IsValid p → IsSplitInRange p s → has_ended before ≡ false → is_misplaced before group.Tree ≡ false
+split-step : (p : Problem) (before : Draft) (s : Split) → IsValid p → IsSplitInRange p s → has_ended before ≡ false → is_misplaced before section.Tree ≡ false
     → IsStep p before (split_fields p s) (with_node before (node.Branch s))
 split-step p before (split.ByArc shipment arc) v r open_still placed =
     let shipment-is = shipment-back p shipment v r.0 in
@@ -259,7 +270,7 @@ mode-same true = refl
 mode-same false = refl
 
 leaf-step : (p : Problem) (before : Draft) (l : LeafPrice) → length before.certificate.tables < 10 ^ 64 → IsLeafInRange before.certificate.tables l
-    → has_ended before ≡ false → is_misplaced before group.Tree ≡ false → IsStep p before (leaf_fields l) (with_node before (node.Leaf l))
+    → has_ended before ≡ false → is_misplaced before section.Tree ≡ false → IsStep p before (leaf_fields l) (with_node before (node.Leaf l))
 leaf-step p before l few r open_still placed =
     let kind = kind-back before.certificate.tables l.kind few r.kind in
     let back = time-back l.round (omega (arith, r.round)) in
@@ -270,12 +281,12 @@ leaf-step p before l few r open_still placed =
 
 -- a node
 pub node-step : (p : Problem) (before : Draft) (n : Node) → IsValid p → length before.certificate.tables < 10 ^ 64 → IsNodeInRange p before.certificate.tables n
-    → has_ended before ≡ false → is_misplaced before group.Tree ≡ false → IsStep p before (node_fields p n) (with_node before n)
+    → has_ended before ≡ false → is_misplaced before section.Tree ≡ false → IsStep p before (node_fields p n) (with_node before n)
 node-step p before (node.Branch s) v few r open_still placed = split-step p before s v r open_still placed
 node-step p before (node.Leaf l) v few r open_still placed = leaf-step p before l few r open_still placed
 
 -- the end
-pub end-step : (p : Problem) (before : Draft) → has_ended before ≡ false → is_misplaced before group.End ≡ false → IsStep p before end_fields (with_end before)
+pub end-step : (p : Problem) (before : Draft) → has_ended before ≡ false → is_misplaced before section.End ≡ false → IsStep p before end_fields (with_end before)
 end-step p before open_still placed = record { clean = rw (open_still, placed) refl; gives = refl }
 
 -- the answer, which stands first

@@ -9,8 +9,8 @@ use Rattle.fp_timenodes.specs.declared.places.AddedPoint.{AddedPoint}
 use Rattle.fp_timetable.specs.declared.lines.LegLine.{LegLine}
 use Rattle.fp_timetable.specs.declared.lines.TruckLine.{TruckLine}
 use Rattle.fp_certificate_lines.specs.declared.certificates.Node.{Node}
-use Rattle.fp_certificate.specs.declared.lines.groups.Group.TheVariants as group
-use Rattle.fp_certificate.specs.Groups.{is_forbidden}
+use Rattle.fp_certificate.specs.declared.lines.sections.Section.TheVariants as section
+use Rattle.fp_certificate.specs.Sections.{is_forbidden}
 use Rattle.fp_certificate_lines.specs.Ranges.{IsLegInRange, IsNodeInRange, IsPointInRange, IsTruckInRange}
 use Rattle.fp_certificate_lines.specs.Rows.{leg_fields, node_fields, point_fields, truck_fields}
 use Rattle.fp_certificate_lines.specs.Statements.{Statement}
@@ -39,11 +39,11 @@ legs-added [] s = ap (λ (ls : List LegLine). record s { legs = ls }) (sym (appe
 legs-added (l ∷ legs) s = legs-added legs (add-leg s l) ∙ ap (λ (ls : List LegLine). record s { legs = ls }) (append_assoc s.legs (l ∷ []) legs)
 
 pub legs-back : (p : Problem) (s c : Statement) (legs : List LegLine) (rest : List (List (List ℕ))) → IsValid p → All (IsLegInRange p) legs
-    → Free (is_forbidden s.answer group.Legs) legs → ReadsTo p 3 rest (record s { legs = s.legs ++ legs }) c → ReadsTo p 3 (map (leg_fields p) legs ++ rest) s c
+    → Free (is_forbidden s.answer section.Legs) legs → ReadsTo p 3 rest (record s { legs = s.legs ++ legs }) c → ReadsTo p 3 (map (leg_fields p) legs ++ rest) s c
 legs-back p s c legs rest v all free after =
-    segment p 3 group.Legs (leg_fields p) add-leg (λ (t : Statement) (l : LegLine). IsLegInRange p l × (is_forbidden t.answer group.Legs ≡ false)) (lit≤ tt)
-    (λ t g l le fits. leg-step p (at t g) l v fits.0 (has_ended_at-before_end g (omega arith)) (is_misplaced_after-later g group.Legs t.answer refl le fits.1))
-    (λ t x y one other. other) rest c legs s (each (IsLegInRange p) (is_forbidden s.answer group.Legs) legs free all)
+    segment p 3 section.Legs (leg_fields p) add-leg (λ (t : Statement) (l : LegLine). IsLegInRange p l × (is_forbidden t.answer section.Legs ≡ false)) (lit≤ tt)
+    (λ t g l le fits. leg-step p (at t g) l v fits.0 (has_ended_at-before_end g (omega arith)) (is_misplaced_after-later g section.Legs t.answer refl le fits.1))
+    (λ t x y one other. other) rest c legs s (each (IsLegInRange p) (is_forbidden s.answer section.Legs) legs free all)
     (subst (λ (t : Statement). ReadsTo p 3 rest t c) (sym (legs-added legs s)) after)
 
 abbrev add-truck : Statement → TruckLine → Statement
@@ -54,12 +54,12 @@ trucks-added [] s = ap (λ (ts : List TruckLine). record s { trucks = ts }) (sym
 trucks-added (t ∷ trucks) s = trucks-added trucks (add-truck s t) ∙ ap (λ (ts : List TruckLine). record s { trucks = ts }) (append_assoc s.trucks (t ∷ []) trucks)
 
 pub trucks-back : (p : Problem) (s c : Statement) (trucks : List TruckLine) (rest : List (List (List ℕ))) → IsValid p → All (IsTruckInRange p) trucks
-    → Free (is_forbidden s.answer group.Trucks) trucks → ReadsTo p 4 rest (record s { trucks = s.trucks ++ trucks }) c
+    → Free (is_forbidden s.answer section.Trucks) trucks → ReadsTo p 4 rest (record s { trucks = s.trucks ++ trucks }) c
     → ReadsTo p 4 (map (truck_fields p) trucks ++ rest) s c
 trucks-back p s c trucks rest v all free after =
-    segment p 4 group.Trucks (truck_fields p) add-truck (λ (t : Statement) (l : TruckLine). IsTruckInRange p l × (is_forbidden t.answer group.Trucks ≡ false)) (lit≤ tt)
-    (λ t g l le fits. truck-step p (at t g) l v fits.0 (has_ended_at-before_end g (omega arith)) (is_misplaced_after-later g group.Trucks t.answer refl le fits.1))
-    (λ t x y one other. other) rest c trucks s (each (IsTruckInRange p) (is_forbidden s.answer group.Trucks) trucks free all)
+    segment p 4 section.Trucks (truck_fields p) add-truck (λ (t : Statement) (l : TruckLine). IsTruckInRange p l × (is_forbidden t.answer section.Trucks ≡ false)) (lit≤ tt)
+    (λ t g l le fits. truck-step p (at t g) l v fits.0 (has_ended_at-before_end g (omega arith)) (is_misplaced_after-later g section.Trucks t.answer refl le fits.1))
+    (λ t x y one other. other) rest c trucks s (each (IsTruckInRange p) (is_forbidden s.answer section.Trucks) trucks free all)
     (subst (λ (t : Statement). ReadsTo p 4 rest t c) (sym (trucks-added trucks s)) after)
 
 abbrev add-point : Statement → AddedPoint → Statement
@@ -70,12 +70,12 @@ points-added [] s = ap (λ (xs : List AddedPoint). record s { points = xs }) (sy
 points-added (x ∷ points) s = points-added points (add-point s x) ∙ ap (λ (xs : List AddedPoint). record s { points = xs }) (append_assoc s.points (x ∷ []) points)
 
 pub points-back : (p : Problem) (s c : Statement) (points : List AddedPoint) (rest : List (List (List ℕ))) → IsValid p → All (IsPointInRange p) points
-    → Free (is_forbidden s.answer group.Points) points → ReadsTo p 5 rest (record s { points = s.points ++ points }) c
+    → Free (is_forbidden s.answer section.Points) points → ReadsTo p 5 rest (record s { points = s.points ++ points }) c
     → ReadsTo p 5 (map (point_fields p) points ++ rest) s c
 points-back p s c points rest v all free after =
-    segment p 5 group.Points (point_fields p) add-point (λ (t : Statement) (x : AddedPoint). IsPointInRange p x × (is_forbidden t.answer group.Points ≡ false)) (lit≤ tt)
-    (λ t g x le fits. point-step p (at t g) x v fits.0 (has_ended_at-before_end g (omega arith)) (is_misplaced_after-later g group.Points t.answer refl le fits.1))
-    (λ t x y one other. other) rest c points s (each (IsPointInRange p) (is_forbidden s.answer group.Points) points free all)
+    segment p 5 section.Points (point_fields p) add-point (λ (t : Statement) (x : AddedPoint). IsPointInRange p x × (is_forbidden t.answer section.Points ≡ false)) (lit≤ tt)
+    (λ t g x le fits. point-step p (at t g) x v fits.0 (has_ended_at-before_end g (omega arith)) (is_misplaced_after-later g section.Points t.answer refl le fits.1))
+    (λ t x y one other. other) rest c points s (each (IsPointInRange p) (is_forbidden s.answer section.Points) points free all)
     (subst (λ (t : Statement). ReadsTo p 5 rest t c) (sym (points-added points s)) after)
 
 abbrev add-node : Statement → Node → Statement
@@ -91,11 +91,11 @@ record IsNodeFit (p : Problem) (s : Statement) (n : Node) : Type 0 where
   few : length s.tables < 10 ^ 64
 
 pub tree-back : (p : Problem) (s c : Statement) (tree : List Node) (rest : List (List (List ℕ))) → IsValid p → length s.tables < 10 ^ 64
-    → All (IsNodeInRange p s.tables) tree → Free (is_forbidden s.answer group.Tree) tree → ReadsTo p 7 rest (record s { tree = s.tree ++ tree }) c
+    → All (IsNodeInRange p s.tables) tree → Free (is_forbidden s.answer section.Tree) tree → ReadsTo p 7 rest (record s { tree = s.tree ++ tree }) c
     → ReadsTo p 7 (map (node_fields p) tree ++ rest) s c
 tree-back p s c tree rest v few all free after =
-    segment p 7 group.Tree (node_fields p) add-node (λ (t : Statement) (n : Node). IsNodeFit p t n × (is_forbidden t.answer group.Tree ≡ false)) (lit≤ tt)
-    (λ t g n le fits. node-step p (at t g) n v fits.0.few fits.0.range (has_ended_at-before_end g le) (is_misplaced_after-later g group.Tree t.answer refl le fits.1))
+    segment p 7 section.Tree (node_fields p) add-node (λ (t : Statement) (n : Node). IsNodeFit p t n × (is_forbidden t.answer section.Tree ≡ false)) (lit≤ tt)
+    (λ t g n le fits. node-step p (at t g) n v fits.0.few fits.0.range (has_ended_at-before_end g le) (is_misplaced_after-later g section.Tree t.answer refl le fits.1))
     (λ t x y one other. (record { range = other.0.range; few = other.0.few }, other.1)) rest c tree s
-    (each (IsNodeFit p s) (is_forbidden s.answer group.Tree) tree free (λ k d lt. record { range = all k d lt; few = few }))
+    (each (IsNodeFit p s) (is_forbidden s.answer section.Tree) tree free (λ k d lt. record { range = all k d lt; few = few }))
     (subst (λ (t : Statement). ReadsTo p 7 rest t c) (sym (nodes-added tree s)) after)

@@ -28,8 +28,8 @@ use Rattle.fp_certificate_lines.specs.declared.certificates.Answer.TheVariants a
 use Rattle.fp_certificate_lines.specs.declared.certificates.Node.{Node}
 use Rattle.fp_certificate_lines.specs.declared.certificates.Node.TheVariants as node
 use Rattle.fp_certificate_lines.specs.declared.certificates.Spent.TheVariants as spent
-use Rattle.fp_certificate_lines.specs.Ranges.{HaveNames, IsAnswerInRange, IsInRange, IsLegInRange, IsNodeInRange, IsPointInRange, IsScaleInRange, IsShareInRange, IsSpanInRange, IsTruckInRange, IsUnitInRange, IsWeightInRange}
-use Rattle.fp_certificate_lines.specs.Rows.{answer_fields, head_name, kind_text, leg_fields, mode_text, node_fields, point_fields, rows_of, scale_rows, share_fields, share_rows, shipment_name, span_fields, span_rows, table_fields, table_rows, tables_rows, tail_name, terminal_name, truck_fields, unit_rows, weight_fields}
+use Rattle.fp_certificate_lines.specs.Ranges.{HaveNames, IsAnswerInRange, IsGroupInRange, IsInRange, IsLegInRange, IsNodeInRange, IsPointInRange, IsScaleInRange, IsShareInRange, IsSpanInRange, IsTruckInRange, IsUnitInRange, IsWeightInRange}
+use Rattle.fp_certificate_lines.specs.Rows.{answer_fields, group_fields, head_name, kind_text, leg_fields, mode_text, node_fields, point_fields, rows_of, scale_rows, share_fields, share_rows, shipment_name, span_fields, span_rows, table_fields, table_rows, tables_rows, tail_name, terminal_name, truck_fields, unit_rows, weight_fields}
 use Rattle.fp_certificate_lines.specs.Statements.{Statement}
 use Rattle.fp_model.proofs.Validity.{IsArc-valid}
 use Rattle.fp_certificate.proofs.NumbersBack.{large-back, number-back, time-back}
@@ -129,6 +129,9 @@ both-plain : (rows more : List (List (List ℕ))) → list_all is_plain_record r
 both-plain rows more first second =
     list_all-append is_plain_record rows more ∙ and_from (list_all is_plain_record rows) (list_all is_plain_record more) first second
 
+group-plain : (m : ℕ) → IsGroupInRange m → is_plain_record (group_fields m) ≡ true
+group-plain m r = rw (time-back m r).plain refl
+
 share-plain : (p : Problem) (s : ClassShare) → IsValid p → HaveNames p → IsShareInRange p s → list_all is_plain_record (share_rows p s) ≡ true
 share-plain p s v named r =
     let line : is_plain_record (share_fields p s) ≡ true =
@@ -154,8 +157,12 @@ span-plain p s v named r =
       (large-back s.money r.money).plain,
       (large-back s.charge r.charge).plain,
     ) refl in
-    and_from (is_plain_record (span_fields p s)) (list_all is_plain_record (map (weight_fields p) s.weights)) line
+    let weights = map (weight_fields p) s.weights in
+    let groups = map group_fields s.groups in
+    and_from (is_plain_record (span_fields p s)) (list_all is_plain_record (weights ++ groups)) line
+    (both-plain weights groups
     (each-plain (weight_fields p) (IsWeightInRange p) (λ w. weight-plain p w named) s.weights (recursion_from_All (IsWeightInRange p) s.weights r.weights))
+    (each-plain group_fields IsGroupInRange group-plain s.groups (recursion_from_All IsGroupInRange s.groups r.groups)))
 
 spans-plain : (p : Problem) (spans : List ClassSpan) → IsValid p → HaveNames p → All (IsSpanInRange p) spans
     → list_all is_plain_record (flat_map (span_rows p) spans) ≡ true

@@ -22,19 +22,19 @@ use Rattle.fp_certificate_lines.specs.declared.certificates.Node.{Node}
 use Rattle.fp_certificate_lines.specs.declared.certificates.Node.TheVariants.{Branch}
 use Rattle.fp_certificate_lines.specs.declared.certificates.Node.TheVariants as node
 use Rattle.fp_certificate.specs.declared.drafts.Draft.{Draft}
-use Rattle.fp_certificate.specs.declared.lines.groups.Group.TheVariants as group
+use Rattle.fp_certificate.specs.declared.lines.sections.Section.TheVariants as section
 use Rattle.fp_certificate.specs.declared.lines.kinds.LineKind.{LineKind}
 use Rattle.fp_certificate.specs.declared.lines.kinds.LineKind.TheVariants.{Direct, Optimal, Unfinished, Infeasible, Scale, Leg, Truck, Point, Table, Share, Span, ByArc, ByTime, Leaf, End}
 use Rattle.fp_certificate.specs.declared.lines.kinds.LineKind.TheVariants as kind
 use Rattle.fp_certificate.specs.Answers.{has_bad_scale, has_time, has_time_in_range, has_unfinished_digits, time_in, is_figure}
-use Rattle.fp_certificate.specs.Groups.{has_ended, is_misplaced}
+use Rattle.fp_certificate.specs.Sections.{has_ended, is_misplaced}
 use Rattle.fp_certificate.specs.Kinds.{kind_of}
 use Rattle.fp_records_fields.specs.NamedParts.{lacks_arc, lacks_shipment, lacks_terminal}
 use Rattle.fp_certificate.specs.Points.{point_in}
-use Rattle.fp_certificate_lines.specs.Ranges.{IsAnswerInRange, IsInRange, IsLegInRange, IsNodeInRange, IsPointInRange, IsScaleInRange, IsShareInRange, IsSpanInRange, IsTruckInRange, IsWeightInRange, largest_figure}
+use Rattle.fp_certificate_lines.specs.Ranges.{IsAnswerInRange, IsGroupInRange, IsInRange, IsLegInRange, IsNodeInRange, IsPointInRange, IsScaleInRange, IsShareInRange, IsSpanInRange, IsTruckInRange, IsWeightInRange, largest_figure}
 use Rattle.fp_certificate.specs.Reading.{certificate_from, faults_of, finished, kind_code, line_code, nothing_read, with_kind, with_kind_of, with_line}
 use Rattle.fp_certificate_lines.specs.Statements.{Statement}
-use Rattle.fp_certificate.specs.Tables.{and_share, and_span, and_span_weight, and_weight, has_end_in_range, has_span, share_in, span_in, weight_in, with_last, with_weight}
+use Rattle.fp_certificate.specs.Tables.{and_group, and_last_group, and_share, and_span, and_span_weight, and_weight, has_end_in_range, has_span, share_in, span_in, weight_in, with_last, with_weight}
 use Rattle.fp_certificate.specs.Timetables.{is_time, leg_in, truck_in}
 use Rattle.fp_certificate.specs.Trees.{has_kind_word, has_leaf_digits, has_leaf_ranges, kind_in, leaf_in}
 use Rattle.fp_certificate.proofs.LineRanges.{All-with_last, in-time, small}
@@ -130,6 +130,7 @@ weight-ranged p before w fits r =
       money = s.money;
       charge = s.charge;
       weights = All-push (IsWeightInRange p) x.weights w s.weights fits;
+      groups = s.groups;
     } in
     elim (cases_Bool (has_span before.certificate.spans)) [
       | inl some ↦ rw some (with-last-spans p before.certificate (with_last (and_span_weight w))
@@ -137,6 +138,21 @@ weight-ranged p before w fits r =
       | inr none ↦ rw none (with-last-table p before.certificate (with_last (and_weight w))
           (λ table all. All-with_last (IsShareInRange p) (IsShareInRange p) (and_weight w) table (λ x s. s) share all) r)
     ]
+
+-- with one more group
+group-ranged : (p : Problem) (c : Statement) (m : ℕ) → IsGroupInRange m → IsInRange p c → IsInRange p (record c { spans = and_last_group m c.spans })
+group-ranged p c m fits r =
+    let span : (x : ClassSpan) → IsSpanInRange p x → IsSpanInRange p (and_group m x) = λ x s. record {
+      arc = s.arc;
+      point = s.point;
+      some = s.some;
+      until = s.until;
+      money = s.money;
+      charge = s.charge;
+      weights = s.weights;
+      groups = All-push IsGroupInRange x.groups m s.groups fits;
+    } in
+    with-last-spans p c (with_last (and_group m)) (λ list all. All-with_last (IsSpanInRange p) (IsSpanInRange p) (and_group m) list (λ x s. s) span all) r
 
 -- the fastest time of an infeasible answer
 time-range : (fields : List (List ℕ)) → has_time_in_range fields ≡ true → IfSome (time_in fields) (λ t. t ≤ LONGEST_FASTEST)
@@ -180,26 +196,26 @@ kind-ranged : (p : Problem) (before : Draft) (kind : LineKind) (fields : List (L
 kind-ranged p before Direct fields h r =
     let count = IsClear-from_none 22 (not (length fields == 3)) h in
     let digits = IsClear-from_none 23 (not (has_number fields 2)) count.later in
-    let order = IsClear-from_none 24 (is_misplaced before group.Answer) digits.later in
+    let order = IsClear-from_none 24 (is_misplaced before section.Answer) digits.later in
     let range = IsClear-from_none 28 (not (is_figure fields 2)) order.later in
     with-answer p before.certificate _ (small fields 2 (not-false (is_figure fields 2) range.here)) r
 kind-ranged p before Optimal fields h r =
     let count = IsClear-from_none 22 (not (length fields == 3)) h in
     let digits = IsClear-from_none 23 (not (has_number fields 2)) count.later in
-    let order = IsClear-from_none 24 (is_misplaced before group.Answer) digits.later in
+    let order = IsClear-from_none 24 (is_misplaced before section.Answer) digits.later in
     let range = IsClear-from_none 28 (not (is_figure fields 2)) order.later in
     with-answer p before.certificate _ (small fields 2 (not-false (is_figure fields 2) range.here)) r
 kind-ranged p before Unfinished fields h r =
     let count = IsClear-from_none 22 (not (length fields == 5)) h in
     let digits = IsClear-from_none 23 (not (has_unfinished_digits fields)) count.later in
-    let order = IsClear-from_none 24 (is_misplaced before group.Answer) digits.later in
+    let order = IsClear-from_none 24 (is_misplaced before section.Answer) digits.later in
     let range = IsClear-from_none 28 (not (is_figure fields 2 && is_figure fields 3)) order.later in
     let parts = and_parts (is_figure fields 2) (is_figure fields 3) (not-false (is_figure fields 2 && is_figure fields 3) range.here) in
     with-answer p before.certificate _ (small fields 2 parts.0, small fields 3 parts.1) r
 kind-ranged p before Infeasible fields h r =
     let count = IsClear-from_none 22 (not (length fields == 4)) h in
     let digits = IsClear-from_none 23 (not (has_time fields)) count.later in
-    let order = IsClear-from_none 24 (is_misplaced before group.Answer) digits.later in
+    let order = IsClear-from_none 24 (is_misplaced before section.Answer) digits.later in
     let name = IsClear-from_none 25 (lacks_shipment p fields 2) order.later in
     let range = IsClear-from_none 28 (not (has_time_in_range fields)) name.later in
     with-answer p before.certificate _ (shipment_in-lt p fields 2 name.here, time-range fields (not-false (has_time_in_range fields) range.here)) r
@@ -241,7 +257,7 @@ kind-ranged p before kind.Unit fields h r =
 kind-ranged p before Leg fields h r =
     let count = IsClear-from_none 22 (not (length fields == 6)) h in
     let digits = IsClear-from_none 23 (not (has_number fields 4 && has_number fields 5)) count.later in
-    let order = IsClear-from_none 24 (is_misplaced before group.Legs) digits.later in
+    let order = IsClear-from_none 24 (is_misplaced before section.Legs) digits.later in
     let name = IsClear-from_none 25 (lacks_shipment p fields 1 || lacks_arc p fields 2 3) order.later in
     let range = IsClear-from_none 28 (not (is_time fields 4 && is_time fields 5)) name.later in
     let names = or_parts (lacks_shipment p fields 1) (lacks_arc p fields 2 3) name.here in
@@ -266,7 +282,7 @@ kind-ranged p before Leg fields h r =
 kind-ranged p before Truck fields h r =
     let count = IsClear-from_none 22 (not (length fields == 6)) h in
     let digits = IsClear-from_none 23 (not (has_number fields 3 && has_number fields 4 && has_number fields 5)) count.later in
-    let order = IsClear-from_none 24 (is_misplaced before group.Trucks) digits.later in
+    let order = IsClear-from_none 24 (is_misplaced before section.Trucks) digits.later in
     let name = IsClear-from_none 25 (lacks_arc p fields 1 2) order.later in
     let range = IsClear-from_none 28 (not (is_time fields 3 && is_figure fields 4 && is_figure fields 5)) name.later in
     let three = and_parts (is_time fields 3 && is_figure fields 4) (is_figure fields 5) (not-false (is_time fields 3 && is_figure fields 4 && is_figure fields 5) range.here) in
@@ -292,7 +308,7 @@ kind-ranged p before Truck fields h r =
 kind-ranged p before Point fields h r =
     let count = IsClear-from_none 22 (not (length fields == 4)) h in
     let digits = IsClear-from_none 23 (not (has_number fields 2 && has_number fields 3)) count.later in
-    let order = IsClear-from_none 24 (is_misplaced before group.Points) digits.later in
+    let order = IsClear-from_none 24 (is_misplaced before section.Points) digits.later in
     let name = IsClear-from_none 25 (lacks_terminal p fields 1) order.later in
     let range = IsClear-from_none 28 (not (is_time fields 2 && is_between 1 LAST_ROUND fields 3)) name.later in
     let limits = and_parts (is_time fields 2) (is_between 1 LAST_ROUND fields 3) (not-false (is_time fields 2 && is_between 1 LAST_ROUND fields 3) range.here) in
@@ -356,6 +372,7 @@ kind-ranged p before Span fields h r =
       money = small fields 5 three.1;
       charge = small fields 6 four.1;
       weights = All-nil (IsWeightInRange p);
+      groups = All-nil IsGroupInRange;
     } in
     with-last-spans p before.certificate (and_span span) (λ list all. All-push (IsSpanInRange p) list span all fits) r
 kind-ranged p before kind.Weight fields h r =
@@ -370,16 +387,22 @@ kind-ranged p before kind.Weight fields h r =
       small = small fields 2 (not-false (is_figure fields 2) range.here);
     } in
     weight-ranged p before weight fits r
+kind-ranged p before kind.Group fields h r =
+    let count = IsClear-from_none 22 (not (length fields == 2)) h in
+    let digits = IsClear-from_none 23 (not (has_number fields 1)) count.later in
+    let order = IsClear-from_none 24 _ digits.later in
+    let range = IsClear-from_none 28 (not (is_time fields 1)) order.later in
+    group-ranged p before.certificate (number_at fields 1) (in-time fields 1 (not-false (is_time fields 1) range.here)) r
 kind-ranged p before ByArc fields h r =
     let count = IsClear-from_none 22 (not (length fields == 5)) h in
-    let order = IsClear-from_none 24 (is_misplaced before group.Tree) count.later in
+    let order = IsClear-from_none 24 (is_misplaced before section.Tree) count.later in
     let name = IsClear-from_none 25 (lacks_shipment p fields 2 || lacks_arc p fields 3 4) order.later in
     let names = or_parts (lacks_shipment p fields 2) (lacks_arc p fields 3 4) name.here in
     IsInRange-with_node p before.certificate _ (shipment_in-lt p fields 2 names.0, arc_in-lt p fields 3 4 names.1) r
 kind-ranged p before ByTime fields h r =
     let count = IsClear-from_none 22 (not (length fields == 5)) h in
     let digits = IsClear-from_none 23 (not (has_number fields 4)) count.later in
-    let order = IsClear-from_none 24 (is_misplaced before group.Tree) digits.later in
+    let order = IsClear-from_none 24 (is_misplaced before section.Tree) digits.later in
     let name = IsClear-from_none 25 (lacks_shipment p fields 2 || lacks_terminal p fields 3) order.later in
     let range = IsClear-from_none 28 (not (is_time fields 4)) name.later in
     let names = or_parts (lacks_shipment p fields 2) (lacks_terminal p fields 3) name.here in
@@ -388,7 +411,7 @@ kind-ranged p before Leaf fields h r =
     let tables = before.certificate.tables in
     let count = IsClear-from_none 22 (not (length fields == 4)) h in
     let digits = IsClear-from_none 23 (not (has_leaf_digits fields)) count.later in
-    let order = IsClear-from_none 24 (is_misplaced before group.Tree) digits.later in
+    let order = IsClear-from_none 24 (is_misplaced before section.Tree) digits.later in
     let range = IsClear-from_none 28 (not (has_leaf_ranges (length tables) fields)) order.later in
     let limits = and_parts (has_kind_word fields || is_between 1 (length tables) fields 1) (is_between 0 LAST_ROUND fields 2)
     (not-false (has_leaf_ranges (length tables) fields) range.here) in

@@ -6,49 +6,49 @@ use Rattle.std.proofs.lemmas.Bool.{le-ltb}
 use Rattle.fp_model.specs.Problem.{Problem}
 use Rattle.fp_certificate_lines.specs.declared.certificates.Answer.{Answer}
 use Rattle.fp_certificate.specs.declared.drafts.Draft.{Draft}
-use Rattle.fp_certificate.specs.declared.lines.groups.Group.{Group}
-use Rattle.fp_certificate.specs.declared.lines.groups.Group.TheVariants as group
-use Rattle.fp_certificate.specs.Groups.{has_ended_at, is_after_answer, is_forbidden, is_misplaced_after, place_of}
+use Rattle.fp_certificate.specs.declared.lines.sections.Section.{Section}
+use Rattle.fp_certificate.specs.declared.lines.sections.Section.TheVariants as section
+use Rattle.fp_certificate.specs.Sections.{has_ended_at, is_after_answer, is_forbidden, is_misplaced_after, place_of}
 use Rattle.fp_certificate.specs.Reading.{certificate_from}
 use Rattle.fp_certificate_lines.specs.Statements.{Statement}
 use Rattle.fp_certificate.proofs.LinesBack.{IsStep}
 
--- a draft with a statement so far and the group of the latest line
-abbrev pub at : Statement → Group → Draft
+-- a draft with a statement so far and the section of the latest line
+abbrev pub at : Statement → Section → Draft
 at s g = record { certificate = s; latest = Some g }
 
--- from a statement, and a latest line of a group up to a place, the records that are left give a
+-- from a statement, and a latest line of a section up to a place, the records that are left give a
 -- certificate
 abbrev pub ReadsTo : Problem → ℕ → List (List (List ℕ)) → Statement → Statement → Type 0
-ReadsTo p k rest s c = (g : Group) (ordinal : ℕ) → place_of g ≤ k → certificate_from p (at s g) ordinal rest ≡ Ok c
+ReadsTo p k rest s c = (g : Section) (ordinal : ℕ) → place_of g ≤ k → certificate_from p (at s g) ordinal rest ≡ Ok c
 
--- no group before the end is that of the end
-pub has_ended_at-before_end : (g : Group) → place_of g ≤ 7 → has_ended_at (Some g) ≡ false
-has_ended_at-before_end group.Answer le = refl
-has_ended_at-before_end group.Scale le = refl
-has_ended_at-before_end group.Unit le = refl
-has_ended_at-before_end group.Legs le = refl
-has_ended_at-before_end group.Trucks le = refl
-has_ended_at-before_end group.Points le = refl
-has_ended_at-before_end group.Tables le = refl
-has_ended_at-before_end group.Tree le = refl
-has_ended_at-before_end group.End le = absurd (omega arith)
+-- no section before the end is that of the end
+pub has_ended_at-before_end : (g : Section) → place_of g ≤ 7 → has_ended_at (Some g) ≡ false
+has_ended_at-before_end section.Answer le = refl
+has_ended_at-before_end section.Scale le = refl
+has_ended_at-before_end section.Unit le = refl
+has_ended_at-before_end section.Legs le = refl
+has_ended_at-before_end section.Trucks le = refl
+has_ended_at-before_end section.Points le = refl
+has_ended_at-before_end section.Tables le = refl
+has_ended_at-before_end section.Tree le = refl
+has_ended_at-before_end section.End le = absurd (omega arith)
 
 -- a line that is not before the latest, and is not forbidden, can stand
-pub is_misplaced_after-later : (g h : Group) (a : Answer) → is_after_answer h ≡ true → place_of g ≤ place_of h → is_forbidden a h ≡ false → is_misplaced_after (Some g) a h ≡ false
+pub is_misplaced_after-later : (g h : Section) (a : Answer) → is_after_answer h ≡ true → place_of g ≤ place_of h → is_forbidden a h ≡ false → is_misplaced_after (Some g) a h ≡ false
 is_misplaced_after-later g h a after le free = rw (after, le-ltb (place_of h) (place_of g) le, free) refl
 
 -- one line
-pub one-line : (p : Problem) (k : ℕ) (h : Group) (fields : List (List ℕ)) (s t c : Statement) (rest : List (List (List ℕ))) → place_of h ≤ k
-    → ((g : Group) → place_of g ≤ k → IsStep p (at s g) fields (at t h)) → ReadsTo p k rest t c → ReadsTo p k (fields ∷ rest) s c
+pub one-line : (p : Problem) (k : ℕ) (h : Section) (fields : List (List ℕ)) (s t c : Statement) (rest : List (List (List ℕ))) → place_of h ≤ k
+    → ((g : Section) → place_of g ≤ k → IsStep p (at s g) fields (at t h)) → ReadsTo p k rest t c → ReadsTo p k (fields ∷ rest) s c
 one-line p k h fields s t c rest small step after g ordinal le =
     let now = step g le in
     rw (now.clean, now.gives) (after h (ordinal + 1) small)
 
 -- the lines of a list, where each line adds an element
-pub segment : {X : Type 0} (p : Problem) (k : ℕ) (h : Group) (fields : X → List (List ℕ)) (add : Statement → X → Statement) (Fits : Statement → X → Type 0)
+pub segment : {X : Type 0} (p : Problem) (k : ℕ) (h : Section) (fields : X → List (List ℕ)) (add : Statement → X → Statement) (Fits : Statement → X → Type 0)
     → place_of h ≤ k
-    → ((s : Statement) (g : Group) (x : X) → place_of g ≤ k → Fits s x → IsStep p (at s g) (fields x) (at (add s x) h))
+    → ((s : Statement) (g : Section) (x : X) → place_of g ≤ k → Fits s x → IsStep p (at s g) (fields x) (at (add s x) h))
     → ((s : Statement) (x y : X) → Fits s x → Fits s y → Fits (add s x) y)
     → (rest : List (List (List ℕ))) (c : Statement) (xs : List X) (s : Statement) → AllByRecursion (Fits s) xs
     → ReadsTo p k rest (fold add s xs) c → ReadsTo p k (map fields xs ++ rest) s c

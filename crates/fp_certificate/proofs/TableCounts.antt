@@ -8,13 +8,14 @@ use Rattle.fp_model.specs.Problem.{Problem}
 use Rattle.fp_prices.specs.declared.tables.Weight.{Weight}
 use Rattle.fp_prices.specs.Shares.{ClassShare}
 use Rattle.fp_prices_spans.specs.Spans.{ClassSpan}
+use Rattle.fp_records_fields.specs.Fields.{number_at}
 use Rattle.fp_certificate.specs.declared.drafts.Draft.{Draft}
 use Rattle.fp_certificate.specs.declared.lines.kinds.LineKind.{LineKind}
 use Rattle.fp_certificate.specs.declared.lines.kinds.LineKind.TheVariants.{Direct, Optimal, Unfinished, Infeasible, Scale, Leg, Truck, Point, Table, Share, Span, ByArc, ByTime, Leaf, End}
 use Rattle.fp_certificate.specs.declared.lines.kinds.LineKind.TheVariants as kind
 use Rattle.fp_certificate.specs.Kinds.{kind_of}
 use Rattle.fp_certificate.specs.Reading.{with_kind, with_kind_of, with_line}
-use Rattle.fp_certificate.specs.Tables.{and_share, and_span, and_span_weight, and_weight, has_span, share_in, span_in, weight_in, with_last, with_weight}
+use Rattle.fp_certificate.specs.Tables.{and_group, and_share, and_span, and_span_weight, and_weight, has_span, share_in, span_in, weight_in, with_last, with_weight}
 use Rattle.fp_certificate.proofs.LineRanges.{All-with_last}
 
 -- a changed last element keeps the length
@@ -48,6 +49,7 @@ kind-count p before Table fields = omega (arith, length_push before.certificate.
 kind-count p before Share fields = omega (arith, length-with_last (and_share (share_in p fields)) before.certificate.tables)
 kind-count p before Span fields = omega arith
 kind-count p before kind.Weight fields = omega (arith, weight-count before (weight_in p fields))
+kind-count p before kind.Group fields = omega arith
 kind-count p before ByArc fields = omega arith
 kind-count p before ByTime fields = omega arith
 kind-count p before Leaf fields = omega arith
@@ -143,6 +145,10 @@ kind-fewer p before n Span fields few = record {
   few_spans = last-fewer n (and_span (span_in p fields)) before.certificate.spans (λ list. omega (arith, length_push list (span_in p fields))) few.few_spans;
 }
 kind-fewer p before n kind.Weight fields few = weight-fewer before n (weight_in p fields) few
+kind-fewer p before n kind.Group fields few = record {
+  few_shares = (kept before n few).few_shares;
+  few_spans = last-fewer n (with_last (and_group (number_at fields 1))) before.certificate.spans (λ list. omega (arith, length-with_last (and_group (number_at fields 1)) list)) few.few_spans;
+}
 kind-fewer p before n ByArc fields few = kept before n few
 kind-fewer p before n ByTime fields few = kept before n few
 kind-fewer p before n Leaf fields few = kept before n few

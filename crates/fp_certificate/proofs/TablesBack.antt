@@ -12,14 +12,14 @@ use Rattle.fp_prices.specs.Shares.{ClassShare}
 use Rattle.fp_prices_spans.specs.SpanKinds.{spans_of_table}
 use Rattle.fp_prices_spans.specs.Spans.{ClassSpan}
 use Rattle.fp_records.specs.Fields.{is_empty}
-use Rattle.fp_certificate.specs.declared.lines.groups.Group.{Group}
-use Rattle.fp_certificate.specs.declared.lines.groups.Group.TheVariants as group
-use Rattle.fp_certificate.specs.Groups.{is_forbidden, place_of}
-use Rattle.fp_certificate_lines.specs.Ranges.{IsShareInRange, IsSpanInRange, IsWeightInRange}
-use Rattle.fp_certificate_lines.specs.Rows.{share_fields, share_rows, span_fields, span_rows, table_fields, tables_rows, weight_fields}
+use Rattle.fp_certificate.specs.declared.lines.sections.Section.{Section}
+use Rattle.fp_certificate.specs.declared.lines.sections.Section.TheVariants as section
+use Rattle.fp_certificate.specs.Sections.{is_forbidden, place_of}
+use Rattle.fp_certificate_lines.specs.Ranges.{IsGroupInRange, IsShareInRange, IsSpanInRange, IsWeightInRange}
+use Rattle.fp_certificate_lines.specs.Rows.{group_fields, share_fields, share_rows, span_fields, span_rows, table_fields, tables_rows, weight_fields}
 use Rattle.fp_certificate_lines.specs.Statements.{Statement}
-use Rattle.fp_certificate.specs.Tables.{and_share, and_span, and_span_weight, and_weight, has_span, lacks_last, with_last}
-use Rattle.fp_certificate.proofs.LinesBack.{IsStep, share-step, span-step, span-weight-step, table-step, weight-step}
+use Rattle.fp_certificate.specs.Tables.{and_group, and_share, and_span, and_span_weight, and_weight, has_group, has_span, is_grouped, lacks_last, last_is, with_last}
+use Rattle.fp_certificate.proofs.LinesBack.{IsStep, group-step, share-step, span-step, span-weight-step, table-step, weight-step}
 use Rattle.fp_certificate.proofs.SegmentsBack.{ReadsTo, at, one-line, has_ended_at-before_end, is_misplaced_after-later}
 
 -- lists of which the last is this one
@@ -52,54 +52,66 @@ lacks_last-ending (a ∷ b ∷ lists) list = lacks_last-ending (b ∷ lists) lis
 lacks_last-pushed : {A : Type 0} (lists : List (List A)) (list : List A) (x : A) → lacks_last (ending lists (list ++ (x ∷ []))) ≡ false
 lacks_last-pushed lists list x = lacks_last-ending lists (list ++ (x ∷ [])) ∙ some-pushed list x
 
--- elements of the last of some lists, each of a line and the lines of its weights, are read: its line
--- begins it, the line of a weight adds the weight, and with all its weights it is whole. `put` is the
--- statement so far with such lists
-record AreRead (p : Problem) (E : Type 0) (put : List (List E) → Statement) (fields : E → List (List ℕ)) (bare : E → E) (weighed : E → Weight → E) (weights : E → List Weight) (Fits : E → Type 0) : Type 0 where
-  begins : (lists : List (List E)) (list : List E) (x : E) → Fits x → (g : Group) → place_of g ≤ 6
-      → IsStep p (at (put (ending lists list)) g) (fields x) (at (put (ending lists (list ++ (bare x ∷ [])))) group.Tables)
-  grows : (lists : List (List E)) (list : List E) (x : E) (w : Weight) → IsWeightInRange p w → (g : Group) → place_of g ≤ 6
-      → IsStep p (at (put (ending lists (list ++ (x ∷ [])))) g) (weight_fields p w) (at (put (ending lists (list ++ (weighed x w ∷ [])))) group.Tables)
-  whole : (x : E) → fold weighed (bare x) (weights x) ≡ x
-  inside : (x : E) → Fits x → All (IsWeightInRange p) (weights x)
+-- whether the last element passes a test, with one more
+last_is-push : {A : Type 0} (test : A → Bool) (xs : List A) (x : A) → last_is test (xs ++ (x ∷ [])) ≡ test x
+last_is-push test [] x = refl
+last_is-push test (a ∷ []) x = refl
+last_is-push test (a ∷ b ∷ xs) x = last_is-push test (b ∷ xs) x
 
--- the weights of the last element
-weights-back : (p : Problem) {E : Type 0} (put : List (List E) → Statement) (fields : E → List (List ℕ)) (bare : E → E) (weighed : E → Weight → E) (weights : E → List Weight) (Fits : E → Type 0)
-    → AreRead p E put fields bare weighed weights Fits → (c : Statement) (rest : List (List (List ℕ))) (lists : List (List E)) (list : List E) (ws : List Weight) (x : E)
-    → AllByRecursion (IsWeightInRange p) ws → ReadsTo p 6 rest (put (ending lists (list ++ (fold weighed x ws ∷ [])))) c
-    → ReadsTo p 6 (map (weight_fields p) ws ++ rest) (put (ending lists (list ++ (x ∷ [])))) c
-weights-back p put fields bare weighed weights Fits are c rest lists list [] x all after = after
-weights-back p put fields bare weighed weights Fits are c rest lists list (w ∷ ws) x all after =
-    one-line p 6 group.Tables (weight_fields p w) (put (ending lists (list ++ (x ∷ [])))) (put (ending lists (list ++ (weighed x w ∷ [])))) c
-    (map (weight_fields p) ws ++ rest) (lit≤ tt) (λ g le. are.grows lists list x w all.0 g le)
-    (weights-back p put fields bare weighed weights Fits are c rest lists list ws (weighed x w) all.1 after)
+-- the last span of the last table decides whether a group has been read
+has_group-ending : (lists : List (List ClassSpan)) (list : List ClassSpan) (x : ClassSpan) → x.groups ≡ [] → has_group (ending lists (list ++ (x ∷ []))) ≡ false
+has_group-ending lists list x none =
+    last_is-push (λ (l : List ClassSpan). last_is is_grouped l) lists (list ++ (x ∷ []))
+    ∙ last_is-push is_grouped list x
+    ∙ ap (λ (groups : List ℕ). not (is_empty groups)) none
 
--- elements of the last list, each with its weights
-elements-back : (p : Problem) {E : Type 0} (put : List (List E) → Statement) (fields : E → List (List ℕ)) (bare : E → E) (weighed : E → Weight → E) (weights : E → List Weight) (Fits : E → Type 0)
-    → AreRead p E put fields bare weighed weights Fits → (c : Statement) (rest : List (List (List ℕ))) (lists : List (List E)) (xs list : List E)
+-- elements of the last of some lists, each of a line and the lines of its parts, are read: its line
+-- begins it, and the lines of its parts fill it. `put` is the statement so far with such lists, and `c`
+-- the whole one
+record AreRead (p : Problem) (E : Type 0) (put : List (List E) → Statement) (fields : E → List (List ℕ)) (bare : E → E) (rows : E → List (List (List ℕ))) (Fits : E → Type 0) (c : Statement) : Type 0 where
+  begins : (lists : List (List E)) (list : List E) (x : E) → Fits x → (g : Section) → place_of g ≤ 6
+      → IsStep p (at (put (ending lists list)) g) (fields x) (at (put (ending lists (list ++ (bare x ∷ [])))) section.Tables)
+  fills : (rest : List (List (List ℕ))) (lists : List (List E)) (list : List E) (x : E) → Fits x → ReadsTo p 6 rest (put (ending lists (list ++ (x ∷ [])))) c
+      → ReadsTo p 6 (rows x ++ rest) (put (ending lists (list ++ (bare x ∷ [])))) c
+
+-- parts of the last element, each of one line, while the element is open for such parts
+parts-back : (p : Problem) {E T : Type 0} (put : List (List E) → Statement) (fields : T → List (List ℕ)) (grown : E → T → E) (IsOpen : E → Type 0) (Fits : T → Type 0)
+    → ((lists : List (List E)) (list : List E) (x : E) (t : T) → IsOpen x → Fits t → (g : Section) → place_of g ≤ 6
+    → IsStep p (at (put (ending lists (list ++ (x ∷ [])))) g) (fields t) (at (put (ending lists (list ++ (grown x t ∷ [])))) section.Tables))
+    → ((x : E) (t : T) → IsOpen x → IsOpen (grown x t))
+    → (c : Statement) (rest : List (List (List ℕ))) (lists : List (List E)) (list : List E) (ts : List T) (x : E)
+    → IsOpen x → AllByRecursion Fits ts → ReadsTo p 6 rest (put (ending lists (list ++ (fold grown x ts ∷ [])))) c
+    → ReadsTo p 6 (map fields ts ++ rest) (put (ending lists (list ++ (x ∷ [])))) c
+parts-back p put fields grown IsOpen Fits step stays c rest lists list [] x open_still all after = after
+parts-back p put fields grown IsOpen Fits step stays c rest lists list (t ∷ ts) x open_still all after =
+    one-line p 6 section.Tables (fields t) (put (ending lists (list ++ (x ∷ [])))) (put (ending lists (list ++ (grown x t ∷ [])))) c
+    (map fields ts ++ rest) (lit≤ tt) (λ g le. step lists list x t open_still all.0 g le)
+    (parts-back p put fields grown IsOpen Fits step stays c rest lists list ts (grown x t) (stays x t open_still) all.1 after)
+
+-- elements of the last list, each with its parts
+elements-back : (p : Problem) {E : Type 0} (put : List (List E) → Statement) (fields : E → List (List ℕ)) (bare : E → E) (rows : E → List (List (List ℕ))) (Fits : E → Type 0) (c : Statement)
+    → AreRead p E put fields bare rows Fits c → (rest : List (List (List ℕ))) (lists : List (List E)) (xs list : List E)
     → All Fits xs → ReadsTo p 6 rest (put (ending lists (list ++ xs))) c
-    → ReadsTo p 6 (flat_map (λ x. fields x ∷ map (weight_fields p) (weights x)) xs ++ rest) (put (ending lists list)) c
-elements-back p {E} put fields bare weighed weights Fits are c rest lists [] list all after =
+    → ReadsTo p 6 (flat_map (λ x. fields x ∷ rows x) xs ++ rest) (put (ending lists list)) c
+elements-back p {E} put fields bare rows Fits c are rest lists [] list all after =
     subst (λ (ys : List E). ReadsTo p 6 rest (put (ending lists ys)) c) (append-nil list) after
-elements-back p {E} put fields bare weighed weights Fits are c rest lists (x ∷ xs) list all after =
-    let rows : E → List (List (List ℕ)) = λ y. fields y ∷ map (weight_fields p) (weights y) in
-    let others = flat_map rows xs in
+elements-back p {E} put fields bare rows Fits c are rest lists (x ∷ xs) list all after =
+    let lines : E → List (List (List ℕ)) = λ y. fields y ∷ rows y in
+    let others = flat_map lines xs in
     let fits = All-head Fits x xs all in
-    let next = elements-back p put fields bare weighed weights Fits are c rest lists xs (list ++ (x ∷ [])) (All-tail Fits x xs all)
+    let next = elements-back p put fields bare rows Fits c are rest lists xs (list ++ (x ∷ [])) (All-tail Fits x xs all)
     (subst (λ (ys : List E). ReadsTo p 6 rest (put (ending lists ys)) c) (sym (append_assoc list (x ∷ []) xs)) after) in
-    let filled = subst (λ (y : E). ReadsTo p 6 (others ++ rest) (put (ending lists (list ++ (y ∷ [])))) c) (sym (are.whole x)) next in
-    let weighing = weights-back p put fields bare weighed weights Fits are c (others ++ rest) lists list (weights x) (bare x)
-    (recursion_from_All (IsWeightInRange p) (weights x) (are.inside x fits)) filled in
-    subst (λ (lines : List (List (List ℕ))). ReadsTo p 6 lines (put (ending lists list)) c) (sym (append_assoc (rows x) others rest))
-    (one-line p 6 group.Tables (fields x) (put (ending lists list)) (put (ending lists (list ++ (bare x ∷ [])))) c
-    (map (weight_fields p) (weights x) ++ (others ++ rest)) (lit≤ tt) (λ g le. are.begins lists list x fits g le) weighing)
+    subst (λ (all_lines : List (List (List ℕ))). ReadsTo p 6 all_lines (put (ending lists list)) c) (sym (append_assoc (lines x) others rest))
+    (one-line p 6 section.Tables (fields x) (put (ending lists list)) (put (ending lists (list ++ (bare x ∷ [])))) c
+    (rows x ++ (others ++ rest)) (lit≤ tt) (λ g le. are.begins lists list x fits g le) (are.fills (others ++ rest) lists list x fits next))
 
--- a share and a span without weights, and with one more
+-- a share without weights, and with one more; a span without weights and groups, and with one more of
+-- them
 abbrev bare-share : ClassShare → ClassShare
 bare-share x = record x { weights = [] }
 
 abbrev bare-span : ClassSpan → ClassSpan
-bare-span x = record x { weights = [] }
+bare-span x = record x { weights = []; groups = [] }
 
 abbrev share-weighed : ClassShare → Weight → ClassShare
 share-weighed x w = and_weight w x
@@ -107,13 +119,20 @@ share-weighed x w = and_weight w x
 abbrev span-weighed : ClassSpan → Weight → ClassSpan
 span-weighed x w = and_span_weight w x
 
+abbrev span-grouped : ClassSpan → ℕ → ClassSpan
+span-grouped x m = and_group m x
+
 share-whole : (ws : List Weight) (x : ClassShare) → fold share-weighed x ws ≡ record x { weights = x.weights ++ ws }
 share-whole [] x = ap (λ (us : List Weight). record x { weights = us }) (sym (append-nil x.weights))
 share-whole (w ∷ ws) x = share-whole ws (and_weight w x) ∙ ap (λ (us : List Weight). record x { weights = us }) (append_assoc x.weights (w ∷ []) ws)
 
-span-whole : (ws : List Weight) (x : ClassSpan) → fold span-weighed x ws ≡ record x { weights = x.weights ++ ws }
-span-whole [] x = ap (λ (us : List Weight). record x { weights = us }) (sym (append-nil x.weights))
-span-whole (w ∷ ws) x = span-whole ws (and_span_weight w x) ∙ ap (λ (us : List Weight). record x { weights = us }) (append_assoc x.weights (w ∷ []) ws)
+weights-whole : (ws : List Weight) (x : ClassSpan) → fold span-weighed x ws ≡ record x { weights = x.weights ++ ws }
+weights-whole [] x = ap (λ (us : List Weight). record x { weights = us }) (sym (append-nil x.weights))
+weights-whole (w ∷ ws) x = weights-whole ws (and_span_weight w x) ∙ ap (λ (us : List Weight). record x { weights = us }) (append_assoc x.weights (w ∷ []) ws)
+
+groups-whole : (ms : List ℕ) (x : ClassSpan) → fold span-grouped x ms ≡ record x { groups = x.groups ++ ms }
+groups-whole [] x = ap (λ (us : List ℕ). record x { groups = us }) (sym (append-nil x.groups))
+groups-whole (m ∷ ms) x = groups-whole ms (and_group m x) ∙ ap (λ (us : List ℕ). record x { groups = us }) (append_assoc x.groups (m ∷ []) ms)
 
 -- a statement with other tables, and with other spans
 abbrev with-tables : Statement → List (List ClassShare) → Statement
@@ -122,37 +141,72 @@ with-tables s tables = record s { tables = tables }
 abbrev with-spans : Statement → List (List ClassSpan) → Statement
 with-spans s spans = record s { spans = spans }
 
+-- the lines of a share's weights, and of a span's weights and groups
+abbrev share-parts : Problem → ClassShare → List (List (List ℕ))
+share-parts p x = map (weight_fields p) x.weights
+
+abbrev span-parts : Problem → ClassSpan → List (List (List ℕ))
+span-parts p x = map (weight_fields p) x.weights ++ map group_fields x.groups
+
 -- shares, in a table that has no span yet
-shares-read : (p : Problem) (s : Statement) → IsValid p → is_forbidden s.answer group.Tables ≡ false → has_span s.spans ≡ false
-    → AreRead p ClassShare (with-tables s) (share_fields p) bare-share share-weighed (λ x. x.weights) (IsShareInRange p)
-shares-read p s v free none = record {
-  begins = λ lists list x fits g le. subst (λ (ts : List (List ClassShare)). IsStep p (at (with-tables s (ending lists list)) g) (share_fields p x) (at (with-tables s ts) group.Tables))
+shares-read : (p : Problem) (s c : Statement) → IsValid p → is_forbidden s.answer section.Tables ≡ false → has_span s.spans ≡ false
+    → AreRead p ClassShare (with-tables s) (share_fields p) bare-share (share-parts p) (IsShareInRange p) c
+shares-read p s c v free none = record {
+  begins = λ lists list x fits g le. subst (λ (ts : List (List ClassShare)). IsStep p (at (with-tables s (ending lists list)) g) (share_fields p x) (at (with-tables s ts) section.Tables))
       (with_last-push (and_share (bare-share x)) lists list)
-      (share-step p (at (with-tables s (ending lists list)) g) x v fits (has_ended_at-before_end g (omega arith)) (is_misplaced_after-later g group.Tables s.answer refl le free)
+      (share-step p (at (with-tables s (ending lists list)) g) x v fits (has_ended_at-before_end g (omega arith)) (is_misplaced_after-later g section.Tables s.answer refl le free)
       (some-pushed lists list) none);
-  grows = λ lists list x w r g le. subst (λ (ts : List (List ClassShare)). IsStep p (at (with-tables s (ending lists (list ++ (x ∷ [])))) g) (weight_fields p w) (at (with-tables s ts) group.Tables))
-      (last-changed (and_weight w) lists list x)
-      (weight-step p (at (with-tables s (ending lists (list ++ (x ∷ [])))) g) w v r (has_ended_at-before_end g (omega arith)) (is_misplaced_after-later g group.Tables s.answer refl le free)
-      (lacks_last-pushed lists list x) none);
-  whole = λ x. share-whole x.weights (bare-share x);
-  inside = λ x fits. fits.weights;
+  fills = λ rest lists list x fits after.
+      parts-back p (with-tables s) (weight_fields p) share-weighed (λ y. Unit {0}) (IsWeightInRange p) weighed (λ y w open_still. tt) c rest lists list x.weights (bare-share x) tt
+      (recursion_from_All (IsWeightInRange p) x.weights fits.weights)
+      (subst (λ (y : ClassShare). ReadsTo p 6 rest (with-tables s (ending lists (list ++ (y ∷ [])))) c) (sym (share-whole x.weights (bare-share x))) after);
 }
+  where
+    weighed : (lists : List (List ClassShare)) (list : List ClassShare) (x : ClassShare) (w : Weight) → Unit {0} → IsWeightInRange p w → (g : Section) → place_of g ≤ 6
+        → IsStep p (at (with-tables s (ending lists (list ++ (x ∷ [])))) g) (weight_fields p w) (at (with-tables s (ending lists (list ++ (share-weighed x w ∷ [])))) section.Tables)
+    weighed lists list x w open_still r g le =
+        subst (λ (ts : List (List ClassShare)). IsStep p (at (with-tables s (ending lists (list ++ (x ∷ [])))) g) (weight_fields p w) (at (with-tables s ts) section.Tables))
+        (last-changed (and_weight w) lists list x)
+        (weight-step p (at (with-tables s (ending lists (list ++ (x ∷ [])))) g) w v r (has_ended_at-before_end g (omega arith)) (is_misplaced_after-later g section.Tables s.answer refl le free)
+        (lacks_last-pushed lists list x) none)
 
 -- spans
-spans-read : (p : Problem) (s : Statement) → IsValid p → is_forbidden s.answer group.Tables ≡ false
-    → AreRead p ClassSpan (with-spans s) (span_fields p) bare-span span-weighed (λ x. x.weights) (IsSpanInRange p)
-spans-read p s v free = record {
-  begins = λ lists list x fits g le. subst (λ (ls : List (List ClassSpan)). IsStep p (at (with-spans s (ending lists list)) g) (span_fields p x) (at (with-spans s ls) group.Tables))
+spans-read : (p : Problem) (s c : Statement) → IsValid p → is_forbidden s.answer section.Tables ≡ false
+    → AreRead p ClassSpan (with-spans s) (span_fields p) bare-span (span-parts p) (IsSpanInRange p) c
+spans-read p s c v free = record {
+  begins = λ lists list x fits g le. subst (λ (ls : List (List ClassSpan)). IsStep p (at (with-spans s (ending lists list)) g) (span_fields p x) (at (with-spans s ls) section.Tables))
       (with_last-push (and_span (bare-span x)) lists list)
-      (span-step p (at (with-spans s (ending lists list)) g) x v fits (has_ended_at-before_end g (omega arith)) (is_misplaced_after-later g group.Tables s.answer refl le free)
+      (span-step p (at (with-spans s (ending lists list)) g) x v fits (has_ended_at-before_end g (omega arith)) (is_misplaced_after-later g section.Tables s.answer refl le free)
       (some-pushed lists list));
-  grows = λ lists list x w r g le. subst (λ (ls : List (List ClassSpan)). IsStep p (at (with-spans s (ending lists (list ++ (x ∷ [])))) g) (weight_fields p w) (at (with-spans s ls) group.Tables))
-      (last-changed (and_span_weight w) lists list x)
-      (span-weight-step p (at (with-spans s (ending lists (list ++ (x ∷ [])))) g) w v r (has_ended_at-before_end g (omega arith)) (is_misplaced_after-later g group.Tables s.answer refl le free)
-      (ap (λ (b : Bool). not b) (lacks_last-pushed lists list x)));
-  whole = λ x. span-whole x.weights (bare-span x);
-  inside = λ x fits. fits.weights;
+  fills = λ rest lists list x fits after.
+      let weights = map (weight_fields p) x.weights in
+      let groups = map group_fields x.groups in
+      let ungrouped : ClassSpan = record x { groups = [] } in
+      let grouping : ReadsTo p 6 (groups ++ rest) (with-spans s (ending lists (list ++ (ungrouped ∷ [])))) c =
+      parts-back p (with-spans s) group_fields span-grouped (λ y. Unit {0}) IsGroupInRange grouped (λ y m open_still. tt) c rest lists list x.groups ungrouped tt
+      (recursion_from_All IsGroupInRange x.groups fits.groups)
+      (subst (λ (y : ClassSpan). ReadsTo p 6 rest (with-spans s (ending lists (list ++ (y ∷ [])))) c) (sym (groups-whole x.groups ungrouped)) after) in
+      subst (λ (lines : List (List (List ℕ))). ReadsTo p 6 lines (with-spans s (ending lists (list ++ (bare-span x ∷ [])))) c) (sym (append_assoc weights groups rest))
+      (parts-back p (with-spans s) (weight_fields p) span-weighed (λ y. y.groups ≡ []) (IsWeightInRange p) weighed (λ y w open_still. open_still) c (groups ++ rest) lists list x.weights (bare-span x) refl
+      (recursion_from_All (IsWeightInRange p) x.weights fits.weights)
+      (subst (λ (y : ClassSpan). ReadsTo p 6 (groups ++ rest) (with-spans s (ending lists (list ++ (y ∷ [])))) c) (sym (weights-whole x.weights (bare-span x))) grouping));
 }
+  where
+    weighed : (lists : List (List ClassSpan)) (list : List ClassSpan) (x : ClassSpan) (w : Weight) → x.groups ≡ [] → IsWeightInRange p w → (g : Section) → place_of g ≤ 6
+        → IsStep p (at (with-spans s (ending lists (list ++ (x ∷ [])))) g) (weight_fields p w) (at (with-spans s (ending lists (list ++ (span-weighed x w ∷ [])))) section.Tables)
+    weighed lists list x w open_still r g le =
+        subst (λ (ls : List (List ClassSpan)). IsStep p (at (with-spans s (ending lists (list ++ (x ∷ [])))) g) (weight_fields p w) (at (with-spans s ls) section.Tables))
+        (last-changed (and_span_weight w) lists list x)
+        (span-weight-step p (at (with-spans s (ending lists (list ++ (x ∷ [])))) g) w v r (has_ended_at-before_end g (omega arith)) (is_misplaced_after-later g section.Tables s.answer refl le free)
+        (ap (λ (b : Bool). not b) (lacks_last-pushed lists list x)) (has_group-ending lists list x open_still))
+
+    grouped : (lists : List (List ClassSpan)) (list : List ClassSpan) (x : ClassSpan) (m : ℕ) → Unit {0} → IsGroupInRange m → (g : Section) → place_of g ≤ 6
+        → IsStep p (at (with-spans s (ending lists (list ++ (x ∷ [])))) g) (group_fields m) (at (with-spans s (ending lists (list ++ (span-grouped x m ∷ [])))) section.Tables)
+    grouped lists list x m open_still r g le =
+        subst (λ (ls : List (List ClassSpan)). IsStep p (at (with-spans s (ending lists (list ++ (x ∷ [])))) g) (group_fields m) (at (with-spans s ls) section.Tables))
+        (last-changed (and_group m) lists list x)
+        (group-step p (at (with-spans s (ending lists (list ++ (x ∷ [])))) g) m r (has_ended_at-before_end g (omega arith)) (is_misplaced_after-later g section.Tables s.answer refl le free)
+        (ap (λ (b : Bool). not b) (lacks_last-pushed lists list x)))
 
 -- with other tables and other spans
 abbrev with : Statement → List (List ClassShare) → List (List ClassSpan) → Statement
@@ -167,7 +221,7 @@ moved p rest s c ts us ls ms tables spans after =
 
 -- the shares of a table and the spans beside it, after the line of the table
 table-back : (p : Problem) (s c : Statement) (table : List ClassShare) (spans : List ClassSpan) (rest : List (List (List ℕ))) → IsValid p
-    → is_forbidden s.answer group.Tables ≡ false → All (IsShareInRange p) table → All (IsSpanInRange p) spans
+    → is_forbidden s.answer section.Tables ≡ false → All (IsShareInRange p) table → All (IsSpanInRange p) spans
     → ReadsTo p 6 rest (with s (ending s.tables table) (ending s.spans spans)) c
     → ReadsTo p 6 (flat_map (share_rows p) table ++ (flat_map (span_rows p) spans ++ rest)) (with s (ending s.tables []) (ending s.spans [])) c
 table-back p s c table spans rest v free shares-fit spans-fit after =
@@ -175,15 +229,15 @@ table-back p s c table spans rest v free shares-fit spans-fit after =
     let fresh = with-spans s (ending s.spans []) in
     let none : has_span fresh.spans ≡ false = ap (λ (b : Bool). not b) (lacks_last-ending s.spans []) in
     let beside : ReadsTo p 6 (flat_map (span_rows p) spans ++ rest) (with s (ending s.tables table) (ending s.spans [])) c =
-    elements-back p (with-spans full) (span_fields p) bare-span span-weighed (λ x. x.weights) (IsSpanInRange p) (spans-read p full v free) c rest s.spans spans [] spans-fit after in
-    elements-back p (with-tables fresh) (share_fields p) bare-share share-weighed (λ x. x.weights) (IsShareInRange p) (shares-read p fresh v free none) c
+    elements-back p (with-spans full) (span_fields p) bare-span (span-parts p) (IsSpanInRange p) c (spans-read p full c v free) rest s.spans spans [] spans-fit after in
+    elements-back p (with-tables fresh) (share_fields p) bare-share (share-parts p) (IsShareInRange p) c (shares-read p fresh c v free none)
     (flat_map (span_rows p) spans ++ rest) s.tables table [] shares-fit beside
 
 -- tables that are numbered from the next on, with the lists of spans that are left
 numbered-back : (p : Problem) (c : Statement) (rest : List (List (List ℕ))) (every : List (List ClassSpan)) → IsValid p
     → (tables : List (List ClassShare)) (spans : List (List ClassSpan)) (s : Statement) (id : ℕ)
     → id ≡ length s.tables + 1 → length s.spans ≡ length s.tables → s.spans ++ spans ≡ every → length spans ≡ length tables → id + length tables < 10 ^ 64
-    → All (All (IsShareInRange p)) tables → All (All (IsSpanInRange p)) spans → is_forbidden s.answer group.Tables ≡ false
+    → All (All (IsShareInRange p)) tables → All (All (IsSpanInRange p)) spans → is_forbidden s.answer section.Tables ≡ false
     → ReadsTo p 6 rest (with s (s.tables ++ tables) (s.spans ++ spans)) c → ReadsTo p 6 (tables_rows p every id tables ++ rest) s c
 numbered-back p c rest every v [] [] s id next level together beside few shares-fit spans-fit free after =
     moved p rest s c s.tables (s.tables ++ []) s.spans (s.spans ++ []) (sym (append-nil s.tables)) (sym (append-nil s.spans)) after
@@ -208,14 +262,14 @@ numbered-back p c rest every v (table ∷ tables) (list ∷ spans) s id next lev
     let lines : ((shares ++ runs) ++ others) ++ rest ≡ shares ++ (runs ++ (others ++ rest)) =
     append_assoc (shares ++ runs) others rest ∙ append_assoc shares runs (others ++ rest) in
     subst (λ (ls : List ClassSpan). ReadsTo p 6 (table_fields id ∷ (((shares ++ flat_map (span_rows p) ls) ++ others) ++ rest)) s c) (sym mine)
-    (one-line p 6 group.Tables (table_fields id) s fresh c (((shares ++ runs) ++ others) ++ rest) (lit≤ tt)
-    (λ g le. table-step p (at s g) id next (omega arith) (has_ended_at-before_end g (omega arith)) (is_misplaced_after-later g group.Tables s.answer refl le free))
+    (one-line p 6 section.Tables (table_fields id) s fresh c (((shares ++ runs) ++ others) ++ rest) (lit≤ tt)
+    (λ g le. table-step p (at s g) id next (omega arith) (has_ended_at-before_end g (omega arith)) (is_misplaced_after-later g section.Tables s.answer refl le free))
     (subst (λ (ls : List (List (List ℕ))). ReadsTo p 6 ls fresh c) (sym lines) inside))
 
 -- all tables
 pub tables-back : (p : Problem) (s c : Statement) (tables : List (List ClassShare)) (spans : List (List ClassSpan)) (rest : List (List (List ℕ))) → IsValid p
     → s.tables ≡ [] → s.spans ≡ [] → length spans ≡ length tables → length tables < 2 ^ 32 - 1 → All (All (IsShareInRange p)) tables → All (All (IsSpanInRange p)) spans
-    → (is_forbidden s.answer group.Tables ≡ false) ⊎ ((tables ≡ []) × (spans ≡ []))
+    → (is_forbidden s.answer section.Tables ≡ false) ⊎ ((tables ≡ []) × (spans ≡ []))
     → ReadsTo p 6 rest (record s { tables = tables; spans = spans }) c → ReadsTo p 6 (tables_rows p spans 1 tables ++ rest) s c
 tables-back p s c tables spans rest v none bare beside few shares-fit spans-fit (inl free) after =
     let start : 1 ≡ length s.tables + 1 = rw none refl in

@@ -7,9 +7,9 @@ use Rattle.fp_records.specs.Text.{lines_of}
 use Rattle.fp_records.proofs.RoundTrip.{records_of-lines_of}
 use Rattle.fp_certificate_lines.specs.declared.certificates.Answer.{Answer}
 use Rattle.fp_certificate_lines.specs.declared.certificates.Answer.TheVariants as answer
-use Rattle.fp_certificate.specs.declared.lines.groups.Group.{Group}
-use Rattle.fp_certificate.specs.declared.lines.groups.Group.TheVariants as group
-use Rattle.fp_certificate.specs.Groups.{is_forbidden, place_of}
+use Rattle.fp_certificate.specs.declared.lines.sections.Section.{Section}
+use Rattle.fp_certificate.specs.declared.lines.sections.Section.TheVariants as section
+use Rattle.fp_certificate.specs.Sections.{is_forbidden, place_of}
 use Rattle.fp_certificate_lines.specs.Ranges.{HaveNames, IsInRange, IsScaleInRange, IsUnitInRange}
 use Rattle.fp_certificate.specs.Readable.{Allows, IsReadable, WrittenReadsBack}
 use Rattle.fp_certificate.specs.Reading.{certificate_of, nothing_read}
@@ -23,13 +23,13 @@ use Rattle.fp_certificate.proofs.TablesBack.{tables-back}
 
 -- what the answer forbids isn't there
 record IsFree (c : Statement) : Type 0 where
-  scale : (is_forbidden c.answer group.Scale ≡ false) ⊎ (c.scale ≡ None)
-  unit : (is_forbidden c.answer group.Unit ≡ false) ⊎ (c.unit ≡ None)
-  legs : Free (is_forbidden c.answer group.Legs) c.legs
-  trucks : Free (is_forbidden c.answer group.Trucks) c.trucks
-  points : Free (is_forbidden c.answer group.Points) c.points
-  tables : (is_forbidden c.answer group.Tables ≡ false) ⊎ ((c.tables ≡ []) × (c.spans ≡ []))
-  tree : Free (is_forbidden c.answer group.Tree) c.tree
+  scale : (is_forbidden c.answer section.Scale ≡ false) ⊎ (c.scale ≡ None)
+  unit : (is_forbidden c.answer section.Unit ≡ false) ⊎ (c.unit ≡ None)
+  legs : Free (is_forbidden c.answer section.Legs) c.legs
+  trucks : Free (is_forbidden c.answer section.Trucks) c.trucks
+  points : Free (is_forbidden c.answer section.Points) c.points
+  tables : (is_forbidden c.answer section.Tables ≡ false) ⊎ ((c.tables ≡ []) × (c.spans ≡ []))
+  tree : Free (is_forbidden c.answer section.Tree) c.tree
 
 free-answer : (a : Answer) (c : Statement) → c.answer ≡ a → Allows a c → IsFree c
 free-answer (answer.Direct cost) c is h = record {
@@ -70,19 +70,19 @@ free-answer (answer.Infeasible shipment time) c is h = record {
 }
 
 -- the end can stand under each answer
-end-free : (a : Answer) → is_forbidden a group.End ≡ false
+end-free : (a : Answer) → is_forbidden a section.End ≡ false
 end-free (answer.Direct cost) = refl
 end-free (answer.Optimal cost) = refl
 end-free (answer.Unfinished cost bound s) = refl
 end-free (answer.Infeasible shipment time) = refl
 
--- a later part may come after fewer groups
+-- a later part may come after fewer sections
 sooner : (p : Problem) (k m : ℕ) (rest : List (List (List ℕ))) (s c : Statement) → k ≤ m → ReadsTo p m rest s c → ReadsTo p k rest s c
 sooner p k m rest s c le after g ordinal small = after g ordinal (omega arith)
 
--- one line, after which lines of later groups stand
-one-line-then : (p : Problem) (k m : ℕ) (h : Group) (fields : List (List ℕ)) (s t c : Statement) (rest : List (List (List ℕ))) → place_of h ≤ m
-    → ((g : Group) → place_of g ≤ k → IsStep p (at s g) fields (at t h)) → ReadsTo p m rest t c → ReadsTo p k (fields ∷ rest) s c
+-- one line, after which lines of later sections stand
+one-line-then : (p : Problem) (k m : ℕ) (h : Section) (fields : List (List ℕ)) (s t c : Statement) (rest : List (List (List ℕ))) → place_of h ≤ m
+    → ((g : Section) → place_of g ≤ k → IsStep p (at s g) fields (at t h)) → ReadsTo p m rest t c → ReadsTo p k (fields ∷ rest) s c
 one-line-then p k m h fields s t c rest small step after g ordinal le =
     let now = step g le in
     rw (now.clean, now.gives) (after h (ordinal + 1) small)
@@ -90,27 +90,27 @@ one-line-then p k m h fields s t c rest small step after g ordinal le =
 -- the end gives what there is
 end-back : (p : Problem) (c : Statement) → ReadsTo p 7 (end_fields ∷ []) c c
 end-back p c g ordinal le =
-    let step = end-step p (at c g) (has_ended_at-before_end g le) (is_misplaced_after-later g group.End c.answer refl (omega arith) (end-free c.answer)) in
+    let step = end-step p (at c g) (has_ended_at-before_end g le) (is_misplaced_after-later g section.End c.answer refl (omega arith) (end-free c.answer)) in
     rw step.clean refl
 
 -- a scale, where there is one
 scale-back : (p : Problem) (s c : Statement) (rest : List (List (List ℕ))) (scale : Option ℕ) → s.scale ≡ None → IfSome scale (IsScaleInRange p)
-    → (is_forbidden s.answer group.Scale ≡ false) ⊎ (scale ≡ None) → ReadsTo p 1 rest (record s { scale = scale }) c → ReadsTo p 0 (scale_rows scale ++ rest) s c
+    → (is_forbidden s.answer section.Scale ≡ false) ⊎ (scale ≡ None) → ReadsTo p 1 rest (record s { scale = scale }) c → ReadsTo p 0 (scale_rows scale ++ rest) s c
 scale-back p s c rest None none range free after =
     sooner p 0 1 rest s c (lit≤ tt) (subst (λ (o : Option ℕ). ReadsTo p 1 rest (record s { scale = o }) c) (sym none) after)
 scale-back p s c rest (Some n) none range (inl free) after =
-    one-line-then p 0 1 group.Scale (scale_fields n) s (record s { scale = Some n }) c rest (lit≤ tt)
-    (λ g le. scale-step p (at s g) n range (has_ended_at-before_end g (omega arith)) (is_misplaced_after-later g group.Scale s.answer refl (omega arith) free) (rw none refl)) after
+    one-line-then p 0 1 section.Scale (scale_fields n) s (record s { scale = Some n }) c rest (lit≤ tt)
+    (λ g le. scale-step p (at s g) n range (has_ended_at-before_end g (omega arith)) (is_misplaced_after-later g section.Scale s.answer refl (omega arith) free) (rw none refl)) after
 scale-back p s c rest (Some n) none range (inr missing) after = cc missing
 
 -- a unit, where there is one
 unit-back : (p : Problem) (s c : Statement) (rest : List (List (List ℕ))) (unit : Option ℕ) → s.unit ≡ None → IfSome unit IsUnitInRange
-    → (is_forbidden s.answer group.Unit ≡ false) ⊎ (unit ≡ None) → ReadsTo p 2 rest (record s { unit = unit }) c → ReadsTo p 1 (unit_rows unit ++ rest) s c
+    → (is_forbidden s.answer section.Unit ≡ false) ⊎ (unit ≡ None) → ReadsTo p 2 rest (record s { unit = unit }) c → ReadsTo p 1 (unit_rows unit ++ rest) s c
 unit-back p s c rest None none range free after =
     sooner p 1 2 rest s c (lit≤ tt) (subst (λ (o : Option ℕ). ReadsTo p 2 rest (record s { unit = o }) c) (sym none) after)
 unit-back p s c rest (Some n) none range (inl free) after =
-    one-line-then p 1 2 group.Unit (unit_fields n) s (record s { unit = Some n }) c rest (lit≤ tt)
-    (λ g le. unit-step p (at s g) n range (has_ended_at-before_end g (omega arith)) (is_misplaced_after-later g group.Unit s.answer refl (omega arith) free) (rw none refl)) after
+    one-line-then p 1 2 section.Unit (unit_fields n) s (record s { unit = Some n }) c rest (lit≤ tt)
+    (λ g le. unit-step p (at s g) n range (has_ended_at-before_end g (omega arith)) (is_misplaced_after-later g section.Unit s.answer refl (omega arith) free) (rw none refl)) after
 unit-back p s c rest (Some n) none range (inr missing) after = cc missing
 
 -- after the answer, the lines of all other parts
@@ -152,7 +152,7 @@ rows-back : (p : Problem) (c : Statement) (ordinal : ℕ) → IsValid p → IsIn
     → certificate_of p ordinal (rows_of p c) ≡ Ok c
 rows-back p c ordinal v r few readable =
     let step = answer-step p c.answer v r.answer in
-    rw (step.clean, step.gives) (parts-back p c v r few (free-answer c.answer c refl readable) group.Answer (ordinal + 1) (lit≤ tt))
+    rw (step.clean, step.gives) (parts-back p c v r few (free-answer c.answer c refl readable) section.Answer (ordinal + 1) (lit≤ tt))
 
 -- the text of a certificate begins with no byte order mark
 unmarked : (p : Problem) (a : Answer) (rest : List (List (List ℕ))) → strip_bom (lines_of (answer_fields p a ∷ rest)) ≡ lines_of (answer_fields p a ∷ rest)

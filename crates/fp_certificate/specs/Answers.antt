@@ -11,8 +11,8 @@ use Rattle.fp_certificate_lines.specs.declared.certificates.Answer.TheVariants a
 use Rattle.fp_certificate_lines.specs.declared.certificates.Spent.{Spent}
 use Rattle.fp_certificate_lines.specs.declared.certificates.Spent.TheVariants.{Rounds, Branches, Time}
 use Rattle.fp_certificate.specs.declared.drafts.Draft.{Draft}
-use Rattle.fp_certificate.specs.declared.lines.groups.Group.TheVariants as group
-use Rattle.fp_certificate.specs.Groups.{is_misplaced}
+use Rattle.fp_certificate.specs.declared.lines.sections.Section.TheVariants as section
+use Rattle.fp_certificate.specs.Sections.{is_misplaced}
 use Rattle.fp_certificate_lines.specs.Ranges.{largest_figure}
 use Rattle.fp_records_fields.specs.NamedParts.{lacks_shipment, shipment_in}
 
@@ -25,7 +25,7 @@ abbrev pub cost_faults : Draft → List (List ℕ) → List Finding
 cost_faults before fields =
     finding 22 (not (length fields == 3))
     ∷ finding 23 (not (has_number fields 2))
-    ∷ finding 24 (is_misplaced before group.Answer)
+    ∷ finding 24 (is_misplaced before section.Answer)
     ∷ finding 28 (not (is_figure fields 2))
     ∷ []
 
@@ -39,7 +39,7 @@ abbrev pub unfinished_faults : Draft → List (List ℕ) → List Finding
 unfinished_faults before fields =
     finding 22 (not (length fields == 5))
     ∷ finding 23 (not (has_unfinished_digits fields))
-    ∷ finding 24 (is_misplaced before group.Answer)
+    ∷ finding 24 (is_misplaced before section.Answer)
     ∷ finding 28 (not (is_figure fields 2 && is_figure fields 3))
     ∷ []
 
@@ -56,7 +56,7 @@ abbrev pub infeasible_faults : Problem → Draft → List (List ℕ) → List Fi
 infeasible_faults p before fields =
     finding 22 (not (length fields == 4))
     ∷ finding 23 (not (has_time fields))
-    ∷ finding 24 (is_misplaced before group.Answer)
+    ∷ finding 24 (is_misplaced before section.Answer)
     ∷ finding 25 (lacks_shipment p fields 2)
     ∷ finding 28 (not (has_time_in_range fields))
     ∷ []
@@ -79,7 +79,7 @@ infeasible_in p fields = answer.Infeasible (shipment_in p fields 2) (time_in fie
 
 -- a draft with an answer
 abbrev pub with_answer : Draft → Answer → Draft
-with_answer before a = record { certificate = record before.certificate { answer = a }; latest = Some group.Answer }
+with_answer before a = record { certificate = record before.certificate { answer = a }; latest = Some section.Answer }
 
 -- whether a scale is out of its range, or does not fit the instance
 abbrev pub has_bad_scale : Problem → List (List ℕ) → Bool
@@ -91,23 +91,23 @@ abbrev pub scale_faults : Problem → Draft → List (List ℕ) → List Finding
 scale_faults p before fields =
     finding 22 (not (length fields == 2))
     ∷ finding 23 (not (has_number fields 1))
-    ∷ finding 24 (is_misplaced before group.Scale || is_some before.certificate.scale)
+    ∷ finding 24 (is_misplaced before section.Scale || is_some before.certificate.scale)
     ∷ finding 28 (has_bad_scale p fields)
     ∷ []
 
 -- a draft with a scale
 abbrev pub with_scale : Draft → ℕ → Draft
-with_scale before n = record { certificate = record before.certificate { scale = Some n }; latest = Some group.Scale }
+with_scale before n = record { certificate = record before.certificate { scale = Some n }; latest = Some section.Scale }
 
 -- the faults of `unit,Q`
 abbrev pub unit_faults : Draft → List (List ℕ) → List Finding
 unit_faults before fields =
     finding 22 (not (length fields == 2))
     ∷ finding 23 (not (has_number fields 1))
-    ∷ finding 24 (is_misplaced before group.Unit || is_some before.certificate.unit)
+    ∷ finding 24 (is_misplaced before section.Unit || is_some before.certificate.unit)
     ∷ finding 28 (not (is_between 1 largest_figure fields 1))
     ∷ []
 
 -- a draft with a unit
 abbrev pub with_unit : Draft → ℕ → Draft
-with_unit before n = record { certificate = record before.certificate { unit = Some n }; latest = Some group.Unit }
+with_unit before n = record { certificate = record before.certificate { unit = Some n }; latest = Some section.Unit }

@@ -34,6 +34,7 @@ kind_of fields =
     else if is_kind (codes "share") fields then Some kind.Share
     else if is_kind (codes "span") fields then Some kind.Span
     else if is_kind (codes "weight") fields then Some kind.Weight
+    else if is_kind (codes "group") fields then Some kind.Group
     else if is_kind (codes "split") fields then split_kind (field fields 1)
     else if is_kind (codes "leaf") fields then Some kind.Leaf
     else if is_kind (codes "end") fields then Some kind.End

@@ -1,5 +1,5 @@
 pub mod Kinds
-pub mod Groups
+pub mod Sections
 pub mod Answers
 pub mod Timetables
 pub mod Points

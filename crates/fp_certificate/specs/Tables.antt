@@ -1,6 +1,6 @@
--- The lines of tables, shares, spans and weights: their faults in the order in which they are looked
--- for, and what they give.
-use Rattle.std.specs.Prelude.{ℕ, ◌+◌, List, [], ◌∷◌, ◌++◌, length, Bool, true, ◌&&◌, ◌||◌, not, ◌==◌, if◌then◌else◌, Some}
+-- The lines of tables, shares, spans, weights and groups: their faults in the order in which they are
+-- looked for, and what they give.
+use Rattle.std.specs.Prelude.{ℕ, ◌+◌, List, [], ◌∷◌, ◌++◌, length, Bool, true, false, ◌&&◌, ◌||◌, not, ◌==◌, if◌then◌else◌, Some}
 use Rattle.fp_model.specs.declared.limits.TheConstants.{LATEST}
 use Rattle.fp_model.specs.Problem.{Problem}
 use Rattle.fp_prices.specs.declared.tables.Weight.{Weight}
@@ -11,9 +11,9 @@ use Rattle.fp_records_fields.specs.Findings.{Finding}
 use Rattle.fp_records_fields.specs.Fields.{has_number, is_between, number_at}
 use Rattle.fp_records.specs.Fields.{is_empty}
 use Rattle.fp_certificate.specs.declared.drafts.Draft.{Draft}
-use Rattle.fp_certificate.specs.declared.lines.groups.Group.TheVariants as group
+use Rattle.fp_certificate.specs.declared.lines.sections.Section.TheVariants as section
 use Rattle.fp_certificate.specs.Answers.{is_figure}
-use Rattle.fp_certificate.specs.Groups.{is_misplaced}
+use Rattle.fp_certificate.specs.Sections.{is_misplaced}
 use Rattle.fp_records_fields.specs.NamedParts.{arc_in, lacks_arc, lacks_shipment, shipment_in}
 use Rattle.fp_certificate.specs.Timetables.{is_time}
 
@@ -37,18 +37,37 @@ lacks_share tables = lacks_last tables
 abbrev pub has_span : List (List ClassSpan) → Bool
 has_span spans = not (lacks_last spans)
 
+-- whether the last element of a list passes a test; none does where there is none
+abbrev pub last_is : {A : Type 0} → (A → Bool) → List A → Bool
+last_is test [] = false
+last_is test (x ∷ []) = test x
+last_is test (x ∷ y ∷ xs) = last_is test (y ∷ xs)
+
+-- whether a span has a group
+abbrev pub is_grouped : ClassSpan → Bool
+is_grouped span = not (is_empty span.groups)
+
+-- whether the last span of the last table has a group
+abbrev pub has_group : List (List ClassSpan) → Bool
+has_group spans = last_is (λ (list : List ClassSpan). last_is is_grouped list) spans
+
+-- whether a weight can't stand in the last table: the last of its spans has a group already, or it has
+-- neither a span nor a share
+abbrev pub lacks_weighed : List (List ClassShare) → List (List ClassSpan) → Bool
+lacks_weighed tables spans = if has_span spans then has_group spans else lacks_share tables
+
 -- the faults of `table,ID`. An ID has to be the next number, so none that passes is out of range
 abbrev pub table_faults : Draft → List (List ℕ) → List Finding
 table_faults before fields =
     finding 22 (not (length fields == 2))
     ∷ finding 23 (not (has_number fields 1))
-    ∷ finding 24 (is_misplaced before group.Tables || not (number_at fields 1 == length before.certificate.tables + 1))
+    ∷ finding 24 (is_misplaced before section.Tables || not (number_at fields 1 == length before.certificate.tables + 1))
     ∷ []
 
 -- a draft with other tables and other spans beside them
 abbrev pub with_lists : Draft → List (List ClassShare) → List (List ClassSpan) → Draft
 with_lists before tables spans =
-    record { certificate = record before.certificate { tables = tables; spans = spans }; latest = Some group.Tables }
+    record { certificate = record before.certificate { tables = tables; spans = spans }; latest = Some section.Tables }
 
 -- a draft with one more table, which has neither shares nor spans yet
 abbrev pub with_table : Draft → Draft
@@ -59,7 +78,7 @@ abbrev pub share_faults : Problem → Draft → List (List ℕ) → List Finding
 share_faults p before fields =
     finding 22 (not (length fields == 5))
     ∷ finding 23 (not (has_number fields 3 && has_number fields 4))
-    ∷ finding 24 (is_misplaced before group.Tables || is_empty before.certificate.tables || has_span before.certificate.spans)
+    ∷ finding 24 (is_misplaced before section.Tables || is_empty before.certificate.tables || has_span before.certificate.spans)
     ∷ finding 25 (lacks_arc p fields 1 2)
     ∷ finding 28 (not (is_time fields 3 && is_figure fields 4))
     ∷ []
@@ -86,12 +105,12 @@ abbrev pub span_faults : Problem → Draft → List (List ℕ) → List Finding
 span_faults p before fields =
     finding 22 (not (length fields == 7))
     ∷ finding 23 (not (has_number fields 3 && has_number fields 4 && (has_number fields 5 && has_number fields 6)))
-    ∷ finding 24 (is_misplaced before group.Tables || is_empty before.certificate.spans)
+    ∷ finding 24 (is_misplaced before section.Tables || is_empty before.certificate.spans)
     ∷ finding 25 (lacks_arc p fields 1 2)
     ∷ finding 28 (not (is_time fields 3 && has_end_in_range fields && is_figure fields 5 && is_figure fields 6))
     ∷ []
 
--- the span of a line, which has no weights yet
+-- the span of a line, which has neither weights nor groups yet
 abbrev pub span_in : Problem → List (List ℕ) → ClassSpan
 span_in p fields = record {
   arc = arc_in p fields 1 2;
@@ -100,6 +119,7 @@ span_in p fields = record {
   money = number_at fields 5;
   charge = number_at fields 6;
   weights = [];
+  groups = [];
 }
 
 -- the spans of a table with one more
@@ -110,12 +130,13 @@ and_span span spans = spans ++ (span ∷ [])
 abbrev pub with_span : Draft → ClassSpan → Draft
 with_span before span = with_lists before before.certificate.tables (with_last (and_span span) before.certificate.spans)
 
--- the faults of `weight,SHIPMENT,W`. It stands in a share or in a span of the last table
+-- the faults of `weight,SHIPMENT,W`. It stands in a share or in a span of the last table, before the
+-- groups of the span
 abbrev pub weight_faults : Problem → Draft → List (List ℕ) → List Finding
 weight_faults p before fields =
     finding 22 (not (length fields == 3))
     ∷ finding 23 (not (has_number fields 2))
-    ∷ finding 24 (is_misplaced before group.Tables || (not (has_span before.certificate.spans) && lacks_share before.certificate.tables))
+    ∷ finding 24 (is_misplaced before section.Tables || lacks_weighed before.certificate.tables before.certificate.spans)
     ∷ finding 25 (lacks_shipment p fields 1)
     ∷ finding 28 (not (is_figure fields 2))
     ∷ []
@@ -146,3 +167,24 @@ abbrev pub with_weight : Draft → Weight → Draft
 with_weight before weight =
     if has_span before.certificate.spans then with_lists before before.certificate.tables (and_last_span_weight weight before.certificate.spans)
     else with_lists before (and_last_share_weight weight before.certificate.tables) before.certificate.spans
+
+-- the faults of `group,MOMENT`. It stands in a span of the last table
+abbrev pub group_faults : Draft → List (List ℕ) → List Finding
+group_faults before fields =
+    finding 22 (not (length fields == 2))
+    ∷ finding 23 (not (has_number fields 1))
+    ∷ finding 24 (is_misplaced before section.Tables || not (has_span before.certificate.spans))
+    ∷ finding 28 (not (is_time fields 1))
+    ∷ []
+
+-- a span with one more group, which begins at a moment
+abbrev pub and_group : ℕ → ClassSpan → ClassSpan
+and_group moment span = record span { groups = span.groups ++ (moment ∷ []) }
+
+-- lists of spans with one more group in the last span of the last of them
+abbrev pub and_last_group : ℕ → List (List ClassSpan) → List (List ClassSpan)
+and_last_group moment spans = with_last (with_last (and_group moment)) spans
+
+-- a draft with one more group in the last span of its last table
+abbrev pub with_group : Draft → ℕ → Draft
+with_group before moment = with_lists before before.certificate.tables (and_last_group moment before.certificate.spans)

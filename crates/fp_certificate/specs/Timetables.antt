@@ -9,9 +9,9 @@ use Rattle.fp_records_fields.specs.Fields.{has_number, is_between, number_at}
 use Rattle.fp_timetable.specs.declared.lines.LegLine.{LegLine}
 use Rattle.fp_timetable.specs.declared.lines.TruckLine.{TruckLine}
 use Rattle.fp_certificate.specs.declared.drafts.Draft.{Draft}
-use Rattle.fp_certificate.specs.declared.lines.groups.Group.TheVariants as group
+use Rattle.fp_certificate.specs.declared.lines.sections.Section.TheVariants as section
 use Rattle.fp_certificate.specs.Answers.{is_figure}
-use Rattle.fp_certificate.specs.Groups.{is_misplaced}
+use Rattle.fp_certificate.specs.Sections.{is_misplaced}
 use Rattle.fp_records_fields.specs.NamedParts.{arc_in, lacks_arc, lacks_shipment, shipment_in}
 
 -- whether the field at a place is a time in range
@@ -27,7 +27,7 @@ abbrev pub leg_faults : Problem → Draft → List (List ℕ) → List Finding
 leg_faults p before fields =
     finding 22 (not (length fields == 6))
     ∷ finding 23 (not (has_number fields 4 && has_number fields 5))
-    ∷ finding 24 (is_misplaced before group.Legs)
+    ∷ finding 24 (is_misplaced before section.Legs)
     ∷ finding 25 (lacks_shipment p fields 1 || lacks_arc p fields 2 3)
     ∷ finding 28 (not (is_time fields 4 && is_time fields 5))
     ∷ []
@@ -44,14 +44,14 @@ leg_in p fields = record {
 -- a draft with one more leg
 abbrev pub with_leg : Draft → LegLine → Draft
 with_leg before leg =
-    record { certificate = record before.certificate { legs = before.certificate.legs ++ (leg ∷ []) }; latest = Some group.Legs }
+    record { certificate = record before.certificate { legs = before.certificate.legs ++ (leg ∷ []) }; latest = Some section.Legs }
 
 -- the faults of `truck,FROM,TO,DEPART,TRUCKS,LOAD`
 abbrev pub truck_faults : Problem → Draft → List (List ℕ) → List Finding
 truck_faults p before fields =
     finding 22 (not (length fields == 6))
     ∷ finding 23 (not (has_number fields 3 && has_number fields 4 && has_number fields 5))
-    ∷ finding 24 (is_misplaced before group.Trucks)
+    ∷ finding 24 (is_misplaced before section.Trucks)
     ∷ finding 25 (lacks_arc p fields 1 2)
     ∷ finding 28 (not (is_time fields 3 && is_figure fields 4 && is_figure fields 5))
     ∷ []
@@ -68,4 +68,4 @@ truck_in p fields = record {
 -- a draft with one more truck line
 abbrev pub with_truck : Draft → TruckLine → Draft
 with_truck before truck =
-    record { certificate = record before.certificate { trucks = before.certificate.trucks ++ (truck ∷ []) }; latest = Some group.Trucks }
+    record { certificate = record before.certificate { trucks = before.certificate.trucks ++ (truck ∷ []) }; latest = Some section.Trucks }

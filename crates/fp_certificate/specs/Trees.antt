@@ -12,8 +12,8 @@ use Rattle.fp_tree.specs.declared.sides.Split.TheVariants.{ByArc, ByTime}
 use Rattle.fp_certificate_lines.specs.declared.certificates.Node.{Node}
 use Rattle.fp_certificate_lines.specs.declared.certificates.Node.TheVariants.{Branch, Leaf}
 use Rattle.fp_certificate.specs.declared.drafts.Draft.{Draft}
-use Rattle.fp_certificate.specs.declared.lines.groups.Group.TheVariants as group
-use Rattle.fp_certificate.specs.Groups.{is_misplaced}
+use Rattle.fp_certificate.specs.declared.lines.sections.Section.TheVariants as section
+use Rattle.fp_certificate.specs.Sections.{is_misplaced}
 use Rattle.fp_records_fields.specs.NamedParts.{arc_in, lacks_arc, lacks_shipment, lacks_terminal, shipment_in, terminal_in}
 use Rattle.fp_certificate.specs.Timetables.{is_time}
 
@@ -21,7 +21,7 @@ use Rattle.fp_certificate.specs.Timetables.{is_time}
 abbrev pub by_arc_faults : Problem → Draft → List (List ℕ) → List Finding
 by_arc_faults p before fields =
     finding 22 (not (length fields == 5))
-    ∷ finding 24 (is_misplaced before group.Tree)
+    ∷ finding 24 (is_misplaced before section.Tree)
     ∷ finding 25 (lacks_shipment p fields 2 || lacks_arc p fields 3 4)
     ∷ []
 
@@ -34,7 +34,7 @@ abbrev pub by_time_faults : Problem → Draft → List (List ℕ) → List Findi
 by_time_faults p before fields =
     finding 22 (not (length fields == 5))
     ∷ finding 23 (not (has_number fields 4))
-    ∷ finding 24 (is_misplaced before group.Tree)
+    ∷ finding 24 (is_misplaced before section.Tree)
     ∷ finding 25 (lacks_shipment p fields 2 || lacks_terminal p fields 3)
     ∷ finding 28 (not (is_time fields 4))
     ∷ []
@@ -62,7 +62,7 @@ abbrev pub leaf_faults : Draft → List (List ℕ) → List Finding
 leaf_faults before fields =
     finding 22 (not (length fields == 4))
     ∷ finding 23 (not (has_leaf_digits fields))
-    ∷ finding 24 (is_misplaced before group.Tree)
+    ∷ finding 24 (is_misplaced before section.Tree)
     ∷ finding 28 (not (has_leaf_ranges (length before.certificate.tables) fields))
     ∷ []
 
@@ -80,12 +80,12 @@ leaf_in fields = Leaf (record { kind = kind_in fields; round = number_at fields 
 -- a draft with one more node
 abbrev pub with_node : Draft → Node → Draft
 with_node before node =
-    record { certificate = record before.certificate { tree = before.certificate.tree ++ (node ∷ []) }; latest = Some group.Tree }
+    record { certificate = record before.certificate { tree = before.certificate.tree ++ (node ∷ []) }; latest = Some section.Tree }
 
 -- the faults of `end`
 abbrev pub end_faults : Draft → List (List ℕ) → List Finding
-end_faults before fields = finding 22 (not (length fields == 1)) ∷ finding 24 (is_misplaced before group.End) ∷ []
+end_faults before fields = finding 22 (not (length fields == 1)) ∷ finding 24 (is_misplaced before section.End) ∷ []
 
 -- a draft that has ended
 abbrev pub with_end : Draft → Draft
-with_end before = record before { latest = Some group.End }
+with_end before = record before { latest = Some section.End }

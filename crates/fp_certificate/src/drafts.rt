@@ -1,19 +1,20 @@
 //! What the lines of a certificate have given so far.
-ghost use Rattle.std.specs.Prelude.{◌≡◌, ◌<◌, ◌&&◌, false, length, MatchResult, not, Ok, OnOk};
+ghost use Rattle.std.specs.Prelude.{◌≡◌, ◌<◌, false, length, MatchResult, Ok, OnOk, true};
 ghost use Rattle.fp_certificate.specs.Answers.{with_answer, with_scale, with_unit};
-ghost use Rattle.fp_certificate.specs.Groups.{has_ended, is_misplaced};
+ghost use Rattle.fp_certificate.specs.Sections.{has_ended, is_misplaced};
 ghost use Rattle.fp_certificate.specs.Points.{with_point};
 ghost use Rattle.fp_certificate.specs.Outcomes.{IsFirst};
 ghost use Rattle.fp_certificate.specs.Reading.{finished, nothing_read};
-ghost use Rattle.fp_certificate.specs.Tables.{has_span, lacks_share, with_share, with_span, with_table, with_weight};
+ghost use Rattle.fp_certificate.specs.Tables.{has_span, lacks_weighed, with_group, with_share, with_span, with_table, with_weight};
 ghost use Rattle.fp_certificate.specs.Timetables.{with_leg, with_truck};
 ghost use Rattle.fp_certificate.specs.Trees.{with_end, with_node};
 
 use crate::NoMemory;
 use crate::faults::CertFault;
-use crate::lines::groups::Group;
+use crate::lines::sections::Section;
+use crate::open_groups::{has_group, push_group};
 use crate::open_spans::{has_span, push_span, push_span_weight};
-use crate::open_tables::{push_share, push_weight};
+use crate::open_tables::{lacks_share, push_share, push_weight};
 use fp_certificate_lines::{Answer, Certificate, Node};
 use fp_prices::{Share, Table, Weight};
 use fp_prices_spans::{Span, TableSpans};
@@ -21,13 +22,13 @@ use fp_timenodes::AddedPoint;
 use fp_timetable::{LegLine, TruckLine};
 use std::alloc::Global;
 
-/// What the lines so far have given, and the group of the latest of them.
+/// What the lines so far have given, and the section of the latest of them.
 #[derive(Drop)]
 pub struct Draft {
     /// The parts of the certificate. Before the first line its answer stands for none.
     pub certificate: Certificate,
-    /// The group of the latest line, `None` before the first.
-    pub latest: Option<Group>,
+    /// The section of the latest line, `None` before the first.
+    pub latest: Option<Section>,
 }
 
 impl Draft {
@@ -56,18 +57,30 @@ impl Draft {
         *self.certificate.tables.allocator()
     }
 
-    /// Whether a line of the group can't stand after the lines so far.
-    pub fn is_misplaced(&self, group: Group) -> bool
-        ensures { result ≡ is_misplaced self.now group }
+    /// Whether a line of the section can't stand after the lines so far.
+    pub fn is_misplaced(&self, section: Section) -> bool
+        ensures { result ≡ is_misplaced self.now section }
     {
-        group.is_misplaced_after(self.latest, self.certificate.answer)
+        section.is_misplaced_after(self.latest, self.certificate.answer)
     }
 
     /// Whether the latest line is `end`.
     pub fn has_ended(&self) -> bool
         ensures { result ≡ has_ended self.now }
     {
-        matches!(self.latest, Some(Group::End))
+        matches!(self.latest, Some(Section::End))
+    }
+
+    /// Whether a weight can't stand in the last table: the last of its spans has a group already,
+    /// or it has neither a span nor a share.
+    pub fn lacks_weighed(&self) -> bool
+        ensures { result ≡ lacks_weighed self.now.certificate.tables self.now.certificate.spans }
+    {
+        if has_span(&self.certificate.spans) {
+            has_group(&self.certificate.spans)
+        } else {
+            lacks_share(&self.certificate.tables)
+        }
     }
 
     /// Takes an answer.
@@ -75,7 +88,7 @@ impl Draft {
         ensures { self.new ≡ with_answer self.old answer }
     {
         self.certificate.answer = answer;
-        self.latest = Some(Group::Answer);
+        self.latest = Some(Section::Answer);
     }
 
     /// Takes a scale.
@@ -83,7 +96,7 @@ impl Draft {
         ensures { self.new ≡ with_scale self.old scale }
     {
         self.certificate.scale = Some(scale);
-        self.latest = Some(Group::Scale);
+        self.latest = Some(Section::Scale);
     }
 
     /// Takes a unit.
@@ -91,7 +104,7 @@ impl Draft {
         ensures { self.new ≡ with_unit self.old unit }
     {
         self.certificate.unit = Some(unit);
-        self.latest = Some(Group::Unit);
+        self.latest = Some(Section::Unit);
     }
 
     /// Adds a leg. The only error is `NoMemory`.
@@ -100,7 +113,7 @@ impl Draft {
     {
         let certificate = &mut self.certificate;
         certificate.legs.push(leg)?;
-        self.latest = Some(Group::Legs);
+        self.latest = Some(Section::Legs);
         Ok(())
     }
 
@@ -110,7 +123,7 @@ impl Draft {
     {
         let certificate = &mut self.certificate;
         certificate.trucks.push(truck)?;
-        self.latest = Some(Group::Trucks);
+        self.latest = Some(Section::Trucks);
         Ok(())
     }
 
@@ -120,7 +133,7 @@ impl Draft {
     {
         let certificate = &mut self.certificate;
         certificate.points.push(point)?;
-        self.latest = Some(Group::Points);
+        self.latest = Some(Section::Points);
         Ok(())
     }
 
@@ -136,7 +149,7 @@ impl Draft {
         certificate.spans.push(TableSpans {
             spans: Vec::new(alloc),
         })?;
-        self.latest = Some(Group::Tables);
+        self.latest = Some(Section::Tables);
         Ok(())
     }
 
@@ -147,7 +160,7 @@ impl Draft {
     {
         let certificate = &mut self.certificate;
         push_share(&mut certificate.tables, share)?;
-        self.latest = Some(Group::Tables);
+        self.latest = Some(Section::Tables);
         Ok(())
     }
 
@@ -158,14 +171,14 @@ impl Draft {
     {
         let certificate = &mut self.certificate;
         push_span(&mut certificate.spans, span)?;
-        self.latest = Some(Group::Tables);
+        self.latest = Some(Section::Tables);
         Ok(())
     }
 
     /// Adds a weight to the last span of the last table, or to its last share where it has no span.
     /// The only error is `NoMemory`.
     pub fn add_weight(&mut self, weight: Weight) -> Result<(), NoMemory>
-        requires { (not (has_span self.old.certificate.spans) && lacks_share self.old.certificate.tables) ≡ false }
+        requires { lacks_weighed self.old.certificate.tables self.old.certificate.spans ≡ false }
         ensures { OnOk result (self.new ≡ with_weight self.old weight) }
     {
         let certificate = &mut self.certificate;
@@ -174,7 +187,19 @@ impl Draft {
         } else {
             push_weight(&mut certificate.tables, weight)?;
         }
-        self.latest = Some(Group::Tables);
+        self.latest = Some(Section::Tables);
+        Ok(())
+    }
+
+    /// Adds a group to the last span of the last table, which begins at the moment. The only error
+    /// is `NoMemory`.
+    pub fn add_group(&mut self, moment: u32) -> Result<(), NoMemory>
+        requires { has_span self.old.certificate.spans ≡ true }
+        ensures { OnOk result (self.new ≡ with_group self.old moment) }
+    {
+        let certificate = &mut self.certificate;
+        push_group(&mut certificate.spans, moment)?;
+        self.latest = Some(Section::Tables);
         Ok(())
     }
 
@@ -184,7 +209,7 @@ impl Draft {
     {
         let certificate = &mut self.certificate;
         certificate.tree.push(node)?;
-        self.latest = Some(Group::Tree);
+        self.latest = Some(Section::Tree);
         Ok(())
     }
 
@@ -192,7 +217,7 @@ impl Draft {
     pub fn set_end(&mut self)
         ensures { self.new ≡ with_end self.old }
     {
-        self.latest = Some(Group::End);
+        self.latest = Some(Section::End);
     }
 
     /// The certificate, or, where the lines have not ended, that the record with this ordinal is

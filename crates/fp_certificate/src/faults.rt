@@ -15,11 +15,12 @@ pub enum CertFault {
     /// - 22: the number of fields isn't that of the line.
     /// - 23: a field is neither a number nor a word where its place takes one.
     /// - 24: the line can't stand here. An `answer` stands first and nothing else does; no line
-    ///   stands after one of a later group (answer, scale, unit, legs, trucks, points, tables with
-    ///   their shares, spans and weights, tree, end); there is one scale and one unit; a table has
-    ///   the next number; a share stands in a table before its spans, a span in a table, and a
-    ///   weight in a share or a span of the last table; under a direct answer there are legs and
-    ///   trucks alone, and under an infeasible one nothing but `end`.
+    ///   stands after one of a later section (answer, scale, unit, legs, trucks, points, tables
+    ///   with their shares, spans, weights and groups, tree, end); there is one scale and one unit;
+    ///   a table has the next number; a share stands in a table before its spans, a span in a
+    ///   table, a weight in a share or a span of the last table and before the span's groups, and a
+    ///   group in a span of the last table; under a direct answer there are legs and trucks alone,
+    ///   and under an infeasible one nothing but `end`.
     /// - 25: no shipment or no terminal has the name, or no arc joins the ends.
     /// - 26: the records end without `end`. The ordinal is one past that of the last record.
     /// - 27: the record stands after `end`.

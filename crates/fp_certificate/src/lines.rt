@@ -9,6 +9,7 @@ pub(crate) mod leaves;
 pub(crate) mod legs;
 pub(crate) mod points;
 pub(crate) mod scales;
+pub(crate) mod sections;
 pub(crate) mod shares;
 pub(crate) mod spans;
 pub(crate) mod splits;

@@ -14,6 +14,7 @@ use crate::faults::CertFault;
 use crate::lines::answers::{read_direct, read_infeasible, read_optimal, read_unfinished};
 use crate::lines::ends::read_end;
 use crate::lines::faults::LineFault;
+use crate::lines::groups::read_group;
 use crate::lines::kinds::{LineKind, kind_of};
 use crate::lines::leaves::read_leaf;
 use crate::lines::legs::read_leg;
@@ -58,6 +59,7 @@ fn read_kind(
         LineKind::Share => read_share(lookup, draft, line),
         LineKind::Span => read_span(lookup, draft, line),
         LineKind::Weight => read_weight(lookup, draft, line),
+        LineKind::Group => read_group(draft, line),
         LineKind::ByArc => read_by_arc(lookup, draft, line),
         LineKind::ByTime => read_by_time(lookup, draft, line),
         LineKind::Leaf => read_leaf(draft, line),
@@ -116,14 +118,14 @@ fn draft_of(
 /// The certificate of an instance that the records from place `from` on give, or the first fault.
 ///
 /// There are fewer than `2^32 - 1` records, and `from` is at most their number. Ordinals count from
-/// 1 over all records. The records are the lines that [`fp_certificate_lines::write`] tells of, in that order;
-/// legs, trucks, shares, spans and weights may stand in any order among themselves. A number is one
-/// or more ASCII digits, leading zeros allowed. A certificate that was read is in range: times are
-/// at most 100,000, a span ends after its point and at most at 100,001, rounds are at most 4,000, a
-/// point's round at least 1, a fastest time at most 10,000,000, a scale is 1 to 1,000,000,000 and
-/// fits the instance, a unit is at least 1, all other numbers are at most `2^127 - 1`, and the
-/// tables that leaves name exist. Its tables, and the shares and the spans of each, are fewer than
-/// `2^32 - 1`.
+/// 1 over all records. The records are the lines that [`fp_certificate_lines::write`] tells of, in
+/// that order; legs, trucks, shares, spans, weights and groups may stand in any order among
+/// themselves. A number is one or more ASCII digits, leading zeros allowed. A certificate that was
+/// read is in range: times are at most 100,000, a span ends after its point and at most at 100,001,
+/// rounds are at most 4,000, a point's round at least 1, a fastest time at most 10,000,000, a scale
+/// is 1 to 1,000,000,000 and fits the instance, a unit is at least 1, all other numbers are at most
+/// `2^127 - 1`, and the tables that leaves name exist. Its tables, and the shares and the spans of
+/// each, are fewer than `2^32 - 1`.
 ///
 /// `Bad` comes exactly where there is a fault: the first record with one decides ([`CertFault`] has
 /// the codes). `NoMemory` comes only where no memory is found.

@@ -67,12 +67,19 @@ unfolding digits
 numbered = refl
 
 -- spans follow the shares of their table
-beside : tables_rows small ([] ∷ (record { arc = 0; point = 7; until = 9; money = 100; charge = 5; weights = (record { shipment = 0; w = 3 }) ∷ [] } ∷ []) ∷ []) 1
+beside : tables_rows small ([] ∷ (record { arc = 0; point = 7; until = 9; money = 100; charge = 5; weights = (record { shipment = 0; w = 3 }) ∷ []; groups = [] } ∷ []) ∷ []) 1
     ([] ∷ ((record { arc = 0; point = 7; v = 20; weights = [] }) ∷ []) ∷ [])
     ≡ (codes "table" ∷ codes "1" ∷ []) ∷ (codes "table" ∷ codes "2" ∷ []) ∷ (codes "share" ∷ codes "A" ∷ codes "B" ∷ codes "7" ∷ codes "20" ∷ [])
     ∷ (codes "span" ∷ codes "A" ∷ codes "B" ∷ codes "7" ∷ codes "9" ∷ codes "100" ∷ codes "5" ∷ []) ∷ (codes "weight" ∷ codes "S1" ∷ codes "3" ∷ []) ∷ []
 unfolding digits
 beside = refl
+
+-- groups follow the weights of their span
+grouped : tables_rows small ((record { arc = 0; point = 0; until = 9; money = 100; charge = 0; weights = (record { shipment = 0; w = 3 }) ∷ []; groups = 4 ∷ 6 ∷ [] } ∷ []) ∷ []) 1 ([] ∷ [])
+    ≡ (codes "table" ∷ codes "1" ∷ []) ∷ (codes "span" ∷ codes "A" ∷ codes "B" ∷ codes "0" ∷ codes "9" ∷ codes "100" ∷ codes "0" ∷ [])
+    ∷ (codes "weight" ∷ codes "S1" ∷ codes "3" ∷ []) ∷ (codes "group" ∷ codes "4" ∷ []) ∷ (codes "group" ∷ codes "6" ∷ []) ∷ []
+unfolding digits
+grouped = refl
 
 by-table : kind_text (Table 12) ≡ codes "12"
 unfolding digits

@@ -30,8 +30,8 @@ use Rattle.fp_certificate_lines.specs.declared.certificates.Node.TheVariants.{Br
 use Rattle.fp_certificate_lines.specs.declared.certificates.Spent.{Spent}
 use Rattle.fp_certificate_lines.specs.declared.certificates.Spent.TheVariants.{Rounds, Branches, Time}
 use Rattle.fp_certificate_lines.specs.Lengths.{most_bytes, node_bytes, price_rows}
-use Rattle.fp_certificate_lines.specs.Ranges.{HaveNames, IsAnswerInRange, IsInRange, IsLegInRange, IsNodeInRange, IsPointInRange, IsScaleInRange, IsShareInRange, IsSpanInRange, IsSplitInRange, IsTruckInRange, IsUnitInRange, IsWeightInRange, largest_figure}
-use Rattle.fp_certificate_lines.specs.Rows.{answer_fields, end_fields, head_name, kind_text, leg_fields, mode_text, node_fields, point_fields, rows_of, scale_rows, share_fields, share_rows, shipment_name, span_fields, span_rows, spent_text, split_fields, table_fields, table_rows, tables_rows, tail_name, terminal_name, time_text, truck_fields, unit_rows, weight_fields}
+use Rattle.fp_certificate_lines.specs.Ranges.{HaveNames, IsAnswerInRange, IsGroupInRange, IsInRange, IsLegInRange, IsNodeInRange, IsPointInRange, IsScaleInRange, IsShareInRange, IsSpanInRange, IsSplitInRange, IsTruckInRange, IsUnitInRange, IsWeightInRange, largest_figure}
+use Rattle.fp_certificate_lines.specs.Rows.{answer_fields, end_fields, group_fields, head_name, kind_text, leg_fields, mode_text, node_fields, point_fields, rows_of, scale_rows, share_fields, share_rows, shipment_name, span_fields, span_rows, spent_text, split_fields, table_fields, table_rows, tables_rows, tail_name, terminal_name, time_text, truck_fields, unit_rows, weight_fields}
 use Rattle.fp_certificate_lines.specs.Statements.{Statement}
 use Rattle.fp_certificate_lines.proofs.LineLengths.{All-flat_map, All-made, IsShortRow, digits-le, line-bytes, lines-append, lines-cons, rows-bytes}
 
@@ -159,8 +159,14 @@ module _ (p : Problem) (valid : IsValid p) (names : HaveNames p) where
         figure-digits s.charge r.charge,
       )
 
+  group-bytes : (m : ℕ) → IsGroupInRange m → IsShortRow 165 (group_fields m)
+  group-bytes m r = omega (arith, line-bytes (codes "group") (decimal m ∷ []), word (codes "group") 5 refl, time-digits m (omega (arith, r)))
+
   spans-bytes : (s : ClassSpan) → IsSpanInRange p s → All (IsShortRow 165) (span_rows p s)
-  spans-bytes s r = All-cons (IsShortRow 165) (span_fields p s) (map (weight_fields p) s.weights) (span-bytes s r) (weights-bytes s.weights r.weights)
+  spans-bytes s r =
+      All-cons (IsShortRow 165) (span_fields p s) (map (weight_fields p) s.weights ++ map group_fields s.groups) (span-bytes s r)
+      (All-append (IsShortRow 165) (map (weight_fields p) s.weights) (map group_fields s.groups) (weights-bytes s.weights r.weights)
+      (All-made IsGroupInRange (IsShortRow 165) group_fields group-bytes s.groups r.groups))
 
   -- a table's own line, and with it those of its shares and spans
   table-bytes : (id : ℕ) → id < 2 ^ 32 → IsShortRow 165 (table_fields id)

@@ -14,7 +14,8 @@ abbrev pub node_bytes : Node → ℕ
 node_bytes (Branch split) = 109
 node_bytes (Leaf price) = 28
 
--- the lines of tables, of their shares, of the spans beside them, and of the weights of both
+-- the lines of tables, of their shares, of the spans beside them, of the weights of both, and of the
+-- groups of spans
 abbrev pub price_rows : Problem → Statement → List (List (List ℕ))
 price_rows p c = tables_rows p c.spans 1 c.tables
 

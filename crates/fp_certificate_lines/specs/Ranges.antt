@@ -77,8 +77,12 @@ pub record IsShareInRange (p : Problem) (share : ClassShare) : Type 0 where
   pub price : share.v ≤ largest_figure
   pub weights : All (IsWeightInRange p) share.weights
 
+-- a moment at which a group begins is at most 100,000
+abbrev pub IsGroupInRange : ℕ → Type 0
+IsGroupInRange moment = moment ≤ LATEST
+
 -- a span's arc exists, its point is at most 100,000 and before its end, which is at most 100,001, its
--- money and its charge are no larger than a field may be, and its weights are in range
+-- money and its charge are no larger than a field may be, and its weights and its groups are in range
 pub record IsSpanInRange (p : Problem) (span : ClassSpan) : Type 0 where
   pub arc : span.arc < length p.arcs
   pub point : span.point ≤ LATEST
@@ -87,6 +91,7 @@ pub record IsSpanInRange (p : Problem) (span : ClassSpan) : Type 0 where
   pub money : span.money ≤ largest_figure
   pub charge : span.charge ≤ largest_figure
   pub weights : All (IsWeightInRange p) span.weights
+  pub groups : All IsGroupInRange span.groups
 
 -- a split's shipment, arc and terminal exist, and its time is at most 100,000
 abbrev pub IsSplitInRange : Problem → Split → Type 0

@@ -132,9 +132,13 @@ abbrev pub span_fields : Problem → ClassSpan → List (List ℕ)
 span_fields p s =
     codes "span" ∷ tail_name p s.arc ∷ head_name p s.arc ∷ decimal s.point ∷ decimal s.until ∷ decimal s.money ∷ decimal s.charge ∷ []
 
--- the line of a span, followed by its weights
+-- `group,MOMENT`
+abbrev pub group_fields : ℕ → List (List ℕ)
+group_fields moment = codes "group" ∷ decimal moment ∷ []
+
+-- the line of a span, followed by its weights and then by the moments at which further groups begin
 abbrev pub span_rows : Problem → ClassSpan → List (List (List ℕ))
-span_rows p s = span_fields p s ∷ map (weight_fields p) s.weights
+span_rows p s = span_fields p s ∷ (map (weight_fields p) s.weights ++ map group_fields s.groups)
 
 -- the line of a table with a number, followed by its shares and by the spans beside it
 abbrev pub table_rows : Problem → ℕ → List ClassShare → List ClassSpan → List (List (List ℕ))

@@ -39,7 +39,8 @@ fn write_end(line: &mut Line) -> Result<(), NoMemory>
 ///   departure, and `point,TERMINAL,TIME,ROUND` for each added point.
 /// - `table,ID` for each table, followed by `share,FROM,TO,POINT,V` for each of its shares, each
 ///   followed by `weight,SHIPMENT,W` for each of its weights; and then by
-///   `span,FROM,TO,POINT,UNTIL,MONEY,CHARGE` for each span beside it, each followed by its weights.
+///   `span,FROM,TO,POINT,UNTIL,MONEY,CHARGE` for each span beside it, each followed by its weights
+///   and then by `group,MOMENT` for each moment at which a further group begins.
 /// - For each node of the tree `split,arc,SHIPMENT,FROM,TO`, `split,time,SHIPMENT,TERMINAL,AT` or
 ///   `leaf,KIND,ROUND,MODE`, with `linear`, `even` or a table's ID for the kind, and `plain` or
 ///   `forced` for the mode.

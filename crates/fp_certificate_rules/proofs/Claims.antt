@@ -12,6 +12,7 @@ use Rattle.fp_model.specs.Problem.{Problem, IsValid, arc_at}
 use Rattle.fp_model.specs.Routes.{Carries, arcs_of}
 use Rattle.fp_base_lists.proofs.Ceilings.{div_ceil-least}
 use Rattle.fp_base_lists.proofs.Numbered.{AllZip-get_or}
+use Rattle.fp_flatnet.specs.Initial.{initial_points}
 use Rattle.fp_flatnet.specs.Tables.{WindowTable, windows_in}
 use Rattle.fp_flatnet.specs.Windows.{AreWindows, CoverPlans}
 use Rattle.fp_flatnet.proofs.PlanExistence.{carried_time}
@@ -37,11 +38,12 @@ use Rattle.fp_certificate_rules.specs.Claims.{AcceptedClaims, Claims, ClaimsWith
 use Rattle.fp_certificate_rules.specs.Leaves.{AreLeavesWorth, HasTree, IsLeafWorth, fork_of, split_tail}
 use Rattle.fp_certificate_rules.specs.Points.{points_as_of}
 use Rattle.fp_certificate_rules.specs.Units.{rounded_up}
+use Rattle.fp_certificate_rules.proofs.FirstPoints.{initial-among}
 use Rattle.fp_certificate_rules.proofs.KeptPrices.{AreKept, HasPrices-kept}
 use Rattle.fp_certificate_rules.proofs.UnitCosts.{rounded_up-cost}
 
 -- a plan of a leaf costs at least what the leaf is worth
-IsLeafWorth-cost : (p : Problem) (table : WindowTable) (c : Statement) (claim d : ℕ) (plan : List (List Leg)) (x : Node) (sides : List Side) → IsValid p → AreKept p c →
+IsLeafWorth-cost : (p : Problem) (table : WindowTable) (c : Statement) (claim d : ℕ) (plan : List (List Leg)) (x : Node) (sides : List Side) → IsValid p → AreKept p table c →
     IsPlanOfLeaf p (windows_in table) sides d plan → IsLeafWorth p table c claim x sides → claim ≤ cost p plan
 IsLeafWorth-cost p table c claim d plan (node.Branch split) sides valid keep of_leaf worth = absurd worth
 IsLeafWorth-cost p table c claim d plan (node.Leaf price) sides valid keep of_leaf worth =
@@ -49,7 +51,8 @@ IsLeafWorth-cost p table c claim d plan (node.Leaf price) sides valid keep of_le
     ⊎_elim
     (λ (empty : IsLeafEmpty p (windows_in table) points sides). absurd (leaf-empty p (windows_in table) points sides empty d plan of_leaf))
     (λ (leaf : (value : ℕ) × IsPricedValue p (windows_in table) points sides c.tables c.spans price.kind price.forced value × (claim ≤ rounded_up c.unit (div_ceil value p.scale))).
-    let le : leaf.0 ≤ p.scale * cost p plan = span_leaf-bounds p (windows_in table) points sides c.tables (spans_beside c.spans price.kind) price.kind price.forced leaf.0 valid keep.tables (keep.spans price.kind) leaf.1 d plan of_leaf in
+    let le : leaf.0 ≤ p.scale * cost p plan = span_leaf-bounds p (windows_in table) (initial_points p table.anchors) points sides c.tables (spans_beside c.spans price.kind) price.kind price.forced leaf.0 valid
+    (initial-among p table.anchors c.points price.round) keep.tables (keep.spans price.kind) leaf.1 d plan of_leaf in
     let few : div_ceil leaf.0 p.scale ≤ cost p plan = div_ceil-least leaf.0 p.scale (cost p plan) (omega (arith, valid.scale.0)) (omega (arith, le)) in
     let rounded : rounded_up c.unit (div_ceil leaf.0 p.scale) ≤ cost p plan = rounded_up-cost p c.unit (div_ceil leaf.0 p.scale) plan keep.range keep.unit few in
     omega (arith, rounded, leaf.2))
@@ -70,7 +73,7 @@ HaveTails-fork_of p (node.Branch split ∷ nodes) = (IsTailOfSplit-split_tail p 
 HaveTails-fork_of p (node.Leaf price ∷ nodes) = (tt, HaveTails-fork_of p nodes)
 
 -- where each leaf is worth the claim, no plan within the windows costs less
-pub AreLeavesWorth-NoPlanWithinCheaper : (p : Problem) (table : WindowTable) (c : Statement) (claim : ℕ) → IsValid p → AreKept p c → HasTree p c → AreLeavesWorth p table c claim →
+pub AreLeavesWorth-NoPlanWithinCheaper : (p : Problem) (table : WindowTable) (c : Statement) (claim : ℕ) → IsValid p → AreKept p table c → HasTree p c → AreLeavesWorth p table c claim →
     NoPlanWithinCheaper p (windows_in table) claim
 AreLeavesWorth-NoPlanWithinCheaper p table c claim valid keep tree worth d plan some is within =
     AnyByRecursion-all _ (λ (l : Leaf Node). IsLeafWorth p table c claim l.node l.sides) (claim ≤ cost p plan)
@@ -94,7 +97,7 @@ IsTooLate-PlanExists p k time exists is plan =
 IsAccepted-NoPlanWithinCheaper : (p : Problem) (table : WindowTable) (c : Statement) (claim : ℕ) → IsValid p → IsInRange p c → IsAccepted p table c → Applies c.answer Part.Prices → Applies c.answer Part.Tree →
     Applies c.answer Part.Leaves → claim_of c.answer ≡ claim → NoPlanWithinCheaper p (windows_in table) claim
 IsAccepted-NoPlanWithinCheaper p table c claim valid range accepted prices tree leaves claimed =
-    AreLeavesWorth-NoPlanWithinCheaper p table c claim valid (HasPrices-kept p c valid range.spans range.unit (accepted Part.Prices prices)) (accepted Part.Tree tree)
+    AreLeavesWorth-NoPlanWithinCheaper p table c claim valid (HasPrices-kept p table c valid range.spans range.unit (accepted Part.Prices prices)) (accepted Part.Tree tree)
     (subst (λ (n : ℕ). AreLeavesWorth p table c n) claimed (accepted Part.Leaves leaves))
 
 ClaimsWithin_answer : (p : Problem) (table : WindowTable) (c : Statement) (answer : Answer) → c.answer ≡ answer → IsValid p → IsInRange p c → IsAnswerInRange p answer → IsAccepted p table c →

@@ -1,8 +1,11 @@
 -- What prices that hold are good for: each leaf is bounded by its value.
-use Rattle.std.proofs.Common.{◌-◌, List, []}
-use Rattle.std.specs.Prelude.{All, IfSome, slice_index_or}
+use Rattle.std.proofs.Common.{ℕ, ◌-◌, List, []}
+use Rattle.std.specs.Prelude.{All, IfSome, Option, slice_index_or}
 use Rattle.std.proofs.lemmas.List.Elements.{All-from_get_or, All-get_or, All-weaker}
 use Rattle.fp_model.specs.Problem.{Problem, IsValid}
+use Rattle.fp_flatnet.specs.declared.window_tables.Window.{Window}
+use Rattle.fp_flatnet.specs.Initial.{initial_points}
+use Rattle.fp_flatnet.specs.Tables.{WindowTable, windows_in}
 use Rattle.fp_prices.specs.declared.leaf_prices.Kind.{Kind}
 use Rattle.fp_prices.specs.declared.leaf_prices.Kind.TheVariants.{Linear, Even, Table}
 use Rattle.fp_prices.specs.Prices.{AllKeepRule}
@@ -20,9 +23,9 @@ use Rattle.fp_certificate_rules.specs.Units.{IsUnit}
 use Rattle.fp_certificate_rules.proofs.UnitCosts.{at-all}
 
 -- the tables and the spans keep their rules, and the unit divides what plans cost
-pub record AreKept (p : Problem) (c : Statement) : Type 0 where
+pub record AreKept (p : Problem) (table : WindowTable) (c : Statement) : Type 0 where
   pub tables : AllKeepRule p c.tables
-  pub spans : (kind : Kind) → KeepSpanRules p (spans_beside c.spans kind)
+  pub spans : (kind : Kind) → KeepSpanRules p (windows_in table) (initial_points p table.anchors) (spans_beside c.spans kind)
   pub range : IfSome c.unit IsUnitInRange
   pub unit : IfSome c.unit (IsUnit p)
 
@@ -31,28 +34,29 @@ pub All-both : {X : Type 0} (P Q R : X → Type 0) (d : X) → ((x : X) → P x 
 All-both P Q R d both xs one other =
     All-from_get_or R xs d (λ i there. both (slice_index_or xs i d) (All-get_or P xs i d there one) (All-get_or Q xs i d there other))
 
--- spans in range that are paid keep their rules
-ArePaidSpans-keep : (p : Problem) (spans : List ClassSpan) → IsValid p → All (IsSpanInRange p) spans → ArePaidSpans p spans → KeepSpanRules p spans
-ArePaidSpans-keep p spans valid range are =
-    sound_spans-keep_rules p spans valid (All-weaker (IsSpanInRange p) (IsSpanOf p) (IsSpanInRange-of p) spans range) are.list are.paid
+module _ (p : Problem) (windows : ℕ → ℕ → Option Window) (first : ℕ → List ℕ) where
+  -- spans in range that are paid keep their rules
+  ArePaidSpans-keep : (spans : List ClassSpan) → IsValid p → All (IsSpanInRange p) spans → ArePaidSpans p windows first spans → KeepSpanRules p windows first spans
+  ArePaidSpans-keep spans valid range are =
+      sound_spans-keep_rules p windows first spans valid (All-weaker (IsSpanInRange p) (IsSpanOf p) (IsSpanInRange-of p) spans range) are.list are.paid
 
--- no spans keep their rules
-none-keep : (p : Problem) → KeepSpanRules p []
-none-keep p = record { money = tt; sets = tt }
+  -- no spans keep their rules
+  none-keep : KeepSpanRules p windows first []
+  none-keep = record { money = tt; sets = tt }
 
--- so do the spans beside each table
-beside-keep : (p : Problem) (spans : List (List ClassSpan)) → IsValid p → All (All (IsSpanInRange p)) spans → All (ArePaidSpans p) spans → (kind : Kind) → KeepSpanRules p (spans_beside spans kind)
-beside-keep p spans valid range are Linear = none-keep p
-beside-keep p spans valid range are Even = none-keep p
-beside-keep p spans valid range are (Table id) =
-    at-all (KeepSpanRules p) spans (id - 1) [] (none-keep p)
-    (All-both (All (IsSpanInRange p)) (ArePaidSpans p) (KeepSpanRules p) [] (λ s r h. ArePaidSpans-keep p s valid r h) spans range are)
+  -- so do the spans beside each table
+  beside-keep : (spans : List (List ClassSpan)) → IsValid p → All (All (IsSpanInRange p)) spans → All (ArePaidSpans p windows first) spans → (kind : Kind) → KeepSpanRules p windows first (spans_beside spans kind)
+  beside-keep spans valid range are Linear = none-keep
+  beside-keep spans valid range are Even = none-keep
+  beside-keep spans valid range are (Table id) =
+      at-all (KeepSpanRules p windows first) spans (id - 1) [] none-keep
+      (All-both (All (IsSpanInRange p)) (ArePaidSpans p windows first) (KeepSpanRules p windows first) [] (λ s r h. ArePaidSpans-keep s valid r h) spans range are)
 
 -- the prices of a certificate that hold are kept, where its spans and its unit are in range
-pub HasPrices-kept : (p : Problem) (c : Statement) → IsValid p → All (All (IsSpanInRange p)) c.spans → IfSome c.unit IsUnitInRange → HasPrices p c → AreKept p c
-HasPrices-kept p c valid spans unit has = record {
+pub HasPrices-kept : (p : Problem) (table : WindowTable) (c : Statement) → IsValid p → All (All (IsSpanInRange p)) c.spans → IfSome c.unit IsUnitInRange → HasPrices p table c → AreKept p table c
+HasPrices-kept p table c valid spans unit has = record {
   tables = has.tables.rule;
-  spans = beside-keep p c.spans valid spans has.spans;
+  spans = beside-keep p (windows_in table) (initial_points p table.anchors) c.spans valid spans has.spans;
   range = unit;
   unit = has.unit;
 }

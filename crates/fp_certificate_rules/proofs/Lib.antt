@@ -3,6 +3,7 @@ pub mod AddedPoints
 pub mod Multiples
 pub mod UnitCosts
 pub mod KeptPrices
+pub mod FirstPoints
 pub mod GreatestUnits
 pub mod Claims
 pub mod LegCounts

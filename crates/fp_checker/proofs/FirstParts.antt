@@ -101,23 +101,23 @@ module _ (p : Problem) (table : WindowTable) (c : Statement) where
   HoldBelow_prices : HasTimetable p (windows_in table) c → HasPoints p table.anchors c → HoldBelow p table c 5
   HoldBelow_prices told points = HoldBelow_more Part.Points (HoldBelow_points told) points
 
-  pub prices_unmet : HasTimetable p (windows_in table) c → HasPoints p table.anchors c → (HasPrices p c → ⊥) → (number : ℕ) → number ≡ 5 → (number ≤ 7) × IsFirstUnmet p table c number
+  pub prices_unmet : HasTimetable p (windows_in table) c → HasPoints p table.anchors c → (HasPrices p table c → ⊥) → (number : ℕ) → number ≡ 5 → (number ≤ 7) × IsFirstUnmet p table c number
   prices_unmet told points fails number is = (omega (arith, is), IsFirstUnmet_part Part.Prices (HoldBelow_prices told points) fails number is)
 
-  HoldBelow_tree : HasTimetable p (windows_in table) c → HasPoints p table.anchors c → HasPrices p c → HoldBelow p table c 6
+  HoldBelow_tree : HasTimetable p (windows_in table) c → HasPoints p table.anchors c → HasPrices p table c → HoldBelow p table c 6
   HoldBelow_tree told points tables = HoldBelow_more Part.Prices (HoldBelow_prices told points) tables
 
-  pub tree_unmet : HasTimetable p (windows_in table) c → HasPoints p table.anchors c → HasPrices p c → (HasTree p c → ⊥) → (number : ℕ) → number ≡ 6 → (number ≤ 7) × IsFirstUnmet p table c number
+  pub tree_unmet : HasTimetable p (windows_in table) c → HasPoints p table.anchors c → HasPrices p table c → (HasTree p c → ⊥) → (number : ℕ) → number ≡ 6 → (number ≤ 7) × IsFirstUnmet p table c number
   tree_unmet told points tables fails number is = (omega (arith, is), IsFirstUnmet_part Part.Tree (HoldBelow_tree told points tables) fails number is)
 
-  HoldBelow_leaves : HasTimetable p (windows_in table) c → HasPoints p table.anchors c → HasPrices p c → HasTree p c → HoldBelow p table c 7
+  HoldBelow_leaves : HasTimetable p (windows_in table) c → HasPoints p table.anchors c → HasPrices p table c → HasTree p c → HoldBelow p table c 7
   HoldBelow_leaves told points tables tree = HoldBelow_more Part.Tree (HoldBelow_tree told points tables) tree
 
-  pub leaves_unmet : HasTimetable p (windows_in table) c → HasPoints p table.anchors c → HasPrices p c → HasTree p c → (Holds p table c Part.Leaves → ⊥) → (number : ℕ) → number ≡ 7 →
+  pub leaves_unmet : HasTimetable p (windows_in table) c → HasPoints p table.anchors c → HasPrices p table c → HasTree p c → (Holds p table c Part.Leaves → ⊥) → (number : ℕ) → number ≡ 7 →
       (number ≤ 7) × IsFirstUnmet p table c number
   leaves_unmet told points tables tree fails number is = (omega (arith, is), IsFirstUnmet_part Part.Leaves (HoldBelow_leaves told points tables tree) fails number is)
 
-  pub HoldBelow_all : HasTimetable p (windows_in table) c → HasPoints p table.anchors c → HasPrices p c → HasTree p c → Holds p table c Part.Leaves → HoldBelow p table c 8
+  pub HoldBelow_all : HasTimetable p (windows_in table) c → HasPoints p table.anchors c → HasPrices p table c → HasTree p c → Holds p table c Part.Leaves → HoldBelow p table c 8
   HoldBelow_all told points tables tree leaves = HoldBelow_more Part.Leaves (HoldBelow_leaves told points tables tree) leaves
 
   -- what applies to each answer

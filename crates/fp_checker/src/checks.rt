@@ -72,7 +72,7 @@ fn test_bound(alloc: Global, case: &Case<'_>) -> Result<(), Rejected>
     let instance = case.instance;
     let certificate = case.certificate;
     let points = told_points(alloc, instance, case.windows, certificate.points.as_slice())?;
-    if !has_prices(alloc, instance, certificate)? {
+    if !has_prices(alloc, instance, case.windows, &points, certificate)? {
         return Err(Rejected::Part { number: PRICES });
     }
     let nodes = certificate.tree.as_slice();

@@ -13,7 +13,9 @@ pub enum Rejected {
     /// - 3: the truck lines are the plan's departures, each with its trucks and its load.
     /// - 4: the points stand by their rounds, at most 8 in one, and each is neither an initial
     ///   one nor there twice.
-    /// - 5: the shares and their weights are in order and keep the price rule.
+    /// - 5: the shares and their weights are in order and keep the price rule; the spans beside
+    ///   each table, with their weights and groups, are in order, keep the money rule, and their
+    ///   charges pay by the windows and the initial points; and the unit divides what plans cost.
     /// - 6: the nodes are one tree of at most 100,000 splits.
     /// - 7: no leaf is worth less than the claim.
     /// - 8: the named shipment can't arrive in time, and its fastest time is as told.

@@ -2,10 +2,10 @@
 ghost use Rattle.std.specs.Prelude.{◌≡◌, OnErr};
 
 use crate::NoMemory;
+use crate::group_charges::{GroupCharges, Weighed};
 use crate::layouts::{LaidSpan, Layout, of_span};
-use crate::payers::Payer;
 use crate::prices::SpanPrices;
-use crate::sets::{Finding, Sets, Terms};
+use crate::sets::{Finding, Terms};
 use fp_duals_nets::{copy_all, part_mut};
 use std::alloc::Global;
 use std::marker::Model;
@@ -18,22 +18,22 @@ struct Slack {
     rise: u64,
 }
 
-/// The charges of the spans of a layout, and the sets that are charged. Heuristics alone read them: to
-/// contracts they hold nothing, so they're the same after each call, also after `NoMemory`.
+/// The charges of the spans of a layout, and the sets that are charged. Heuristics alone read them:
+/// to contracts they hold nothing, so they're the same after each call, also after `NoMemory`.
 #[derive(Drop)]
 pub struct Charges {
-    sets: Sets,
+    groups: GroupCharges,
     // The most loads by which sets are told apart.
     loads: u64,
     // The weights by which each span's charge was found, and its slack, where that is known.
     noted: Vec<u64>,
     slacks: Vec<Option<Slack>>,
-    // The trucks for the set of each span that is charged.
+    // The trucks for the sets of each span that are charged.
     trucks: Vec<u64>,
     /// The charge of each span.
     pub list: Vec<u64>,
-    /// Whether each payer is of its span's set, where the span's charge isn't 0.
-    pub charged: Vec<bool>,
+    /// In how many of its span's sets that are charged each payer is: at most one for each group.
+    pub charged: Vec<u32>,
     /// Whether each span's prices changed since its charge was found.
     pub stale: Vec<bool>,
 }
@@ -55,29 +55,24 @@ fn rise(old: &[u64], new: &[u64]) -> u64 {
     sum
 }
 
-// What the payers of a set are large together.
-fn size_of(payers: &[Payer], marks: &[bool]) -> u64 {
-    let mut size = 0u64;
-    for (payer, mark) in payers.iter().zip(marks.iter()) {
-        if *mark {
-            size = size.saturating_add(payer.size);
-        }
-    }
-    size
-}
-
 impl Charges {
-    /// No charges: all are to be found, with at most so many loads.
-    pub fn of(alloc: Global, layout: &Layout, loads: u64) -> Result<Charges, NoMemory> {
+    /// No charges: all are to be found, with at most so many loads, and where `merges`, with groups
+    /// made one that are charged no more together.
+    pub fn of(
+        alloc: Global,
+        layout: &Layout,
+        loads: u64,
+        merges: bool,
+    ) -> Result<Charges, NoMemory> {
         let spans = layout.spans.len();
         Ok(Charges {
-            sets: Sets::new(alloc),
+            groups: GroupCharges::new(alloc, merges),
             loads,
             noted: vec![in alloc; 0u64; layout.payers.len()]?,
             slacks: vec![in alloc; None; spans]?,
             trucks: vec![in alloc; 0u64; spans]?,
             list: vec![in alloc; 0u64; spans]?,
-            charged: vec![in alloc; false; layout.payers.len()]?,
+            charged: vec![in alloc; 0u32; layout.payers.len()]?,
             stale: vec![in alloc; true; spans]?,
         })
     }
@@ -96,13 +91,24 @@ impl Charges {
         }
     }
 
-    // By what the sets of a span are weighed.
-    fn terms(&self, span: &LaidSpan, money: u64) -> Terms {
-        Terms {
-            capacity: span.capacity,
-            money,
-            grain: span.grain,
-            loads: self.loads,
+    // A span with its prices.
+    fn weighed<'a>(
+        &self,
+        layout: &'a Layout,
+        prices: &'a SpanPrices,
+        span: &'a LaidSpan,
+        money: u64,
+    ) -> Weighed<'a> {
+        Weighed {
+            layout,
+            span,
+            prices,
+            terms: Terms {
+                capacity: span.capacity,
+                money,
+                grain: span.grain,
+                loads: self.loads,
+            },
         }
     }
 
@@ -116,8 +122,8 @@ impl Charges {
         }
     }
 
-    // Notes what was found of a span.
-    fn note(&mut self, number: usize, found: Finding, money: u64, trucks: u64) {
+    // Notes what was found of a span at its money.
+    fn note(&mut self, number: usize, found: Finding, money: u64) {
         if let Some(charge) = self.list.get_mut(number) {
             *charge = found.charge;
         }
@@ -125,11 +131,11 @@ impl Charges {
             *slack = found.slack.map(|rise| Slack { money, rise });
         }
         if let Some(place) = self.trucks.get_mut(number) {
-            *place = trucks;
+            *place = found.trucks;
         }
     }
 
-    // Finds the charge of a span.
+    // Finds the charge of a span: those of its groups together.
     fn find(
         &mut self,
         layout: &Layout,
@@ -137,23 +143,20 @@ impl Charges {
         number: usize,
         span: &LaidSpan,
     ) -> Result<(), NoMemory> {
-        let terms = self.terms(span, prices.money_of(number));
-        let payers = of_span(&layout.payers, span);
+        let money = prices.money_of(number);
         let weights = of_span(&prices.weights, span);
-        if self.is_slack(number, span, terms.money, weights) {
+        if self.is_slack(number, span, money, weights) {
             return Ok(());
         }
-        if let Some(marks) = part_mut(&mut self.charged, span.first, span.end)
-            && let Some(noted) = part_mut(&mut self.noted, span.first, span.end)
-        {
-            let found = self.sets.charge(terms, payers, weights, marks)?;
-            copy_all(noted, weights);
-            let trucks = match found.charge {
-                0 => 0,
-                _ => size_of(payers, marks).div_ceil(span.capacity.max(1)),
-            };
-            self.note(number, found, terms.money, trucks);
+        if let Some(counts) = part_mut(&mut self.charged, span.first, span.end) {
+            counts.fill(0);
         }
+        if let Some(noted) = part_mut(&mut self.noted, span.first, span.end) {
+            copy_all(noted, weights);
+        }
+        let weighed = self.weighed(layout, prices, span, money);
+        let found = self.groups.find(weighed, &mut self.charged)?;
+        self.note(number, found, money);
         Ok(())
     }
 
@@ -176,12 +179,12 @@ impl Charges {
         Ok(sum)
     }
 
-    /// The trucks for the set of a span that is charged; 0 where it isn't charged.
+    /// The trucks for the sets of a span that are charged; 0 where it isn't charged.
     pub fn trucks(&self, number: usize) -> u64 {
         self.trucks.get(number).copied().unwrap_or(0)
     }
 
-    /// The most that a payer may pay by its span beside the others under the span's charge.
+    /// The most that a payer may pay by its span beside the others while no group's charge rises.
     /// `NoMemory` only where no memory is found.
     pub fn room(
         &mut self,
@@ -191,18 +194,14 @@ impl Charges {
     ) -> Result<u64, NoMemory>
         ensures { OnErr result (self.new ≡ self.old) }
     {
-        let number = layout
-            .payers
-            .get(payer)
-            .map_or(usize::MAX, |paying| paying.span);
-        let Some(span) = layout.spans.get(number) else {
+        let Some(paying) = layout.payers.get(payer) else {
             return Ok(0);
         };
-        let terms = self.terms(span, prices.money_of(number));
-        let charge = self.list.get(number).copied().unwrap_or(0);
-        let payers = of_span(&layout.payers, span);
-        let weights = of_span(&prices.weights, span);
-        let place = payer.wrapping_sub(span.first);
-        self.sets.room(terms, payers, weights, place, charge)
+        let Some(span) = layout.spans.get(paying.span) else {
+            return Ok(0);
+        };
+        let charge = self.list.get(paying.span).copied().unwrap_or(0);
+        let weighed = self.weighed(layout, prices, span, prices.money_of(paying.span));
+        self.groups.room(weighed, payer, charge)
     }
 }

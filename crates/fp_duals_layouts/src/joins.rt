@@ -3,19 +3,21 @@
 use crate::NoMemory;
 use crate::groups::{Groups, Member};
 use crate::layouts::{LaidSpan, Layout, Run, of_span};
-use crate::payers::{Payer, most_of};
+use crate::payers::{ALWAYS, Payer, most_of};
 use fp_duals_nets::Nets;
 use std::alloc::Global;
 
-// A shipment, an edge of its net that a joined span prices, and its size.
-type Priced = (u32, usize, u64);
+/// A shipment, an edge of its net that a span prices, and its size.
+pub(crate) type Priced = (u32, usize, u64);
 
 impl Layout {
-    /// The layout with joined spans over runs. Runs without a class that is priced are left out. The
-    /// numbers of the spans and payers that are there stay. `NoMemory` only where no memory is found.
+    /// The layout with joined spans over runs, whose payers aren't told apart. Runs without a class
+    /// that is priced are left out. The numbers of the spans and payers that are there stay.
+    /// `NoMemory` only where no memory is found.
     pub fn join(self, alloc: Global, nets: &Nets, runs: &[Run]) -> Result<Layout, NoMemory> {
         let mut layout = self;
         layout.lay_joined(alloc, runs)?;
+        layout.order_payers()?;
         layout.set_grains();
         layout.group_payers(alloc, nets.list.len())?;
         layout.group_covers(alloc)?;
@@ -40,7 +42,7 @@ impl Layout {
                     end_single,
                     ..single
                 };
-                self.push_joined(span, &priced)?;
+                self.push_wide(span, &priced)?;
             }
         }
         Ok(())
@@ -79,8 +81,9 @@ impl Layout {
         priced.sort()
     }
 
-    // Adds a joined span with the payers of these edges.
-    fn push_joined(&mut self, span: LaidSpan, priced: &[Priced]) -> Result<(), NoMemory> {
+    /// Adds a span of several classes with the payers of these edges, which stand by shipment and
+    /// aren't told apart.
+    pub(crate) fn push_wide(&mut self, span: LaidSpan, priced: &[Priced]) -> Result<(), NoMemory> {
         let number = self.spans.len();
         for (shipment, edge, size) in priced {
             let first_edge = self.edges.len();
@@ -96,6 +99,8 @@ impl Layout {
                         span: number,
                         size: *size,
                         most: most_of(*size, span.truck, span.capacity),
+                        lo: ALWAYS.0,
+                        hi: ALWAYS.1,
                         first_edge,
                         end_edge: first_edge.wrapping_add(1),
                     })?;

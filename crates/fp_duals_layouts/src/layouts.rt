@@ -3,8 +3,8 @@ ghost use Rattle.std.specs.Prelude.{◌≡◌, OnErr};
 
 use crate::NoMemory;
 use crate::groups::{Groups, Member};
-use crate::payers::{Payer, divisor_of, most_of};
-use fp_duals_nets::{ClassNodes, ClassPool, ClassPools, LeafNets, PoolPart};
+use crate::payers::{ALWAYS, Payer, divisor_of, most_of};
+use fp_duals_nets::{ClassNodes, ClassPool, ClassPools, LeafNets, PoolPart, part_mut};
 use fp_model::limits::LATEST;
 use std::alloc::Global;
 
@@ -33,16 +33,19 @@ pub struct LaidSpan {
     pub end_single: usize,
 }
 
-/// The spans over the classes of a leaf: first one for each class that some shipment may use, by arc
-/// and then by point, and then those that are joined of several.
+/// The spans over the classes of a leaf: first one for each class that some shipment may use, by
+/// arc and then by point, and then those that are joined of several; or one for each arc that some
+/// shipment may use, whose payers are told apart by moments.
 #[derive(Drop)]
 pub struct Layout {
     pub spans: Vec<LaidSpan>,
-    /// How many spans are of single classes.
+    /// How many spans aren't joined.
     pub singles: usize,
     pub payers: Vec<Payer>,
     /// The edges of the payers, among those of all nets.
     pub(crate) edges: Vec<usize>,
+    /// The payers of each span in the order of the first moments at which they can leave.
+    pub(crate) order: Vec<usize>,
     /// The payers of each shipment, in the order of the spans.
     pub own: Groups,
     /// The joined spans over each span of a single class.
@@ -116,6 +119,8 @@ fn single_payers(alloc: Global, pools: &ClassPools) -> Result<Vec<Payer>, NoMemo
             span: part.pool,
             size: part.size,
             most,
+            lo: ALWAYS.0,
+            hi: ALWAYS.1,
             first_edge,
             end_edge: first_edge.wrapping_add(1),
         })?;
@@ -144,13 +149,53 @@ impl Layout {
             singles: pools.list.len(),
             payers: single_payers(alloc, &pools)?,
             edges: single_edges(alloc, &pools.parts)?,
-            own: Groups::new(alloc),
-            covers: Groups::new(alloc),
-            links: Groups::new(alloc),
+            ..Layout::empty(alloc)
         };
+        layout.order_payers()?;
         layout.set_grains();
         layout.group_payers(alloc, model.nets.list.len())?;
         Ok(layout)
+    }
+
+    /// No spans.
+    pub(crate) fn empty(alloc: Global) -> Layout {
+        Layout {
+            spans: Vec::new(alloc),
+            singles: 0,
+            payers: Vec::new(alloc),
+            edges: Vec::new(alloc),
+            order: Vec::new(alloc),
+            own: Groups::new(alloc),
+            covers: Groups::new(alloc),
+            links: Groups::new(alloc),
+        }
+    }
+
+    /// Puts the payers of each span in the order of the first moments at which they can leave.
+    pub(crate) fn order_payers(&mut self) -> Result<(), NoMemory> {
+        for number in self.order.len()..self.payers.len() {
+            self.order.push(number)?;
+        }
+        let payers = &self.payers;
+        for span in &self.spans {
+            if let Some(order) = part_mut(&mut self.order, span.first, span.end) {
+                order.sort_unstable_by_key(|number| match payers.get(*number) {
+                    Some(payer) => (payer.lo, payer.shipment),
+                    None => (0, 0),
+                });
+            }
+        }
+        Ok(())
+    }
+
+    /// Tells the payers apart by the first and the last moments at which they can leave, in the
+    /// order of the payers; without it they can always leave.
+    pub fn set_moments(&mut self, moments: &[(u32, u32)]) -> Result<(), NoMemory> {
+        for (payer, (lo, hi)) in self.payers.iter_mut().zip(moments.iter()) {
+            payer.lo = *lo;
+            payer.hi = *hi;
+        }
+        self.order_payers()
     }
 
     /// Sets the grains of the spans.

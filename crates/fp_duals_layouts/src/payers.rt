@@ -8,10 +8,17 @@ pub struct Payer {
     pub size: u64,
     /// What the trucks cost that hold the shipment alone.
     pub most: u64,
+    /// The first and the last moment at which it can leave, as far as the payers of the span are
+    /// told apart by moments.
+    pub lo: u32,
+    pub hi: u32,
     /// The edges of its net that stand for classes of the span, among the edges of all payers.
     pub first_edge: usize,
     pub end_edge: usize,
 }
+
+/// The first and the last of all moments.
+pub(crate) const ALWAYS: (u32, u32) = (0, u32::MAX);
 
 /// What the trucks cost that hold a size alone.
 pub(crate) fn most_of(size: u64, truck: u64, capacity: u64) -> u64 {

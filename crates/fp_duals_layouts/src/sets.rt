@@ -3,14 +3,13 @@
 
 use crate::NoMemory;
 use crate::load_rows::add_item;
-use crate::payers::Payer;
 use fp_duals_nets::part_mut;
 use std::alloc::Global;
 
 /// The most grains of all payers together by which charges are told apart in the end.
 const MOST_GRAINS: u64 = 4096;
 
-/// By what the sets of a span's payers are weighed: the capacity of a truck, the money for it, a
+/// By what sets of payers are weighed: the capacity of a truck, the money for it, a
 /// common divisor of the capacity and the sizes, and how many loads are told apart at most.
 #[derive(Clone, Copy)]
 pub(crate) struct Terms {
@@ -20,12 +19,12 @@ pub(crate) struct Terms {
     pub loads: u64,
 }
 
-// Someone who pays, at a place among a span's payers.
+// Someone who pays, and its number among all payers.
 #[derive(Clone, Copy)]
 struct Item {
     size: u64,
     weight: u64,
-    place: usize,
+    payer: usize,
 }
 
 impl Item {
@@ -52,20 +51,36 @@ pub(crate) struct Sets {
     grain: u64,
 }
 
-/// The charge of a span, and its slack where it isn't charged: what all weights may rise by
-/// together so that it still isn't, where that is known.
+/// The charge of a group or a span, the trucks for the sets that are charged, and the slack
+/// where nothing is charged: what all weights may rise by together so that nothing is, where that
+/// is known.
 #[derive(Clone, Copy)]
 pub(crate) struct Finding {
     pub charge: u64,
+    pub trucks: u64,
     pub slack: Option<u64>,
 }
 
 impl Finding {
-    /// A charge, or none with nothing known.
-    const fn of(charge: u64) -> Finding {
+    /// That of nobody, at the money of a truck.
+    pub(crate) fn of_none(money: u64) -> Finding {
         Finding {
-            charge,
-            slack: None,
+            charge: 0,
+            trucks: 0,
+            slack: Some(money),
+        }
+    }
+
+    /// That of a span with a group more.
+    pub(crate) fn with(self, other: Finding) -> Finding {
+        let slack = match (self.slack, other.slack) {
+            (Some(one), Some(two)) => Some(one.min(two)),
+            _ => None,
+        };
+        Finding {
+            charge: self.charge.saturating_add(other.charge),
+            trucks: self.trucks.saturating_add(other.trucks),
+            slack,
         }
     }
 }
@@ -91,17 +106,10 @@ impl Terms {
     }
 }
 
-// Marks nobody.
-fn clear_marks(marks: &mut [bool]) {
-    for mark in marks.iter_mut() {
-        *mark = false;
-    }
-}
-
-// Marks all who pay.
-fn mark_payers(marks: &mut [bool], weights: &[u64]) {
-    for (mark, weight) in marks.iter_mut().zip(weights.iter()) {
-        *mark = *weight > 0;
+// Counts one set more in which a payer is.
+fn count_payer(counts: &mut [u32], payer: usize) {
+    if let Some(count) = counts.get_mut(payer) {
+        *count = count.wrapping_add(1);
     }
 }
 
@@ -119,25 +127,24 @@ impl Sets {
         }
     }
 
-    // Lists those who pay, but for the one at a place.
-    fn list(&mut self, payers: &[Payer], weights: &[u64], without: usize) -> Result<(), NoMemory> {
+    /// Leaves all out.
+    pub(crate) fn clear(&mut self) {
         self.items.clear();
-        let (mut all, mut sum) = (0u64, 0u64);
-        let mut place = 0usize;
-        for (payer, weight) in payers.iter().zip(weights.iter()) {
-            if *weight > 0 && place != without {
-                all = all.saturating_add(payer.size);
-                sum = sum.saturating_add(*weight);
-                self.items.push(Item {
-                    size: payer.size,
-                    weight: *weight,
-                    place,
-                })?;
-            }
-            place = place.wrapping_add(1);
+        self.size = 0;
+        self.weight = 0;
+    }
+
+    /// Takes a payer in that pays something.
+    pub(crate) fn add(&mut self, size: u64, weight: u64, payer: usize) -> Result<(), NoMemory> {
+        if weight > 0 {
+            self.size = self.size.saturating_add(size);
+            self.weight = self.weight.saturating_add(weight);
+            self.items.push(Item {
+                size,
+                weight,
+                payer,
+            })?;
         }
-        self.size = all;
-        self.weight = sum;
         Ok(())
     }
 
@@ -237,14 +244,14 @@ impl Sets {
         Excess { most, load, slack }
     }
 
-    // Marks the items of the best set of a load, and no other payers.
-    fn mark(&self, load: usize, marks: &mut [bool]) {
-        clear_marks(marks);
+    // Counts the items of the best set of a load. Their size together.
+    fn count(&self, load: usize, counts: &mut [u32]) -> u64 {
         let mut left = load;
         let mut rest = 0usize;
         for item in &self.items {
             rest = rest.saturating_add(item.grains(self.grain));
         }
+        let mut size = 0u64;
         for number in (0..self.items.len()).rev() {
             left = left.min(rest);
             let with = self.row(number.wrapping_add(1)).get(left);
@@ -252,81 +259,71 @@ impl Sets {
                 let grains = item.grains(self.grain);
                 rest = rest.saturating_sub(grains);
                 if with != self.row(number).get(left) {
-                    if let Some(mark) = marks.get_mut(item.place) {
-                        *mark = true;
-                    }
+                    count_payer(counts, item.payer);
+                    size = size.saturating_add(item.size);
                     left = left.saturating_sub(grains);
                 }
             }
         }
+        size
     }
 
-    // Whether sets of all these payers, whatever they pay, are told apart by their sizes alone.
-    fn is_exact(terms: Terms, payers: &[Payer]) -> bool {
-        let mut size = 0u64;
-        for payer in payers {
-            size = size.saturating_add(payer.size);
-        }
-        size / terms.grain.max(1) <= terms.loads.min(MOST_GRAINS)
+    // Whether sets of these are told apart by their sizes alone.
+    fn is_exact(&self, terms: Terms) -> bool {
+        self.size / terms.grain.max(1) <= terms.loads.min(MOST_GRAINS)
     }
 
     // What is found by rows, where trucks cost something.
-    fn find(&mut self, terms: Terms, marks: &mut [bool]) -> Result<Excess, NoMemory> {
+    fn find(&mut self, terms: Terms, counts: &mut [u32]) -> Result<Finding, NoMemory> {
         // No set with more trucks than these pays more than its money.
         let trucks = self.weight.saturating_sub(1) / terms.money.max(1);
         let most = self.size.min(trucks.saturating_mul(terms.capacity));
         let grain = self.grain_for(terms, self.size, most);
         self.fill(grain, most)?;
-        let mut excess = self.greatest_excess(terms);
+        let excess = self.greatest_excess(terms);
         if excess.most > 0 {
-            self.mark(excess.load, marks);
+            let size = self.count(excess.load, counts);
+            return Ok(Finding {
+                charge: excess.most,
+                trucks: size.div_ceil(terms.capacity.max(1)),
+                slack: None,
+            });
         }
         let next = terms.money.saturating_mul(trucks.saturating_add(1));
-        excess.slack = next.saturating_sub(self.weight).min(excess.slack);
-        Ok(excess)
-    }
-
-    /// What the weights of some set pass the money for the set's trucks by at most; and, where this
-    /// isn't 0, marks the payers of such a set, and no others.
-    pub(crate) fn charge(
-        &mut self,
-        terms: Terms,
-        payers: &[Payer],
-        weights: &[u64],
-        marks: &mut [bool],
-    ) -> Result<Finding, NoMemory> {
-        self.list(payers, weights, usize::MAX)?;
-        let rest = terms.money.checked_sub(self.weight);
-        if terms.money == 0 {
-            mark_payers(marks, weights);
-            return Ok(Finding::of(self.weight));
-        }
-        let (charge, slack) = match rest {
-            Some(rest) => (0, rest),
-            None => {
-                let excess = self.find(terms, marks)?;
-                (excess.most, excess.slack)
-            }
-        };
-        let known = charge == 0 && Sets::is_exact(terms, payers);
+        let slack = next.saturating_sub(self.weight).min(excess.slack);
         Ok(Finding {
-            charge,
-            slack: known.then_some(slack),
+            charge: 0,
+            trucks: 0,
+            slack: self.is_exact(terms).then_some(slack),
         })
     }
 
-    /// The most that the payer at a place may pay beside the others, so that no charge above this
-    /// one is needed.
-    pub(crate) fn room(
-        &mut self,
-        terms: Terms,
-        payers: &[Payer],
-        weights: &[u64],
-        place: usize,
-        charge: u64,
-    ) -> Result<u64, NoMemory> {
-        self.list(payers, weights, place)?;
-        let size = payers.get(place).map_or(0, |payer| payer.size);
+    /// What the weights of some set of those who were taken in pass the money for the set's trucks
+    /// by at most; and, where this isn't 0, counts one set more for the payers of such a set.
+    pub(crate) fn charge(&mut self, terms: Terms, counts: &mut [u32]) -> Result<Finding, NoMemory> {
+        if terms.money == 0 {
+            for item in &self.items {
+                count_payer(counts, item.payer);
+            }
+            return Ok(Finding {
+                charge: self.weight,
+                trucks: self.size.div_ceil(terms.capacity.max(1)),
+                slack: None,
+            });
+        }
+        match terms.money.checked_sub(self.weight) {
+            Some(slack) => Ok(Finding {
+                charge: 0,
+                trucks: 0,
+                slack: Some(slack),
+            }),
+            None => self.find(terms, counts),
+        }
+    }
+
+    /// The most that one more payer of a size may pay beside those who were taken in, so that no
+    /// charge above this one is needed.
+    pub(crate) fn room(&mut self, terms: Terms, size: u64, charge: u64) -> Result<u64, NoMemory> {
         let alone = terms.trucks(size);
         let free = terms.money.saturating_mul(alone).saturating_add(charge);
         if self.weight == 0 || terms.money == 0 {

@@ -1,12 +1,12 @@
 -- The prices of a search after a leaf's price was improved by tables.
 use Rattle.std.proofs.Common.{◌≡◌, ℕ, ◌-◌, ◌<◌, ◌≤◌, ◌⊎◌, ⊎_elim, List, [], ◌∷◌, ◌++◌, length, take, refl, sym, ap, ◌∙◌, arith, append-nil}
-use Rattle.std.specs.Prelude.{Option, slice_index_or}
+use Rattle.std.specs.Prelude.{slice_index_or}
 use Rattle.std.proofs.Math.Seq.{get_or-append_seam, take-append_seam}
 use Rattle.std.proofs.lemmas.List.{length-append}
 use Rattle.std.proofs.lemmas.List.Elements.{All-append, All-cons, All-nil}
 use Rattle.fp_model.specs.declared.parts.Leg.{Leg}
 use Rattle.fp_model.specs.Problem.{Problem}
-use Rattle.fp_flatnet.specs.declared.window_tables.Window.{Window}
+use Rattle.fp_flatnet.specs.Tables.{WindowTable, windows_in}
 use Rattle.fp_tree.specs.declared.sides.Side.{Side}
 use Rattle.fp_prices.specs.declared.leaf_prices.Kind.{Kind}
 use Rattle.fp_prices.specs.declared.leaf_prices.Kind.TheVariants.{Even, Linear}
@@ -25,13 +25,13 @@ use Rattle.fp_duals_leaves.specs.Prices.{ArePrices, HaveGrown, PriceLists}
 use Rattle.fp_duals_leaves.specs.Pricing.{IsImprovedBy, IsPriceFound}
 use Rattle.fp_duals_leaves.proofs.Worths.{found-by_tables}
 
-module _ (p : Problem) (windows : ℕ → ℕ → Option Window) (points : ℕ → List ℕ) (sides : List Side) where
-  module _ (before after : PriceLists) (are : ArePrices p before) (inherited : Kind) (plain : spans_beside before.spans inherited ≡ []) (round : ℕ) (price : LeafPrice) (value : ℕ) (walks : List (List Leg))
-      (is : IsPriced p windows points sides before.tables after.tables inherited round price value walks) where
+module _ (p : Problem) (table : WindowTable) (points : ℕ → List ℕ) (sides : List Side) where
+  module _ (before after : PriceLists) (are : ArePrices p table before) (inherited : Kind) (plain : spans_beside before.spans inherited ≡ []) (round : ℕ) (price : LeafPrice) (value : ℕ) (walks : List (List Leg))
+      (is : IsPriced p (windows_in table) points sides before.tables after.tables inherited round price value walks) where
     -- where no table was added, nothing stands beside the price's
-    pub found-same : after.spans ≡ before.spans → length after.tables ≤ length before.tables → IsPriceFound p windows points sides after round (record { price = price; value = value }) walks
+    pub found-same : after.spans ≡ before.spans → length after.tables ≤ length before.tables → IsPriceFound p (windows_in table) points sides after round (record { price = price; value = value }) walks
     found-same stay few =
-        found-by_tables p windows points sides before after inherited round price value walks
+        found-by_tables p table points sides before after inherited round price value walks
         (ap (λ (ss : List (List ClassSpan)). spans_beside ss price.kind) stay
         ∙ ⊎_elim
         (λ (same : (after.tables ≡ before.tables) × IsStartKind inherited price.kind).
@@ -39,17 +39,17 @@ module _ (p : Problem) (windows : ℕ → ℕ → Option Window) (points : ℕ �
         (λ (others : (price.kind ≡ Even) ⊎ (price.kind ≡ inherited)).
         ⊎_elim (λ (e : price.kind ≡ Even). ap (spans_beside before.spans) e) (λ (e : price.kind ≡ inherited). ap (spans_beside before.spans) e ∙ plain) others)
         same.1)
-        (λ (adds : AddsTable p windows points sides before.tables after.tables inherited price.kind value). absurd (omega (arith, few, ap length adds.last, length-append before.tables (adds.table ∷ []))))
+        (λ (adds : AddsTable p (windows_in table) points sides before.tables after.tables inherited price.kind value). absurd (omega (arith, few, ap length adds.last, length-append before.tables (adds.table ∷ []))))
         is.added)
         is
 
     -- and where one was, nothing stands beside that
-    pub found-added : after.spans ≡ before.spans ++ ([] ∷ []) → length before.tables < length after.tables → IsPriceFound p windows points sides after round (record { price = price; value = value }) walks
+    pub found-added : after.spans ≡ before.spans ++ ([] ∷ []) → length before.tables < length after.tables → IsPriceFound p (windows_in table) points sides after round (record { price = price; value = value }) walks
     found-added more longer =
-        found-by_tables p windows points sides before after inherited round price value walks
+        found-by_tables p table points sides before after inherited round price value walks
         (⊎_elim
         (λ (same : (after.tables ≡ before.tables) × IsStartKind inherited price.kind). absurd (omega (arith, longer, ap length same.0)))
-        (λ (adds : AddsTable p windows points sides before.tables after.tables inherited price.kind value).
+        (λ (adds : AddsTable p (windows_in table) points sides before.tables after.tables inherited price.kind value).
         let place : length after.tables - 1 ≡ length before.spans = omega (arith, are.beside, ap length adds.last, length-append before.tables (adds.table ∷ [])) in
         ap (spans_beside after.spans) adds.named
         ∙ ap (λ (ss : List (List ClassSpan)). slice_index_or ss (length after.tables - 1) []) more
@@ -57,8 +57,8 @@ module _ (p : Problem) (windows : ℕ → ℕ → Option Window) (points : ℕ �
         is.added)
         is
 
-  module _ (old : PriceLists) (are : ArePrices p old) (tables : List (List ClassShare)) (inherited : Kind) (plain : spans_beside old.spans inherited ≡ []) (round : ℕ) (r : Improved)
-      (is : IsImproved p windows points sides old.tables tables inherited round r) where
+  module _ (old : PriceLists) (are : ArePrices p table old) (tables : List (List ClassShare)) (inherited : Kind) (plain : spans_beside old.spans inherited ≡ []) (round : ℕ) (r : Improved)
+      (is : IsImproved p (windows_in table) points sides old.tables tables inherited round r) where
     -- the prices where no table was added, and where one was, with nothing beside it
     abbrev same_lists : PriceLists
     same_lists = record { tables = tables; spans = old.spans; unit = old.unit }
@@ -72,12 +72,12 @@ module _ (p : Problem) (windows : ℕ → ℕ → Option Window) (points : ℕ �
       pub front : tables ≡ old.tables ++ more
       pub few : length more ≤ 1
 
-    front-of : (o : Improved) → IsImproved p windows points sides old.tables tables inherited round o → HasFront
+    front-of : (o : Improved) → IsImproved p (windows_in table) points sides old.tables tables inherited round o → HasFront
     front-of (improved.Empty shipment) so = record { more = []; front = so.1 ∙ sym (append-nil old.tables); few = omega arith }
     front-of (improved.Priced price value walks) so =
         ⊎_elim
         (λ (same : (tables ≡ old.tables) × IsStartKind inherited price.kind). let h : HasFront = record { more = []; front = same.0 ∙ sym (append-nil old.tables); few = omega arith } in h)
-        (λ (adds : AddsTable p windows points sides old.tables tables inherited price.kind value). let h : HasFront = record { more = adds.table ∷ []; front = adds.last; few = omega arith } in h)
+        (λ (adds : AddsTable p (windows_in table) points sides old.tables tables inherited price.kind value). let h : HasFront = record { more = adds.table ∷ []; front = adds.last; few = omega arith } in h)
         so.added
 
     front : HasFront
@@ -87,7 +87,7 @@ module _ (p : Problem) (windows : ℕ → ℕ → Option Window) (points : ℕ �
     pub cut-front : (cut : List (List ClassShare)) → cut ≡ take (length old.tables) tables → cut ≡ old.tables
     cut-front cut made = made ∙ ap (take (length old.tables)) front.front ∙ take-append_seam old.tables front.more
 
-    pub grown-same : ArePriceTables p tables → length tables ≤ length old.spans → HaveGrown p old same_lists
+    pub grown-same : ArePriceTables p tables → length tables ≤ length old.spans → HaveGrown p table old same_lists
     grown-same in_order few = record {
       tables = front.more;
       spans = [];
@@ -102,30 +102,30 @@ module _ (p : Problem) (windows : ℕ → ℕ → Option Window) (points : ℕ �
       };
     }
 
-    pub grown-added : ArePriceTables p tables → length old.spans < length tables → HaveGrown p old more_lists
+    pub grown-added : ArePriceTables p tables → length old.spans < length tables → HaveGrown p table old more_lists
     grown-added in_order longer = record {
       tables = front.more;
       spans = [] ∷ [];
       is = ap (λ (ts : List (List ClassShare)). record { tables = ts; spans = old.spans ++ ([] ∷ []); unit = old.unit }) front.front;
       prices = record {
         tables = in_order;
-        spans = All-append (AreSoundSpans p) old.spans ([] ∷ []) are.spans (All-cons (AreSoundSpans p) [] [] (no_spans-sound p) (All-nil (AreSoundSpans p)));
+        spans = All-append (AreSoundSpans p table) old.spans ([] ∷ []) are.spans (All-cons (AreSoundSpans p table) [] [] (no_spans-sound p table) (All-nil (AreSoundSpans p table)));
         beside = omega (arith, longer, are.beside, front.few, ap length front.front, length-append old.tables front.more, length-append old.spans ([] ∷ []));
         unit = are.unit;
         without = λ none. All-append (λ (ss : List ClassSpan). ss ≡ []) old.spans ([] ∷ []) (are.without none) (All-cons (λ (ss : List ClassSpan). ss ≡ []) [] [] refl (All-nil (λ (ss : List ClassSpan). ss ≡ [])));
       };
     }
 
-    pub improved-same : length tables ≤ length old.spans → IsImprovedBy p windows points sides same_lists round r
+    pub improved-same : length tables ≤ length old.spans → IsImprovedBy p (windows_in table) points sides same_lists round r
     improved-same few = of r is
       where
-        of : (o : Improved) → IsImproved p windows points sides old.tables tables inherited round o → IsImprovedBy p windows points sides same_lists round o
+        of : (o : Improved) → IsImproved p (windows_in table) points sides old.tables tables inherited round o → IsImprovedBy p (windows_in table) points sides same_lists round o
         of (improved.Empty shipment) so = so.0
         of (improved.Priced price value walks) so = found-same old same_lists are inherited plain round price value walks.items so refl (omega (arith, few, are.beside))
 
-    pub improved-added : length old.spans < length tables → IsImprovedBy p windows points sides more_lists round r
+    pub improved-added : length old.spans < length tables → IsImprovedBy p (windows_in table) points sides more_lists round r
     improved-added longer = of r is
       where
-        of : (o : Improved) → IsImproved p windows points sides old.tables tables inherited round o → IsImprovedBy p windows points sides more_lists round o
+        of : (o : Improved) → IsImproved p (windows_in table) points sides old.tables tables inherited round o → IsImprovedBy p (windows_in table) points sides more_lists round o
         of (improved.Empty shipment) so = so.0
         of (improved.Priced price value walks) so = found-added old more_lists are inherited plain round price value walks.items so refl (omega (arith, longer, are.beside))

@@ -5,6 +5,7 @@ use Rattle.std.proofs.lemmas.Bool.{cases_lt}
 use Rattle.std.proofs.lemmas.List.{get_or_past}
 use Rattle.std.proofs.lemmas.List.Elements.{All-get_or}
 use Rattle.fp_model.specs.Problem.{Problem}
+use Rattle.fp_flatnet.specs.Tables.{WindowTable}
 use Rattle.fp_prices.specs.declared.leaf_prices.Kind.{Kind}
 use Rattle.fp_prices.specs.declared.leaf_prices.Kind.TheVariants.{Even, Linear, Table}
 use Rattle.fp_prices_spans.specs.SpanKinds.{spans_beside}
@@ -24,9 +25,9 @@ beside-each P spans (Table id) each none =
     ]
 
 -- they are sound
-pub beside-sound : (p : Problem) (x : PriceLists) (kind : Kind) → ArePrices p x → AreSoundSpans p (spans_beside x.spans kind)
-beside-sound p x kind are = beside-each (AreSoundSpans p) x.spans kind are.spans (no_spans-sound p)
+pub beside-sound : (p : Problem) (table : WindowTable) (x : PriceLists) (kind : Kind) → ArePrices p table x → AreSoundSpans p table (spans_beside x.spans kind)
+beside-sound p table x kind are = beside-each (AreSoundSpans p table) x.spans kind are.spans (no_spans-sound p table)
 
 -- and without a unit there are none
-pub beside-none : (p : Problem) (x : PriceLists) (kind : Kind) → ArePrices p x → x.unit ≡ None → spans_beside x.spans kind ≡ []
-beside-none p x kind are no_unit = beside-each (λ (ss : List ClassSpan). ss ≡ []) x.spans kind (are.without no_unit) refl
+pub beside-none : (p : Problem) (table : WindowTable) (x : PriceLists) (kind : Kind) → ArePrices p table x → x.unit ≡ None → spans_beside x.spans kind ≡ []
+beside-none p table x kind are no_unit = beside-each (λ (ss : List ClassSpan). ss ≡ []) x.spans kind (are.without no_unit) refl

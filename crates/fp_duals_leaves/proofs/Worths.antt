@@ -1,6 +1,6 @@
 -- What leaves are worth by tables, and by spans.
 use Rattle.std.proofs.Common.{◌≡◌, ℕ, ◌+◌, ◌-◌, ◌<◌, ◌≤◌, ⊎_elim, inl, inr, Bool, false, List, [], ◌∷◌, ◌++◌, length, refl, sym, ap, ◌∙◌, subst, arith}
-use Rattle.std.specs.Prelude.{IfOk, Option, Result, Ok, Err, if◌then◌else◌, slice_index_or}
+use Rattle.std.specs.Prelude.{IfOk, Result, Ok, Err, if◌then◌else◌, slice_index_or}
 use Rattle.std.specs.declared.alloc.AllocError.{AllocError}
 use Rattle.std.proofs.Math.Seq.{get_or-append_seam}
 use Rattle.std.proofs.lemmas.List.{length-append}
@@ -10,7 +10,7 @@ use Rattle.fp_model.specs.declared.parts.Leg.{Leg}
 use Rattle.fp_model.specs.declared.parts.Shipment.{Shipment}
 use Rattle.fp_model.specs.Costs.{all_legs, has_leg}
 use Rattle.fp_model.specs.Problem.{Problem, arc_at}
-use Rattle.fp_flatnet.specs.declared.window_tables.Window.{Window}
+use Rattle.fp_flatnet.specs.Tables.{WindowTable, windows_in}
 use Rattle.fp_tree.specs.declared.sides.Side.{Side}
 use Rattle.fp_allowed.specs.Allowed.{is_allowed}
 use Rattle.fp_allowed.specs.Walks.{IsTimedWalk}
@@ -41,31 +41,31 @@ empty-price p tables spans allowed id chains empty =
     λ table k size c. if has_leg c (all_legs chains) then 0 else (if is_held spans c then span_price spans k c else table_price p.scale (arc_at p c.arc) (share_for table c) k size) in
     ap price (sym empty)
 
-module _ (p : Problem) (windows : ℕ → ℕ → Option Window) (points : ℕ → List ℕ) (sides : List Side) where
+module _ (p : Problem) (table : WindowTable) (points : ℕ → List ℕ) (sides : List Side) where
   -- so is what a leaf is worth
-  empty-value : (tables : List (List ClassShare)) (spans : List ClassSpan) (id value : ℕ) → table_at tables id ≡ [] → IsSpanLeafValue p windows points sides [] spans Linear false value →
-      IsSpanLeafValue p windows points sides tables spans (Table id) false value
+  empty-value : (tables : List (List ClassShare)) (spans : List ClassSpan) (id value : ℕ) → table_at tables id ≡ [] → IsSpanLeafValue p (windows_in table) points sides [] spans Linear false value →
+      IsSpanLeafValue p (windows_in table) points sides tables spans (Table id) false value
   empty-value tables spans id value empty is = record {
     chains = is.chains;
     costs = is.costs;
     charges = is.charges;
     are_chains = is.are_chains;
-    are_least = subst (λ (price : ℕ → ℕ → Leg → ℕ). AllZipFrom (λ k (s : Shipment) n. IsLeastCost p points (is_allowed p windows points sides k) s (price k s.size) n) 0 p.shipments is.costs)
-        (empty-price p tables spans (is_allowed p windows points sides) id is.chains empty) is.are_least;
+    are_least = subst (λ (price : ℕ → ℕ → Leg → ℕ). AllZipFrom (λ k (s : Shipment) n. IsLeastCost p points (is_allowed p (windows_in table) points sides k) s (price k s.size) n) 0 p.shipments is.costs)
+        (empty-price p tables spans (is_allowed p (windows_in table) points sides) id is.chains empty) is.are_least;
     are_charges = is.are_charges;
     value_is = is.value_is;
   }
 
   -- by a table that was added without shares, with spans beside it
   pub worth-added : (before after : PriceLists) (spans : List ClassSpan) (round id value : ℕ) → length before.spans ≡ length before.tables → after ≡ with_more before ([] ∷ []) (spans ∷ []) → id ≡ length before.tables + 1 →
-      IsSpanLeafValue p windows points sides [] spans Linear false value →
-      IsWorthBy p windows points sides after round (record { price = record { kind = Table id; round = round; forced = false }; value = value })
+      IsSpanLeafValue p (windows_in table) points sides [] spans Linear false value →
+      IsWorthBy p (windows_in table) points sides after round (record { price = record { kind = Table id; round = round; forced = false }; value = value })
   worth-added before after spans round id value beside added is_id is =
-      subst (λ (x : PriceLists). IsWorthBy p windows points sides x round (record { price = record { kind = Table id; round = round; forced = false }; value = value })) (sym added)
+      subst (λ (x : PriceLists). IsWorthBy p (windows_in table) points sides x round (record { price = record { kind = Table id; round = round; forced = false }; value = value })) (sym added)
       (record {
         of_round = refl;
         kind = (omega (arith, is_id), omega (arith, is_id, length-append before.tables ([] ∷ [])));
-        is = subst (λ (ss : List ClassSpan). IsSpanLeafValue p windows points sides (before.tables ++ ([] ∷ [])) ss (Table id) false value) (sym own)
+        is = subst (λ (ss : List ClassSpan). IsSpanLeafValue p (windows_in table) points sides (before.tables ++ ([] ∷ [])) ss (Table id) false value) (sym own)
             (empty-value (before.tables ++ ([] ∷ [])) spans id value last is);
       })
     where
@@ -79,25 +79,25 @@ module _ (p : Problem) (windows : ℕ → ℕ → Option Window) (points : ℕ �
       own = ap (λ (i : ℕ). slice_index_or (before.spans ++ (spans ∷ [])) i []) (here ∙ sym beside) ∙ get_or-append_seam before.spans spans [] []
 
   -- what a leaf is worth stays when the prices grow
-  pub worth-stays : (before after : PriceLists) (round : ℕ) (w : Worth) → length before.spans ≡ length before.tables → HaveGrown p before after → IsWorthBy p windows points sides before round w → IsWorthBy p windows points sides after round w
+  pub worth-stays : (before after : PriceLists) (round : ℕ) (w : Worth) → length before.spans ≡ length before.tables → HaveGrown p table before after → IsWorthBy p (windows_in table) points sides before round w → IsWorthBy p (windows_in table) points sides after round w
   worth-stays before after round w beside grown is =
-      subst (λ (x : PriceLists). IsWorthBy p windows points sides x round w) (sym grown.is)
+      subst (λ (x : PriceLists). IsWorthBy p (windows_in table) points sides x round w) (sym grown.is)
       (record {
         of_round = is.of_round;
         kind = HasKind-append before.tables grown.tables w.price.kind is.kind;
-        is = subst (λ (ss : List ClassSpan). IsSpanLeafValue p windows points sides (before.tables ++ grown.tables) ss w.price.kind w.price.forced w.value)
+        is = subst (λ (ss : List ClassSpan). IsSpanLeafValue p (windows_in table) points sides (before.tables ++ grown.tables) ss w.price.kind w.price.forced w.value)
             (sym (beside-append before.tables before.spans grown.spans w.price.kind beside is.kind))
-            (IsPricedValue-tables p windows points sides before.tables w.price.kind w.price.forced w.value is.kind grown.tables before.spans is.is);
+            (IsPricedValue-tables p (windows_in table) points sides before.tables w.price.kind w.price.forced w.value is.kind grown.tables before.spans is.is);
       })
 
   -- the price that was found for a leaf, where another is no less
-  pub found-no-less : (after : PriceLists) (round : ℕ) (first w : Worth) (walks : List (List Leg)) → IsPriceFound p windows points sides after round first walks → IsNoLess p windows points sides after round first w →
-      IsPriceFound p windows points sides after round w walks
+  pub found-no-less : (after : PriceLists) (round : ℕ) (first w : Worth) (walks : List (List Leg)) → IsPriceFound p (windows_in table) points sides after round first walks → IsNoLess p (windows_in table) points sides after round first w →
+      IsPriceFound p (windows_in table) points sides after round w walks
   found-no-less after round first w walks found no_less =
       ⊎_elim
-      (λ (same : w ≡ first). subst (λ (v : Worth). IsPriceFound p windows points sides after round v walks) (sym same) found)
-      (λ (more : IsWorthBy p windows points sides after round w × (first.value < w.value)).
-      let it : IsPriceFound p windows points sides after round w walks = record {
+      (λ (same : w ≡ first). subst (λ (v : Worth). IsPriceFound p (windows_in table) points sides after round v walks) (sym same) found)
+      (λ (more : IsWorthBy p (windows_in table) points sides after round w × (first.value < w.value)).
+      let it : IsPriceFound p (windows_in table) points sides after round w walks = record {
         worth = more.0;
         linear = λ f other v. omega (arith, found.linear f other v, more.1);
         even = λ f other v. omega (arith, found.even f other v, more.1);
@@ -108,8 +108,8 @@ module _ (p : Problem) (windows : ℕ → ℕ → Option Window) (points : ℕ �
       no_less
 
   -- it stays when the prices grow
-  pub found-stays : (before after : PriceLists) (round : ℕ) (w : Worth) (walks : List (List Leg)) → length before.spans ≡ length before.tables → HaveGrown p before after → IsPriceFound p windows points sides before round w walks →
-      IsPriceFound p windows points sides after round w walks
+  pub found-stays : (before after : PriceLists) (round : ℕ) (w : Worth) (walks : List (List Leg)) → length before.spans ≡ length before.tables → HaveGrown p table before after → IsPriceFound p (windows_in table) points sides before round w walks →
+      IsPriceFound p (windows_in table) points sides after round w walks
   found-stays before after round w walks beside grown found = record {
     worth = worth-stays before after round w beside grown found.worth;
     linear = found.linear;
@@ -119,52 +119,52 @@ module _ (p : Problem) (windows : ℕ → ℕ → Option Window) (points : ℕ �
   }
 
   -- a price that is no less is as of the same round
-  pub no-less-round : (x : PriceLists) (first w : Worth) → IsNoLess p windows points sides x first.price.round first w → w.price.round ≡ first.price.round
+  pub no-less-round : (x : PriceLists) (first w : Worth) → IsNoLess p (windows_in table) points sides x first.price.round first w → w.price.round ≡ first.price.round
   no-less-round x first w no_less =
-      ⊎_elim (λ (same : w ≡ first). ap (λ (v : Worth). v.price.round) same) (λ (more : IsWorthBy p windows points sides x first.price.round w × (first.value < w.value)). more.0.of_round) no_less
+      ⊎_elim (λ (same : w ≡ first). ap (λ (v : Worth). v.price.round) same) (λ (more : IsWorthBy p (windows_in table) points sides x first.price.round w × (first.value < w.value)). more.0.of_round) no_less
 
   -- of three prices, each no less than the one before, the last is no less than the first
-  pub no-less-twice : (before after : PriceLists) (round : ℕ) (first second third : Worth) → length before.spans ≡ length before.tables → HaveGrown p before after → IsNoLess p windows points sides before round first second →
-      IsNoLess p windows points sides after round second third → IsNoLess p windows points sides after round first third
+  pub no-less-twice : (before after : PriceLists) (round : ℕ) (first second third : Worth) → length before.spans ≡ length before.tables → HaveGrown p table before after → IsNoLess p (windows_in table) points sides before round first second →
+      IsNoLess p (windows_in table) points sides after round second third → IsNoLess p (windows_in table) points sides after round first third
   no-less-twice before after round first second third beside grown one two =
       ⊎_elim
       (λ (same : third ≡ second).
       ⊎_elim
-      (λ (still : second ≡ first). let it : IsNoLess p windows points sides after round first third = inl (same ∙ still) in it)
-      (λ (more : IsWorthBy p windows points sides before round second × (first.value < second.value)).
-      let it : IsNoLess p windows points sides after round first third =
-      inr (subst (λ (w : Worth). IsWorthBy p windows points sides after round w × (first.value < w.value)) (sym same) (worth-stays before after round second beside grown more.0, more.1)) in
+      (λ (still : second ≡ first). let it : IsNoLess p (windows_in table) points sides after round first third = inl (same ∙ still) in it)
+      (λ (more : IsWorthBy p (windows_in table) points sides before round second × (first.value < second.value)).
+      let it : IsNoLess p (windows_in table) points sides after round first third =
+      inr (subst (λ (w : Worth). IsWorthBy p (windows_in table) points sides after round w × (first.value < w.value)) (sym same) (worth-stays before after round second beside grown more.0, more.1)) in
       it)
       one)
-      (λ (most : IsWorthBy p windows points sides after round third × (second.value < third.value)).
+      (λ (most : IsWorthBy p (windows_in table) points sides after round third × (second.value < third.value)).
       let le : first.value ≤ second.value =
-      ⊎_elim (λ (still : second ≡ first). omega (arith, ap (λ (w : Worth). w.value) still)) (λ (more : IsWorthBy p windows points sides before round second × (first.value < second.value)). omega (arith, more.1)) one in
-      let it : IsNoLess p windows points sides after round first third = inr (most.0, omega (arith, le, most.1)) in
+      ⊎_elim (λ (still : second ≡ first). omega (arith, ap (λ (w : Worth). w.value) still)) (λ (more : IsWorthBy p (windows_in table) points sides before round second × (first.value < second.value)). omega (arith, more.1)) one in
+      let it : IsNoLess p (windows_in table) points sides after round first third = inr (most.0, omega (arith, le, most.1)) in
       it)
       two
 
   -- the same of what a call gives
-  pub no-less_told : (before after : PriceLists) (round : ℕ) (first second : Worth) (r : Result Worth AllocError) → length before.spans ≡ length before.tables → HaveGrown p before after →
-      IsNoLess p windows points sides before round first second → IfOk r (IsNoLess p windows points sides after round second) → IfOk r (IsNoLess p windows points sides after round first)
+  pub no-less_told : (before after : PriceLists) (round : ℕ) (first second : Worth) (r : Result Worth AllocError) → length before.spans ≡ length before.tables → HaveGrown p table before after →
+      IsNoLess p (windows_in table) points sides before round first second → IfOk r (IsNoLess p (windows_in table) points sides after round second) → IfOk r (IsNoLess p (windows_in table) points sides after round first)
   no-less_told before after round first second (Err e) beside grown one two = tt
   no-less_told before after round first second (Ok third) beside grown one two = no-less-twice before after round first second third beside grown one two
 
   -- a price by tables alone: no spans stand beside its table
   pub found-by_tables : (before after : PriceLists) (inherited : Kind) (round : ℕ) (price : LeafPrice) (value : ℕ) (walks : List (List Leg)) → spans_beside after.spans price.kind ≡ [] →
-      IsPriced p windows points sides before.tables after.tables inherited round price value walks → IsPriceFound p windows points sides after round (record { price = price; value = value }) walks
+      IsPriced p (windows_in table) points sides before.tables after.tables inherited round price value walks → IsPriceFound p (windows_in table) points sides after round (record { price = price; value = value }) walks
   found-by_tables before after inherited round price value walks none is = record {
     worth = record {
       of_round = is.of_round;
       kind = is.kind;
-      is = subst (λ (ss : List ClassSpan). IsSpanLeafValue p windows points sides after.tables ss price.kind price.forced value) (sym none)
-          ((spanless-values p windows points sides after.tables price.kind price.forced value).1 is.is_value);
+      is = subst (λ (ss : List ClassSpan). IsSpanLeafValue p (windows_in table) points sides after.tables ss price.kind price.forced value) (sym none)
+          ((spanless-values p (windows_in table) points sides after.tables price.kind price.forced value).1 is.is_value);
     };
-    linear = λ f other v. is.best.linear f other (IsLeafValue-append p windows points sides [] Linear f other tt before.tables v);
-    even = λ f other v. is.best.even f other (IsLeafValue-append p windows points sides [] Even f other tt before.tables v);
+    linear = λ f other v. is.best.linear f other (IsLeafValue-append p (windows_in table) points sides [] Linear f other tt before.tables v);
+    even = λ f other v. is.best.even f other (IsLeafValue-append p (windows_in table) points sides [] Even f other tt before.tables v);
     walks = AllZipFrom-weaker
         (λ k (s : Shipment) walk.
-        IsLeastWalk p points (is_allowed p windows points sides k) s (leaf_price p after.tables (is_allowed p windows points sides) price.kind is.least.chains k s.size) walk)
-        (λ k (s : Shipment) walk. IsTimedWalk p points (is_allowed p windows points sides k) s walk)
+        IsLeastWalk p points (is_allowed p (windows_in table) points sides k) s (leaf_price p after.tables (is_allowed p (windows_in table) points sides) price.kind is.least.chains k s.size) walk)
+        (λ k (s : Shipment) walk. IsTimedWalk p points (is_allowed p (windows_in table) points sides k) s walk)
         (λ k s walk least. least.timed) 0 p.shipments walks is.least.are_least;
     reached = λ chains all. omega (arith, is.reached chains all);
   }

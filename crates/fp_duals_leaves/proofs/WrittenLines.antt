@@ -1,6 +1,6 @@
 -- The lines of tables, and of the spans beside them, when they are written.
 use Rattle.std.proofs.Common.{◌≡◌, ℕ, ◌+◌, ◌-◌, ◌≤◌, List, [], ◌∷◌, length, drop, refl, ap, arith}
-use Rattle.std.specs.Prelude.{sum_by}
+use Rattle.std.specs.Prelude.{map, sum_by}
 use Rattle.std.specs.List.{flat_map}
 use Rattle.std.proofs.lemmas.List.{drop_all, length-append, length-map}
 use Rattle.std.proofs.lemmas.List.Concat.{flat_map-cons}
@@ -9,7 +9,7 @@ use Rattle.fp_model.specs.Problem.{Problem}
 use Rattle.fp_prices.specs.Shares.{ClassShare}
 use Rattle.fp_prices_spans.specs.SpanKinds.{spans_of_table}
 use Rattle.fp_prices_spans.specs.Spans.{ClassSpan}
-use Rattle.fp_certificate_lines.specs.Rows.{share_rows, span_rows, table_rows, tables_rows, weight_fields}
+use Rattle.fp_certificate_lines.specs.Rows.{group_fields, share_rows, span_rows, table_rows, tables_rows, weight_fields}
 use Rattle.fp_duals.specs.PriceLines.{line_count, line_total}
 use Rattle.fp_duals_leaves.specs.PriceLines.{PriceLinesAreWritten, span_lines}
 
@@ -27,7 +27,7 @@ module _ (p : Problem) where
         sum_by-cons (λ (t : ClassShare). 1 + length t.weights) s table,
       )
 
-  -- spans and their weights
+  -- spans, their weights and their groups
   spans-long : (spans : List ClassSpan) → length (flat_map (span_rows p) spans) ≡ span_lines spans
   spans-long [] = refl
   spans-long (s ∷ spans) =
@@ -35,9 +35,11 @@ module _ (p : Problem) where
         arith,
         ap length (flat_map-cons (span_rows p) s spans),
         length-append (span_rows p s) (flat_map (span_rows p) spans),
+        length-append (map (weight_fields p) s.weights) (map group_fields s.groups),
         length-map s.weights (weight_fields p),
+        length-map s.groups group_fields,
         spans-long spans,
-        sum_by-cons (λ (t : ClassSpan). 1 + length t.weights) s spans,
+        sum_by-cons (λ (t : ClassSpan). 1 + length t.weights + length t.groups) s spans,
       )
 
   -- a table and the spans beside it

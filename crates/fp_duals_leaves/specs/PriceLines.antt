@@ -8,11 +8,11 @@ use Rattle.fp_certificate_lines.specs.Statements.{Statement}
 use Rattle.fp_duals.specs.declared.limits.TheConstants.{MOST_PRICE_LINES}
 use Rattle.fp_duals.specs.PriceLines.{line_total}
 
--- the lines of spans: one for each, and one for each of its weights
+-- the lines of spans: one for each, one for each of its weights, and one for each of its groups
 abbrev pub span_lines : List ClassSpan → ℕ
-span_lines spans = sum_by (λ (s : ClassSpan). 1 + length s.weights) spans
+span_lines spans = sum_by (λ (s : ClassSpan). 1 + length s.weights + length s.groups) spans
 
--- the price lines of tables and of the spans beside them: of each table, each share, each span, and each weight
+-- the price lines of tables and of the spans beside them: of each table, each share, each span, each weight, and each group of a span
 abbrev pub price_lines : List (List ClassShare) → List (List ClassSpan) → ℕ
 price_lines tables spans = line_total tables + sum_by span_lines spans
 

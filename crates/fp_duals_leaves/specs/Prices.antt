@@ -1,6 +1,7 @@
 -- The prices of a search.
 use Rattle.std.specs.Prelude.{ℕ, ◌≡◌, List, [], ◌++◌, length, take, All, Option, None, IfSome}
 use Rattle.fp_model.specs.Problem.{Problem}
+use Rattle.fp_flatnet.specs.Tables.{WindowTable}
 use Rattle.fp_prices.specs.Shares.{ClassShare}
 use Rattle.fp_prices_spans.specs.Spans.{ClassSpan}
 use Rattle.fp_certificate_lines.specs.Ranges.{IsUnitInRange}
@@ -35,17 +36,19 @@ pub record IsUnitOf (p : Problem) (unit : ℕ) : Type 0 where
   pub divides : IsUnit p unit
   pub range : IsUnitInRange unit
 
--- tables of prices of the instance, with sound spans beside each, and a unit of it; without a unit there are no spans
-pub record ArePrices (p : Problem) (x : PriceLists) : Type 0 where
+-- tables of prices of the instance, with spans beside each that are sound by its windows, and a unit of it; without a unit there are no
+-- spans
+pub record ArePrices (p : Problem) (table : WindowTable) (x : PriceLists) : Type 0 where
   pub tables : ArePriceTables p x.tables
-  pub spans : All (AreSoundSpans p) x.spans
+  pub spans : All (AreSoundSpans p table) x.spans
   pub beside : length x.spans ≡ length x.tables
   pub unit : IfSome x.unit (IsUnitOf p)
   pub without : x.unit ≡ None → All (λ (spans : List ClassSpan). spans ≡ []) x.spans
 
--- the tables that were there stay with the spans beside them, others may have come after them, and all are prices of the instance
-pub record HaveGrown (p : Problem) (before after : PriceLists) : Type 0 where
+-- the tables that were there stay with the spans beside them, others may have come after them, and all are prices of the instance by
+-- its windows
+pub record HaveGrown (p : Problem) (table : WindowTable) (before after : PriceLists) : Type 0 where
   pub tables : List (List ClassShare)
   pub spans : List (List ClassSpan)
   pub is : after ≡ with_more before tables spans
-  pub prices : ArePrices p after
+  pub prices : ArePrices p table after

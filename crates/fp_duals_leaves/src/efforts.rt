@@ -2,8 +2,8 @@
 use fp_duals::Effort;
 use fp_duals_spans::SpanEffort;
 
-/// How much work it may take to improve the price of a leaf: by tables; and by spans, where these are
-/// sought.
+/// How much work it may take to improve the price of a leaf: by tables; and by spans, where these
+/// are sought.
 #[derive(Clone, Copy, Debug, PartialEq, Eq)]
 pub struct PriceEffort {
     pub tables: Effort,

@@ -1,6 +1,5 @@
 //! Spans by which a leaf is worth more.
 ghost use Rattle.std.specs.Prelude.{IfOk, IfSome};
-ghost use Rattle.fp_flatnet.specs.Tables.{windows_in};
 ghost use Rattle.fp_longestarcs.specs.Networks.{points_in};
 ghost use Rattle.fp_prices.specs.Tables.{AreTables, HasKind};
 ghost use Rattle.fp_duals_leaves.specs.SpanPrices.{IsBetterPrice};
@@ -23,10 +22,10 @@ fn price_by(
     value: u128,
 ) -> Result<Option<SpanPrice>, NoMemory>
     ensures { IfOk result (λ found. IfSome found
-        (IsBetterPrice leaf.now.setting.problem (windows_in leaf.now.setting.windows)
+        (IsBetterPrice leaf.now.setting.problem leaf.now.setting.windows
         (points_in leaf.now.setting.network) leaf.now.sides value)) }
 {
-    if !are_sound(alloc, leaf.round().instance(), &spans)? {
+    if !are_sound(alloc, leaf.round().instance(), leaf.windows(), &spans)? {
         return Ok(None);
     }
     match span_bound(alloc, leaf, &[], &spans, Kind::Linear, false)? {
@@ -42,7 +41,9 @@ fn price_by(
 
 /// Spans by which a leaf is worth more than a value, where such are found.
 ///
-/// They are sought from some prices, over the nets of the leaf. What is found keeps both rules of spans, so no plan of the leaf costs less than it's worth by them.
+/// They are sought from some prices, over the nets of the leaf. What is found keeps both rules of
+/// spans, by the leaf's windows and the initial points, so no plan of the leaf costs less than it's
+/// worth by them, where the initial points are among those of its network.
 /// Nothing is promised of when spans are found. `NoMemory` only where no memory is found.
 pub(crate) fn better_spans<D: Deadline>(
     resources: &Resources<D>,
@@ -55,7 +56,7 @@ pub(crate) fn better_spans<D: Deadline>(
     requires tables { AreTables leaf.now.setting.problem start.tables.now }
     requires kind { HasKind start.tables.now start.kind }
     ensures { IfOk result (λ found. IfSome found
-        (IsBetterPrice leaf.now.setting.problem (windows_in leaf.now.setting.windows)
+        (IsBetterPrice leaf.now.setting.problem leaf.now.setting.windows
         (points_in leaf.now.setting.network) leaf.now.sides value)) }
 {
     let model = nets.at(resources.alloc, leaf)?;

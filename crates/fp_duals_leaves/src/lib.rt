@@ -1,5 +1,5 @@
-//! The prices of a search: tables, the spans beside each, and a unit; and how the price of a leaf is
-//! improved by both.
+//! The prices of a search: tables, the spans beside each, and a unit; and how the price of a leaf
+//! is improved by both.
 //!
 //! Prices are multipliers in the sense of Lagrangian relaxation (A. M. Geoffrion, "Lagrangean
 //! relaxation for integer programming", Mathematical Programming Study 2, 1974). Those by spans

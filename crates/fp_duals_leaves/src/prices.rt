@@ -22,13 +22,14 @@ use std::marker::Model;
 /// Tables of prices, the spans beside each, and the unit by which what leaves are worth is rounded
 /// up. A search that seeks spans has a unit.
 ///
-/// They have at most 500,000 price lines in all, so that the certificate of a run can be handled: the
-/// tables, their shares, the spans, and the weights of shares and of spans.
+/// They have at most 500,000 price lines in all, so that the certificate of a run can be handled:
+/// the tables, their shares, the spans, the weights of shares and of spans, and the groups of
+/// spans.
 #[derive(Drop)]
 pub struct Prices {
     tables: Tables,
     spans: Vec<TableSpans>,
-    // How many lines the spans have in all, with their weights.
+    // How many lines the spans have in all, with their weights and groups.
     span_lines: u32,
     unit: Option<u128>,
 }
@@ -51,7 +52,7 @@ fn lines_of(spans: &[Span]) -> u32
 {
     let mut lines = 0;
     for span in spans {
-        lines += 1 + span.weights.len() as u32;
+        lines += 1 + span.weights.len() as u32 + span.groups.len() as u32;
     }
     lines
 }
@@ -63,11 +64,11 @@ fn lines_within(spans: &[Span], most: u32) -> Option<u32>
 {
     let mut left = u64::from(most);
     for span in spans {
-        let weights = span.weights.len() as u64;
-        if weights >= left {
+        let beside = span.weights.len() as u64 + span.groups.len() as u64;
+        if beside >= left {
             return None;
         }
-        left -= weights + 1;
+        left -= beside + 1;
     }
     Some(most - left as u32)
 }
@@ -162,8 +163,8 @@ impl Prices {
         }
     }
 
-    /// Improves a leaf's price by tables alone. A table that comes has no spans beside it, and no more
-    /// price lines than are left.
+    /// Improves a leaf's price by tables alone. A table that comes has no spans beside it, and no
+    /// more price lines than are left.
     pub(crate) fn improve<D: Deadline>(
         &mut self,
         resources: &Resources<D>,
@@ -173,12 +174,13 @@ impl Prices {
         inherited: LeafPrice,
         effort: &Effort,
     ) -> Result<Improved, NoMemory>
-        requires prices { ArePrices leaf.now.setting.problem self.old }
+        requires prices { ArePrices leaf.now.setting.problem leaf.now.setting.windows self.old }
         requires kind { HasKind self.old.tables inherited.kind }
         ensures improved { IfOk result
             (IsImprovedBy leaf.now.setting.problem (windows_in leaf.now.setting.windows)
             (points_in leaf.now.setting.network) leaf.now.sides self.new round) }
-        ensures grown { HaveGrown leaf.now.setting.problem self.old self.new }
+        ensures grown { HaveGrown leaf.now.setting.problem leaf.now.setting.windows
+            self.old self.new }
     {
         let count = self.count();
         let plain = self.without_spans(inherited);
@@ -196,13 +198,14 @@ impl Prices {
         Ok(improved)
     }
 
-    /// Adds a table without shares and spans beside it, and tells whether it did: not where they would
-    /// be more price lines than are left.
+    /// Adds a table without shares and spans beside it, and tells whether it did: not where they
+    /// would be more price lines than are left.
     pub(crate) fn push_spans(&mut self, alloc: Global, spans: Vec<Span>) -> Result<bool, NoMemory>
         ensures added { IfOk result (λ added. MatchBool added
             (self.new ≡ with_more self.old ([] ∷ []) (spans.items ∷ [])) (self.new ≡ self.old)) }
         ensures full { IfOk result (λ added. added ≡ false
-            → MOST_PRICE_LINES < price_lines self.old.tables self.old.spans + 1 + span_lines spans.items) }
+            → MOST_PRICE_LINES
+            < price_lines self.old.tables self.old.spans + 1 + span_lines spans.items) }
         ensures err { OnErr result (self.new ≡ self.old) }
     {
         let left = self.left();

@@ -34,7 +34,7 @@ fn by_inherited(
     first: Worth,
     prices: &Prices,
 ) -> Result<Worth, NoMemory>
-    requires prices { ArePrices leaf.now.setting.problem prices.now }
+    requires prices { ArePrices leaf.now.setting.problem leaf.now.setting.windows prices.now }
     requires kind { HasKind prices.now.tables inherited.kind }
     ensures { IfOk result
         (IsNoLess leaf.now.setting.problem (windows_in leaf.now.setting.windows)
@@ -70,10 +70,11 @@ fn by_spans<D: Deadline>(
     first: Worth,
     prices: &mut Prices,
 ) -> Result<Worth, NoMemory>
-    requires prices { ArePrices leaf.now.setting.problem prices.old }
+    requires prices { ArePrices leaf.now.setting.problem leaf.now.setting.windows prices.old }
     requires unit { prices.old.unit ≢ None }
     requires kind { HasKind prices.old.tables first.price.kind }
-    ensures grown { HaveGrown leaf.now.setting.problem prices.old prices.new }
+    ensures grown { HaveGrown leaf.now.setting.problem leaf.now.setting.windows
+        prices.old prices.new }
     ensures worth { IfOk result
         (IsNoLess leaf.now.setting.problem (windows_in leaf.now.setting.windows)
         (points_in leaf.now.setting.network) leaf.now.sides prices.new first.price.round first) }
@@ -103,8 +104,8 @@ fn by_spans<D: Deadline>(
     })
 }
 
-// What a leaf is worth, as of the same round, by spans, where that is more: by those that it inherits, or by
-// others that are sought.
+// What a leaf is worth, as of the same round, by spans, where that is more: by those that it
+// inherits, or by others that are sought.
 #[tactic(auto, using(crate::proofs::GrownPrices::HaveGrown_none))]
 fn spanned<D: Deadline>(
     resources: &Resources<D>,
@@ -115,10 +116,11 @@ fn spanned<D: Deadline>(
     first: Worth,
     prices: &mut Prices,
 ) -> Result<Worth, NoMemory>
-    requires prices { ArePrices leaf.now.setting.problem prices.old }
+    requires prices { ArePrices leaf.now.setting.problem leaf.now.setting.windows prices.old }
     requires inherited { HasKind prices.old.tables inherited.kind }
     requires kind { HasKind prices.old.tables first.price.kind }
-    ensures grown { HaveGrown leaf.now.setting.problem prices.old prices.new }
+    ensures grown { HaveGrown leaf.now.setting.problem leaf.now.setting.windows
+        prices.old prices.new }
     ensures worth { IfOk result
         (IsNoLess leaf.now.setting.problem (windows_in leaf.now.setting.windows)
         (points_in leaf.now.setting.network) leaf.now.sides prices.new first.price.round first) }
@@ -143,9 +145,10 @@ fn improve_further<D: Deadline>(
     effort: &PriceEffort,
     prices: &mut Prices,
 ) -> Result<Improved, NoMemory>
-    requires prices { ArePrices leaf.now.setting.problem prices.old }
+    requires prices { ArePrices leaf.now.setting.problem leaf.now.setting.windows prices.old }
     requires kind { HasKind prices.old.tables inherited.kind }
-    ensures grown { HaveGrown leaf.now.setting.problem prices.old prices.new }
+    ensures grown { HaveGrown leaf.now.setting.problem leaf.now.setting.windows
+        prices.old prices.new }
     ensures improved { IfOk result
         (IsImprovedBy leaf.now.setting.problem (windows_in leaf.now.setting.windows)
         (points_in leaf.now.setting.network) leaf.now.sides prices.new round) }
@@ -171,10 +174,11 @@ fn improve_further<D: Deadline>(
 /// Improves the price of a leaf as of a round, from a price that it inherits: by tables, and where
 /// the prices have a unit by spans too.
 ///
-/// The leaf lies over the network of the round, and the nets are those of the leaf. What is found is
-/// the leaf's first shipment without an allowed walk; or a price as of the round, what the leaf is
-/// worth by it in parts of a unit of money, and an allowed walk of each shipment. The prices grow by
-/// at most two tables. `NoMemory` only where no memory is found; then they are as before.
+/// The leaf lies over the network of the round, and the nets are those of the leaf. The spans among
+/// the prices are sound by the leaf's windows, and so are those that come. What is found is the
+/// leaf's first shipment without an allowed walk; or a price as of the round, what the leaf is
+/// worth by it in parts of a unit of money, and an allowed walk of each shipment. The prices grow
+/// by at most two tables. `NoMemory` only where no memory is found; then they are as before.
 #[tactic(auto, using(crate::proofs::GrownPrices::HaveGrown_none))]
 pub fn improve<D: Deadline>(
     resources: &Resources<D>,
@@ -185,9 +189,10 @@ pub fn improve<D: Deadline>(
     effort: &PriceEffort,
     prices: &mut Prices,
 ) -> Result<Improved, NoMemory>
-    requires prices { ArePrices leaf.now.setting.problem prices.old }
+    requires prices { ArePrices leaf.now.setting.problem leaf.now.setting.windows prices.old }
     requires kind { HasKind prices.old.tables inherited.kind }
-    ensures grown { HaveGrown leaf.now.setting.problem prices.old prices.new }
+    ensures grown { HaveGrown leaf.now.setting.problem leaf.now.setting.windows
+        prices.old prices.new }
     ensures improved { IfOk result
         (IsImprovedBy leaf.now.setting.problem (windows_in leaf.now.setting.windows)
         (points_in leaf.now.setting.network) leaf.now.sides prices.new round) }

@@ -31,7 +31,8 @@ const LINEAR: LeafPrice = LeafPrice {
 /// from linear prices: the root of a search before any round.
 ///
 /// The windows belong to the instance, for which the network is whole; it has at most
-/// [`MOST_POINTS`](fp_timenodes::MOST_POINTS) points. `NoMemory` only where no memory is found.
+/// [`MOST_POINTS`](fp_timenodes::MOST_POINTS) points. The spans among the prices are sound by these
+/// windows. `NoMemory` only where no memory is found.
 #[tactic(auto, using(crate::proofs::GrownPrices::HaveGrown_none))]
 pub fn improve_root<D: Deadline>(
     resources: &Resources<D>,
@@ -44,8 +45,8 @@ pub fn improve_root<D: Deadline>(
     requires belongs { BelongsTo instance.now windows.now }
     requires whole { IsWholeNetwork instance.now network }
     requires few { point_count network ≤ MOST_POINTS }
-    requires prices { ArePrices instance.now prices.old }
-    ensures grown { HaveGrown instance.now prices.old prices.new }
+    requires prices { ArePrices instance.now windows.now prices.old }
+    ensures grown { HaveGrown instance.now windows.now prices.old prices.new }
     ensures improved { IfOk result
         (IsImprovedBy instance.now (windows_in windows.now) (points_in network) [] prices.new 0) }
 {

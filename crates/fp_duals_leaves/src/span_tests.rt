@@ -1,11 +1,13 @@
 //! Whether spans that are proposed are of the instance and keep their rules.
 ghost use Rattle.std.specs.Prelude.{All, IfOk};
 ghost use Rattle.std.specs.Bool.{OnTrue};
-ghost use Rattle.fp_certificate_lines.specs.Ranges.{IsSpanInRange, IsWeightInRange};
+ghost use Rattle.fp_flatnet.specs.Belonging.{BelongsTo};
+ghost use Rattle.fp_certificate_lines.specs.Ranges.{IsGroupInRange, IsSpanInRange, IsWeightInRange};
 ghost use Rattle.fp_duals_leaves.specs.SoundSpans.{AreSoundSpans};
 
 use crate::NoMemory;
 use fp_certificate_lines::LARGEST_FIGURE;
+use fp_flatnet::{Windows, initial};
 use fp_model::Instance;
 use fp_model::limits::LATEST;
 use fp_prices::Weight;
@@ -21,6 +23,13 @@ fn weights_in_range(instance: &Instance, weights: &[Weight]) -> bool
         && weight.w <= LARGEST_FIGURE)
 }
 
+// Whether the moments at which groups begin are small enough for a certificate.
+fn groups_in_range(groups: &[u32]) -> bool
+    ensures { OnTrue result (All IsGroupInRange groups.now) }
+{
+    groups.iter().all(|moment| *moment <= LATEST)
+}
+
 // Whether a span is of an arc and of shipments that exist, and its numbers are small enough for a
 // certificate.
 fn is_in_range(instance: &Instance, span: &Span) -> bool
@@ -32,6 +41,7 @@ fn is_in_range(instance: &Instance, span: &Span) -> bool
         && span.money <= LARGEST_FIGURE
         && span.charge <= LARGEST_FIGURE
         && weights_in_range(instance, &span.weights)
+        && groups_in_range(&span.groups)
 }
 
 // Whether all spans are so.
@@ -47,19 +57,22 @@ fn are_in_range(instance: &Instance, spans: &[Span]) -> bool
 }
 
 /// Whether spans are sound: of arcs and shipments that exist, in range for a certificate, in order,
-/// within the limit of their weights, and within both rules, so that values by them bound plans.
-/// `NoMemory` only where no memory is found.
+/// within the limit of their weights, and within both rules, by the windows and the initial points,
+/// so that values by them bound plans. The windows belong to the instance. `NoMemory` only where no
+/// memory is found.
 pub(crate) fn are_sound(
     alloc: Global,
     instance: &Instance,
+    windows: &Windows,
     spans: &[Span],
 ) -> Result<bool, NoMemory>
-    ensures { IfOk result (λ sound. OnTrue sound (AreSoundSpans instance.now spans.now)) }
+    requires { BelongsTo instance.now windows.now }
+    ensures { IfOk result (λ sound.
+        OnTrue sound (AreSoundSpans instance.now windows.now spans.now)) }
 {
     if spans.len() >= u32::MAX as usize || !are_in_range(instance, spans) {
         return Ok(false);
     }
-    // An instance is valid, so spans that are paid keep both rules.
-    let _known = instance.arcs();
-    are_paid(alloc, instance, spans)
+    let points = initial(alloc, instance, windows)?;
+    are_paid(alloc, instance, windows, &points, spans)
 }

@@ -13,9 +13,10 @@ use fp_longestarcs::TimedWalk;
 use fp_prices::{Leaf, LeafPrice};
 use std::alloc::Global;
 
-/// An allowed timed walk of each shipment at a leaf, where spans stand beside the table of the leaf's
-/// price and such walks are found: of least cost by these spans, and sharing trucks. Only that they
-/// are allowed is promised. The nets are those of the leaf. `NoMemory` only where no memory is found.
+/// An allowed timed walk of each shipment at a leaf, where spans stand beside the table of the
+/// leaf's price and such walks are found: of least cost by these spans, and sharing trucks. Only
+/// that they are allowed is promised. The nets are those of the leaf. `NoMemory` only where no
+/// memory is found.
 pub fn walks_by_spans(
     alloc: Global,
     leaf: &Leaf,
@@ -23,7 +24,7 @@ pub fn walks_by_spans(
     price: LeafPrice,
     prices: &Prices,
 ) -> Result<Option<Vec<TimedWalk>>, NoMemory>
-    requires prices { ArePrices leaf.now.setting.problem prices.now }
+    requires prices { ArePrices leaf.now.setting.problem leaf.now.setting.windows prices.now }
     requires kind { HasKind prices.now.tables price.kind }
     ensures { IfOk result (λ found. IfSome found (λ walks. AreAllowedWalks leaf.now walks.items)) }
 {

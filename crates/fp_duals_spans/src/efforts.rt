@@ -25,6 +25,14 @@ pub struct SpanEffort {
     pub settle_passes: u32,
     /// How many times spans of several classes may be laid over those that are there.
     pub joins: u32,
+    /// The most steps of the subgradient ascent over whole arcs; 0 leaves that search out.
+    pub arc_turns: u32,
+    /// After more steps than this with little gain, its target comes nearer.
+    pub arc_patience: u32,
+    /// The most steps of the ascent after it, in which groups are merged; 0 leaves it out.
+    pub merged_turns: u32,
+    /// How far above the best value its first target lies, as `level`.
+    pub merged_level: u32,
 }
 
 impl SpanEffort {
@@ -39,5 +47,9 @@ impl SpanEffort {
         loads: 512,
         settle_passes: 5,
         joins: 3,
+        arc_turns: 4000,
+        arc_patience: 60,
+        merged_turns: 2000,
+        merged_level: 4 << 10,
     };
 }

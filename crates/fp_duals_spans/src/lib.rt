@@ -20,10 +20,12 @@ mod efforts;
 mod inherited_spans;
 mod keeping;
 mod leaf_searches;
+mod moments;
 mod proposals;
 mod searches;
 mod separation;
 mod starts;
+mod whole_arcs;
 
 pub use efforts::SpanEffort;
 pub use leaf_searches::{StartPrices, proposed_spans, proposed_walks};

@@ -21,13 +21,15 @@ pub(crate) struct Search<'a> {
     pub layout: Layout,
     pub prices: SpanPrices,
     pub effort: &'a SpanEffort,
+    /// Whether neighbouring groups are merged that are charged no more together.
+    pub merges: bool,
 }
 
-// What was found, and its value.
+/// What was found, and its value.
 #[derive(Drop)]
-struct Found {
-    value: u64,
-    spans: Vec<Span>,
+pub(crate) struct Found {
+    pub value: u64,
+    pub spans: Vec<Span>,
 }
 
 // Whether a value is above another by no more than a part in 4096.
@@ -54,8 +56,8 @@ fn proposed(
 }
 
 impl<'a> Search<'a> {
-    // Spans by prices near those that the ascent came to, which stay.
-    fn settled<D: Deadline>(
+    /// Spans by prices near those that the ascent came to, which stay.
+    pub(crate) fn settled<D: Deadline>(
         &self,
         resources: &Resources<D>,
         model: &mut LeafNets,
@@ -68,13 +70,14 @@ impl<'a> Search<'a> {
             &mut model.nets,
             &mut prices,
             passes,
+            self.merges,
         )?;
         let spans = proposed(resources.alloc, model, &self.layout, &prices)?;
         Ok(Found { value, spans })
     }
 
-    // The ascent; what it came to over all turns.
-    fn ascend<D: Deadline>(
+    /// The ascent; what it came to over all turns.
+    pub(crate) fn ascend<D: Deadline>(
         &mut self,
         resources: &Resources<D>,
         model: &mut LeafNets,
@@ -85,6 +88,7 @@ impl<'a> Search<'a> {
             &mut model.nets,
             &mut self.prices,
             self.effort,
+            self.merges,
         )
     }
 
@@ -94,6 +98,7 @@ impl<'a> Search<'a> {
             layout,
             prices,
             effort,
+            merges,
         } = self;
         let layout = layout.join(alloc, nets, runs)?;
         let prices = prices.extend(&layout)?;
@@ -101,6 +106,7 @@ impl<'a> Search<'a> {
             layout,
             prices,
             effort,
+            merges,
         })
     }
 
@@ -110,18 +116,20 @@ impl<'a> Search<'a> {
         separate(alloc, &self.layout, &self.prices, averages, shipments)
     }
 
-    /// The best spans that are found.
-    pub(crate) fn best_spans<D: Deadline>(
+    /// The best that is found. Spans are joined only as long as it's worth no less than what is
+    /// known.
+    pub(crate) fn best<D: Deadline>(
         self,
         resources: &Resources<D>,
         model: &mut LeafNets,
-    ) -> Result<Vec<Span>, NoMemory> {
+        known: u64,
+    ) -> Result<Found, NoMemory> {
         let mut search = self;
         let mut averages = search.ascend(resources, model)?;
         let mut best = search.settled(resources, model)?;
         let mut before = best.value;
         for _ in 0..search.effort.joins {
-            if resources.is_over() {
+            if best.value < known || resources.is_over() {
                 break;
             }
             let runs = search.runs(resources.alloc, &model.nets, &averages)?;
@@ -140,6 +148,6 @@ impl<'a> Search<'a> {
                 break;
             }
         }
-        Ok(best.spans)
+        Ok(best)
     }
 }

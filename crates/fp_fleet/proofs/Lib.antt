@@ -16,3 +16,12 @@ pub mod GreatestDeficits
 pub mod NeedsInTables
 pub mod MovedTurns
 pub mod FewestFleets
+pub mod RunLists
+pub mod RunLoads
+pub mod WaitingTrucks
+pub mod QueueSteps
+pub mod TruckCounts
+pub mod GivenTrucks
+pub mod DayTexts
+pub mod RisingDays
+mod DayExamples

@@ -7,3 +7,6 @@ pub mod Rows
 pub mod Arrivals
 pub mod Sweeps
 pub mod NeedTables
+pub mod TruckDays
+pub mod Queues
+pub mod DayRows

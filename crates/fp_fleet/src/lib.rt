@@ -7,18 +7,25 @@
 
 mod acceptance;
 mod arrivals;
+mod day_lines;
+mod days;
 mod deficits;
 mod fewest_trucks;
 mod fleets;
 mod needs;
 mod orders;
+mod queues;
 mod rosters;
+mod single_trucks;
 mod sweeps;
 mod writing;
 
 pub use acceptance::accepts;
+pub use day_lines::write_trucks;
+pub use days::{MOST_RUNS, Run, TruckDays};
 pub use fewest_trucks::fewest;
 pub use fleets::{Begin, Fleet, Need, Turn};
+pub use single_trucks::truck_days;
 pub use writing::write;
 
 /// The error of a call that finds no memory.

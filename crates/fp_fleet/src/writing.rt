@@ -17,7 +17,7 @@ use fp_timetable::{TruckLine, trucks};
 use std::alloc::Global;
 
 // Adds `fleet` and how many trucks there are.
-fn write_total(line: &mut Line, total: u128) -> Result<(), NoMemory>
+pub(crate) fn write_total(line: &mut Line, total: u128) -> Result<(), NoMemory>
     requires begun { line.old.begun ≡ false }
     ensures text { OnOk result (line.new.text ≡ line.old.text ++ line_of (fleet_fields total)) }
     ensures ended { OnOk result (line.new.begun ≡ false) }
@@ -28,7 +28,7 @@ fn write_total(line: &mut Line, total: u128) -> Result<(), NoMemory>
 }
 
 // Adds `end`.
-fn write_end(line: &mut Line) -> Result<(), NoMemory>
+pub(crate) fn write_end(line: &mut Line) -> Result<(), NoMemory>
     requires begun { line.old.begun ≡ false }
     ensures text { OnOk result (line.new.text ≡ line.old.text ++ line_of end_fields) }
 {
@@ -45,7 +45,11 @@ fn write_name(line: &mut Line, instance: &Instance, terminal: u32) -> Result<(),
 }
 
 // Adds the name of the terminal that a truck line leaves.
-fn write_from(line: &mut Line, instance: &Instance, run: &TruckLine) -> Result<(), NoMemory>
+pub(crate) fn write_from(
+    line: &mut Line,
+    instance: &Instance,
+    run: &TruckLine,
+) -> Result<(), NoMemory>
     requires { TruckExists instance.now run.now }
     ensures { OnOk result (line.new ≡ with_field line.old (name_of instance.now (tail_of instance.now run.now))) }
 {
@@ -53,7 +57,11 @@ fn write_from(line: &mut Line, instance: &Instance, run: &TruckLine) -> Result<(
 }
 
 // Adds the name of the terminal where a truck line ends.
-fn write_to(line: &mut Line, instance: &Instance, run: &TruckLine) -> Result<(), NoMemory>
+pub(crate) fn write_to(
+    line: &mut Line,
+    instance: &Instance,
+    run: &TruckLine,
+) -> Result<(), NoMemory>
     requires { TruckExists instance.now run.now }
     ensures { OnOk result (line.new ≡ with_field line.old (name_of instance.now (head_of instance.now run.now))) }
 {
@@ -75,7 +83,11 @@ fn write_need(line: &mut Line, instance: &Instance, need: &Need) -> Result<(), N
 }
 
 // Adds the lines of needs.
-fn write_needs(line: &mut Line, instance: &Instance, needs: &[Need]) -> Result<(), NoMemory>
+pub(crate) fn write_needs(
+    line: &mut Line,
+    instance: &Instance,
+    needs: &[Need],
+) -> Result<(), NoMemory>
     requires begun { line.old.begun ≡ false }
     requires exist { All (λ (n : Need). n.terminal < length instance.now.terminals) needs.now }
     ensures text { OnOk result
@@ -112,7 +124,7 @@ fn write_begin(
 }
 
 // Adds the lines of begins.
-fn write_begins(
+pub(crate) fn write_begins(
     line: &mut Line,
     instance: &Instance,
     lines: &[TruckLine],
@@ -157,7 +169,7 @@ fn write_turn(
 }
 
 // Adds the lines of turns.
-fn write_turns(
+pub(crate) fn write_turns(
     line: &mut Line,
     instance: &Instance,
     lines: &[TruckLine],

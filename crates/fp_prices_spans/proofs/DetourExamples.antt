@@ -3,6 +3,7 @@
 -- whichever way it goes. By linear prices they pay 150, by spans without a charge 180.
 use Rattle.std.proofs.Common.{◌≡◌, ℕ, ◌+◌, ◌*◌, zero, suc, ◌<◌, ◌≤◌, Bool, true, false, List, [], ◌∷◌, ◌⊎◌, ⊎_elim, inl, inr, refl, sym, ap, ◌∙◌, arith, lit<, lit≤, rules}
 use Rattle.std.specs.Prelude.{Option, Some, None, IsSomeAnd, sum_by, nat_eq, ◌&&◌}
+use Rattle.std.specs.List.{AllZip}
 use Rattle.std.specs.Int.{div_ceil}
 use Rattle.std.proofs.lemmas.Bool.{false≢true}
 use Rattle.std.proofs.lemmas.List.Sums.{sum_by-cons}
@@ -20,10 +21,11 @@ use Rattle.fp_allowed.specs.Walks.{IsTimedWalk}
 use Rattle.fp_allowed.proofs.AllowedClasses.{HasMoment, is_allowed_parts}
 use Rattle.fp_prices.specs.declared.leaf_prices.Kind.TheVariants.{Linear}
 use Rattle.fp_prices.specs.Leaves.{IsLeastCost, IsPlanOfLeaf}
+use Rattle.fp_prices_spans.specs.MomentRuns.{group_weights, runs_of}
 use Rattle.fp_prices_spans.specs.Spans.{ClassSpan}
 use Rattle.fp_prices_spans.specs.SpanLeaves.{IsChargeOf, IsSpanLeafValue}
 use Rattle.fp_prices_spans.specs.SpanPrices.{leaf_span_price}
-use Rattle.fp_prices_spans.specs.SpanRules.{KeepSpanRules}
+use Rattle.fp_prices_spans.specs.SpanRules.{KeepSpanRules, KeepWithin, KeepsSetRule}
 use Rattle.fp_prices_spans.proofs.EqualWeights.{by_count}
 use Rattle.fp_prices_spans.proofs.SpanBounds.{span_leaf-bounds}
 
@@ -111,23 +113,27 @@ each a w = record {
   money = w;
   charge = 0;
   weights = (record { shipment = 0; w = w }) ∷ (record { shipment = 1; w = w }) ∷ (record { shipment = 2; w = w }) ∷ [];
+  groups = [];
 }
 
 abbrev three : List ClassSpan
 three = each 0 60000000 ∷ each 1 30000000 ∷ each 2 30000000 ∷ []
 
-keep : KeepSpanRules detour three
+keep : KeepSpanRules detour windows points three
 keep = record {
   money = (lit≤ tt, (lit≤ tt, (lit≤ tt, tt)));
   sets = (
-    by_count detour (each 0 60000000) 60000000 5 3 ((refl, refl, lit< tt), ((refl, refl, lit< tt), ((refl, refl, lit< tt), tt))) whole,
+    without_charge (each 0 60000000) (by_count detour 0 60000000 (each 0 60000000).weights 0 60000000 5 ((refl, refl), ((refl, refl), ((refl, refl), tt))) whole, tt),
     (
-      by_count detour (each 1 30000000) 30000000 5 3 ((refl, refl, lit< tt), ((refl, refl, lit< tt), ((refl, refl, lit< tt), tt))) half,
-      (by_count detour (each 2 30000000) 30000000 5 3 ((refl, refl, lit< tt), ((refl, refl, lit< tt), ((refl, refl, lit< tt), tt))) half, tt),
+      without_charge (each 1 30000000) (by_count detour 1 30000000 (each 1 30000000).weights 0 30000000 5 ((refl, refl), ((refl, refl), ((refl, refl), tt))) half, tt),
+      (without_charge (each 2 30000000) (by_count detour 2 30000000 (each 2 30000000).weights 0 30000000 5 ((refl, refl), ((refl, refl), ((refl, refl), tt))) half, tt), tt),
     ),
   );
 }
   where
+    without_charge : (span : ClassSpan) → AllZip (λ run part. KeepWithin detour span.arc span.money (group_weights windows span run) part) (runs_of detour points span) (0 ∷ []) → KeepsSetRule detour windows points span
+    without_charge span within = record { parts = 0 ∷ []; enough = omega arith; keep = within }
+
     whole : (m : ℕ) → 1 ≤ m → m ≤ 3 → m * 60000000 ≤ 60000000 * div_ceil (m * 5) 6 + 0
     whole zero some few = omega arith
     whole (suc zero) some few = lit≤ tt
@@ -206,4 +212,4 @@ valid = record {
 
 -- so no plan costs less than 180
 no_cheaper : (d : ℕ) (plan : List (List Leg)) → IsPlanOfLeaf detour windows [] d plan → 180 ≤ cost detour plan
-no_cheaper d plan of_leaf = omega (arith, span_leaf-bounds detour windows points [] [] three Linear false 180000000 valid tt keep value d plan of_leaf)
+no_cheaper d plan of_leaf = omega (arith, span_leaf-bounds detour windows points points [] [] three Linear false 180000000 valid (λ t q lt h. h) tt keep value d plan of_leaf)

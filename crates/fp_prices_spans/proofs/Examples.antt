@@ -18,10 +18,11 @@ use Rattle.fp_allowed.specs.Walks.{IsTimedWalk}
 use Rattle.fp_allowed.proofs.AllowedClasses.{HasMoment, is_allowed_parts}
 use Rattle.fp_prices.specs.declared.leaf_prices.Kind.TheVariants.{Linear}
 use Rattle.fp_prices.specs.Leaves.{IsLeastCost, IsPlanOfLeaf}
+use Rattle.fp_prices_spans.specs.MomentRuns.{group_weights, runs_of}
 use Rattle.fp_prices_spans.specs.Spans.{ClassSpan}
 use Rattle.fp_prices_spans.specs.SpanLeaves.{IsCharged, IsChargeOf, IsSpanLeafValue}
 use Rattle.fp_prices_spans.specs.SpanPrices.{holds, leaf_span_price, money_at, span_price}
-use Rattle.fp_prices_spans.specs.SpanRules.{IsSetOf, KeepSpanRules, KeepsMoneyRule, KeepsSetRule}
+use Rattle.fp_prices_spans.specs.SpanRules.{IsSetOf, KeepSpanRules, KeepWithin, KeepsMoneyRule, KeepsSetRule}
 use Rattle.fp_prices_spans.proofs.EqualWeights.{by_count}
 use Rattle.fp_prices_spans.proofs.SpanBounds.{span_leaf-bounds}
 
@@ -127,6 +128,7 @@ whole charge = record {
   money = 60000000;
   charge = charge;
   weights = (record { shipment = 0; w = 60000000 }) ∷ (record { shipment = 1; w = 60000000 }) ∷ [];
+  groups = [];
 }
 
 -- it holds for a class that is allowed for the first shipment
@@ -142,8 +144,11 @@ once : IsSpanLeafValue road windows (points both) [] [] (whole 60000000 ∷ []) 
 once = plain both (whole 60000000 ∷ []) 0 1 (60000000 ∷ []) refl refl (lit≤ tt) (lit≤ tt) (lit≤ tt) (lit≤ tt) (whole_charged both 60000000 refl, tt)
 
 -- a charge of 60 keeps the rules, and a part less doesn't
-whole_keeps : KeepSpanRules road (whole 60000000 ∷ [])
-whole_keeps = record { money = (lit≤ tt, tt); sets = (by_count road (whole 60000000) 60000000 5 2 ((refl, refl, lit< tt), ((refl, refl, lit< tt), tt)) fits, tt) }
+whole_keeps : KeepSpanRules road windows (points both) (whole 60000000 ∷ [])
+whole_keeps = record {
+  money = (lit≤ tt, tt);
+  sets = (record { parts = 60000000 ∷ []; enough = lit≤ tt; keep = (by_count road 0 60000000 (whole 60000000).weights 60000000 60000000 5 ((refl, refl), ((refl, refl), tt)) fits, tt) }, tt);
+}
   where
     fits : (m : ℕ) → 1 ≤ m → m ≤ 2 → m * 60000000 ≤ 60000000 * div_ceil (m * 5) 10 + 60000000
     fits zero some few = omega arith
@@ -154,13 +159,19 @@ whole_keeps = record { money = (lit≤ tt, tt); sets = (by_count road (whole 600
 two : IsSetOf (whole 0).weights (0 ∷ 1 ∷ [])
 two = record { some = λ e. omega (arith, ap length e); apart = AreDistinct-cons 0 (1 ∷ []) ((λ e. omega (arith, e)), tt) (AreDistinct-cons 1 [] tt AreDistinct-nil); among = (refl, (refl, tt)) }
 
-whole_breaks : KeepsSetRule road (whole 59999999) → ⊥
-whole_breaks rule = absurd (omega (arith, rule (0 ∷ 1 ∷ []) two))
+whole_breaks : KeepsSetRule road windows (points both) (whole 59999999) → ⊥
+whole_breaks rule = by_part rule.parts rule.enough rule.keep
+  where
+    by_part : (parts : List ℕ) → sum_by (λ (n : ℕ). n) parts ≤ 59999999 →
+        AllZip (λ run part. KeepWithin road 0 60000000 (group_weights windows (whole 59999999) run) part) (runs_of road (points both) (whole 59999999)) parts → ⊥
+    by_part [] enough keep = keep
+    by_part (part ∷ []) enough keep = absurd (omega (arith, keep.0 (0 ∷ 1 ∷ []) two, enough))
+    by_part (part ∷ more ∷ parts) enough keep = keep.1
 
 -- so no plan costs less than 60
 no_cheaper : (d : ℕ) (plan : List (List Leg)) → IsPlanOfLeaf road windows [] d plan → 60 ≤ cost road plan
 no_cheaper d plan of_leaf =
-    omega (arith, span_leaf-bounds road windows (points both) [] [] (whole 60000000 ∷ []) Linear false 60000000 valid tt whole_keeps once d plan of_leaf)
+    omega (arith, span_leaf-bounds road windows (points both) (points both) [] [] (whole 60000000 ∷ []) Linear false 60000000 valid (λ t q lt h. h) tt whole_keeps once d plan of_leaf)
   where
     valid : IsValid road
     valid = record {
@@ -184,7 +195,7 @@ no_cheaper d plan of_leaf =
 
 -- a span of the class of 0, by which the first shipment pays, and one of the classes of 0 and 1, by which both pay
 abbrev short : ℕ → ClassSpan
-short money = record { arc = 0; point = 0; until = 1; money = money; charge = 0; weights = (record { shipment = 0; w = 20000000 }) ∷ [] }
+short money = record { arc = 0; point = 0; until = 1; money = money; charge = 0; weights = (record { shipment = 0; w = 20000000 }) ∷ []; groups = [] }
 
 abbrev long : ClassSpan
 long = record {
@@ -194,6 +205,7 @@ long = record {
   money = 40000000;
   charge = 40000000;
   weights = (record { shipment = 0; w = 40000000 }) ∷ (record { shipment = 1; w = 40000000 }) ∷ [];
+  groups = [];
 }
 
 abbrev over : List ClassSpan
@@ -213,12 +225,12 @@ one_price = refl
 no_money : money_at over (leg 2) ≡ 0
 no_money = refl
 
-over_keep : KeepSpanRules road over
+over_keep : KeepSpanRules road windows (points both) over
 over_keep = record {
   money = (lit≤ tt, (lit≤ tt, tt));
   sets = (
-    by_count road (short 20000000) 20000000 5 1 ((refl, refl, lit< tt), tt) fits_one,
-    (by_count road long 40000000 5 2 ((refl, refl, lit< tt), ((refl, refl, lit< tt), tt)) fits_two, tt),
+    record { parts = 0 ∷ []; enough = lit≤ tt; keep = (by_count road 0 20000000 (short 20000000).weights 0 20000000 5 ((refl, refl), tt) fits_one, tt) },
+    (record { parts = 40000000 ∷ []; enough = lit≤ tt; keep = (by_count road 0 40000000 long.weights 40000000 40000000 5 ((refl, refl), ((refl, refl), tt)) fits_two, tt) }, tt),
   );
 }
   where
@@ -247,7 +259,7 @@ over_value =
 
 -- a span that holds for no class of the leaf takes nothing off
 abbrev far : ClassSpan
-far = record { arc = 0; point = 2; until = 9; money = 60000000; charge = 10000000; weights = [] }
+far = record { arc = 0; point = 2; until = 9; money = 60000000; charge = 10000000; weights = []; groups = [] }
 
 far_uncharged : IsCharged road (allows both) ([] ∷ [] ∷ []) far → ⊥
 far_uncharged is =

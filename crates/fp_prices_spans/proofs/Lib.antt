@@ -3,6 +3,15 @@ pub mod PassingUsers
 pub mod MoneySums
 pub mod WeightSets
 pub mod CountedParts
+pub mod SpanMoments
+pub mod FirstPoints
+pub mod SameFirst
+pub mod RunPlaces
+pub mod GroupItems
+pub mod ChargeParts
+pub mod GroupUsers
+pub mod DepartureTrucks
+pub mod ClassTrucks
 pub mod SpanPays
 pub mod ClassSums
 pub mod SpanOrders
@@ -32,3 +41,4 @@ pub mod SpanAppends
 mod EqualWeights
 mod Examples
 mod DetourExamples
+mod GroupExamples

@@ -1,8 +1,8 @@
 -- What shipments pay in several parts.
-use Rattle.std.proofs.Common.{◌≡◌, ℕ, ◌+◌, List, [], ◌∷◌, refl, arith}
+use Rattle.std.proofs.Common.{◌≡◌, ℕ, ◌+◌, List, [], ◌∷◌, map, refl, arith}
 use Rattle.std.specs.Prelude.{sum_by}
 use Rattle.std.proofs.lemmas.List.Sums.{sum_by-cons}
-use Rattle.fp_base_lists.proofs.Sums.{sum_by-both, sum_by-const, sum_by-same}
+use Rattle.fp_base_lists.proofs.Sums.{sum_by-both, sum_by-const, sum_by-map, sum_by-same}
 use Rattle.fp_model.specs.declared.parts.Leg.{Leg}
 use Rattle.fp_prices.proofs.TakenByClasses.{paid}
 
@@ -16,9 +16,14 @@ pub paid-both : (f g : Leg → ℕ → ℕ) (i : ℕ) (walks : List (List Leg)) 
 paid-both f g i [] = refl
 paid-both f g i (walk ∷ walks) = omega (arith, sum_by-both (λ c. f c i) (λ c. g c i) walk, paid-both f g (i + 1) walks)
 
-paid-zero : (i : ℕ) (walks : List (List Leg)) → paid (λ c k. 0) i walks ≡ 0
+pub paid-zero : (i : ℕ) (walks : List (List Leg)) → paid (λ c k. 0) i walks ≡ 0
 paid-zero i [] = refl
 paid-zero i (walk ∷ walks) = omega (arith, sum_by-const {X = Leg} 0 walk, paid-zero (i + 1) walks)
+
+-- what is paid for the images of legs
+pub paid-map : (f : Leg → ℕ → ℕ) (g : Leg → Leg) (i : ℕ) (walks : List (List Leg)) → paid f i (map (map g) walks) ≡ paid (λ l k. f (g l) k) i walks
+paid-map f g i [] = refl
+paid-map f g i (walk ∷ walks) = omega (arith, sum_by-map (λ l. f l i) g walk, paid-map f g (i + 1) walks)
 
 -- prices in one part for each element of a list
 pub paid-sum_by : {X : Type 0} (f : X → Leg → ℕ → ℕ) (xs : List X) (i : ℕ) (walks : List (List Leg)) →

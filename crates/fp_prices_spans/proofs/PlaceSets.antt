@@ -1,5 +1,5 @@
 -- The set rule over the places of a span's weights gives it over sets of shipments.
-use Rattle.std.proofs.Common.{◌≡◌, ℕ, zero, suc, ◌+◌, ◌*◌, ◌<◌, ◌≤◌, Bool, true, false, cond, List, [], ◌∷◌, length, get_or, ⊎_elim, refl, sym, ap, ◌∙◌, subst, arith}
+use Rattle.std.proofs.Common.{◌≡◌, ℕ, ◌+◌, ◌*◌, ◌<◌, ◌≤◌, Bool, true, false, cond, List, [], ◌∷◌, length, get_or, ⊎_elim, refl, sym, ap, ◌∙◌, subst, arith}
 use Rattle.std.specs.Prelude.{sum_by, nat_eq, if◌then◌else◌}
 use Rattle.std.specs.Int.{div_ceil}
 use Rattle.std.proofs.Math.Nat.{mul-le-mul_left}
@@ -18,8 +18,7 @@ use Rattle.fp_model.specs.Numbered.{shipment_at}
 use Rattle.fp_model.specs.Problem.{Problem, arc_at}
 use Rattle.fp_prices.specs.declared.tables.Weight.{Weight}
 use Rattle.fp_prices.specs.Prices.{weight_in}
-use Rattle.fp_prices_spans.specs.Spans.{ClassSpan}
-use Rattle.fp_prices_spans.specs.SpanRules.{IsSetOf, KeepsSetRule, WeightsAscend, shipments_of, size_of}
+use Rattle.fp_prices_spans.specs.SpanRules.{IsSetOf, KeepWithin, WeightsAscend, shipments_of, size_of}
 use Rattle.fp_base_lists.proofs.SumsBelow.{sum_below-places}
 
 -- stands for the weight of a place that no weight has
@@ -30,14 +29,12 @@ no_weight = record { shipment = 0; w = 0 }
 abbrev pub weight_at : List Weight → ℕ → Weight
 weight_at weights place = get_or weights place no_weight
 
--- the set rule where a set is told by a test on the places of the span's weights, which some place passes
-abbrev pub KeepsPlaceRule : Problem → ClassSpan → Type 0
-KeepsPlaceRule p span =
-    (chosen : ℕ → Bool) → some_below (length span.weights) chosen ≡ true →
-    sum_below (length span.weights) (λ place. if chosen place then (weight_at span.weights place).w else 0)
-    ≤ span.money
-    * div_ceil (sum_below (length span.weights) (λ place. if chosen place then (shipment_at p (weight_at span.weights place).shipment).size else 0)) (arc_at p span.arc).capacity
-    + span.charge
+-- the set rule where a set is told by a test on the places of the weights, which some place passes
+abbrev pub KeepPlaceRule : Problem → (arc money : ℕ) → List Weight → (part : ℕ) → Type 0
+KeepPlaceRule p arc money weights part =
+    (chosen : ℕ → Bool) → some_below (length weights) chosen ≡ true →
+    sum_below (length weights) (λ place. if chosen place then (weight_at weights place).w else 0)
+    ≤ money * div_ceil (sum_below (length weights) (λ place. if chosen place then (shipment_at p (weight_at weights place).shipment).size else 0)) (arc_at p arc).capacity + part
 
 -- a value at one number counts among distinct numbers where it is one of them
 sum_by-one_of : (x n : ℕ) (set : List ℕ) → AreDistinct set → sum_by (λ k. cond (nat_eq x k) n 0) set ≤ (if list_has set x then n else 0)
@@ -76,7 +73,7 @@ weights-at_places (w ∷ weights) set apart =
     first_or_later false m n = omega arith
 
 -- values of distinct numbers that a set has sum to at most those of the set
-values-in_set : (f : ℕ → ℕ) (numbers set : List ℕ) → AreDistinct numbers → sum_by (λ x. if list_has set x then f x else 0) numbers ≤ sum_by f set
+pub values-in_set : (f : ℕ → ℕ) (numbers set : List ℕ) → AreDistinct numbers → sum_by (λ x. if list_has set x then f x else 0) numbers ≤ sum_by f set
 values-in_set f numbers [] apart = omega (arith, sum_by-const {X = ℕ} 0 numbers)
 values-in_set f numbers (k ∷ set) apart =
     let here : ℕ → ℕ = λ x. cond (nat_eq k x) (f k) 0 in
@@ -121,14 +118,13 @@ some-place weights (k ∷ set) is =
     some_below-true (length weights) at.place (λ place. list_has (k ∷ set) (weight_at weights place).shipment) inside (subst (λ (n : ℕ). list_has (k ∷ set) n ≡ true) here (list_has-first k set))
 
 -- so the rule over places gives the rule over sets
-pub set_rule-by_places : (p : Problem) (span : ClassSpan) → WeightsAscend span.weights → KeepsPlaceRule p span → KeepsSetRule p span
-set_rule-by_places p span ascend rule set is =
-    let weights : List Weight = span.weights in
-    let capacity : ℕ = (arc_at p span.arc).capacity in
+pub set_rule-by_places : (p : Problem) (arc money : ℕ) (weights : List Weight) (part : ℕ) → WeightsAscend weights → KeepPlaceRule p arc money weights part → KeepWithin p arc money weights part
+set_rule-by_places p arc money weights part ascend rule set is =
+    let capacity : ℕ = (arc_at p arc).capacity in
     let chosen : ℕ → Bool = λ place. list_has set (weight_at weights place).shipment in
     let size_if : Weight → ℕ = λ w. if list_has set w.shipment then (shipment_at p w.shipment).size else 0 in
     let fits : sum_below (length weights) (λ place. if chosen place then (weight_at weights place).w else 0)
-    ≤ span.money * div_ceil (sum_below (length weights) (λ place. if chosen place then (shipment_at p (weight_at weights place).shipment).size else 0)) capacity + span.charge =
+    ≤ money * div_ceil (sum_below (length weights) (λ place. if chosen place then (shipment_at p (weight_at weights place).shipment).size else 0)) capacity + part =
     rule chosen (some-place weights set is) in
     let sizes : sum_by size_if weights ≤ size_of p set =
     omega (
@@ -140,4 +136,4 @@ set_rule-by_places p span ascend rule set is =
     sum_below-places size_if no_weight weights in
     let trucks : div_ceil (sum_below (length weights) (λ place. if chosen place then (shipment_at p (weight_at weights place).shipment).size else 0)) capacity ≤ div_ceil (size_of p set) capacity =
     div_ceil_mono (sum_below (length weights) (λ place. if chosen place then (shipment_at p (weight_at weights place).shipment).size else 0)) (size_of p set) capacity (omega (arith, sizes, at_places)) in
-    omega (arith, weights-at_places weights set is.apart, sum_below-places (weight_if set) no_weight weights, fits, mul-le-mul_left span.money trucks)
+    omega (arith, weights-at_places weights set is.apart, sum_below-places (weight_if set) no_weight weights, fits, mul-le-mul_left money trucks)

@@ -10,6 +10,7 @@ use Rattle.fp_prices.specs.LeafPricings.{AreChainsOf, PricingModel}
 use Rattle.fp_prices.specs.Leaves.{BoundsPlans}
 use Rattle.fp_prices.specs.Prices.{AllKeepRule}
 use Rattle.fp_prices.proofs.PlanBounds.{leaves-bound-plans}
+use Rattle.fp_prices_spans.specs.MomentRuns.{AreAmong}
 use Rattle.fp_prices_spans.specs.SpanCosts.{AreBases, HasChains, IsAfterCharges, IsValueBySpans}
 use Rattle.fp_prices_spans.specs.SpanLeaves.{IsSpanBoundOf, IsSpanLeafValue}
 use Rattle.fp_prices_spans.specs.SpanRules.{KeepSpanRules}
@@ -37,9 +38,10 @@ module _ (m : PricingModel) (spans : List ClassSpan) where
       }
 
   -- a bound by spans that keep their rules bounds the plans
-  pub bound-plans : (b : LeafBound) → IsValid own → AllKeepRule own m.tables → KeepSpanRules own spans →
+  pub bound-plans : (first : ℕ → List ℕ) (b : LeafBound) → IsValid own → AreAmong own first (points_in m.leaf.setting.network) → AllKeepRule own m.tables →
+      KeepSpanRules own (windows_in m.leaf.setting.windows) first spans →
       IsSpanBoundOf own (windows_in m.leaf.setting.windows) (points_in m.leaf.setting.network) m.leaf.sides m.tables spans m.kind m.forced b → BoundsPlans own (windows_in m.leaf.setting.windows) m.leaf.sides b
-  bound-plans (Empty shipment) valid keep rules is =
+  bound-plans first (Empty shipment) valid among keep rules is =
       leaves-bound-plans.empty own (windows_in m.leaf.setting.windows) (points_in m.leaf.setting.network) m.leaf.sides (record { shipment = shipment; exists = is.exists; none = is.none })
-  bound-plans (Value value) valid keep rules is =
-      span_leaf-bounds own (windows_in m.leaf.setting.windows) (points_in m.leaf.setting.network) m.leaf.sides m.tables spans m.kind m.forced value valid keep rules is
+  bound-plans first (Value value) valid among keep rules is =
+      span_leaf-bounds own (windows_in m.leaf.setting.windows) first (points_in m.leaf.setting.network) m.leaf.sides m.tables spans m.kind m.forced value valid among keep rules is

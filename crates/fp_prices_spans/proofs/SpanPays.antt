@@ -1,141 +1,170 @@
--- What shipments pay by a span is within its money for the trucks of the classes where it counts, and its charge.
-use Rattle.std.proofs.Common.{◌≡◌, ℕ, ◌+◌, ◌*◌, ◌≤◌, Bool, true, false, List, [], ◌∷◌, length, ⊎_elim, sym, ap, ◌∙◌, arith}
-use Rattle.std.specs.Prelude.{sum_by, not, if◌then◌else◌}
-use Rattle.std.specs.List.{AllByRecursion, AllZip}
-use Rattle.std.specs.Int.{div_ceil}
+-- What shipments pay by a span is within its money for the trucks of the departures at whose classes it counts, and its charge. The
+-- departures are counted group by group: in each run of the span's moments only shipments leave that can leave in it.
+use Rattle.std.proofs.Common.{◌≡◌, ℕ, ◌+◌, ◌*◌, ◌/◌, ◌<◌, ◌≤◌, Bool, true, false, cond, List, [], ◌∷◌, length, Option, ⊎_elim, refl, sym, ap, ◌∙◌, subst, arith}
+use Rattle.std.specs.Prelude.{sum_by, ◌&&◌, not, if◌then◌else◌}
+use Rattle.std.specs.List.{AllByRecursion, AllZip, list_any}
 use Rattle.std.proofs.Math.Nat.{mul-le-mul_left}
-use Rattle.std.proofs.lemmas.Bool.{and_parts, cases_Bool, cond-true, cond-false, not-true}
+use Rattle.std.proofs.lemmas.Bool.{and_parts, cond-false, false_from_ne_true, false≢true, not-true, or_cases}
+use Rattle.std.proofs.lemmas.List.Elements.{All-get_or}
 use Rattle.std.proofs.lemmas.List.Sums.{sum_by-cons}
-use Rattle.fp_base_lists.specs.Distinct.{AreDistinct}
 use Rattle.fp_base_lists.specs.Numbered.{AllFrom}
-use Rattle.fp_base_lists.proofs.Ceilings.{div_ceil_mono, div_ceil-sum_by, div_ceil-zero}
 use Rattle.fp_base_lists.proofs.Elements.{AllByRecursion-weaker}
-use Rattle.fp_base_lists.proofs.Sums.{sum_by-const, sum_by-same}
+use Rattle.fp_base_lists.proofs.Sums.{sum_by-both, sum_by-same, sum_by-same_each}
 use Rattle.fp_model.specs.declared.parts.Leg.{Leg}
-use Rattle.fp_model.specs.Costs.{all_legs, distinct, has_leg, load, trucks}
-use Rattle.fp_model.specs.Problem.{Problem, arc_at}
-use Rattle.fp_model.specs.Routes.{arcs_of}
+use Rattle.fp_model.specs.Costs.{all_legs, distinct, has_leg, trucks}
+use Rattle.fp_model.specs.Problem.{IsArc, IsValid, Problem, arc_at, no_arc}
 use Rattle.fp_model.proofs.Distinct.{distinct_sum}
+use Rattle.fp_flatnet.specs.declared.window_tables.Window.{Window}
+use Rattle.fp_flatnet.specs.Windows.{LiesWithin}
+use Rattle.fp_longestarcs.specs.Classes.{class_of}
 use Rattle.fp_prices.specs.Prices.{weight_in}
-use Rattle.fp_prices.proofs.PlanBounds.{size_at}
-use Rattle.fp_prices.proofs.TakenByClasses.{NoneTwiceInAny, paid, paid-le, users}
-use Rattle.fp_prices.proofs.Users.{AgreesFrom, users-size}
+use Rattle.fp_prices.proofs.TakenByClasses.{paid}
+use Rattle.fp_prices_spans.specs.declared.rules.moment_runs.MomentRun.{MomentRun}
+use Rattle.fp_prices_spans.specs.MomentRuns.{AreAmong, can_leave, group_weights, lies_in, runs_of}
 use Rattle.fp_prices_spans.specs.Spans.{ClassSpan}
 use Rattle.fp_prices_spans.specs.SpanPrices.{holds}
-use Rattle.fp_prices_spans.specs.SpanRules.{KeepsSetRule, size_of, trucks_for}
+use Rattle.fp_prices_spans.specs.SpanRules.{KeepWithin, KeepsSetRule, trucks_for}
 use Rattle.fp_prices_spans.specs.SpanLeaves.{IsCharged, IsChargeOf}
 use Rattle.fp_prices_spans.proofs.CountedParts.{counts}
+use Rattle.fp_prices_spans.proofs.DepartureTrucks.{AreBy, ArePlanRoutes, one-each, tested_trucks, trucks-hold}
+use Rattle.fp_prices_spans.proofs.GroupUsers.{LieIn, users-leave}
 use Rattle.fp_prices_spans.proofs.MoneySums.{holds-true}
-use Rattle.fp_prices_spans.proofs.PassingUsers.{HasUser, OnePasses, first-user, one-passes, paid-users, users_by, users_by-apart}
-use Rattle.fp_prices_spans.proofs.WeightSets.{set-fits}
+use Rattle.fp_prices_spans.proofs.PaidSums.{paid-both, paid-same, paid-zero}
+use Rattle.fp_prices_spans.proofs.PassingUsers.{HasUser, first-user, paid-users, users_by, users_by-apart}
+use Rattle.fp_prices_spans.proofs.SpanMoments.{departure-covered}
+use Rattle.fp_prices_spans.proofs.WeightSets.{set-fits, weight-of_passing}
 
--- what is known of the walks of a plan by classes, one for each shipment
-pub record ArePlanWalks (p : Problem) (allowed : ℕ → Leg → Bool) (walks : List (List Leg)) : Type 0 where
-  pub long : length walks ≡ length p.shipments
-  pub sizes : AgreesFrom (size_at p) 0 p.shipments
-  pub once : NoneTwiceInAny walks
-  pub arcs_once : AllByRecursion (λ walk. AreDistinct (arcs_of walk)) walks
-  pub allows : AllFrom (λ k walk. AllByRecursion (λ c. allowed k c ≡ true) walk) 0 walks
+-- what shipments pay by a span for the departures that pass a test
+abbrev pub pays_for : ClassSpan → (Leg → Bool) → Leg → ℕ → ℕ
+pays_for span test l k = if test l then weight_in span.weights k else 0
 
--- a span counts at classes of its arc alone
-counts-arc : (chains : List (List Leg)) (span : ClassSpan) (c : Leg) → counts chains span c ≡ true → c.arc ≡ span.arc
-counts-arc chains span c h = sym (holds-true span c (and_parts (not (has_leg c (all_legs chains))) (holds span c) h).1).arc
+-- a number is taken by those that pass another test, and by those that don't
+two_parts : (a b : Bool) (n : ℕ) → cond a n 0 ≡ cond (a && b) n 0 + cond (a && not b) n 0
+two_parts true true n = omega arith
+two_parts true false n = omega arith
+two_parts false b n = refl
 
--- the trucks of the classes where a span counts
-abbrev pub counted_trucks : Problem → (chains walks : List (List Leg)) → ClassSpan → Leg → ℕ
-counted_trucks p chains walks span c = if counts chains span c then trucks p walks c else 0
+module _ (p : Problem) (allowed : ℕ → Leg → Bool) (windows : ℕ → ℕ → Option Window) (d : ℕ) (routes : List (List Leg)) (are : ArePlanRoutes p allowed routes) (positive : 0 < d)
+    (within : AllFrom (LiesWithin windows d) 0 routes) (span : ClassSpan) where
+  -- the money for the trucks of the departures that pass a test
+  abbrev pub money_for : (Leg → Bool) → ℕ
+  money_for test = span.money * distinct_sum (tested_trucks p routes test) (all_legs routes)
 
--- they are at least as many as hold all shipments that use these classes
-trucks-counted : (p : Problem) (allowed : ℕ → Leg → Bool) (chains walks : List (List Leg)) (span : ClassSpan) → ArePlanWalks p allowed walks → AllByRecursion (OnePasses (counts chains span)) walks →
-    trucks_for p span.arc (users_by (counts chains span) 0 walks) ≤ distinct_sum (counted_trucks p chains walks span) (all_legs walks)
-trucks-counted p allowed chains walks span are one =
-    let all : List Leg = all_legs walks in
-    let test : Leg → Bool = counts chains span in
-    let capacity : ℕ = (arc_at p span.arc).capacity in
-    let set : List ℕ = users_by test 0 walks in
-    let loaded : Leg → ℕ = λ c. if test c then load p.shipments walks c else 0 in
-    let sized : paid (λ c k. if test c then size_at p k else 0) 0 walks ≡ size_of p set = paid-users test (size_at p) 0 walks one in
-    let by_classes : paid (λ c k. if test c then size_at p k else 0) 0 walks ≤ distinct_sum (λ c. sum_by (λ k. if test c then size_at p k else 0) (users 0 walks c)) all =
-    paid-le (λ c k. if test c then size_at p k else 0) all 0 walks are.once (λ k h. h) in
-    let each : distinct_sum (λ c. sum_by (λ k. if test c then size_at p k else 0) (users 0 walks c)) all ≡ distinct_sum loaded all =
-    sum_by-same (λ c. sum_by (λ k. if test c then size_at p k else 0) (users 0 walks c)) loaded (class_load test) (distinct all) in
-    let more : div_ceil (size_of p set) capacity ≤ div_ceil (distinct_sum loaded all) capacity =
-    div_ceil_mono (size_of p set) (distinct_sum loaded all) capacity (omega (arith, sized, by_classes, each)) in
-    let apart : div_ceil (distinct_sum loaded all) capacity ≤ sum_by (λ c. div_ceil (loaded c) capacity) (distinct all) = div_ceil-sum_by loaded capacity (distinct all) in
-    let same : sum_by (λ c. div_ceil (loaded c) capacity) (distinct all) ≡ distinct_sum (counted_trucks p chains walks span) all =
-    sum_by-same (λ c. div_ceil (loaded c) capacity) (counted_trucks p chains walks span) class_trucks (distinct all) in
-    omega (arith, more, apart, same)
-  where
-    class_load : (test : Leg → Bool) (c : Leg) → sum_by (λ k. if test c then size_at p k else 0) (users 0 walks c) ≡ (if test c then load p.shipments walks c else 0)
-    class_load test c =
-        ⊎_elim
-        (λ (yes : test c ≡ true).
-        sum_by-same (λ k. if test c then size_at p k else 0) (size_at p) (λ k. cond-true (test c) (size_at p k) 0 yes) (users 0 walks c)
-        ∙ users-size (size_at p) 0 p.shipments walks c are.long are.sizes ∙ sym (cond-true (test c) (load p.shipments walks c) 0 yes))
-        (λ (no : test c ≡ false).
-        let none : sum_by (λ k. if test c then size_at p k else 0) (users 0 walks c) ≡ sum_by (λ (k : ℕ). 0) (users 0 walks c) =
-        sum_by-same (λ k. if test c then size_at p k else 0) (λ (k : ℕ). 0) (λ k. cond-false (test c) (size_at p k) 0 no) (users 0 walks c) in
-        omega (arith, none, sum_by-const {X = ℕ} 0 (users 0 walks c), cond-false (test c) (load p.shipments walks c) 0 no))
-        (cases_Bool (test c))
+  -- those of departures in one run
+  run-pays : (run : MomentRun) (part : ℕ) (test : Leg → Bool) → KeepWithin p span.arc span.money (group_weights windows span run) part → LieIn run span.arc d test →
+      paid (pays_for span test) 0 routes ≤ money_for test + part
+  run-pays run part test rule lie =
+      let group = group_weights windows span run in
+      let set : List ℕ = users_by test 0 routes in
+      let by : AreBy span.arc test = λ l passes. (lie l passes).0 in
+      let pays : paid (pays_for span test) 0 routes ≡ sum_by (weight_in span.weights) set = paid-users test (weight_in span.weights) 0 routes (one-each p allowed routes are span.arc test by) in
+      let leave : AllByRecursion (λ k. weight_in span.weights k ≡ weight_in group k) set =
+      AllByRecursion-weaker (λ k. can_leave windows run span.arc k ≡ true) (λ k. weight_in span.weights k ≡ weight_in group k)
+      (λ k can. sym (weight-of_passing (can_leave windows run span.arc) span.weights k can)) set (users-leave windows run span.arc d test 0 routes positive lie within) in
+      let same : sum_by (weight_in span.weights) set ≡ sum_by (weight_in group) set = sum_by-same_each (weight_in span.weights) (weight_in group) set leave in
+      let fits : sum_by (weight_in group) set ≤ span.money * trucks_for p span.arc set + part = set-fits p span.arc span.money group part set rule (users_by-apart test 0 routes) in
+      omega (arith, pays, same, fits, mul-le-mul_left span.money (trucks-hold p allowed routes are span.arc test by))
 
-    class_trucks : (c : Leg) → div_ceil (if counts chains span c then load p.shipments walks c else 0) (arc_at p span.arc).capacity ≡ counted_trucks p chains walks span c
-    class_trucks c =
-        let amount : ℕ = load p.shipments walks c in
-        ⊎_elim
-        (λ (yes : counts chains span c ≡ true).
-        ap (λ (n : ℕ). div_ceil n (arc_at p span.arc).capacity) (cond-true (counts chains span c) amount 0 yes)
-        ∙ ap (λ (a : ℕ). div_ceil amount (arc_at p a).capacity) (sym (counts-arc chains span c yes)) ∙ sym (cond-true (counts chains span c) (trucks p walks c) 0 yes))
-        (λ (no : counts chains span c ≡ false).
-        ap (λ (n : ℕ). div_ceil n (arc_at p span.arc).capacity) (cond-false (counts chains span c) amount 0 no)
-        ∙ div_ceil-zero (arc_at p span.arc).capacity ∙ sym (cond-false (counts chains span c) (trucks p walks c) 0 no))
-        (cases_Bool (counts chains span c))
+  -- those of departures each of which lies in one of some runs
+  runs-pay : (runs : List MomentRun) (parts : List ℕ) (test : Leg → Bool) → AllZip (λ run part. KeepWithin p span.arc span.money (group_weights windows span run) part) runs parts → AreBy span.arc test →
+      ((l : Leg) → test l ≡ true → list_any (λ run. lies_in run (l.depart / d)) runs ≡ true) → paid (pays_for span test) 0 routes ≤ money_for test + sum_by (λ (n : ℕ). n) parts
+  runs-pay [] parts test keep by cover =
+      let none : paid (pays_for span test) 0 routes ≡ paid (λ (l : Leg) (k : ℕ). 0) 0 routes =
+      paid-same (pays_for span test) (λ l k. 0) (λ l k. cond-false (test l) (weight_in span.weights k) 0 (false_from_ne_true (test l) (λ h. false≢true (cover l h)))) 0 routes in
+      omega (arith, none, paid-zero 0 routes)
+  runs-pay (run ∷ runs) [] test keep by cover = absurd keep
+  runs-pay (run ∷ runs) (part ∷ parts) test keep by cover =
+      let lies : Leg → Bool = λ l. lies_in run (l.depart / d) in
+      let here : Leg → Bool = λ l. test l && lies l in
+      let later : Leg → Bool = λ l. test l && not (lies l) in
+      let all : List Leg = all_legs routes in
+      let pay_parts : paid (pays_for span test) 0 routes ≡ paid (pays_for span here) 0 routes + paid (pays_for span later) 0 routes =
+      paid-same (pays_for span test) (λ l k. pays_for span here l k + pays_for span later l k) (λ l k. two_parts (test l) (lies l) (weight_in span.weights k)) 0 routes
+      ∙ paid-both (pays_for span here) (pays_for span later) 0 routes in
+      let truck_parts : distinct_sum (tested_trucks p routes test) all ≡ distinct_sum (tested_trucks p routes here) all + distinct_sum (tested_trucks p routes later) all =
+      sum_by-same (tested_trucks p routes test) (λ l. tested_trucks p routes here l + tested_trucks p routes later l) (λ l. two_parts (test l) (lies l) (trucks p routes l)) (distinct all)
+      ∙ sum_by-both (tested_trucks p routes here) (tested_trucks p routes later) (distinct all) in
+      let first : paid (pays_for span here) 0 routes ≤ money_for here + part =
+      run-pays run part here keep.0 (λ l h. let both = and_parts (test l) (lies l) h in (by l both.0, both.1)) in
+      let rest : paid (pays_for span later) 0 routes ≤ money_for later + sum_by (λ (n : ℕ). n) parts =
+      runs-pay runs parts later keep.1 (λ l h. by l (and_parts (test l) (not (lies l)) h).0)
+      (λ l h.
+      let both = and_parts (test l) (not (lies l)) h in
+      ⊎_elim
+      (λ (first : lies l ≡ true). absurd (false≢true (sym (not-true (lies l) both.1) ∙ first)))
+      (λ (other : list_any (λ run. lies_in run (l.depart / d)) runs ≡ true). other)
+      (or_cases (lies l) (list_any (λ run. lies_in run (l.depart / d)) runs) (cover l both.0))) in
+      omega (arith, pay_parts, ap (λ (n : ℕ). span.money * n) truck_parts, first, rest, sum_by-cons (λ (n : ℕ). n) part parts)
 
--- where some shipment uses a class at which a span counts, the span is charged
-charged : (p : Problem) (allowed : ℕ → Leg → Bool) (chains : List (List Leg)) (span : ClassSpan) → HasUser (counts chains span) allowed (length p.shipments) → IsCharged p allowed chains span
-charged p allowed chains span has =
-    let parts = and_parts (not (has_leg has.class (all_legs chains))) (holds span has.class) has.passes in
+-- whether a span counts at the class of a departure
+abbrev pub counts_at : Problem → (ℕ → List ℕ) → (d : ℕ) → List (List Leg) → ClassSpan → Leg → Bool
+counts_at p points d chains span l = counts chains span (class_of p points d l)
+
+-- it does at departures by its arc alone
+counts-by : (p : Problem) (points : ℕ → List ℕ) (d : ℕ) (chains : List (List Leg)) (span : ClassSpan) → AreBy span.arc (counts_at p points d chains span)
+counts-by p points d chains span l h =
+    let class : Leg = class_of p points d l in sym (holds-true span class (and_parts (not (has_leg class (all_legs chains))) (holds span class) h).1).arc
+
+-- where some shipment has such a departure, the span is charged
+charged : (p : Problem) (points : ℕ → List ℕ) (d : ℕ) (allowed : ℕ → Leg → Bool) (chains : List (List Leg)) (span : ClassSpan) →
+    HasUser (counts_at p points d chains span) (λ k l. allowed k (class_of p points d l)) (length p.shipments) → IsCharged p allowed chains span
+charged p points d allowed chains span has =
+    let class : Leg = class_of p points d has.class in
+    let parts = and_parts (not (has_leg class (all_legs chains))) (holds span class) has.passes in
     record {
-      class = has.class;
+      class = class;
       shipment = has.shipment;
       exists = has.below;
       allowed_for_it = has.allows;
       held = parts.1;
-      not_free = not-true (has_leg has.class (all_legs chains)) parts.0;
+      not_free = not-true (has_leg class (all_legs chains)) parts.0;
     }
 
--- what all shipments pay by a span
-span-pays : (p : Problem) (allowed : ℕ → Leg → Bool) (chains walks : List (List Leg)) (span : ClassSpan) (n : ℕ) → ArePlanWalks p allowed walks → KeepsSetRule p span → IsChargeOf p allowed chains span n →
-    paid (λ c k. if counts chains span c then weight_in span.weights k else 0) 0 walks ≤ span.money * distinct_sum (counted_trucks p chains walks span) (all_legs walks) + n
-span-pays p allowed chains walks span n are rule charge =
-    let test : Leg → Bool = counts chains span in
-    let set : List ℕ = users_by test 0 walks in
-    let one : AllByRecursion (OnePasses test) walks =
-    AllByRecursion-weaker (λ walk. AreDistinct (arcs_of walk)) (OnePasses test) (λ walk apart. one-passes test span.arc walk (counts-arc chains span) apart) walks are.arcs_once in
-    let pays : paid (λ c k. if test c then weight_in span.weights k else 0) 0 walks ≡ sum_by (weight_in span.weights) set = paid-users test (weight_in span.weights) 0 walks one in
-    ⊎_elim
-    (λ (none : set ≡ []). omega (arith, pays, ap (sum_by (weight_in span.weights)) none))
-    (λ (some : HasUser test allowed (length p.shipments)).
-    let fits : sum_by (weight_in span.weights) set ≤ span.money * trucks_for p span.arc set + span.charge = set-fits p span set rule (users_by-apart test 0 walks) in
-    let held : span.money * trucks_for p span.arc set ≤ span.money * distinct_sum (counted_trucks p chains walks span) (all_legs walks) =
-    mul-le-mul_left span.money (trucks-counted p allowed chains walks span are one) in
-    let whole : n ≡ span.charge =
-    ⊎_elim
-    (λ (yes : IsCharged p allowed chains span × (n ≡ span.charge)). yes.1)
-    (λ (no : (IsCharged p allowed chains span → ⊥) × (n ≡ 0)). absurd (no.0 (charged p allowed chains span some)))
-    charge in
-    omega (arith, pays, fits, held, whole))
-    (first-user test allowed (length p.shipments) 0 walks (omega (arith, are.long)) are.allows)
+module _ (p : Problem) (windows : ℕ → ℕ → Option Window) (first points : ℕ → List ℕ) (d : ℕ) (allowed : ℕ → Leg → Bool) (chains routes : List (List Leg)) (valid : IsValid p) (positive : 0 < d) (among : AreAmong p first points)
+    (exist : (k : ℕ) (c : Leg) → allowed k c ≡ true → c.arc < length p.arcs)
+    (are : ArePlanRoutes p (λ k l. allowed k (class_of p points d l)) routes) (within : AllFrom (LiesWithin windows d) 0 routes) where
+  abbrev of_class : ℕ → Leg → Bool
+  of_class k l = allowed k (class_of p points d l)
 
--- what they pay by all spans
-pub spans-pay : (p : Problem) (allowed : ℕ → Leg → Bool) (chains walks : List (List Leg)) (spans : List ClassSpan) (charges : List ℕ) → ArePlanWalks p allowed walks → AllByRecursion (KeepsSetRule p) spans →
-    AllZip (IsChargeOf p allowed chains) spans charges →
-    sum_by (λ span. paid (λ c k. if counts chains span c then weight_in span.weights k else 0) 0 walks) spans
-    ≤ sum_by (λ span. span.money * distinct_sum (counted_trucks p chains walks span) (all_legs walks)) spans + sum_by (λ (n : ℕ). n) charges
-spans-pay p allowed chains walks [] charges are rule is = omega arith
-spans-pay p allowed chains walks (span ∷ spans) [] are rule is = absurd is
-spans-pay p allowed chains walks (span ∷ spans) (n ∷ charges) are rule is =
-    let pays : ClassSpan → ℕ = λ s. paid (λ c k. if counts chains s c then weight_in s.weights k else 0) 0 walks in
-    let most : ClassSpan → ℕ = λ s. s.money * distinct_sum (counted_trucks p chains walks s) (all_legs walks) in
-    let here : pays span ≤ most span + n = span-pays p allowed chains walks span n are rule.0 is.0 in
-    let rest : sum_by pays spans ≤ sum_by most spans + sum_by (λ (m : ℕ). m) charges = spans-pay p allowed chains walks spans charges are rule.1 is.1 in
-    omega (arith, here, rest, sum_by-cons pays span spans, sum_by-cons most span spans, sum_by-cons (λ (m : ℕ). m) n charges)
+  -- what all shipments pay by a span
+  span-pays : (span : ClassSpan) (n : ℕ) → KeepsSetRule p windows first span → IsChargeOf p allowed chains span n →
+      paid (pays_for span (counts_at p points d chains span)) 0 routes ≤ span.money * distinct_sum (tested_trucks p routes (counts_at p points d chains span)) (all_legs routes) + n
+  span-pays span n rule charge =
+      let test : Leg → Bool = counts_at p points d chains span in
+      let by : AreBy span.arc test = counts-by p points d chains span in
+      ⊎_elim
+      (λ (none : users_by test 0 routes ≡ []).
+      let pays : paid (pays_for span test) 0 routes ≡ sum_by (weight_in span.weights) (users_by test 0 routes) =
+      paid-users test (weight_in span.weights) 0 routes (one-each p of_class routes are span.arc test by) in
+      omega (arith, pays, ap (sum_by (weight_in span.weights)) none))
+      (λ (some : HasUser test of_class (length p.shipments)).
+      let whole : n ≡ span.charge =
+      ⊎_elim
+      (λ (yes : IsCharged p allowed chains span × (n ≡ span.charge)). yes.1)
+      (λ (no : (IsCharged p allowed chains span → ⊥) × (n ≡ 0)). absurd (no.0 (charged p points d allowed chains span some)))
+      charge in
+      let arc : span.arc < length p.arcs = subst (λ (a : ℕ). a < length p.arcs) (by some.class some.passes) (exist some.shipment (class_of p points d some.class) some.allows) in
+      let tail : (arc_at p span.arc).from < length p.terminals = (All-get_or (IsArc (length p.terminals)) p.arcs span.arc no_arc arc valid.parts.arcs).from in
+      omega (
+        arith,
+        whole,
+        rule.enough,
+        runs-pay p of_class windows d routes are positive within span (runs_of p first span) rule.parts test rule.keep by
+            (λ l h.
+            let class : Leg = class_of p points d l in
+            departure-covered p first points d span l positive (λ q. among (arc_at p span.arc).from q tail) (and_parts (not (has_leg class (all_legs chains))) (holds span class) h).1),
+      ))
+      (first-user test of_class (length p.shipments) 0 routes (omega (arith, are.long)) are.allows)
+
+  -- what they pay by all spans
+  pub spans-pay : (spans : List ClassSpan) (charges : List ℕ) → AllByRecursion (KeepsSetRule p windows first) spans → AllZip (IsChargeOf p allowed chains) spans charges →
+      sum_by (λ span. paid (pays_for span (counts_at p points d chains span)) 0 routes) spans
+      ≤ sum_by (λ span. span.money * distinct_sum (tested_trucks p routes (counts_at p points d chains span)) (all_legs routes)) spans + sum_by (λ (n : ℕ). n) charges
+  spans-pay [] charges rule is = omega arith
+  spans-pay (span ∷ spans) [] rule is = absurd is
+  spans-pay (span ∷ spans) (n ∷ charges) rule is =
+      let pays : ClassSpan → ℕ = λ s. paid (pays_for s (counts_at p points d chains s)) 0 routes in
+      let most : ClassSpan → ℕ = λ s. s.money * distinct_sum (tested_trucks p routes (counts_at p points d chains s)) (all_legs routes) in
+      let here : pays span ≤ most span + n = span-pays span n rule.0 is.0 in
+      let rest : sum_by pays spans ≤ sum_by most spans + sum_by (λ (m : ℕ). m) charges = spans-pay spans charges rule.1 is.1 in
+      omega (arith, here, rest, sum_by-cons pays span spans, sum_by-cons most span spans, sum_by-cons (λ (m : ℕ). m) n charges)

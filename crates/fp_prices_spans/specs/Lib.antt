@@ -1,4 +1,5 @@
 pub mod Spans
+pub mod MomentRuns
 pub mod SpanPrices
 pub mod SpanRules
 pub mod SpanLeaves

@@ -17,6 +17,7 @@ use Rattle.fp_prices.specs.declared.leaf_prices.Kind.{Kind}
 use Rattle.fp_prices.specs.Leaves.{IsChain, IsFirstWithout, IsLeafEmpty, IsLeafValue, IsLeastCost, IsPlanOfLeaf}
 use Rattle.fp_prices.specs.Prices.{AllKeepRule}
 use Rattle.fp_prices.specs.Shares.{ClassShare}
+use Rattle.fp_prices_spans.specs.MomentRuns.{AreAmong}
 use Rattle.fp_prices_spans.specs.Spans.{ClassSpan}
 use Rattle.fp_prices_spans.specs.SpanPrices.{holds, leaf_span_price}
 use Rattle.fp_prices_spans.specs.SpanRules.{KeepSpanRules}
@@ -60,11 +61,12 @@ abbrev pub IsSmallSpanBound : Problem → LeafBound → Type 0
 IsSmallSpanBound p (Empty shipment) = Unit {0}
 IsSmallSpanBound p (Value value) = value ≤ p.scale * 65537 * alone_total p.arcs p.shipments + 2 ^ 125
 
--- every value of a leaf by spans that keep their rules, whoever finds it, bounds the plans of the leaf
+-- every value of a leaf by spans that keep their rules, whoever finds it, bounds the plans of the leaf; the spans keep the set rule by
+-- first points, which are all points of the leaf
 abbrev pub SpanValuesBoundPlans : Type 0
 SpanValuesBoundPlans =
-    (p : Problem) (windows : ℕ → ℕ → Option Window) (points : ℕ → List ℕ) (sides : List Side) (tables : List (List ClassShare)) (spans : List ClassSpan) (kind : Kind) (forced : Bool) (v : ℕ) → IsValid p →
-    AllKeepRule p tables → KeepSpanRules p spans → IsSpanLeafValue p windows points sides tables spans kind forced v →
+    (p : Problem) (windows : ℕ → ℕ → Option Window) (first points : ℕ → List ℕ) (sides : List Side) (tables : List (List ClassShare)) (spans : List ClassSpan) (kind : Kind) (forced : Bool) (v : ℕ) → IsValid p →
+    AreAmong p first points → AllKeepRule p tables → KeepSpanRules p windows first spans → IsSpanLeafValue p windows points sides tables spans kind forced v →
     (d : ℕ) (routes : List (List Leg)) → IsPlanOfLeaf p windows sides d routes → v ≤ p.scale * cost p routes
 
 -- a leaf has one value only, whatever the windows, points, sides and prices, and none where it is empty

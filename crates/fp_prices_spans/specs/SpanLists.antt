@@ -1,5 +1,5 @@
 -- What is asked of a list of spans, and the first rule that it breaks.
-use Rattle.std.specs.Prelude.{ℕ, ◌<◌, ◌≤◌, ◌-◌, ◌^◌, ◌≡◌, ◌⊎◌, List, [], length, sum_by, take, All, AllPairs, slice_index_or}
+use Rattle.std.specs.Prelude.{ℕ, ◌<◌, ◌≤◌, ◌-◌, ◌^◌, ◌≡◌, ◌⊎◌, List, [], ◌∷◌, length, sum_by, take, All, AllPairs, slice_index_or}
 use Rattle.std.specs.List.{AllByRecursion}
 use Rattle.fp_base_lists.specs.Order.{Precedes}
 use Rattle.fp_model.specs.Problem.{Problem}
@@ -14,10 +14,20 @@ use Rattle.fp_prices_spans.specs.SpanRules.{KeepsMoneyRule, WeightsAscend}
 abbrev pub StandsBefore : ClassSpan → ClassSpan → Type 0
 StandsBefore s t = (s.arc < t.arc) ⊎ ((s.arc ≡ t.arc) × Precedes s.point s.until t.point t.until)
 
--- spans in order: they ascend strictly, and in each span the weights ascend strictly
+-- moments ascend strictly, from one through some to another
+abbrev pub AscendBetween : (from : ℕ) → List ℕ → (until : ℕ) → Type 0
+AscendBetween from [] until = from < until
+AscendBetween from (m ∷ moments) until = (from < m) × AscendBetween m moments until
+
+-- the moments of a span ascend strictly: its point, those at which further groups begin, and the one where it ends
+abbrev pub MomentsAscend : ClassSpan → Type 0
+MomentsAscend span = AscendBetween span.point span.groups span.until
+
+-- spans in order: they ascend strictly, and in each span the weights and the moments ascend strictly
 pub record AreSpansInOrder (spans : List ClassSpan) : Type 0 where
   pub ascend : AllPairs StandsBefore spans
   pub weights : All (λ (span : ClassSpan). WeightsAscend span.weights) spans
+  pub moments : All MomentsAscend spans
 
 -- the weights of all spans together
 abbrev pub weight_total : List ClassSpan → ℕ
@@ -47,7 +57,7 @@ pub record AreSpans (p : Problem) (spans : List ClassSpan) : Type 0 where
 
 -- stands for the span of a number that no span has
 abbrev pub no_span : ClassSpan
-no_span = record { arc = 0; point = 0; until = 0; money = 0; charge = 0; weights = [] }
+no_span = record { arc = 0; point = 0; until = 0; money = 0; charge = 0; weights = []; groups = [] }
 
 -- the span with a number, counted from 0
 abbrev pub span_at : List ClassSpan → ℕ → ClassSpan

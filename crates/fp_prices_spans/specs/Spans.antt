@@ -2,8 +2,8 @@
 use Rattle.std.specs.Prelude.{ℕ, List}
 use Rattle.fp_prices.specs.declared.tables.Weight.{Weight}
 
--- a run of the classes of an arc, from a point up to and without another, with a part of the truck's money, what is charged once, and
--- a weight for each of some shipments
+-- a run of the classes of an arc, from a point up to and without another, with a part of the truck's money, what is charged once, a
+-- weight for each of some shipments, and the moments at which further groups begin
 pub record ClassSpan : Type 0 where
   pub arc : ℕ
   pub point : ℕ
@@ -11,3 +11,4 @@ pub record ClassSpan : Type 0 where
   pub money : ℕ
   pub charge : ℕ
   pub weights : List Weight
+  pub groups : List ℕ

@@ -12,8 +12,8 @@ use crate::spans::MOST_SPAN_WEIGHT;
 /// A plan of a leaf lies within the windows and obeys the leaf's sides. Its departures may be any
 /// fractions of the unit of time. The value counts parts of a unit of money, so it is compared with
 /// the scale times the plan's cost. The instance is valid, the shares of all tables keep the price
-/// rule, and the spans keep the money rule and the set rule. An empty leaf has no plan, which is a
-/// law of fp_prices.
+/// rule, and the spans keep the money rule and, by these windows and by first points that are all
+/// points of the leaf, the set rule. An empty leaf has no plan, which is a law of fp_prices.
 pub fn span_values_bound_plans()
     ensures { SpanValuesBoundPlans }
 {}
@@ -32,13 +32,13 @@ pub fn values_without_spans()
     ensures { ValuesWithoutSpans }
 {}
 
-/// Spans that are in order with their weights, keep the money rule, and whose charges pay, keep both
-/// rules of spans. The instance is valid, and the spans are of arcs, and their weights of shipments,
-/// that exist.
+/// Spans that are in order with their weights and groups, keep the money rule, and whose charges
+/// pay, keep both rules of spans, by the same windows and first points, whatever these are. The
+/// instance is valid, and the spans are of arcs, and their weights of shipments, that exist.
 ///
-/// So what [`crate::check_spans`] and [`crate::check_charges`] find is what the bound asks. They ask
-/// more: a charge pays where the sizes of a set are counted in grains, rounded down, and the rule
-/// asks for the true size of the set.
+/// So what [`crate::check_spans`] and [`crate::check_charges`] find is what the bound asks. They
+/// ask more: a charge pays where the sizes of a set are counted in grains, rounded down, and the
+/// rule asks for the true size of the set.
 pub fn sound_spans_keep_rules()
     ensures { SoundSpansKeepRules }
 {}

@@ -14,8 +14,16 @@ pub const MOST_SPAN_WEIGHT: u128 = 1 << 100;
 /// shipment pays its weight in each class that it uses, and nothing where it has none. `charge` is
 /// what the weights of shipments may pass the money of their trucks by; a leaf is worth so much
 /// less where the span holds for a class that counts. All three count parts of a unit of money, of
-/// which the instance's scale makes one. Contracts see a span as the record of its numbers and its
-/// list of weights (`ClassSpan`).
+/// which the instance's scale makes one.
+///
+/// Shipments whose windows share no moment never leave together. So the moments of the span, from
+/// `point` on, are divided into runs, and each departure lies in one of them: `groups` has the
+/// moments, in the input's unit of time, at which further groups of departures begin. They ascend
+/// strictly, after `point` and before `until`. The charge has a part for each run, where only the
+/// shipments count that can leave in the run. Without groups there is one run.
+///
+/// Contracts see a span as the record of its numbers, its list of weights and its list of groups
+/// (`ClassSpan`).
 #[derive(Drop)]
 pub struct Span {
     pub arc: u32,
@@ -24,6 +32,7 @@ pub struct Span {
     pub money: u128,
     pub charge: u128,
     pub weights: Vec<Weight>,
+    pub groups: Vec<u32>,
 }
 
 impl Model for Span {
@@ -31,5 +40,5 @@ impl Model for Span {
 
     ghost Value = { ClassSpan };
 
-    ghost view = { λ s. record { arc = s.arc; point = s.point; until = s.until; money = s.money; charge = s.charge; weights = s.weights.items } };
+    ghost view = { λ s. record { arc = s.arc; point = s.point; until = s.until; money = s.money; charge = s.charge; weights = s.weights.items; groups = s.groups.items } };
 }

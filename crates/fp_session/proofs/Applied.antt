@@ -108,10 +108,10 @@ module _ (s : Search) (prices : PriceLists) (is : IsSearch s prices) (going : s.
 
   -- or the search ends with what is left there
   pub stop-applied : (kept : Kept) (left : Left) (nodes : List (Node Payload)) → AtOpenLeaf s.tree k (λ l. IsKept (history s prices) l.sides kept.payload kept.value) →
-      AtOpenLeaf s.tree k (λ l. IsUnsettled (history s prices) s.cost l.sides kept) → AtOpenLeaf s.tree k (λ l. IsStopAt s k l.sides left) →
+      AtOpenLeaf s.tree k (λ l. IsUnsettled (history s prices) s.cost l.sides kept) → AtOpenLeaf s.tree k (λ l. IsStopAt s k l.sides left) → s.reserve ≡ None →
       nodes ≡ with_leaf fork_of (put_leaf kept.payload kept.value) k s.tree → split_count nodes ≡ split_count s.tree → IsSearch (record s { tree = nodes; left = Some left }) prices
-  stop-applied kept left nodes keeps unsettled lefts changed count =
-      IsSearch-stop (record s { tree = nodes }) prices (put-applied kept.payload kept.value nodes keeps changed count) going left (why left lefts)
+  stop-applied kept left nodes keeps unsettled lefts none changed count =
+      IsSearch-stop (record s { tree = nodes }) prices (put-applied kept.payload kept.value nodes keeps changed count) going left (why left lefts) none
     where
       keepsat : (x : Leaf (Node Payload)) × (leaf_at s.tree k ≡ Some x) × ((closed_of x.node ≡ false) × IsKept (history s prices) x.sides kept.payload kept.value)
       keepsat = some-value (leaf_at s.tree k) (λ (l : Leaf (Node Payload)). (closed_of l.node ≡ false) × IsKept (history s prices) l.sides kept.payload kept.value) keeps

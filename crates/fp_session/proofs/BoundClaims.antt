@@ -43,9 +43,9 @@ module _ (s : Search) (prices : PriceLists) (search : IsSearch s prices) (whole 
 
   pub bound-claims : (bound : ℕ) → IsBound s prices bound → NoPlanWithinCheaper s.instance (windows_in s.windows) bound
   bound-claims bound is =
-      let held = prices-hold s.instance prices search.prices in
+      let held = prices-hold s.instance s.windows prices search.prices in
       AreLeavesWorth-NoPlanWithinCheaper s.instance s.windows bare bound search.belongs.valid
-      (HasPrices-kept s.instance bare search.belongs.valid (spans-in_range s.instance prices search.prices) (unit-in_range s.instance prices search.prices)
+      (HasPrices-kept s.instance s.windows bare search.belongs.valid (spans-in_range s.instance s.windows prices search.prices) (unit-in_range s.instance s.windows prices search.prices)
       (record { tables = held.tables; spans = held.spans; unit = held.unit }))
       (record {
         tree = IsTree-lines s.instance s.tree search.tails whole;

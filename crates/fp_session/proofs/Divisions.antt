@@ -4,7 +4,7 @@ use Rattle.std.specs.Prelude.{Option}
 use Rattle.fp_model.specs.Problem.{Problem}
 use Rattle.fp_relaxmodel.proofs.MetTerminals.{arc-within}
 use Rattle.fp_flatnet.specs.declared.window_tables.Window.{Window}
-use Rattle.fp_flatnet.specs.Tables.{windows_in}
+use Rattle.fp_flatnet.specs.Tables.{WindowTable, windows_in}
 use Rattle.fp_longestarcs.specs.Networks.{points_in}
 use Rattle.fp_tree.specs.declared.sides.Side.{Side}
 use Rattle.fp_tree.specs.declared.sides.Split.{Split}
@@ -42,8 +42,8 @@ module _ (p : Problem) (k terminal : ℕ) where
   DividesSome-at windows sides split exists divides = record { shipment = k; terminal = terminal; exists = exists; tail = refl; divides = divides }
 
 -- prices that have grown have the kinds that they had
-pub HasKind-grown : (p : Problem) (before after : PriceLists) (kind : Kind) → HaveGrown p before after → HasKind before.tables kind → HasKind after.tables kind
-HasKind-grown p before after kind grown has = subst (λ (x : PriceLists). HasKind x.tables kind) (sym grown.is) (HasKind-append before.tables grown.tables kind has)
+pub HasKind-grown : (p : Problem) (table : WindowTable) (before after : PriceLists) (kind : Kind) → HaveGrown p table before after → HasKind before.tables kind → HasKind after.tables kind
+HasKind-grown p table before after kind grown has = subst (λ (x : PriceLists). HasKind x.tables kind) (sym grown.is) (HasKind-append before.tables grown.tables kind has)
 
 -- a terminal where a forced chain of a leaf ends with several ways to go exists
 pub terminal-exists : (s : Search) (prices : PriceLists) (sides : List Side) (k terminal : ℕ) → IsSearch s prices → EndsInSeveral (record { setting = setting_of s; sides = sides }) k terminal →

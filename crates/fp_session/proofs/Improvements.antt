@@ -4,7 +4,7 @@ use Rattle.std.specs.declared.alloc.Global.{Global}
 use Rattle.std.specs.declared.vec.Vec.{Vec}
 use Rattle.fp_model.specs.declared.parts.Leg.{Leg}
 use Rattle.fp_model.specs.Problem.{Problem}
-use Rattle.fp_flatnet.specs.Tables.{windows_in}
+use Rattle.fp_flatnet.specs.Tables.{WindowTable, windows_in}
 use Rattle.fp_longestarcs.specs.Networks.{points_in}
 use Rattle.fp_tree.specs.declared.sides.Side.{Side}
 use Rattle.fp_allowed.specs.Settings.{Setting}
@@ -25,8 +25,8 @@ use Rattle.fp_session.proofs.ImprovedLeaves.{IsKept-with_tables, found-priced, k
 use Rattle.fp_session.proofs.NextRounds.{agree-now}
 
 -- prices that grow twice have grown
-pub HaveGrown-twice : (p : Problem) (before between after : PriceLists) → HaveGrown p before between → HaveGrown p between after → HaveGrown p before after
-HaveGrown-twice p before between after one two = record {
+pub HaveGrown-twice : (p : Problem) (table : WindowTable) (before between after : PriceLists) → HaveGrown p table before between → HaveGrown p table between after → HaveGrown p table before after
+HaveGrown-twice p table before between after one two = record {
   tables = one.tables ++ two.tables;
   spans = one.spans ++ two.spans;
   is =
@@ -36,7 +36,7 @@ HaveGrown-twice p before between after one two = record {
 }
 
 -- what is kept stays true
-pub IsKept-grown : (s : Search) (before after : PriceLists) (sides : List Side) (kept : Kept) → ArePrices s.instance before → HaveGrown s.instance before after → IsKept (history s before) sides kept.payload kept.value →
+pub IsKept-grown : (s : Search) (before after : PriceLists) (sides : List Side) (kept : Kept) → ArePrices s.instance s.windows before → HaveGrown s.instance s.windows before after → IsKept (history s before) sides kept.payload kept.value →
     IsKept (history s after) sides kept.payload kept.value
 IsKept-grown s before after sides kept are grown is =
     subst (λ (x : PriceLists). IsKept (history s x) sides kept.payload kept.value) (sym grown.is) (IsKept-with_tables (history s before) grown.tables grown.spans sides kept.payload kept.value are.beside is)
@@ -73,7 +73,7 @@ module _ (s : Search) (before after : PriceLists) (is : IsSearch s before) (side
     found-kept = found-priced (history s after) s.network sides is.belongs.valid (agree-now s before is) price value walks.items priced-own
 
     -- and where something was kept of it before
-    pub found-here : HaveGrown s.instance before after → (old kept : Kept) → IsKept (history s before) sides old.payload old.value → old.payload.empty ≡ false → IsGreater old price value kept →
+    pub found-here : HaveGrown s.instance s.windows before after → (old kept : Kept) → IsKept (history s before) sides old.payload old.value → old.payload.empty ≡ false → IsGreater old price value kept →
         IsFound (history s after) sides kept walks.items × (old.value ≤ kept.value)
     found-here grown old kept was_kept some greater =
         ⊎_elim

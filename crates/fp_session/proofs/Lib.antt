@@ -27,6 +27,7 @@ pub mod RepairedPlans
 pub mod Beginnings
 pub mod SameHands
 pub mod StepsLeft
+pub mod KeptStarts
 pub mod LaterSearches
 pub mod OpenMoves
 pub mod CheaperWalks
@@ -36,3 +37,4 @@ pub mod StepOrder
 pub mod PointLimits
 pub mod BestOpen
 pub mod BoundClaims
+pub mod NoReserve

@@ -1,7 +1,7 @@
 -- What a step may do at an open leaf.
-use Rattle.std.proofs.Common.{◌≡◌, ℕ, ◌+◌, ◌<◌, ◌≤◌, inl, inr, Bool, true, false, List, [], ◌∷◌, length, refl, sym, ◌∙◌, subst, arith}
+use Rattle.std.proofs.Common.{◌≡◌, ℕ, ◌+◌, ◌<◌, ◌≤◌, ⊎_elim, inl, inr, Bool, true, false, List, [], ◌∷◌, length, refl, sym, ◌∙◌, subst, arith}
 use Rattle.std.specs.Prelude.{All, IsSomeAnd, None, Option, Some}
-use Rattle.std.proofs.lemmas.Bool.{false≢true}
+use Rattle.std.proofs.lemmas.Bool.{cases_lt, false≢true}
 use Rattle.std.proofs.lemmas.List.Elements.{All-cons, All-nil}
 use Rattle.fp_base_lists.specs.Distinct.{AreDistinct}
 use Rattle.fp_base_lists.specs.Numbered.{AllZipFrom}
@@ -31,26 +31,26 @@ use Rattle.fp_relaxmodel.proofs.RelaxedWalks.{IsRelaxedPlan-timed}
 use Rattle.fp_prices.specs.Rounds.{LeafModel}
 use Rattle.fp_session_history.specs.declared.endings.Left.{Left}
 use Rattle.fp_session_history.specs.declared.endings.Left.TheVariants as left
-use Rattle.fp_session_history.specs.Notes.{worth_of}
+use Rattle.fp_session_history.specs.Notes.{last_round, worth_of}
 use Rattle.fp_session_history.specs.Solutions.{AreWalksUnder, HasSeveral}
 use Rattle.fp_session.specs.declared.dividing.Several.{Several}
 use Rattle.fp_session.specs.declared.kept.Kept.{Kept}
-use Rattle.fp_session.specs.declared.moves.Cheaper.{Cheaper}
 use Rattle.fp_session.specs.declared.moves.Move.{Move}
 use Rattle.fp_session.specs.declared.moves.Move.TheVariants as move
 use Rattle.fp_session.specs.declared.payloads.Payload.{Payload}
 use Rattle.fp_session.specs.declared.searches.Search.{Search}
 use Rattle.fp_session.specs.Dividing.{IsSeveral, NoneSeveral}
-use Rattle.fp_session.specs.Moves.{AtOpenLeaf, IsCheaper, IsLeftAt, IsMove, IsMoveAt, IsOpenMove, IsStopAt, IsUnsettled, points_now}
+use Rattle.fp_session.specs.Moves.{AtOpenLeaf, HasReserve, IsLate, IsLeftAt, IsMove, IsMoveAt, IsOpenMove, IsStopAt, IsUnsettled, points_now}
 use Rattle.fp_session.specs.Nodes.{IsKept, IsKeptAs, IsLeafOf, IsSettled}
-use Rattle.fp_session.specs.Outcomes.{IsFound}
+use Rattle.fp_session.specs.Outcomes.{IsFound, noted_kept}
+use Rattle.fp_session.specs.Preparations.{IsRaised}
 use Rattle.fp_duals_leaves.specs.Prices.{ArePrices, HaveGrown, PriceLists}
 use Rattle.fp_session.specs.Searches.{IsSearch, history, setting_of}
-use Rattle.fp_session.specs.Stages.{IsRaised}
 use Rattle.fp_session.proofs.Applied.{of-value, some-value}
 use Rattle.fp_session.proofs.GrownWorths.{worth-grown}
 use Rattle.fp_duals_leaves.proofs.GrownPrices.{unit-some}
 use Rattle.fp_session.proofs.Improvements.{IsKept-grown}
+use Rattle.fp_session.proofs.KeptStarts.{kept-starts}
 use Rattle.fp_session.proofs.NextRounds.{agree-now}
 use Rattle.fp_session.proofs.ReachedWalks.{NoneSeveral-cheaper, NoneSeveral-routes}
 use Rattle.fp_session.proofs.TreeRanges.{all-at}
@@ -99,6 +99,11 @@ IsSeveral-now s prices leaf sides several is setting are has =
       ends = subst (λ (a : ℕ → Leg → Bool). EndsAs s.instance (a several.shipment) (shipment_at s.instance several.shipment) own.chain (end.Several several.terminal)) same own.ends;
     }
 
+-- a leaf that isn't dear is worth less than the incumbent costs
+pub below-cost : (worth cost : ℕ) (dear : Bool) → dear ≡ false → (cost ≤ worth → dear ≡ true) → worth < cost
+below-cost worth cost dear not_dear is =
+    ⊎_elim (λ (less : worth < cost). less) (λ (more : cost ≤ worth). absurd (false≢true (sym not_dear ∙ is more))) (cases_lt worth cost)
+
 -- what may be left at a leaf whatever the time may be left there
 IsStopAt-left : (s : Search) (leaf : ℕ) (sides : List Side) (what : Left) → IsLeftAt s leaf sides what → IsStopAt s leaf sides what
 IsStopAt-left s leaf sides left.Nothing is = absurd is
@@ -111,9 +116,18 @@ pub IsMoveAt-open : (s : Search) (prices : PriceLists) (leaf : ℕ) (sides : Lis
     IsOpenMove s prices leaf sides m → IsMoveAt s prices leaf sides kept m
 IsMoveAt-open s prices leaf sides kept move.Close unsettled is = absurd is
 IsMoveAt-open s prices leaf sides kept (move.Better cheaper) unsettled is = is
+IsMoveAt-open s prices leaf sides kept move.TakeReserve unsettled is = is
 IsMoveAt-open s prices leaf sides kept (move.Refine note refined) unsettled is = (unsettled, is.0, is.1)
 IsMoveAt-open s prices leaf sides kept (move.Divide division) unsettled is = (unsettled, is.0, is.1, is.2)
-IsMoveAt-open s prices leaf sides kept (move.Stop left) unsettled is = (unsettled, IsStopAt-left s leaf sides left is)
+IsMoveAt-open s prices leaf sides kept (move.Stop left) unsettled is = (unsettled, IsStopAt-left s leaf sides left is.0, is.1)
+
+-- and what is done where the time is over
+IsMoveAt-late : (s : Search) (prices : PriceLists) (leaf : ℕ) (sides : List Side) (kept : Kept) (m : Move) → IsUnsettled (history s prices) s.cost sides kept → IsLate s leaf m → IsMoveAt s prices leaf sides kept m
+IsMoveAt-late s prices leaf sides kept m unsettled is =
+    ⊎_elim
+    (λ (takes : (m ≡ move.TakeReserve) × HasReserve s). subst (IsMoveAt s prices leaf sides kept) (sym takes.0) takes.1)
+    (λ (stops : (m ≡ move.Stop (left.Unsettled leaf)) × (s.reserve ≡ None)). subst (IsMoveAt s prices leaf sides kept) (sym stops.0) (unsettled, refl, stops.1))
+    is
 
 -- a leaf of which something is found has something to search for, where it is worth less than the cost
 pub IsUnsettled-found : (s : Search) (before after : PriceLists) (sides : List Side) (kept : Kept) (walks : List (List Leg)) → IsFound (history s before) sides kept walks →
@@ -170,29 +184,38 @@ module _ (s : Search) (before after : PriceLists) (k : ℕ) (sides : List Side) 
   dear-move kept walks found no_less dear =
       let settled : IsSettled (history s after) s.cost kept.payload kept.value = inr dear in chosen-move kept move.Close found.kept (λ some. no_less) settled
 
-  -- at another the search ends where the time is over
-  pub late-move : (kept : Kept) (walks : List (List Leg)) → IsFound (history s after) sides kept walks → old.value ≤ kept.value → worth_of (history s after) kept.value < s.cost →
-      IsMove s after k kept (move.Stop (left.Unsettled k))
-  late-move kept walks found no_less below =
-      chosen-move kept (move.Stop (left.Unsettled k)) found.kept (λ some. no_less) (IsUnsettled-found s after after sides kept walks found below, refl)
+  -- at another this is done where the time is over
+  pub late-move : (kept : Kept) (walks : List (List Leg)) (m : Move) → IsFound (history s after) sides kept walks → old.value ≤ kept.value → worth_of (history s after) kept.value < s.cost →
+      IsLate s k m → IsMove s after k kept m
+  late-move kept walks m found no_less below late =
+      chosen-move kept m found.kept (λ some. no_less) (IsMoveAt-late s after k sides kept m (IsUnsettled-found s after after sides kept walks found below) late)
 
-  -- so it does after work by which the prices have grown
-  pub late-move-grown : (between : PriceLists) (kept : Kept) (walks : List (List Leg)) → IsFound (history s between) sides kept walks → ArePrices s.instance between → HaveGrown s.instance between after →
-      old.value ≤ kept.value → worth_of (history s between) kept.value < s.cost → IsMove s after k kept (move.Stop (left.Unsettled k))
-  late-move-grown between kept walks found are grown no_less below =
-      chosen-move kept (move.Stop (left.Unsettled k)) (IsKept-grown s between after sides kept are grown found.kept) (λ some. no_less)
-      (IsUnsettled-found s between after sides kept walks found (omega (arith, worth-grown s between after kept.value grown, below)), refl)
-
-  -- where a cheaper plan was found on the way, it is taken
-  pub better-move : (kept : Kept) (cheaper : Cheaper) → IsRaised (history s after) sides old kept → IsCheaper s cheaper → IsMove s after k kept (move.Better cheaper)
-  better-move kept cheaper raised is = chosen-move kept (move.Better cheaper) raised.keeps (λ some. raised.no_less) is
+  -- and so it is after work by which the prices have grown
+  pub late-move-grown : (between : PriceLists) (kept : Kept) (walks : List (List Leg)) (m : Move) → IsFound (history s between) sides kept walks → ArePrices s.instance s.windows between → HaveGrown s.instance s.windows between after →
+      old.value ≤ kept.value → worth_of (history s between) kept.value < s.cost → IsLate s k m → IsMove s after k kept m
+  late-move-grown between kept walks m found are grown no_less below late =
+      chosen-move kept m (IsKept-grown s between after sides kept are grown found.kept) (λ some. no_less)
+      (IsMoveAt-late s after k sides kept m (IsUnsettled-found s between after sides kept walks found (omega (arith, worth-grown s between after kept.value grown, below))) late)
 
   -- at another the move is one that may be made there
-  pub found-move : (between : PriceLists) (kept : Kept) (walks : List (List Leg)) (m : Move) → IsFound (history s between) sides kept walks → ArePrices s.instance between → HaveGrown s.instance between after →
+  pub found-move : (between : PriceLists) (kept : Kept) (walks : List (List Leg)) (m : Move) → IsFound (history s between) sides kept walks → ArePrices s.instance s.windows between → HaveGrown s.instance s.windows between after →
       old.value ≤ kept.value → worth_of (history s between) kept.value < s.cost → IsOpenMove s after k sides m → IsMove s after k kept m
   found-move between kept walks m found are grown no_less below may =
       chosen-move kept m (IsKept-grown s between after sides kept are grown found.kept) (λ some. no_less)
       (IsMoveAt-open s after k sides kept m (IsUnsettled-found s between after sides kept walks found (omega (arith, worth-grown s between after kept.value grown, below))) may)
+
+  -- the leaf may be kept so, with a note as of which round its price was improved
+  pub raised-there : (kept : Kept) (improved : Option ℕ) → IsKept (history s after) sides kept.payload kept.value → old.value ≤ kept.value → IsRaised s after (record { number = k; kept = noted_kept improved kept })
+  raised-there kept improved keeps no_less = record {
+    kept = here (λ x. IsKept (history s after) x.sides (noted_kept improved kept).payload kept.value) (record { price = own.price; worth = own.worth });
+    no_less = here (λ x. value_of x.node ≤ kept.value) (omega (arith, no_less, chosen.2.1.value));
+  }
+    where
+      own : IsKept (history s after) chosen.0.sides kept.payload kept.value
+      own = subst (λ (ss : List Side). IsKept (history s after) ss kept.payload kept.value) (sym way) keeps
+
+      here : (P : Leaf (Node Payload) → Type 0) → P chosen.0 → AtOpenLeaf s.tree k P
+      here P holds = subst (λ (o : Option (Leaf (Node Payload))). IsSomeAnd o (λ (x : Leaf (Node Payload)). (closed_of x.node ≡ false) × P x)) (sym chosen.1) (chosen.2.0, holds)
 
 -- where no shipment of a leaf has several ways to go, the walks that were found are routes and cost
 -- less than the incumbent
@@ -201,13 +224,21 @@ pub NoneSeveral-found : (s : Search) (prices : PriceLists) (leaf : LeafModel) (s
     All (λ walk. AreDistinct (terminals_on s.instance walk)) walks × (cost s.instance walks < s.cost)
 NoneSeveral-found s prices leaf sides kept walks n is setting are found below long none = (
   NoneSeveral-routes (history s prices) s.network sides is.belongs (agree-now s prices is) kept walks found own,
-  NoneSeveral-cheaper (history s prices) s.network sides is.belongs (agree-now s prices is) kept walks found own s.cost (unit-some s.instance prices is.prices) below,
+  NoneSeveral-cheaper (history s prices) s.network sides is.belongs (agree-now s prices is) kept walks found own s.cost (unit-some s.instance s.windows prices is.prices) below,
 )
   where
     own : NoneSeveral (record { setting = setting_of s; sides = sides }) (length s.instance.shipments)
     own = subst (λ (m : ℕ). NoneSeveral (record { setting = setting_of s; sides = sides }) m) long
         (subst (λ (l : List Side). NoneSeveral (record { setting = setting_of s; sides = l }) n) are
         (subst (λ (x : Setting). NoneSeveral (record { setting = x; sides = leaf.sides }) n) setting none))
+
+-- an open leaf is open
+pub still-open : (nodes : List (Node Payload)) (k : ℕ) (P : Leaf (Node Payload) → Type 0) → AtOpenLeaf nodes k P → IsSomeAnd (leaf_at nodes k) (λ (l : Leaf (Node Payload)). closed_of l.node ≡ false)
+still-open nodes k P at = by_leaf (leaf_at nodes k) at
+  where
+    by_leaf : (o : Option (Leaf (Node Payload))) → IsSomeAnd o (λ (l : Leaf (Node Payload)). (closed_of l.node ≡ false) × P l) → IsSomeAnd o (λ (l : Leaf (Node Payload)). closed_of l.node ≡ false)
+    by_leaf None is = absurd is
+    by_leaf (Some l) is = is.0
 
 -- what is so of a leaf that is open is so at an open leaf
 pub AtOpenLeaf-both : (nodes : List (Node Payload)) (k : ℕ) (P : Leaf (Node Payload) → Type 0) → IsSomeAnd (leaf_at nodes k) (λ (l : Leaf (Node Payload)). closed_of l.node ≡ false) → IsSomeAnd (leaf_at nodes k) P →
@@ -218,10 +249,30 @@ AtOpenLeaf-both nodes k P still holds = both (leaf_at nodes k) still holds
     both None one other = absurd one
     both (Some l) one other = (one, other)
 
--- at an open leaf, of which what was kept stays: it is settled, and closed
-pub settled-stays : (s : Search) (prices : PriceLists) (k : ℕ) (old : Kept) → IsSearch s prices → AtOpenLeaf s.tree k (λ l. IsKeptAs l old) → IsSettled (history s prices) s.cost old.payload old.value → IsMove s prices k old move.Close
-settled-stays s prices k old is was settled =
-    let found = some-value (leaf_at s.tree k) (λ (l : Leaf (Node Payload)). (closed_of l.node ≡ false) × IsKeptAs l old) was in
-    let on : IsSomeAnd (leaf_at s.tree k) (λ (l : Leaf (Node Payload)). l.sides ≡ found.0.sides) =
-    subst (λ (o : Option (Leaf (Node Payload))). IsSomeAnd o (λ (l : Leaf (Node Payload)). l.sides ≡ found.0.sides)) (sym found.1) refl in
-    chosen-move s prices prices k found.0.sides old was on old move.Close (was-kept s prices prices k found.0.sides old was on is) (λ some. omega arith) settled
+-- at an open leaf, of which what was kept stays
+module _ (s : Search) (prices : PriceLists) (k : ℕ) (old : Kept) (is : IsSearch s prices) (was : AtOpenLeaf s.tree k (λ l. IsKeptAs l old)) where
+  found : (l : Leaf (Node Payload)) × (leaf_at s.tree k ≡ Some l) × ((closed_of l.node ≡ false) × IsKeptAs l old)
+  found = some-value (leaf_at s.tree k) (λ (l : Leaf (Node Payload)). (closed_of l.node ≡ false) × IsKeptAs l old) was
+
+  on : IsSomeAnd (leaf_at s.tree k) (λ (l : Leaf (Node Payload)). l.sides ≡ found.0.sides)
+  on = subst (λ (o : Option (Leaf (Node Payload))). IsSomeAnd o (λ (l : Leaf (Node Payload)). l.sides ≡ found.0.sides)) (sym found.1) refl
+
+  keeps : IsKept (history s prices) found.0.sides old.payload old.value
+  keeps = was-kept s prices prices k found.0.sides old was on is
+
+  stays : (m : Move) → IsMoveAt s prices k found.0.sides old m → IsMove s prices k old m
+  stays m may = chosen-move s prices prices k found.0.sides old was on old m keeps (λ some. omega arith) may
+
+  -- it is closed where it is settled
+  pub settled-stays : IsSettled (history s prices) s.cost old.payload old.value → IsMove s prices k old move.Close
+  settled-stays settled = stays move.Close settled
+
+  -- the plan in reserve is taken where there is one
+  pub reserve-stays : HasReserve s → IsMove s prices k old move.TakeReserve
+  reserve-stays some = stays move.TakeReserve some
+
+  -- and this is done where the time is over, and it was priced as of the last round
+  pub late-stays : (m : Move) → old.payload.empty ≡ false → worth_of (history s prices) old.value < s.cost → last_round (history s prices) ≤ old.payload.price.round → IsLate s k m → IsMove s prices k old m
+  late-stays m some below last late =
+      stays m
+      (IsMoveAt-late s prices k found.0.sides old m (record { some = some; below = below; starts = kept-starts (history s prices) found.0.sides old.payload old.value keeps some last }) late)

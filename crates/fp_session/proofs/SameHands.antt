@@ -6,6 +6,7 @@ use Rattle.std.specs.declared.vec.Vec.{Vec}
 use Rattle.fp_longestarcs.specs.Whole.{IsNetworkOf}
 use Rattle.fp_tree.specs.Nodes.{fork_of, split_count}
 use Rattle.fp_tree.specs.Trees.{tree_branches, tree_leaves}
+use Rattle.fp_flatnet.specs.Tables.{WindowTable}
 use Rattle.fp_session_history.specs.declared.endings.Left.{Left}
 use Rattle.fp_session_history.specs.declared.endings.Left.TheVariants.{Nothing, Several, Timing, Unsettled}
 use Rattle.fp_session_history.specs.Clashes.{ClashesBelow}
@@ -46,6 +47,7 @@ module _ (s : Search) (prices : PriceLists) where
       budget = is.budget;
       incumbent = is.incumbent;
       cheaper = is.cheaper;
+      reserve = is.reserve;
       trace = at (λ h. IsEarnedTrace h s.started s.cost) is.trace;
       rounds = at (λ h. last_round h ≤ s.budget.rounds) is.rounds;
       points = is.points;
@@ -57,6 +59,7 @@ module _ (s : Search) (prices : PriceLists) where
       splits = at (λ h. All (IsSplitOf h s.started s.cost) (tree_branches fork_of s.tree)) is.splits;
       leaves = at (λ h. All (IsLeafOf h s.cost) (tree_leaves fork_of s.tree)) is.leaves;
       left = left-trace s.left is.left;
+      ended = is.ended;
     }
 
   -- what it left is taken out of it
@@ -66,6 +69,7 @@ module _ (s : Search) (prices : PriceLists) where
     budget = is.budget;
     incumbent = is.incumbent;
     cheaper = is.cheaper;
+    reserve = is.reserve;
     trace = is.trace;
     rounds = is.rounds;
     points = is.points;
@@ -77,6 +81,7 @@ module _ (s : Search) (prices : PriceLists) where
     splits = is.splits;
     leaves = is.leaves;
     left = tt;
+    ended = tt;
   }
 
   pub IsLeft-taken : (left : Left) → IsLeft s prices left → IsLeft (record s { left = None }) prices left
@@ -94,6 +99,8 @@ rebuild h trace = record {
   started = h.started;
   incumbent = h.incumbent;
   cost = h.cost;
+  reserve = h.reserve;
+  preparation = h.preparation;
   points = h.points;
   network = h.network;
   tree = h.tree;
@@ -107,16 +114,16 @@ IsSearch-hand s t prices same is =
     subst (λ (h : InHand). IsSearch (rebuild h t.trace) prices) (sym same) (IsSearch-trace s prices t.trace (ap (λ (h : InHand). h.trace) same) is)
 
 -- a search with prices that have grown
-pub IsSearch-grown : (s : Search) (before after : PriceLists) → HaveGrown s.instance before after → s.left ≡ None → IsSearch s before → IsSearch s after
+pub IsSearch-grown : (s : Search) (before after : PriceLists) → HaveGrown s.instance s.windows before after → s.left ≡ None → IsSearch s before → IsSearch s after
 IsSearch-grown s before after grown going is =
-    subst (IsSearch s) (sym grown.is) (IsSearch-with_more s before is going grown.tables grown.spans (subst (ArePrices s.instance) grown.is grown.prices))
+    subst (IsSearch s) (sym grown.is) (IsSearch-with_more s before is going grown.tables grown.spans (subst (ArePrices s.instance s.windows) grown.is grown.prices))
 
 -- prices that have grown, cut to as many as they were
-pub cut-back : (p : Rattle.fp_model.specs.Problem.Problem) (before after cut : PriceLists) (count : ℕ) → ArePrices p before → HaveGrown p before after → count ≡ length before.tables → cut ≡ first_prices count after → cut ≡ before
-cut-back p before after cut count are grown is made = made ∙ HaveGrown-cut p before after count are grown is
+pub cut-back : (p : Rattle.fp_model.specs.Problem.Problem) (table : WindowTable) (before after cut : PriceLists) (count : ℕ) → ArePrices p table before → HaveGrown p table before after → count ≡ length before.tables → cut ≡ first_prices count after → cut ≡ before
+cut-back p table before after cut count are grown is made = made ∙ HaveGrown-cut p table before after count are grown is
 
-pub cut-few : (p : Rattle.fp_model.specs.Problem.Problem) (before after : PriceLists) (count : ℕ) → HaveGrown p before after → count ≡ length before.tables → count ≤ length after.tables
-cut-few p before after count grown is = omega (arith, is, HaveGrown-long p before after grown)
+pub cut-few : (p : Rattle.fp_model.specs.Problem.Problem) (table : WindowTable) (before after : PriceLists) (count : ℕ) → HaveGrown p table before after → count ≡ length before.tables → count ≤ length after.tables
+cut-few p table before after count grown is = omega (arith, is, HaveGrown-long p table before after grown)
 
 -- with prices that are as they were
 pub IsSearch-back : (s t : Search) (before cut : PriceLists) → in_hand t ≡ in_hand s → cut ≡ before → IsSearch s before → IsSearch t cut

@@ -8,10 +8,12 @@ use Rattle.std.proofs.lemmas.List.{length-append}
 use Rattle.std.proofs.lemmas.List.Elements.{All-weaker}
 use Rattle.fp_prices.specs.declared.leaf_prices.LeafPrice.{LeafPrice}
 use Rattle.fp_prices.proofs.TableAppends.{HasKind-append}
+use Rattle.fp_model.specs.Problem.{Problem}
 use Rattle.fp_timenodes.specs.declared.places.AddedPoint.{AddedPoint}
 use Rattle.fp_timenodes.specs.Floor.{HaveSamePoints}
 use Rattle.fp_timenodes.specs.Points.{TimePoints, times_at}
 use Rattle.fp_flatnet.specs.Initial.{initial_points}
+use Rattle.fp_flatnet.specs.Tables.{WindowTable}
 use Rattle.fp_longestarcs.specs.Whole.{IsNetworkOf}
 use Rattle.fp_tree.specs.Nodes.{Node, close_leaf, closed_of, divide_leaf, fork_of, leaf_at, open_leaf, put_leaf, split_count, value_of}
 use Rattle.fp_tree.specs.Trees.{Branch, Leaf, tree_branches, tree_leaves, with_leaf}
@@ -26,21 +28,27 @@ use Rattle.fp_session_history.specs.Splits.{IsEarnedSplit}
 use Rattle.fp_session_history.specs.Traces.{IsEarnedTrace}
 use Rattle.fp_session_history.proofs.PointsKept.{added_of_push}
 use Rattle.fp_session_history.proofs.Stays.{IsEarnedAt-with_note, IsEarnedSplit-cheaper, IsEarnedSplit-with_note, IsEarnedSplit-with_tables, IsEarnedTrace-cheaper, IsEarnedTrace-with_note, IsEarnedTrace-with_tables, IsEmptyAt-with_note}
-use Rattle.fp_session.specs.declared.moves.Cheaper.{Cheaper}
+use Rattle.fp_session_looks.specs.declared.cheaper.Cheaper.{Cheaper}
+use Rattle.fp_session_looks.specs.Plans.{IsBelow}
 use Rattle.fp_session.specs.declared.moves.Division.{Division}
 use Rattle.fp_session.specs.declared.moves.Refined.{Refined}
 use Rattle.fp_session.specs.declared.payloads.Payload.{Payload}
+use Rattle.fp_session.specs.declared.preparations.Preparation.{Preparation}
 use Rattle.fp_session.specs.declared.searches.Search.{Search}
-use Rattle.fp_session.specs.Moves.{IsCheaper, IsDivision, IsNextRound, fork_in}
+use Rattle.fp_session.specs.Moves.{IsDivision, IsNextRound, fork_in}
 use Rattle.fp_session.specs.Nodes.{IsEarnedAs, IsKept, IsLeafOf, IsPriceOf, IsSettled, IsSplitOf, split_note}
 use Rattle.fp_duals_leaves.specs.Prices.{ArePrices, PriceLists, with_more}
-use Rattle.fp_session.specs.Searches.{IsLeft, IsSearch, history}
+use Rattle.fp_session.specs.Searches.{IsCheaper, IsLeft, IsSearch, history}
+use Rattle.fp_session.specs.StepCauses.{with_incumbent, with_reserve}
 use Rattle.fp_session.proofs.ImprovedLeaves.{IsKept-with_tables}
 use Rattle.fp_session.proofs.TreeChanges.{branches-close, branches-divide, branches-put, leaves-close, leaves-divide, leaves-put, tails-close, tails-divide, tails-put}
 
 -- nothing is left where the search hasn't ended
+pub none-left : (o : Option Left) (P : Left → Type 0) → o ≡ None → IfSome o P
+none-left o P none = subst (λ (p : Option Left). IfSome p P) (sym none) tt
+
 nothing-left : (s : Search) (prices : PriceLists) → s.left ≡ None → IfSome s.left (IsLeft s prices)
-nothing-left s prices none = subst (λ (o : Option Left). IfSome o (IsLeft s prices)) (sym none) tt
+nothing-left s prices none = none-left s.left (IsLeft s prices) none
 
 module _ (h : History) (started cost : ℕ) where
   -- a leaf and a split with more prices
@@ -103,12 +111,13 @@ module _ (h : History) (started cost : ℕ) where
 
 module _ (s : Search) (prices : PriceLists) (is : IsSearch s prices) (going : s.left ≡ None) where
   -- more prices
-  pub IsSearch-with_more : (more : List (List ClassShare)) (spans : List (List ClassSpan)) → ArePrices s.instance (with_more prices more spans) → IsSearch s (with_more prices more spans)
+  pub IsSearch-with_more : (more : List (List ClassShare)) (spans : List (List ClassSpan)) → ArePrices s.instance s.windows (with_more prices more spans) → IsSearch s (with_more prices more spans)
   IsSearch-with_more more spans grown = record {
     belongs = is.belongs;
     budget = is.budget;
     incumbent = is.incumbent;
     cheaper = is.cheaper;
+    reserve = is.reserve;
     trace = IsEarnedTrace-with_tables (history s prices) s.started s.cost is.trace more spans;
     rounds = is.rounds;
     points = is.points;
@@ -122,15 +131,18 @@ module _ (s : Search) (prices : PriceLists) (is : IsSearch s prices) (going : s.
     leaves = All-weaker (IsLeafOf (history s prices) s.cost) (IsLeafOf (history s (with_more prices more spans)) s.cost)
         (IsLeafOf-with_tables (history s prices) s.started s.cost more spans is.prices.beside) (tree_leaves fork_of s.tree) is.leaves;
     left = nothing-left s (with_more prices more spans) going;
+    ended = none-left s.left (λ left. s.reserve ≡ None) going;
   }
 
-  -- a cheaper incumbent
-  pub IsSearch-better : (c : Cheaper) → IsCheaper s c → IsSearch (record s { incumbent = c.plan; cost = c.cost }) prices
-  IsSearch-better c better = record {
+  -- a cheaper incumbent, with a plan in reserve only where it is cheaper still
+  pub IsSearch-better : (c : Cheaper) (reserve : Option Cheaper) (preparation : Preparation) → IsCheaper s c → IfSome reserve (IsCheaper (with_incumbent s c reserve preparation)) →
+      IsSearch (with_incumbent s c reserve preparation) prices
+  IsSearch-better c reserve preparation better still = record {
     belongs = is.belongs;
     budget = is.budget;
     incumbent = better.incumbent;
     cheaper = omega (arith, better.less, is.cheaper);
+    reserve = still;
     trace = IsEarnedTrace-cheaper (history s prices) s.started s.cost is.trace c.cost (omega (arith, better.less));
     rounds = is.rounds;
     points = is.points;
@@ -143,7 +155,8 @@ module _ (s : Search) (prices : PriceLists) (is : IsSearch s prices) (going : s.
         (IsSplitOf-cheaper (history s prices) s.started s.cost c.cost (omega (arith, better.less))) (tree_branches fork_of s.tree) is.splits;
     leaves = All-weaker (IsLeafOf (history s prices) s.cost) (IsLeafOf (history s prices) c.cost)
         (IsLeafOf-cheaper (history s prices) s.started s.cost c.cost (omega (arith, better.less))) (tree_leaves fork_of s.tree) is.leaves;
-    left = nothing-left (record s { incumbent = c.plan; cost = c.cost }) prices going;
+    left = nothing-left (with_incumbent s c reserve preparation) prices going;
+    ended = none-left s.left (λ left. reserve ≡ None) going;
   }
 
   module _ (k : ℕ) (l : Leaf (Node Payload)) (at : leaf_at s.tree k ≡ Some l) where
@@ -155,6 +168,7 @@ module _ (s : Search) (prices : PriceLists) (is : IsSearch s prices) (going : s.
       budget = is.budget;
       incumbent = is.incumbent;
       cheaper = is.cheaper;
+      reserve = is.reserve;
       trace = is.trace;
       rounds = is.rounds;
       points = is.points;
@@ -167,6 +181,7 @@ module _ (s : Search) (prices : PriceLists) (is : IsSearch s prices) (going : s.
       leaves = leaves-put s.tree k l at (IsLeafOf (history s prices) s.cost) payload value is.leaves
           (record { kept = kept; closed = λ shut. absurd (false≢true (sym still ∙ shut)) });
       left = nothing-left (record s { tree = with_leaf fork_of (put_leaf payload value) k s.tree }) prices going;
+      ended = none-left s.left (λ left. s.reserve ≡ None) going;
     }
 
     -- a leaf that is settled is closed
@@ -177,6 +192,7 @@ module _ (s : Search) (prices : PriceLists) (is : IsSearch s prices) (going : s.
       budget = is.budget;
       incumbent = is.incumbent;
       cheaper = is.cheaper;
+      reserve = is.reserve;
       trace = is.trace;
       rounds = is.rounds;
       points = is.points;
@@ -188,6 +204,7 @@ module _ (s : Search) (prices : PriceLists) (is : IsSearch s prices) (going : s.
       splits = subst (All (IsSplitOf (history s prices) s.started s.cost)) (sym (branches-close s.tree k l at)) is.splits;
       leaves = leaves-close s.tree k l at (IsLeafOf (history s prices) s.cost) is.leaves (record { kept = kept; closed = λ shut. settled });
       left = nothing-left (record s { tree = with_leaf fork_of close_leaf k s.tree }) prices going;
+      ended = none-left s.left (λ left. s.reserve ≡ None) going;
     }
 
     -- a leaf is divided that was earned and worth less than the incumbent costs, with that cost in its
@@ -201,6 +218,7 @@ module _ (s : Search) (prices : PriceLists) (is : IsSearch s prices) (going : s.
       budget = is.budget;
       incumbent = is.incumbent;
       cheaper = is.cheaper;
+      reserve = is.reserve;
       trace = is.trace;
       rounds = is.rounds;
       points = is.points;
@@ -214,6 +232,7 @@ module _ (s : Search) (prices : PriceLists) (is : IsSearch s prices) (going : s.
       leaves = leaves-divide s.tree k l at (IsLeafOf (history s prices) s.cost) (fork_in d) d.first.payload d.second.payload d.first.value d.second.value is.leaves
           (record { kept = division.first; closed = λ shut. absurd (false≢true shut) }) (record { kept = division.second; closed = λ shut. absurd (false≢true shut) });
       left = nothing-left (record s { tree = with_leaf fork_of (divide_leaf (fork_in d) (open_leaf d.first.payload d.first.value) (open_leaf d.second.payload d.second.value)) k s.tree }) prices going;
+      ended = none-left s.left (λ left. s.reserve ≡ None) going;
     }
 
   -- one more round
@@ -224,6 +243,7 @@ module _ (s : Search) (prices : PriceLists) (is : IsSearch s prices) (going : s.
     budget = is.budget;
     incumbent = is.incumbent;
     cheaper = is.cheaper;
+    reserve = is.reserve;
     trace = at (λ h. IsEarnedTrace h s.started s.cost)
         (IsEarnedTrace-with_note (history s prices) s.started s.cost is.trace note next.round next.incumbent is.cheaper next.earned);
     rounds = omega (arith, next.left, long);
@@ -246,6 +266,7 @@ module _ (s : Search) (prices : PriceLists) (is : IsSearch s prices) (going : s.
         (All-weaker (IsLeafOf (history s prices) s.cost) (IsLeafOf (with_note (history s prices) note) s.cost)
         (IsLeafOf-with_note (history s prices) s.started s.cost note next.round) (tree_leaves fork_of s.tree) is.leaves);
     left = nothing-left (record s { points = r.points; network = r.network; trace = trace }) prices going;
+    ended = none-left s.left (λ left. s.reserve ≡ None) going;
   }
     where
       long : length trace.items ≡ length s.trace.items + 1
@@ -255,12 +276,13 @@ module _ (s : Search) (prices : PriceLists) (is : IsSearch s prices) (going : s.
       at P = subst (λ (ns : List Refinement). P (record { problem = s.instance; windows = s.windows; trace = ns; tables = prices.tables; spans = prices.spans; unit = prices.unit })) (sym grown)
 
   -- and its end
-  pub IsSearch-stop : (left : Left) → IsLeft s prices left → IsSearch (record s { left = Some left }) prices
-  IsSearch-stop left why = record {
+  pub IsSearch-stop : (left : Left) → IsLeft s prices left → s.reserve ≡ None → IsSearch (record s { left = Some left }) prices
+  IsSearch-stop left why none = record {
     belongs = is.belongs;
     budget = is.budget;
     incumbent = is.incumbent;
     cheaper = is.cheaper;
+    reserve = is.reserve;
     trace = is.trace;
     rounds = is.rounds;
     points = is.points;
@@ -272,6 +294,7 @@ module _ (s : Search) (prices : PriceLists) (is : IsSearch s prices) (going : s.
     splits = is.splits;
     leaves = is.leaves;
     left = by_left left why;
+    ended = none;
   }
     where
       by_left : (what : Left) → IsLeft s prices what → IsLeft (record s { left = Some left }) prices what
@@ -279,3 +302,40 @@ module _ (s : Search) (prices : PriceLists) (is : IsSearch s prices) (going : s.
       by_left (Timing leaf relaxed) all = all
       by_left (Several leaf shipment) all = all
       by_left (Unsettled leaf) all = all
+
+-- a plan that waits while the incumbent gets cheaper, where it is cheaper still
+pub still-below : (p : Problem) (table : WindowTable) (before after : ℕ) (was now : Option Cheaper) → IfSome was (IsBelow p table before) →
+    IfSome now (λ c. (was ≡ Some c) × (c.cost < after)) → IfSome now (IsBelow p table after)
+still-below p table before after was None is less = tt
+still-below p table before after was (Some c) is less =
+    let own : IsBelow p table before c = subst (λ (o : Option Cheaper). IfSome o (IsBelow p table before)) less.0 is in record { incumbent = own.incumbent; less = less.1 }
+
+-- another plan in reserve, which is cheaper than the incumbent
+pub IsSearch-reserve : (s : Search) (prices : PriceLists) (reserve : Option Cheaper) (preparation : Preparation) → IsSearch s prices → IfSome reserve (IsCheaper s) → IfSome s.left (λ left. reserve ≡ None) →
+    IsSearch (with_reserve s reserve preparation) prices
+IsSearch-reserve s prices reserve preparation is cheaper none = record {
+  belongs = is.belongs;
+  budget = is.budget;
+  incumbent = is.incumbent;
+  cheaper = is.cheaper;
+  reserve = cheaper;
+  trace = is.trace;
+  rounds = is.rounds;
+  points = is.points;
+  added = is.added;
+  network = is.network;
+  prices = is.prices;
+  tails = is.tails;
+  few = is.few;
+  splits = is.splits;
+  leaves = is.leaves;
+  left = by_left s.left is.left;
+  ended = none;
+}
+  where
+    by_left : (o : Option Left) → IfSome o (IsLeft s prices) → IfSome o (IsLeft (with_reserve s reserve preparation) prices)
+    by_left None all = tt
+    by_left (Some Nothing) all = all
+    by_left (Some (Timing leaf relaxed)) all = all
+    by_left (Some (Several leaf shipment)) all = all
+    by_left (Some (Unsettled leaf)) all = all

@@ -97,7 +97,7 @@ module _ (s : Search) (prices : PriceLists) (search : IsSearch s prices) (whole 
   part-holds stated costs worth carried Part.Cost applies = costs ∙ search.incumbent.costs ∙ ap (cost s.instance) (sym routes)
   part-holds stated costs worth carried Part.Trucks applies = subst (λ (R : List (List Leg)). AreTruckLines s.instance R trucks) (sym routes) are_trucks
   part-holds stated costs worth carried Part.Points applies = AreAddedPoints-IsEarnedTrace h s.started s.cost search.trace
-  part-holds stated costs worth carried Part.Prices applies = let held = prices-hold s.instance prices search.prices in record { tables = held.tables; spans = held.spans; unit = held.unit }
+  part-holds stated costs worth carried Part.Prices applies = let held = prices-hold s.instance s.windows prices search.prices in record { tables = held.tables; spans = held.spans; unit = held.unit }
   part-holds stated costs worth carried Part.Tree applies = record {
     tree = IsTree-lines s.instance s.tree search.tails whole;
     few = omega (arith, splits-lines s.instance s.tree search.tails whole, search.few, search.budget.branches);
@@ -118,12 +118,12 @@ module _ (s : Search) (prices : PriceLists) (search : IsSearch s prices) (whole 
   statement-in_range stated range = record {
     answer = range;
     scale = scale-in_range s.instance search.belongs.valid (s.instance.scale == SCALE);
-    unit = unit-in_range s.instance prices search.prices;
+    unit = unit-in_range s.instance s.windows prices search.prices;
     legs = legs-in_range s.instance s.incumbent legs search.belongs.valid search.incumbent.plan are_legs legs_exist;
     trucks = trucks-in_range s.instance s.incumbent trucks search.belongs.valid search.incumbent.plan are_trucks trucks_exist;
     points = points-in_range h s.started s.cost search.belongs search.trace few;
     tables = tables-in_range s.instance prices.tables search.belongs.valid search.prices.tables within;
-    spans = spans-in_range s.instance prices search.prices;
+    spans = spans-in_range s.instance s.windows prices search.prices;
     beside = search.prices.beside;
     tree = tree-in_range s.instance prices.tables s.tree whole
         (All-weaker (IsSplitOf h s.started s.cost) (λ (b : Branch (Node Payload)). IfSome (fork_at b.node) (λ (f : Fork). IsSplitInRange s.instance f.split)) (λ b split. split.range) (tree_branches fork_at s.tree) search.splits)
@@ -158,7 +158,7 @@ module _ (s : Search) (prices : PriceLists) (search : IsSearch s prices) (whole 
     accepted = part-holds stated costs worth carried;
     range = statement-in_range stated range;
     countable = tables-countable s.instance prices.tables search.prices.tables within;
-    few = spans-few s.instance prices search.prices;
+    few = spans-few s.instance s.windows prices search.prices;
     lines = lines;
     priced = record { unit = refl; without = search.prices.without };
     scale = refl;

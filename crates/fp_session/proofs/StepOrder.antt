@@ -17,12 +17,13 @@ use Rattle.fp_session_history.specs.declared.endings.Left.TheVariants.{Nothing, 
 use Rattle.fp_session_history.specs.Notes.{Refinement}
 use Rattle.fp_session_history.specs.Solutions.{AreWalksUnder}
 use Rattle.fp_session.specs.declared.kept.Kept.{Kept}
-use Rattle.fp_session.specs.declared.moves.Cheaper.{Cheaper}
+use Rattle.fp_session_looks.specs.declared.cheaper.Cheaper.{Cheaper}
 use Rattle.fp_session.specs.declared.moves.Division.{Division}
 use Rattle.fp_session.specs.declared.moves.Move.{Move}
 use Rattle.fp_session.specs.declared.moves.Move.TheVariants as move
 use Rattle.fp_session.specs.declared.moves.Refined.{Refined}
 use Rattle.fp_session.specs.declared.payloads.Payload.{Payload}
+use Rattle.fp_session.specs.declared.preparations.Preparation.{Preparation}
 use Rattle.fp_session.specs.declared.searches.Search.{Search}
 use Rattle.fp_session.specs.declared.steps.Step.{Step}
 use Rattle.fp_session.specs.declared.steps.Step.TheVariants as step
@@ -72,11 +73,12 @@ module _ (s : Search) (prices : PriceLists) (k : ℕ) (kept : Kept) (m : Move) (
   close-order t tree = works t step.Closed tree
 
   -- a cheaper plan that is taken
-  pub better-order : (t u : Search) (c : Cheaper) → t.tree ≡ with_kept k kept s.tree → u ≡ with_incumbent t c → IsInOrder (in_hand s) (in_hand u) step.Better
-  better-order t u c tree taken = works u step.Better (ap (λ (x : Search). x.tree) taken ∙ tree)
+  pub better-order : (t u : Search) (c : Cheaper) (reserve : Option Cheaper) (preparation : Preparation) → t.tree ≡ with_kept k kept s.tree → u ≡ with_incumbent t c reserve preparation →
+      IsInOrder (in_hand s) (in_hand u) step.Better
+  better-order t u c reserve preparation tree taken = works u step.Better (ap (λ (x : Search). x.tree) taken ∙ tree)
 
   -- a round that is added
-  pub round-order : (t u : Search) (note : Refinement) (r : Refined) → m ≡ move.Refine note r → in_hand t ≡ with_round (in_hand s) note r → u ≡ with_tree t u.tree →
+  pub round-order : (t u : Search) (note : Refinement) (r : Refined) → m ≡ move.Refine note r → in_hand t ≡ with_round (in_hand s) note r t.preparation → u ≡ with_tree t u.tree →
       u.tree ≡ with_kept k kept t.tree → IsInOrder (in_hand s) (in_hand u) step.Round
   round-order t u note r same with others tree = works u step.Round
       (record {

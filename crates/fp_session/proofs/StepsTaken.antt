@@ -1,6 +1,6 @@
 -- What a step did, from what its parts did.
 use Rattle.std.proofs.Common.{◌≡◌, ℕ, ◌+◌, ◌<◌, false, List, refl, sym, ap, ◌∙◌, subst}
-use Rattle.std.specs.Prelude.{IsSomeAnd, None, Option, Some}
+use Rattle.std.specs.Prelude.{⊤, IsSomeAnd, None, Option, Some}
 use Rattle.fp_tree.specs.declared.sides.Side.{Side}
 use Rattle.fp_tree.specs.Nodes.{Node, closed_of, fork_of, leaf_at, split_count}
 use Rattle.fp_tree.specs.Trees.{Leaf, tree_branches}
@@ -8,16 +8,17 @@ use Rattle.fp_duals_leaves.specs.Prices.{PriceLists}
 use Rattle.fp_session_history.specs.declared.endings.Left.{Left}
 use Rattle.fp_session_history.specs.Notes.{History, Refinement, last_round, with_note}
 use Rattle.fp_session.specs.declared.kept.Kept.{Kept}
-use Rattle.fp_session.specs.declared.moves.Cheaper.{Cheaper}
+use Rattle.fp_session_looks.specs.declared.cheaper.Cheaper.{Cheaper}
 use Rattle.fp_session.specs.declared.moves.Division.{Division}
 use Rattle.fp_session.specs.declared.moves.Move.{Move}
 use Rattle.fp_session.specs.declared.moves.Move.TheVariants as move
 use Rattle.fp_session.specs.declared.moves.Refined.{Refined}
 use Rattle.fp_session.specs.declared.payloads.Payload.{Payload}
+use Rattle.fp_session.specs.declared.preparations.Preparation.{Preparation}
 use Rattle.fp_session.specs.declared.searches.Search.{Search}
-use Rattle.fp_session.specs.Moves.{AtOpenLeaf, IsCheaper, IsDivision, IsStopAt, IsMove, IsMoveAt, IsNextRound, IsUnsettled}
+use Rattle.fp_session.specs.Moves.{AtOpenLeaf, HasReserve, IsDivision, IsStopAt, IsMove, IsMoveAt, IsNextRound, IsUnsettled}
 use Rattle.fp_session.specs.Nodes.{IsKept, IsLeafOf, IsSettled}
-use Rattle.fp_session.specs.Searches.{InHand, history, in_hand}
+use Rattle.fp_session.specs.Searches.{InHand, IsCheaper, history, in_hand}
 use Rattle.fp_session.specs.StepCauses.{open_count, with_incumbent, with_round, with_tree}
 use Rattle.fp_session.specs.Steps.{HasRefined, IsCheaperNow, StayFixed}
 use Rattle.fp_session.proofs.Applied.{some-value}
@@ -83,6 +84,16 @@ module _ (s : Search) (prices : PriceLists) (k : ℕ) (kept : Kept) (m : Move) (
     stop-left =
         AtOpenLeaf-map s.tree k (λ l. IsMoveAt s prices k l.sides kept (move.Stop left)) (λ l. IsStopAt s k l.sides left) (λ l all. all.1) (planned-as (move.Stop left) same)
 
+    -- where no plan waits in reserve
+    pub stop-none : s.reserve ≡ None
+    stop-none =
+        AtOpenLeaf-fact s.tree k (s.reserve ≡ None)
+        (AtOpenLeaf-map s.tree k (λ l. IsMoveAt s prices k l.sides kept (move.Stop left)) (λ l. s.reserve ≡ None) (λ l all. all.2) (planned-as (move.Stop left) same))
+
+  -- a plan that is to be taken out of reserve is there
+  pub reserve-some : m ≡ move.TakeReserve → HasReserve s
+  reserve-some same = AtOpenLeaf-fact s.tree k (HasReserve s) (planned-as move.TakeReserve same)
+
 -- what is kept of a leaf stays true with one more note
 IsKept-with_note : (h : History) (started cost : ℕ) (n : Refinement) (sides : List Side) (payload : Payload) (value : ℕ) → n.round ≡ last_round h + 1 → IsKept h sides payload value →
     IsKept (with_note h n) sides payload value
@@ -90,7 +101,7 @@ IsKept-with_note h started cost n sides payload value next kept =
     let open_still : IsLeafOf h cost (leaf_put payload value false sides) = record { kept = kept; closed = λ shut. absurd (Rattle.std.proofs.lemmas.Bool.false≢true shut) } in
     (IsLeafOf-with_note h started cost n next (leaf_put payload value false sides) open_still).kept
 
-module _ (s t : Search) (prices : PriceLists) (note : Refinement) (r : Refined) (next : IsNextRound s note r) (with : in_hand t ≡ with_round (in_hand s) note r) where
+module _ (s t : Search) (prices : PriceLists) (note : Refinement) (r : Refined) (next : IsNextRound s note r) (with : in_hand t ≡ with_round (in_hand s) note r t.preparation) where
   -- what was found of an open leaf is still true after a round
   pub round-kept : (k : ℕ) (kept : Kept) → AtOpenLeaf s.tree k (λ l. IsKept (history s prices) l.sides kept.payload kept.value) →
       AtOpenLeaf t.tree k (λ l. IsKept (history t prices) l.sides kept.payload kept.value)
@@ -104,7 +115,7 @@ module _ (s t : Search) (prices : PriceLists) (note : Refinement) (r : Refined) 
 
   -- and after something is kept of that leaf
   module _ (u : Search) (others : u ≡ with_tree t u.tree) where
-    of_both : {A : Type 0} (f : InHand → A) → f (in_hand (with_tree t u.tree)) ≡ f (in_hand t) → f (with_round (in_hand s) note r) ≡ f (in_hand s) → f (in_hand u) ≡ f (in_hand s)
+    of_both : {A : Type 0} (f : InHand → A) → f (in_hand (with_tree t u.tree)) ≡ f (in_hand t) → f (with_round (in_hand s) note r t.preparation) ≡ f (in_hand s) → f (in_hand u) ≡ f (in_hand s)
     of_both f tree round = ap (λ (x : Search). f (in_hand x)) others ∙ tree ∙ ap f with ∙ round
 
     pub round-fixed : StayFixed (in_hand s) (in_hand u)
@@ -136,7 +147,7 @@ module _ (s t u : Search) (c : Cheaper) (cheaper : IsCheaper s c) (others : t �
   pub kept-going : s.left ≡ None → t.left ≡ None
   kept-going going = ap (λ (x : Search). x.left) others ∙ going
 
-  module _ (taken : u ≡ with_incumbent t c) where
+  module _ (reserve : Option Cheaper) (preparation : Preparation) (taken : u ≡ with_incumbent t c reserve preparation) where
     pub better-fixed : StayFixed (in_hand s) (in_hand u)
     better-fixed = record {
       instance = ap (λ (x : Search). x.instance) taken ∙ ap (λ (x : Search). x.instance) others;
@@ -155,3 +166,7 @@ module _ (s t u : Search) (c : Cheaper) (cheaper : IsCheaper s c) (others : t �
       cost = subst (λ (n : ℕ). n < s.cost) (sym (ap (λ (x : Search). x.cost) taken)) cheaper.less;
       trace = ap (λ (x : Search). x.trace.items) taken ∙ ap (λ (x : Search). x.trace.items) others;
     }
+
+-- a plan still waits in reserve after something is kept of a leaf
+pub kept-reserve : (s t : Search) → t ≡ with_tree s t.tree → HasReserve s → HasReserve t
+kept-reserve s t others some = subst HasReserve (sym others) some

@@ -10,6 +10,7 @@ use Rattle.fp_prices.specs.Rounds.{LeafModel}
 use Rattle.fp_prices.specs.Shares.{ClassShare}
 use Rattle.fp_prices_spans.specs.Spans.{ClassSpan}
 use Rattle.fp_duals_leaves.specs.Prices.{ArePrices, HaveGrown, PriceLists, with_more}
+use Rattle.fp_flatnet.specs.Tables.{WindowTable}
 use Rattle.fp_session_branching.specs.declared.leaf_candidates.Candidate.{Candidate}
 use Rattle.fp_session_branching.specs.Candidates.{IsCandidate}
 use Rattle.fp_session_history.specs.Notes.{History}
@@ -28,8 +29,8 @@ none-of [] few = refl
 none-of (x ∷ xs) few = absurd (omega (arith, few))
 
 -- prices that have grown by no table are as they were
-pub same-few : (p : Problem) (before after : PriceLists) → ArePrices p before → HaveGrown p before after → length after.tables ≤ length before.tables → after ≡ before
-same-few p before after are grown few =
+pub same-few : (p : Problem) (table : WindowTable) (before after : PriceLists) → ArePrices p table before → HaveGrown p table before after → length after.tables ≤ length before.tables → after ≡ before
+same-few p table before after are grown few =
     let no_tables : grown.tables ≡ [] = none-of grown.tables (omega (arith, few, ap (λ (x : PriceLists). length x.tables) grown.is, length-append before.tables grown.tables)) in
     let no_spans : grown.spans ≡ [] =
     none-of grown.spans (omega (arith, few, grown.prices.beside, are.beside, ap (λ (x : PriceLists). length x.spans) grown.is, length-append before.spans grown.spans)) in
@@ -44,7 +45,7 @@ some-by (Some x) P Q weaker is = weaker x is
 
 -- what a trial told is kept by the prices that there were, where it took no further table
 pub chosen-tried : (s : Search) (before after : PriceLists) (l : LeafModel) (c : Candidate) (found : Below) (chosen : Chosen) (had has : ℕ) → IsSearch s before →
-    HaveGrown s.instance before after → AreKeptBelow (history s after) l.sides (fork_by c) found → IsCandidate l c → chosen.candidate ≡ c →
+    HaveGrown s.instance s.windows before after → AreKeptBelow (history s after) l.sides (fork_by c) found → IsCandidate l c → chosen.candidate ≡ c →
     IfSome chosen.below (λ told. (has ≤ had) × (told ≡ found)) → (has ≤ had → length after.tables ≤ length before.tables) → IsChosen (history s before) l chosen
 chosen-tried s before after l c found chosen had has is grown kept candidate same told few = record {
   candidate = subst (IsCandidate l) (sym same) candidate;
@@ -55,11 +56,11 @@ chosen-tried s before after l c found chosen had has is grown kept candidate sam
     own t is_found =
         subst (AreKeptBelow (history s before) l.sides (fork_by chosen.candidate)) (sym is_found.1)
         (subst (λ (d : Candidate). AreKeptBelow (history s before) l.sides (fork_by d) found) (sym same)
-        (subst (λ (x : PriceLists). AreKeptBelow (history s x) l.sides (fork_by c) found) (same-few s.instance before after is.prices grown (few is_found.0)) kept))
+        (subst (λ (x : PriceLists). AreKeptBelow (history s x) l.sides (fork_by c) found) (same-few s.instance s.windows before after is.prices grown (few is_found.0)) kept))
 
 -- what is kept of both leaves below a split, one after the other
 pub kept-both : (s : Search) (between after : PriceLists) (sides : List Side) (split : Split) (tail : ℕ) (one other : Side) (a b : Kept) → one ≡ first_of_split split → other ≡ second_of_split split tail →
-    ArePrices s.instance between → HaveGrown s.instance between after → IsKept (history s between) (sides ++ (one ∷ [])) a.payload a.value →
+    ArePrices s.instance s.windows between → HaveGrown s.instance s.windows between after → IsKept (history s between) (sides ++ (one ∷ [])) a.payload a.value →
     IsKept (history s after) (sides ++ (other ∷ [])) b.payload b.value → AreKeptBelow (history s after) sides (record { split = split; tail = tail }) (record { first = a; second = b })
 kept-both s between after sides split tail one other a b is_first is_second are grown first_kept second_kept = record {
   first = subst (λ (side : Side). IsKept (history s after) (sides ++ (side ∷ [])) a.payload a.value) is_first (IsKept-grown s between after (sides ++ (one ∷ [])) a are grown first_kept);

@@ -12,8 +12,8 @@ pub mod Steps
 pub mod Choices
 pub mod TreeLines
 pub mod Certificates
-pub mod Stages
 pub mod Starts
 pub mod Sessions
 pub mod Solved
+pub mod Preparations
 pub mod Progress

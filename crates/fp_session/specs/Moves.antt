@@ -1,5 +1,5 @@
 -- What a step may do, before it does it.
-use Rattle.std.specs.Prelude.{ℕ, ◌+◌, ◌<◌, ◌≤◌, ◌≡◌, ⊤, Bool, List, [], ◌∷◌, ◌++◌, false, IsSomeAnd}
+use Rattle.std.specs.Prelude.{ℕ, ◌+◌, ◌<◌, ◌≤◌, ◌≡◌, ◌⊎◌, ⊤, Bool, List, [], ◌∷◌, ◌++◌, false, None, IsSomeAnd}
 use Rattle.fp_model.specs.declared.parts.Leg.{Leg}
 use Rattle.fp_flatnet.specs.Tables.{windows_in}
 use Rattle.fp_tree.specs.declared.sides.Side.{Side}
@@ -17,7 +17,6 @@ use Rattle.fp_session_history.specs.Notes.{History, Refinement, last_round, poin
 use Rattle.fp_session_history.specs.Solutions.{AreWalksUnder, HasSeveral, IsTimely}
 use Rattle.fp_session_history.specs.Traces.{IsEarnedRound}
 use Rattle.fp_session.specs.declared.kept.Kept.{Kept}
-use Rattle.fp_session.specs.declared.moves.Cheaper.{Cheaper}
 use Rattle.fp_session.specs.declared.moves.Division.{Division}
 use Rattle.fp_session.specs.declared.moves.Move.{Move}
 use Rattle.fp_session.specs.declared.moves.Move.TheVariants as move
@@ -28,16 +27,15 @@ use Rattle.fp_session.specs.Nodes.{IsKept, IsSettled}
 use Rattle.fp_session.specs.Outcomes.{IsAtLeastStarts}
 use Rattle.fp_session.specs.Refining.{IsRefined}
 use Rattle.fp_session.specs.Order.{AreWalksHad, HasDearWalks}
-use Rattle.fp_session.specs.Searches.{IsIncumbent, history, in_hand}
+use Rattle.fp_session.specs.Searches.{IsCheaper, history, in_hand}
 
 -- the points as of the last round
 abbrev pub points_now : Search → ℕ → List ℕ
 points_now s = points_of (history s no_prices) (last_round (history s no_prices))
 
--- a plan that is cheaper than the incumbent
-pub record IsCheaper (s : Search) (c : Cheaper) : Type 0 where
-  pub incumbent : IsIncumbent s.instance s.windows c.plan c.cost
-  pub less : c.cost < s.cost
+-- a plan waits in reserve
+abbrev pub HasReserve : Search → Type 0
+HasReserve s = IsSomeAnd s.reserve (λ cheaper. ⊤)
 
 -- one more round, with the incumbent of the moment: it is earned, and there is one left
 pub record IsNextRound (s : Search) (note : Refinement) (r : Refined) : Type 0 where
@@ -97,27 +95,34 @@ pub record IsUnsettled (h : History) (cost : ℕ) (sides : List Side) (kept : Ke
 abbrev pub IsOpenMove : Search → PriceLists → (leaf : ℕ) → List Side → Move → Type 0
 IsOpenMove s prices leaf sides move.Close = ⊥
 IsOpenMove s prices leaf sides (move.Better cheaper) = IsCheaper s cheaper
+IsOpenMove s prices leaf sides move.TakeReserve = HasReserve s
 IsOpenMove s prices leaf sides (move.Refine note refined) = IsNextRound s note refined × AreWalksHad (in_hand s) sides note.relaxed
 IsOpenMove s prices leaf sides (move.Divide division) = (split_count s.tree < s.budget.branches) × IsDivision (history s prices) sides division × HasDearWalks (in_hand s) sides
-IsOpenMove s prices leaf sides (move.Stop left) = IsLeftAt s leaf sides left
+IsOpenMove s prices leaf sides (move.Stop left) = IsLeftAt s leaf sides left × (s.reserve ≡ None)
 
 -- what a step may do at a leaf of which this is kept
 abbrev pub IsMoveAt : Search → PriceLists → (leaf : ℕ) → List Side → Kept → Move → Type 0
 IsMoveAt s prices leaf sides kept move.Close = IsSettled (history s prices) s.cost kept.payload kept.value
 IsMoveAt s prices leaf sides kept (move.Better cheaper) = IsCheaper s cheaper
+IsMoveAt s prices leaf sides kept move.TakeReserve = HasReserve s
 IsMoveAt s prices leaf sides kept (move.Refine note refined) =
     IsUnsettled (history s prices) s.cost sides kept × IsNextRound s note refined × AreWalksHad (in_hand s) sides note.relaxed
 IsMoveAt s prices leaf sides kept (move.Divide division) =
     IsUnsettled (history s prices) s.cost sides kept × (split_count s.tree < s.budget.branches) × IsDivision (history s prices) sides division × HasDearWalks (in_hand s) sides
-IsMoveAt s prices leaf sides kept (move.Stop left) = IsUnsettled (history s prices) s.cost sides kept × IsStopAt s leaf sides left
+IsMoveAt s prices leaf sides kept (move.Stop left) = IsUnsettled (history s prices) s.cost sides kept × IsStopAt s leaf sides left × (s.reserve ≡ None)
 
 -- a step ends a search for want of time only where the time is over
 abbrev pub IsTimelyMove : (over : Bool) → Move → Type 0
 IsTimelyMove over move.Close = ⊤
 IsTimelyMove over (move.Better cheaper) = ⊤
+IsTimelyMove over move.TakeReserve = ⊤
 IsTimelyMove over (move.Refine note refined) = ⊤
 IsTimelyMove over (move.Divide division) = ⊤
 IsTimelyMove over (move.Stop left) = IsTimely over left
+
+-- what a step does at a leaf where the time is over: it takes the plan in reserve, or ends the search where there is none
+abbrev pub IsLate : Search → ℕ → Move → Type 0
+IsLate s leaf m = ((m ≡ move.TakeReserve) × HasReserve s) ⊎ ((m ≡ move.Stop (Unsettled leaf)) × (s.reserve ≡ None))
 
 -- the leaf with a number is open, and it is so of its sides and its value
 abbrev pub AtOpenLeaf : List (Node Payload) → ℕ → (Leaf (Node Payload) → Type 0) → Type 0

@@ -1,5 +1,5 @@
 -- What comes of improving a leaf that is open.
-use Rattle.std.specs.Prelude.{ℕ, ◌*◌, ◌<◌, ◌≤◌, ◌≡◌, List, [], Bool, true, false, None, Some, ◌⊎◌}
+use Rattle.std.specs.Prelude.{ℕ, ◌*◌, ◌<◌, ◌≤◌, ◌≡◌, List, [], Bool, true, false, None, Option, ◌⊎◌}
 use Rattle.fp_base_lists.specs.Numbered.{AllZipFrom}
 use Rattle.fp_model.specs.declared.parts.Leg.{Leg}
 use Rattle.fp_model.specs.Costs.{cost}
@@ -15,7 +15,6 @@ use Rattle.fp_session_history.specs.Solutions.{AreWalksUnder}
 use Rattle.fp_session.specs.declared.kept.Kept.{Kept}
 use Rattle.fp_session.specs.declared.outcomes.Outcome.{Outcome}
 use Rattle.fp_session.specs.declared.outcomes.Outcome.TheVariants.{Empty, Open}
-use Rattle.fp_session.specs.declared.payloads.Improvement.{Improvement}
 use Rattle.fp_session.specs.Nodes.{IsKept}
 
 -- a value is at least those of the leaf by linear and by even prices over the points as of the last
@@ -43,9 +42,9 @@ empty_kept round = record { payload = record { price = record { kind = Linear; r
 abbrev pub priced_kept : LeafPrice → ℕ → Kept
 priced_kept price value = record { payload = record { price = price; empty = false; incumbent = 0; improved = None }; value = value }
 
--- what was kept of a leaf, with a note on how far it was improved
-abbrev pub noted_kept : Improvement → Kept → Kept
-noted_kept far kept = record { payload = record kept.payload { improved = Some far }; value = kept.value }
+-- what was kept of a leaf, with a note as of which round its price was improved, if it was
+abbrev pub noted_kept : Option ℕ → Kept → Kept
+noted_kept improved kept = record { payload = record kept.payload { improved = improved }; value = kept.value }
 
 -- of what was kept and of another price with its value, the other where its value is greater
 abbrev pub IsGreater : Kept → LeafPrice → ℕ → Kept → Type 0

@@ -1,13 +1,10 @@
 -- What a search knows of what it has in hand.
-use Rattle.std.specs.Prelude.{ℕ, ◌≤◌, ◌≡◌, ⊤, List, true, All, IfSome, IsSomeAnd, Option}
+use Rattle.std.specs.Prelude.{ℕ, ◌<◌, ◌≤◌, ◌≡◌, ⊤, List, true, All, IfSome, IsSomeAnd, None, Option, Some}
 use Rattle.fp_model.specs.declared.parts.Leg.{Leg}
-use Rattle.fp_model.specs.Costs.{cost}
-use Rattle.fp_model.specs.Plans.{IsPlan}
 use Rattle.fp_model.specs.Problem.{Problem}
 use Rattle.fp_timenodes.specs.Points.{TimePoints}
 use Rattle.fp_flatnet.specs.Belonging.{BelongsTo}
 use Rattle.fp_flatnet.specs.Tables.{WindowTable, windows_in}
-use Rattle.fp_flatnet.specs.Windows.{PlanLiesWithin}
 use Rattle.fp_longestarcs.specs.Networks.{TimedNetwork}
 use Rattle.fp_longestarcs.specs.Whole.{IsNetworkOf}
 use Rattle.fp_tree.specs.declared.sides.Side.{Side}
@@ -25,16 +22,31 @@ use Rattle.fp_session_history.specs.Points.{BeginWith}
 use Rattle.fp_session_history.specs.PrintedLeaves.{IsOpenBelow}
 use Rattle.fp_session_history.specs.Solutions.{AreWalksUnder, HasSeveral}
 use Rattle.fp_session_history.specs.Traces.{IsEarnedTrace}
+use Rattle.fp_session_looks.specs.declared.cheaper.Cheaper.{Cheaper}
+use Rattle.fp_session_looks.specs.Plans.{IsBelow, IsIncumbent}
 use Rattle.fp_session.specs.declared.payloads.Payload.{Payload}
+use Rattle.fp_session.specs.declared.preparations.Preparation.{Preparation}
 use Rattle.fp_session.specs.declared.searches.Search.{Search}
 use Rattle.fp_session.specs.Nodes.{IsLeafOf, IsSplitOf}
 use Rattle.fp_duals_leaves.specs.Prices.{ArePrices, PriceLists}
 
--- a plan in whole units within the windows, with what it costs
-pub record IsIncumbent (p : Problem) (table : WindowTable) (legs : List (List Leg)) (n : ℕ) : Type 0 where
-  pub plan : IsPlan p 1 legs
-  pub within : PlanLiesWithin (windows_in table) 1 legs
-  pub costs : n ≡ cost p legs
+-- a plan that is cheaper than the incumbent
+abbrev pub IsCheaper : Search → Cheaper → Type 0
+IsCheaper s c = IsBelow s.instance s.windows s.cost c
+
+-- the cheapest plan that was found: the one in reserve, or else the incumbent
+abbrev pub cheapest : List (List Leg) → Option Cheaper → List (List Leg)
+cheapest incumbent None = incumbent
+cheapest incumbent (Some reserve) = reserve.plan
+
+-- and what it costs
+abbrev pub cheapest_cost : ℕ → Option Cheaper → ℕ
+cheapest_cost cost None = cost
+cheapest_cost cost (Some reserve) = reserve.cost
+
+-- both of a search
+abbrev pub cheapest_plan : Search → Cheaper
+cheapest_plan s = record { plan = cheapest s.incumbent s.reserve; cost = cheapest_cost s.cost s.reserve }
 
 -- the history of a search with these prices
 abbrev pub history : Search → PriceLists → History
@@ -70,6 +82,8 @@ pub record InHand : Type 0 where
   pub started : ℕ
   pub incumbent : List (List Leg)
   pub cost : ℕ
+  pub reserve : Option Cheaper
+  pub preparation : Preparation
   pub points : TimePoints
   pub network : TimedNetwork
   pub tree : List (Node Payload)
@@ -85,6 +99,8 @@ in_hand s = record {
   started = s.started;
   incumbent = s.incumbent;
   cost = s.cost;
+  reserve = s.reserve;
+  preparation = s.preparation;
   points = s.points;
   network = s.network;
   tree = s.tree;
@@ -98,14 +114,16 @@ pub record IsSearch (s : Search) (lists : PriceLists) : Type 0 where
   pub budget : IsBudget s.budget
   pub incumbent : IsIncumbent s.instance s.windows s.incumbent s.cost
   pub cheaper : s.cost ≤ s.started
+  pub reserve : IfSome s.reserve (IsCheaper s)
   pub trace : IsEarnedTrace (history s lists) s.started s.cost
   pub rounds : last_round (history s lists) ≤ s.budget.rounds
   pub points : BeginWith s.instance s.windows.anchors s.points
   pub added : s.points.added ≡ added_of s.trace.items
   pub network : IsNetworkOf s.instance s.points (last_round (history s lists)) s.network
-  pub prices : ArePrices s.instance lists
+  pub prices : ArePrices s.instance s.windows lists
   pub tails : HaveTails (tails_of s.instance) fork_of s.tree
   pub few : split_count s.tree ≤ s.budget.branches
   pub splits : All (IsSplitOf (history s lists) s.started s.cost) (tree_branches fork_of s.tree)
   pub leaves : All (IsLeafOf (history s lists) s.cost) (tree_leaves fork_of s.tree)
   pub left : IfSome s.left (IsLeft s lists)
+  pub ended : IfSome s.left (λ left. s.reserve ≡ None)

@@ -10,9 +10,11 @@ use Rattle.fp_duals_leaves.specs.Prices.{PriceLists}
 use Rattle.fp_session_history.specs.declared.budgets.Budget.{Budget}
 use Rattle.fp_session_history.specs.declared.endings.Left.{Left}
 use Rattle.fp_session_history.specs.Notes.{Refinement}
+use Rattle.fp_session_looks.specs.declared.cheaper.Cheaper.{Cheaper}
 use Rattle.fp_session.specs.declared.payloads.Payload.{Payload}
+use Rattle.fp_session.specs.declared.preparations.Preparation.{Preparation}
 use Rattle.fp_session.specs.declared.searches.Search.{Search}
-use Rattle.fp_session.specs.Searches.{InHand, IsSearch, in_hand}
+use Rattle.fp_session.specs.Searches.{InHand, IsSearch, cheapest, in_hand}
 
 -- a search: its instance and its windows, what it may spend, what the plan costs that it started
 -- with, and what it has in hand
@@ -23,6 +25,8 @@ pub record SessionModel : Type 0 where
   pub started : ℕ
   pub incumbent : List (List Leg)
   pub cost : ℕ
+  pub reserve : Option Cheaper
+  pub preparation : Preparation
   pub points : TimePoints
   pub network : TimedNetwork
   pub tree : List (Node Payload)
@@ -39,6 +43,8 @@ session_of s prices = record {
   started = s.started;
   incumbent = s.incumbent;
   cost = s.cost;
+  reserve = s.reserve;
+  preparation = s.preparation;
   points = s.points;
   network = s.network;
   tree = s.tree;
@@ -56,6 +62,8 @@ hand_of m = record {
   started = m.started;
   incumbent = m.incumbent;
   cost = m.cost;
+  reserve = m.reserve;
+  preparation = m.preparation;
   points = m.points;
   network = m.network;
   tree = m.tree;
@@ -68,3 +76,7 @@ pub record IsSound (m : SessionModel) : Type 0 where
   pub search : Search
   pub is : hand_of m ≡ in_hand search
   pub knows : IsSearch search m.prices
+
+-- the cheapest plan that it has found
+abbrev pub cheapest_of : SessionModel → List (List Leg)
+cheapest_of m = cheapest m.incumbent m.reserve

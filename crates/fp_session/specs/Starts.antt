@@ -16,10 +16,11 @@ use Rattle.fp_session.specs.StepCauses.{open_count}
 abbrev pub start_of : Problem → WindowTable → PriceLists → History
 start_of p table prices = record { problem = p; windows = table; trace = []; tables = prices.tables; spans = prices.spans; unit = prices.unit }
 
--- a search that has made no step: its incumbent is the plan that it starts with, its tree is one open
--- leaf, there was no round, and it hasn't ended
+-- a search that has made no step: its incumbent is the plan that it starts with, none waits in reserve, its
+-- tree is one open leaf, there was no round, and it hasn't ended
 pub record HasBegun (start : List (List Leg)) (s : InHand) : Type 0 where
   pub incumbent : s.incumbent ≡ start
+  pub reserve : s.reserve ≡ None
   pub leaves : open_count s.tree ≡ 1
   pub splits : split_count s.tree ≡ 0
   pub trace : s.trace ≡ []

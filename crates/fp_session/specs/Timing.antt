@@ -6,9 +6,9 @@ use Rattle.fp_session_history.specs.Notes.{last_round}
 use Rattle.fp_session.specs.declared.searches.Search.{Search}
 use Rattle.fp_session.specs.declared.timing.Timing.{Timing}
 use Rattle.fp_session.specs.declared.timing.Timing.TheVariants.{Better, Refine, Spent}
-use Rattle.fp_session.specs.Moves.{IsCheaper, IsNextRound, points_now}
+use Rattle.fp_session.specs.Moves.{IsNextRound, points_now}
 use Rattle.fp_duals_leaves.specs.Prices.{no_prices}
-use Rattle.fp_session.specs.Searches.{history}
+use Rattle.fp_session.specs.Searches.{IsCheaper, history}
 
 -- a cheaper plan; or one more round, by the relaxed plan; or the relaxed plan calls for one, and none is left
 abbrev pub IsTiming : Search → List (List Leg) → Timing → Type 0

@@ -9,17 +9,20 @@ ghost use Rattle.fp_duals_leaves.specs.Prices.{HaveGrown};
 ghost use Rattle.fp_session.specs.Searches.{IsSearch, in_hand};
 ghost use Rattle.fp_session_history.specs.Solutions.{IsTimely};
 ghost use Rattle.fp_session.specs.StepCauses.{ending_of as ending_in};
+ghost use Rattle.fp_session.specs.Preparations.{work_left};
 ghost use Rattle.fp_session.specs.Steps.{HasGoneOn, IsStep, StayFixed};
 
 use crate::NoMemory;
 use crate::applying::ending_of;
 use crate::moves::Move;
 use crate::planning::{Planned, next_move};
+use crate::preparations::prepare;
 use crate::searches::Search;
 use crate::steps::Step;
 use fp_duals_leaves::Prices;
 use fp_ends::{Clock, ClockDeadline, Resources, have_passed};
 use fp_session_history::{Ending, Left};
+use fp_tree::leaves_cover_all;
 use std::alloc::Global;
 
 // Whether a step is going to end a search for want of time.
@@ -28,7 +31,11 @@ fn is_given_up(planned: &Move) -> bool
 {
     match planned {
         Move::Stop { left } => matches!(left, Left::Unsettled { .. }),
-        Move::Close | Move::Better { .. } | Move::Refine { .. } | Move::Divide { .. } => false,
+        Move::Close
+        | Move::Better { .. }
+        | Move::TakeReserve
+        | Move::Refine { .. }
+        | Move::Divide { .. } => false,
     }
 }
 
@@ -47,7 +54,7 @@ fn planned_in_time<C: Clock>(
     requires going { search.now.left ≡ None }
     requires leaf { number < leaf_count search.now.tree }
     requires still_open { IsSomeAnd (leaf_at search.now.tree number) (λ l. closed_of l.node ≡ false) }
-    ensures grown { HaveGrown search.now.instance prices.old prices.new }
+    ensures grown { HaveGrown search.now.instance search.now.windows prices.old prices.new }
     ensures planned { IfOk result
         (λ p. IsMove search.now prices.new number p.kept p.planned) }
     ensures timely { IfOk result
@@ -75,7 +82,7 @@ fn attempt<C: Clock>(
     requires search { IsSearch search.old prices.old }
     requires going { search.old.left ≡ None }
     requires least { IsBestOpen search.old.tree leaf }
-    ensures grown { HaveGrown search.old.instance prices.old prices.new }
+    ensures grown { HaveGrown search.old.instance search.old.windows prices.old prices.new }
     ensures search { OnOk result (IsSearch search.new prices.new) }
     ensures fixed { StayFixed (in_hand search.old) (in_hand search.new) }
     ensures step { IfOk result (IsStep (in_hand search.old) (in_hand search.new)) }
@@ -120,6 +127,8 @@ fn advance_open<C: Clock>(
             }
         }
         None => {
+            // No plan is cheaper than the incumbent then, so none waits in reserve.
+            leaves_cover_all(&search.tree);
             search.left = Some(Left::Nothing);
             Ok(Step::Done {
                 ending: Ending::Optimal,
@@ -158,6 +167,34 @@ pub(crate) fn advance<C: Clock>(
     }
 }
 
+// Does what is next: what is done before a step, or else a step. Without memory all is as before.
+pub(crate) fn go_on<C: Clock>(
+    alloc: Global,
+    clock: &mut C,
+    seconds: Option<u32>,
+    search: &mut Search,
+    prices: &mut Prices,
+) -> Result<(), NoMemory>
+    requires search { IsSearch search.old prices.old }
+    requires going { search.old.left ≡ None }
+    ensures search { IsSearch search.new prices.new }
+    ensures fixed { StayFixed (in_hand search.old) (in_hand search.new) }
+    ensures onward { OnOk result (HasGoneOn (in_hand search.old) (in_hand search.new)) }
+    ensures fewer { OnOk result (work_left (in_hand search.new) < work_left (in_hand search.old)) }
+    ensures unit { prices.new.unit ≡ prices.old.unit }
+    ensures timed { IfSome search.new.left (IsTimely (has_shown seconds (C.moment clock.new) (C.faults clock.old) (C.faults clock.new))) }
+    ensures later { IsLater (C.moment clock.old) (C.moment clock.new) (C.faults clock.old) (C.faults clock.new) }
+    ensures hand { OnErr result (in_hand search.new ≡ in_hand search.old) }
+    ensures prices { OnErr result (prices.new ≡ prices.old) }
+{
+    let did = prepare(alloc, &*clock, seconds, search, prices)?;
+    if did {
+        return Ok(());
+    }
+    advance_open(alloc, clock, seconds, search, prices)?;
+    Ok(())
+}
+
 // Goes on until the search has ended.
 pub(crate) fn finish<C: Clock>(
     alloc: Global,
@@ -176,7 +213,7 @@ pub(crate) fn finish<C: Clock>(
     ensures ended { OnOk result (IsSomeAnd search.new.left (λ left. ⊤)) }
 {
     while search.left.is_none() {
-        advance(alloc, clock, seconds, search, prices)?;
+        go_on(alloc, clock, seconds, search, prices)?;
     }
     Ok(())
 }

@@ -11,7 +11,7 @@ use fp_session_history::Left;
 
 // The bound of a search that is unfinished.
 fn bound(search: &Search, prices: &Prices) -> u128
-    requires { ArePrices search.now.instance prices.now }
+    requires { ArePrices search.now.instance search.now.windows prices.now }
     ensures { IsBound search.now prices.now result }
 {
     least_worth(search, prices)
@@ -19,7 +19,7 @@ fn bound(search: &Search, prices: &Prices) -> u128
 
 // The answer of a search, by what it left.
 pub(crate) fn answer(search: &Search, prices: &Prices, left: &Left) -> Answer
-    requires { ArePrices search.now.instance prices.now }
+    requires { ArePrices search.now.instance search.now.windows prices.now }
     ensures { IsAnswer search.now prices.now left.now result }
 {
     let cost = search.cost;

@@ -1,26 +1,28 @@
 //! A step does what was planned.
-ghost use Rattle.std.specs.Prelude.{◌≡◌, ◌<◌, None, Some, IfOk, IfSome, OnErr, OnOk};
+ghost use Rattle.std.specs.Prelude.{◌≡◌, ◌<◌, ◌≤◌, ⊤, None, Some, IfOk, IfSome, IsSomeAnd, OnErr, OnOk};
 ghost use Rattle.fp_tree.specs.Nodes.{IsBestOpen, fork_of, split_count};
 ghost use Rattle.fp_tree.specs.Trees.{tree_branches};
-ghost use Rattle.fp_session.specs.Moves.{AtOpenLeaf, IsCheaper, IsDivision, IsStopAt, IsMove, IsNextRound, IsUnsettled, fork_in};
+ghost use Rattle.fp_session.specs.Moves.{AtOpenLeaf, IsDivision, IsStopAt, IsMove, IsNextRound, IsUnsettled, fork_in};
 ghost use Rattle.fp_session.specs.declared.moves.Move.TheVariants.{Stop};
 ghost use Rattle.fp_session.specs.Nodes.{IsKept, IsSettled};
 ghost use Rattle.fp_session.specs.Order.{IsInOrder, with_closed, with_cost, with_divided, with_kept};
-ghost use Rattle.fp_session.specs.Searches.{IsSearch, history, in_hand};
+ghost use Rattle.fp_session.specs.Searches.{IsCheaper, IsSearch, cheapest_cost, cheapest_plan, history, in_hand};
 ghost use Rattle.fp_session.specs.StepCauses.{ending_of as ending_in, open_count, with_incumbent, with_round, with_tree};
 ghost use Rattle.fp_session.specs.Steps.{HasBranched, HasClosed, HasEnded, IsStep, StayFixed};
 
 use crate::NoMemory;
 use crate::kept::Kept;
-use crate::moves::{Cheaper, Division, Move};
+use crate::moves::{Division, Move};
 use crate::payloads::Payload;
 use crate::planning::Planned;
+use crate::preparations::Preparation;
 use crate::searches::Search;
 use crate::steps::Step;
 use crate::timing::NextRound;
 use fp_certificate_lines::Spent;
 use fp_duals_leaves::Prices;
 use fp_session_history::{Ending, Left};
+use fp_session_looks::Cheaper;
 use std::alloc::Global;
 
 // How a search ended that left this.
@@ -39,7 +41,24 @@ pub(crate) fn ending_of(left: &Left) -> Ending
     }
 }
 
+// A plan that waits in reserve, where it costs less than so much.
+fn waiting(reserve: Option<Cheaper>, cost: u128) -> Option<Cheaper>
+    ensures less { IfSome result (λ plan. (reserve ≡ Some plan) × (plan.cost < cost)) }
+    ensures cheapest { cheapest_cost cost result ≤ cheapest_cost cost reserve }
+{
+    match reserve {
+        Some(plan) if plan.cost < cost => Some(plan),
+        _ => None,
+    }
+}
+
 impl Search {
+    // What is done next before a step, after a round or a split.
+    fn next_look(&self) -> Preparation {
+        let done = self.trace.len().saturating_add(self.tree.splits() as usize);
+        self.preparation.after_work(done, &self.instance)
+    }
+
     // Keeps what was found of an open leaf, which is settled, and closes it. The tables serve the
     // contract alone, here and below.
     pub(crate) fn close(&mut self, prices: &Prices, leaf: u32, kept: Kept)
@@ -57,7 +76,7 @@ impl Search {
     }
 
     // Keeps what was found of an open leaf.
-    fn keep(&mut self, prices: &Prices, leaf: u32, kept: Kept)
+    pub(crate) fn keep(&mut self, prices: &Prices, leaf: u32, kept: Kept)
         requires search { IsSearch self.old prices.now }
         requires going { self.old.left ≡ None }
         requires kept { AtOpenLeaf self.old.tree leaf (λ l. IsKept (history self.old prices.now) l.sides kept.payload kept.value) }
@@ -71,14 +90,33 @@ impl Search {
         self.tree.put(leaf, kept.payload, kept.value);
     }
 
-    // A cheaper plan becomes the incumbent.
+    // A cheaper plan becomes the incumbent. A plan waits in reserve only where it is cheaper still.
     fn take(&mut self, prices: &Prices, cheaper: Cheaper)
         requires search { IsSearch self.old prices.now }
         requires going { self.old.left ≡ None }
         requires cheaper { IsCheaper self.old cheaper }
         ensures search { IsSearch self.new prices.now }
-        ensures taken { self.new ≡ with_incumbent self.old cheaper }
+        ensures taken { self.new ≡ with_incumbent self.old cheaper self.new.reserve self.new.preparation }
+        ensures cheapest { cheapest_cost self.new.cost self.new.reserve ≤ cheapest_cost self.old.cost self.old.reserve }
     {
+        self.reserve = waiting(self.reserve.take(), cheaper.cost);
+        self.preparation = self.preparation.after_plan();
+        self.incumbent = cheaper.plan;
+        self.cost = cheaper.cost;
+    }
+
+    // The plan in reserve becomes the incumbent.
+    fn take_reserve(&mut self, prices: &Prices)
+        requires search { IsSearch self.old prices.now }
+        requires going { self.old.left ≡ None }
+        requires some { IsSomeAnd self.old.reserve (λ cheaper. ⊤) }
+        ensures search { IsSearch self.new prices.now }
+        ensures taken { self.new ≡ with_incumbent self.old (cheapest_plan self.old) None self.old.preparation }
+        ensures less { self.new.cost < self.old.cost }
+    {
+        let Some(cheaper) = self.reserve.take() else {
+            unreachable!()
+        };
         self.incumbent = cheaper.plan;
         self.cost = cheaper.cost;
     }
@@ -90,12 +128,13 @@ impl Search {
         requires round { IsNextRound self.old round.note round.refined }
         ensures search { OnOk result (IsSearch self.new prices.now) }
         ensures refined { OnOk result
-            (in_hand self.new ≡ with_round (in_hand self.old) round.note round.refined) }
+            (in_hand self.new ≡ with_round (in_hand self.old) round.note round.refined self.new.preparation) }
         ensures err { OnErr result (in_hand self.new ≡ in_hand self.old) }
     {
         self.trace.push(round.note)?;
         self.points = round.refined.points;
         self.network = round.refined.network;
+        self.preparation = self.next_look();
         Ok(())
     }
 
@@ -130,13 +169,19 @@ impl Search {
         self.tree.put(leaf, noted, kept.value);
         let first = (division.first.payload, division.first.value);
         let second = (division.second.payload, division.second.value);
-        let divided = self
+        match self
             .tree
-            .split_leaf(alloc, leaf, division.split, division.tail, first, second);
-        if divided.is_err() {
-            self.tree.put(leaf, before, value);
+            .split_leaf(alloc, leaf, division.split, division.tail, first, second)
+        {
+            Ok(()) => {
+                self.preparation = self.next_look();
+                Ok(())
+            }
+            Err(error) => {
+                self.tree.put(leaf, before, value);
+                Err(error)
+            }
         }
-        divided
     }
 
     // Ends the search, with what it left at an open leaf, which keeps what was found of it.
@@ -146,6 +191,7 @@ impl Search {
         requires unsettled { AtOpenLeaf self.old.tree leaf (λ l. IsUnsettled (history self.old prices.now) self.old.cost l.sides kept) }
         requires kept { AtOpenLeaf self.old.tree leaf (λ l. IsKept (history self.old prices.now) l.sides kept.payload kept.value) }
         requires left { AtOpenLeaf self.old.tree leaf (λ l. IsStopAt self.old leaf l.sides left) }
+        requires none { self.old.reserve ≡ None }
         ensures search { IsSearch self.new prices.now }
         ensures fixed { StayFixed (in_hand self.old) (in_hand self.new) }
         ensures ended { HasEnded (in_hand self.old) (in_hand self.new) (ending_in left) }
@@ -184,6 +230,11 @@ impl Search {
             Move::Better { cheaper } => {
                 self.keep(prices, leaf, kept);
                 self.take(prices, cheaper);
+                Ok(Step::Better)
+            }
+            Move::TakeReserve => {
+                self.keep(prices, leaf, kept);
+                self.take_reserve(prices);
                 Ok(Step::Better)
             }
             Move::Refine { note, refined } => {

@@ -42,7 +42,7 @@ pub(crate) fn new_child<D: Deadline>(
     requires setting { leaf.now.setting ≡ setting_of search.now }
     requires search { IsSearch search.now prices.old }
     requires kind { HasKind prices.old.tables inherited.kind }
-    ensures grown { HaveGrown search.now.instance prices.old prices.new }
+    ensures grown { HaveGrown search.now.instance search.now.windows prices.old prices.new }
     ensures kept { IfOk result (λ kept.
         IsKept (history search.now prices.new) (leaf.now.sides ++ (side ∷ [])) kept.payload kept.value) }
 {
@@ -73,7 +73,7 @@ fn better_child<D: Deadline>(
     requires search { IsSearch search.now prices.old }
     requires kept { IsKept (history search.now prices.old) (leaf.now.sides ++ (side ∷ [])) old.payload old.value }
     requires some { old.payload.empty ≡ false }
-    ensures grown { HaveGrown search.now.instance prices.old prices.new }
+    ensures grown { HaveGrown search.now.instance search.now.windows prices.old prices.new }
     ensures kept { IfOk result (λ kept.
         IsKept (history search.now prices.new) (leaf.now.sides ++ (side ∷ [])) kept.payload kept.value) }
 {
@@ -113,7 +113,7 @@ fn as_above<D: Deadline>(
     requires kind { HasKind prices.old.tables above.kind }
     requires round { above.round ≤ length search.now.trace.items }
     requires kept { IsKept (history search.now prices.old) (leaf.now.sides ++ (side ∷ [])) old.payload old.value }
-    ensures grown { HaveGrown search.now.instance prices.old prices.new }
+    ensures grown { HaveGrown search.now.instance search.now.windows prices.old prices.new }
     ensures kept { IfOk result (λ kept.
         IsKept (history search.now prices.new) (leaf.now.sides ++ (side ∷ [])) kept.payload kept.value) }
 {
@@ -161,7 +161,7 @@ pub(crate) fn raised<D: Deadline>(
     requires kept { IsKept (history search.now prices.old) (leaf.now.sides ++ (side ∷ [])) kept.payload kept.value }
     requires kind { HasKind prices.old.tables above.payload.price.kind }
     requires round { above.payload.price.round ≤ length search.now.trace.items }
-    ensures grown { HaveGrown search.now.instance prices.old prices.new }
+    ensures grown { HaveGrown search.now.instance search.now.windows prices.old prices.new }
     ensures kept { IfOk result (λ kept.
         IsKept (history search.now prices.new) (leaf.now.sides ++ (side ∷ [])) kept.payload kept.value) }
 {
@@ -191,7 +191,7 @@ pub(crate) fn child<D: Deadline>(
     requires going { search.now.left ≡ None }
     requires kind { HasKind prices.old.tables above.payload.price.kind }
     requires round { above.payload.price.round ≤ length search.now.trace.items }
-    ensures grown { HaveGrown search.now.instance prices.old prices.new }
+    ensures grown { HaveGrown search.now.instance search.now.windows prices.old prices.new }
     ensures kept { IfOk result (λ kept.
         IsKept (history search.now prices.new) (leaf.now.sides ++ (side ∷ [])) kept.payload kept.value) }
 {

@@ -82,7 +82,7 @@ fn both_sides<D: Deadline>(
     requires search { IsSearch search.now prices.old }
     requires going { search.now.left ≡ None }
     requires kind { HasKind prices.old.tables inherited.kind }
-    ensures grown { HaveGrown search.now.instance prices.old prices.new }
+    ensures grown { HaveGrown search.now.instance search.now.windows prices.old prices.new }
     ensures kept { IfOk result (AreKeptBelow (history search.now prices.new) leaf.now.sides (fork_by candidate)) }
 {
     let split = candidate.split;

@@ -73,7 +73,7 @@ fn leaves_below<D: Deadline>(
     requires chosen { IsChosen (history search.now prices.old) leaf.now chosen }
     requires kind { HasKind prices.old.tables above.payload.price.kind }
     requires round { above.payload.price.round ≤ length search.now.trace.items }
-    ensures grown { HaveGrown search.now.instance prices.old prices.new }
+    ensures grown { HaveGrown search.now.instance search.now.windows prices.old prices.new }
     ensures kept { IfOk result (AreKeptBelow (history search.now prices.new) leaf.now.sides (fork_by chosen.candidate)) }
 {
     let one = chosen.candidate.split.first();
@@ -107,7 +107,7 @@ pub(crate) fn division<D: Deadline>(
     requires chosen { IsChosen (history search.now prices.old) leaf.now chosen }
     requires kind { HasKind prices.old.tables above.payload.price.kind }
     requires round { above.payload.price.round ≤ length search.now.trace.items }
-    ensures grown { HaveGrown search.now.instance prices.old prices.new }
+    ensures grown { HaveGrown search.now.instance search.now.windows prices.old prices.new }
     ensures division { IfOk result (IsDivision (history search.now prices.new) leaf.now.sides) }
 {
     let below = leaves_below(resources, search, leaf, chosen, above, prices)?;

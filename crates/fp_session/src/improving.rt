@@ -3,7 +3,7 @@ ghost use Rattle.std.specs.Prelude.{◌≡◌, ◌≤◌, IfOk, false};
 ghost use Rattle.fp_prices.specs.Tables.{HasKind};
 ghost use Rattle.fp_session.specs.Nodes.{IsKept};
 ghost use Rattle.fp_duals_leaves.specs.Prices.{HaveGrown};
-ghost use Rattle.fp_session.specs.Outcomes.{IsGreater, IsOutcome, empty_kept, priced_kept};
+ghost use Rattle.fp_session.specs.Outcomes.{IsGreater, IsOutcome, empty_kept, noted_kept, priced_kept};
 ghost use Rattle.fp_session.specs.Searches.{IsSearch, history, setting_of};
 
 use crate::NoMemory;
@@ -80,7 +80,7 @@ pub(crate) fn improved<D: Deadline>(
     requires kept { IsKept (history search.now prices.old) leaf.now.sides old.payload old.value }
     requires some { old.payload.empty ≡ false }
     requires kind { HasKind prices.old.tables inherited.kind }
-    ensures grown { HaveGrown search.now.instance prices.old prices.new }
+    ensures grown { HaveGrown search.now.instance search.now.windows prices.old prices.new }
     ensures outcome { IfOk result
         (IsOutcome (history search.now prices.new) leaf.now.sides old) }
 {
@@ -95,6 +95,61 @@ pub(crate) fn improved<D: Deadline>(
             walks,
         } => Ok(Outcome::Open {
             kept: greater(old, price, value),
+            walks,
+        }),
+    }
+}
+
+// What is kept of a leaf, with a note as of which round its price was improved, if it was.
+pub(crate) fn noted(kept: Kept, improved: Option<u32>) -> Kept
+    ensures { result ≡ noted_kept improved kept }
+{
+    let payload = Payload {
+        improved,
+        ..kept.payload
+    };
+    Kept { payload, ..kept }
+}
+
+// The effort at a leaf that a step has chosen. One that was improved before over the same points keeps
+// its price, and its walks alone are found again; so it is where the time is over.
+fn effort_at(leaf: &Leaf, is_improved: bool, is_over: bool) -> PriceEffort {
+    if is_improved || is_over {
+        PriceEffort::NONE
+    } else if leaf.sides().is_empty() {
+        PriceEffort::ROOT
+    } else {
+        PriceEffort::CHOSEN
+    }
+}
+
+// What is kept of a leaf that a step has chosen, of which this was kept before.
+pub(crate) fn chosen<D: Deadline>(
+    resources: &Resources<D>,
+    search: &Search,
+    leaf: &Leaf,
+    nets: &mut LentNets,
+    old: Kept,
+    prices: &mut Prices,
+) -> Result<Outcome, NoMemory>
+    requires search { IsSearch search.now prices.old }
+    requires setting { leaf.now.setting ≡ setting_of search.now }
+    requires kept { IsKept (history search.now prices.old) leaf.now.sides old.payload old.value }
+    requires some { old.payload.empty ≡ false }
+    ensures grown { HaveGrown search.now.instance search.now.windows prices.old prices.new }
+    ensures outcome { IfOk result
+        (IsOutcome (history search.now prices.new) leaf.now.sides old) }
+{
+    let round = search.trace.len() as u32;
+    let inherited = old.payload.price;
+    let is_improved = old.payload.improved == Some(round);
+    let effort = &effort_at(leaf, is_improved, resources.is_over());
+    match improved(
+        resources, search, leaf, nets, old, inherited, effort, prices,
+    )? {
+        Outcome::Empty { kept } => Ok(Outcome::Empty { kept }),
+        Outcome::Open { kept, walks } => Ok(Outcome::Open {
+            kept: noted(kept, Some(round)),
             walks,
         }),
     }

@@ -1,17 +1,10 @@
 //! What a step is going to do, worked out before anything changes.
 use crate::kept::Kept;
 use fp_longestarcs::Network;
-use fp_model::Plan;
 use fp_session_history::{Left, RoundNote};
+use fp_session_looks::Cheaper;
 use fp_timenodes::Points;
 use fp_tree::Split;
-
-// A cheaper plan, with what it costs.
-#[derive(Drop)]
-pub(crate) struct Cheaper {
-    pub plan: Plan,
-    pub cost: u128,
-}
 
 // The points with those that a round adds, and the network with them.
 #[derive(Drop)]
@@ -34,6 +27,8 @@ pub(crate) struct Division {
 pub(crate) enum Move {
     Close,
     Better { cheaper: Cheaper },
+    // The plan in reserve becomes the incumbent.
+    TakeReserve,
     Refine { note: RoundNote, refined: Refined },
     Divide { division: Division },
     Stop { left: Left },

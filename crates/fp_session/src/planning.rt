@@ -1,5 +1,5 @@
 //! What a step is going to do at an open leaf.
-ghost use Rattle.std.specs.Prelude.{◌≡◌, ◌<◌, ◌≤◌, None, IfOk, IsTrue, ◌↔◌, IsSomeAnd, false, true, length};
+ghost use Rattle.std.specs.Prelude.{◌≡◌, ◌<◌, ◌≤◌, None, IfOk, IfSome, IsTrue, ◌↔◌, IsSomeAnd, false, length};
 ghost use Rattle.fp_base_lists.specs.Distinct.{AreDistinct};
 ghost use Rattle.fp_model.specs.Costs.{cost as cost_of};
 ghost use Rattle.fp_model.specs.Routes.{ArcsExist};
@@ -11,24 +11,23 @@ ghost use Rattle.fp_prices.specs.Tables.{HasKind};
 ghost use Rattle.fp_session_history.specs.Notes.{worth_of};
 ghost use Rattle.fp_session_history.specs.Solutions.{AreWalksUnder};
 ghost use Rattle.fp_session.specs.Dividing.{IsSeveral};
-ghost use Rattle.fp_session.specs.Moves.{AtOpenLeaf, IsDivision, IsMove, IsOpenMove, IsTimelyMove, points_now};
-ghost use Rattle.fp_session.specs.Nodes.{IsKeptAs, IsSettled};
+ghost use Rattle.fp_session.specs.Moves.{AtOpenLeaf, IsDivision, IsLate, IsMove, IsOpenMove, IsTimelyMove, points_now};
+ghost use Rattle.fp_session.specs.Nodes.{IsKeptAs};
 ghost use Rattle.fp_session.specs.Outcomes.{IsFound};
-ghost use Rattle.fp_duals_leaves.specs.Prices.{ArePrices, HaveGrown};
+ghost use Rattle.fp_duals_leaves.specs.Prices.{HaveGrown};
 ghost use Rattle.fp_session.specs.Searches.{IsSearch, history, setting_of};
 
 use crate::NoMemory;
 use crate::choices::choice;
 use crate::dividing::{Several, division, first_several};
+use crate::improving::chosen;
 use crate::kept::Kept;
-use crate::looks::unless_cheaper;
 use crate::moves::{Division, Move};
-use crate::outcomes::Work;
+use crate::outcomes::Outcome;
 use crate::searches::Search;
-use crate::stages::work_at;
 use crate::timing::{Timing, timed};
 use crate::walks::{are_cheaper, cheaper_walks, walks_by_price, walks_to_split_by};
-use crate::worths::is_dear;
+use crate::worths::{is_dear, is_dear_to_reserve};
 use fp_duals_leaves::Prices;
 use fp_duals_nets::LentNets;
 use fp_ends::{Deadline, Resources};
@@ -54,7 +53,7 @@ struct Found {
 }
 
 // What a step is going to do where a relaxed plan under the sides of a leaf costs less than the
-// incumbent.
+// incumbent. In place of an end it takes the plan in reserve.
 fn timed_move<D: Deadline>(
     resources: &Resources<D>,
     search: &Search,
@@ -77,12 +76,17 @@ fn timed_move<D: Deadline>(
             note: round.note,
             refined: round.refined,
         }),
-        Timing::Spent { relaxed } => Ok(Move::Stop {
-            left: Left::Timing {
-                leaf: number,
-                relaxed,
-            },
-        }),
+        Timing::Spent { relaxed } => {
+            if search.reserve.is_some() {
+                return Ok(Move::TakeReserve);
+            }
+            Ok(Move::Stop {
+                left: Left::Timing {
+                    leaf: number,
+                    relaxed,
+                },
+            })
+        }
     }
 }
 
@@ -104,7 +108,7 @@ fn several_move<D: Deadline>(
     requires several { IsSeveral leaf.now several }
     requires kind { HasKind prices.old.tables kept.payload.price.kind }
     requires round { kept.payload.price.round ≤ length search.now.trace.items }
-    ensures grown { HaveGrown search.now.instance prices.old prices.new }
+    ensures grown { HaveGrown search.now.instance search.now.windows prices.old prices.new }
     ensures division { IfOk result (IsDivision (history search.now prices.new) leaf.now.sides) }
 {
     let price = kept.payload.price;
@@ -121,7 +125,8 @@ fn has_branches(search: &Search) -> bool
 
 // What a step is going to do at an open leaf that is worth less than the incumbent costs, where these
 // are walks under its sides. It is split by them, or by its walks by tables, where these are others;
-// but only where a cheaper plan can't come of them: such walks call for a round.
+// but only where a cheaper plan can't come of them: such walks call for a round. Before a split or an
+// end it takes the plan in reserve.
 #[tactic(auto, using(fp_duals_leaves::proofs::GrownPrices::HaveGrown_none))]
 fn move_by<D: Deadline>(
     resources: &Resources<D>,
@@ -137,7 +142,7 @@ fn move_by<D: Deadline>(
     requires setting { leaf.now.setting ≡ setting_of search.now }
     requires found { IsFound (history search.now prices.old) leaf.now.sides found.kept found.relaxed }
     requires below { worth_of (history search.now prices.old) found.kept.value < search.now.cost }
-    ensures grown { HaveGrown search.now.instance prices.old prices.new }
+    ensures grown { HaveGrown search.now.instance search.now.windows prices.old prices.new }
     ensures planned { IfOk result (IsOpenMove search.now prices.new number leaf.now.sides) }
 {
     let Found {
@@ -156,6 +161,9 @@ fn move_by<D: Deadline>(
     }
     if are_cheaper(search, &relaxed) {
         return timed_move(resources, search, leaf, number, relaxed, prices);
+    }
+    if search.reserve.is_some() {
+        return Ok(Move::TakeReserve);
     }
     let shipments = search.instance.shipments().len() as u32;
     match first_several(resources.alloc, leaf, shipments)? {
@@ -210,7 +218,7 @@ fn found_at(
 }
 
 // What is kept of a leaf.
-fn kept_at(search: &Search, number: u32) -> Kept
+pub(crate) fn kept_at(search: &Search, number: u32) -> Kept
     requires { number < leaf_count search.now.tree }
     ensures { IsSomeAnd (leaf_at search.now.tree number) (λ l. IsKeptAs l result) }
 {
@@ -223,6 +231,19 @@ fn kept_at(search: &Search, number: u32) -> Kept
 // Whether a step is going to split its leaf.
 fn is_division(planned: &Move) -> bool {
     matches!(planned, Move::Divide { .. })
+}
+
+// What a step is going to do at an open leaf where the time is over: it takes the plan in reserve, or ends
+// the search.
+fn late(search: &Search, number: u32) -> Move
+    ensures { IsLate search.now number result }
+{
+    match &search.reserve {
+        Some(_) => Move::TakeReserve,
+        None => Move::Stop {
+            left: Left::Unsettled { leaf: number },
+        },
+    }
 }
 
 // What a step is going to do at an open leaf of which this was kept and which isn't known to be
@@ -240,7 +261,7 @@ fn open_move<D: Deadline>(
     requires leaf { number < leaf_count search.now.tree }
     requires old { AtOpenLeaf search.now.tree number (λ l. IsKeptAs l old) }
     requires some { old.payload.empty ≡ false }
-    ensures grown { HaveGrown search.now.instance prices.old prices.new }
+    ensures grown { HaveGrown search.now.instance search.now.windows prices.old prices.new }
     ensures planned { IfOk result
         (λ p. IsMove search.now prices.new number p.kept p.planned) }
     ensures timely { IfOk result (λ p. IsTimelyMove (D.ends resources.now.deadline) p.planned) }
@@ -250,30 +271,23 @@ fn open_move<D: Deadline>(
     let sides = search.tree.leaf_sides(resources.alloc, number)?;
     let leaf = Leaf::of(resources.alloc, &round, &search.windows, &sides)?;
     let mut nets = LentNets::new();
-    match work_at(resources, search, &leaf, &mut nets, old, prices)? {
-        Work::Empty { kept } => Ok(Planned {
+    match chosen(resources, search, &leaf, &mut nets, old, prices)? {
+        Outcome::Empty { kept } => Ok(Planned {
             kept,
             planned: Move::Close,
         }),
-        Work::Better { kept, cheaper } => Ok(Planned {
-            kept,
-            planned: Move::Better { cheaper },
-        }),
-        Work::Open { kept, walks } => {
+        Outcome::Open { kept, walks } => {
             if is_dear(search, prices, kept.value) {
                 return Ok(Planned {
                     kept,
                     planned: Move::Close,
                 });
             }
-            let late = Planned {
-                kept,
-                planned: Move::Stop {
-                    left: Left::Unsettled { leaf: number },
-                },
-            };
             if resources.is_over() {
-                return Ok(late);
+                return Ok(Planned {
+                    kept,
+                    planned: late(search, number),
+                });
             }
             let found = found_at(
                 resources.alloc,
@@ -287,28 +301,55 @@ fn open_move<D: Deadline>(
             let planned = move_by(resources, search, &leaf, &mut nets, number, found, prices)?;
             // A split that was worked out in haste may lower what its leaf is worth.
             if is_division(&planned) && resources.is_over() {
-                return Ok(late);
+                return Ok(Planned {
+                    kept,
+                    planned: late(search, number),
+                });
             }
-            let planned = unless_cheaper(resources, search, &leaf, number, planned, prices)?;
             Ok(Planned { kept, planned })
         }
     }
 }
 
-// Whether a leaf of which this was kept is known to be settled: it is empty, or, which is asked where
-// the time is over alone, worth at least what the incumbent costs.
-fn is_settled<D: Deadline>(
+// What a step is going to do at an open leaf without a further look at it, where that is known: it takes
+// the plan in reserve where the leaf is worth as much as that costs; and where the time is over, it
+// closes the leaf, or ends the search, of which a leaf has to be known over the points as of the last
+// round.
+fn known_move<D: Deadline>(
     resources: &Resources<D>,
     search: &Search,
-    prices: &Prices,
+    number: u32,
     old: Kept,
-) -> bool
-    requires { ArePrices search.now.instance prices.now }
-    ensures settled { result ≡ true
-        → IsSettled (history search.now prices.now) search.now.cost old.payload old.value }
-    ensures some { result ≡ false → old.payload.empty ≡ false }
+    prices: &Prices,
+) -> Option<Planned>
+    requires search { IsSearch search.now prices.now }
+    requires old { AtOpenLeaf search.now.tree number (λ l. IsKeptAs l old) }
+    requires some { old.payload.empty ≡ false }
+    ensures planned { IfSome result (λ p. IsMove search.now prices.now number p.kept p.planned) }
+    ensures timely { IfSome result (λ p. IsTimelyMove (D.ends resources.now.deadline) p.planned) }
 {
-    old.payload.empty || resources.is_over() && is_dear(search, prices, old.value)
+    if is_dear_to_reserve(search, prices, old.value) {
+        return Some(Planned {
+            kept: old,
+            planned: Move::TakeReserve,
+        });
+    }
+    if !resources.is_over() {
+        return None;
+    }
+    if is_dear(search, prices, old.value) {
+        return Some(Planned {
+            kept: old,
+            planned: Move::Close,
+        });
+    }
+    if (old.payload.price.round as usize) < search.trace.len() {
+        return None;
+    }
+    Some(Planned {
+        kept: old,
+        planned: late(search, number),
+    })
 }
 
 // What a step is going to do at an open leaf, and what it keeps of it. Where the time is over it ends
@@ -324,17 +365,20 @@ pub(crate) fn next_move<D: Deadline>(
     requires going { search.now.left ≡ None }
     requires leaf { number < leaf_count search.now.tree }
     requires still_open { IsSomeAnd (leaf_at search.now.tree number) (λ l. closed_of l.node ≡ false) }
-    ensures grown { HaveGrown search.now.instance prices.old prices.new }
+    ensures grown { HaveGrown search.now.instance search.now.windows prices.old prices.new }
     ensures planned { IfOk result
         (λ p. IsMove search.now prices.new number p.kept p.planned) }
     ensures timely { IfOk result (λ p. IsTimelyMove (D.ends resources.now.deadline) p.planned) }
 {
     let old = kept_at(search, number);
-    if is_settled(resources, search, prices, old) {
+    if old.payload.empty {
         return Ok(Planned {
             kept: old,
             planned: Move::Close,
         });
+    }
+    if let Some(planned) = known_move(resources, search, number, old, prices) {
+        return Ok(planned);
     }
     open_move(resources, search, number, old, prices)
 }

@@ -13,15 +13,16 @@ ghost use Rattle.fp_session.specs.Certificates.{IsPricedBy};
 ghost use Rattle.fp_certificate_rules.specs.Units.{IsGreatestUnit};
 ghost use Rattle.fp_duals_leaves.specs.Prices.{ArePrices};
 ghost use Rattle.fp_session.specs.Order.{IsInOrder};
+ghost use Rattle.fp_session.specs.Preparations.{work_left};
 ghost use Rattle.fp_session.specs.Progress.{IsProgress};
-ghost use Rattle.fp_session.specs.Sessions.{IsSound, hand_of};
+ghost use Rattle.fp_session.specs.Sessions.{IsSound, cheapest_of, hand_of};
 ghost use Rattle.fp_session.specs.Solved.{GoesOnFrom, IsSolved, ShowsInHand};
 ghost use Rattle.fp_session.specs.Starts.{IsSessionOf};
 ghost use Rattle.fp_session.specs.StepCauses.{ending_of};
-ghost use Rattle.fp_session.specs.Steps.{IsStep, StayFixed, steps_left};
+ghost use Rattle.fp_session.specs.Steps.{HasGoneOn, IsStep, StayFixed, steps_left};
 
 use crate::NoMemory;
-use crate::advances::{advance, finish};
+use crate::advances::{advance, finish, go_on};
 use crate::progress::{Progress, progress_of};
 use crate::searches::Search;
 use crate::solutions::{Solved, solution};
@@ -74,7 +75,7 @@ impl Session {
         requires plan { IsPlan instance 1 start }
         requires within { PlanLiesWithin (windows_in windows) 1 start }
         requires budget { IsBudget budget }
-        requires prices { ArePrices instance prices }
+        requires prices { ArePrices instance windows prices }
         ensures of { IfOk result (IsSessionOf instance windows start budget) }
         ensures unit { IfOk result (λ s. s.prices.unit ≡ prices.unit) }
     {
@@ -172,6 +173,28 @@ impl Session {
         advance(alloc, clock, seconds, &mut self.search, &mut self.prices)
     }
 
+    /// Does what is next of a search that hasn't ended: what is done before a step, in which the root may
+    /// be priced better, and a cheaper plan may be found, which waits until a step takes it; or else a step,
+    /// in the time that there is. `NoMemory` only where no memory is found; then all is as before.
+    pub fn go_on_within<C: Clock>(
+        &mut self,
+        alloc: Global,
+        clock: &mut C,
+        seconds: Option<u32>,
+    ) -> Result<(), NoMemory>
+        requires going { self.old.left ≡ None }
+        ensures fixed { StayFixed (hand_of self.old) (hand_of self.new) }
+        ensures onward { OnOk result (HasGoneOn (hand_of self.old) (hand_of self.new)) }
+        ensures fewer { OnOk result (work_left (hand_of self.new) < work_left (hand_of self.old)) }
+        ensures timed { IfSome self.new.left (IsTimely (has_shown seconds (C.moment clock.new) (C.faults clock.old) (C.faults clock.new))) }
+        ensures later { IsLater (C.moment clock.old) (C.moment clock.new) (C.faults clock.old) (C.faults clock.new) }
+        ensures err { OnErr result (self.new ≡ self.old) }
+        ensures sound { IsSound self.new }
+        ensures unit { self.new.prices.unit ≡ self.old.prices.unit }
+    {
+        go_on(alloc, clock, seconds, &mut self.search, &mut self.prices)
+    }
+
     /// Steps until the search has ended, and what it shows then: the plan costs no more than the one
     /// in hand, and the notes on rounds begin with those that there were. `NoMemory` only where no
     /// memory is found.
@@ -217,11 +240,14 @@ impl Session {
         progress_of(&self.search, &self.prices)
     }
 
-    /// The plan in hand.
-    pub fn incumbent(&self) -> &Plan
-        ensures { result.now ≡ self.now.incumbent }
+    /// The cheapest plan that it has found.
+    pub fn cheapest(&self) -> &Plan
+        ensures { result.now ≡ cheapest_of self.now }
     {
-        &self.search.incumbent
+        match &self.search.reserve {
+            Some(reserve) => &reserve.plan,
+            None => &self.search.incumbent,
+        }
     }
 
     /// The instance.

@@ -19,6 +19,7 @@ ghost use Rattle.fp_session.specs.Starts.{HasBegun, start_of};
 use crate::NoMemory;
 use crate::improving::{emptied, priced};
 use crate::kept::Kept;
+use crate::preparations::Preparation;
 use crate::searches::Search;
 use fp_duals::Improved;
 use fp_duals_leaves::{PriceEffort, Prices, improve};
@@ -46,9 +47,9 @@ fn root(
     requires whole { IsWholeNetwork instance.now network.now }
     requires few { point_count network.now ≤ MOST_POINTS }
     requires points { AgreeOnPoints instance.now (points_in network.now) (points_of (start_of instance.now windows.now no_prices) 0) }
-    requires prices { ArePrices instance.now prices.old }
+    requires prices { ArePrices instance.now windows.now prices.old }
     ensures kept { IfOk result (λ kept. IsKept (start_of instance.now windows.now prices.new) [] kept.payload kept.value) }
-    ensures grown { HaveGrown instance.now prices.old prices.new }
+    ensures grown { HaveGrown instance.now windows.now prices.old prices.new }
 {
     let round = RoundNetwork::over(alloc, instance, network.copy(alloc)?)?;
     let leaf = Leaf::of(alloc, &round, windows, &[])?;
@@ -79,7 +80,7 @@ pub(crate) fn started(
     requires plan { IsPlan instance 1 start }
     requires within { PlanLiesWithin (windows_in windows) 1 start }
     requires budget { IsBudget budget }
-    requires prices { ArePrices instance prices.old }
+    requires prices { ArePrices instance windows prices.old }
     ensures unit { prices.new.unit ≡ prices.old.unit }
     ensures search { IfOk result (λ s. IsSearch s prices.new) }
     ensures instance { IfOk result (λ s. s.instance ≡ instance) }
@@ -100,6 +101,8 @@ pub(crate) fn started(
         started: cost,
         incumbent: start,
         cost,
+        reserve: None,
+        preparation: Preparation::FirstLook,
         points,
         network,
         tree,

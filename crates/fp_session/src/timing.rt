@@ -10,8 +10,7 @@ ghost use Rattle.fp_session.specs.Timing.{IsTiming};
 ghost use Rattle.fp_session_history.specs.Notes.{last_round};
 
 use crate::NoMemory;
-use crate::looks::looked_from_found;
-use crate::moves::{Cheaper, Refined};
+use crate::moves::Refined;
 use crate::refining::{places_of, refined};
 use crate::searches::Search;
 use fp_duals_leaves::Prices;
@@ -19,6 +18,7 @@ use fp_ends::{Deadline, Resources};
 use fp_relaxmodel::RelaxedPlan;
 use fp_repair::repair_within;
 use fp_session_history::RoundNote;
+use fp_session_looks::Cheaper;
 use fp_shortarcs::too_short;
 use fp_timetable::cost;
 use std::alloc::Global;
@@ -30,8 +30,8 @@ pub(crate) struct NextRound {
     pub refined: Refined,
 }
 
-// What comes of a relaxed plan that costs less than the incumbent: a cheaper plan, or a still cheaper
-// one that a look finds from it; one more round; or the relaxed plan, where no round is left.
+// What comes of a relaxed plan that costs less than the incumbent: a cheaper plan; one more round; or the
+// relaxed plan, where no round is left.
 #[derive(Drop)]
 pub(crate) enum Timing {
     Better { cheaper: Cheaper },
@@ -98,8 +98,7 @@ pub(crate) fn timed<D: Deadline>(
     .plan;
     let cost = cost(resources.alloc, &search.instance, &plan)?;
     if cost < search.cost {
-        let found = Cheaper { plan, cost };
-        let cheaper = looked_from_found(resources, search, found, prices)?;
+        let cheaper = Cheaper { plan, cost };
         return Ok(Timing::Better { cheaper });
     }
     if search.trace.len() >= search.budget.rounds as usize {

@@ -8,6 +8,7 @@ mod deadlines;
 mod directs;
 mod dispatch;
 mod failing_ends;
+mod group_certificates;
 mod improvements;
 mod input_faults;
 mod notes;

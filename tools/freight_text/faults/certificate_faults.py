@@ -28,6 +28,7 @@ LINES = {
     "share": (*ENDS, ("POINT", TIME), ("V", FIGURE)),
     "span": (*ENDS, ("POINT", TIME), ("UNTIL", (0, LATEST_TIME + 1)), ("MONEY", FIGURE), ("CHARGE", FIGURE)),
     "weight": (("SHIPMENT", "shipment"), ("W", FIGURE)),
+    "group": (("MOMENT", TIME),),
     "split,arc": (("SHIPMENT", "shipment"), *ENDS),
     "split,time": (("SHIPMENT", "shipment"), ("TERMINAL", "terminal"), ("AT", TIME)),
     "leaf": (("KIND", (1, GREATEST, "linear", "even")), ("ROUND", (0, LATEST_ROUND)), ("MODE", ("plain", "forced"))),
@@ -51,7 +52,7 @@ class CertificateReading:
         """The draft is what the instance's records gave, and the total what its shipments cost alone, None where it has faults."""
         self.draft, self.total = draft, total or 0
         self.answer, self.seen, self.firsts = None, set(), {}
-        self.tables, self.has_share, self.has_span = 0, False, False
+        self.tables, self.has_share, self.has_span, self.has_group = 0, False, False, False
 
     def has_ended(self):
         return "end" in self.seen
@@ -89,9 +90,11 @@ class CertificateReading:
         self.seen.add(kind)
         self.firsts.setdefault(GROUPS[kind], record)
         if kind == "table":
-            self.tables, self.has_share, self.has_span = self.tables + 1, False, False
+            self.tables, self.has_share, self.has_span, self.has_group = self.tables + 1, False, False, False
         elif kind in ("share", "span"):
-            self.tables, self.has_share, self.has_span = max(self.tables, 1), True, kind == "span"
+            self.tables, self.has_share, self.has_span, self.has_group = max(self.tables, 1), True, kind == "span", False
+        elif kind == "group":
+            self.has_group = True
 
     def kind_fault(self, record):
         hint = certificate_kind_hint(record)
@@ -140,6 +143,10 @@ class CertificateReading:
             return "the shares of a table stand before its spans"
         if record.kind == "weight" and not self.has_share:
             return "a weight stands in a share or a span of its table, and there is none before it"
+        if record.kind == "weight" and self.has_group:
+            return "the weights of a span stand before its groups"
+        if record.kind == "group" and not self.has_span:
+            return "a group stands in a span of its table, and there is none before it"
         return ""
 
     def limit_faults(self, fields):

@@ -2,6 +2,7 @@
 ghost use Rattle.std.specs.Prelude.{◌≡◌, ◌≤◌, false, length, IfOk, None};
 ghost use Rattle.fp_model.specs.Plans.{PlanExists};
 ghost use Rattle.fp_prices_spans.specs.SpanKinds.{spans_beside};
+ghost use Rattle.fp_flatnet.specs.Tables.{WindowTable};
 ghost use Rattle.fp_duals_leaves.specs.Prices.{ArePrices};
 ghost use Rattle.fp_app.specs.Inputs.{OfInstance};
 ghost use Rattle.fp_app.specs.declared.limits.TheConstants.{INSTANCE_LIMIT};
@@ -59,7 +60,7 @@ fn bound_plans<D: Deadline>(
 
 // Prices without tables, by which spans are sought where they are wanted.
 fn first_prices(alloc: Global, instance: &Instance, option: bool) -> Prices
-    ensures prices { ArePrices instance.now result }
+    ensures prices { (table : WindowTable) → ArePrices instance.now table result }
     ensures without { option ≡ false → result.unit ≡ None }
 {
     let unit = if option {

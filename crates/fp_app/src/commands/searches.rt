@@ -139,7 +139,7 @@ pub fn search_from<C: Clock, N: Sink>(
     Ok(solved)
 }
 
-// Goes on until a search has ended, and notes it before the first step and after each.
+// Goes on until a search has ended, and notes it at first, after each step, and between.
 fn finish<C: Clock, N: Sink>(
     alloc: Global,
     clock: &mut C,
@@ -162,7 +162,7 @@ fn finish<C: Clock, N: Sink>(
     };
     let mut state = look(alloc, session, notes, begun);
     while !session.has_ended() {
-        session.step_within(alloc, clock, options.seconds)?;
+        session.go_on_within(alloc, clock, options.seconds)?;
         state = look(alloc, session, notes, state);
     }
     Ok(())

@@ -9,7 +9,7 @@ ghost use Rattle.fp_certificate_lines.specs.declared.certificates.Answer.{Answer
 use crate::drafts::Draft;
 use crate::lines::faults::LineFault;
 use crate::lines::fields::figure_at;
-use crate::lines::groups::Group;
+use crate::lines::sections::Section;
 use fp_certificate_lines::{Answer, Spent};
 use fp_model::limits::LONGEST_FASTEST;
 use fp_records::Record;
@@ -29,7 +29,7 @@ fn cost_of(draft: &Draft, line: &Record) -> Result<u128, LineFault>
     if !has_number(line, 2) {
         return Err(LineFault::Digits);
     }
-    if draft.is_misplaced(Group::Answer) {
+    if draft.is_misplaced(Section::Answer) {
         return Err(LineFault::Order);
     }
     match figure_at(line, 2) {
@@ -96,7 +96,7 @@ fn unfinished_of(draft: &Draft, line: &Record) -> Result<Answer, LineFault>
     if !has_unfinished_digits(line) {
         return Err(LineFault::Digits);
     }
-    if draft.is_misplaced(Group::Answer) {
+    if draft.is_misplaced(Section::Answer) {
         return Err(LineFault::Order);
     }
     let Some(cost) = figure_at(line, 2) else {
@@ -156,7 +156,7 @@ fn infeasible_of(lookup: &Lookup<'_>, draft: &Draft, line: &Record) -> Result<An
     if !has_time(line) {
         return Err(LineFault::Digits);
     }
-    if draft.is_misplaced(Group::Answer) {
+    if draft.is_misplaced(Section::Answer) {
         return Err(LineFault::Order);
     }
     let Some(shipment) = lookup.shipment_at(line, 2) else {

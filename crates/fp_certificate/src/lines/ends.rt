@@ -6,7 +6,7 @@ ghost use Rattle.fp_certificate.specs.Trees.{end_faults, with_end};
 
 use crate::drafts::Draft;
 use crate::lines::faults::LineFault;
-use crate::lines::groups::Group;
+use crate::lines::sections::Section;
 use fp_records::Record;
 use fp_records_fields::RecordError;
 use fp_records_fields::fields::has_fields;
@@ -20,7 +20,7 @@ fn test_end(draft: &Draft, line: &Record) -> Result<(), LineFault>
     if !has_fields(line, 1) {
         return Err(LineFault::Fields);
     }
-    if draft.is_misplaced(Group::End) {
+    if draft.is_misplaced(Section::End) {
         return Err(LineFault::Order);
     }
     Ok(())

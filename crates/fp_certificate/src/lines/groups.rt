@@ -1,89 +1,50 @@
-//! The groups of a certificate's lines, and where they can stand.
-ghost use Rattle.std.specs.Prelude.{◌≡◌};
-ghost use Rattle.fp_certificate.specs.Groups.{is_after_answer, is_before_end, is_beyond_direct, is_forbidden, is_misplaced_after, place_of};
+//! Lines `group,MOMENT`.
+ghost use Rattle.std.specs.Prelude.{◌≡◌, true, OnOk, Some, None, MatchResult};
+ghost use Rattle.fp_records_fields.specs.Findings.{IsFirstFault, first_code};
+ghost use Rattle.fp_records_fields.specs.Fields.{number_at};
+ghost use Rattle.fp_certificate.specs.Codes.{code_of};
+ghost use Rattle.fp_certificate.specs.Tables.{group_faults, has_span, with_group};
 
-use fp_certificate_lines::Answer;
+use crate::drafts::Draft;
+use crate::lines::faults::LineFault;
+use crate::lines::fields::time_at;
+use crate::lines::sections::Section;
+use crate::open_spans::has_span;
+use fp_records::Record;
+use fp_records_fields::RecordError;
+use fp_records_fields::fields::{has_fields, has_number};
 
-/// The groups of a certificate's lines, in the order in which they stand.
-#[derive(Clone, Copy)]
-pub enum Group {
-    Answer,
-    Scale,
-    Unit,
-    Legs,
-    Trucks,
-    Points,
-    Tables,
-    Tree,
-    End,
+// The moment of a line, at which a group begins, or the first of the line's faults.
+fn moment_of(draft: &Draft, line: &Record) -> Result<u32, LineFault>
+    ensures faults { MatchResult result
+        (λ moment. (first_code (group_faults draft.now line.now) ≡ None)
+        × (moment ≡ number_at line.now 1))
+        (λ fault. first_code (group_faults draft.now line.now) ≡ Some (code_of fault)) }
+    ensures some { OnOk result (has_span draft.now.certificate.spans ≡ true) }
+{
+    if !has_fields(line, 2) {
+        return Err(LineFault::Fields);
+    }
+    if !has_number(line, 1) {
+        return Err(LineFault::Digits);
+    }
+    if draft.is_misplaced(Section::Tables) || !has_span(&draft.certificate.spans) {
+        return Err(LineFault::Order);
+    }
+    let Some(moment) = time_at(line, 1) else {
+        return Err(LineFault::Range);
+    };
+    Ok(moment)
 }
 
-impl Group {
-    // The place among the groups, from 0.
-    fn place(self) -> u8
-        ensures { result ≡ place_of self }
-    {
-        match self {
-            Group::Answer => 0,
-            Group::Scale => 1,
-            Group::Unit => 2,
-            Group::Legs => 3,
-            Group::Trucks => 4,
-            Group::Points => 5,
-            Group::Tables => 6,
-            Group::Tree => 7,
-            Group::End => 8,
-        }
-    }
-
-    // Whether it isn't that of the answer.
-    fn is_after_answer(self) -> bool
-        ensures { result ≡ is_after_answer self }
-    {
-        !matches!(self, Group::Answer)
-    }
-
-    // Whether it isn't that of the end.
-    fn is_before_end(self) -> bool
-        ensures { result ≡ is_before_end self }
-    {
-        !matches!(self, Group::End)
-    }
-
-    // Whether none of its lines can stand under a direct answer.
-    fn is_beyond_direct(self) -> bool
-        ensures { result ≡ is_beyond_direct self }
-    {
-        matches!(
-            self,
-            Group::Scale | Group::Unit | Group::Points | Group::Tables | Group::Tree
-        )
-    }
-
-    // Whether none of its lines can stand under the answer.
-    fn is_forbidden(self, answer: Answer) -> bool
-        ensures { result ≡ is_forbidden answer self }
-    {
-        match answer {
-            Answer::Direct { .. } => self.is_beyond_direct(),
-            Answer::Optimal { .. } => false,
-            Answer::Unfinished { .. } => false,
-            Answer::Infeasible { .. } => self.is_before_end(),
-        }
-    }
-
-    /// Whether a line of the group can't stand after lines of which the latest is of one group,
-    /// `None` where there are none, and the first has the answer.
-    pub fn is_misplaced_after(self, latest: Option<Group>, answer: Answer) -> bool
-        ensures { result ≡ is_misplaced_after latest answer self }
-    {
-        match latest {
-            None => self.is_after_answer(),
-            Some(latest) => {
-                !self.is_after_answer()
-                    || self.place() < latest.place()
-                    || self.is_forbidden(answer)
-            }
-        }
-    }
+/// Adds the group of a line to the last span, or tells the first of the line's faults.
+pub fn read_group(draft: &mut Draft, line: &Record) -> Result<(), RecordError<LineFault>>
+    ensures { MatchResult result
+        (λ _. (first_code (group_faults draft.old line.now) ≡ None)
+        × (draft.new ≡ with_group draft.old (number_at line.now 1)))
+        (λ e. IsFirstFault code_of e (first_code (group_faults draft.old line.now))) }
+{
+    let moment = moment_of(draft, line)?;
+    draft.add_group(moment)?;
+    Ok(())
 }

@@ -34,6 +34,8 @@ pub enum LineKind {
     Span,
     /// `weight,SHIPMENT,W`
     Weight,
+    /// `group,MOMENT`
+    Group,
     /// `split,arc,SHIPMENT,FROM,TO`
     ByArc,
     /// `split,time,SHIPMENT,TERMINAL,AT`
@@ -98,6 +100,8 @@ pub fn kind_of(line: &Record) -> Option<LineKind>
         Some(LineKind::Span)
     } else if is_of_kind(line, b"weight") {
         Some(LineKind::Weight)
+    } else if is_of_kind(line, b"group") {
+        Some(LineKind::Group)
     } else if is_of_kind(line, b"split") {
         split_kind(field_at(line, 1))
     } else if is_of_kind(line, b"leaf") {

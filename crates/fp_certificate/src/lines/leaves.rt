@@ -8,7 +8,7 @@ ghost use Rattle.fp_certificate.specs.Trees.{has_kind_word, has_leaf_digits, kin
 use crate::drafts::Draft;
 use crate::lines::faults::LineFault;
 use crate::lines::fields::round_at;
-use crate::lines::groups::Group;
+use crate::lines::sections::Section;
 use fp_certificate_lines::Node;
 use fp_prices::{Kind, LeafPrice};
 use fp_records::Record;
@@ -61,7 +61,7 @@ fn leaf_of(draft: &Draft, line: &Record) -> Result<Node, LineFault>
     if !has_leaf_digits(line) {
         return Err(LineFault::Digits);
     }
-    if draft.is_misplaced(Group::Tree) {
+    if draft.is_misplaced(Section::Tree) {
         return Err(LineFault::Order);
     }
     let tables = draft.certificate.tables.len() as u32;

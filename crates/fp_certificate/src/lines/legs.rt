@@ -7,7 +7,7 @@ ghost use Rattle.fp_certificate.specs.Timetables.{leg_faults, leg_in, with_leg};
 use crate::drafts::Draft;
 use crate::lines::faults::LineFault;
 use crate::lines::fields::{have_numbers, time_at};
-use crate::lines::groups::Group;
+use crate::lines::sections::Section;
 use fp_records::Record;
 use fp_records_fields::fields::has_fields;
 use fp_records_fields::{Lookup, RecordError};
@@ -25,7 +25,7 @@ fn leg_of(lookup: &Lookup<'_>, draft: &Draft, line: &Record) -> Result<LegLine, 
     if !have_numbers(line, 4, 5) {
         return Err(LineFault::Digits);
     }
-    if draft.is_misplaced(Group::Legs) {
+    if draft.is_misplaced(Section::Legs) {
         return Err(LineFault::Order);
     }
     let Some(shipment) = lookup.shipment_at(line, 1) else {

@@ -7,7 +7,7 @@ ghost use Rattle.fp_certificate.specs.Points.{point_faults, point_in, with_point
 use crate::drafts::Draft;
 use crate::lines::faults::LineFault;
 use crate::lines::fields::{have_numbers, round_at, time_at};
-use crate::lines::groups::Group;
+use crate::lines::sections::Section;
 use fp_records::Record;
 use fp_records_fields::fields::has_fields;
 use fp_records_fields::{Lookup, RecordError};
@@ -25,7 +25,7 @@ fn point_of(lookup: &Lookup<'_>, draft: &Draft, line: &Record) -> Result<AddedPo
     if !have_numbers(line, 2, 3) {
         return Err(LineFault::Digits);
     }
-    if draft.is_misplaced(Group::Points) {
+    if draft.is_misplaced(Section::Points) {
         return Err(LineFault::Order);
     }
     let Some(terminal) = lookup.terminal_at(line, 1) else {

@@ -7,7 +7,7 @@ ghost use Rattle.fp_certificate.specs.Codes.{code_of};
 
 use crate::drafts::Draft;
 use crate::lines::faults::LineFault;
-use crate::lines::groups::Group;
+use crate::lines::sections::Section;
 use fp_model::limits::GREATEST_SCALE;
 use fp_records::Record;
 use fp_records_fields::digits::short_between;
@@ -41,7 +41,7 @@ fn scale_of(lookup: &Lookup<'_>, draft: &Draft, line: &Record) -> Result<u32, Li
     if !has_number(line, 1) {
         return Err(LineFault::Digits);
     }
-    if draft.is_misplaced(Group::Scale) || draft.certificate.scale.is_some() {
+    if draft.is_misplaced(Section::Scale) || draft.certificate.scale.is_some() {
         return Err(LineFault::Order);
     }
     match scale_at(lookup, line) {

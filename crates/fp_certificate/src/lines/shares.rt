@@ -7,7 +7,7 @@ ghost use Rattle.fp_certificate.specs.Tables.{share_faults, share_in, with_share
 use crate::drafts::Draft;
 use crate::lines::faults::LineFault;
 use crate::lines::fields::{departure_at, figure_at, have_numbers};
-use crate::lines::groups::Group;
+use crate::lines::sections::Section;
 use crate::open_spans::has_span;
 use fp_prices::Share;
 use fp_records::Record;
@@ -27,7 +27,7 @@ fn share_of(lookup: &Lookup<'_>, draft: &Draft, line: &Record) -> Result<Share, 
     if !have_numbers(line, 3, 4) {
         return Err(LineFault::Digits);
     }
-    if draft.is_misplaced(Group::Tables)
+    if draft.is_misplaced(Section::Tables)
         || draft.certificate.tables.is_empty()
         || has_span(&draft.certificate.spans)
     {

@@ -1,4 +1,4 @@
-//! Lines `span,FROM,TO,POINT,UNTIL,MONEY,CHARGE`, each followed by its weights.
+//! Lines `span,FROM,TO,POINT,UNTIL,MONEY,CHARGE`, each followed by its weights and then its groups.
 ghost use Rattle.std.specs.Prelude.{◌≡◌, ◌≤◌, ◌<◌, true, false, length, OnOk, Some, None, MatchOption, MatchResult};
 ghost use Rattle.fp_model.specs.declared.limits.TheConstants.{LATEST};
 ghost use Rattle.fp_records_fields.specs.Findings.{IsFirstFault, first_code};
@@ -9,7 +9,7 @@ ghost use Rattle.fp_certificate.specs.Tables.{has_end_in_range, span_faults, spa
 use crate::drafts::Draft;
 use crate::lines::faults::LineFault;
 use crate::lines::fields::{departure_at, figure_at, have_numbers};
-use crate::lines::groups::Group;
+use crate::lines::sections::Section;
 use fp_model::limits::LATEST;
 use fp_prices_spans::Span;
 use fp_records::Record;
@@ -28,7 +28,7 @@ fn end_of(line: &Record, point: u32) -> Option<u32>
     short_between(field_at(line, 4), point + 1, LATEST + 1)
 }
 
-// The span of a line, which has no weights yet, or the first of the line's faults.
+// The span of a line, which has neither weights nor groups yet, or the first of the line's faults.
 fn span_of(lookup: &Lookup<'_>, draft: &Draft, line: &Record) -> Result<Span, LineFault>
     ensures faults { MatchResult result
         (λ span. (first_code (span_faults lookup.now draft.now line.now) ≡ None) × (span ≡ span_in lookup.now line.now))
@@ -41,7 +41,7 @@ fn span_of(lookup: &Lookup<'_>, draft: &Draft, line: &Record) -> Result<Span, Li
     if !have_numbers(line, 3, 4) || !have_numbers(line, 5, 6) {
         return Err(LineFault::Digits);
     }
-    if draft.is_misplaced(Group::Tables) || draft.certificate.spans.is_empty() {
+    if draft.is_misplaced(Section::Tables) || draft.certificate.spans.is_empty() {
         return Err(LineFault::Order);
     }
     let (arc, point) = departure_at(lookup, line)?;
@@ -61,6 +61,7 @@ fn span_of(lookup: &Lookup<'_>, draft: &Draft, line: &Record) -> Result<Span, Li
         money,
         charge,
         weights: Vec::new(draft.allocator()),
+        groups: Vec::new(draft.allocator()),
     })
 }
 

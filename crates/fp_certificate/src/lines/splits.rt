@@ -9,7 +9,7 @@ ghost use Rattle.fp_certificate.specs.Trees.{by_arc_faults, by_arc_in, by_time_f
 use crate::drafts::Draft;
 use crate::lines::faults::LineFault;
 use crate::lines::fields::time_at;
-use crate::lines::groups::Group;
+use crate::lines::sections::Section;
 use fp_certificate_lines::Node;
 use fp_records::Record;
 use fp_records_fields::fields::{has_fields, has_number};
@@ -25,7 +25,7 @@ fn by_arc_of(lookup: &Lookup<'_>, draft: &Draft, line: &Record) -> Result<Node, 
     if !has_fields(line, 5) {
         return Err(LineFault::Fields);
     }
-    if draft.is_misplaced(Group::Tree) {
+    if draft.is_misplaced(Section::Tree) {
         return Err(LineFault::Order);
     }
     let Some(shipment) = lookup.shipment_at(line, 2) else {
@@ -67,7 +67,7 @@ fn by_time_of(lookup: &Lookup<'_>, draft: &Draft, line: &Record) -> Result<Node,
     if !has_number(line, 4) {
         return Err(LineFault::Digits);
     }
-    if draft.is_misplaced(Group::Tree) {
+    if draft.is_misplaced(Section::Tree) {
         return Err(LineFault::Order);
     }
     let Some(shipment) = lookup.shipment_at(line, 2) else {

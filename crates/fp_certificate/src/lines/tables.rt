@@ -7,7 +7,7 @@ ghost use Rattle.fp_certificate.specs.Tables.{table_faults, with_table};
 
 use crate::drafts::Draft;
 use crate::lines::faults::LineFault;
-use crate::lines::groups::Group;
+use crate::lines::sections::Section;
 use fp_records::Record;
 use fp_records_fields::RecordError;
 use fp_records_fields::digits::number_between;
@@ -34,7 +34,7 @@ fn test_table(draft: &Draft, line: &Record) -> Result<(), LineFault>
     if !has_number(line, 1) {
         return Err(LineFault::Digits);
     }
-    if draft.is_misplaced(Group::Tables) || !is_next(draft, line) {
+    if draft.is_misplaced(Section::Tables) || !is_next(draft, line) {
         return Err(LineFault::Order);
     }
     Ok(())

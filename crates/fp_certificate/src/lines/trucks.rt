@@ -7,7 +7,7 @@ ghost use Rattle.fp_certificate.specs.Timetables.{truck_faults, truck_in, with_t
 use crate::drafts::Draft;
 use crate::lines::faults::LineFault;
 use crate::lines::fields::{departure_at, figure_at, have_numbers};
-use crate::lines::groups::Group;
+use crate::lines::sections::Section;
 use fp_records::Record;
 use fp_records_fields::fields::{has_fields, has_number};
 use fp_records_fields::{Lookup, RecordError};
@@ -25,7 +25,7 @@ fn truck_of(lookup: &Lookup<'_>, draft: &Draft, line: &Record) -> Result<TruckLi
     if !have_numbers(line, 3, 4) || !has_number(line, 5) {
         return Err(LineFault::Digits);
     }
-    if draft.is_misplaced(Group::Trucks) {
+    if draft.is_misplaced(Section::Trucks) {
         return Err(LineFault::Order);
     }
     let (arc, depart) = departure_at(lookup, line)?;

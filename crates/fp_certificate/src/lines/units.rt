@@ -7,7 +7,7 @@ ghost use Rattle.fp_certificate.specs.Codes.{code_of};
 
 use crate::drafts::Draft;
 use crate::lines::faults::LineFault;
-use crate::lines::groups::Group;
+use crate::lines::sections::Section;
 use fp_certificate_lines::LARGEST_FIGURE;
 use fp_records::Record;
 use fp_records_fields::RecordError;
@@ -26,7 +26,7 @@ fn unit_of(draft: &Draft, line: &Record) -> Result<u128, LineFault>
     if !has_number(line, 1) {
         return Err(LineFault::Digits);
     }
-    if draft.is_misplaced(Group::Unit) || draft.certificate.unit.is_some() {
+    if draft.is_misplaced(Section::Unit) || draft.certificate.unit.is_some() {
         return Err(LineFault::Order);
     }
     match number_between(field_at(line, 1), 1, LARGEST_FIGURE) {

@@ -1,16 +1,14 @@
 //! Lines `weight,SHIPMENT,W`.
-ghost use Rattle.std.specs.Prelude.{◌≡◌, ◌&&◌, false, not, OnOk, Some, None, MatchResult};
+ghost use Rattle.std.specs.Prelude.{◌≡◌, false, OnOk, Some, None, MatchResult};
 ghost use Rattle.fp_records_fields.specs.Findings.{IsFirstFault, first_code};
 ghost use Rattle.fp_records_fields.specs.Fields.{has_number};
 ghost use Rattle.fp_certificate.specs.Codes.{code_of};
-ghost use Rattle.fp_certificate.specs.Tables.{has_span, lacks_share, weight_faults, weight_in, with_weight};
+ghost use Rattle.fp_certificate.specs.Tables.{lacks_weighed, weight_faults, weight_in, with_weight};
 
 use crate::drafts::Draft;
 use crate::lines::faults::LineFault;
 use crate::lines::fields::figure_at;
-use crate::lines::groups::Group;
-use crate::open_spans::has_span;
-use crate::open_tables::lacks_share;
+use crate::lines::sections::Section;
 use fp_prices::Weight;
 use fp_records::Record;
 use fp_records_fields::fields::{has_fields, has_number};
@@ -21,7 +19,8 @@ fn weight_of(lookup: &Lookup<'_>, draft: &Draft, line: &Record) -> Result<Weight
     ensures faults { MatchResult result
         (λ weight. (first_code (weight_faults lookup.now draft.now line.now) ≡ None) × (weight ≡ weight_in lookup.now line.now))
         (λ fault. first_code (weight_faults lookup.now draft.now line.now) ≡ Some (code_of fault)) }
-    ensures some { OnOk result ((not (has_span draft.now.certificate.spans) && lacks_share draft.now.certificate.tables) ≡ false) }
+    ensures some { OnOk result
+        (lacks_weighed draft.now.certificate.tables draft.now.certificate.spans ≡ false) }
 {
     if !has_fields(line, 3) {
         return Err(LineFault::Fields);
@@ -29,9 +28,7 @@ fn weight_of(lookup: &Lookup<'_>, draft: &Draft, line: &Record) -> Result<Weight
     if !has_number(line, 2) {
         return Err(LineFault::Digits);
     }
-    if draft.is_misplaced(Group::Tables)
-        || (!has_span(&draft.certificate.spans) && lacks_share(&draft.certificate.tables))
-    {
+    if draft.is_misplaced(Section::Tables) || draft.lacks_weighed() {
         return Err(LineFault::Order);
     }
     let Some(shipment) = lookup.shipment_at(line, 1) else {

@@ -76,7 +76,7 @@ fn leaf_bound<'a>(
 ) -> Result<(LeafBound, RoundBounds<'a>), NoMemory>
     requires points { ArePointsOf case.now.problem case.now.windows.anchors case.now.told.points
         points.now }
-    requires prices { HasPrices case.now.problem case.now.told }
+    requires prices { HasPrices case.now.problem case.now.windows case.now.told }
     requires kind { HasKind case.now.told.tables price.kind }
     requires kept { AreRoundBounds case.now.problem points.now case.now.told.tables kept }
     ensures exact { IfOk result (λ found. IsSpanBoundOf case.now.problem (windows_in case.now.windows) (λ terminal. points_at points.now terminal price.round)
@@ -106,7 +106,7 @@ pub(crate) fn are_leaves_worth(
 ) -> Result<bool, NoMemory>
     requires points { ArePointsOf case.now.problem case.now.windows.anchors case.now.told.points
         points.now }
-    requires prices { HasPrices case.now.problem case.now.told }
+    requires prices { HasPrices case.now.problem case.now.windows case.now.told }
     ensures { IfOk result (λ worth. IsTrue worth
         ↔ AreLeavesWorth case.now.problem case.now.windows case.now.told (claim_of_answer case.now.told.answer)) }
 {

@@ -89,7 +89,8 @@ impl Direction {
         Ok(sum)
     }
 
-    /// The payer at a place among those whose means aren't 0; no payer's number where there is none.
+    /// The payer at a place among those whose means aren't 0; no payer's number where there is
+    /// none.
     pub(crate) fn moving_at(&self, place: usize) -> usize {
         self.moving.get(place).copied().unwrap_or(usize::MAX)
     }
@@ -149,7 +150,7 @@ impl Direction {
         Ok(())
     }
 
-    // Takes off the set of a span that is charged, and counts its trucks.
+    // Takes off the sets of a span that are charged, and counts their trucks.
     fn take_charged(
         &mut self,
         layout: &Layout,
@@ -162,8 +163,9 @@ impl Direction {
         };
         let mut payer = span.first;
         for charged in of_span(&charges.charged, span) {
-            if *charged {
-                self.add(payer, less.wrapping_neg())?;
+            if *charged > 0 {
+                let sets = i64::from(*charged);
+                self.add(payer, less.wrapping_mul(sets).wrapping_neg())?;
             }
             payer = payer.wrapping_add(1);
         }

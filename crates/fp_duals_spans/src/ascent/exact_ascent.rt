@@ -106,8 +106,8 @@ impl Settling<'_> {
         Ok(())
     }
 
-    // One pass over the shipments, which are offered what the charges leave where `offers`, as long as
-    // there is time. What their least costs come to.
+    // One pass over the shipments, which are offered what the charges leave where `offers`, as long
+    // as there is time. What their least costs come to.
     fn pass<D: Deadline>(
         &mut self,
         resources: &Resources<D>,
@@ -143,10 +143,11 @@ pub(crate) fn settle<D: Deadline>(
     nets: &mut Nets,
     prices: &mut SpanPrices,
     passes: u32,
+    merges: bool,
 ) -> Result<u64, NoMemory> {
     let mut settling = Settling {
         layout,
-        charges: Charges::of(resources.alloc, layout, MOST_LOADS)?,
+        charges: Charges::of(resources.alloc, layout, MOST_LOADS, merges)?,
         needs: vec![in resources.alloc; 0u64; nets.edges.len()]?,
     };
     let mut known = settling.pass(resources, nets, prices, false)?;

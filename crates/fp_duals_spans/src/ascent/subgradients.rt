@@ -44,13 +44,14 @@ impl Climb {
         nets: &mut Nets,
         prices: &SpanPrices,
         effort: &SpanEffort,
+        merges: bool,
     ) -> Result<Climb, NoMemory> {
         let small = layout.payers.len() <= effort.small as usize;
         let least = if small { 1 } else { effort.least_level };
         let mut climb = Climb {
             direction: Direction::of(alloc, layout, effort.fresh)?,
             averages: Averages::of(alloc, layout, effort)?,
-            charges: Charges::of(alloc, layout, u64::from(effort.loads))?,
+            charges: Charges::of(alloc, layout, u64::from(effort.loads), merges)?,
             value: 0,
             start: 0,
             target: Target::of(0, 0, effort.level, least, effort.patience),
@@ -157,7 +158,8 @@ impl Climb {
         Ok(true)
     }
 
-    // Lets the target come nearer where too many turns had little gain. Whether there is more to do.
+    // Lets the target come nearer where too many turns had little gain. Whether there is more to
+    // do.
     fn come_nearer(
         &mut self,
         layout: &Layout,
@@ -173,15 +175,17 @@ impl Climb {
     }
 }
 
-/// Moves the prices by the spans of a layout to better ones. The averages over the turns.
+/// Moves the prices by the spans of a layout to better ones, where `merges` with groups merged that
+/// are charged no more together. The averages over the turns.
 pub(crate) fn ascend<D: Deadline>(
     resources: &Resources<D>,
     layout: &Layout,
     nets: &mut Nets,
     prices: &mut SpanPrices,
     effort: &SpanEffort,
+    merges: bool,
 ) -> Result<Averages, NoMemory> {
-    let mut climb = Climb::of(resources.alloc, layout, nets, prices, effort)?;
+    let mut climb = Climb::of(resources.alloc, layout, nets, prices, effort, merges)?;
     for turn in 0..effort.turns {
         if !climb.step(layout, nets, prices, turn)? {
             break;

@@ -67,16 +67,18 @@ fn first_over(alloc: Global, instance: &Instance, spans: &[Span]) -> Result<Opti
 }
 
 /// The first rule that spans break, `None` exactly where they are in order and light, and keep the
-/// money rule: at the point of each span, the spans of its arc that hold there have together at most
-/// the scale times the cost of the arc's truck. Then they have no more at any class of the arc.
+/// money rule: at the point of each span, the spans of its arc that hold there have together at
+/// most the scale times the cost of the arc's truck. Then they have no more at any class of the
+/// arc.
 ///
-/// In order: the spans ascend strictly by arc, point and until, and the weights of each strictly by
-/// shipment. Light: the weights of all spans come together to less than
+/// In order: the spans ascend strictly by arc, point and until, the weights of each strictly by
+/// shipment, and in each its point, the moments at which groups begin and `until` strictly. Light:
+/// the weights of all spans come together to less than
 /// [`MOST_SPAN_WEIGHT`](crate::MOST_SPAN_WEIGHT). The spans are of arcs that exist, and fewer than
 /// 2^32 - 1. The order comes before the weights, these before the money, and of the spans the first
 /// one is told that breaks the money rule. Weights and money may be any numbers: no sum of them
-/// passes 128 bits. `NoMemory` only where no memory is found. Takes time that grows with the weights,
-/// and with the number n of the spans as n log n.
+/// passes 128 bits. `NoMemory` only where no memory is found. Takes time that grows with the
+/// weights, and with the number n of the spans as n log n.
 pub fn check_spans(
     alloc: Global,
     instance: &Instance,

@@ -2,7 +2,7 @@
 ghost use Rattle.std.specs.Prelude.{◌<◌, ◌↔◌, All, AllPairs, IsTrue};
 ghost use Rattle.fp_base_lists.specs.Order.{Precedes};
 ghost use Rattle.fp_prices_spans.specs.Spans.{ClassSpan};
-ghost use Rattle.fp_prices_spans.specs.SpanLists.{AreSpansInOrder, StandsBefore};
+ghost use Rattle.fp_prices_spans.specs.SpanLists.{AreSpansInOrder, AscendBetween, MomentsAscend, StandsBefore};
 ghost use Rattle.fp_prices_spans.specs.SpanRules.{WeightsAscend};
 
 use crate::spans::Span;
@@ -60,9 +60,35 @@ fn span_weights_ascend(spans: &[Span]) -> bool
     true
 }
 
-// Whether spans and their weights are in order.
+// Whether moments ascend from one through some to another.
+fn ascend_between(from: u32, moments: &[u32], until: u32) -> bool
+    ensures { IsTrue result ↔ AscendBetween from moments.now until }
+{
+    let mut last = from;
+    for moment in moments {
+        if *moment <= last {
+            return false;
+        }
+        last = *moment;
+    }
+    last < until
+}
+
+// Whether the moments of each span ascend: its point, where further groups begin, and its end.
+fn span_moments_ascend(spans: &[Span]) -> bool
+    ensures { IsTrue result ↔ All MomentsAscend spans.now }
+{
+    for span in spans {
+        if !ascend_between(span.point, &span.groups, span.until) {
+            return false;
+        }
+    }
+    true
+}
+
+// Whether spans, their weights and their moments are in order.
 pub(crate) fn are_in_order(spans: &[Span]) -> bool
     ensures { IsTrue result ↔ AreSpansInOrder spans.now }
 {
-    spans_ascend(spans) && span_weights_ascend(spans)
+    spans_ascend(spans) && span_weights_ascend(spans) && span_moments_ascend(spans)
 }

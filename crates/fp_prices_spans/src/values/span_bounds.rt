@@ -1,10 +1,11 @@
 //! The bound of a leaf under prices by spans.
-ghost use Rattle.std.specs.Prelude.{◌≤◌, ◌*◌, IfOk};
+ghost use Rattle.std.specs.Prelude.{ℕ, ◌≤◌, ◌*◌, IfOk, List};
 ghost use Rattle.fp_model.specs.Problem.{IsValid, alone_total};
 ghost use Rattle.fp_flatnet.specs.Tables.{windows_in};
 ghost use Rattle.fp_longestarcs.specs.Networks.{points_in};
 ghost use Rattle.fp_prices.specs.Leaves.{BoundsPlans};
 ghost use Rattle.fp_prices.specs.Tables.{AreTables, HasKind};
+ghost use Rattle.fp_prices_spans.specs.MomentRuns.{AreAmong};
 ghost use Rattle.fp_prices_spans.specs.SpanCosts.{IsFoundBySpans};
 ghost use Rattle.fp_prices_spans.specs.SpanLeaves.{IsSmallSpanBound, IsSpanBoundOf};
 ghost use Rattle.fp_prices_spans.specs.SpanLists.{AreSpans};
@@ -52,16 +53,17 @@ fn value_over(alloc: Global, by_spans: &SpanPricing, bases: u128) -> Result<Leaf
 /// for a class that isn't forced and is allowed for some shipment.
 ///
 /// Where the spans keep the money rule and the set rule, as [`check_spans`](crate::check_spans) and
-/// [`check_charges`](crate::check_charges) find, the scale times the cost of each plan of the leaf
-/// is at least the value, over every denominator, and an empty leaf has no plan. The value counts
-/// parts of a unit of money; it is at most 65,537 times the scale times what all shipments cost that
-/// each go over every arc alone, and 2^125, so it's below 2^128.
+/// [`check_charges`](crate::check_charges) find, by these windows and by first points that are all
+/// points of the leaf's network, the scale times the cost of each plan of the leaf is at least the
+/// value, over every denominator, and an empty leaf has no plan. The value counts parts of a unit
+/// of money; it is at most 65,537 times the scale times what all shipments cost that each go over
+/// every arc alone, and 2^125, so it's below 2^128.
 ///
 /// The tables are in order and keep the price rule, and a kind by a table names one of them; the
 /// spans are in order, of arcs and shipments that exist, and their weights come together to less
-/// than [`MOST_SPAN_WEIGHT`](crate::MOST_SPAN_WEIGHT). `NoMemory` only where no memory is found. One
-/// search over the points for each shipment, and beside it time that grows with the classes and with
-/// the classes of the spans.
+/// than [`MOST_SPAN_WEIGHT`](crate::MOST_SPAN_WEIGHT). `NoMemory` only where no memory is found.
+/// One search over the points for each shipment, and beside it time that grows with the classes and
+/// with the classes of the spans.
 pub fn span_bound(
     alloc: Global,
     leaf: &Leaf,
@@ -75,7 +77,8 @@ pub fn span_bound(
     requires spans { AreSpans leaf.now.setting.problem spans.now }
     ensures exact { IfOk result (IsSpanBoundOf leaf.now.setting.problem (windows_in leaf.now.setting.windows)
         (points_in leaf.now.setting.network) leaf.now.sides tables.now spans.now kind forced) }
-    ensures plans { KeepSpanRules leaf.now.setting.problem spans.now →
+    ensures plans { (first : ℕ → List ℕ) → AreAmong leaf.now.setting.problem first (points_in leaf.now.setting.network) →
+        KeepSpanRules leaf.now.setting.problem (windows_in leaf.now.setting.windows) first spans.now →
         IfOk result (BoundsPlans leaf.now.setting.problem (windows_in leaf.now.setting.windows) leaf.now.sides) }
     ensures small { IfOk result (IsSmallSpanBound leaf.now.setting.problem) }
 {

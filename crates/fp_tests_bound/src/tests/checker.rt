@@ -21,7 +21,13 @@ type Row = (
     Option<u32>,
 );
 
-const ROWS: [Row; 4] = [
+// Two shipments that never leave together: from 0 to 4, and from 6 to 9.
+const APART: &str =
+    "terminal,A\nterminal,B\narc,A,B,5,10,60,0\nshipment,S1,A,B,5,0,9\nshipment,S2,A,B,5,6,14\n";
+
+const APART_ROUTE: &[Leg] = &[Leg { arc: 0, depart: 0 }];
+
+const ROWS: [Row; 8] = [
     (
         LINE,
         LINE_PROOF,
@@ -37,6 +43,32 @@ const ROWS: [Row; 4] = [
         Some(7),
     ),
     (LINE, "answer,infeasible,S1,9\nend\n", None, Some(8)),
+    // A span pays without a charge where each of two groups has one shipment, and not where the
+    // first has both, or there is one group. No group begins at the span's point.
+    (
+        APART,
+        "answer,optimal,120\nleg,S1,A,B,0,5\nleg,S2,A,B,6,11\ntruck,A,B,0,1,5\ntruck,A,B,6,1,5\ntable,1\nspan,A,B,0,100001,60000000,0\nweight,S1,60000000\nweight,S2,60000000\ngroup,6\nleaf,1,0,plain\nend\n",
+        Some(APART_ROUTE),
+        None,
+    ),
+    (
+        APART,
+        "answer,optimal,120\nleg,S1,A,B,0,5\nleg,S2,A,B,6,11\ntruck,A,B,0,1,5\ntruck,A,B,6,1,5\ntable,1\nspan,A,B,0,100001,60000000,0\nweight,S1,60000000\nweight,S2,60000000\ngroup,7\nleaf,1,0,plain\nend\n",
+        Some(APART_ROUTE),
+        Some(5),
+    ),
+    (
+        APART,
+        "answer,optimal,120\nleg,S1,A,B,0,5\nleg,S2,A,B,6,11\ntruck,A,B,0,1,5\ntruck,A,B,6,1,5\ntable,1\nspan,A,B,0,100001,60000000,0\nweight,S1,60000000\nweight,S2,60000000\nleaf,1,0,plain\nend\n",
+        Some(APART_ROUTE),
+        Some(5),
+    ),
+    (
+        APART,
+        "answer,optimal,120\nleg,S1,A,B,0,5\nleg,S2,A,B,6,11\ntruck,A,B,0,1,5\ntruck,A,B,6,1,5\ntable,1\nspan,A,B,0,100001,60000000,0\nweight,S1,60000000\nweight,S2,60000000\ngroup,0\ngroup,6\nleaf,1,0,plain\nend\n",
+        Some(APART_ROUTE),
+        Some(5),
+    ),
 ];
 
 // What is told of a certificate behind an instance: its plan, and whether it is accepted.

@@ -16,6 +16,10 @@ use std::test::Fail;
 const ROAD: &str =
     "terminal,A\nterminal,B\narc,A,B,5,10,60,0\nshipment,S1,A,B,5,0,6\nshipment,S2,A,B,5,0,6\n";
 
+// The same arc, and two shipments of 5 that never leave together: from 0 to 4, and from 6 to 9.
+const APART: &str =
+    "terminal,A\nterminal,B\narc,A,B,5,10,60,0\nshipment,S1,A,B,5,0,9\nshipment,S2,A,B,5,6,14\n";
+
 // The weights by which the first two shipments pay so much each.
 fn two_pay(alloc: Global, w: u128) -> Result<Vec<Weight>, NoMemory>
     ensures { IfOk result (λ weights. weights.items
@@ -38,11 +42,20 @@ fn three_pay(alloc: Global, w: u128) -> Result<Vec<Weight>, NoMemory>
     Ok(weights)
 }
 
-// A span of all classes of an arc with this money.
+// A span of all classes of an arc with this money, and with one group of departures.
 fn whole_span(arc: u32, money: u128, charge: u128, weights: Vec<Weight>) -> Span
     ensures { result
-        ≡ record { arc = arc; point = 0; until = 100; money = money; charge = charge; weights = weights.items } }
+        ≡ record {
+          arc = arc;
+          point = 0;
+          until = 100;
+          money = money;
+          charge = charge;
+          weights = weights.items;
+          groups = [];
+        } }
 {
+    let groups = Vec::new(*weights.allocator());
     Span {
         arc,
         point: 0,
@@ -50,7 +63,39 @@ fn whole_span(arc: u32, money: u128, charge: u128, weights: Vec<Weight>) -> Span
         money,
         charge,
         weights,
+        groups,
     }
+}
+
+// The same span with a further group, which begins at a moment.
+fn grouped_span(
+    alloc: Global,
+    arc: u32,
+    money: u128,
+    weights: Vec<Weight>,
+    moment: u32,
+) -> Result<Span, NoMemory>
+    ensures { IfOk result (λ span. span
+        ≡ record {
+          arc = arc;
+          point = 0;
+          until = 100;
+          money = money;
+          charge = 0;
+          weights = weights.items;
+          groups = moment ∷ [];
+        }) }
+{
+    let groups = vec![in alloc; moment]?;
+    Ok(Span {
+        arc,
+        point: 0,
+        until: 100,
+        money,
+        charge: 0,
+        weights,
+        groups,
+    })
 }
 
 // What a leaf with the initial points is worth by spans, and by linear prices where none holds.
@@ -66,14 +111,14 @@ fn spanned_bound(
     requires exist { All (IsSpanOf instance.now) spans.now }
     requires few { length spans.now < 2 ^ 32 - 1 }
 {
-    if check_charges(alloc, instance, spans)?.is_some() {
+    let windows = Windows::of(alloc, instance)?;
+    let points = initial(alloc, instance, &windows)?;
+    if check_charges(alloc, instance, &windows, &points, spans)?.is_some() {
         return Ok(None);
     }
     match check_spans(alloc, instance, spans)? {
         Some(_) => Ok(None),
         None => {
-            let windows = Windows::of(alloc, instance)?;
-            let points = initial(alloc, instance, &windows)?;
             let round = RoundNetwork::of(alloc, instance, &points, 0)?;
             let leaf = Leaf::of(alloc, &round, &windows, sides)?;
             let bound = span_bound(alloc, &leaf, &[], spans, Kind::Linear, forced)?;
@@ -138,6 +183,43 @@ fn charged_once(rt: HostRuntime) -> Result<(), Fail> {
     // A charge that doesn't pay is refused.
     let less = vec![in alloc; whole_span(0, 60_000_000, 59_999_999, two_pay(alloc, 60_000_000)?)]?;
     assert_eq!(rt; spanned_bound(alloc, &instance, &less, &[], false)?, None);
+    Ok(())
+}
+
+#[test]
+fn groups_of_departures(rt: HostRuntime) -> Result<(), Fail> {
+    let alloc = rt.alloc();
+    assert!(rt; APART.len() < 2000);
+    let instance = instance_of(alloc, APART)?;
+    assert!(rt; instance.terminals().len() <= 100);
+    assert!(rt; instance.arcs().len() == 1);
+    assert!(rt; instance.shipments().len() == 2);
+    // Each needs a truck of its own, which two groups show without a charge.
+    let groups = vec![in alloc;
+        grouped_span(alloc, 0, 60_000_000, two_pay(alloc, 60_000_000)?, 5)?,
+    ]?;
+    let is = spanned_bound(alloc, &instance, &groups, &[], false)?;
+    assert_eq!(rt; is, Some(LeafBound::Value { value: 120_000_000 }));
+    // Where both can leave in the first group, it has to pay for both.
+    let late = vec![in alloc; grouped_span(alloc, 0, 60_000_000, two_pay(alloc, 60_000_000)?, 7)?]?;
+    assert_eq!(rt; spanned_bound(alloc, &instance, &late, &[], false)?, None);
+    let one = vec![in alloc; whole_span(0, 60_000_000, 0, two_pay(alloc, 60_000_000)?)]?;
+    assert_eq!(rt; spanned_bound(alloc, &instance, &one, &[], false)?, None);
+    // No group begins where the span begins, or after it.
+    let first = vec![in alloc;
+        grouped_span(alloc, 0, 60_000_000, two_pay(alloc, 60_000_000)?, 0)?,
+    ]?;
+    assert_eq!(rt;
+        check_spans(alloc, &instance, &first)?,
+        Some(SpanFault::Order)
+    );
+    let after = vec![in alloc;
+        grouped_span(alloc, 0, 60_000_000, two_pay(alloc, 60_000_000)?, 100)?,
+    ]?;
+    assert_eq!(rt;
+        check_spans(alloc, &instance, &after)?,
+        Some(SpanFault::Order)
+    );
     Ok(())
 }
 

@@ -29,7 +29,13 @@ const JOINED: &str =
 const LINE_SHEETS: &str =
     "yard,3\nout,A,B,0,1\nload,S1\nout,B,C,0,1\nload,S2\nout,B,C,4,1\nload,S1\nin,B,A,4\nin,C,B,5\nin,C,B,9\ndeparts,A,B,0\narrives,A,B,0\ndeparts,B,C,4\narrives,B,C,4\ndeparts,B,C,0\narrives,B,C,0\nend\n";
 
-const ROWS: [Row; 12] = [
+// A truck for each unit of size, and one more than are told.
+const MANY: &str = "terminal,A\nterminal,B\narc,A,B,5,1,100,0\nshipment,S1,A,B,1000001,0,5\n";
+
+const MANY_PLAN: &str =
+    "answer,direct,100000100\nleg,S1,A,B,0,5\ntruck,A,B,0,1000001,1000001\nend\n";
+
+const ROWS: [Row; 18] = [
     ("yard 1", LINE, LINE_PROOF, 0, LINE_SHEETS),
     ("yard 1", LINE, JOINED, 12, "rejected,1\n"),
     (
@@ -91,6 +97,44 @@ const ROWS: [Row; 12] = [
         12,
         "rejected,1\n",
     ),
+    // What each truck runs: full ones and one with the rest, which doesn't come back.
+    (
+        "fleet --trucks",
+        TO_AND_FRO,
+        TO_AND_FRO_PLAN,
+        0,
+        "fleet,3\nneed,A,3,0\nstart,A,B,0,3\nturn,A,B,0,A,5,2\ntruck,1\nrun,A,B,0,5,10\nrun,B,A,5,10,10\ntruck,2\nrun,A,B,0,5,10\nrun,B,A,5,10,5\ntruck,3\nrun,A,B,0,5,5\nend\n",
+    ),
+    (
+        "fleet --trucks",
+        LINE,
+        LINE_PROOF,
+        0,
+        "fleet,2\nneed,A,1,0\nneed,B,1,0\nstart,A,B,0,1\nstart,B,C,0,1\nturn,A,B,0,C,4,1\ntruck,1\nrun,A,B,0,4,4\nrun,B,C,4,9,4\ntruck,2\nrun,B,C,0,5,4\nend\n",
+    ),
+    (
+        "fleet --trucks",
+        "terminal,A\n",
+        "answer,direct,0\nend\n",
+        0,
+        "fleet,0\nend\n",
+    ),
+    // More trucks than are told.
+    (
+        "fleet",
+        MANY,
+        MANY_PLAN,
+        0,
+        "fleet,1000001\nneed,A,1000001,0\nstart,A,B,0,1000001\nend\n",
+    ),
+    (
+        "fleet --trucks",
+        MANY,
+        MANY_PLAN,
+        0,
+        "fleet,1000001\nneed,A,1000001,0\nstart,A,B,0,1000001\ntrucks,many\nend\n",
+    ),
+    ("fleet --trucks", LINE, JOINED, 12, "rejected,1\n"),
     // A certificate that ends too soon.
     (
         "fleet",

@@ -19,6 +19,16 @@ write-requires-in-Fleet-clause-showable c =
     let printable : IsPrintable (shown.Fleet c.in-Fleet.instance c.in-Fleet.plan c.in-Fleet.fleet) = subst IsPrintable c.in-Fleet.is c.requires in
     printable.1
 
+pub write_trucks-requires-clause-showable : goal.write_trucks-requires-clause-showable
+write_trucks-requires-clause-showable c =
+    let printable : IsPrintable (shown.Trucks c.in-Trucks.instance c.in-Trucks.plan c.in-Trucks.fleet c.in-Trucks.told) = subst IsPrintable c.in-Trucks.is c.requires in
+    printable.1
+
+pub write_trucks-requires-clause-runs : goal.write_trucks-requires-clause-runs
+write_trucks-requires-clause-runs c =
+    let printable : IsPrintable (shown.Trucks c.in-Trucks.instance c.in-Trucks.plan c.in-Trucks.fleet c.in-Trucks.told) = subst IsPrintable c.in-Trucks.is c.requires in
+    printable.2
+
 pub write-requires-in-Yard-clause-log : goal.write-requires-in-Yard-clause-log
 write-requires-in-Yard-clause-log c =
     let printable : IsPrintable (shown.Yard c.in-Yard.instance c.in-Yard.plan c.in-Yard.log) = subst IsPrintable c.in-Yard.is c.requires in

@@ -17,6 +17,7 @@ returns c =
       money = inside.money;
       charge = inside.charge;
       weights = inside.weights.items;
+      groups = inside.groups.items;
     } in
     ap (λ (x : ClassSpan). set spans (length spans - 1) x)
     (ap (λ (ws : List Weight). record old { weights = ws }) c.in_ok-push.ensures.items ∙ ap (λ (x : ClassSpan). and_span_weight c.args.weight x) c.span.view_is)

@@ -30,6 +30,11 @@ has_prices-requires-clause-few c =
     let countable = rw (← c.case.view_is) at c.requires.countable in
     countable.spans
 
+pub has_prices-requires-clause-points : goal.has_prices-requires-clause-points
+has_prices-requires-clause-points c =
+    subst (λ (added : List AddedPoint). ArePointsOf c.case.inside.instance.now c.case.inside.windows.now.anchors added c.in_ok-points.points) (c.as_slice.ensures.value ∙ ap (λ (s : Statement). s.points) c.certificate.view_is)
+    c.in_ok-points.ensures.points
+
 pub are_leaves_worth-requires-clause-points : goal.are_leaves_worth-requires-clause-points
 are_leaves_worth-requires-clause-points c =
     rw (← c.case.view_is)
@@ -68,7 +73,7 @@ returns-then-not-is_tree-clause-part c number same =
     let told : Statement = c.case.inside.certificate.now in
     let points : AreAddedPoints p c.case.inside.windows.now.anchors told.points =
     subst (AreAddedPoints p c.case.inside.windows.now.anchors) (c.as_slice.ensures.value ∙ ap (λ (s : Statement). s.points) c.certificate.view_is) c.in_ok-points.ensures.holds in
-    let prices : HasPrices p told = c.in_ok-has_prices.ensures.0 c.if-not-branch.false in
+    let prices : HasPrices p c.case.inside.windows.now told = c.in_ok-has_prices.ensures.0 c.if-not-branch.false in
     let nodes : c.as_slice-nodes.result.now ≡ told.tree = c.as_slice-nodes.ensures.value ∙ ap (λ (s : Statement). s.tree) c.certificate.view_is in
     rw (← c.case.view_is) (tree_unmet p c.case.inside.windows.now told timetable points prices
     (λ has.
@@ -87,7 +92,7 @@ returns-then-not-branch-2-clause-part c number same =
     let told : Statement = c.case.inside.certificate.now in
     let points : AreAddedPoints p c.case.inside.windows.now.anchors told.points =
     subst (AreAddedPoints p c.case.inside.windows.now.anchors) (c.as_slice.ensures.value ∙ ap (λ (s : Statement). s.points) c.certificate.view_is) c.in_ok-points.ensures.holds in
-    let prices : HasPrices p told = c.in_ok-has_prices.ensures.0 c.if-not-branch.false in
+    let prices : HasPrices p c.case.inside.windows.now told = c.in_ok-has_prices.ensures.0 c.if-not-branch.false in
     let nodes : c.as_slice-nodes.result.now ≡ told.tree = c.as_slice-nodes.ensures.value ∙ ap (λ (s : Statement). s.tree) c.certificate.view_is in
     let tree : HasTree p told =
     has-tree p told c.as_slice-nodes.result.now nodes ((c.is_tree.ensures p).0 c.if-not-is_tree.false) (omega (arith, c.split_count.ensures p, c.if-split_count.false)) in
@@ -103,7 +108,7 @@ returns-clause-holds c =
     let told : Statement = c.case.inside.certificate.now in
     let points : AreAddedPoints p c.case.inside.windows.now.anchors told.points =
     subst (AreAddedPoints p c.case.inside.windows.now.anchors) (c.as_slice.ensures.value ∙ ap (λ (s : Statement). s.points) c.certificate.view_is) c.in_ok-points.ensures.holds in
-    let prices : HasPrices p told = c.in_ok-has_prices.ensures.0 c.if-not-branch.false in
+    let prices : HasPrices p c.case.inside.windows.now told = c.in_ok-has_prices.ensures.0 c.if-not-branch.false in
     let nodes : c.as_slice-nodes.result.now ≡ told.tree = c.as_slice-nodes.ensures.value ∙ ap (λ (s : Statement). s.tree) c.certificate.view_is in
     let tree : HasTree p told =
     has-tree p told c.as_slice-nodes.result.now nodes ((c.is_tree.ensures p).0 c.if-not-is_tree.false) (omega (arith, c.split_count.ensures p, c.if-split_count.false)) in

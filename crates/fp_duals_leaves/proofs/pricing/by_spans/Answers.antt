@@ -1,7 +1,6 @@
 -- Spans that are found are sound, and stand beside a table without shares.
 use Rattle.std.proofs.Common.{◌≡◌, ℕ, ◌+◌, Bool, true, inr, List, [], ◌∷◌, subst, arith}
 use Rattle.std.specs.Prelude.{IfSome, MatchBool, Option, Some}
-use Rattle.fp_flatnet.specs.Tables.{windows_in}
 use Rattle.fp_longestarcs.specs.Networks.{points_in}
 use Rattle.fp_prices.specs.Rounds.{LeafModel}
 use Rattle.fp_prices_spans.specs.Spans.{ClassSpan}
@@ -21,13 +20,13 @@ added-told : (b : Bool) (before after : PriceLists) (spans : List ClassSpan) →
 added-told b before after spans is told = subst (λ (x : Bool). MatchBool x (after ≡ with_more before ([] ∷ []) (spans ∷ [])) (after ≡ before)) is told
 
 better-told : (leaf : LeafModel) (value : ℕ) (o : Option SpanPrice) (found : SpanPrice) → o ≡ Some found →
-    IfSome o (IsBetterPrice leaf.setting.problem (windows_in leaf.setting.windows) (points_in leaf.setting.network) leaf.sides value) →
-    IsBetterPrice leaf.setting.problem (windows_in leaf.setting.windows) (points_in leaf.setting.network) leaf.sides value found
-better-told leaf value o found is told = subst (λ (x : Option SpanPrice). IfSome x (IsBetterPrice leaf.setting.problem (windows_in leaf.setting.windows) (points_in leaf.setting.network) leaf.sides value)) is told
+    IfSome o (IsBetterPrice leaf.setting.problem leaf.setting.windows (points_in leaf.setting.network) leaf.sides value) →
+    IsBetterPrice leaf.setting.problem leaf.setting.windows (points_in leaf.setting.network) leaf.sides value found
+better-told leaf value o found is told = subst (λ (x : Option SpanPrice). IfSome x (IsBetterPrice leaf.setting.problem leaf.setting.windows (points_in leaf.setting.network) leaf.sides value)) is told
 
 pub returns-clause-grown : goal.returns-clause-grown
 returns-clause-grown g c =
-    HaveGrown-spans c.args.leaf.now.setting.problem c.args.prices.now c.push_spans.new.self c.in-Some.found.spans.items c.requires.prices c.requires.unit
+    HaveGrown-spans c.args.leaf.now.setting.problem c.args.leaf.now.setting.windows c.args.prices.now c.push_spans.new.self c.in-Some.found.spans.items c.requires.prices c.requires.unit
     (better-told c.args.leaf.now c.args.first.value c.in_ok-found.found c.in-Some.found c.in-Some.is c.in_ok-found.ensures).sound
     (added-told c.in_ok-push_spans.field-0 c.args.prices.now c.push_spans.new.self c.in-Some.found.spans.items c.if-not-branch.false c.in_ok-push_spans.ensures.added)
 
@@ -36,7 +35,7 @@ returns-clause-worth g c =
     let leaf = c.args.leaf.now in
     let better = better-told leaf c.args.first.value c.in_ok-found.found c.in-Some.found c.in-Some.is c.in_ok-found.ensures in
     inr (
-      worth-added leaf.setting.problem (windows_in leaf.setting.windows) (points_in leaf.setting.network) leaf.sides c.args.prices.now c.push_spans.new.self c.in-Some.found.spans.items c.args.first.price.round (c.count-id.result + 1) c.in-Some.found.value
+      worth-added leaf.setting.problem leaf.setting.windows (points_in leaf.setting.network) leaf.sides c.args.prices.now c.push_spans.new.self c.in-Some.found.spans.items c.args.first.price.round (c.count-id.result + 1) c.in-Some.found.value
           c.requires.prices.beside (added-told c.in_ok-push_spans.field-0 c.args.prices.now c.push_spans.new.self c.in-Some.found.spans.items c.if-not-branch.false c.in_ok-push_spans.ensures.added) (omega (arith, c.count-id.ensures)) better.is,
       better.above,
     )

@@ -3,7 +3,8 @@ use Rattle.std.specs.Prelude.{IfSome, None}
 use Rattle.fp_ends.specs.Deadlines.{IsLater, has_shown}
 use Rattle.fp_session_history.specs.Solutions.{IsTimely}
 use Rattle.fp_session.specs.Searches.{IsSearch, in_hand}
-use Rattle.fp_session.specs.Steps.{HasGoneOn, StayFixed, steps_left}
+use Rattle.fp_session.specs.Preparations.{work_left}
+use Rattle.fp_session.specs.Steps.{HasGoneOn, StayFixed}
 use Rattle.fp_session.proofs.advances.finish.Given as goal
 
 -- what a search knows, of what it was begun for, and by a clock that goes on
@@ -18,4 +19,4 @@ invariant-loop-alloc g l = record {
 }
 
 abbrev pub decreases-loop-alloc : goal.decreases-loop-alloc
-decreases-loop-alloc g l = steps_left (in_hand l.search)
+decreases-loop-alloc g l = work_left (in_hand l.search)

@@ -1,6 +1,5 @@
 -- What is kept of the leaf on one side of a split, by a price as of an earlier round.
 use Rattle.std.proofs.Common.{◌<◌, ◌≤◌, ◌≡◌, ⊎_elim, List, [], ◌∷◌, ◌++◌, sym, ap, ◌∙◌, subst}
-use Rattle.fp_model.specs.Problem.{Problem}
 use Rattle.fp_longestarcs.specs.Networks.{point_count}
 use Rattle.fp_tree.specs.declared.sides.Side.{Side}
 use Rattle.fp_allowed.specs.Settings.{Setting}
@@ -22,8 +21,8 @@ pub returns-in-Empty-clause-kept : goal.returns-in-Empty-clause-kept
 returns-in-Empty-clause-kept g c =
     let s : Search = c.args.search.now in
     let setting = leaf-setting_with s c.in_ok-network.network c.in_ok-round.round c.in_ok-below.below.setting c.in_ok-round.ensures c.in_ok-below.ensures.setting in
-    let grown : HaveGrown s.instance c.args.prices.now c.improve.new.prices =
-    subst (λ (p : Problem). HaveGrown p c.args.prices.now c.improve.new.prices) (ap (λ (x : Setting). x.problem) setting) c.improve.ensures.grown in
+    let grown : HaveGrown s.instance s.windows c.args.prices.now c.improve.new.prices =
+    subst (λ (x : Setting). HaveGrown x.problem x.windows c.args.prices.now c.improve.new.prices) setting c.improve.ensures.grown in
     IsKept-grown s c.args.prices.now c.improve.new.prices (c.args.leaf.now.sides ++ (c.args.side ∷ [])) c.args.old c.requires.search.prices grown c.requires.kept
 
 pub returns-clause-kept : goal.returns-clause-kept
@@ -35,7 +34,7 @@ returns-clause-kept g c =
     let found : Kept = priced_kept c.in-Priced.price c.in-Priced.value in
     let keeps : Kept → Type 0 = λ (k : Kept). IsKept (history s after) sides k.payload k.value in
     let setting = leaf-setting_with s c.in_ok-network.network c.in_ok-round.round c.in_ok-below.below.setting c.in_ok-round.ensures c.in_ok-below.ensures.setting in
-    let grown : HaveGrown s.instance before after = subst (λ (p : Problem). HaveGrown p before after) (ap (λ (x : Setting). x.problem) setting) c.improve.ensures.grown in
+    let grown : HaveGrown s.instance s.windows before after = subst (λ (x : Setting). HaveGrown x.problem x.windows before after) setting c.improve.ensures.grown in
     let new : keeps found =
     subst (λ (l : List Side). IsKept (history s after) l found.payload found.value)
     (c.in_ok-below.ensures.sides ∙ c.deref.ensures.value ∙ c.in_ok-sides.ensures)

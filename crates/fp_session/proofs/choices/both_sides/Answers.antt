@@ -8,7 +8,7 @@ pub new_child-requires-2-clause-search : goal.new_child-requires-2-clause-search
 new_child-requires-2-clause-search g c = IsSearch-grown c.args.search.now c.args.prices.now c.new_child.new.prices c.new_child.ensures.grown c.requires.going c.requires.search
 
 pub new_child-requires-2-clause-kind : goal.new_child-requires-2-clause-kind
-new_child-requires-2-clause-kind g c = HasKind-grown c.args.search.now.instance c.args.prices.now c.new_child.new.prices c.args.inherited.kind c.new_child.ensures.grown c.requires.kind
+new_child-requires-2-clause-kind g c = HasKind-grown c.args.search.now.instance c.args.search.now.windows c.args.prices.now c.new_child.new.prices c.args.inherited.kind c.new_child.ensures.grown c.requires.kind
 
 pub returns-clause-kept : goal.returns-clause-kept
 returns-clause-kept g c =

@@ -6,19 +6,19 @@ use Rattle.fp_session.proofs.choices.tried.Goals as goal
 
 pub cut-requires : goal.cut-requires
 cut-requires g c =
-    cut-few c.args.search.now.instance c.args.prices.now c.both_sides.new.prices c.count-count.result c.both_sides.ensures.grown c.count-count.ensures
+    cut-few c.args.search.now.instance c.args.search.now.windows c.args.prices.now c.both_sides.new.prices c.count-count.result c.both_sides.ensures.grown c.count-count.ensures
 
 pub cut-requires-in-Err : goal.cut-requires-in-Err
 cut-requires-in-Err g c =
-    cut-few c.args.search.now.instance c.args.prices.now c.both_sides.new.prices c.count-count.result c.both_sides.ensures.grown c.count-count.ensures
+    cut-few c.args.search.now.instance c.args.search.now.windows c.args.prices.now c.both_sides.new.prices c.count-count.result c.both_sides.ensures.grown c.count-count.ensures
 
 pub returns-in-Ok-clause-same : goal.returns-in-Ok-clause-same
 returns-in-Ok-clause-same g c =
-    cut-back c.args.search.now.instance c.args.prices.now c.both_sides.new.prices c.cut.new.self c.count-count.result c.requires.search.prices c.both_sides.ensures.grown c.count-count.ensures c.cut.ensures
+    cut-back c.args.search.now.instance c.args.search.now.windows c.args.prices.now c.both_sides.new.prices c.cut.new.self c.count-count.result c.requires.search.prices c.both_sides.ensures.grown c.count-count.ensures c.cut.ensures
 
 pub returns-in-Err-clause-same : goal.returns-in-Err-clause-same
 returns-in-Err-clause-same g c =
-    cut-back c.args.search.now.instance c.args.prices.now c.both_sides.new.prices c.cut-in-Err.new.self c.count-count.result c.requires.search.prices c.both_sides.ensures.grown c.count-count.ensures c.cut-in-Err.ensures
+    cut-back c.args.search.now.instance c.args.search.now.windows c.args.prices.now c.both_sides.new.prices c.cut-in-Err.new.self c.count-count.result c.requires.search.prices c.both_sides.ensures.grown c.count-count.ensures c.cut-in-Err.ensures
 
 pub returns-in-Ok-clause-chosen : goal.returns-in-Ok-clause-chosen
 returns-in-Ok-clause-chosen g c =

@@ -23,4 +23,4 @@ pub returns-in-Priced-clause-outcome : goal.returns-in-Priced-clause-outcome
 returns-in-Priced-clause-outcome g c =
     found-here c.args.search.now c.args.prices.now c.improve.new.prices c.requires.search c.args.leaf.now.sides c.args.leaf.now.setting c.requires.setting c.len-round.result
     c.in_ok-improve.field-0 c.in_ok-improve.ensures.improved (omega (arith, c.len-round.ensures, c.args.search.now.trace.ok)) c.in-Priced.price c.in-Priced.value c.in-Priced.walks c.in-Priced.is
-    (subst (λ (x : Setting). HaveGrown x.problem c.args.prices.now c.improve.new.prices) c.requires.setting c.improve.ensures.grown) c.args.old c.greater.result c.requires.kept c.requires.some c.greater.ensures
+    (subst (λ (x : Setting). HaveGrown x.problem x.windows c.args.prices.now c.improve.new.prices) c.requires.setting c.improve.ensures.grown) c.args.old c.greater.result c.requires.kept c.requires.some c.greater.ensures

@@ -13,6 +13,7 @@ use Rattle.fp_session.specs.Moves.{points_now}
 use Rattle.fp_session.specs.Walks.{AreCheaperWalks}
 use Rattle.fp_session.proofs.OpenMoves.{IsSeveral-now, NoneSeveral-found, under-exist, under-relaxed}
 use Rattle.fp_session.proofs.StepOrder.{dear-walks}
+use Rattle.fp_session.proofs.NoReserve.{none-where}
 use Rattle.fp_session.proofs.planning.move_by.Goals as goal
 
 pub are_cheaper-requires-clause-exist : goal.are_cheaper-requires-clause-exist
@@ -54,11 +55,14 @@ pub returns-then-splits-search-clause-planned : goal.returns-then-splits-search-
 returns-then-splits-search-clause-planned g c =
     let some : IsSeveral c.args.leaf.now c.in-Some-2.several =
     subst (λ (o : Option Several). MatchOption o (NoneSeveral c.args.leaf.now (length c.shipments.result.now)) (IsSeveral c.args.leaf.now)) c.in-Some-2.is c.in_ok-first_several.ensures in (
-      refl,
-      record {
-        spent = omega (arith, c.splits.ensures.count, c.if-splits-search.true, c.requires.search.few);
-        several = IsSeveral-now c.args.search.now c.args.prices.now c.args.leaf.now c.args.leaf.now.sides c.in-Some-2.several c.requires.search c.requires.setting refl some;
-      },
+      (
+        refl,
+        record {
+          spent = omega (arith, c.splits.ensures.count, c.if-splits-search.true, c.requires.search.few);
+          several = IsSeveral-now c.args.search.now c.args.prices.now c.args.leaf.now c.args.leaf.now.sides c.in-Some-2.several c.requires.search c.requires.setting refl some;
+        },
+      ),
+      none-where c.args.search.now.reserve (sym c.is_some.ensures ∙ c.if-is_some.false),
     )
 
 pub returns-clause-planned : goal.returns-clause-planned

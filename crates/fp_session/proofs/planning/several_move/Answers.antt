@@ -18,4 +18,4 @@ division-requires-clause-kind g c = subst (λ (x : PriceLists). HasKind x.tables
 
 pub returns-clause-grown : goal.returns-clause-grown
 returns-clause-grown g c =
-    subst (λ (ts : PriceLists). HaveGrown c.args.search.now.instance ts c.division.new.prices) c.choice.ensures.same c.division.ensures.grown
+    subst (λ (ts : PriceLists). HaveGrown c.args.search.now.instance c.args.search.now.windows ts c.division.new.prices) c.choice.ensures.same c.division.ensures.grown

@@ -13,6 +13,9 @@ use Rattle.fp_app.specs.Checks.{AreWindowsOf}
 use Rattle.fp_app.proofs.RootValues.{IsPriceFound-IsRootBound, root-not_empty}
 use Rattle.fp_app.proofs.commands.bounds.bound_root.Goals as goal
 
+pub improve_root-requires-clause-prices : goal.improve_root-requires-clause-prices
+improve_root-requires-clause-prices g c = c.first_prices-prices.ensures.prices c.in_ok-windows.windows
+
 pub returns-clause-shown : goal.returns-clause-shown
 returns-clause-shown g c =
     let p = c.args.instance in
@@ -30,7 +33,7 @@ returns-clause-shown g c =
     let listed = subst (λ (tables : List (List ClassShare)). IsRootBound p c.in-Priced.price tables (spans_beside after.spans kind) c.in-Priced.value) (sym c.into_parts-tables.ensures.tables) bound in
     let shown = subst (λ (spans : List ClassSpan). IsRootBound p c.in-Priced.price c.into_parts-tables.result.0.items spans c.in-Priced.value) (sym beside) listed in
     let without : c.args.option ≡ false → c.taken_beside-spans.result.items ≡ [] =
-    λ off. beside ∙ beside-none p after kind c.improve_root.ensures.grown.prices (unit-grown p c.first_prices-prices.result after c.improve_root.ensures.grown ∙ c.first_prices-prices.ensures.without off) in
+    λ off. beside ∙ beside-none p c.in_ok-windows.windows after kind c.improve_root.ensures.grown.prices (unit-grown p c.in_ok-windows.windows c.first_prices-prices.result after c.improve_root.ensures.grown ∙ c.first_prices-prices.ensures.without off) in
     (refl, c.requires, shown, without)
 
 -- a plan exists, so each shipment has an allowed walk

@@ -46,23 +46,23 @@ loop-alloc-preserved g c =
     let p = c.args.session.now.instance in
     let table = c.args.session.now.windows in
     let going : c.loop-alloc.session.left ≡ None = goes-on c.loop-alloc.session.left (sym c.has_ended.ensures ∙ c.loop-alloc-test.true) in
-    let fixed : StayFixed (hand_of c.args.session.now) (hand_of c.step_within.new.self) =
-    fixed-twice (hand_of c.args.session.now) (hand_of c.loop-alloc.session) (hand_of c.step_within.new.self) c.loop-alloc.invariant.fixed c.step_within.ensures.fixed in
+    let fixed : StayFixed (hand_of c.args.session.now) (hand_of c.go_on_within.new.self) =
+    fixed-twice (hand_of c.args.session.now) (hand_of c.loop-alloc.session) (hand_of c.go_on_within.new.self) c.loop-alloc.invariant.fixed c.go_on_within.ensures.fixed in
     let look : IsLook c.args.session.now.instance c.args.session.now.windows c.loop-alloc.state c.look-state-in-loop-alloc.result (g.N.Sink.taken c.loop-alloc.notes) (g.N.Sink.taken c.look-state-in-loop-alloc.new.notes) =
     subst (λ (t : WindowTable). IsLook c.args.session.now.instance t c.loop-alloc.state c.look-state-in-loop-alloc.result (g.N.Sink.taken c.loop-alloc.notes) (g.N.Sink.taken c.look-state-in-loop-alloc.new.notes)) fixed.windows
-    (subst (λ (q : Problem). IsLook q c.step_within.new.self.windows c.loop-alloc.state c.look-state-in-loop-alloc.result (g.N.Sink.taken c.loop-alloc.notes) (g.N.Sink.taken c.look-state-in-loop-alloc.new.notes)) fixed.instance
+    (subst (λ (q : Problem). IsLook q c.go_on_within.new.self.windows c.loop-alloc.state c.look-state-in-loop-alloc.result (g.N.Sink.taken c.loop-alloc.notes) (g.N.Sink.taken c.look-state-in-loop-alloc.new.notes)) fixed.instance
     c.look-state-in-loop-alloc.ensures.look) in
     record {
       fixed = fixed;
-      unit = c.step_within.ensures.unit ∙ c.loop-alloc.invariant.unit;
+      unit = c.go_on_within.ensures.unit ∙ c.loop-alloc.invariant.unit;
       later =
-          IsLater-trans (g.C.Clock.moment c.args.clock.now) (g.C.Clock.moment c.loop-alloc.clock) (g.C.Clock.moment c.step_within.new.clock) (g.C.Clock.faults c.args.clock.now) (g.C.Clock.faults c.loop-alloc.clock)
-          (g.C.Clock.faults c.step_within.new.clock) c.loop-alloc.invariant.later c.step_within.ensures.later;
+          IsLater-trans (g.C.Clock.moment c.args.clock.now) (g.C.Clock.moment c.loop-alloc.clock) (g.C.Clock.moment c.go_on_within.new.clock) (g.C.Clock.faults c.args.clock.now) (g.C.Clock.faults c.loop-alloc.clock)
+          (g.C.Clock.faults c.go_on_within.new.clock) c.loop-alloc.invariant.later c.go_on_within.ensures.later;
       timed =
-          timely-later c.args.options.seconds (g.C.Clock.moment c.step_within.new.clock) (g.C.Clock.moment c.step_within.new.clock) (g.C.Clock.faults c.loop-alloc.clock) (g.C.Clock.faults c.args.clock.now)
-          (g.C.Clock.faults c.step_within.new.clock) (g.C.Clock.faults c.step_within.new.clock) c.step_within.new.self.left (omega arith) c.loop-alloc.invariant.later.faults (omega arith) (c.step_within.ensures.timed going);
+          timely-later c.args.options.seconds (g.C.Clock.moment c.go_on_within.new.clock) (g.C.Clock.moment c.go_on_within.new.clock) (g.C.Clock.faults c.loop-alloc.clock) (g.C.Clock.faults c.args.clock.now)
+          (g.C.Clock.faults c.go_on_within.new.clock) (g.C.Clock.faults c.go_on_within.new.clock) c.go_on_within.new.self.left (omega arith) c.loop-alloc.invariant.later.faults (omega arith) c.go_on_within.ensures.timed;
       known = subst (λ (t : WindowTable). IfSome c.look-state-in-loop-alloc.result.last (λ (f : Figures). NoPlanWithinCheaper c.args.session.now.instance (windows_in t) f.bound)) fixed.windows
-          (subst (λ (q : Problem). IfSome c.look-state-in-loop-alloc.result.last (λ (f : Figures). NoPlanWithinCheaper q (windows_in c.step_within.new.self.windows) f.bound)) fixed.instance c.look-state-in-loop-alloc.ensures.known);
+          (subst (λ (q : Problem). IfSome c.look-state-in-loop-alloc.result.last (λ (f : Figures). NoPlanWithinCheaper q (windows_in c.go_on_within.new.self.windows) f.bound)) fixed.instance c.look-state-in-loop-alloc.ensures.known);
       noted = notes-more p table start mid now c.loop-alloc.state c.look-state-in-loop-alloc.result c.loop-alloc.invariant.noted look;
       quiet = λ none.
           let was = c.loop-alloc.invariant.quiet none in
@@ -70,8 +70,8 @@ loop-alloc-preserved g c =
           (is.0, is.1 ∙ was.1);
     }
 
-pub returns-in_err-step_within-clause-noted : goal.returns-in_err-step_within-clause-noted
-returns-in_err-step_within-clause-noted g c =
+pub returns-in_err-go_on_within-clause-noted : goal.returns-in_err-go_on_within-clause-noted
+returns-in_err-go_on_within-clause-noted g c =
     may-note c.args.session.now.instance c.args.session.now.windows (g.N.Sink.taken c.args.notes.now) (g.N.Sink.taken c.loop-alloc.notes) c.loop-alloc.state c.args.options.notes c.loop-alloc.invariant.noted c.loop-alloc.invariant.quiet
 
 pub returns-clause-noted : goal.returns-clause-noted

@@ -5,7 +5,8 @@ use Rattle.fp_flatnet.specs.Tables.{windows_in}
 use Rattle.fp_certificate_rules.specs.Claims.{NoPlanWithinCheaper}
 use Rattle.fp_session_history.specs.Solutions.{IsTimely}
 use Rattle.fp_session.specs.Sessions.{hand_of}
-use Rattle.fp_session.specs.Steps.{StayFixed, steps_left}
+use Rattle.fp_session.specs.Preparations.{work_left}
+use Rattle.fp_session.specs.Steps.{StayFixed}
 use Rattle.fp_app.specs.declared.notes.Figures.{Figures}
 use Rattle.fp_app.specs.Notes.{HasNoted}
 use Rattle.fp_app.proofs.commands.searches.finish.Given as goal
@@ -23,4 +24,4 @@ invariant-loop-alloc g l = record {
 }
 
 abbrev pub decreases-loop-alloc : goal.decreases-loop-alloc
-decreases-loop-alloc g l = steps_left (hand_of l.session)
+decreases-loop-alloc g l = work_left (hand_of l.session)

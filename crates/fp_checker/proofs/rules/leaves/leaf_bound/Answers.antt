@@ -33,7 +33,7 @@ span_bound_of-requires-clause-prices c =
     record {
       are_tables = subst (AreTables p) (sym tables) prices.tables;
       has_kind = subst (λ (ts : List (List ClassShare)). HasKind ts kind) (sym tables) named;
-      are_spans = subst (AreSpans p) (sym beside) (beside-spans p told c.case.invariant.range prices kind);
+      are_spans = subst (AreSpans p) (sym beside) (beside-spans p c.case.inside.windows.now told c.case.invariant.range prices kind);
     }
 
 pub returns-then-is_empty-clause-exact : goal.returns-then-is_empty-clause-exact

@@ -50,10 +50,10 @@ pub returns-clause-exact : goal.returns-clause-exact
 returns-clause-exact c = exact c
 
 pub returns-clause-plans : goal.returns-clause-plans
-returns-clause-plans c rules =
+returns-clause-plans c first among rules =
     let m : PricingModel = record { leaf = c.args.leaf.now; tables = c.args.tables.now; kind = c.args.kind; forced = c.args.forced } in
     let valid : IsValid m.leaf.setting.problem = subst (λ (o : PricingModel). IsValid o.leaf.setting.problem) c.in_ok-pricing.ensures.is c.in_ok-found.ensures.valid in
-    bound-plans m c.args.spans.now c.match-found.result valid c.requires.tables.rule rules (exact c)
+    bound-plans m c.args.spans.now first c.match-found.result valid among c.requires.tables.rule rules (exact c)
 
 pub returns-clause-small : goal.returns-clause-small
 returns-clause-small c =

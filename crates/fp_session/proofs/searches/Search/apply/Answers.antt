@@ -1,5 +1,9 @@
 -- What was planned may be done, and it is what the answer says.
-use Rattle.fp_session.proofs.StepsTaken.{better-cheaper, close-settled, divide-division, divide-left, divide-unsettled, kept-cheaper, kept-going, refine-next, round-kept, stop-left, stop-unsettled}
+use Rattle.std.proofs.Common.{◌∙◌, ap}
+use Rattle.std.specs.Prelude.{None}
+use Rattle.fp_session.specs.declared.searches.Search.{Search}
+use Rattle.fp_session.specs.Searches.{cheapest_plan}
+use Rattle.fp_session.proofs.StepsTaken.{better-cheaper, close-settled, divide-division, divide-left, divide-unsettled, kept-cheaper, kept-going, kept-reserve, refine-next, reserve-some, round-kept, stop-left, stop-none, stop-unsettled}
 use Rattle.fp_session.proofs.StepOrder.{better-order, close-order, round-order, split-order, stop-order}
 use Rattle.fp_session.proofs.searches.Search.apply.Goals as goal
 
@@ -15,6 +19,19 @@ pub take-requires-clause-cheaper : goal.take-requires-clause-cheaper
 take-requires-clause-cheaper c =
     rw c.in-Better.is (kept-cheaper c.args.self.now c.keep.new.self c.args.self.now c.in-Better.cheaper
     (better-cheaper c.args.self.now c.args.prices.now c.args.leaf c.args.planned.kept c.args.planned.planned c.requires.planned c.in-Better.cheaper c.in-Better.is) c.keep.ensures.others)
+
+pub take_reserve-requires-clause-going : goal.take_reserve-requires-clause-going
+take_reserve-requires-clause-going c = ap (λ (x : Search). x.left) c.keep-in-TakeReserve.ensures.others ∙ c.requires.going
+
+pub take_reserve-requires-clause-some : goal.take_reserve-requires-clause-some
+take_reserve-requires-clause-some c =
+    kept-reserve c.args.self.now c.keep-in-TakeReserve.new.self c.keep-in-TakeReserve.ensures.others
+    (reserve-some c.args.self.now c.args.prices.now c.args.leaf c.args.planned.kept c.args.planned.planned c.requires.planned c.in-TakeReserve.is)
+
+pub returns-in-TakeReserve-clause-order : goal.returns-in-TakeReserve-clause-order
+returns-in-TakeReserve-clause-order c =
+    better-order c.args.self.now c.args.prices.now c.args.leaf c.args.planned.kept c.args.planned.planned c.requires.planned c.requires.least c.keep-in-TakeReserve.new.self c.take_reserve.new.self
+    (cheapest_plan c.keep-in-TakeReserve.new.self) None c.keep-in-TakeReserve.new.self.preparation c.keep-in-TakeReserve.ensures.tree c.take_reserve.ensures.taken
 
 pub refine-requires-clause-round : goal.refine-requires-clause-round
 refine-requires-clause-round c =
@@ -35,6 +52,9 @@ stop-requires-clause-unsettled c = stop-unsettled c.args.self.now c.args.prices.
 pub stop-requires-clause-left : goal.stop-requires-clause-left
 stop-requires-clause-left c = rw c.in-Stop.is (stop-left c.args.self.now c.args.prices.now c.args.leaf c.args.planned.kept c.args.planned.planned c.requires.planned c.in-Stop.left c.in-Stop.is)
 
+pub stop-requires-clause-none : goal.stop-requires-clause-none
+stop-requires-clause-none c = stop-none c.args.self.now c.args.prices.now c.args.leaf c.args.planned.kept c.args.planned.planned c.requires.planned c.in-Stop.left c.in-Stop.is
+
 pub keep-requires-in-Refine-clause-kept : goal.keep-requires-in-Refine-clause-kept
 keep-requires-in-Refine-clause-kept c =
     round-kept c.args.self.now c.refine.new.self c.args.prices.now c.in-Refine.note c.in-Refine.refined
@@ -45,7 +65,7 @@ pub returns-in-Close-clause-order : goal.returns-in-Close-clause-order
 returns-in-Close-clause-order c = close-order c.args.self.now c.args.prices.now c.args.leaf c.args.planned.kept c.args.planned.planned c.requires.planned c.requires.least c.close.new.self c.close.ensures.tree
 
 pub returns-in-Better-clause-order : goal.returns-in-Better-clause-order
-returns-in-Better-clause-order c = better-order c.args.self.now c.args.prices.now c.args.leaf c.args.planned.kept c.args.planned.planned c.requires.planned c.requires.least c.keep.new.self c.take.new.self c.in-Better.cheaper c.keep.ensures.tree (rw c.in-Better.is at c.take.ensures.taken)
+returns-in-Better-clause-order c = better-order c.args.self.now c.args.prices.now c.args.leaf c.args.planned.kept c.args.planned.planned c.requires.planned c.requires.least c.keep.new.self c.take.new.self c.in-Better.cheaper c.take.new.self.reserve c.take.new.self.preparation c.keep.ensures.tree (rw c.in-Better.is at c.take.ensures.taken)
 
 pub returns-in_ok-refine-in-Refine-clause-order : goal.returns-in_ok-refine-in-Refine-clause-order
 returns-in_ok-refine-in-Refine-clause-order c =

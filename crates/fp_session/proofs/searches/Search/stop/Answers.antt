@@ -10,7 +10,7 @@ use Rattle.fp_session.proofs.searches.Search.stop.Goals as goal
 
 pub returns-clause-search : goal.returns-clause-search
 returns-clause-search c =
-    stop-applied c.args.self.now c.args.prices.now c.requires.search c.requires.going c.args.leaf c.args.kept c.args.left c.put.new.self c.requires.kept c.requires.unsettled c.requires.left
+    stop-applied c.args.self.now c.args.prices.now c.requires.search c.requires.going c.args.leaf c.args.kept c.args.left c.put.new.self c.requires.kept c.requires.unsettled c.requires.left c.requires.none
     c.put.ensures.changed c.put.ensures.splits
 
 pub returns-clause-ended : goal.returns-clause-ended
