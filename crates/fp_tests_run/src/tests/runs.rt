@@ -42,6 +42,20 @@ pub fn run_by(
     Ok((status, text))
 }
 
+// The number of the status of a run over these ends.
+fn status_within(
+    alloc: Global,
+    words: &[String],
+    source: &mut MemSource,
+    sink: &mut MemSink,
+    clock: &mut MemClock,
+    notes: &mut MemSink,
+) -> u8 {
+    run_within(alloc, words, source, sink, clock, notes)
+        .status
+        .code()
+}
+
 /// The same, with what is noted meanwhile.
 pub fn noted_by(
     alloc: Global,
@@ -54,7 +68,7 @@ pub fn noted_by(
     let mut clock = MemClock::new(shown.to_vec(alloc)?);
     let words = words_of(alloc, line)?;
     let mut notes = sink_of(alloc, 20_000, 11, &[])?;
-    let ran = run_within(
+    let status = status_within(
         alloc,
         &words,
         &mut source,
@@ -63,7 +77,7 @@ pub fn noted_by(
         &mut notes,
     );
     let text = sink.bytes().to_vec(alloc)?;
-    Ok((ran.status.code(), text, notes.bytes().to_vec(alloc)?))
+    Ok((status, text, notes.bytes().to_vec(alloc)?))
 }
 
 /// A source of these bytes. The calls with these numbers fail.
