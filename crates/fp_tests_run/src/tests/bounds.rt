@@ -12,7 +12,8 @@ const SHARED: &str =
 const ROWS: [(&str, &str, u8, &str); 12] = [
     // A truck for each arc: at the points of the start both shipments can share one over the second.
     ("bound", LINE, 0, "answer,bound,200\nend\n"),
-    ("bound --spans", LINE, 0, "answer,bound,200\nend\n"),
+    // By spans in groups a truck for each leg: over the second arc they can't leave together.
+    ("bound --spans", LINE, 0, "answer,bound,300\nend\n"),
     // By linear prices 40, by even ones 100.
     ("bound", DETOUR, 0, "answer,bound,100\nend\n"),
     // No shares of the root pass 150. By spans each shipment pays 60, as in the cheapest plan.

@@ -136,8 +136,8 @@ const ANSWERED: [Row; 33] = [
     (
         "plan --rounds 0 --spans",
         LINE,
-        10,
-        "answer,unfinished,300,200,rounds\nunit,100\n",
+        0,
+        "answer,optimal,300\nunit,100\n",
     ),
     ("plan --spans", NO_SHIPMENTS, 0, "answer,optimal,0\nunit,"),
     ("plan", SHEET, 0, "answer,optimal,109\n"),
