@@ -8,6 +8,7 @@ PROGRAM is the built program; without it the proved one in crates/freight/out or
 - `spans`: 100,000 spans of one arc, each of which ends where the next begins.
 - `later` and `first`: a chain of 100,000 splits by time; all nodes but the leaves lie on the second sides, or on the first.
 - `in turn`: a chain of 100,000 splits, on the second sides, by times at two terminals in turn.
+- `half`: the same as `later`, each leaf valued under the first 50,000 of its sides.
 - `records` and `commas`: 134,217,728 bytes of records of one byte, and 134,217,727 of one record of empty fields.
 - `last`, `fields` and `both`: as many bytes of one record whose last field alone isn't empty, or whose first; and of records of one
   byte, with one of three fields at the end.
@@ -60,6 +61,11 @@ def in_turn():
     """The same as `later`, by times at the first terminal and at the second in turn."""
     lines = [line for at in range(COUNT) for line in (f"split,time,S1,{'AB'[at % 2]},{at // 2}", LEAF)]
     return text_of(TWO_ARCS, ["answer,unfinished,208,208,branches"], TWO_LEGS, lines, [LEAF, "end"])
+
+
+def half():
+    """The same as `later`, each leaf valued under half of the chain."""
+    return later().replace(f"{LEAF}\n", f"{LEAF},{COUNT // 2}\n")
 
 
 def records():
@@ -119,6 +125,7 @@ CASES = (
     ("later", later, "accepted,unfinished\n"),
     ("first", first, "accepted,unfinished\n"),
     ("in turn", in_turn, "accepted,unfinished\n"),
+    ("half", half, "accepted,unfinished\n"),
     ("records", records, "refused,1,1\n"),
     ("commas", commas, "refused,1,26\n"),
     ("last", last, "refused,1,1\n"),

@@ -66,7 +66,7 @@ module _ (p : Problem) (scale : ℕ) where
   node-in_range : (tables : List (List ClassShare)) (n : Node) → IsNodeInRange p tables n → IsNodeInRange rescaled tables n
   node-in_range tables (Branch (ByArc shipment arc)) is = is
   node-in_range tables (Branch (ByTime shipment terminal time)) is = is
-  node-in_range tables (Leaf price) is = is
+  node-in_range tables (Leaf valuation) is = is
 
   all-in_range : (c : Statement) → IsInRange p c → IsInRange rescaled c
   all-in_range c is = record {

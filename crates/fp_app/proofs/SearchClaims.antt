@@ -19,7 +19,7 @@ use Rattle.fp_tree.specs.Trees.{Leaf}
 use Rattle.fp_allowed.specs.Slack.{slack}
 use Rattle.fp_prices.specs.declared.leaf_prices.LeafPrice.{LeafPrice}
 use Rattle.fp_prices.specs.FlatBounds.{IsFlatBound}
-use Rattle.fp_prices_spans.specs.SpanKinds.{spans_beside}
+use Rattle.fp_prices_spans.specs.SpanKinds.{IsPricedValue, spans_beside}
 use Rattle.fp_prices_spans.proofs.OneSpanValue.{span_leaves-have-one-value}
 use Rattle.fp_certificate_lines.specs.declared.certificates.Answer.{Answer}
 use Rattle.fp_certificate_lines.specs.declared.certificates.Answer.TheVariants.{Optimal, Unfinished}
@@ -39,6 +39,8 @@ use Rattle.fp_certificate_rules.proofs.LineCounts.{AcceptedAreFew_hold, few-byte
 use Rattle.fp_certificate_rules.proofs.Multiples.{rounded_up-more}
 use Rattle.fp_duals_leaves.proofs.WrittenLines.{PriceLinesAreWritten_hold}
 use Rattle.fp_certificate.specs.Readable.{Allows, WrittenReadsBack}
+use Rattle.fp_certificate_lines.specs.declared.certificates.Valuation.{Valuation}
+use Rattle.fp_certificate_lines.specs.Valuations.{first_sides, sides_valued}
 use Rattle.fp_session_history.specs.declared.budgets.Budget.{Budget}
 use Rattle.fp_session_history.specs.declared.endings.Left.{Left}
 use Rattle.fp_session_history.specs.declared.endings.Left.TheVariants.{Nothing, Several, Timing, Unsettled}
@@ -59,26 +61,31 @@ use Rattle.fp_app.proofs.OneTable.{AreWindowsOf_unique}
 use Rattle.fp_app.proofs.PlainValues.{flat-le_leaf}
 
 -- a printed leaf with a value is worth the flat bound
-flat-price : (h : History) (sides : List Side) (price : LeafPrice) (flat value : ℕ) → IsFlatBound h.problem flat → IsEmptyAt h sides price ⊎ IsEarnedAt h sides price → IsValueAt h sides price value → flat ≤ value
-flat-price h sides price flat value least (inl empty) is =
-    absurd (span_leaves-have-one-value.some h.problem (windows_in h.windows) (points_of h price.round) sides h.tables (spans_beside h.spans price.kind) price.kind price.forced value is empty.empty)
-flat-price h sides price flat value least (inr earned) is =
+flat-price : (h : History) (sides : List Side) (v : Valuation) (flat value : ℕ) → IsFlatBound h.problem flat → IsEmptyAt h sides v ⊎ IsEarnedAt h sides v → IsValueAt h sides v value → flat ≤ value
+flat-price h sides v flat value least (inl empty) is =
+    let price : LeafPrice = v.price in
+    let whole : IsPricedValue h.problem (windows_in h.windows) (points_of h price.round) sides h.tables h.spans price.kind price.forced value =
+    subst (λ (o : Option ℕ). IsPricedValue h.problem (windows_in h.windows) (points_of h price.round) (first_sides o sides) h.tables h.spans price.kind price.forced value) empty.whole is in
+    absurd (span_leaves-have-one-value.some h.problem (windows_in h.windows) (points_of h price.round) sides h.tables (spans_beside h.spans price.kind) price.kind price.forced value whole empty.empty)
+flat-price h sides v flat value least (inr earned) is =
+    let price : LeafPrice = v.price in
+    let under : List Side = sides_valued v sides in
     let same : earned.value ≡ value =
-    span_leaves-have-one-value.one h.problem (windows_in h.windows) (points_of h price.round) sides h.tables (spans_beside h.spans price.kind) price.kind price.forced earned.value value earned.is is in
+    span_leaves-have-one-value.one h.problem (windows_in h.windows) (points_of h price.round) under h.tables (spans_beside h.spans price.kind) price.kind price.forced earned.value value earned.is is in
     let worth : flat ≤ earned.value =
-    flat-le_leaf h.problem (windows_in h.windows) (points_of h price.round) sides h.tables (spans_beside h.spans price.kind) price.kind price.forced flat earned.value least earned.is earned.linear in
+    flat-le_leaf h.problem (windows_in h.windows) (points_of h price.round) under h.tables (spans_beside h.spans price.kind) price.kind price.forced flat earned.value least earned.is earned.linear_under in
     omega (arith, worth, same)
 
 flat-node : (h : History) (n : Node) (sides : List Side) (flat bound : ℕ) → IfSome h.unit (λ u. 1 ≤ u) → IsFlatBound h.problem flat → IsPrintedLeaf h (record { node = n; sides = sides }) →
-    OfLeaf (λ price under. IsWorth h under price bound) (record { node = n; sides = sides }) → div_ceil flat h.problem.scale ≤ bound
+    OfLeaf (λ v under. IsWorth h under v bound) (record { node = n; sides = sides }) → div_ceil flat h.problem.scale ≤ bound
 flat-node h (node.Branch split) sides flat bound some least printed worth = absurd worth
-flat-node h (node.Leaf price) sides flat bound some least printed worth =
-    let whole : div_ceil flat h.problem.scale ≤ div_ceil worth.value h.problem.scale = div_ceil_mono flat worth.value h.problem.scale (flat-price h sides price flat worth.value least printed worth.is) in
+flat-node h (node.Leaf v) sides flat bound some least printed worth =
+    let whole : div_ceil flat h.problem.scale ≤ div_ceil worth.value h.problem.scale = div_ceil_mono flat worth.value h.problem.scale (flat-price h sides v flat worth.value least printed worth.is) in
     omega (arith, whole, rounded_up-more h.unit (div_ceil worth.value h.problem.scale) some, worth.rounded)
 
 -- so the worth of a printed leaf is at least the flat bound in whole units
 flat-leaves : (h : History) (leaves : List (Leaf Node)) (flat bound : ℕ) → IfSome h.unit (λ u. 1 ≤ u) → IsFlatBound h.problem flat → AllByRecursion (IsPrintedLeaf h) leaves →
-    AnyByRecursion (OfLeaf (λ price sides. IsWorth h sides price bound)) leaves → div_ceil flat h.problem.scale ≤ bound
+    AnyByRecursion (OfLeaf (λ v sides. IsWorth h sides v bound)) leaves → div_ceil flat h.problem.scale ≤ bound
 flat-leaves h [] flat bound some least all any = absurd any
 flat-leaves h (l ∷ leaves) flat bound some least all (inl here) = flat-node h l.node l.sides flat bound some least all.0 here
 flat-leaves h (l ∷ leaves) flat bound some least all (inr later) = flat-leaves h leaves flat bound some least all.1 later

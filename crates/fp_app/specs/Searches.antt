@@ -68,7 +68,7 @@ pub record AreInTime (p : Problem) (points : List AddedPoint) : Type 0 where
   pub few : length points ≤ length p.terminals * horizon p.shipments
 
 -- how the certificate of a search is priced: with the option of spans it names the greatest unit, and
--- without it, it names no unit and has no spans
+-- without it, it names no unit, has no spans, and values each leaf under all its sides
 abbrev pub IsPricedAs : Problem → (spans : Bool) → Statement → Type 0
 IsPricedAs p true c = IsSomeAnd c.unit (IsGreatestUnit p)
 IsPricedAs p false c = IsPricedBy None c

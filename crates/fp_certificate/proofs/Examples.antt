@@ -1,8 +1,10 @@
 -- What reading says of a worked certificate and of altered ones.
-use Rattle.std.proofs.Common.{◌≡◌, ℕ, List, [], ◌∷◌, ◌++◌, refl}
+use Rattle.std.proofs.Common.{◌≡◌, ℕ, true, List, [], ◌∷◌, ◌++◌, refl}
 use Rattle.std.specs.Prelude.{Result, Ok, Err, Some, codes}
+use Rattle.fp_prices.specs.declared.leaf_prices.Kind.TheVariants.{Linear}
 use Rattle.fp_records_fields.specs.Faults.{Fault}
 use Rattle.fp_certificate.specs.Reading.{certificate_of}
+use Rattle.fp_certificate_lines.specs.declared.certificates.Node.TheVariants.{Leaf}
 use Rattle.fp_certificate_lines.specs.Statements.{Statement}
 use Rattle.fp_certificate_lines.proofs.Examples.{answer, best, last, leaf, leg, records, small, truck, whole}
 
@@ -204,6 +206,31 @@ group-of-share = refl
 
 group-of-table : read (answer ∷ table ∷ span (codes "9") (codes "5") ∷ (codes "table" ∷ codes "2" ∷ []) ∷ group (codes "8") ∷ []) ≡ bad 9 24
 group-of-table = refl
+
+-- a leaf that is valued under its first sides alone
+abbrev sides : List ℕ → List (List ℕ)
+sides count = codes "leaf" ∷ codes "linear" ∷ codes "0" ∷ codes "forced" ∷ count ∷ []
+
+reads-sides : read (records answer (leg (codes "0")) truck (sides (codes "0")))
+    ≡ Ok (record best { tree = Leaf (record { price = record { kind = Linear; round = 0; forced = true }; sides = Some 0 }) ∷ [] })
+reads-sides = refl
+
+sides-most : read (answer ∷ sides (codes "100000") ∷ []) ≡ bad 7 26
+sides-most = refl
+
+sides-past : read (answer ∷ sides (codes "100001") ∷ []) ≡ bad 6 28
+sides-past = refl
+
+-- the number has no sign and at least a digit
+sides-sign : read (answer ∷ sides (codes "-1") ∷ []) ≡ bad 6 23
+sides-sign = refl
+
+sides-none : read (answer ∷ sides [] ∷ []) ≡ bad 6 23
+sides-none = refl
+
+-- it is the last field
+sides-twice : read (answer ∷ (codes "leaf" ∷ codes "linear" ∷ codes "0" ∷ codes "forced" ∷ codes "0" ∷ codes "0" ∷ []) ∷ []) ≡ bad 6 22
+sides-twice = refl
 
 -- the name goes before the range
 name-first : read (answer ∷ (codes "point" ∷ codes "C" ∷ codes "0" ∷ codes "4001" ∷ []) ∷ []) ≡ bad 6 25

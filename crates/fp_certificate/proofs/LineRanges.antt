@@ -1,9 +1,9 @@
 -- What the fields of a line without a fault give is in range.
-use Rattle.std.proofs.Common.{◌≡◌, ℕ, ◌<◌, ◌≤◌, true, false, List, [], ◌∷◌, length, refl, arith}
-use Rattle.std.specs.Prelude.{Option, Some, None, All, is_none, position, unwrap_or}
+use Rattle.std.proofs.Common.{◌≡◌, ℕ, ◌≤◌, true, List, [], ◌∷◌}
+use Rattle.std.specs.Prelude.{All}
 use Rattle.std.proofs.lemmas.List.Elements.{All-cons, All-head, All-nil, All-tail}
 use Rattle.fp_model.specs.declared.limits.TheConstants.{LATEST}
-use Rattle.fp_records_fields.specs.Fields.{field, number_at}
+use Rattle.fp_records_fields.specs.Fields.{number_at}
 use Rattle.fp_records_fields.proofs.Numerals.{is_between-limits}
 use Rattle.fp_certificate_lines.specs.Ranges.{largest_figure}
 use Rattle.fp_certificate.specs.Answers.{is_figure}

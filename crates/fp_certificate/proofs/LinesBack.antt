@@ -17,6 +17,7 @@ use Rattle.fp_records.specs.Fields.{is_empty}
 use Rattle.fp_timenodes.specs.declared.places.AddedPoint.{AddedPoint}
 use Rattle.fp_timetable.specs.declared.lines.LegLine.{LegLine}
 use Rattle.fp_timetable.specs.declared.lines.TruckLine.{TruckLine}
+use Rattle.fp_tree.specs.declared.layout.TheConstants.{MOST_SPLITS}
 use Rattle.fp_tree.specs.declared.sides.Split.{Split}
 use Rattle.fp_tree.specs.declared.sides.Split.TheVariants as split
 use Rattle.fp_certificate_lines.specs.declared.certificates.Answer.{Answer}
@@ -25,6 +26,7 @@ use Rattle.fp_certificate_lines.specs.declared.certificates.Node.{Node}
 use Rattle.fp_certificate_lines.specs.declared.certificates.Node.TheVariants as node
 use Rattle.fp_certificate_lines.specs.declared.certificates.Spent.{Spent}
 use Rattle.fp_certificate_lines.specs.declared.certificates.Spent.TheVariants as spent
+use Rattle.fp_certificate_lines.specs.declared.certificates.Valuation.{Valuation}
 use Rattle.fp_certificate.specs.declared.drafts.Draft.{Draft}
 use Rattle.fp_certificate.specs.declared.lines.sections.Section.TheVariants as section
 use Rattle.fp_certificate.specs.Answers.{with_answer, with_scale, with_unit}
@@ -269,21 +271,44 @@ mode-same : (forced : Bool) → bytes_eq (mode_text forced) (codes "forced") ≡
 mode-same true = refl
 mode-same false = refl
 
-leaf-step : (p : Problem) (before : Draft) (l : LeafPrice) → length before.certificate.tables < 10 ^ 64 → IsLeafInRange before.certificate.tables l
-    → has_ended before ≡ false → is_misplaced before section.Tree ≡ false → IsStep p before (leaf_fields l) (with_node before (node.Leaf l))
-leaf-step p before l few r open_still placed =
+-- a leaf by its price and under how many of its sides it is valued
+abbrev valued : LeafPrice → Option ℕ → Valuation
+valued l sides = record { price = l; sides = sides }
+
+leaf-step : (p : Problem) (before : Draft) (l : LeafPrice) (sides : Option ℕ) → length before.certificate.tables < 10 ^ 64 → IsLeafInRange before.certificate.tables (valued l sides)
+    → has_ended before ≡ false → is_misplaced before section.Tree ≡ false → IsStep p before (leaf_fields (valued l sides)) (with_node before (node.Leaf (valued l sides)))
+leaf-step p before l None few r open_still placed =
     let kind = kind-back before.certificate.tables l.kind few r.kind in
     let back = time-back l.round (omega (arith, r.round)) in
     record {
       clean = rw (open_still, placed, kind.is, kind.within, mode-is l.forced, back.is, within-back 0 LAST_ROUND l.round (omega arith) r.round back) refl;
       gives = rw (kind.same, mode-same l.forced, back.value) refl;
     }
+leaf-step p before l (Some count) few r open_still placed =
+    let kind = kind-back before.certificate.tables l.kind few r.kind in
+    let back = time-back l.round (omega (arith, r.round)) in
+    let told = time-back count (omega (arith, r.sides)) in
+    record {
+      clean =
+          rw (
+            open_still,
+            placed,
+            kind.is,
+            kind.within,
+            mode-is l.forced,
+            back.is,
+            within-back 0 LAST_ROUND l.round (omega arith) r.round back,
+            told.is,
+            within-back 0 MOST_SPLITS count (omega arith) r.sides told,
+          ) refl;
+      gives = rw (kind.same, mode-same l.forced, back.value, told.value) refl;
+    }
 
 -- a node
 pub node-step : (p : Problem) (before : Draft) (n : Node) → IsValid p → length before.certificate.tables < 10 ^ 64 → IsNodeInRange p before.certificate.tables n
     → has_ended before ≡ false → is_misplaced before section.Tree ≡ false → IsStep p before (node_fields p n) (with_node before n)
 node-step p before (node.Branch s) v few r open_still placed = split-step p before s v r open_still placed
-node-step p before (node.Leaf l) v few r open_still placed = leaf-step p before l few r open_still placed
+node-step p before (node.Leaf l) v few r open_still placed = leaf-step p before l.price l.sides few r open_still placed
 
 -- the end
 pub end-step : (p : Problem) (before : Draft) → has_ended before ≡ false → is_misplaced before section.End ≡ false → IsStep p before end_fields (with_end before)

@@ -9,7 +9,7 @@ use Rattle.std.proofs.lemmas.List.Sums.{position_or_len_is}
 use Rattle.std.proofs.lemmas.Slice.Eq.{bytes_eq-Decides}
 use Rattle.fp_model.specs.declared.parts.Shipment.{Shipment}
 use Rattle.fp_model.specs.Numbered.{no_shipment}
-use Rattle.fp_model.specs.Problem.{IsArc, IsValid, Problem, arc_at, no_arc}
+use Rattle.fp_model.specs.Problem.{IsValid, Problem, arc_at, no_arc}
 use Rattle.fp_records_fields.specs.Indexes.{shipment_names}
 use Rattle.fp_records_fields.specs.NamedParts.{joins}
 use Rattle.fp_records_fields.specs.Names.{number_of}

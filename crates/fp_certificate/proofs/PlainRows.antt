@@ -1,15 +1,17 @@
 -- The written lines have plain fields alone.
-use Rattle.std.proofs.Common.{◌≡◌, ◌∙◌, ℕ, ◌+◌, ◌^◌, ◌-◌, ◌<◌, Bool, true, false, leb, List, [], ◌∷◌, ◌++◌, length, map, refl, arith}
+use Rattle.std.proofs.Common.{◌≡◌, ◌∙◌, ℕ, ◌+◌, ◌^◌, ◌-◌, ◌<◌, ◌≤◌, Bool, true, false, leb, List, [], ◌∷◌, ◌++◌, length, map, refl, arith}
 use Rattle.std.specs.Prelude.{Option, Some, None, All, ◌&&◌, ◌==◌, not, IfSome}
 use Rattle.std.specs.List.{AllByRecursion, flat_map, list_all}
 use Rattle.std.proofs.lemmas.Bool.{and_from, and_parts, ne_eqb}
 use Rattle.std.proofs.lemmas.List.Elements.{All-head, All-nil, All-tail, recursion_from_All}
 use Rattle.std.proofs.lemmas.List.Folds.{list_all-append}
+use Rattle.fp_model.specs.declared.limits.TheConstants.{LAST_ROUND}
 use Rattle.fp_model.specs.Names.{IsName, is_name_byte}
 use Rattle.fp_model.specs.Numbered.{no_shipment}
 use Rattle.fp_model.specs.Problem.{IsValid, Problem, arc_at}
 use Rattle.fp_prices.specs.declared.leaf_prices.Kind.{Kind}
 use Rattle.fp_prices.specs.declared.leaf_prices.Kind.TheVariants as price
+use Rattle.fp_prices.specs.declared.leaf_prices.LeafPrice.{LeafPrice}
 use Rattle.fp_prices.specs.declared.tables.Weight.{Weight}
 use Rattle.fp_prices.specs.Shares.{ClassShare}
 use Rattle.fp_prices.specs.Tables.{HasKind}
@@ -22,6 +24,7 @@ use Rattle.fp_records.specs.Text.{is_plain, is_plain_field, is_plain_record}
 use Rattle.fp_timenodes.specs.declared.places.AddedPoint.{AddedPoint}
 use Rattle.fp_timetable.specs.declared.lines.LegLine.{LegLine}
 use Rattle.fp_timetable.specs.declared.lines.TruckLine.{TruckLine}
+use Rattle.fp_tree.specs.declared.layout.TheConstants.{MOST_SPLITS}
 use Rattle.fp_tree.specs.declared.sides.Split.TheVariants as split
 use Rattle.fp_certificate_lines.specs.declared.certificates.Answer.{Answer}
 use Rattle.fp_certificate_lines.specs.declared.certificates.Answer.TheVariants as answer
@@ -29,7 +32,7 @@ use Rattle.fp_certificate_lines.specs.declared.certificates.Node.{Node}
 use Rattle.fp_certificate_lines.specs.declared.certificates.Node.TheVariants as node
 use Rattle.fp_certificate_lines.specs.declared.certificates.Spent.TheVariants as spent
 use Rattle.fp_certificate_lines.specs.Ranges.{HaveNames, IsAnswerInRange, IsGroupInRange, IsInRange, IsLegInRange, IsNodeInRange, IsPointInRange, IsScaleInRange, IsShareInRange, IsSpanInRange, IsTruckInRange, IsUnitInRange, IsWeightInRange}
-use Rattle.fp_certificate_lines.specs.Rows.{answer_fields, group_fields, head_name, kind_text, leg_fields, mode_text, node_fields, point_fields, rows_of, scale_rows, share_fields, share_rows, shipment_name, span_fields, span_rows, table_fields, table_rows, tables_rows, tail_name, terminal_name, truck_fields, unit_rows, weight_fields}
+use Rattle.fp_certificate_lines.specs.Rows.{answer_fields, group_fields, head_name, kind_text, leg_fields, mode_text, leaf_fields, node_fields, point_fields, rows_of, scale_rows, share_fields, share_rows, shipment_name, span_fields, span_rows, table_fields, table_rows, tables_rows, tail_name, terminal_name, truck_fields, unit_rows, weight_fields}
 use Rattle.fp_certificate_lines.specs.Statements.{Statement}
 use Rattle.fp_model.proofs.Validity.{IsArc-valid}
 use Rattle.fp_certificate.proofs.NumbersBack.{large-back, number-back, time-back}
@@ -198,14 +201,20 @@ mode-plain : (forced : Bool) → is_plain_field (mode_text forced) ≡ true
 mode-plain true = refl
 mode-plain false = refl
 
+-- a leaf by its price and under how many of its sides it is valued
+leaf-plain : (tables : List (List ClassShare)) (l : LeafPrice) (sides : Option ℕ) → length tables < 10 ^ 64 → HasKind tables l.kind → l.round ≤ LAST_ROUND → IfSome sides (λ count. count ≤ MOST_SPLITS)
+    → is_plain_record (leaf_fields (record { price = l; sides = sides })) ≡ true
+leaf-plain tables l None few kind round sides = rw (kind-plain tables l.kind few kind, (time-back l.round (omega (arith, round))).plain, mode-plain l.forced) refl
+leaf-plain tables l (Some count) few kind round sides =
+    rw (kind-plain tables l.kind few kind, (time-back l.round (omega (arith, round))).plain, mode-plain l.forced, (time-back count (omega (arith, sides))).plain) refl
+
 node-plain : (p : Problem) (tables : List (List ClassShare)) (n : Node) → IsValid p → HaveNames p → length tables < 10 ^ 64 → IsNodeInRange p tables n
     → is_plain_record (node_fields p n) ≡ true
 node-plain p tables (node.Branch (split.ByArc shipment arc)) v named few r =
     rw (shipment-plain p shipment named r.0, tail-plain p arc v r.1, head-plain p arc v r.1) refl
 node-plain p tables (node.Branch (split.ByTime shipment terminal at)) v named few r =
     rw (shipment-plain p shipment named r.0, terminal-plain p terminal v r.1, (time-back at r.2).plain) refl
-node-plain p tables (node.Leaf l) v named few r =
-    rw (kind-plain tables l.kind few r.kind, (time-back l.round (omega (arith, r.round))).plain, mode-plain l.forced) refl
+node-plain p tables (node.Leaf l) v named few r = leaf-plain tables l.price l.sides few r.kind r.round r.sides
 
 -- all lines of a certificate
 pub rows-plain : (p : Problem) (c : Statement) → IsValid p → HaveNames p → IsInRange p c → length c.tables < 2 ^ 32 - 1 → list_all is_plain_record (rows_of p c) ≡ true

@@ -17,6 +17,7 @@ use Rattle.fp_records_fields.specs.Fields.{has_number, is_between, number_at, ha
 use Rattle.fp_records_fields.specs.Faults.{first_fault, Fault}
 use Rattle.fp_records_fields.proofs.Numerals.{is_between-limits}
 use Rattle.fp_records_fields.proofs.FaultTables.{IsClear-from_none}
+use Rattle.fp_tree.specs.declared.layout.TheConstants.{MOST_SPLITS}
 use Rattle.fp_certificate_lines.specs.declared.certificates.Answer.{Answer}
 use Rattle.fp_certificate_lines.specs.declared.certificates.Node.{Node}
 use Rattle.fp_certificate_lines.specs.declared.certificates.Node.TheVariants.{Branch}
@@ -36,7 +37,7 @@ use Rattle.fp_certificate.specs.Reading.{certificate_from, faults_of, finished, 
 use Rattle.fp_certificate_lines.specs.Statements.{Statement}
 use Rattle.fp_certificate.specs.Tables.{and_group, and_last_group, and_share, and_span, and_span_weight, and_weight, has_end_in_range, has_span, share_in, span_in, weight_in, with_last, with_weight}
 use Rattle.fp_certificate.specs.Timetables.{is_time, leg_in, truck_in}
-use Rattle.fp_certificate.specs.Trees.{has_kind_word, has_leaf_digits, has_leaf_ranges, kind_in, leaf_in}
+use Rattle.fp_certificate.specs.Trees.{has_kind_word, has_leaf_digits, has_leaf_ranges, has_sides_range, kind_in, lacks_sides, leaf_in, sides_in}
 use Rattle.fp_certificate.proofs.LineRanges.{All-with_last, in-time, small}
 use Rattle.fp_certificate.proofs.TableCounts.{AreCounted, counted-more, length-with_last, line-fewer}
 use Rattle.fp_records_fields.proofs.NamedParts.{arc_in-lt, shipment_in-lt, terminal_in-lt}
@@ -79,7 +80,7 @@ kind-grows few many (price.Table id) le h = (h.0, omega (arith, h.1))
 
 node-grows : (p : Problem) (few many : List (List ClassShare)) (n : Node) → length few ≤ length many → IsNodeInRange p few n → IsNodeInRange p many n
 node-grows p few many (Branch split) le h = h
-node-grows p few many (node.Leaf price) le h = record { kind = kind-grows few many price.kind le h.kind; round = h.round }
+node-grows p few many (node.Leaf v) le h = record { kind = kind-grows few many v.price.kind le h.kind; round = h.round; sides = h.sides }
 
 -- with other tables and other spans beside them, no fewer than before
 IsInRange-with_lists : (p : Problem) (c : Statement) (tables : List (List ClassShare)) (spans : List (List ClassSpan)) → length c.tables ≤ length tables → length spans ≡ length tables
@@ -188,6 +189,15 @@ kind-range tables fields h = elim (cases_Bool (has_word (codes "linear") fields 
         let limit : is_between 1 (length tables) fields 1 ≡ true = rw (other, table) at h in
         rw (other, table) (is_between-limits 1 (length tables) fields 1 limit)
   ]
+]
+
+-- under how many of its sides it is valued
+sides-range : (fields : List (List ℕ)) → has_sides_range fields ≡ true → IfSome (sides_in fields) (λ count. count ≤ MOST_SPLITS)
+sides-range fields h = elim (cases_Bool (lacks_sides fields)) [
+  | inl lacks ↦ rw lacks tt
+  | inr told ↦
+      let limit : is_between 0 MOST_SPLITS fields 4 ≡ true = rw told at h in
+      rw told (is_between-limits 0 MOST_SPLITS fields 4 limit).1
 ]
 
 -- a line of a kind without a fault gives what is in range
@@ -409,15 +419,17 @@ kind-ranged p before ByTime fields h r =
     IsInRange-with_node p before.certificate _ (shipment_in-lt p fields 2 names.0, terminal_in-lt p fields 3 names.1, in-time fields 4 (not-false (is_time fields 4) range.here)) r
 kind-ranged p before Leaf fields h r =
     let tables = before.certificate.tables in
-    let count = IsClear-from_none 22 (not (length fields == 4)) h in
+    let count = IsClear-from_none 22 (not (lacks_sides fields || length fields == 5)) h in
     let digits = IsClear-from_none 23 (not (has_leaf_digits fields)) count.later in
     let order = IsClear-from_none 24 (is_misplaced before section.Tree) digits.later in
     let range = IsClear-from_none 28 (not (has_leaf_ranges (length tables) fields)) order.later in
-    let limits = and_parts (has_kind_word fields || is_between 1 (length tables) fields 1) (is_between 0 LAST_ROUND fields 2)
+    let limits = and_parts ((has_kind_word fields || is_between 1 (length tables) fields 1) && is_between 0 LAST_ROUND fields 2) (has_sides_range fields)
     (not-false (has_leaf_ranges (length tables) fields) range.here) in
+    let own = and_parts (has_kind_word fields || is_between 1 (length tables) fields 1) (is_between 0 LAST_ROUND fields 2) limits.0 in
     let fits : IsNodeInRange p tables (leaf_in fields) = record {
-      kind = kind-range tables fields limits.0;
-      round = (is_between-limits 0 LAST_ROUND fields 2 limits.1).1;
+      kind = kind-range tables fields own.0;
+      round = (is_between-limits 0 LAST_ROUND fields 2 own.1).1;
+      sides = sides-range fields limits.1;
     } in
     IsInRange-with_node p before.certificate (leaf_in fields) fits r
 kind-ranged p before End fields h r = r

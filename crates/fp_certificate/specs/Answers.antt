@@ -5,7 +5,7 @@ use Rattle.fp_model.specs.declared.limits.TheConstants.{GREATEST_SCALE, LONGEST_
 use Rattle.fp_model.specs.Problem.{Problem, weight_at}
 use Rattle.fp_records_fields.specs.Findings.{finding}
 use Rattle.fp_records_fields.specs.Findings.{Finding}
-use Rattle.fp_records_fields.specs.Fields.{field, has_number, has_word, is_between, number_at}
+use Rattle.fp_records_fields.specs.Fields.{has_number, has_word, is_between, number_at}
 use Rattle.fp_certificate_lines.specs.declared.certificates.Answer.{Answer}
 use Rattle.fp_certificate_lines.specs.declared.certificates.Answer.TheVariants as answer
 use Rattle.fp_certificate_lines.specs.declared.certificates.Spent.{Spent}

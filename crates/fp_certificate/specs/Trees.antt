@@ -1,6 +1,6 @@
 -- The lines of a tree and of the end: their faults in the order in which they are looked for, and
 -- what they give.
-use Rattle.std.specs.Prelude.{ℕ, List, [], ◌∷◌, ◌++◌, length, Bool, ◌&&◌, ◌||◌, not, ◌==◌, if◌then◌else◌, Some, codes}
+use Rattle.std.specs.Prelude.{ℕ, List, [], ◌∷◌, ◌++◌, length, Bool, ◌&&◌, ◌||◌, not, ◌==◌, if◌then◌else◌, None, Option, Some, codes}
 use Rattle.fp_model.specs.declared.limits.TheConstants.{LAST_ROUND}
 use Rattle.fp_model.specs.Problem.{Problem}
 use Rattle.fp_prices.specs.declared.leaf_prices.Kind.{Kind}
@@ -8,6 +8,7 @@ use Rattle.fp_prices.specs.declared.leaf_prices.Kind.TheVariants.{Linear, Even, 
 use Rattle.fp_records_fields.specs.Findings.{finding}
 use Rattle.fp_records_fields.specs.Findings.{Finding}
 use Rattle.fp_records_fields.specs.Fields.{has_number, is_between, number_at, has_word}
+use Rattle.fp_tree.specs.declared.layout.TheConstants.{MOST_SPLITS}
 use Rattle.fp_tree.specs.declared.sides.Split.TheVariants.{ByArc, ByTime}
 use Rattle.fp_certificate_lines.specs.declared.certificates.Node.{Node}
 use Rattle.fp_certificate_lines.specs.declared.certificates.Node.TheVariants.{Branch, Leaf}
@@ -47,20 +48,35 @@ by_time_in p fields = Branch (ByTime (shipment_in p fields 2) (terminal_in p fie
 abbrev pub has_kind_word : List (List ℕ) → Bool
 has_kind_word fields = has_word (codes "linear") fields 1 || has_word (codes "even") fields 1
 
--- whether the kind, the round and the mode of a leaf are such
+-- whether a leaf doesn't tell under how many of its sides it is valued: it is so under all
+abbrev pub lacks_sides : List (List ℕ) → Bool
+lacks_sides fields = length fields == 4
+
+-- whether a leaf that tells it tells a number
+abbrev pub has_sides_digits : List (List ℕ) → Bool
+has_sides_digits fields = lacks_sides fields || has_number fields 4
+
+-- whether this number is in range
+abbrev pub has_sides_range : List (List ℕ) → Bool
+has_sides_range fields = lacks_sides fields || is_between 0 MOST_SPLITS fields 4
+
+-- whether the kind, the round, the mode and the number of sides of a leaf are such
 abbrev pub has_leaf_digits : List (List ℕ) → Bool
 has_leaf_digits fields =
-    (has_kind_word fields || has_number fields 1) && has_number fields 2 && (has_word (codes "plain") fields 3 || has_word (codes "forced") fields 3)
+    (has_kind_word fields || has_number fields 1)
+    && has_number fields 2
+    && (has_word (codes "plain") fields 3 || has_word (codes "forced") fields 3)
+    && has_sides_digits fields
 
--- whether a leaf's table exists, where it is priced by one, among so many tables, and its round is
--- in range
+-- whether a leaf's table exists, where it is priced by one, among so many tables, and its round and
+-- its number of sides are in range
 abbrev pub has_leaf_ranges : ℕ → List (List ℕ) → Bool
-has_leaf_ranges tables fields = (has_kind_word fields || is_between 1 tables fields 1) && is_between 0 LAST_ROUND fields 2
+has_leaf_ranges tables fields = (has_kind_word fields || is_between 1 tables fields 1) && is_between 0 LAST_ROUND fields 2 && has_sides_range fields
 
--- the faults of `leaf,KIND,ROUND,MODE`
+-- the faults of `leaf,KIND,ROUND,MODE` and `leaf,KIND,ROUND,MODE,SIDES`
 abbrev pub leaf_faults : Draft → List (List ℕ) → List Finding
 leaf_faults before fields =
-    finding 22 (not (length fields == 4))
+    finding 22 (not (lacks_sides fields || length fields == 5))
     ∷ finding 23 (not (has_leaf_digits fields))
     ∷ finding 24 (is_misplaced before section.Tree)
     ∷ finding 28 (not (has_leaf_ranges (length before.certificate.tables) fields))
@@ -73,9 +89,16 @@ kind_in fields =
     else if has_word (codes "even") fields 1 then Even
     else Table (number_at fields 1)
 
+-- under how many of its sides a leaf is valued, where that isn't under all
+abbrev pub sides_in : List (List ℕ) → Option ℕ
+sides_in fields = if lacks_sides fields then None else Some (number_at fields 4)
+
 -- the node of a leaf's line
 abbrev pub leaf_in : List (List ℕ) → Node
-leaf_in fields = Leaf (record { kind = kind_in fields; round = number_at fields 2; forced = has_word (codes "forced") fields 3 })
+leaf_in fields = Leaf (record {
+  price = record { kind = kind_in fields; round = number_at fields 2; forced = has_word (codes "forced") fields 3 };
+  sides = sides_in fields;
+})
 
 -- a draft with one more node
 abbrev pub with_node : Draft → Node → Draft

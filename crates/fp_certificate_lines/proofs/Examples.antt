@@ -1,13 +1,16 @@
 -- A worked certificate and its lines.
 use Rattle.std.proofs.Common.{◌≡◌, ℕ, List, [], ◌∷◌, refl}
 use Rattle.std.specs.Fmt.{digits}
-use Rattle.std.specs.Prelude.{None, codes, true}
+use Rattle.std.specs.Prelude.{Option, None, Some, codes, true}
 use Rattle.fp_model.specs.Problem.{Problem}
 use Rattle.fp_prices.specs.declared.leaf_prices.Kind.TheVariants.{Linear, Table}
+use Rattle.fp_tree.specs.declared.sides.Side.{Side}
+use Rattle.fp_tree.specs.declared.sides.Side.TheVariants.{Only, Without}
 use Rattle.fp_certificate_lines.specs.declared.certificates.Answer.TheVariants.{Optimal}
 use Rattle.fp_certificate_lines.specs.declared.certificates.Node.TheVariants.{Leaf}
-use Rattle.fp_certificate_lines.specs.Rows.{kind_text, rows_of, tables_rows}
+use Rattle.fp_certificate_lines.specs.Rows.{kind_text, leaf_fields, rows_of, tables_rows}
 use Rattle.fp_certificate_lines.specs.Statements.{Statement}
+use Rattle.fp_certificate_lines.specs.Valuations.{sides_valued}
 
 -- one arc from A to B, and one shipment over it
 abbrev pub small : Problem
@@ -30,7 +33,7 @@ best = record {
   points = [];
   tables = [];
   spans = [];
-  tree = Leaf (record { kind = Linear; round = 0; forced = true }) ∷ [];
+  tree = Leaf (record { price = record { kind = Linear; round = 0; forced = true }; sides = None }) ∷ [];
 }
 
 abbrev pub answer : List (List ℕ)
@@ -80,6 +83,34 @@ grouped : tables_rows small ((record { arc = 0; point = 0; until = 9; money = 10
     ∷ (codes "weight" ∷ codes "S1" ∷ codes "3" ∷ []) ∷ (codes "group" ∷ codes "4" ∷ []) ∷ (codes "group" ∷ codes "6" ∷ []) ∷ []
 unfolding digits
 grouped = refl
+
+-- a leaf that is valued under its first sides alone tells how many these are
+valued-first : leaf_fields (record { price = record { kind = Linear; round = 0; forced = true }; sides = Some 2 })
+    ≡ codes "leaf" ∷ codes "linear" ∷ codes "0" ∷ codes "forced" ∷ codes "2" ∷ []
+unfolding digits
+valued-first = refl
+
+-- the first of the sides on its way, and all of them where it has no more
+abbrev one_side : Side
+one_side = Without 0 4
+
+abbrev other_side : Side
+other_side = Only 1 2 0
+
+abbrev valued_under : Option ℕ → List Side → List Side
+valued_under sides way = sides_valued (record { price = record { kind = Linear; round = 0; forced = true }; sides = sides }) way
+
+under-all : valued_under None (one_side ∷ other_side ∷ []) ≡ one_side ∷ other_side ∷ []
+under-all = refl
+
+under-none : valued_under (Some 0) (one_side ∷ other_side ∷ []) ≡ []
+under-none = refl
+
+under-first : valued_under (Some 1) (one_side ∷ other_side ∷ []) ≡ one_side ∷ []
+under-first = refl
+
+under-more : valued_under (Some 5) (one_side ∷ other_side ∷ []) ≡ one_side ∷ other_side ∷ []
+under-more = refl
 
 by-table : kind_text (Table 12) ≡ codes "12"
 unfolding digits

@@ -33,7 +33,7 @@ split-exists p (ByTime shipment terminal at) r = (r.0, r.1)
 
 node-exists : (p : Problem) (tables : List (List ClassShare)) (n : Node) → IsNodeInRange p tables n → NodeExists p n
 node-exists p tables (Branch split) r = split-exists p split r
-node-exists p tables (Leaf price) r = tt
+node-exists p tables (Leaf valuation) r = tt
 
 -- a certificate in range can be written
 pub in-range-named : (p : Problem) (c : Statement) → IsInRange p c → IsNamed p c

@@ -21,6 +21,7 @@ use Rattle.fp_records.specs.Text.{line_of, lines_of}
 use Rattle.fp_timenodes.specs.declared.places.AddedPoint.{AddedPoint}
 use Rattle.fp_timetable.specs.declared.lines.LegLine.{LegLine}
 use Rattle.fp_timetable.specs.declared.lines.TruckLine.{TruckLine}
+use Rattle.fp_tree.specs.declared.layout.TheConstants.{MOST_SPLITS}
 use Rattle.fp_tree.specs.declared.sides.Split.{Split}
 use Rattle.fp_tree.specs.declared.sides.Split.TheVariants.{ByArc, ByTime}
 use Rattle.fp_certificate_lines.specs.declared.certificates.Answer.{Answer}
@@ -31,9 +32,9 @@ use Rattle.fp_certificate_lines.specs.declared.certificates.Spent.{Spent}
 use Rattle.fp_certificate_lines.specs.declared.certificates.Spent.TheVariants.{Rounds, Branches, Time}
 use Rattle.fp_certificate_lines.specs.Lengths.{most_bytes, node_bytes, price_rows}
 use Rattle.fp_certificate_lines.specs.Ranges.{HaveNames, IsAnswerInRange, IsGroupInRange, IsInRange, IsLegInRange, IsNodeInRange, IsPointInRange, IsScaleInRange, IsShareInRange, IsSpanInRange, IsSplitInRange, IsTruckInRange, IsUnitInRange, IsWeightInRange, largest_figure}
-use Rattle.fp_certificate_lines.specs.Rows.{answer_fields, end_fields, group_fields, head_name, kind_text, leg_fields, mode_text, node_fields, point_fields, rows_of, scale_rows, share_fields, share_rows, shipment_name, span_fields, span_rows, spent_text, split_fields, table_fields, table_rows, tables_rows, tail_name, terminal_name, time_text, truck_fields, unit_rows, weight_fields}
+use Rattle.fp_certificate_lines.specs.Rows.{answer_fields, end_fields, group_fields, head_name, kind_text, leg_fields, mode_text, node_fields, point_fields, rows_of, scale_rows, share_fields, share_rows, shipment_name, sides_fields, span_fields, span_rows, spent_text, split_fields, table_fields, table_rows, tables_rows, tail_name, terminal_name, time_text, truck_fields, unit_rows, weight_fields}
 use Rattle.fp_certificate_lines.specs.Statements.{Statement}
-use Rattle.fp_certificate_lines.proofs.LineLengths.{All-flat_map, All-made, IsShortRow, digits-le, line-bytes, lines-append, lines-cons, rows-bytes}
+use Rattle.fp_certificate_lines.proofs.LineLengths.{All-flat_map, All-made, IsShortRow, digits-le, field_bytes, line-bytes, lines-append, lines-cons, rows-bytes}
 
 -- a time, a round, a number of 32 bits, and a figure
 time-digits : (n : ℕ) → n ≤ LATEST + 1 → length (decimal n) ≤ 6
@@ -223,16 +224,21 @@ module _ (p : Problem) (valid : IsValid p) (names : HaveNames p) where
   mode-short true = omega (arith, word (codes "forced") 6 refl)
   mode-short false = omega (arith, word (codes "plain") 5 refl)
 
+  sides-short : (sides : Option ℕ) → IfSome sides (λ count. count ≤ MOST_SPLITS) → field_bytes (sides_fields sides) ≤ 7
+  sides-short None few = omega arith
+  sides-short (Some count) few = omega (arith, time-digits count (omega (arith, few)))
+
   node-bytes-le : (tables : List (List ClassShare)) (n : Node) → length tables < 2 ^ 32 → IsNodeInRange p tables n → length (line_of (node_fields p n)) ≤ node_bytes n
   node-bytes-le tables (Branch split) few r = split-bytes split r
-  node-bytes-le tables (Leaf price) few r =
+  node-bytes-le tables (Leaf v) few r =
       omega (
         arith,
-        line-bytes (codes "leaf") (kind_text price.kind ∷ decimal price.round ∷ mode_text price.forced ∷ []),
+        line-bytes (codes "leaf") (kind_text v.price.kind ∷ decimal v.price.round ∷ mode_text v.price.forced ∷ sides_fields v.sides),
         word (codes "leaf") 4 refl,
-        kind-short tables price.kind few r.kind,
-        round-digits price.round r.round,
-        mode-short price.forced,
+        kind-short tables v.price.kind few r.kind,
+        round-digits v.price.round r.round,
+        mode-short v.price.forced,
+        sides-short v.sides r.sides,
       )
 
   nodes-bytes : (tables : List (List ClassShare)) (nodes : List Node) → length tables < 2 ^ 32 → AllByRecursion (IsNodeInRange p tables) nodes → length (lines_of (map (node_fields p) nodes)) ≤ sum_by node_bytes nodes

@@ -12,7 +12,7 @@ use Rattle.fp_certificate_lines.specs.Statements.{Statement}
 -- the most bytes of the line of a split, and of that of a leaf
 abbrev pub node_bytes : Node → ℕ
 node_bytes (Branch split) = 109
-node_bytes (Leaf price) = 28
+node_bytes (Leaf valuation) = 35
 
 -- the lines of tables, of their shares, of the spans beside them, of the weights of both, and of the
 -- groups of spans

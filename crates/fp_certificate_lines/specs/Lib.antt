@@ -2,3 +2,4 @@ pub mod Statements
 pub mod Rows
 pub mod Ranges
 pub mod Lengths
+pub mod Valuations

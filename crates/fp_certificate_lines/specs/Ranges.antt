@@ -4,7 +4,6 @@ use Rattle.fp_model.specs.declared.limits.TheConstants.{GREATEST_SCALE, LAST_ROU
 use Rattle.fp_model.specs.declared.parts.Shipment.{Shipment}
 use Rattle.fp_model.specs.Names.{IsName}
 use Rattle.fp_model.specs.Problem.{Problem, weight_at}
-use Rattle.fp_prices.specs.declared.leaf_prices.LeafPrice.{LeafPrice}
 use Rattle.fp_prices.specs.declared.tables.Weight.{Weight}
 use Rattle.fp_prices.specs.Shares.{ClassShare}
 use Rattle.fp_prices.specs.Tables.{HasKind}
@@ -13,12 +12,14 @@ use Rattle.fp_timenodes.specs.declared.places.AddedPoint.{AddedPoint}
 use Rattle.fp_timetable.specs.declared.lines.LegLine.{LegLine}
 use Rattle.fp_timetable.specs.declared.lines.TruckLine.{TruckLine}
 use Rattle.fp_timetable.specs.Lines.{LegExists, TruckExists}
+use Rattle.fp_tree.specs.declared.layout.TheConstants.{MOST_SPLITS}
 use Rattle.fp_tree.specs.declared.sides.Split.{Split}
 use Rattle.fp_tree.specs.declared.sides.Split.TheVariants.{ByArc, ByTime}
 use Rattle.fp_certificate_lines.specs.declared.certificates.Answer.{Answer}
 use Rattle.fp_certificate_lines.specs.declared.certificates.Answer.TheVariants.{Direct, Optimal, Unfinished, Infeasible}
 use Rattle.fp_certificate_lines.specs.declared.certificates.Node.{Node}
 use Rattle.fp_certificate_lines.specs.declared.certificates.Node.TheVariants.{Branch, Leaf}
+use Rattle.fp_certificate_lines.specs.declared.certificates.Valuation.{Valuation}
 use Rattle.fp_certificate_lines.specs.Statements.{Statement}
 
 -- the largest number that a field may have where no other limit is named
@@ -98,15 +99,17 @@ abbrev pub IsSplitInRange : Problem → Split → Type 0
 IsSplitInRange p (ByArc shipment arc) = (shipment < length p.shipments) × (arc < length p.arcs)
 IsSplitInRange p (ByTime shipment terminal at) = (shipment < length p.shipments) × (terminal < length p.terminals) × (at ≤ LATEST)
 
--- a leaf's table exists, where it is priced by one, and its round is at most 4,000
-pub record IsLeafInRange (tables : List (List ClassShare)) (price : LeafPrice) : Type 0 where
-  pub kind : HasKind tables price.kind
-  pub round : price.round ≤ LAST_ROUND
+-- a leaf's table exists, where it is priced by one, its round is at most 4,000, and it is valued under
+-- at most 100,000 sides, where that isn't under all
+pub record IsLeafInRange (tables : List (List ClassShare)) (v : Valuation) : Type 0 where
+  pub kind : HasKind tables v.price.kind
+  pub round : v.price.round ≤ LAST_ROUND
+  pub sides : IfSome v.sides (λ count. count ≤ MOST_SPLITS)
 
 -- a node is in range beside these tables
 abbrev pub IsNodeInRange : Problem → List (List ClassShare) → Node → Type 0
 IsNodeInRange p tables (Branch split) = IsSplitInRange p split
-IsNodeInRange p tables (Leaf price) = IsLeafInRange tables price
+IsNodeInRange p tables (Leaf valuation) = IsLeafInRange tables valuation
 
 -- all numbers are in range, all terminals, arcs, shipments and tables exist, and there is a list of
 -- spans for each table
@@ -157,7 +160,7 @@ SplitExists p (ByTime shipment terminal at) = (shipment < length p.shipments) ×
 -- the same of a node
 abbrev pub NodeExists : Problem → Node → Type 0
 NodeExists p (Branch split) = SplitExists p split
-NodeExists p (Leaf price) = Unit {0}
+NodeExists p (Leaf valuation) = Unit {0}
 
 -- all terminals, arcs and shipments that a certificate's lines name exist
 pub record IsNamed (p : Problem) (c : Statement) : Type 0 where

@@ -7,7 +7,6 @@ use Rattle.fp_model.specs.Numbered.{shipment_at}
 use Rattle.fp_model.specs.Problem.{Problem, arc_at}
 use Rattle.fp_prices.specs.declared.leaf_prices.Kind.{Kind}
 use Rattle.fp_prices.specs.declared.leaf_prices.Kind.TheVariants.{Linear, Even, Table}
-use Rattle.fp_prices.specs.declared.leaf_prices.LeafPrice.{LeafPrice}
 use Rattle.fp_prices.specs.declared.tables.Weight.{Weight}
 use Rattle.fp_prices.specs.Shares.{ClassShare}
 use Rattle.fp_prices_spans.specs.SpanKinds.{spans_of_table}
@@ -23,6 +22,7 @@ use Rattle.fp_certificate_lines.specs.declared.certificates.Node.{Node}
 use Rattle.fp_certificate_lines.specs.declared.certificates.Node.TheVariants.{Branch, Leaf}
 use Rattle.fp_certificate_lines.specs.declared.certificates.Spent.{Spent}
 use Rattle.fp_certificate_lines.specs.declared.certificates.Spent.TheVariants.{Rounds, Branches, Time}
+use Rattle.fp_certificate_lines.specs.declared.certificates.Valuation.{Valuation}
 use Rattle.fp_certificate_lines.specs.Statements.{Statement}
 
 -- the name of the terminal with a number
@@ -165,14 +165,24 @@ kind_text (Table id) = decimal id
 abbrev pub mode_text : Bool → List ℕ
 mode_text forced = if forced then codes "forced" else codes "plain"
 
--- `leaf,KIND,ROUND,MODE`
-abbrev pub leaf_fields : LeafPrice → List (List ℕ)
-leaf_fields price = codes "leaf" ∷ kind_text price.kind ∷ decimal price.round ∷ mode_text price.forced ∷ []
+-- under how many of its sides a leaf is valued, where that isn't under all
+abbrev pub sides_fields : Option ℕ → List (List ℕ)
+sides_fields None = []
+sides_fields (Some count) = decimal count ∷ []
+
+-- a line that has been begun, and this
+abbrev pub with_sides : Lines → Option ℕ → Lines
+with_sides line None = line
+with_sides line (Some count) = with_field line (decimal count)
+
+-- `leaf,KIND,ROUND,MODE` or `leaf,KIND,ROUND,MODE,SIDES`
+abbrev pub leaf_fields : Valuation → List (List ℕ)
+leaf_fields v = codes "leaf" ∷ kind_text v.price.kind ∷ decimal v.price.round ∷ mode_text v.price.forced ∷ sides_fields v.sides
 
 -- the line of a node
 abbrev pub node_fields : Problem → Node → List (List ℕ)
 node_fields p (Branch split) = split_fields p split
-node_fields p (Leaf price) = leaf_fields price
+node_fields p (Leaf valuation) = leaf_fields valuation
 
 -- `end`
 abbrev pub end_fields : List (List ℕ)

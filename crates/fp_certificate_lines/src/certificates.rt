@@ -44,13 +44,23 @@ pub enum Answer {
     },
 }
 
+/// How a leaf is valued: its price, and under how many of its sides, from the root on; under all of
+/// them where `sides` is `None`, and where it has no more.
+#[derive(Clone, Copy, Debug, PartialEq, Eq)]
+pub struct Valuation {
+    /// Its price.
+    pub price: LeafPrice,
+    /// Under so many of its sides.
+    pub sides: Option<u32>,
+}
+
 /// A node of the tree of a search.
 #[derive(Clone, Copy, Debug, PartialEq, Eq)]
 pub enum Node {
     /// A split. Its first side and then its second follow it.
     Branch { split: Split },
-    /// A leaf, and how it is priced.
-    Leaf { price: LeafPrice },
+    /// A leaf, and how it is valued.
+    Leaf { valuation: Valuation },
 }
 
 /// An answer with all that tells why it is true. Contracts see a certificate as the record of these

@@ -1,8 +1,10 @@
 -- What an accepted certificate claims is true.
-use Rattle.std.proofs.Common.{◌≡◌, ℕ, ◌*◌, ◌<◌, ◌≤◌, List, [], ◌∷◌, length, ⊎_elim, refl, sym, subst, arith}
+use Rattle.std.proofs.Common.{◌≡◌, ℕ, zero, suc, ◌+◌, ◌*◌, ◌<◌, ◌≤◌, List, [], ◌∷◌, length, take, ⊎_elim, refl, sym, subst, arith}
 use Rattle.std.specs.Prelude.{Option, Some, None, slice_index_or}
 use Rattle.std.specs.Int.{div_ceil}
-use Rattle.fp_base_lists.proofs.Elements.{AnyByRecursion-all}
+use Rattle.std.specs.List.{AllByRecursion}
+use Rattle.fp_base_lists.specs.Numbered.{AllFrom}
+use Rattle.fp_base_lists.proofs.Elements.{AllByRecursion-weaker, AnyByRecursion-all}
 use Rattle.fp_model.specs.declared.parts.Leg.{Leg}
 use Rattle.fp_model.specs.declared.parts.Shipment.{Shipment}
 use Rattle.fp_model.specs.Costs.{cost}
@@ -12,16 +14,19 @@ use Rattle.fp_model.specs.Problem.{Problem, IsValid, arc_at}
 use Rattle.fp_model.specs.Routes.{Carries, arcs_of}
 use Rattle.fp_base_lists.proofs.Ceilings.{div_ceil-least}
 use Rattle.fp_base_lists.proofs.Numbered.{AllZip-get_or}
+use Rattle.fp_flatnet.specs.declared.window_tables.Window.{Window}
 use Rattle.fp_flatnet.specs.Initial.{initial_points}
 use Rattle.fp_flatnet.specs.Tables.{WindowTable, windows_in}
 use Rattle.fp_flatnet.specs.Windows.{AreWindows, CoverPlans}
 use Rattle.fp_flatnet.proofs.PlanExistence.{carried_time}
 use Rattle.fp_flatnet.proofs.PlansInWindows.{CoverPlans-from_windows}
+use Rattle.fp_allowed.specs.Allowed.{exit_of}
 use Rattle.fp_tree.specs.declared.sides.Side.{Side}
 use Rattle.fp_tree.specs.declared.sides.Split.{Split}
 use Rattle.fp_tree.specs.declared.sides.Split.TheVariants.{ByArc, ByTime}
-use Rattle.fp_tree.specs.Sides.{IsTailOfSplit}
+use Rattle.fp_tree.specs.Sides.{Exit, IsTailOfSplit, Meets, MeetsAll}
 use Rattle.fp_tree.specs.Trees.{HaveTails, Leaf, tree_leaves}
+use Rattle.fp_prices.specs.declared.leaf_prices.LeafPrice.{LeafPrice}
 use Rattle.fp_prices.specs.Leaves.{IsLeafEmpty, IsPlanOfLeaf}
 use Rattle.fp_prices.proofs.PlanBounds.{leaf-empty}
 use Rattle.fp_prices.proofs.PlanLeaves.{plan-obeys-leaf}
@@ -31,8 +36,10 @@ use Rattle.fp_certificate_lines.specs.declared.certificates.Answer.{Answer}
 use Rattle.fp_certificate_lines.specs.declared.certificates.Answer.TheVariants.{Direct, Optimal, Unfinished, Infeasible}
 use Rattle.fp_certificate_lines.specs.declared.certificates.Node.{Node}
 use Rattle.fp_certificate_lines.specs.declared.certificates.Node.TheVariants as node
+use Rattle.fp_certificate_lines.specs.declared.certificates.Valuation.{Valuation}
 use Rattle.fp_certificate_lines.specs.Ranges.{IsAnswerInRange, IsInRange}
 use Rattle.fp_certificate_lines.specs.Statements.{Statement}
+use Rattle.fp_certificate_lines.specs.Valuations.{first_sides, sides_valued}
 use Rattle.fp_certificate_rules.specs.Accepted.{Applies, IsAccepted, IsBlockedAs, IsTooLate, Part, claim_of}
 use Rattle.fp_certificate_rules.specs.Claims.{AcceptedClaims, Claims, ClaimsWithin, NoPlanWithinCheaper}
 use Rattle.fp_certificate_rules.specs.Leaves.{AreLeavesWorth, HasTree, IsLeafWorth, fork_of, split_tail}
@@ -42,17 +49,49 @@ use Rattle.fp_certificate_rules.proofs.FirstPoints.{initial-among}
 use Rattle.fp_certificate_rules.proofs.KeptPrices.{AreKept, HasPrices-kept}
 use Rattle.fp_certificate_rules.proofs.UnitCosts.{rounded_up-cost}
 
+-- what holds of all elements of a list holds of the first ones
+all-first : {X : Type 0} (P : X → Type 0) (count : ℕ) (xs : List X) → AllByRecursion P xs → AllByRecursion P (take count xs)
+all-first P zero xs all = tt
+all-first P (suc count) [] all = tt
+all-first P (suc count) (x ∷ xs) all = (all.0, all-first P count xs all.1)
+
+-- whoever meets all sides meets the first ones
+meets-first : (d k : ℕ) (count : Option ℕ) (sides : List Side) (e : Exit) → MeetsAll d k sides e → MeetsAll d k (first_sides count sides) e
+meets-first d k None sides e meets = meets
+meets-first d k (Some count) sides e meets = all-first (Meets d k e) count sides meets
+
+obey-first : (p : Problem) (d k : ℕ) (count : Option ℕ) (sides : List Side) (routes : List (List Leg)) →
+    AllFrom (λ j r. AllByRecursion (λ (l : Leg). MeetsAll d j sides (exit_of p l)) r) k routes →
+    AllFrom (λ j r. AllByRecursion (λ (l : Leg). MeetsAll d j (first_sides count sides) (exit_of p l)) r) k routes
+obey-first p d k count sides [] obey = tt
+obey-first p d k count sides (r ∷ routes) obey = (
+  AllByRecursion-weaker (λ (l : Leg). MeetsAll d k sides (exit_of p l)) (λ (l : Leg). MeetsAll d k (first_sides count sides) (exit_of p l))
+      (λ l. meets-first d k count sides (exit_of p l)) r obey.0,
+  obey-first p d (k + 1) count sides routes obey.1,
+)
+
+-- so a plan of a leaf is one of the leaf of those sides under which it is valued
+of-first-sides : (p : Problem) (windows : ℕ → ℕ → Option Window) (d : ℕ) (plan : List (List Leg)) (v : Valuation) (sides : List Side) → IsPlanOfLeaf p windows sides d plan →
+    IsPlanOfLeaf p windows (sides_valued v sides) d plan
+of-first-sides p windows d plan v sides of_leaf = record {
+  denominator = of_leaf.denominator;
+  plan = of_leaf.plan;
+  within = of_leaf.within;
+  obeys = obey-first p d 0 v.sides sides plan of_leaf.obeys;
+}
+
 -- a plan of a leaf costs at least what the leaf is worth
 IsLeafWorth-cost : (p : Problem) (table : WindowTable) (c : Statement) (claim d : ℕ) (plan : List (List Leg)) (x : Node) (sides : List Side) → IsValid p → AreKept p table c →
     IsPlanOfLeaf p (windows_in table) sides d plan → IsLeafWorth p table c claim x sides → claim ≤ cost p plan
 IsLeafWorth-cost p table c claim d plan (node.Branch split) sides valid keep of_leaf worth = absurd worth
-IsLeafWorth-cost p table c claim d plan (node.Leaf price) sides valid keep of_leaf worth =
+IsLeafWorth-cost p table c claim d plan (node.Leaf v) sides valid keep of_leaf worth =
+    let price : LeafPrice = v.price in
     let points : ℕ → List ℕ = points_as_of p table.anchors c price.round in
     ⊎_elim
     (λ (empty : IsLeafEmpty p (windows_in table) points sides). absurd (leaf-empty p (windows_in table) points sides empty d plan of_leaf))
-    (λ (leaf : (value : ℕ) × IsPricedValue p (windows_in table) points sides c.tables c.spans price.kind price.forced value × (claim ≤ rounded_up c.unit (div_ceil value p.scale))).
-    let le : leaf.0 ≤ p.scale * cost p plan = span_leaf-bounds p (windows_in table) (initial_points p table.anchors) points sides c.tables (spans_beside c.spans price.kind) price.kind price.forced leaf.0 valid
-    (initial-among p table.anchors c.points price.round) keep.tables (keep.spans price.kind) leaf.1 d plan of_leaf in
+    (λ (leaf : (value : ℕ) × IsPricedValue p (windows_in table) points (sides_valued v sides) c.tables c.spans price.kind price.forced value × (claim ≤ rounded_up c.unit (div_ceil value p.scale))).
+    let le : leaf.0 ≤ p.scale * cost p plan = span_leaf-bounds p (windows_in table) (initial_points p table.anchors) points (sides_valued v sides) c.tables (spans_beside c.spans price.kind) price.kind price.forced leaf.0 valid
+    (initial-among p table.anchors c.points price.round) keep.tables (keep.spans price.kind) leaf.1 d plan (of-first-sides p (windows_in table) d plan v sides of_leaf) in
     let few : div_ceil leaf.0 p.scale ≤ cost p plan = div_ceil-least leaf.0 p.scale (cost p plan) (omega (arith, valid.scale.0)) (omega (arith, le)) in
     let rounded : rounded_up c.unit (div_ceil leaf.0 p.scale) ≤ cost p plan = rounded_up-cost p c.unit (div_ceil leaf.0 p.scale) plan keep.range keep.unit few in
     omega (arith, rounded, leaf.2))
@@ -70,7 +109,7 @@ IsTailOfSplit-split_tail p (ByTime shipment terminal at) = tt
 HaveTails-fork_of : (p : Problem) (nodes : List Node) → HaveTails (tails p) (fork_of p) nodes
 HaveTails-fork_of p [] = tt
 HaveTails-fork_of p (node.Branch split ∷ nodes) = (IsTailOfSplit-split_tail p split, HaveTails-fork_of p nodes)
-HaveTails-fork_of p (node.Leaf price ∷ nodes) = (tt, HaveTails-fork_of p nodes)
+HaveTails-fork_of p (node.Leaf valuation ∷ nodes) = (tt, HaveTails-fork_of p nodes)
 
 -- where each leaf is worth the claim, no plan within the windows costs less
 pub AreLeavesWorth-NoPlanWithinCheaper : (p : Problem) (table : WindowTable) (c : Statement) (claim : ℕ) → IsValid p → AreKept p table c → HasTree p c → AreLeavesWorth p table c claim →

@@ -54,5 +54,5 @@ pub AcceptedAreFew_hold : AcceptedAreFew
 AcceptedAreFew_hold p table c valid range accepted applies = IsAccepted-few p table c valid range accepted applies
 
 -- so its text has at most so many bytes, and those of its prices
-pub few-bytes : (p : Problem) (c : Statement) → HasFewLines p c → HasTree p c → most_bytes p c ≤ 28994201 + 165 * length (price_rows p c)
+pub few-bytes : (p : Problem) (c : Statement) → HasFewLines p c → HasTree p c → most_bytes p c ≤ 29694208 + 165 * length (price_rows p c)
 few-bytes p c few tree = omega (arith, few.legs, few.trucks, few.points, few.splits, tree-bytes p c.tree 1 tree.tree)

@@ -19,11 +19,11 @@ leaves-splits p (x ∷ nodes) [] trees = absurd trees
 leaves-splits p (Branch split ∷ nodes) (sides ∷ pending) trees =
     let fork : Fork = record { split = split; tail = split_tail p split } in
     omega (arith, leaves-splits p nodes ((sides ++ (first fork ∷ [])) ∷ (sides ++ (second fork ∷ [])) ∷ pending) trees)
-leaves-splits p (Leaf price ∷ nodes) (sides ∷ pending) trees = omega (arith, leaves-splits p nodes pending trees)
+leaves-splits p (Leaf valuation ∷ nodes) (sides ∷ pending) trees = omega (arith, leaves-splits p nodes pending trees)
 
 -- the bytes of their lines
-pub tree-bytes : (p : Problem) (nodes : List Node) (pending : ℕ) → AreTrees (fork_of p) pending nodes → sum_by node_bytes nodes ≡ 137 * length (tree_splits (fork_of p) nodes) + 28 * pending
+pub tree-bytes : (p : Problem) (nodes : List Node) (pending : ℕ) → AreTrees (fork_of p) pending nodes → sum_by node_bytes nodes ≡ 144 * length (tree_splits (fork_of p) nodes) + 35 * pending
 tree-bytes p [] pending trees = omega (arith, trees)
 tree-bytes p (x ∷ nodes) zero trees = absurd trees
 tree-bytes p (Branch split ∷ nodes) (suc pending) trees = omega (arith, sum_by-cons node_bytes (Branch split) nodes, tree-bytes p nodes (suc (suc pending)) trees)
-tree-bytes p (Leaf price ∷ nodes) (suc pending) trees = omega (arith, sum_by-cons node_bytes (Leaf price) nodes, tree-bytes p nodes pending trees)
+tree-bytes p (Leaf valuation ∷ nodes) (suc pending) trees = omega (arith, sum_by-cons node_bytes (Leaf valuation) nodes, tree-bytes p nodes pending trees)

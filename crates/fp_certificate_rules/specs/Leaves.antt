@@ -15,6 +15,7 @@ use Rattle.fp_prices_spans.specs.SpanKinds.{IsPricedValue}
 use Rattle.fp_certificate_lines.specs.declared.certificates.Node.{Node}
 use Rattle.fp_certificate_lines.specs.declared.certificates.Node.TheVariants as node
 use Rattle.fp_certificate_lines.specs.Statements.{Statement}
+use Rattle.fp_certificate_lines.specs.Valuations.{sides_valued}
 use Rattle.fp_certificate_rules.specs.Points.{points_as_of}
 use Rattle.fp_certificate_rules.specs.Units.{rounded_up}
 
@@ -26,20 +27,20 @@ split_tail p (ByTime shipment terminal at) = 0
 -- at what a node of a certificate splits, and nothing at a leaf
 abbrev pub fork_of : Problem → Node → Option Fork
 fork_of p (node.Branch split) = Some (record { split = split; tail = split_tail p split })
-fork_of p (node.Leaf price) = None
+fork_of p (node.Leaf valuation) = None
 
 -- the lines of the tree are exactly one tree in preorder, of no more splits than a tree may have
 pub record HasTree (p : Problem) (c : Statement) : Type 0 where
   pub tree : IsTree (fork_of p) c.tree
   pub few : length (tree_splits (fork_of p) c.tree) ≤ MOST_SPLITS
 
--- a leaf is empty, or its bound in whole units of money, rounded up to a multiple of the certificate's
--- unit, is at least the claim
+-- a leaf is empty under all its sides, or its bound under those by which it is valued, in whole units of
+-- money, rounded up to a multiple of the certificate's unit, is at least the claim
 abbrev pub IsLeafWorth : Problem → WindowTable → Statement → (claim : ℕ) → Node → List Side → Type 0
 IsLeafWorth p table c claim (node.Branch split) sides = ⊥
-IsLeafWorth p table c claim (node.Leaf price) sides =
-    IsLeafEmpty p (windows_in table) (points_as_of p table.anchors c price.round) sides
-    ⊎ ((value : ℕ) × IsPricedValue p (windows_in table) (points_as_of p table.anchors c price.round) sides c.tables c.spans price.kind price.forced value
+IsLeafWorth p table c claim (node.Leaf v) sides =
+    IsLeafEmpty p (windows_in table) (points_as_of p table.anchors c v.price.round) sides
+    ⊎ ((value : ℕ) × IsPricedValue p (windows_in table) (points_as_of p table.anchors c v.price.round) (sides_valued v sides) c.tables c.spans v.price.kind v.price.forced value
     × (claim ≤ rounded_up c.unit (div_ceil value p.scale)))
 
 -- each leaf of the tree is worth the claim under the sides on its way from the root

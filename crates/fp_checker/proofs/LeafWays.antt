@@ -1,7 +1,13 @@
 -- The steps of a way to a leaf, and what its sides ask.
-use Rattle.std.proofs.Common.{◌≡◌, ℕ, Bool, true, false, cond, List, [], ◌∷◌, ◌++◌, map, refl, sym, ap, ◌∙◌, subst}
+use Rattle.std.proofs.Common.{◌≡◌, ℕ, ◌+◌, ◌*◌, ◌<◌, ◌≤◌, ⊎_elim, Bool, true, false, cond, List, [], ◌∷◌, ◌++◌, map, length, get_or, take, refl, sym, ap, ◌∙◌, subst, arith}
 use Rattle.std.specs.Prelude.{◌&&◌}
 use Rattle.std.proofs.Math.Bool.{and-true}
+use Rattle.std.proofs.Math.ListN.{get_or-map}
+use Rattle.std.proofs.Math.Nat.{eq-or-lt_of_le, min-le_left, min-le_right}
+use Rattle.std.proofs.lemmas.List.{get_or-take, get_or_append_left, get_or_push, length-append, length-map, length-take, map-append, take-append-le, take_all, take_more}
+use Rattle.std.proofs.lemmas.List.Folds.{list_all-append}
+use Rattle.std.specs.declared.alloc.Global.{Global}
+use Rattle.std.specs.declared.vec.Vec.{Vec}
 use Rattle.fp_tree.specs.declared.sides.Side.{Side}
 use Rattle.fp_tree.specs.declared.ways.Step.{Step}
 use Rattle.fp_tree.specs.Sides.{Exit, second}
@@ -9,7 +15,9 @@ use Rattle.fp_tree.specs.Ways.{fork_at, pending_after, pending_on, side_of, way_
 use Rattle.fp_tree.proofs.Steps.{IsTurned-pending}
 use Rattle.fp_allowed.specs.Allowed.{meets, meets_all}
 use Rattle.fp_checker.specs.declared.rules.leaf_ways.Entry.{Entry}
-use Rattle.fp_checker.specs.LeafWays.{AskAlike, ComesBy, IsAdded}
+use Rattle.fp_checker.specs.declared.rules.narrow_sides.Change.{Change}
+use Rattle.fp_checker.specs.declared.rules.leaf_ways.TheConstants.{SPACING}
+use Rattle.fp_checker.specs.LeafWays.{AreCheckpoints, AskAlike, ComesBy, IsAdded}
 use Rattle.fp_checker.proofs.NarrowSides.{and-last}
 
 -- one entry more
@@ -34,6 +42,20 @@ comes-alike old new (e ∷ entries) is k x =
 pub asks-alike : (new : List Side) (entries : List Entry) → ComesBy [] entries new → AskAlike new (way_sides (map (λ (e : Entry). e.step) entries))
 asks-alike new entries is = λ k x. comes-alike [] new entries is k x
 
+-- what one side more asks, of those of the first entries
+pub asks-first : (old new : List Side) (entries : List Entry) (i : ℕ) (e : Entry) (change : Change) → i < length entries → get_or entries i e ≡ e → AskAlike old (take i (way_sides (map (λ (y : Entry). y.step) entries))) →
+    IsAdded old (side_of e.step) new change → AskAlike new (take (i + 1) (way_sides (map (λ (y : Entry). y.step) entries)))
+asks-first old new entries i e change lt at alike added = λ k x.
+    let steps : List Step = map (λ (y : Entry). y.step) entries in
+    let way : List Side = way_sides steps in
+    let side : Side = side_of e.step in
+    let long : i < length way = omega (arith, lt, length-map steps side_of, length-map entries (λ (y : Entry). y.step)) in
+    let is : get_or way i side ≡ side = get_or-map side_of steps i e.step ∙ ap side_of (get_or-map (λ (y : Entry). y.step) entries i e ∙ ap (λ (y : Entry). y.step) at) in
+    let more : take (i + 1) way ≡ take i way ++ (side ∷ []) = take_more way i side long ∙ ap (λ (s : Side). take i way ++ (s ∷ [])) is in
+    let last : meets_all k (take (i + 1) way) x ≡ (meets_all k (take i way) x && meets k x side) =
+    ap (λ (l : List Side). meets_all k l x) more ∙ list_all-append (meets k x) (take i way) (side ∷ []) ∙ ap (λ (b : Bool). meets_all k (take i way) x && b) (and-true (meets k x side)) in
+    added.alike k x ∙ ap (λ (b : Bool). b && meets k x side) (alike k x) ∙ sym last
+
 -- a last step by a second side leaves the trees to come as they are
 passed-after : (before : List Side) (way : List Step) (s : Step) → s.later ≡ true → pending_after before (way ++ s ∷ []) ≡ pending_after before way
 passed-after before [] s by_second = ap (λ (later : Bool). cond later [] ((before ++ (second (fork_at s) ∷ [])) ∷ [])) by_second
@@ -49,3 +71,38 @@ pub pending-turned : (way : List Step) (s : Step) → s.later ≡ false →
 pending-turned way s by_first =
     let turned : Step = record { split = s.split; tail = s.tail; later = true } in
     IsTurned-pending (way ++ s ∷ []) (way ++ turned ∷ []) (record { kept = way; step = s; passed = []; old_is = refl; by_first = by_first; by_second = tt; new_is = refl })
+
+-- the sides of a way with a step more begin with those of the way
+take-more : (n : ℕ) (steps : List Step) (s : Step) → n ≤ length steps → take n (way_sides (steps ++ s ∷ [])) ≡ take n (way_sides steps)
+take-more n steps s le = ap (take n) (map-append side_of steps (s ∷ [])) ∙ take-append-le n (way_sides steps) (side_of s ∷ []) (omega (arith, le, length-map steps side_of))
+
+-- checkpoints stay so with a step more
+pub checkpoints-more : (checkpoints : List (Vec Side Global)) (steps : List Step) (s : Step) → length checkpoints * SPACING ≤ length steps → AreCheckpoints checkpoints steps → AreCheckpoints checkpoints (steps ++ s ∷ [])
+checkpoints-more checkpoints steps s few are = λ i d lt k x.
+    are i d lt k x ∙ ap (λ (sides : List Side). meets_all k sides x) (sym (take-more ((i + 1) * SPACING) steps s (omega (arith, few, lt))))
+
+-- and with one less
+pub checkpoints-less : (checkpoints : List (Vec Side Global)) (steps : List Step) (s : Step) → length checkpoints * SPACING ≤ length steps → AreCheckpoints checkpoints (steps ++ s ∷ []) → AreCheckpoints checkpoints steps
+checkpoints-less checkpoints steps s few are = λ i d lt k x.
+    are i d lt k x ∙ ap (λ (sides : List Side). meets_all k sides x) (take-more ((i + 1) * SPACING) steps s (omega (arith, few, lt)))
+
+-- so do the first ones
+pub checkpoints-first : (n : ℕ) (checkpoints : List (Vec Side Global)) (steps : List Step) → AreCheckpoints checkpoints steps → AreCheckpoints (take n checkpoints) steps
+checkpoints-first n checkpoints steps are = λ i d lt k x.
+    ap (λ (v : Vec Side Global). meets_all k v.items x) (get_or-take n checkpoints i d (omega (arith, lt, length-take n checkpoints, min-le_left n (length checkpoints))))
+    ∙ are i d (omega (arith, lt, length-take n checkpoints, min-le_right n (length checkpoints))) k x
+
+-- and with one more, of sides that ask what the whole way does
+pub checkpoints-last : (checkpoints : List (Vec Side Global)) (last : Vec Side Global) (steps : List Step) → (length checkpoints + 1) * SPACING ≡ length steps → AskAlike last.items (way_sides steps) → AreCheckpoints checkpoints steps →
+    AreCheckpoints (checkpoints ++ last ∷ []) steps
+checkpoints-last checkpoints last steps due alike are = λ i d lt.
+    ⊎_elim (λ (at : i ≡ length checkpoints). here i d at) (λ (before : i < length checkpoints). front i d before)
+    (eq-or-lt_of_le {n = i} {m = length checkpoints} (omega (arith, lt, length-append checkpoints (last ∷ []))))
+  where
+    front : (i : ℕ) (d : Vec Side Global) → i < length checkpoints → AskAlike (get_or (checkpoints ++ last ∷ []) i d).items (take ((i + 1) * SPACING) (way_sides steps))
+    front i d before = λ k x. ap (λ (v : Vec Side Global). meets_all k v.items x) (get_or_append_left checkpoints (last ∷ []) d i before) ∙ are i d before k x
+
+    here : (i : ℕ) (d : Vec Side Global) → i ≡ length checkpoints → AskAlike (get_or (checkpoints ++ last ∷ []) i d).items (take ((i + 1) * SPACING) (way_sides steps))
+    here i d at = λ k x.
+        ap (λ (v : Vec Side Global). meets_all k v.items x) (get_or_push checkpoints last d i (sym at)) ∙ alike k x
+        ∙ ap (λ (sides : List Side). meets_all k sides x) (sym (take_all ((i + 1) * SPACING) (way_sides steps) (omega (arith, at, due, length-map steps side_of))))

@@ -9,3 +9,4 @@ pub mod Spanned
 pub mod NarrowSides
 pub mod LeafWays
 pub mod SameSides
+pub mod LeafBounds

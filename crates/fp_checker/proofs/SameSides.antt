@@ -1,7 +1,6 @@
 -- Under sides that ask alike the same classes are allowed, so a leaf is worth the same.
-use Rattle.std.proofs.Common.{◌≡◌, ℕ, ◌+◌, ◌≤◌, Bool, List, length, inl, inr, ⊎_elim, refl, sym, ap, subst}
+use Rattle.std.proofs.Common.{◌≡◌, ℕ, ◌+◌, Bool, List, length, refl, sym, ap, subst}
 use Rattle.std.specs.Prelude.{Option, Some, None, ◌&&◌, nat_eq, nat_le, nat_lt}
-use Rattle.std.specs.Int.{div_ceil}
 use Rattle.std.specs.List.{AllZip}
 use Rattle.fp_base_lists.specs.Numbered.{AllZipFrom}
 use Rattle.fp_base_lists.proofs.CountsBelow.{some_below-same}
@@ -11,23 +10,15 @@ use Rattle.fp_model.specs.Numbered.{shipment_at}
 use Rattle.fp_model.specs.Problem.{Problem}
 use Rattle.fp_timenodes.specs.Floor.{floor_point}
 use Rattle.fp_flatnet.specs.declared.window_tables.Window.{Window}
-use Rattle.fp_flatnet.specs.Tables.{WindowTable, windows_in}
 use Rattle.fp_tree.specs.declared.sides.Side.{Side}
 use Rattle.fp_allowed.specs.Allowed.{exit_of, has_moment, is_allowed, is_moment, tails_of}
 use Rattle.fp_allowed.specs.Walks.{IsTimedWalk}
 use Rattle.fp_prices.specs.declared.leaf_prices.Kind.{Kind}
-use Rattle.fp_prices.specs.declared.leaf_prices.LeafPrice.{LeafPrice}
 use Rattle.fp_prices.specs.Leaves.{IsChain, IsLeafEmpty, IsLeastCost}
 use Rattle.fp_prices.specs.Shares.{ClassShare}
-use Rattle.fp_prices_spans.specs.SpanKinds.{IsPricedValue, spans_beside}
 use Rattle.fp_prices_spans.specs.SpanLeaves.{IsChargeOf, IsSpanLeafValue}
 use Rattle.fp_prices_spans.specs.SpanPrices.{leaf_span_price}
 use Rattle.fp_prices_spans.specs.Spans.{ClassSpan}
-use Rattle.fp_certificate_lines.specs.declared.certificates.Node.TheVariants as node
-use Rattle.fp_certificate_lines.specs.Statements.{Statement}
-use Rattle.fp_certificate_rules.specs.Leaves.{IsLeafWorth}
-use Rattle.fp_certificate_rules.specs.Points.{points_as_of}
-use Rattle.fp_certificate_rules.specs.Units.{rounded_up}
 use Rattle.fp_checker.specs.LeafWays.{AskAlike}
 
 -- sides ask alike both ways
@@ -69,14 +60,3 @@ module _ (p : Problem) (windows : ℕ → ℕ → Option Window) (points : ℕ �
     are_charges = subst (λ (allowed : ℕ → Leg → Bool). AllZip (IsChargeOf p allowed is.chains) spans is.charges) allowed-alike is.are_charges;
     value_is = is.value_is;
   }
-
--- so it is worth a claim alike
-pub worth-alike : (p : Problem) (table : WindowTable) (c : Statement) (claim : ℕ) (price : LeafPrice) (sides others : List Side) → AskAlike sides others →
-    IsLeafWorth p table c claim (node.Leaf price) sides → IsLeafWorth p table c claim (node.Leaf price) others
-worth-alike p table c claim price sides others alike worth =
-    let points : ℕ → List ℕ = points_as_of p table.anchors c price.round in
-    ⊎_elim
-    (λ (empty : IsLeafEmpty p (windows_in table) points sides). inl (empty-alike p (windows_in table) points sides others alike empty))
-    (λ (leaf : (v : ℕ) × IsPricedValue p (windows_in table) points sides c.tables c.spans price.kind price.forced v × (claim ≤ rounded_up c.unit (div_ceil v p.scale))).
-    inr (leaf.0, value-alike p (windows_in table) points sides others alike c.tables (spans_beside c.spans price.kind) price.kind price.forced leaf.0 leaf.1, leaf.2))
-    worth

@@ -3,11 +3,11 @@ use Rattle.std.proofs.Common.{◌≡◌, ℕ, zero, suc, ◌+◌, ◌-◌, ◌<�
 use Rattle.std.specs.Prelude.{◌↔◌, is_some}
 use Rattle.std.proofs.lemmas.List.{drop_all, drop_more}
 use Rattle.fp_model.specs.Problem.{Problem}
-use Rattle.fp_prices.specs.declared.leaf_prices.LeafPrice.{LeafPrice}
 use Rattle.fp_tree.specs.declared.sides.Split.{Split}
 use Rattle.fp_tree.specs.Trees.{AreTrees}
 use Rattle.fp_certificate_lines.specs.declared.certificates.Node.{Node}
 use Rattle.fp_certificate_lines.specs.declared.certificates.Node.TheVariants.{Branch, Leaf}
+use Rattle.fp_certificate_lines.specs.declared.certificates.Valuation.{Valuation}
 use Rattle.fp_certificate_rules.specs.Leaves.{fork_of}
 
 -- the nodes from a place on, where the node there is known
@@ -21,10 +21,10 @@ branch-trees p split rest whole (suc m) some same =
     let on : suc (suc m) ≡ suc m + 1 = omega arith in
     subst (λ (n : ℕ). AreTrees (fork_of p) n rest ↔ whole) on same
 
-leaf-trees : (p : Problem) (price : LeafPrice) (rest : List Node) (whole : Type 0) (pending : ℕ) → (pending ≡ 0 → ⊥) → (AreTrees (fork_of p) pending (Leaf price ∷ rest) ↔ whole) →
+leaf-trees : (p : Problem) (valuation : Valuation) (rest : List Node) (whole : Type 0) (pending : ℕ) → (pending ≡ 0 → ⊥) → (AreTrees (fork_of p) pending (Leaf valuation ∷ rest) ↔ whole) →
     (AreTrees (fork_of p) (pending - 1) rest ↔ whole)
-leaf-trees p price rest whole zero some same = absurd (some refl)
-leaf-trees p price rest whole (suc m) some same =
+leaf-trees p valuation rest whole zero some same = absurd (some refl)
+leaf-trees p valuation rest whole (suc m) some same =
     let on : m ≡ suc m - 1 = omega arith in
     subst (λ (n : ℕ). AreTrees (fork_of p) n rest ↔ whole) on same
 
@@ -37,12 +37,12 @@ after-branch p nodes whole i pending next d split lt is some count same =
     (subst (λ (rest : List Node). AreTrees (fork_of p) pending rest ↔ whole) (nodes-from nodes i d (Branch split) lt is) same))
 
 -- a leaf ends one
-pub after-leaf : (p : Problem) (nodes : List Node) (whole : Type 0) (i pending next : ℕ) (d : Node) (price : LeafPrice) → i < length nodes → get_or nodes i d ≡ Leaf price → (pending ≡ 0 → ⊥) →
+pub after-leaf : (p : Problem) (nodes : List Node) (whole : Type 0) (i pending next : ℕ) (d : Node) (valuation : Valuation) → i < length nodes → get_or nodes i d ≡ Leaf valuation → (pending ≡ 0 → ⊥) →
     next ≡ pending - 1 → (AreTrees (fork_of p) pending (drop i nodes) ↔ whole) → (AreTrees (fork_of p) next (drop (i + 1) nodes) ↔ whole)
-after-leaf p nodes whole i pending next d price lt is some count same =
+after-leaf p nodes whole i pending next d valuation lt is some count same =
     subst (λ (n : ℕ). AreTrees (fork_of p) n (drop (i + 1) nodes) ↔ whole) (sym count)
-    (leaf-trees p price (drop (i + 1) nodes) whole pending some
-    (subst (λ (rest : List Node). AreTrees (fork_of p) pending rest ↔ whole) (nodes-from nodes i d (Leaf price) lt is) same))
+    (leaf-trees p valuation (drop (i + 1) nodes) whole pending some
+    (subst (λ (rest : List Node). AreTrees (fork_of p) pending rest ↔ whole) (nodes-from nodes i d (Leaf valuation) lt is) same))
 
 no-trees : (p : Problem) (x : Node) (rest : List Node) → AreTrees (fork_of p) 0 (x ∷ rest) → ⊥
 no-trees p x rest trees = trees
@@ -64,5 +64,5 @@ at-end p nodes whole i pending long same =
 pub branch-counts : (p : Problem) (x : Node) (split : Split) → x ≡ Branch split → ◌≡◌ {A = ℕ} (cond (is_some (fork_of p x)) 1 0) 1
 branch-counts p x split is = ap (λ (y : Node). cond (is_some (fork_of p y)) 1 0) is
 
-pub leaf-counts : (p : Problem) (x : Node) (price : LeafPrice) → x ≡ Leaf price → ◌≡◌ {A = ℕ} (cond (is_some (fork_of p x)) 1 0) 0
-leaf-counts p x price is = ap (λ (y : Node). cond (is_some (fork_of p y)) 1 0) is
+pub leaf-counts : (p : Problem) (x : Node) (valuation : Valuation) → x ≡ Leaf valuation → ◌≡◌ {A = ℕ} (cond (is_some (fork_of p x)) 1 0) 0
+leaf-counts p x valuation is = ap (λ (y : Node). cond (is_some (fork_of p y)) 1 0) is

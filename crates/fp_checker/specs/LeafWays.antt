@@ -1,12 +1,15 @@
 -- The way to a leaf, with the sides on it less those that others imply.
-use Rattle.std.specs.Prelude.{ℕ, ◌≡◌, ◌<◌, ◌-◌, List, [], ◌∷◌, length, map, take, ◌&&◌, slice_set}
+use Rattle.std.specs.Prelude.{ℕ, ◌≡◌, ◌<◌, ◌≤◌, ◌+◌, ◌*◌, ◌-◌, List, [], ◌∷◌, get_or, length, map, take, ◌&&◌, slice_set}
+use Rattle.std.specs.declared.alloc.Global.{Global}
+use Rattle.std.specs.declared.vec.Vec.{Vec}
 use Rattle.fp_tree.specs.declared.sides.Side.{Side}
 use Rattle.fp_tree.specs.declared.ways.Step.{Step}
 use Rattle.fp_tree.specs.Sides.{Exit}
-use Rattle.fp_tree.specs.Ways.{side_of}
+use Rattle.fp_tree.specs.Ways.{side_of, way_sides}
 use Rattle.fp_allowed.specs.Allowed.{meets, meets_all}
 use Rattle.fp_checker.specs.declared.rules.leaf_ways.Entry.{Entry}
 use Rattle.fp_checker.specs.declared.rules.leaf_ways.LeafWay.{LeafWay}
+use Rattle.fp_checker.specs.declared.rules.leaf_ways.TheConstants.{SPACING}
 use Rattle.fp_checker.specs.declared.rules.narrow_sides.Change.{Change}
 use Rattle.fp_checker.specs.declared.rules.narrow_sides.Change.TheVariants.{Added, Replaced}
 
@@ -43,6 +46,12 @@ ComesBy old (e ∷ entries) new = (next : List Side) × IsAdded old (side_of e.s
 abbrev pub steps_of : LeafWay → List Step
 steps_of way = map (λ (e : Entry). e.step) way.entries.items
 
--- the sides are those of the way's steps, less those that others imply
-abbrev pub IsKept : LeafWay → Type 0
-IsKept way = ComesBy [] way.entries.items way.sides.items
+-- each checkpoint has sides that ask what those of the steps up to it do
+abbrev pub AreCheckpoints : List (Vec Side Global) → List Step → Type 0
+AreCheckpoints checkpoints steps = (i : ℕ) (d : Vec Side Global) → i < length checkpoints → AskAlike (get_or checkpoints i d).items (take ((i + 1) * SPACING) (way_sides steps))
+
+-- the sides are those of the way's steps, less those that others imply, and the checkpoints are such
+pub record IsKept (way : LeafWay) : Type 0 where
+  pub comes : ComesBy [] way.entries.items way.sides.items
+  pub few : length way.checkpoints.items * SPACING ≤ length way.entries.items
+  pub each : AreCheckpoints way.checkpoints.items (steps_of way)

@@ -35,10 +35,16 @@ fn chains_of(alloc: Global, leaf: &Leaf) -> Result<Chains, NoMemory> {
     Ok(chains)
 }
 
+// Whether tables or walks that share trucks are to be sought.
+fn seeks(effort: &Effort) -> bool {
+    effort.turns > 0 || effort.settle_passes > 0 || effort.share_passes > 0
+}
+
 /// A search for tables and walks of a leaf, with so much effort.
 #[derive(Drop)]
 pub(crate) struct Search<'a> {
-    // None where each chain reaches its destination, so that there's nothing to seek.
+    // None where each chain reaches its destination, so that there's nothing to seek, and where
+    // nothing is to be sought.
     ascent: Option<Ascent<'a>>,
     effort: &'a Effort,
     chains: Chains,
@@ -53,7 +59,7 @@ impl<'a> Search<'a> {
         effort: &'a Effort,
     ) -> Result<Search<'a>, NoMemory> {
         let chains = chains_of(alloc, leaf)?;
-        let ascent = if chains.all_reached {
+        let ascent = if chains.all_reached || !seeks(effort) {
             None
         } else {
             Some(Ascent::of(leaf, nets.at(alloc, leaf)?))

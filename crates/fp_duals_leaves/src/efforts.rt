@@ -41,4 +41,14 @@ impl PriceEffort {
         },
         spans: None,
     };
+    /// Least: a leaf is only valued so, and its walks are any of least cost.
+    pub const VALUE: PriceEffort = PriceEffort {
+        tables: Effort {
+            turns: 0,
+            settle_passes: 0,
+            share_passes: 0,
+            ..Effort::CHOSEN
+        },
+        spans: None,
+    };
 }

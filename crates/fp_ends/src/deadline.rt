@@ -30,10 +30,6 @@ pub trait Deadline {
     fn has_passed(&self) -> bool
         ensures { result ≡ true → ends self.now ≡ true };
 
-    /// Whether so many hundredths of the time seem to be over: never where it has no end.
-    fn is_past(&self, hundredths: u32) -> bool
-        ensures { result ≡ true → ends self.now ≡ true };
-
     /// Whether the time has an end.
     fn is_set(&self) -> bool;
 }
@@ -53,10 +49,6 @@ impl Deadline for NoDeadline {
     ghost ends = { λ _. false };
 
     fn has_passed(&self) -> bool {
-        false
-    }
-
-    fn is_past(&self, _hundredths: u32) -> bool {
         false
     }
 
@@ -90,52 +82,16 @@ impl<C: Clock> Deadline for ClockDeadline<'_, C> {
     ghost ends = { λ d. is_limit (limit_of d) };
 
     fn has_passed(&self) -> bool {
-        self.is_past(100)
-    }
-
-    fn is_past(&self, hundredths: u32) -> bool {
         let Some(seconds) = self.seconds else {
             return false;
         };
-        let wanted = u64::from(seconds).saturating_mul(10 * u64::from(hundredths));
         match self.clock.glance() {
-            Some(moment) => wanted <= moment,
+            Some(moment) => u64::from(seconds).saturating_mul(1000) <= moment,
             None => true,
         }
     }
 
     fn is_set(&self) -> bool {
         self.seconds.is_some()
-    }
-}
-
-/// A part of the time of another deadline. When it ends is nobody's promise.
-#[derive(Drop)]
-pub struct PartDeadline<'a, D> {
-    whole: &'a D,
-    hundredths: u32,
-}
-
-impl<'a, D: Deadline> PartDeadline<'a, D> {
-    /// The first so many hundredths of the time.
-    pub fn new(whole: &'a D, hundredths: u32) -> PartDeadline<'a, D> {
-        PartDeadline { whole, hundredths }
-    }
-}
-
-impl<D: Deadline> Deadline for PartDeadline<'_, D> {
-    ghost ends = { λ _. true };
-
-    fn has_passed(&self) -> bool {
-        self.whole.is_past(self.hundredths)
-    }
-
-    fn is_past(&self, hundredths: u32) -> bool {
-        self.whole
-            .is_past(self.hundredths.saturating_mul(hundredths) / 100)
-    }
-
-    fn is_set(&self) -> bool {
-        self.whole.is_set()
     }
 }

@@ -18,7 +18,7 @@ mod writing;
 
 pub use clock::Clock;
 pub use clocks::{MemClock, StdClock, StillClock};
-pub use deadline::{ClockDeadline, Deadline, NoDeadline, PartDeadline, have_passed};
+pub use deadline::{ClockDeadline, Deadline, NoDeadline, have_passed};
 pub use memory_sink::MemSink;
 pub use memory_source::MemSource;
 pub use reading::{ReadEnd, read_all};

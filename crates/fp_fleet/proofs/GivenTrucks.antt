@@ -148,24 +148,9 @@ AreBegun-next p lines fleet place n d b days days_new queues queues_new heads gi
     (begin-inside p lines fleet place d b given lt is) (AreBegun-left p lines fleet place n d b days queues heads given lt is left q)
     (first_lines-more begins b.line n) (λ j. begin_count-more begins b.line n j) begun q
 
-pub AreBegun-all : (p : Problem) (lines : List TruckLine) (fleet : Assignment) (place n : ℕ) (d b : Begin) (days : List (List Run)) (queues : List (List ℕ)) (heads : List ℕ) →
-    place < length fleet.begins → b ≡ get_or fleet.begins place d → n ≡ b.count → AreBegun p lines fleet place b n days queues heads →
-    AreQueued p lines (take (place + 1) fleet.begins) [] days queues heads
-AreBegun-all p lines fleet place n d b days queues heads lt is all q =
-    let whole : begin_of b.line n ≡ get_or fleet.begins place d = ap (λ (k : ℕ). begin_of b.line k) all ∙ is in
-    subst (λ (bs : List Begin). AreQueued p lines bs [] days queues heads)
-    (ap (λ (c : Begin). take place fleet.begins ++ c ∷ []) whole ∙ sym (take_more fleet.begins place d lt)) q
-
 -- the turn at a place, of which so many trucks have turned
 abbrev pub AreTurnedOver : Problem → List TruckLine → Assignment → ℕ → Turn → ℕ → List (List Run) → List (List ℕ) → List ℕ → Type 0
 AreTurnedOver p lines fleet place t n days queues heads = AreQueued p lines fleet.begins (take place fleet.turns ++ turn_of t.before t.after n ∷ []) days queues heads
-
-pub AreTurnedOver-start : (p : Problem) (lines : List TruckLine) (fleet : Assignment) (place : ℕ) (t : Turn) (days : List (List Run)) (queues : List (List ℕ)) (heads : List ℕ) →
-    AreQueued p lines fleet.begins (take place fleet.turns) days queues heads → AreTurnedOver p lines fleet place t 0 days queues heads
-AreTurnedOver-start p lines fleet place t days queues heads q =
-    let turns : List Turn = take place fleet.turns in
-    AreQueued-alike p lines fleet.begins fleet.begins turns (turns ++ turn_of t.before t.after 0 ∷ []) days queues heads refl (λ m. refl)
-    (λ l m. turn_count-none turns t.before t.after l m) (λ m. into_count-none turns t.before t.after m) (λ l. out_count-none turns t.before t.after l) q
 
 pub turn-meets : (p : Problem) (lines : List TruckLine) (fleet : Assignment) (place : ℕ) (d t : Turn) → IsGiven p lines fleet → place < length fleet.turns →
     t ≡ get_or fleet.turns place d → TurnMeets p lines t

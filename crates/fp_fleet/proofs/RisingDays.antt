@@ -25,7 +25,3 @@ rises-from p lines r (s ∷ day) timetable runs follow =
     let rest : All (Rises s) day × AllPairs Rises (s ∷ day) = rises-from p lines s day timetable later follow.1 in
     let here : All (Rises r) (s ∷ day) = All-cons (Rises r) s day less (All-weaker (Rises s) (Rises r) (λ x h. omega (arith, h, less)) day rest.0) in
     (here, AllPairs-cons Rises r (s ∷ day) here rest.1)
-
-pub IsDay-rises : (p : Problem) (lines : List TruckLine) (day : List Run) → IsTimetable p lines → IsDay p lines day → AllPairs (λ (r s : Run). r.line < s.line) day
-IsDay-rises p lines [] timetable is = absurd (omega (arith, is.some))
-IsDay-rises p lines (r ∷ day) timetable is = (rises-from p lines r day timetable is.runs is.follow).1

@@ -10,14 +10,6 @@ use Rattle.fp_fleet.specs.declared.days.Run.{Run}
 use Rattle.fp_fleet.specs.Queues.{IsFilled}
 use Rattle.fp_fleet.specs.TruckDays.{carried, over_runs, part_count, run_count}
 
--- nothing is carried by no trucks
-pub IsFilled-none : (capacity load : ℕ) → IsFilled capacity load 0 0 0
-IsFilled-none capacity load = record {
-  full = λ h. (omega arith, refl);
-  rest = λ h. omega (arith, h);
-  few = omega arith;
-}
-
 -- one truck more carries as much as it holds, or the rest
 pub IsFilled-next : (capacity load n c q n_new c_new q_new x : ℕ) → 0 < capacity → n * capacity < load → x ≡ min capacity (load - n * capacity) → IsFilled capacity load n c q →
     n_new ≡ n + 1 → c_new ≡ c + x → q_new ≡ q + (if x == capacity then 0 else 1) → IsFilled capacity load n_new c_new q_new

@@ -12,6 +12,7 @@ mod days;
 mod deficits;
 mod fewest_trucks;
 mod fleets;
+mod laws;
 mod needs;
 mod orders;
 mod queues;
@@ -25,6 +26,7 @@ pub use day_lines::write_trucks;
 pub use days::{MOST_RUNS, Run, TruckDays};
 pub use fewest_trucks::fewest;
 pub use fleets::{Begin, Fleet, Need, Turn};
+pub use laws::run_limit_is_a_number;
 pub use single_trucks::truck_days;
 pub use writing::write;
 

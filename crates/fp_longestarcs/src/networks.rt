@@ -151,6 +151,23 @@ impl Network {
         (arc, self.points(self.tail(arc))[place as usize])
     }
 
+    /// The same, which is found at once where the class is one of an arc that is named, `near`; any
+    /// number may be named.
+    pub fn of_class_near(&self, near: u32, class: u32) -> (u32, u32)
+        requires { class < class_count self.now }
+        ensures is { IsClass self.now (record { arc = result.0; depart = result.1 }) }
+        ensures number { class_number self.now (record { arc = result.0; depart = result.1 }) ≡ class }
+    {
+        if (near as usize) < self.tails.len() {
+            let first = self.offset(near);
+            let points = self.points(self.tail(near));
+            if first <= class && ((class - first) as usize) < points.len() {
+                return (near, points[(class - first) as usize]);
+            }
+        }
+        self.of_class(class)
+    }
+
     // The tail of an arc.
     fn tail(&self, arc: u32) -> u32
         requires { arc < length self.now.tails }

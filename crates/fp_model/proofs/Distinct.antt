@@ -18,6 +18,18 @@ same_leg-true k l e =
 pub same_leg-refl : (k : Leg) → same_leg k k ≡ true
 same_leg-refl k = and_from (k.arc == k.arc) (k.depart == k.depart) (eq-eqb k.arc k.arc refl) (eq-eqb k.depart k.depart refl)
 
+-- the test answers alike both ways
+pub same_leg-comm : (k l : Leg) → same_leg k l ≡ same_leg l k
+same_leg-comm k l =
+    ⊎_elim
+    (λ (there : same_leg k l ≡ true). there ∙ sym (subst (λ (x : Leg). same_leg x k ≡ true) (same_leg-true k l there) (same_leg-refl k)))
+    (λ (there : same_leg k l ≡ false).
+    ⊎_elim
+    (λ (back : same_leg l k ≡ true). absurd (both_ways (same_leg k l) there (subst (λ (x : Leg). same_leg x l ≡ true) (same_leg-true l k back) (same_leg-refl l))))
+    (λ (back : same_leg l k ≡ false). there ∙ sym back)
+    (cases_Bool (same_leg l k)))
+    (cases_Bool (same_leg k l))
+
 -- the sum over the distinct legs
 abbrev pub distinct_sum : (Leg → ℕ) → List Leg → ℕ
 distinct_sum f xs = sum_by f (distinct xs)

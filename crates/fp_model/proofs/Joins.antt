@@ -110,7 +110,8 @@ departures_join p f keeps ss R ys =
     sum_by-le-sum_by (λ k. sum_by (part k) (distinct ys)) g (distinct all) (λ k. one-le (f k) (g k) ys) in
     omega (arith, first, swapped, last)
 
-flow_joins : (p : Problem) (f : Leg → Leg) → ((k : Leg) → (f k).arc ≡ k.arc) → (ss : List Shipment) (R : List (List Leg)) →
+-- the flow of legs that are changed, each on its arc, is as before
+pub flow_joins : (p : Problem) (f : Leg → Leg) → ((k : Leg) → (f k).arc ≡ k.arc) → (ss : List Shipment) (R : List (List Leg)) →
     flow_total p ss (map (map f) R) ≡ flow_total p ss R
 flow_joins p f keeps [] R = refl
 flow_joins p f keeps (s ∷ ss) [] = refl

@@ -32,7 +32,7 @@ not-among k (l ∷ legs) others =
     or_from (same_leg k l) (has_leg k legs) (and_left (k.arc == l.arc) (k.depart == l.depart) (ne_eqb k.arc l.arc (λ e. others.0 (sym e)))) (not-among k legs others.1)
 
 -- legs by different arcs are different
-none-twice : (legs : List Leg) → AreDistinct (arcs_of legs) → NoneTwice legs
+pub none-twice : (legs : List Leg) → AreDistinct (arcs_of legs) → NoneTwice legs
 none-twice [] apart = tt
 none-twice (k ∷ legs) apart = (not-among k legs (AreDistinct-head k.arc (arcs_of legs) apart), none-twice legs (AreDistinct-tail k.arc (arcs_of legs) apart))
 

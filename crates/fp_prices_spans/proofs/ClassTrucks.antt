@@ -13,25 +13,13 @@ use Rattle.fp_model.specs.declared.parts.Shipment.{Shipment}
 use Rattle.fp_model.specs.Costs.{all_legs, distinct, flow_cost, flow_total, has_leg, load, same_leg, trucks}
 use Rattle.fp_model.specs.Problem.{Problem, arc_at}
 use Rattle.fp_model.proofs.Bounds.{load-outside}
-use Rattle.fp_model.proofs.Distinct.{distinct_sum, one-le, same_leg-refl, same_leg-true, term-le}
+use Rattle.fp_model.proofs.Distinct.{distinct_sum, one-le, same_leg-comm, same_leg-refl, same_leg-true, term-le}
 use Rattle.fp_prices.proofs.PlanBounds.{size_at}
 use Rattle.fp_prices.proofs.TakenByClasses.{users}
 use Rattle.fp_prices.proofs.Users.{users-size}
 use Rattle.fp_prices_spans.specs.SpanRules.{size_of}
 use Rattle.fp_prices_spans.proofs.DepartureTrucks.{AreBy, ArePlanRoutes, tested_trucks, trucks-hold}
 use Rattle.fp_prices_spans.proofs.PassingUsers.{users_by}
-
--- a leg that equals another is equal to it the other way round
-same_leg-sym : (k l : Leg) → same_leg k l ≡ same_leg l k
-same_leg-sym k l =
-    ⊎_elim
-    (λ (yes : same_leg l k ≡ true). subst (λ (e : Leg). same_leg k e ≡ same_leg e k) (sym (same_leg-true l k yes)) refl)
-    (λ (no : same_leg l k ≡ false).
-    ⊎_elim
-    (λ (yes : same_leg k l ≡ true). absurd (false≢true (sym no ∙ subst (λ (e : Leg). same_leg e k ≡ true) (same_leg-true k l yes) (same_leg-refl k))))
-    (λ (neither : same_leg k l ≡ false). neither ∙ sym no)
-    (cases_Bool (same_leg k l)))
-    (cases_Bool (same_leg l k))
 
 any-map : (test : Leg → Bool) (f : Leg → Leg) (legs : List Leg) → list_any test (map f legs) ≡ list_any (λ l. test (f l)) legs
 any-map test f [] = refl
@@ -65,17 +53,6 @@ users-of_class f c i (legs ∷ routes) =
     let others : List ℕ = users (i + 1) (map (map f) routes) c in
     ap (λ (l : List ℕ). if list_any (λ k. same_leg c (f k)) legs then i ∷ l else l) (users-of_class f c (i + 1) routes)
     ∙ ap (λ (b : Bool). if b then i ∷ others else others) (sym (any-map (same_leg c) f legs))
-
--- the flow over classes is that over the departures
-pub flow-classes : (p : Problem) (f : Leg → Leg) → ((l : Leg) → (f l).arc ≡ l.arc) → (shipments : List Shipment) (routes : List (List Leg)) →
-    flow_total p shipments (map (map f) routes) ≡ flow_total p shipments routes
-flow-classes p f keeps [] routes = refl
-flow-classes p f keeps (s ∷ shipments) [] = refl
-flow-classes p f keeps (s ∷ shipments) (legs ∷ routes) =
-    let flow : Leg → ℕ = λ l. (arc_at p l.arc).freight * s.size in
-    let here : flow_cost p s.size (map f legs) ≡ flow_cost p s.size legs =
-    sum_by-map flow f legs ∙ sum_by-same (λ l. flow (f l)) flow (λ l. ap (λ (a : ℕ). (arc_at p a).freight * s.size) (keeps l)) legs in
-    omega (arith, here, flow-classes p f keeps shipments routes)
 
 -- the trucks of the departures of a class
 abbrev pub class_trucks : Problem → (Leg → Leg) → List (List Leg) → Leg → ℕ
@@ -136,10 +113,10 @@ module _ (p : Problem) (f : Leg → Leg) (routes : List (List Leg)) (keeps : (l 
         single : (l c : Leg) → part c l ≡ (if same_leg (f l) c then own l else 0)
         single l c =
             ⊎_elim
-            (λ (yes : same_leg c (f l) ≡ true). of_own c l yes ∙ sym (cond-true (same_leg (f l) c) (own l) 0 (same_leg-sym (f l) c ∙ yes)))
+            (λ (yes : same_leg c (f l) ≡ true). of_own c l yes ∙ sym (cond-true (same_leg (f l) c) (own l) 0 (same_leg-comm (f l) c ∙ yes)))
             (λ (no : same_leg c (f l) ≡ false).
             ap (λ (n : ℕ). g c * n) (cond-false (same_leg c (f l)) (trucks p routes l) 0 no) ∙ (let e : g c * 0 ≡ 0 = omega arith in e)
-            ∙ sym (cond-false (same_leg (f l) c) (own l) 0 (same_leg-sym (f l) c ∙ no)))
+            ∙ sym (cond-false (same_leg (f l) c) (own l) 0 (same_leg-comm (f l) c ∙ no)))
             (cases_Bool (same_leg c (f l)))
 
     -- and at least that

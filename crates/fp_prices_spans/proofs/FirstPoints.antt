@@ -53,7 +53,3 @@ first-among_round p v round terminal q lt had =
     (λ (zero : zeros ≡ true). or_right added zeros zero)
     (or_cases first zeros other)))
     (or_cases times (first || zeros) (sym (list_has-points_at v terminal 0 q) ∙ had))
-
--- so they are points of the network of each round
-pub first-among_network : (p : Problem) (v : TimePoints) (round : ℕ) (net : TimedNetwork) → IsNetworkOf p v round net → AreAmong p (first_points v) (points_in net)
-first-among_network p v round net is terminal q lt had = is.points terminal lt q ∙ first-among_round p v round terminal q lt had

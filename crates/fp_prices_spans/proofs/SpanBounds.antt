@@ -15,6 +15,7 @@ use Rattle.fp_model.specs.declared.parts.Shipment.{Shipment}
 use Rattle.fp_model.specs.Costs.{all_legs, departures_cost, flow_total, has_leg, same_leg}
 use Rattle.fp_model.specs.Problem.{Problem, IsArc, arc_at, no_arc}
 use Rattle.fp_model.specs.Routes.{Carries, arcs_of, ends_of}
+use Rattle.fp_model.proofs.Joins.{flow_joins}
 use Rattle.fp_longestarcs.specs.Classes.{class_of}
 use Rattle.fp_allowed.specs.Allowed.{is_allowed}
 use Rattle.fp_allowed.proofs.AllowedClasses.{is_allowed_parts}
@@ -24,22 +25,11 @@ use Rattle.fp_prices.proofs.LeafSums.{costs-le}
 use Rattle.fp_prices.proofs.PlanBounds.{size_at, sizes-agree}
 use Rattle.fp_prices.proofs.TakenByClasses.{NoneTwice, NoneTwiceInAny, paid}
 use Rattle.fp_prices.proofs.Users.{users-few}
-use Rattle.fp_prices.proofs.WalkClasses.{AreTimedWalks, chains-among, classes-once, used-allowed, used-exist}
+use Rattle.fp_prices.proofs.WalkClasses.{AreTimedWalks, chains-among, classes-once, none-twice, used-allowed, used-exist}
 use Rattle.fp_prices_spans.specs.SpanLeaves.{SpanValuesBoundPlans}
 use Rattle.fp_prices_spans.specs.SpanPrices.{leaf_span_price}
 use Rattle.fp_prices_spans.proofs.ClassSums.{bases-and-span_prices}
-use Rattle.fp_prices_spans.proofs.ClassTrucks.{flow-classes}
 use Rattle.fp_prices_spans.proofs.DepartureTrucks.{ArePlanRoutes}
-
-not-among : (l : Leg) (legs : List Leg) → AllByRecursion (λ a. a ≢ l.arc) (arcs_of legs) → has_leg l legs ≡ false
-not-among l [] others = refl
-not-among l (k ∷ legs) others =
-    or_from (same_leg l k) (has_leg l legs) (and_left (l.arc == k.arc) (l.depart == k.depart) (ne_eqb l.arc k.arc (λ e. others.0 (sym e)))) (not-among l legs others.1)
-
--- legs by different arcs are different
-none-twice : (legs : List Leg) → AreDistinct (arcs_of legs) → NoneTwice legs
-none-twice [] apart = tt
-none-twice (l ∷ legs) apart = (not-among l legs (AreDistinct-head l.arc (arcs_of legs) apart), none-twice legs (AreDistinct-tail l.arc (arcs_of legs) apart))
 
 -- a plan has no arc twice in a route, since a route enters no terminal twice
 arcs-once : (p : Problem) (d : ℕ) (shipments : List Shipment) (plan : List (List Leg)) → AllZip (Carries p d) shipments plan → AllByRecursion (λ legs. AreDistinct (arcs_of legs)) plan
@@ -96,5 +86,5 @@ span_leaf-bounds p windows first points sides tables spans kind forced value val
     (classes-once p points d p.shipments plan of_leaf.plan) routes of_leaf.within leaf.are_charges in
     let least : sum_by (λ (n : ℕ). n) leaf.costs ≤ paid (λ c k. price k (size_at p k) c) 0 walks + p.scale * flow_total p p.shipments walks =
     costs-le p points allowed price (size_at p) 0 p.shipments leaf.costs walks (sizes-agree p) leaf.are_least timed in
-    let flow : p.scale * flow_total p p.shipments walks ≡ p.scale * flow_total p p.shipments plan = ap (λ (n : ℕ). p.scale * n) (flow-classes p of (λ l. refl) p.shipments plan) in
+    let flow : p.scale * flow_total p p.shipments walks ≡ p.scale * flow_total p p.shipments plan = ap (λ (n : ℕ). p.scale * n) (flow_joins p of (λ l. refl) p.shipments plan) in
     omega (arith, leaf.value_is, bases, least, flow)

@@ -10,12 +10,11 @@ use Rattle.fp_base_lists.proofs.Pairs.{AllPairs-head, AllPairs-tail, AllPairs-ni
 use Rattle.fp_model.specs.declared.parts.Leg.{Leg}
 use Rattle.fp_model.specs.declared.parts.Member.{Member}
 use Rattle.fp_model.specs.Costs.{same_leg}
-use Rattle.fp_model.proofs.Distinct.{same_leg-refl, same_leg-true}
+use Rattle.fp_model.proofs.Distinct.{same_leg-comm, same_leg-refl, same_leg-true}
 use Rattle.fp_base_lists.proofs.Elements.{AllByRecursion-weaker}
 use Rattle.fp_relaxmodel.specs.Grouping.{Met, after}
 use Rattle.fp_relaxmodel.specs.Groups.{StartsBefore}
 use Rattle.fp_model.specs.Members.{MemberComesBefore, members_among, NamedLeg}
-use Rattle.fp_relaxmodel.proofs.MetClasses.{same_leg-comm}
 use Rattle.fp_relaxmodel.proofs.FirstGroups.{Occurs, members-others, occurs-from_others, occurs-others, others, others-other, others-same, after-cons}
 use Rattle.fp_model.proofs.Members.{members_among-other, members_among-same}
 

@@ -9,22 +9,10 @@ use Rattle.indexmap.specs.IndexSet.{insert_key}
 use Rattle.fp_model.specs.declared.parts.Leg.{Leg}
 use Rattle.fp_model.specs.declared.parts.Member.{Member}
 use Rattle.fp_model.specs.Costs.{same_leg}
-use Rattle.fp_model.proofs.Distinct.{same_leg-refl, same_leg-true}
+use Rattle.fp_model.proofs.Distinct.{same_leg-comm}
 use Rattle.fp_longestarcs.specs.declared.stops.Stop.{Stop}
 use Rattle.fp_relaxmodel.specs.Grouping.{Met, groups_so_far, with_member}
 use Rattle.fp_longestarcs.specs.Stops.{leg_of}
-
--- a test of two legs answers alike both ways
-pub same_leg-comm : (k l : Leg) → same_leg k l ≡ same_leg l k
-same_leg-comm k l =
-    ⊎_elim
-    (λ (there : same_leg k l ≡ true). there ∙ sym (subst (λ (x : Leg). same_leg x k ≡ true) (same_leg-true k l there) (same_leg-refl k)))
-    (λ (there : same_leg k l ≡ false).
-    ⊎_elim
-    (λ (back : same_leg l k ≡ true). absurd (true≢false (sym (subst (λ (x : Leg). same_leg x l ≡ true) (same_leg-true l k back) (same_leg-refl l)) ∙ there)))
-    (λ (back : same_leg l k ≡ false). there ∙ sym back)
-    (cases_Bool (same_leg l k)))
-    (cases_Bool (same_leg k l))
 
 -- whether two classes are the same
 abbrev pub same_stop : Stop → Stop → Bool

@@ -1,7 +1,7 @@
 -- What a search knows after a step's parts: of an open leaf something is kept, and it is closed,
 -- divided, or left.
 use Rattle.std.proofs.Common.{◌≡◌, ℕ, zero, suc, ◌+◌, ◌<◌, false, List, [], ◌∷◌, Result, Ok, Err, refl, sym, ap, ◌∙◌, subst, arith}
-use Rattle.std.specs.Prelude.{⊤, IsSomeAnd, None, OnErr, OnOk, Option, Some, slice_get}
+use Rattle.std.specs.Prelude.{⊤, IsSomeAnd, None, OnErr, Option, Some, slice_get}
 use Rattle.std.proofs.lemmas.Option.{none-some, same_Some}
 use Rattle.fp_tree.specs.Nodes.{Node, close_leaf, closed_of, divide_leaf, fork_of, leaf_at, open_leaf, put_leaf, split_count}
 use Rattle.fp_tree.specs.Trees.{Leaf, tree_leaves, with_leaf}
@@ -32,22 +32,9 @@ some-value (Some x) P is = (x, refl, is)
 pub of-value : {X : Type 0} (o : Option X) (x : X) (P : X → Type 0) → o ≡ Some x → IsSomeAnd o P → P x
 of-value o x P is all = subst (λ q. IsSomeAnd q P) is all
 
--- an error leaves what another fact of it says
-pub OnErr-map : {X E : Type 0} (r : Result X E) (A B : Type 0) → (A → B) → OnErr r A → OnErr r B
-OnErr-map (Ok x) A B f is = tt
-OnErr-map (Err e) A B f is = f is
-
 pub OnErr-any : {X E : Type 0} (r : Result X E) (A : Type 0) → A → OnErr r A
 OnErr-any (Ok x) A is = tt
 OnErr-any (Err e) A is = is
-
-pub OnOk-two : {X E : Type 0} (r : Result X E) (A B C : Type 0) → (A → B → C) → OnOk r A → OnOk r B → OnOk r C
-OnOk-two (Ok x) A B C f one two = f one two
-OnOk-two (Err e) A B C f one two = tt
-
-pub OnOk-map : {X E : Type 0} (r : Result X E) (A B : Type 0) → (A → B) → OnOk r A → OnOk r B
-OnOk-map (Ok x) A B f is = f is
-OnOk-map (Err e) A B f is = tt
 
 -- the element in another's place
 element-changed : {X : Type 0} (f : X → X) (k : ℕ) (xs : List X) (x : X) → slice_get xs k ≡ Some x → slice_get (with_element (λ y. f y ∷ []) k xs) k ≡ Some (f x)
@@ -128,10 +115,10 @@ module _ (s : Search) (prices : PriceLists) (is : IsSearch s prices) (going : s.
       at : leaf_at nodes k ≡ Some now
       at = ap (λ (ns : List (Node Payload)). leaf_at ns k) changed ∙ leaf_at-put s.tree k l keepsat.1 kept.payload kept.value
 
-      askept : IsEarnedAs (history s prices) l.sides kept.payload.price kept.value
+      askept : IsEarnedAs (history s prices) l.sides kept.payload.valuation kept.value
       askept = IsEarnedAs-kept (history s prices) l.sides kept.payload kept.value keepsat.2.1 unsettledat.some
 
-      below : IsOpenBelow (history s prices) s.cost l.sides kept.payload.price
+      below : IsOpenBelow (history s prices) s.cost l.sides kept.payload.valuation
       below = record {
         value = askept.earned.value;
         is = askept.earned.is;
@@ -150,7 +137,7 @@ module _ (s : Search) (prices : PriceLists) (is : IsSearch s prices) (going : s.
             own.1.spent,
             own.1.clashes,
             record {
-              open_at = here leaf own.0 (λ m. IsOpenBelow (history s prices) s.cost m.sides m.node.payload.price) below;
+              open_at = here leaf own.0 (λ m. IsOpenBelow (history s prices) s.cost m.sides m.node.payload.valuation) below;
               holds = here leaf own.0 (λ m. AreWalksUnder s.instance s.windows (points_now s) m.sides relaxed) own.1.under;
             },
           )
@@ -158,13 +145,13 @@ module _ (s : Search) (prices : PriceLists) (is : IsSearch s prices) (going : s.
           let own = (of-value (leaf_at s.tree k) l (λ (m : Leaf (Node Payload)). (closed_of m.node ≡ false) × IsStopAt s k m.sides (Several leaf shipment)) keepsat.1 all).1 in (
             omega (arith, count, own.1.spent),
             record {
-              open_at = here leaf own.0 (λ m. IsOpenBelow (history s prices) s.cost m.sides m.node.payload.price) below;
+              open_at = here leaf own.0 (λ m. IsOpenBelow (history s prices) s.cost m.sides m.node.payload.valuation) below;
               holds = here leaf own.0 (λ m. HasSeveral s.instance s.windows (points_now s) m.sides shipment) own.1.several;
             },
           )
       why (Unsettled leaf) all =
           let own = (of-value (leaf_at s.tree k) l (λ (m : Leaf (Node Payload)). (closed_of m.node ≡ false) × IsStopAt s k m.sides (Unsettled leaf)) keepsat.1 all).1 in
           record {
-            open_at = here leaf own (λ m. IsOpenBelow (history s prices) s.cost m.sides m.node.payload.price) below;
+            open_at = here leaf own (λ m. IsOpenBelow (history s prices) s.cost m.sides m.node.payload.valuation) below;
             holds = here leaf own (λ m. ⊤) tt;
           }

@@ -1,6 +1,6 @@
 -- No plan within the windows costs less than the least that a leaf of a search is worth, whatever the
 -- search has yet to do.
-use Rattle.std.proofs.Common.{ℕ, List, [], arith}
+use Rattle.std.proofs.Common.{ℕ, [], arith}
 use Rattle.std.specs.Prelude.{None}
 use Rattle.fp_flatnet.specs.Tables.{windows_in}
 use Rattle.fp_tree.specs.Nodes.{fork_of as fork_at, value_of}

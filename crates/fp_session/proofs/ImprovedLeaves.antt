@@ -29,38 +29,48 @@ use Rattle.fp_session_history.proofs.SamePoints.{EachValue_same, IsLeafEmpty_sam
 use Rattle.fp_session_history.proofs.Stays.{IsEarnedAt-with_tables}
 use Rattle.fp_session.specs.declared.kept.Kept.{Kept}
 use Rattle.fp_session.specs.declared.payloads.Payload.{Payload}
-use Rattle.fp_session.specs.Nodes.{IsEarnedAs, IsKept}
+use Rattle.fp_certificate_lines.specs.declared.certificates.Valuation.{Valuation}
+use Rattle.fp_session.specs.Nodes.{IsEarnedAs, IsKept, IsValuedUnder}
 use Rattle.fp_session.specs.Outcomes.{IsAtLeastStarts, IsFound}
 use Rattle.fp_duals_leaves.specs.Pricing.{IsPriceFound}
 
 -- what is kept of a leaf stays true with more prices
 pub IsKept-with_tables : (h : History) (more : List (List ClassShare)) (spans : List (List ClassSpan)) (sides : List Side) (payload : Payload) (value : ℕ) → length h.spans ≡ length h.tables → IsKept h sides payload value → IsKept (with_tables h more spans) sides payload value
 IsKept-with_tables h more spans sides payload value beside kept = record {
-  price = record { round = kept.price.round; kind = HasKind-append h.tables more payload.price.kind kept.price.kind };
+  price = record { round = kept.price.round; kind = HasKind-append h.tables more payload.valuation.price.kind kept.price.kind };
+  under = record { few = kept.under.few; whole = kept.under.whole };
   worth = by_mark payload.empty kept.worth;
 }
   where
-    by_mark : (b : Bool) → MatchBool b (IsEmptyAt h sides payload.price) (IsEarnedAs h sides payload.price value) →
-        MatchBool b (IsEmptyAt (with_tables h more spans) sides payload.price) (IsEarnedAs (with_tables h more spans) sides payload.price value)
-    by_mark true is = record { empty = is.empty; linear = is.linear; plain = is.plain }
-    by_mark false is = record { earned = IsEarnedAt-with_tables h more spans sides payload.price beside kept.price.kind is.earned; is = is.is }
+    by_mark : (b : Bool) → MatchBool b (IsEmptyAt h sides payload.valuation) (IsEarnedAs h sides payload.valuation value) →
+        MatchBool b (IsEmptyAt (with_tables h more spans) sides payload.valuation) (IsEarnedAs (with_tables h more spans) sides payload.valuation value)
+    by_mark true is = record { empty = is.empty; linear = is.linear; plain = is.plain; whole = is.whole }
+    by_mark false is = record { earned = IsEarnedAt-with_tables h more spans sides payload.valuation beside kept.price.kind is.earned; is = is.is }
+
+-- a price, under all sides of a leaf
+abbrev pub whole_price : LeafPrice → Valuation
+whole_price price = record { price = price; sides = None }
+
+under-all : (h : History) (sides : List Side) (price : LeafPrice) → IsValuedUnder h sides (whole_price price)
+under-all h sides price = record { few = tt; whole = λ none. refl }
 
 -- a leaf whose price was improved as of a round that there was is earned by the price
 pub kept-as-of : (h : History) (net : TimedNetwork) (sides : List Side) (valid : IsValid h.problem) (round : ℕ) → round ≤ last_round h → AgreeOnPoints h.problem (points_in net) (points_of h round) →
     (price : LeafPrice) (value : ℕ) (walks : List (List Leg)) →
     IsPriceFound h.problem (windows_in h.windows) (points_in net) sides (record { tables = h.tables; spans = h.spans; unit = h.unit }) round (record { price = price; value = value }) walks → (incumbent : ℕ) →
-    IsKept h sides (record { price = price; empty = false; incumbent = incumbent; improved = None }) value
+    IsKept h sides (record { valuation = whole_price price; empty = false; incumbent = incumbent; improved = None }) value
 kept-as-of h net sides valid round had same price value walks is incumbent = record {
   price = record { round = omega (arith, had, is.worth.of_round); kind = is.worth.kind };
+  under = under-all h sides price;
   worth = record {
     earned = record {
       value = value;
       is = at (λ points. IsPricedValue h.problem (windows_in h.windows) points sides h.tables h.spans price.kind price.forced value)
           (span_value-same h.problem valid (windows_in h.windows) (points_in net) (points_of h round) same sides h.tables (spans_beside h.spans price.kind) price.kind price.forced value is.worth.is);
-      linear = at (λ points. (f : Bool) (other : ℕ) → IsLeafValue h.problem (windows_in h.windows) points sides [] Linear f other → other ≤ value)
-          (EachValue_same h.problem valid (windows_in h.windows) (points_in net) (points_of h round) same sides [] Linear value is.linear);
-      even = at (λ points. (f : Bool) (other : ℕ) → IsLeafValue h.problem (windows_in h.windows) points sides [] Even f other → other ≤ value)
-          (EachValue_same h.problem valid (windows_in h.windows) (points_in net) (points_of h round) same sides [] Even value is.even);
+      linear = linear;
+      even = even;
+      linear_under = linear;
+      even_under = even;
     };
     is = refl;
   };
@@ -69,21 +79,36 @@ kept-as-of h net sides valid round had same price value walks is incumbent = rec
     at : (P : (ℕ → List ℕ) → Type 0) → P (points_of h round) → P (points_of h price.round)
     at P = subst (λ (r : ℕ). P (points_of h r)) (sym is.worth.of_round)
 
-module _ (h : History) (net : TimedNetwork) (sides : List Side) (valid : IsValid h.problem) (same : AgreeOnPoints h.problem (points_in net) (points_of h (last_round h))) where
-  -- the price of a leaf that is empty as of the last round
-  abbrev empty_price : LeafPrice
-  empty_price = record { kind = Linear; round = last_round h; forced = false }
+    linear : (f : Bool) (other : ℕ) → IsLeafValue h.problem (windows_in h.windows) (points_of h price.round) sides [] Linear f other → other ≤ value
+    linear =
+        at (λ points. (f : Bool) (other : ℕ) → IsLeafValue h.problem (windows_in h.windows) points sides [] Linear f other → other ≤ value)
+        (EachValue_same h.problem valid (windows_in h.windows) (points_in net) (points_of h round) same sides [] Linear value is.linear)
 
+    even : (f : Bool) (other : ℕ) → IsLeafValue h.problem (windows_in h.windows) (points_of h price.round) sides [] Even f other → other ≤ value
+    even =
+        at (λ points. (f : Bool) (other : ℕ) → IsLeafValue h.problem (windows_in h.windows) points sides [] Even f other → other ≤ value)
+        (EachValue_same h.problem valid (windows_in h.windows) (points_in net) (points_of h round) same sides [] Even value is.even)
+
+-- and one that is empty as of such a round is kept as empty
+pub empty-as-of : (h : History) (net : TimedNetwork) (sides : List Side) (valid : IsValid h.problem) (round : ℕ) → round ≤ last_round h → AgreeOnPoints h.problem (points_in net) (points_of h round) →
+    (shipment incumbent value : ℕ) → IsFirstWithout h.problem (windows_in h.windows) (points_in net) sides shipment →
+    IsKept h sides (record { valuation = whole_price (record { kind = Linear; round = round; forced = false }); empty = true; incumbent = incumbent; improved = None }) value
+empty-as-of h net sides valid round had same shipment incumbent value first = record {
+  price = record { round = had; kind = tt };
+  under = under-all h sides (record { kind = Linear; round = round; forced = false });
+  worth = record {
+    empty = IsLeafEmpty_same h.problem valid (windows_in h.windows) (points_in net) (points_of h round) same sides (record { shipment = shipment; exists = first.exists; none = first.none });
+    linear = refl;
+    plain = refl;
+    whole = refl;
+  };
+}
+
+module _ (h : History) (net : TimedNetwork) (sides : List Side) (valid : IsValid h.problem) (same : AgreeOnPoints h.problem (points_in net) (points_of h (last_round h))) where
   -- an empty leaf is kept as one
-  pub kept-empty : (shipment incumbent value : ℕ) → IsFirstWithout h.problem (windows_in h.windows) (points_in net) sides shipment → IsKept h sides (record { price = empty_price; empty = true; incumbent = incumbent; improved = None }) value
-  kept-empty shipment incumbent value first = record {
-    price = record { round = omega arith; kind = tt };
-    worth = record {
-      empty = IsLeafEmpty_same h.problem valid (windows_in h.windows) (points_in net) (points_of h (last_round h)) same sides (record { shipment = shipment; exists = first.exists; none = first.none });
-      linear = refl;
-      plain = refl;
-    };
-  }
+  pub kept-empty : (shipment incumbent value : ℕ) → IsFirstWithout h.problem (windows_in h.windows) (points_in net) sides shipment →
+      IsKept h sides (record { valuation = whole_price (record { kind = Linear; round = last_round h; forced = false }); empty = true; incumbent = incumbent; improved = None }) value
+  kept-empty shipment incumbent value first = empty-as-of h net sides valid (last_round h) (omega arith) same shipment incumbent value first
 
   module _ (price : LeafPrice) (value : ℕ) (walks : List (List Leg))
       (is : IsPriceFound h.problem (windows_in h.windows) (points_in net) sides (record { tables = h.tables; spans = h.spans; unit = h.unit }) (last_round h) (record { price = price; value = value }) walks) where
@@ -95,7 +120,7 @@ module _ (h : History) (net : TimedNetwork) (sides : List Side) (valid : IsValid
     }
 
     -- the leaf is earned by the price
-    pub kept-priced : (incumbent : ℕ) → IsKept h sides (record { price = price; empty = false; incumbent = incumbent; improved = None }) value
+    pub kept-priced : (incumbent : ℕ) → IsKept h sides (record { valuation = whole_price price; empty = false; incumbent = incumbent; improved = None }) value
     kept-priced incumbent = kept-as-of h net sides valid (last_round h) (omega arith) same price value walks is incumbent
 
     -- and this is found of it, whichever price is kept that has no less value

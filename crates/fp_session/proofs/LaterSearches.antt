@@ -7,7 +7,6 @@ use Rattle.fp_session_history.specs.declared.endings.Left.{Left}
 use Rattle.fp_session_history.specs.Notes.{Refinement}
 use Rattle.fp_session.specs.declared.steps.Step.{Step}
 use Rattle.fp_session.specs.declared.steps.Step.TheVariants as step
-use Rattle.fp_session.specs.Preparations.{IsPrepared}
 use Rattle.fp_session.specs.Searches.{InHand}
 use Rattle.fp_session.specs.Steps.{HasGoneOn, IsStep}
 
@@ -43,14 +42,6 @@ module _ (s t u : InHand) (gone : HasGoneOn s t) (going : t.left ≡ None) where
   }
   gone-step step.Branch is = as-before (omega (arith, is.cost)) is.trace
   gone-step (step.Done ending) is = as-before (omega (arith, is.cost)) is.trace
-
--- and after what is done before a step
-pub gone-prepared : (s t : InHand) → s.left ≡ None → IsPrepared s t → HasGoneOn s t
-gone-prepared s t going is = record { cost = omega (arith, is.cost); more = []; trace = is.trace ∙ sym (append-nil s.trace); ended = if-none s.left (λ left. t ≡ s) going }
-  where
-    if-none : (o : Option Left) (P : Left → Type 0) → o ≡ None → IfSome o P
-    if-none None P is_none = tt
-    if-none (Some left) P is_none = absurd (none-some left (sym is_none))
 
 -- a search that goes on from one that went on
 pub gone-twice : (s t u : InHand) → HasGoneOn s t → t.left ≡ None → HasGoneOn t u → HasGoneOn s u

@@ -3,6 +3,7 @@ pub mod GrownWorths
 pub mod ImprovedLeaves
 pub mod TreeChanges
 pub mod SearchChanges
+pub mod DeepLeaves
 pub mod LeafNumbers
 pub mod TreeLines
 pub mod PrintedTree
@@ -12,7 +13,7 @@ pub mod TableRanges
 pub mod TimelyMoves
 pub mod PriceRanges
 pub mod PointRanges
-pub mod TreeRanges
+pub mod WholeTrees
 pub mod LeafWorths
 pub mod ShownSolutions
 pub mod EarnedSplits
@@ -20,6 +21,7 @@ pub mod ReachedWalks
 pub mod NextRounds
 pub mod Improvements
 pub mod Trials
+pub mod TakenValuations
 pub mod EarlierPrices
 pub mod Applied
 pub mod Divisions
@@ -34,7 +36,8 @@ pub mod CheaperWalks
 pub mod OpenCounts
 pub mod StepsTaken
 pub mod StepOrder
-pub mod PointLimits
 pub mod BestOpen
+pub mod LeastWorths
+pub mod PointLimits
 pub mod BoundClaims
 pub mod NoReserve

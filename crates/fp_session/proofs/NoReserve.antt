@@ -1,5 +1,5 @@
 -- Where no plan waits in reserve: it is said so; or all leaves of a search are closed, since then none is cheaper than the incumbent.
-use Rattle.std.proofs.Common.{◌≡◌, ℕ, List, false, true, refl, sym, arith}
+use Rattle.std.proofs.Common.{◌≡◌, false, true, refl, sym, arith}
 use Rattle.std.specs.Prelude.{All, IfSome, None, Option, Some}
 use Rattle.std.specs.Option.{is_some}
 use Rattle.std.proofs.lemmas.Bool.{false≢true}
@@ -16,7 +16,7 @@ use Rattle.fp_session.specs.Nodes.{IsLeafOf}
 use Rattle.fp_session.specs.Searches.{IsCheaper, IsSearch, history}
 use Rattle.fp_session.proofs.BoundClaims.{bound-claims}
 use Rattle.fp_session.proofs.LeafWorths.{settled-worth}
-use Rattle.fp_session.proofs.TreeRanges.{all-at}
+use Rattle.fp_session.proofs.WholeTrees.{all-at}
 
 -- where it isn't said that there is one
 pub none-where : (o : Option Cheaper) → is_some o ≡ false → o ≡ None

@@ -1,5 +1,5 @@
 -- What a step may do at an open leaf.
-use Rattle.std.proofs.Common.{◌≡◌, ℕ, ◌+◌, ◌<◌, ◌≤◌, ⊎_elim, inl, inr, Bool, true, false, List, [], ◌∷◌, length, refl, sym, ◌∙◌, subst, arith}
+use Rattle.std.proofs.Common.{◌≡◌, ℕ, ◌+◌, ◌<◌, ◌≤◌, ⊎_elim, inl, inr, Bool, true, false, List, [], ◌∷◌, length, refl, sym, ap, ◌∙◌, subst, arith}
 use Rattle.std.specs.Prelude.{All, IsSomeAnd, None, Option, Some}
 use Rattle.std.proofs.lemmas.Bool.{cases_lt, false≢true}
 use Rattle.std.proofs.lemmas.List.Elements.{All-cons, All-nil}
@@ -40,8 +40,8 @@ use Rattle.fp_session.specs.declared.moves.Move.TheVariants as move
 use Rattle.fp_session.specs.declared.payloads.Payload.{Payload}
 use Rattle.fp_session.specs.declared.searches.Search.{Search}
 use Rattle.fp_session.specs.Dividing.{IsSeveral, NoneSeveral}
-use Rattle.fp_session.specs.Moves.{AtOpenLeaf, HasReserve, IsLate, IsLeftAt, IsMove, IsMoveAt, IsOpenMove, IsStopAt, IsUnsettled, points_now}
-use Rattle.fp_session.specs.Nodes.{IsKept, IsKeptAs, IsLeafOf, IsSettled}
+use Rattle.fp_session.specs.Moves.{AtOpenLeaf, HasReserve, IsLate, IsLeftAt, IsMove, IsMoveAt, IsOpenMove, IsStopAt, IsUnsettled, LeavesNoLess, points_now}
+use Rattle.fp_session.specs.Nodes.{HasNoMore, IsKept, IsKeptAs, IsLeafOf, IsSettled}
 use Rattle.fp_session.specs.Outcomes.{IsFound, noted_kept}
 use Rattle.fp_session.specs.Preparations.{IsRaised}
 use Rattle.fp_duals_leaves.specs.Prices.{ArePrices, HaveGrown, PriceLists}
@@ -53,7 +53,7 @@ use Rattle.fp_session.proofs.Improvements.{IsKept-grown}
 use Rattle.fp_session.proofs.KeptStarts.{kept-starts}
 use Rattle.fp_session.proofs.NextRounds.{agree-now}
 use Rattle.fp_session.proofs.ReachedWalks.{NoneSeveral-cheaper, NoneSeveral-routes}
-use Rattle.fp_session.proofs.TreeRanges.{all-at}
+use Rattle.fp_session.proofs.WholeTrees.{all-at}
 
 -- the arcs of timed walks exist
 walks-exist : (p : Problem) (points : ℕ → List ℕ) (allowed : ℕ → Leg → Bool) (i : ℕ) (ss : List Shipment) (walks : List (List Leg)) →
@@ -129,6 +129,14 @@ IsMoveAt-late s prices leaf sides kept m unsettled is =
     (λ (stops : (m ≡ move.Stop (left.Unsettled leaf)) × (s.reserve ≡ None)). subst (IsMoveAt s prices leaf sides kept) (sym stops.0) (unsettled, refl, stops.1))
     is
 
+-- and no leaf is left that is worth less
+LeavesNoLess-late : (s : Search) (unit : Option ℕ) (least leaf : ℕ) (m : Move) → IsLate s leaf m → LeavesNoLess unit least m
+LeavesNoLess-late s unit least leaf m is =
+    ⊎_elim
+    (λ (takes : (m ≡ move.TakeReserve) × HasReserve s). subst (LeavesNoLess unit least) (sym takes.0) tt)
+    (λ (stops : (m ≡ move.Stop (left.Unsettled leaf)) × (s.reserve ≡ None)). subst (LeavesNoLess unit least) (sym stops.0) tt)
+    is
+
 -- a leaf of which something is found has something to search for, where it is worth less than the cost
 pub IsUnsettled-found : (s : Search) (before after : PriceLists) (sides : List Side) (kept : Kept) (walks : List (List Leg)) → IsFound (history s before) sides kept walks →
     worth_of (history s after) kept.value < s.cost → IsUnsettled (history s after) s.cost sides kept
@@ -140,11 +148,12 @@ IsUnsettled-found s before after sides kept walks found below = record {
 
 -- a move at an open leaf, by what is kept of it
 pub IsMove-at : (s : Search) (prices : PriceLists) (k : ℕ) (l : Leaf (Node Payload)) (kept : Kept) (m : Move) → leaf_at s.tree k ≡ Some l → closed_of l.node ≡ false →
-    IsKept (history s prices) l.sides kept.payload kept.value → (kept.payload.empty ≡ false → value_of l.node ≤ kept.value) → IsMoveAt s prices k l.sides kept m → IsMove s prices k kept m
-IsMove-at s prices k l kept m at still keeps no_less may = record {
+    IsKept (history s prices) l.sides kept.payload kept.value → (kept.payload.empty ≡ false → HasNoMore l kept) → IsMoveAt s prices k l.sides kept m → LeavesNoLess prices.unit kept.value m → IsMove s prices k kept m
+IsMove-at s prices k l kept m at still keeps no_less may less = record {
   kept = here (λ x. IsKept (history s prices) x.sides kept.payload kept.value) keeps;
-  no_less = here (λ x. kept.payload.empty ≡ false → value_of x.node ≤ kept.value) no_less;
+  no_less = here (λ x. kept.payload.empty ≡ false → HasNoMore x kept) no_less;
   planned = here (λ x. IsMoveAt s prices k x.sides kept m) may;
+  below = less;
 }
   where
     here : (P : Leaf (Node Payload) → Type 0) → P l → AtOpenLeaf s.tree k P
@@ -168,46 +177,50 @@ module _ (s : Search) (before after : PriceLists) (k : ℕ) (sides : List Side) 
       (all-at (IsLeafOf (history s before) s.cost) (tree_leaves fork_of s.tree) k chosen.0 is.leaves chosen.1).kept))
 
   -- a move there, by what is kept of it now
-  pub chosen-move : (kept : Kept) (m : Move) → IsKept (history s after) sides kept.payload kept.value → (kept.payload.empty ≡ false → old.value ≤ kept.value) → IsMoveAt s after k sides kept m → IsMove s after k kept m
-  chosen-move kept m keeps no_less may =
+  pub chosen-move : (kept : Kept) (m : Move) → IsKept (history s after) sides kept.payload kept.value → (kept.payload.empty ≡ false → (old.payload.empty ≡ false) × (old.value ≤ kept.value)) → IsMoveAt s after k sides kept m →
+      LeavesNoLess after.unit kept.value m → IsMove s after k kept m
+  chosen-move kept m keeps no_less may less =
       IsMove-at s after k chosen.0 kept m chosen.1 chosen.2.0 (subst (λ (ss : List Side). IsKept (history s after) ss kept.payload kept.value) (sym way) keeps)
-      (λ some. omega (arith, no_less some, chosen.2.1.value)) (subst (λ (ss : List Side). IsMoveAt s after k ss kept m) (sym way) may)
+      (λ some. record { some = ap (λ (p : Payload). p.empty) chosen.2.1.payload ∙ (no_less some).0; value = omega (arith, (no_less some).1, chosen.2.1.value) }) (subst (λ (ss : List Side). IsMoveAt s after k ss kept m) (sym way) may) less
 
   -- an empty leaf is closed
   pub empty-move : (kept : Kept) → IsKept (history s after) sides kept.payload kept.value → kept.payload.empty ≡ true → IsMove s after k kept move.Close
   empty-move kept keeps empty =
       let settled : IsSettled (history s after) s.cost kept.payload kept.value = inl empty in
-      chosen-move kept move.Close keeps (λ some. absurd (false≢true (sym some ∙ empty))) settled
+      chosen-move kept move.Close keeps (λ some. absurd (false≢true (sym some ∙ empty))) settled tt
 
   -- and a leaf that is worth at least the cost
-  pub dear-move : (kept : Kept) (walks : List (List Leg)) → IsFound (history s after) sides kept walks → old.value ≤ kept.value → s.cost ≤ worth_of (history s after) kept.value → IsMove s after k kept move.Close
-  dear-move kept walks found no_less dear =
-      let settled : IsSettled (history s after) s.cost kept.payload kept.value = inr dear in chosen-move kept move.Close found.kept (λ some. no_less) settled
+  pub dear-move : (kept : Kept) (walks : List (List Leg)) → IsFound (history s after) sides kept walks → old.payload.empty ≡ false → old.value ≤ kept.value → s.cost ≤ worth_of (history s after) kept.value → IsMove s after k kept move.Close
+  dear-move kept walks found known no_less dear =
+      let settled : IsSettled (history s after) s.cost kept.payload kept.value = inr dear in chosen-move kept move.Close found.kept (λ some. (known, no_less)) settled tt
 
   -- at another this is done where the time is over
-  pub late-move : (kept : Kept) (walks : List (List Leg)) (m : Move) → IsFound (history s after) sides kept walks → old.value ≤ kept.value → worth_of (history s after) kept.value < s.cost →
+  pub late-move : (kept : Kept) (walks : List (List Leg)) (m : Move) → IsFound (history s after) sides kept walks → old.payload.empty ≡ false → old.value ≤ kept.value → worth_of (history s after) kept.value < s.cost →
       IsLate s k m → IsMove s after k kept m
-  late-move kept walks m found no_less below late =
-      chosen-move kept m found.kept (λ some. no_less) (IsMoveAt-late s after k sides kept m (IsUnsettled-found s after after sides kept walks found below) late)
+  late-move kept walks m found known no_less below late =
+      chosen-move kept m found.kept (λ some. (known, no_less)) (IsMoveAt-late s after k sides kept m (IsUnsettled-found s after after sides kept walks found below) late)
+      (LeavesNoLess-late s after.unit kept.value k m late)
 
   -- and so it is after work by which the prices have grown
   pub late-move-grown : (between : PriceLists) (kept : Kept) (walks : List (List Leg)) (m : Move) → IsFound (history s between) sides kept walks → ArePrices s.instance s.windows between → HaveGrown s.instance s.windows between after →
-      old.value ≤ kept.value → worth_of (history s between) kept.value < s.cost → IsLate s k m → IsMove s after k kept m
-  late-move-grown between kept walks m found are grown no_less below late =
-      chosen-move kept m (IsKept-grown s between after sides kept are grown found.kept) (λ some. no_less)
+      old.payload.empty ≡ false → old.value ≤ kept.value → worth_of (history s between) kept.value < s.cost → IsLate s k m → IsMove s after k kept m
+  late-move-grown between kept walks m found are grown known no_less below late =
+      chosen-move kept m (IsKept-grown s between after sides kept are grown found.kept) (λ some. (known, no_less))
       (IsMoveAt-late s after k sides kept m (IsUnsettled-found s between after sides kept walks found (omega (arith, worth-grown s between after kept.value grown, below))) late)
+      (LeavesNoLess-late s after.unit kept.value k m late)
 
   -- at another the move is one that may be made there
   pub found-move : (between : PriceLists) (kept : Kept) (walks : List (List Leg)) (m : Move) → IsFound (history s between) sides kept walks → ArePrices s.instance s.windows between → HaveGrown s.instance s.windows between after →
-      old.value ≤ kept.value → worth_of (history s between) kept.value < s.cost → IsOpenMove s after k sides m → IsMove s after k kept m
-  found-move between kept walks m found are grown no_less below may =
-      chosen-move kept m (IsKept-grown s between after sides kept are grown found.kept) (λ some. no_less)
+      old.payload.empty ≡ false → old.value ≤ kept.value → worth_of (history s between) kept.value < s.cost → IsOpenMove s after k sides m → LeavesNoLess between.unit kept.value m → IsMove s after k kept m
+  found-move between kept walks m found are grown known no_less below may less =
+      chosen-move kept m (IsKept-grown s between after sides kept are grown found.kept) (λ some. (known, no_less))
       (IsMoveAt-open s after k sides kept m (IsUnsettled-found s between after sides kept walks found (omega (arith, worth-grown s between after kept.value grown, below))) may)
+      (subst (λ (unit : Option ℕ). LeavesNoLess unit kept.value m) (sym (ap (λ (x : PriceLists). x.unit) grown.is)) less)
 
   -- the leaf may be kept so, with a note as of which round its price was improved
   pub raised-there : (kept : Kept) (improved : Option ℕ) → IsKept (history s after) sides kept.payload kept.value → old.value ≤ kept.value → IsRaised s after (record { number = k; kept = noted_kept improved kept })
   raised-there kept improved keeps no_less = record {
-    kept = here (λ x. IsKept (history s after) x.sides (noted_kept improved kept).payload kept.value) (record { price = own.price; worth = own.worth });
+    kept = here (λ x. IsKept (history s after) x.sides (noted_kept improved kept).payload kept.value) (record { price = own.price; under = own.under; worth = own.worth });
     no_less = here (λ x. value_of x.node ≤ kept.value) (omega (arith, no_less, chosen.2.1.value));
   }
     where
@@ -260,19 +273,20 @@ module _ (s : Search) (prices : PriceLists) (k : ℕ) (old : Kept) (is : IsSearc
   keeps : IsKept (history s prices) found.0.sides old.payload old.value
   keeps = was-kept s prices prices k found.0.sides old was on is
 
-  stays : (m : Move) → IsMoveAt s prices k found.0.sides old m → IsMove s prices k old m
-  stays m may = chosen-move s prices prices k found.0.sides old was on old m keeps (λ some. omega arith) may
+  stays : (m : Move) → IsMoveAt s prices k found.0.sides old m → LeavesNoLess prices.unit old.value m → IsMove s prices k old m
+  stays m may less = chosen-move s prices prices k found.0.sides old was on old m keeps (λ some. (some, omega arith)) may less
 
   -- it is closed where it is settled
   pub settled-stays : IsSettled (history s prices) s.cost old.payload old.value → IsMove s prices k old move.Close
-  settled-stays settled = stays move.Close settled
+  settled-stays settled = stays move.Close settled tt
 
   -- the plan in reserve is taken where there is one
   pub reserve-stays : HasReserve s → IsMove s prices k old move.TakeReserve
-  reserve-stays some = stays move.TakeReserve some
+  reserve-stays some = stays move.TakeReserve some tt
 
   -- and this is done where the time is over, and it was priced as of the last round
-  pub late-stays : (m : Move) → old.payload.empty ≡ false → worth_of (history s prices) old.value < s.cost → last_round (history s prices) ≤ old.payload.price.round → IsLate s k m → IsMove s prices k old m
+  pub late-stays : (m : Move) → old.payload.empty ≡ false → worth_of (history s prices) old.value < s.cost → last_round (history s prices) ≤ old.payload.valuation.price.round → IsLate s k m → IsMove s prices k old m
   late-stays m some below last late =
       stays m
       (IsMoveAt-late s prices k found.0.sides old m (record { some = some; below = below; starts = kept-starts (history s prices) found.0.sides old.payload old.value keeps some last }) late)
+      (LeavesNoLess-late s prices.unit old.value k m late)

@@ -50,7 +50,7 @@ IsTailOfSplit-line p (ByTime shipment terminal at) = tt
 HaveTails-lines : (p : Problem) (lines : List Line) → HaveTails (tails_of p) (fork_of p) lines
 HaveTails-lines p [] = tt
 HaveTails-lines p (line.Branch split ∷ lines) = (IsTailOfSplit-line p split, HaveTails-lines p lines)
-HaveTails-lines p (line.Leaf price ∷ lines) = (tt, HaveTails-lines p lines)
+HaveTails-lines p (line.Leaf valuation ∷ lines) = (tt, HaveTails-lines p lines)
 
 -- a node splits by the split of its line
 same-split : (p : Problem) (payload : Payload) (role : Role) → let n : Node Payload = record { payload = payload; role = role } in
@@ -58,8 +58,8 @@ same-split : (p : Problem) (payload : Payload) (role : Role) → let n : Node Pa
 same-split p payload (Divided f) = refl
 same-split p payload (Undivided value closed) = refl
 
--- the line of a leaf is its price
-line_of-leaf : (payload : Payload) (role : Role) → fork_at (record { payload = payload; role = role }) ≡ None → line_of (record { payload = payload; role = role }) ≡ line.Leaf payload.price
+-- the line of a leaf tells how it is valued
+line_of-leaf : (payload : Payload) (role : Role) → fork_at (record { payload = payload; role = role }) ≡ None → line_of (record { payload = payload; role = role }) ≡ line.Leaf payload.valuation
 line_of-leaf payload (Divided f) none = absurd (none-some f (sym none))
 line_of-leaf payload (Undivided value closed) none = refl
 
@@ -70,9 +70,9 @@ image_by line_for l = record { node = line_for l.node; sides = l.sides }
 abbrev pub branch_image : Branch (Node Payload) → Branch Line
 branch_image b = record { node = line_of b.node; sides = b.sides }
 
--- the line of a node's price
-abbrev pub price_line : Node Payload → Line
-price_line n = line.Leaf n.payload.price
+-- the line of how a node is valued
+abbrev pub valuation_line : Node Payload → Line
+valuation_line n = line.Leaf n.payload.valuation
 
 -- a fork that splits with the same sides divides what the other does
 DividesSome-alike : (p : Problem) (windows : ℕ → ℕ → Option Window) (sides : List Side) (payload : Payload) (role : Role) → let n : Node Payload = record { payload = payload; role = role } in
@@ -104,7 +104,7 @@ module _ (p : Problem) (nodes : List (Node Payload)) (tails : HaveTails (tails_o
   branches-lines = branches_of-map fork_at (fork_of p) line_of nodes ([] ∷ []) alike
 
   -- the leaf with a number
-  pub leaf-line : (k : ℕ) (l : Leaf (Node Payload)) → leaf_at nodes k ≡ Some l → slice_get (tree_leaves (fork_of p) (lines_of nodes)) k ≡ Some (image_by price_line l)
+  pub leaf-line : (k : ℕ) (l : Leaf (Node Payload)) → leaf_at nodes k ≡ Some l → slice_get (tree_leaves (fork_of p) (lines_of nodes)) k ≡ Some (image_by valuation_line l)
   leaf-line k l at =
       ap (λ (ls : List (Leaf Line)). slice_get ls k) leaves-lines
       ∙ slice_get-map (image_by line_of) (tree_leaves fork_at nodes) k
@@ -112,7 +112,7 @@ module _ (p : Problem) (nodes : List (Node Payload)) (tails : HaveTails (tails_o
       ∙ ap (λ (n : Line). let x : Leaf Line = record { node = n; sides = l.sides } in Some x) (line_of-leaf l.node.payload l.node.role (fork_of-leaf fork_at nodes ([] ∷ []) k l at))
 
   -- what holds of each leaf's line holds of all leaves of the lines
-  pub leaves-printed : (Q : Leaf Line → Type 0) → ((k : ℕ) (l : Leaf (Node Payload)) → leaf_at nodes k ≡ Some l → Q (image_by price_line l)) → AllByRecursion Q (tree_leaves (fork_of p) (lines_of nodes))
+  pub leaves-printed : (Q : Leaf Line → Type 0) → ((k : ℕ) (l : Leaf (Node Payload)) → leaf_at nodes k ≡ Some l → Q (image_by valuation_line l)) → AllByRecursion Q (tree_leaves (fork_of p) (lines_of nodes))
   leaves-printed Q all =
       subst (AllByRecursion Q) (sym leaves-lines)
       (AllByRecursion-map Q (image_by line_of) (tree_leaves fork_at nodes)
@@ -121,8 +121,8 @@ module _ (p : Problem) (nodes : List (Node Payload)) (tails : HaveTails (tails_o
       subst (λ (n : Line). Q (record { node = n; sides = l.sides })) (sym (line_of-leaf l.node.payload l.node.role (fork_of-leaf fork_at nodes ([] ∷ []) k l at))) (all k l at))))
 
   -- what holds of one leaf's line holds of some leaf of the lines
-  pub leaf-printed : (Q : Leaf Line → Type 0) (k : ℕ) (l : Leaf (Node Payload)) → leaf_at nodes k ≡ Some l → Q (image_by price_line l) → AnyByRecursion Q (tree_leaves (fork_of p) (lines_of nodes))
-  leaf-printed Q k l at is = Any-from_place Q (tree_leaves (fork_of p) (lines_of nodes)) k (image_by price_line l) (leaf-line k l at) is
+  pub leaf-printed : (Q : Leaf Line → Type 0) (k : ℕ) (l : Leaf (Node Payload)) → leaf_at nodes k ≡ Some l → Q (image_by valuation_line l) → AnyByRecursion Q (tree_leaves (fork_of p) (lines_of nodes))
+  leaf-printed Q k l at is = Any-from_place Q (tree_leaves (fork_of p) (lines_of nodes)) k (image_by valuation_line l) (leaf-line k l at) is
 
   -- as many splits with their sides
   pub length-branches : length (tree_branches (fork_of p) (lines_of nodes)) ≡ split_count nodes

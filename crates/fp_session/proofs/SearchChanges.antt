@@ -58,7 +58,7 @@ module _ (h : History) (started cost : ℕ) where
 
     pub IsSplitOf-with_tables : (b : Branch (Node Payload)) → IsSplitOf h started cost b → IsSplitOf (with_tables h more spans) started cost b
     IsSplitOf-with_tables b is = record {
-      price = record { round = is.price.round; kind = HasKind-append h.tables more b.node.payload.price.kind is.price.kind };
+      price = record { round = is.price.round; kind = HasKind-append h.tables more b.node.payload.valuation.price.kind is.price.kind };
       earned = IsEarnedSplit-with_tables h started cost b.sides (split_note b.node.payload) is.earned more spans beside is.price.kind;
       range = is.range;
       divides = is.divides;
@@ -90,20 +90,21 @@ module _ (h : History) (started cost : ℕ) where
   pub IsLeafOf-with_note : (n : Refinement) → n.round ≡ last_round h + 1 → (l : Leaf (Node Payload)) → IsLeafOf h cost l → IsLeafOf (with_note h n) cost l
   IsLeafOf-with_note n next l is = record {
     kept = record {
-      price = IsPriceOf-with_note n l.node.payload.price is.kept.price;
+      price = IsPriceOf-with_note n l.node.payload.valuation.price is.kept.price;
+      under = record { few = is.kept.under.few; whole = is.kept.under.whole };
       worth = by_mark l.node.payload.empty is.kept.worth;
     };
     closed = is.closed;
   }
     where
-      by_mark : (b : Bool) → MatchBool b (IsEmptyAt h l.sides l.node.payload.price) (IsEarnedAs h l.sides l.node.payload.price (value_of l.node)) →
-          MatchBool b (IsEmptyAt (with_note h n) l.sides l.node.payload.price) (IsEarnedAs (with_note h n) l.sides l.node.payload.price (value_of l.node))
-      by_mark true own = IsEmptyAt-with_note h n l.sides l.node.payload.price (omega (arith, next, is.kept.price.round)) own
-      by_mark false own = record { earned = IsEarnedAt-with_note h n l.sides l.node.payload.price (omega (arith, next, is.kept.price.round)) own.earned; is = own.is }
+      by_mark : (b : Bool) → MatchBool b (IsEmptyAt h l.sides l.node.payload.valuation) (IsEarnedAs h l.sides l.node.payload.valuation (value_of l.node)) →
+          MatchBool b (IsEmptyAt (with_note h n) l.sides l.node.payload.valuation) (IsEarnedAs (with_note h n) l.sides l.node.payload.valuation (value_of l.node))
+      by_mark true own = IsEmptyAt-with_note h n l.sides l.node.payload.valuation (omega (arith, next, is.kept.price.round)) own
+      by_mark false own = record { earned = IsEarnedAt-with_note h n l.sides l.node.payload.valuation (omega (arith, next, is.kept.price.round)) own.earned; is = own.is }
 
   pub IsSplitOf-with_note : (n : Refinement) → n.round ≡ last_round h + 1 → (b : Branch (Node Payload)) → IsSplitOf h started cost b → IsSplitOf (with_note h n) started cost b
   IsSplitOf-with_note n next b is = record {
-    price = IsPriceOf-with_note n b.node.payload.price is.price;
+    price = IsPriceOf-with_note n b.node.payload.valuation.price is.price;
     earned = IsEarnedSplit-with_note h started cost b.sides (split_note b.node.payload) is.earned n (omega (arith, next, is.price.round));
     range = is.range;
     divides = is.divides;
@@ -210,7 +211,7 @@ module _ (s : Search) (prices : PriceLists) (is : IsSearch s prices) (going : s.
     -- a leaf is divided that was earned and worth less than the incumbent costs, with that cost in its
     -- payload
     pub IsSearch-divide : (d : Division) → IsDivision (history s prices) l.sides d → IsEarnedSplit (history s prices) s.started s.cost l.sides (split_note l.node.payload) →
-        IsPriceOf (history s prices) l.node.payload.price →
+        IsPriceOf (history s prices) l.node.payload.valuation.price →
         split_count (with_leaf fork_of (divide_leaf (fork_in d) (open_leaf d.first.payload d.first.value) (open_leaf d.second.payload d.second.value)) k s.tree) ≤ s.budget.branches →
         IsSearch (record s { tree = with_leaf fork_of (divide_leaf (fork_in d) (open_leaf d.first.payload d.first.value) (open_leaf d.second.payload d.second.value)) k s.tree }) prices
     IsSearch-divide d division earned price count = record {

@@ -1,7 +1,9 @@
 -- All that is shown of a search that has ended.
-use Rattle.std.proofs.Common.{◌≡◌, ℕ, ◌<◌, ◌≤◌, Bool, true, false, cond, List, refl, sym, ap, ◌∙◌, subst, arith}
-use Rattle.std.specs.Prelude.{◌==◌, All, IfSome, Option, Some, None}
-use Rattle.std.proofs.lemmas.List.Elements.{All-weaker}
+use Rattle.std.proofs.Common.{◌≡◌, ℕ, ◌<◌, ◌≤◌, Bool, true, false, cond, List, [], ◌∷◌, refl, sym, ap, ◌∙◌, subst, arith}
+use Rattle.std.specs.Prelude.{◌==◌, All, IfSome, Option, Some, None, slice_index_or}
+use Rattle.std.specs.List.{AllByRecursion}
+use Rattle.std.proofs.lemmas.List.Elements.{All-from_recursion, All-weaker, recursion_from_All}
+use Rattle.std.proofs.lemmas.Option.{IfSome_then}
 use Rattle.fp_model.specs.declared.limits.TheConstants.{LAST_ROUND, SCALE}
 use Rattle.fp_model.specs.declared.parts.Leg.{Leg}
 use Rattle.fp_model.specs.Costs.{cost}
@@ -10,6 +12,7 @@ use Rattle.fp_model.specs.Problem.{IsValid, Problem}
 use Rattle.fp_flatnet.specs.Tables.{windows_in}
 use Rattle.fp_flatnet.specs.Windows.{PlanLiesWithin}
 use Rattle.fp_timenodes.specs.declared.places.AddedPoint.{AddedPoint}
+use Rattle.fp_tree.specs.declared.layout.TheConstants.{MOST_SPLITS}
 use Rattle.fp_tree.specs.Nodes.{Node, fork_of as fork_at, leaf_at, value_of}
 use Rattle.fp_tree.specs.Sides.{Fork}
 use Rattle.fp_tree.specs.Trees.{Branch, IsTree, Leaf, tree_branches, tree_leaves}
@@ -22,8 +25,9 @@ use Rattle.fp_prices_spans.specs.Spans.{ClassSpan}
 use Rattle.fp_certificate_lines.specs.declared.certificates.Answer.{Answer}
 use Rattle.fp_certificate_lines.specs.declared.certificates.Answer.TheVariants.{Direct, Infeasible, Optimal, Unfinished}
 use Rattle.fp_certificate_lines.specs.declared.certificates.Node.{Node as Line}
+use Rattle.fp_certificate_lines.specs.declared.certificates.Node.TheVariants as line
 use Rattle.fp_certificate_lines.specs.declared.certificates.Spent.TheVariants.{Branches, Rounds, Time}
-use Rattle.fp_certificate_lines.specs.Ranges.{IsAnswerInRange, IsInRange, IsLeafInRange, IsScaleInRange, IsSplitInRange, largest_figure}
+use Rattle.fp_certificate_lines.specs.Ranges.{IsAnswerInRange, IsInRange, IsLeafInRange, IsNodeInRange, IsScaleInRange, IsSplitInRange, largest_figure}
 use Rattle.fp_certificate_lines.specs.Statements.{Statement}
 use Rattle.fp_certificate_rules.specs.Accepted.{Applies, Holds, Part, claim_of}
 use Rattle.fp_certificate_rules.specs.Leaves.{AreLeavesWorth, IsLeafWorth}
@@ -40,12 +44,13 @@ use Rattle.fp_session_history.specs.Traces.{IsEarnedTrace}
 use Rattle.fp_session_history.proofs.AddedPoints.{AreAddedPoints-IsEarnedTrace}
 use Rattle.fp_session.specs.declared.payloads.Payload.{Payload}
 use Rattle.fp_session.specs.declared.searches.Search.{Search}
-use Rattle.fp_session.specs.Certificates.{IsAnswer, IsCertificate, IsShown, named_scale}
+use Rattle.fp_session.specs.Certificates.{IsAnswer, IsCertificate, IsShown, IsWhole, named_scale}
 use Rattle.fp_session.specs.Nodes.{IsLeafOf, IsSplitOf, split_note}
 use Rattle.fp_duals_leaves.specs.PriceLines.{AreFewLines}
 use Rattle.fp_duals_leaves.specs.Prices.{PriceLists}
 use Rattle.fp_session.specs.Searches.{IsLeft, IsSearch, history}
 use Rattle.fp_session.specs.TreeLines.{lines_of, notes_of}
+use Rattle.fp_session.proofs.DeepLeaves.{IsNear, near-tree}
 use Rattle.fp_session.proofs.LeafWorths.{bound-le, bound-lt, leaf-of, least-worth, leaves-shown, left-shown, settled-worth, worth-kept}
 use Rattle.fp_session.proofs.LineRanges.{legs-in_range, trucks-in_range}
 use Rattle.fp_session.proofs.PlanCosts.{cost-in_range}
@@ -53,7 +58,7 @@ use Rattle.fp_session.proofs.PointRanges.{points-in_range}
 use Rattle.fp_session.proofs.PrintedTree.{AllDivide-lines, IsTree-lines, branches-noted, leaves-printed, length-branches, splits-lines}
 use Rattle.fp_session.proofs.PriceRanges.{prices-hold, spans-few, spans-in_range, unit-in_range}
 use Rattle.fp_session.proofs.TableRanges.{tables-countable, tables-in_range}
-use Rattle.fp_session.proofs.TreeRanges.{all-at, tree-in_range}
+use Rattle.fp_session.proofs.WholeTrees.{all-at, tree-fits}
 
 -- a named scale is in range
 scale-in_range : (p : Problem) → IsValid p → (b : Bool) → IfSome (cond b None (Some p.scale)) (IsScaleInRange p)
@@ -125,14 +130,28 @@ module _ (s : Search) (prices : PriceLists) (search : IsSearch s prices) (whole 
     tables = tables-in_range s.instance prices.tables search.belongs.valid search.prices.tables within;
     spans = spans-in_range s.instance s.windows prices search.prices;
     beside = search.prices.beside;
-    tree = tree-in_range s.instance prices.tables s.tree whole
+    tree = tree-fits (IsNodeInRange s.instance prices.tables) s.tree whole
         (All-weaker (IsSplitOf h s.started s.cost) (λ (b : Branch (Node Payload)). IfSome (fork_at b.node) (λ (f : Fork). IsSplitInRange s.instance f.split)) (λ b split. split.range) (tree_branches fork_at s.tree) search.splits)
-        (All-weaker (IsLeafOf h s.cost) (λ (l : Leaf (Node Payload)). IsLeafInRange prices.tables l.node.payload.price) (λ l leaf. record { kind = leaf.kept.price.kind; round = omega (arith, leaf.kept.price.round, few) })
-        (tree_leaves fork_at s.tree) search.leaves);
+        (All-from_recursion (λ (l : Leaf (Node Payload)). IsLeafInRange prices.tables l.node.payload.valuation) (tree_leaves fork_at s.tree)
+        (leaves-in_range (tree_leaves fork_at s.tree) (recursion_from_All (IsLeafOf h s.cost) (tree_leaves fork_at s.tree) search.leaves)
+        (near-tree fork_at MOST_SPLITS s.tree (omega (arith, search.few, search.budget.branches)))));
   }
     where
       few : last_round h ≤ LAST_ROUND
       few = omega (arith, search.rounds, search.budget.rounds)
+
+      -- the leaves are in range, which have no more sides than there may be splits
+      leaves-in_range : (leaves : List (Leaf (Node Payload))) → AllByRecursion (IsLeafOf h s.cost) leaves → AllByRecursion (IsNear fork_at MOST_SPLITS) leaves →
+          AllByRecursion (λ (l : Leaf (Node Payload)). IsLeafInRange prices.tables l.node.payload.valuation) leaves
+      leaves-in_range [] own near = tt
+      leaves-in_range (l ∷ leaves) own near = (
+        record {
+          kind = own.0.kept.price.kind;
+          round = omega (arith, own.0.kept.price.round, few);
+          sides = IfSome_then l.node.payload.valuation.sides own.0.kept.under.few (λ count le. omega (arith, le, near.0));
+        },
+        leaves-in_range leaves own.1 near.1,
+      )
 
   -- with its cause, the solution is earned
   solution-earned : (stated : Answer) (kept : Left) → stated_cost stated ≡ s.cost → HasCause h s.budget (leaves_shown s.instance (solution stated kept)) (branches_shown s.instance (solution stated kept)) kept stated →
@@ -150,6 +169,16 @@ module _ (s : Search) (prices : PriceLists) (search : IsSearch s prices) (whole 
     cheaper = subst (λ (n : ℕ). n ≤ s.started) (sym costs) search.cheaper;
   }
 
+  -- without a unit each leaf is valued under all its sides
+  leaves-whole : prices.unit ≡ None → All IsWhole (lines_of s.tree)
+  leaves-whole none =
+      tree-fits IsWhole s.tree whole (λ k d lt. of-any (fork_at (slice_index_or (tree_branches fork_at s.tree) k d).node))
+      (All-weaker (IsLeafOf h s.cost) (λ (l : Leaf (Node Payload)). IsWhole (line.Leaf l.node.payload.valuation)) (λ l leaf. leaf.kept.under.whole none) (tree_leaves fork_at s.tree) search.leaves)
+    where
+      of-any : (o : Option Fork) → IfSome o (λ (f : Fork). IsWhole (line.Branch f.split))
+      of-any None = tt
+      of-any (Some f) = tt
+
   -- all of it
   shown-of : (stated : Answer) (kept : Left) → stated_cost stated ≡ s.cost → (Applies stated Part.Blocked → ⊥) → IsAnswerInRange s.instance stated →
       AreLeavesWorth s.instance s.windows (statement stated) (claim_of stated) →
@@ -160,7 +189,7 @@ module _ (s : Search) (prices : PriceLists) (search : IsSearch s prices) (whole 
     countable = tables-countable s.instance prices.tables search.prices.tables within;
     few = spans-few s.instance s.windows prices search.prices;
     lines = lines;
-    priced = record { unit = refl; without = search.prices.without };
+    priced = record { unit = refl; without = search.prices.without; whole = leaves-whole };
     scale = refl;
     plan = routes;
     cost = costs;

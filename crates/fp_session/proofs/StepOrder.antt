@@ -8,7 +8,7 @@ use Rattle.fp_model.specs.declared.parts.Leg.{Leg}
 use Rattle.fp_model.specs.Costs.{cost}
 use Rattle.fp_relaxmodel.specs.Terminals.{terminals_on}
 use Rattle.fp_tree.specs.declared.sides.Side.{Side}
-use Rattle.fp_tree.specs.Nodes.{IsBestOpen, Node, closed_of, leaf_at, value_of}
+use Rattle.fp_tree.specs.Nodes.{IsBestOpen, Node, closed_of, leaf_at}
 use Rattle.fp_tree.specs.Trees.{Leaf}
 use Rattle.fp_duals_leaves.specs.Prices.{PriceLists}
 use Rattle.fp_session_history.specs.declared.endings.Ending.{Ending}
@@ -27,7 +27,8 @@ use Rattle.fp_session.specs.declared.preparations.Preparation.{Preparation}
 use Rattle.fp_session.specs.declared.searches.Search.{Search}
 use Rattle.fp_session.specs.declared.steps.Step.{Step}
 use Rattle.fp_session.specs.declared.steps.Step.TheVariants as step
-use Rattle.fp_session.specs.Moves.{AtOpenLeaf, IsMove, IsMoveAt, fork_in, points_now}
+use Rattle.fp_session.specs.Moves.{AtOpenLeaf, IsMove, IsMoveAt, LeavesNoLess, fork_in, points_now}
+use Rattle.fp_session.specs.Nodes.{HasNoMore}
 use Rattle.fp_session.specs.Order.{AreWalksHad, HasDearWalks, IsInOrder, IsWorkAt, LeavesAt, WorksAtLeast, with_closed, with_cost, with_divided, with_kept}
 use Rattle.fp_session.specs.Searches.{InHand, in_hand}
 use Rattle.fp_session.specs.StepCauses.{ending_of, with_incumbent, with_round, with_tree}
@@ -45,9 +46,9 @@ dear-walks s sides walks told under fails calls = record {
 }
 
 -- a step that is in order is so where the search hadn't ended
-pub order-any : (s t : InHand) (r : Result Step AllocError) → IfOk r (IsInOrder s t) → IfOk r (λ (did : Step). s.left ≡ None → IsInOrder s t did)
-order-any s t (Ok did) is = λ going. is
-order-any s t (Err e) is = tt
+pub order-any : (unit : Option ℕ) (s t : InHand) (r : Result Step AllocError) → IfOk r (IsInOrder unit s t) → IfOk r (λ (did : Step). s.left ≡ None → IsInOrder unit s t did)
+order-any unit s t (Ok did) is = λ going. is
+order-any unit s t (Err e) is = tt
 
 -- what is so of an open leaf, by another fact of it
 of-open : (nodes : List (Node Payload)) (k : ℕ) (P Q : Leaf (Node Payload) → Type 0) → ((l : Leaf (Node Payload)) → P l → Q l) → AtOpenLeaf nodes k P → IsSomeAnd (leaf_at nodes k) Q
@@ -62,24 +63,24 @@ module _ (s : Search) (prices : PriceLists) (k : ℕ) (kept : Kept) (m : Move) (
   planned-so other same = subst (λ (n : Move). AtOpenLeaf s.tree k (λ l. IsMoveAt s prices k l.sides kept n)) same is.planned
 
   -- the value of the leaf doesn't fall
-  own-no_less : kept.payload.empty ≡ false → IsSomeAnd (leaf_at s.tree k) (λ (l : Leaf (Node Payload)). value_of l.node ≤ kept.value)
-  own-no_less some = of-open s.tree k (λ l. kept.payload.empty ≡ false → value_of l.node ≤ kept.value) (λ l. value_of l.node ≤ kept.value) (λ l less. less some) is.no_less
+  own-no_less : kept.payload.empty ≡ false → IsSomeAnd (leaf_at s.tree k) (λ (l : Leaf (Node Payload)). HasNoMore l kept)
+  own-no_less some = of-open s.tree k (λ l. kept.payload.empty ≡ false → HasNoMore l kept) (λ l. HasNoMore l kept) (λ l less. less some) is.no_less
 
-  works : (t : Search) (did : Step) → IsWorkAt (in_hand s) (in_hand t) k kept did → WorksAtLeast (in_hand s) (in_hand t) did
+  works : (t : Search) (did : Step) → IsWorkAt prices.unit (in_hand s) (in_hand t) k kept did → WorksAtLeast prices.unit (in_hand s) (in_hand t) did
   works t did work = record { leaf = k; least = least; kept = kept; no_less = own-no_less; work = work }
 
   -- a leaf that is closed
-  pub close-order : (t : Search) → t.tree ≡ with_closed k (with_kept k kept s.tree) → IsInOrder (in_hand s) (in_hand t) step.Closed
+  pub close-order : (t : Search) → t.tree ≡ with_closed k (with_kept k kept s.tree) → IsInOrder prices.unit (in_hand s) (in_hand t) step.Closed
   close-order t tree = works t step.Closed tree
 
   -- a cheaper plan that is taken
   pub better-order : (t u : Search) (c : Cheaper) (reserve : Option Cheaper) (preparation : Preparation) → t.tree ≡ with_kept k kept s.tree → u ≡ with_incumbent t c reserve preparation →
-      IsInOrder (in_hand s) (in_hand u) step.Better
+      IsInOrder prices.unit (in_hand s) (in_hand u) step.Better
   better-order t u c reserve preparation tree taken = works u step.Better (ap (λ (x : Search). x.tree) taken ∙ tree)
 
   -- a round that is added
   pub round-order : (t u : Search) (note : Refinement) (r : Refined) → m ≡ move.Refine note r → in_hand t ≡ with_round (in_hand s) note r t.preparation → u ≡ with_tree t u.tree →
-      u.tree ≡ with_kept k kept t.tree → IsInOrder (in_hand s) (in_hand u) step.Round
+      u.tree ≡ with_kept k kept t.tree → IsInOrder prices.unit (in_hand s) (in_hand u) step.Round
   round-order t u note r same with others tree = works u step.Round
       (record {
         tree = tree ∙ ap (λ (h : InHand). with_kept k kept h.tree) with;
@@ -90,26 +91,28 @@ module _ (s : Search) (prices : PriceLists) (k : ℕ) (kept : Kept) (m : Move) (
 
   -- a leaf that is divided
   pub split-order : (t : Search) (d : Division) → m ≡ move.Divide d → t.tree ≡ with_divided k (fork_in d) d.first d.second (with_kept k (with_cost s.cost kept) s.tree) →
-      IsInOrder (in_hand s) (in_hand t) step.Branch
+      IsInOrder prices.unit (in_hand s) (in_hand t) step.Branch
   split-order t d same tree = works t step.Branch
       (record {
         fork = fork_in d;
         first = d.first;
         second = d.second;
+        some = (some-value (leaf_at s.tree k) (λ (l : Leaf (Node Payload)). (closed_of l.node ≡ false) × IsMoveAt s prices k l.sides kept (move.Divide d)) (planned-so (move.Divide d) same)).2.1.0.some;
+        no_less = subst (LeavesNoLess prices.unit kept.value) same is.below;
         tree = tree;
         dear = of-open s.tree k (λ l. IsMoveAt s prices k l.sides kept (move.Divide d)) (λ l. HasDearWalks (in_hand s) l.sides) (λ l all. all.3) (planned-so (move.Divide d) same);
       })
 
   -- a leaf at which the search ends
   pub stop-order : (t : Search) (left : Left) (ending : Ending) → m ≡ move.Stop left → ending ≡ ending_of left → t.tree ≡ with_kept k kept s.tree → t.left ≡ Some left →
-      IsInOrder (in_hand s) (in_hand t) (step.Done ending)
-  stop-order t left ending same how tree what = subst (λ (e : Ending). IsInOrder (in_hand s) (in_hand t) (step.Done e)) (sym how) (by_left left same what)
+      IsInOrder prices.unit (in_hand s) (in_hand t) (step.Done ending)
+  stop-order t left ending same how tree what = subst (λ (e : Ending). IsInOrder prices.unit (in_hand s) (in_hand t) (step.Done e)) (sym how) (by_left left same what)
     where
       at-own : (other : Left) → m ≡ move.Stop other → (l : Leaf (Node Payload)) × (leaf_at s.tree k ≡ Some l) × ((closed_of l.node ≡ false) × IsMoveAt s prices k l.sides kept (move.Stop other))
       at-own other same_other =
           some-value (leaf_at s.tree k) (λ (l : Leaf (Node Payload)). (closed_of l.node ≡ false) × IsMoveAt s prices k l.sides kept (move.Stop other)) (planned-so (move.Stop other) same_other)
 
-      by_left : (other : Left) → m ≡ move.Stop other → t.left ≡ Some other → IsInOrder (in_hand s) (in_hand t) (step.Done (ending_of other))
+      by_left : (other : Left) → m ≡ move.Stop other → t.left ≡ Some other → IsInOrder prices.unit (in_hand s) (in_hand t) (step.Done (ending_of other))
       by_left Nothing same_other what_other = absurd (at-own Nothing same_other).2.1.1
       by_left (Timing leaf relaxed) same_other what_other =
           works t (step.Done (ending_of (Timing leaf relaxed))) (tree, subst (LeavesAt k) (sym what_other) (at-own (Timing leaf relaxed) same_other).2.1.1.0)

@@ -1,5 +1,5 @@
 -- Each step leaves fewer steps.
-use Rattle.std.proofs.Common.{◌≡◌, ◌+◌, ◌*◌, ◌<◌, ◌≤◌, List, [], ◌∷◌, ◌++◌, length, refl, sym, ap, ◌∙◌, arith}
+use Rattle.std.proofs.Common.{◌≡◌, ◌+◌, ◌<◌, ◌≤◌, List, [], ◌∷◌, ◌++◌, length, refl, sym, ap, ◌∙◌, arith}
 use Rattle.std.specs.Prelude.{Err, IfOk, IsSomeAnd, None, Ok, OnOk, Option, Result, Some}
 use Rattle.std.proofs.lemmas.List.{length-append}
 use Rattle.fp_tree.specs.Nodes.{split_count}
@@ -10,7 +10,7 @@ use Rattle.fp_session.specs.declared.steps.Step.{Step}
 use Rattle.fp_session.specs.declared.steps.Step.TheVariants as step
 use Rattle.fp_session.specs.declared.preparations.Preparation.{Preparation}
 use Rattle.fp_session.specs.declared.preparations.Preparation.TheVariants as preparation
-use Rattle.fp_session.specs.Preparations.{IsPrepared, preparations_left, work_left}
+use Rattle.fp_session.specs.Preparations.{preparations_left}
 use Rattle.fp_session.specs.Searches.{InHand}
 use Rattle.fp_session.specs.StepCauses.{ending_of}
 use Rattle.fp_session.specs.Steps.{IsStep, StayFixed, last_step, steps_left}
@@ -70,22 +70,6 @@ pub none-left : (o : Option Left) → Rattle.std.specs.Prelude.IsNone o → o �
 none-left None is = refl
 none-left (Some left) is = absurd (Rattle.std.proofs.lemmas.Bool.false≢true (sym is))
 
--- less is left after what is done before a step
-pub work-prepared : (s t : InHand) → IsPrepared s t → preparations_left t.preparation < preparations_left s.preparation → work_left t < work_left s
-work-prepared s t is fewer =
-    let same : steps_left t ≡ steps_left s =
-    omega (
-      arith,
-      is.cost,
-      is.leaves,
-      is.splits,
-      ap (λ (ns : List Refinement). length ns) is.trace,
-      ap (λ (b : Budget). b.rounds) is.fixed.budget,
-      ap (λ (b : Budget). b.branches) is.fixed.budget,
-      ap last_step is.left,
-    ) in
-    omega (arith, same, fewer)
-
 -- there are fewer than 8 preparations at a time
 few-preparations : (x : Preparation) → preparations_left x < 8
 few-preparations preparation.FirstLook = omega arith
@@ -96,7 +80,3 @@ few-preparations preparation.DeepLook = omega arith
 few-preparations preparation.FoundLook = omega arith
 few-preparations preparation.LaterLook = omega arith
 few-preparations preparation.Nothing = omega arith
-
--- and after a step
-pub work-step : (s t : InHand) → steps_left t < steps_left s → work_left t < work_left s
-work-step s t fewer = omega (arith, fewer, few-preparations t.preparation)

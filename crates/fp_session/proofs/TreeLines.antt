@@ -34,10 +34,10 @@ some-fork (Some f) split some = (f, refl)
 
 -- the line of a node by its split
 pub line-split : (n : Node Payload) (split : Split) → split_of n ≡ Some split → line.Branch split ≡ line_of n
-line-split n split is = ap (λ (o : Option Split). elim o as (λ o. Line) [ None ↦ line.Leaf n.payload.price | Some s ↦ line.Branch s ]) (sym is)
+line-split n split is = ap (λ (o : Option Split). elim o as (λ o. Line) [ None ↦ line.Leaf n.payload.valuation | Some s ↦ line.Branch s ]) (sym is)
 
-pub line-leaf : (n : Node Payload) → split_of n ≡ None → line.Leaf n.payload.price ≡ line_of n
-line-leaf n is = ap (λ (o : Option Split). elim o as (λ o. Line) [ None ↦ line.Leaf n.payload.price | Some s ↦ line.Branch s ]) (sym is)
+pub line-leaf : (n : Node Payload) → split_of n ≡ None → line.Leaf n.payload.valuation ≡ line_of n
+line-leaf n is = ap (λ (o : Option Split). elim o as (λ o. Line) [ None ↦ line.Leaf n.payload.valuation | Some s ↦ line.Branch s ]) (sym is)
 
 -- a leaf that stands at a place of a tree, with the number of leaves before it
 pub record IsLeafHere (nodes : List (Node Payload)) (node leaf : ℕ) : Type 0 where
@@ -67,10 +67,10 @@ leaf-here nodes node leaf tree count here =
 -- the line of the leaf, by the price that was read
 pub leaf-line : (nodes : List (Node Payload)) (node leaf : ℕ) (payload : Payload) (ys : List Line) → IsLeafHere nodes node leaf →
     IsSomeAnd (leaf_at nodes leaf) (λ (l : Leaf (Node Payload)). l.node.payload ≡ payload) → ys ≡ map line_of (take node nodes) →
-    ys ++ (line.Leaf payload.price ∷ []) ≡ map line_of (take (node + 1) nodes)
+    ys ++ (line.Leaf payload.valuation ∷ []) ≡ map line_of (take (node + 1) nodes)
 leaf-line nodes node leaf payload ys is read before =
     let own : is.found.node.payload ≡ payload = subst (λ (o : Option (Leaf (Node Payload))). IsSomeAnd o (λ (l : Leaf (Node Payload)). l.node.payload ≡ payload)) is.at read in
-    map-take_more line_of nodes node is.found.node ys (line.Leaf payload.price) is.place before (ap (λ (x : Payload). line.Leaf x.price) (sym own) ∙ line-leaf is.found.node is.whole)
+    map-take_more line_of nodes node is.found.node ys (line.Leaf payload.valuation) is.place before (ap (λ (x : Payload). line.Leaf x.valuation) (sym own) ∙ line-leaf is.found.node is.whole)
 
 -- the line of a split, and the leaves before the place after it
 pub split-line : (nodes : List (Node Payload)) (node : ℕ) (split : Split) (ys : List Line) → IsSomeAnd (slice_get nodes node) (λ (n : Node Payload). split_of n ≡ Some split) → ys ≡ map line_of (take node nodes) →

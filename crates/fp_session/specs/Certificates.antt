@@ -7,6 +7,8 @@ use Rattle.fp_prices.specs.Tables.{AreCountable}
 use Rattle.fp_prices_spans.specs.Spans.{ClassSpan}
 use Rattle.fp_certificate_lines.specs.declared.certificates.Answer.{Answer}
 use Rattle.fp_certificate_lines.specs.declared.certificates.Answer.TheVariants.{Optimal, Unfinished}
+use Rattle.fp_certificate_lines.specs.declared.certificates.Node.{Node}
+use Rattle.fp_certificate_lines.specs.declared.certificates.Node.TheVariants as node
 use Rattle.fp_certificate_lines.specs.declared.certificates.Spent.TheVariants.{Branches, Rounds, Time}
 use Rattle.fp_certificate_lines.specs.Ranges.{IsInRange}
 use Rattle.fp_certificate_lines.specs.Statements.{Statement}
@@ -56,10 +58,17 @@ pub record IsCertificate (s : Search) (prices : PriceLists) (stated : Answer) (c
   pub few : AreFewLines prices.tables prices.spans
   pub tree : c.tree ≡ lines_of s.tree
 
--- the certificate names this unit; without one there are no spans, so it means what it did before there were any
+-- a leaf is valued under all its sides
+abbrev pub IsWhole : Node → Type 0
+IsWhole (node.Branch split) = Unit {0}
+IsWhole (node.Leaf valuation) = valuation.sides ≡ None
+
+-- the certificate names this unit; without one there are no spans, and each leaf is valued under all its
+-- sides, so it means what it did before there were any
 pub record IsPricedBy (own : Option ℕ) (c : Statement) : Type 0 where
   pub unit : c.unit ≡ own
   pub without : own ≡ None → All (λ (spans : List ClassSpan). spans ≡ []) c.spans
+  pub whole : own ≡ None → All IsWhole c.tree
 
 -- all that is shown of a search that has ended: its certificate is accepted, and in range and
 -- countable, so that it can be written and read again; its price lines are few; it tells the incumbent

@@ -1,9 +1,9 @@
 -- What a step may do, before it does it.
-use Rattle.std.specs.Prelude.{ℕ, ◌+◌, ◌<◌, ◌≤◌, ◌≡◌, ◌⊎◌, ⊤, Bool, List, [], ◌∷◌, ◌++◌, false, None, IsSomeAnd}
+use Rattle.std.specs.Prelude.{ℕ, ◌+◌, ◌<◌, ◌≡◌, ◌⊎◌, ⊤, Bool, List, [], ◌∷◌, ◌++◌, false, None, Option, IsSomeAnd}
 use Rattle.fp_model.specs.declared.parts.Leg.{Leg}
 use Rattle.fp_flatnet.specs.Tables.{windows_in}
 use Rattle.fp_tree.specs.declared.sides.Side.{Side}
-use Rattle.fp_tree.specs.Nodes.{Node, closed_of, leaf_at, split_count, value_of}
+use Rattle.fp_tree.specs.Nodes.{Node, closed_of, leaf_at, split_count}
 use Rattle.fp_tree.specs.Sides.{Fork, HasTail, first, second}
 use Rattle.fp_tree.specs.Trees.{Leaf}
 use Rattle.fp_allowed.specs.Allowed.{tails_of}
@@ -23,7 +23,7 @@ use Rattle.fp_session.specs.declared.moves.Move.TheVariants as move
 use Rattle.fp_session.specs.declared.moves.Refined.{Refined}
 use Rattle.fp_session.specs.declared.payloads.Payload.{Payload}
 use Rattle.fp_session.specs.declared.searches.Search.{Search}
-use Rattle.fp_session.specs.Nodes.{IsKept, IsSettled}
+use Rattle.fp_session.specs.Nodes.{HasNoMore, IsKept, IsRaisedTo, IsSettled}
 use Rattle.fp_session.specs.Outcomes.{IsAtLeastStarts}
 use Rattle.fp_session.specs.Refining.{IsRefined}
 use Rattle.fp_session.specs.Order.{AreWalksHad, HasDearWalks}
@@ -57,6 +57,10 @@ pub record IsDivision (h : History) (sides : List Side) (d : Division) : Type 0 
   pub tail : HasTail (tails_of h.problem) (fork_in d)
   pub first : IsKept h (sides ++ (first (fork_in d) ∷ [])) d.first.payload d.first.value
   pub second : IsKept h (sides ++ (second (fork_in d) ∷ [])) d.second.payload d.second.value
+
+-- where spans are sought, each of the two leaves below is empty, or worth no less than so much
+abbrev pub AreNoLess : Option ℕ → (least : ℕ) → Division → Type 0
+AreNoLess unit least d = IsRaisedTo unit least d.first × IsRaisedTo unit least d.second
 
 -- nothing is left of rounds, and a relaxed plan under the sides calls for one
 pub record IsTimingLeft (s : Search) (sides : List Side) (relaxed : List (List Leg)) : Type 0 where
@@ -111,6 +115,12 @@ IsMoveAt s prices leaf sides kept (move.Divide division) =
     IsUnsettled (history s prices) s.cost sides kept × (split_count s.tree < s.budget.branches) × IsDivision (history s prices) sides division × HasDearWalks (in_hand s) sides
 IsMoveAt s prices leaf sides kept (move.Stop left) = IsUnsettled (history s prices) s.cost sides kept × IsStopAt s leaf sides left × (s.reserve ≡ None)
 
+-- where spans are sought, a step leaves no leaf worth less than so much, which the leaf is worth at which
+-- it works
+abbrev pub LeavesNoLess : Option ℕ → (least : ℕ) → Move → Type 0
+LeavesNoLess unit least (move.Divide division) = AreNoLess unit least division
+LeavesNoLess unit least m = ⊤
+
 -- a step ends a search for want of time only where the time is over
 abbrev pub IsTimelyMove : (over : Bool) → Move → Type 0
 IsTimelyMove over move.Close = ⊤
@@ -132,5 +142,6 @@ AtOpenLeaf nodes leaf P = IsSomeAnd (leaf_at nodes leaf) (λ (l : Leaf (Node Pay
 -- it is empty
 pub record IsMove (s : Search) (prices : PriceLists) (leaf : ℕ) (now : Kept) (m : Move) : Type 0 where
   pub kept : AtOpenLeaf s.tree leaf (λ l. IsKept (history s prices) l.sides now.payload now.value)
-  pub no_less : AtOpenLeaf s.tree leaf (λ l. now.payload.empty ≡ false → value_of l.node ≤ now.value)
+  pub no_less : AtOpenLeaf s.tree leaf (λ l. now.payload.empty ≡ false → HasNoMore l now)
   pub planned : AtOpenLeaf s.tree leaf (λ l. IsMoveAt s prices leaf l.sides now m)
+  pub below : LeavesNoLess prices.unit now.value m

@@ -17,6 +17,7 @@ use Rattle.fp_session.specs.declared.kept.Kept.{Kept}
 use Rattle.fp_session.specs.declared.payloads.Payload.{Payload}
 use Rattle.fp_session.specs.declared.steps.Step.{Step}
 use Rattle.fp_session.specs.declared.steps.Step.TheVariants as step
+use Rattle.fp_session.specs.Nodes.{HasNoMore, IsNoLess, IsRaisedTo}
 use Rattle.fp_session.specs.Searches.{InHand}
 
 -- the points of each terminal as of the last round
@@ -60,13 +61,16 @@ pub record HasRoundAt (s t : InHand) (leaf : ℕ) (kept : Kept) : Type 0 where
   pub trace : t.trace ≡ s.trace ++ (note ∷ [])
   pub under : AtLeafSides s.tree leaf (λ sides. AreWalksHad s sides note.relaxed)
 
--- the leaf was divided, of whose walks no cheaper plan can come: such walks would have called for a round
-pub record HasSplitAt (s t : InHand) (leaf : ℕ) (kept : Kept) : Type 0 where
+-- the leaf was divided, of whose walks no cheaper plan can come: such walks would have called for a round; where spans are sought, which
+-- a unit tells, each of the two leaves below is empty or worth no less than it was
+pub record HasSplitAt (unit : Option ℕ) (s t : InHand) (leaf : ℕ) (kept : Kept) : Type 0 where
   pub fork : Fork
   pub first : Kept
   pub second : Kept
+  pub some : kept.payload.empty ≡ false
   pub tree : t.tree ≡ with_divided leaf fork first second (with_kept leaf (with_cost s.cost kept) s.tree)
   pub dear : AtLeafSides s.tree leaf (HasDearWalks s)
+  pub no_less : IsRaisedTo unit kept.value first × IsRaisedTo unit kept.value second
 
 -- what was left was left at the leaf
 abbrev pub LeavesAt : ℕ → Option Left → Type 0
@@ -77,21 +81,21 @@ LeavesAt leaf (Some (Several at shipment)) = at ≡ leaf
 LeavesAt leaf (Some (Unsettled at)) = at ≡ leaf
 
 -- what a step makes of the leaf at which it works, of which this is kept
-abbrev pub IsWorkAt : InHand → InHand → ℕ → Kept → Step → Type 0
-IsWorkAt s t leaf kept step.Closed = t.tree ≡ with_closed leaf (with_kept leaf kept s.tree)
-IsWorkAt s t leaf kept step.Better = t.tree ≡ with_kept leaf kept s.tree
-IsWorkAt s t leaf kept step.Round = HasRoundAt s t leaf kept
-IsWorkAt s t leaf kept step.Branch = HasSplitAt s t leaf kept
-IsWorkAt s t leaf kept (step.Done ending) = (t.tree ≡ with_kept leaf kept s.tree) × LeavesAt leaf t.left
+abbrev pub IsWorkAt : Option ℕ → InHand → InHand → ℕ → Kept → Step → Type 0
+IsWorkAt unit s t leaf kept step.Closed = t.tree ≡ with_closed leaf (with_kept leaf kept s.tree)
+IsWorkAt unit s t leaf kept step.Better = t.tree ≡ with_kept leaf kept s.tree
+IsWorkAt unit s t leaf kept step.Round = HasRoundAt s t leaf kept
+IsWorkAt unit s t leaf kept step.Branch = HasSplitAt unit s t leaf kept
+IsWorkAt unit s t leaf kept (step.Done ending) = (t.tree ≡ with_kept leaf kept s.tree) × LeavesAt leaf t.left
 
 -- a step works at the leaf of least value among those that aren't closed, the first at a tie; all other leaves stay as they are, and its
 -- own value doesn't fall, unless it is found empty
-pub record WorksAtLeast (s t : InHand) (did : Step) : Type 0 where
+pub record WorksAtLeast (unit : Option ℕ) (s t : InHand) (did : Step) : Type 0 where
   pub leaf : ℕ
   pub least : IsBestOpen s.tree leaf
   pub kept : Kept
-  pub no_less : kept.payload.empty ≡ false → IsSomeAnd (leaf_at s.tree leaf) (λ (l : Leaf (Node Payload)). value_of l.node ≤ kept.value)
-  pub work : IsWorkAt s t leaf kept did
+  pub no_less : kept.payload.empty ≡ false → IsSomeAnd (leaf_at s.tree leaf) (λ (l : Leaf (Node Payload)). HasNoMore l kept)
+  pub work : IsWorkAt unit s t leaf kept did
 
 -- all leaves are closed, and the tree stays
 pub record HasNoneOpen (s t : InHand) : Type 0 where
@@ -99,10 +103,18 @@ pub record HasNoneOpen (s t : InHand) : Type 0 where
   pub closed : All (λ (l : Leaf (Node Payload)). closed_of l.node ≡ true) (tree_leaves fork_of s.tree)
 
 -- a step does so, unless it ends the search since no leaf is open
-abbrev pub IsInOrder : InHand → InHand → Step → Type 0
-IsInOrder s t step.Closed = WorksAtLeast s t step.Closed
-IsInOrder s t step.Better = WorksAtLeast s t step.Better
-IsInOrder s t step.Round = WorksAtLeast s t step.Round
-IsInOrder s t step.Branch = WorksAtLeast s t step.Branch
-IsInOrder s t (step.Done Optimal) = HasNoneOpen s t
-IsInOrder s t (step.Done (Unfinished spent)) = WorksAtLeast s t (step.Done (Unfinished spent))
+abbrev pub IsInOrder : Option ℕ → InHand → InHand → Step → Type 0
+IsInOrder unit s t step.Closed = WorksAtLeast unit s t step.Closed
+IsInOrder unit s t step.Better = WorksAtLeast unit s t step.Better
+IsInOrder unit s t step.Round = WorksAtLeast unit s t step.Round
+IsInOrder unit s t step.Branch = WorksAtLeast unit s t step.Branch
+IsInOrder unit s t (step.Done Optimal) = HasNoneOpen s t
+IsInOrder unit s t (step.Done (Unfinished spent)) = WorksAtLeast unit s t (step.Done (Unfinished spent))
+
+-- each leaf of a tree is empty, or worth no less than so much
+abbrev pub AreWorthLeast : ℕ → List (Node Payload) → Type 0
+AreWorthLeast least nodes = All (λ (l : Leaf (Node Payload)). IsNoLess least (record { payload = l.node.payload; value = value_of l.node })) (tree_leaves fork_of nodes)
+
+-- what the leaves of a tree are worth that aren't empty, the least of it, doesn't fall
+abbrev pub KeepLeast : (old new : List (Node Payload)) → Type 0
+KeepLeast old new = (least : ℕ) → AreWorthLeast least old → AreWorthLeast least new

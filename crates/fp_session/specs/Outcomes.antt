@@ -1,5 +1,5 @@
 -- What comes of improving a leaf that is open.
-use Rattle.std.specs.Prelude.{ℕ, ◌*◌, ◌<◌, ◌≤◌, ◌≡◌, List, [], Bool, true, false, None, Option, ◌⊎◌}
+use Rattle.std.specs.Prelude.{ℕ, ◌*◌, ◌<◌, ◌≤◌, ◌≡◌, List, [], Bool, true, false, None, Option, Some, ◌⊎◌}
 use Rattle.fp_base_lists.specs.Numbered.{AllZipFrom}
 use Rattle.fp_model.specs.declared.parts.Leg.{Leg}
 use Rattle.fp_model.specs.Costs.{cost}
@@ -36,11 +36,32 @@ pub record IsFound (h : History) (sides : List Side) (now : Kept) (chosen : List
 
 -- what is kept of a leaf that is empty as of a round
 abbrev pub empty_kept : ℕ → Kept
-empty_kept round = record { payload = record { price = record { kind = Linear; round = round; forced = false }; empty = true; incumbent = 0; improved = None }; value = 0 }
+empty_kept round = record {
+  payload = record { valuation = record { price = record { kind = Linear; round = round; forced = false }; sides = None }; empty = true; incumbent = 0; improved = None };
+  value = 0;
+}
 
 -- what is kept of a leaf that has a value by a price
 abbrev pub priced_kept : LeafPrice → ℕ → Kept
-priced_kept price value = record { payload = record { price = price; empty = false; incumbent = 0; improved = None }; value = value }
+priced_kept price value = record { payload = record { valuation = record { price = price; sides = None }; empty = false; incumbent = 0; improved = None }; value = value }
+
+-- under how many sides a leaf is valued that takes over how the leaf above is valued, which has so many
+abbrev pub count_taken : Option ℕ → (sides : ℕ) → ℕ
+count_taken None sides = sides
+count_taken (Some count) sides = count
+
+-- what is kept of such a leaf
+abbrev pub taken_kept : Kept → (sides : ℕ) → Kept
+taken_kept above sides = record {
+  payload =
+      record {
+        valuation = record { price = above.payload.valuation.price; sides = Some (count_taken above.payload.valuation.sides sides) };
+        empty = false;
+        incumbent = 0;
+        improved = None;
+      };
+  value = above.value;
+}
 
 -- what was kept of a leaf, with a note as of which round its price was improved, if it was
 abbrev pub noted_kept : Option ℕ → Kept → Kept

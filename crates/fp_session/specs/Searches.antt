@@ -1,10 +1,10 @@
 -- What a search knows of what it has in hand.
-use Rattle.std.specs.Prelude.{ℕ, ◌<◌, ◌≤◌, ◌≡◌, ⊤, List, true, All, IfSome, IsSomeAnd, None, Option, Some}
+use Rattle.std.specs.Prelude.{ℕ, ◌≤◌, ◌≡◌, ⊤, List, true, All, IfSome, IsSomeAnd, None, Option, Some}
 use Rattle.fp_model.specs.declared.parts.Leg.{Leg}
 use Rattle.fp_model.specs.Problem.{Problem}
 use Rattle.fp_timenodes.specs.Points.{TimePoints}
 use Rattle.fp_flatnet.specs.Belonging.{BelongsTo}
-use Rattle.fp_flatnet.specs.Tables.{WindowTable, windows_in}
+use Rattle.fp_flatnet.specs.Tables.{WindowTable}
 use Rattle.fp_longestarcs.specs.Networks.{TimedNetwork}
 use Rattle.fp_longestarcs.specs.Whole.{IsNetworkOf}
 use Rattle.fp_tree.specs.declared.sides.Side.{Side}
@@ -59,7 +59,7 @@ setting_of s = record { problem = s.instance; windows = s.windows; network = s.n
 -- the leaf with a number is left open: it isn't empty and is worth less than the cost, and P of its
 -- sides
 pub record IsLeftOpen (h : History) (cost : ℕ) (nodes : List (Node Payload)) (leaf : ℕ) (P : List Side → Type 0) : Type 0 where
-  pub open_at : IsSomeAnd (leaf_at nodes leaf) (λ (l : Leaf (Node Payload)). IsOpenBelow h cost l.sides l.node.payload.price)
+  pub open_at : IsSomeAnd (leaf_at nodes leaf) (λ (l : Leaf (Node Payload)). IsOpenBelow h cost l.sides l.node.payload.valuation)
   pub holds : IsSomeAnd (leaf_at nodes leaf) (λ (l : Leaf (Node Payload)). P l.sides)
 
 -- what a search left is so, and why it left it

@@ -10,9 +10,9 @@ use Rattle.fp_session_history.specs.declared.notes.SplitNote.{SplitNote}
 use Rattle.fp_session.specs.declared.payloads.Payload.{Payload}
 use Rattle.fp_session.specs.Nodes.{split_note}
 
--- the line of a node: its split, or a leaf's price
+-- the line of a node: its split, or how a leaf is valued
 abbrev pub line_of : Node Payload → Line
-line_of n = elim (split_of n) as (λ o. Line) [ None ↦ line.Leaf n.payload.price | Some split ↦ line.Branch split ]
+line_of n = elim (split_of n) as (λ o. Line) [ None ↦ line.Leaf n.payload.valuation | Some split ↦ line.Branch split ]
 
 -- the lines of nodes
 abbrev pub lines_of : List (Node Payload) → List Line

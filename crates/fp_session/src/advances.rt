@@ -3,7 +3,7 @@ ghost use Rattle.std.specs.Prelude.{◌≡◌, ◌<◌, ⊤, false, true, None, 
 ghost use Rattle.fp_ends.specs.Deadlines.{IsLater, has_shown};
 ghost use Rattle.fp_tree.specs.Nodes.{IsBestOpen, closed_of, leaf_at, leaf_count};
 ghost use Rattle.fp_session.specs.Moves.{IsMove, IsTimelyMove};
-ghost use Rattle.fp_session.specs.Order.{IsInOrder};
+ghost use Rattle.fp_session.specs.Order.{IsInOrder, KeepLeast};
 ghost use Rattle.fp_session.specs.declared.steps.Step.TheVariants.{Done};
 ghost use Rattle.fp_duals_leaves.specs.Prices.{HaveGrown};
 ghost use Rattle.fp_session.specs.Searches.{IsSearch, in_hand};
@@ -86,7 +86,7 @@ fn attempt<C: Clock>(
     ensures search { OnOk result (IsSearch search.new prices.new) }
     ensures fixed { StayFixed (in_hand search.old) (in_hand search.new) }
     ensures step { IfOk result (IsStep (in_hand search.old) (in_hand search.new)) }
-    ensures order { IfOk result (IsInOrder (in_hand search.old) (in_hand search.new)) }
+    ensures order { IfOk result (IsInOrder prices.old.unit (in_hand search.old) (in_hand search.new)) }
     ensures timed { IfSome search.new.left (IsTimely (has_shown seconds (C.moment clock.new) (C.faults clock.old) (C.faults clock.new))) }
     ensures later { IsLater (C.moment clock.old) (C.moment clock.new) (C.faults clock.old) (C.faults clock.new) }
     ensures err { OnErr result (in_hand search.new ≡ in_hand search.old) }
@@ -108,7 +108,7 @@ fn advance_open<C: Clock>(
     ensures search { IsSearch search.new prices.new }
     ensures fixed { StayFixed (in_hand search.old) (in_hand search.new) }
     ensures step { IfOk result (IsStep (in_hand search.old) (in_hand search.new)) }
-    ensures order { IfOk result (IsInOrder (in_hand search.old) (in_hand search.new)) }
+    ensures order { IfOk result (IsInOrder prices.old.unit (in_hand search.old) (in_hand search.new)) }
     ensures timed { IfSome search.new.left (IsTimely (has_shown seconds (C.moment clock.new) (C.faults clock.old) (C.faults clock.new))) }
     ensures later { IsLater (C.moment clock.old) (C.moment clock.new) (C.faults clock.old) (C.faults clock.new) }
     ensures hand { OnErr result (in_hand search.new ≡ in_hand search.old) }
@@ -149,7 +149,8 @@ pub(crate) fn advance<C: Clock>(
     ensures search { IsSearch search.new prices.new }
     ensures fixed { StayFixed (in_hand search.old) (in_hand search.new) }
     ensures step { IfOk result (IsStep (in_hand search.old) (in_hand search.new)) }
-    ensures order { IfOk result (λ step. search.old.left ≡ None → IsInOrder (in_hand search.old) (in_hand search.new) step) }
+    ensures order { IfOk result (λ step. search.old.left ≡ None → IsInOrder prices.old.unit (in_hand search.old) (in_hand search.new) step) }
+    ensures least { IfOk result (λ step. search.old.left ≡ None → IsSomeAnd prices.old.unit (λ unit. ⊤) → KeepLeast search.old.tree search.new.tree) }
     ensures timed { search.old.left ≡ None → IfSome search.new.left (IsTimely (has_shown seconds (C.moment clock.new) (C.faults clock.old) (C.faults clock.new))) }
     ensures later { IsLater (C.moment clock.old) (C.moment clock.new) (C.faults clock.old) (C.faults clock.new) }
     ensures answer { IfSome search.old.left (λ left. result ≡ Ok (Done (ending_in left))) }

@@ -217,7 +217,7 @@ impl Search {
         ensures search { OnOk result (IsSearch self.new prices.now) }
         ensures fixed { StayFixed (in_hand self.old) (in_hand self.new) }
         ensures step { IfOk result (IsStep (in_hand self.old) (in_hand self.new)) }
-        ensures order { IfOk result (IsInOrder (in_hand self.old) (in_hand self.new)) }
+        ensures order { IfOk result (IsInOrder prices.now.unit (in_hand self.old) (in_hand self.new)) }
         ensures left { OnOk result (IfSome self.new.left (λ left. planned.planned ≡ Stop left)) }
         ensures err { OnErr result (in_hand self.new ≡ in_hand self.old) }
     {

@@ -1,9 +1,10 @@
 //! A leaf is divided where a shipment has several ways to go.
-ghost use Rattle.std.specs.Prelude.{None, ◌≡◌, ◌≤◌, IfOk, MatchOption, length};
-ghost use Rattle.fp_prices.specs.Tables.{HasKind};
+ghost use Rattle.std.specs.Prelude.{None, ◌≡◌, ◌≤◌, IfOk, MatchOption, false, length};
+ghost use Rattle.fp_tree.specs.declared.layout.TheConstants.{MOST_SPLITS};
 ghost use Rattle.fp_session.specs.Choices.{AreKeptBelow, IsChosen, fork_by};
 ghost use Rattle.fp_session.specs.Dividing.{IsSeveral, NoneSeveral, several_terminal};
-ghost use Rattle.fp_session.specs.Moves.{IsDivision};
+ghost use Rattle.fp_session.specs.Moves.{AreNoLess, IsDivision};
+ghost use Rattle.fp_session.specs.Nodes.{IsKept, IsRaisedTo};
 ghost use Rattle.fp_duals_leaves.specs.Prices.{HaveGrown};
 ghost use Rattle.fp_session.specs.Searches.{IsSearch, history, setting_of};
 
@@ -71,10 +72,13 @@ fn leaves_below<D: Deadline>(
     requires search { IsSearch search.now prices.old }
     requires going { search.now.left ≡ None }
     requires chosen { IsChosen (history search.now prices.old) leaf.now chosen }
-    requires kind { HasKind prices.old.tables above.payload.price.kind }
-    requires round { above.payload.price.round ≤ length search.now.trace.items }
+    requires deep { length leaf.now.sides ≤ MOST_SPLITS }
+    requires above { IsKept (history search.now prices.old) leaf.now.sides above.payload above.value }
+    requires some { above.payload.empty ≡ false }
     ensures grown { HaveGrown search.now.instance search.now.windows prices.old prices.new }
     ensures kept { IfOk result (AreKeptBelow (history search.now prices.new) leaf.now.sides (fork_by chosen.candidate)) }
+    ensures no_less { IfOk result (λ below. IsRaisedTo prices.old.unit above.value below.first
+        × IsRaisedTo prices.old.unit above.value below.second) }
 {
     let one = chosen.candidate.split.first();
     let other = chosen.candidate.split.second(chosen.candidate.terminal);
@@ -105,10 +109,12 @@ pub(crate) fn division<D: Deadline>(
     requires search { IsSearch search.now prices.old }
     requires going { search.now.left ≡ None }
     requires chosen { IsChosen (history search.now prices.old) leaf.now chosen }
-    requires kind { HasKind prices.old.tables above.payload.price.kind }
-    requires round { above.payload.price.round ≤ length search.now.trace.items }
+    requires deep { length leaf.now.sides ≤ MOST_SPLITS }
+    requires above { IsKept (history search.now prices.old) leaf.now.sides above.payload above.value }
+    requires some { above.payload.empty ≡ false }
     ensures grown { HaveGrown search.now.instance search.now.windows prices.old prices.new }
     ensures division { IfOk result (IsDivision (history search.now prices.new) leaf.now.sides) }
+    ensures no_less { IfOk result (AreNoLess prices.old.unit above.value) }
 {
     let below = leaves_below(resources, search, leaf, chosen, above, prices)?;
     Ok(Division {

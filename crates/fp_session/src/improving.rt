@@ -11,6 +11,7 @@ use crate::kept::Kept;
 use crate::outcomes::Outcome;
 use crate::payloads::Payload;
 use crate::searches::Search;
+use fp_certificate_lines::Valuation;
 use fp_duals::Improved;
 use fp_duals_leaves::{PriceEffort, Prices, improve};
 use fp_duals_nets::LentNets;
@@ -23,10 +24,13 @@ pub(crate) fn emptied(round: u32) -> Kept
 {
     Kept {
         payload: Payload {
-            price: LeafPrice {
-                kind: Kind::Linear,
-                round,
-                forced: false,
+            valuation: Valuation {
+                price: LeafPrice {
+                    kind: Kind::Linear,
+                    round,
+                    forced: false,
+                },
+                sides: None,
             },
             empty: true,
             incumbent: 0,
@@ -42,7 +46,7 @@ pub(crate) fn priced(price: LeafPrice, value: u128) -> Kept
 {
     Kept {
         payload: Payload {
-            price,
+            valuation: Valuation { price, sides: None },
             empty: false,
             incumbent: 0,
             improved: None,
@@ -141,7 +145,7 @@ pub(crate) fn chosen<D: Deadline>(
         (IsOutcome (history search.now prices.new) leaf.now.sides old) }
 {
     let round = search.trace.len() as u32;
-    let inherited = old.payload.price;
+    let inherited = old.payload.valuation.price;
     let is_improved = old.payload.improved == Some(round);
     let effort = &effort_at(leaf, is_improved, resources.is_over());
     match improved(

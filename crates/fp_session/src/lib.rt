@@ -15,6 +15,7 @@ mod choices;
 mod dividing;
 mod improving;
 mod kept;
+mod leaves;
 mod moves;
 mod outcomes;
 mod payloads;

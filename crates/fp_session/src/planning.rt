@@ -1,18 +1,18 @@
 //! What a step is going to do at an open leaf.
-ghost use Rattle.std.specs.Prelude.{◌≡◌, ◌<◌, ◌≤◌, None, IfOk, IfSome, IsTrue, ◌↔◌, IsSomeAnd, false, length};
+ghost use Rattle.std.specs.Prelude.{ℕ, ◌≡◌, ◌<◌, ◌≤◌, Option, None, IfOk, IfSome, IsTrue, ◌↔◌, IsSomeAnd, false, length};
 ghost use Rattle.fp_base_lists.specs.Distinct.{AreDistinct};
 ghost use Rattle.fp_model.specs.Costs.{cost as cost_of};
 ghost use Rattle.fp_model.specs.Routes.{ArcsExist};
 ghost use Rattle.fp_flatnet.specs.Tables.{windows_in};
 ghost use Rattle.fp_relaxmodel.specs.Relaxed.{HasRoutes, IsRelaxedPlan};
 ghost use Rattle.fp_relaxmodel.specs.Terminals.{terminals_on};
+ghost use Rattle.fp_tree.specs.declared.layout.TheConstants.{MOST_SPLITS};
 ghost use Rattle.fp_tree.specs.Nodes.{closed_of, leaf_at, leaf_count, split_count};
-ghost use Rattle.fp_prices.specs.Tables.{HasKind};
 ghost use Rattle.fp_session_history.specs.Notes.{worth_of};
 ghost use Rattle.fp_session_history.specs.Solutions.{AreWalksUnder};
 ghost use Rattle.fp_session.specs.Dividing.{IsSeveral};
-ghost use Rattle.fp_session.specs.Moves.{AtOpenLeaf, IsDivision, IsLate, IsMove, IsOpenMove, IsTimelyMove, points_now};
-ghost use Rattle.fp_session.specs.Nodes.{IsKeptAs};
+ghost use Rattle.fp_session.specs.Moves.{AreNoLess, AtOpenLeaf, IsDivision, IsLate, IsMove, IsOpenMove, IsTimelyMove, LeavesNoLess, points_now};
+ghost use Rattle.fp_session.specs.Nodes.{IsKept, IsKeptAs};
 ghost use Rattle.fp_session.specs.Outcomes.{IsFound};
 ghost use Rattle.fp_duals_leaves.specs.Prices.{HaveGrown};
 ghost use Rattle.fp_session.specs.Searches.{IsSearch, history, setting_of};
@@ -22,6 +22,7 @@ use crate::choices::choice;
 use crate::dividing::{Several, division, first_several};
 use crate::improving::chosen;
 use crate::kept::Kept;
+use crate::leaves::{kept_at, sides_at};
 use crate::moves::{Division, Move};
 use crate::outcomes::Outcome;
 use crate::searches::Search;
@@ -68,7 +69,8 @@ fn timed_move<D: Deadline>(
     requires under { AreWalksUnder search.now.instance search.now.windows (points_now search.now)
         leaf.now.sides relaxed }
     requires cheaper { cost_of search.now.instance relaxed < search.now.cost }
-    ensures { IfOk result (IsOpenMove search.now prices.now number leaf.now.sides) }
+    ensures open_move { IfOk result (IsOpenMove search.now prices.now number leaf.now.sides) }
+    ensures no_less { (unit : Option ℕ) → (least : ℕ) → IfOk result (LeavesNoLess unit least) }
 {
     match timed(resources, search, prices, relaxed)? {
         Timing::Better { cheaper } => Ok(Move::Better { cheaper }),
@@ -106,12 +108,14 @@ fn several_move<D: Deadline>(
     requires going { search.now.left ≡ None }
     requires setting { leaf.now.setting ≡ setting_of search.now }
     requires several { IsSeveral leaf.now several }
-    requires kind { HasKind prices.old.tables kept.payload.price.kind }
-    requires round { kept.payload.price.round ≤ length search.now.trace.items }
+    requires deep { length leaf.now.sides ≤ MOST_SPLITS }
+    requires kept { IsKept (history search.now prices.old) leaf.now.sides kept.payload kept.value }
+    requires some { kept.payload.empty ≡ false }
     ensures grown { HaveGrown search.now.instance search.now.windows prices.old prices.new }
     ensures division { IfOk result (IsDivision (history search.now prices.new) leaf.now.sides) }
+    ensures no_less { IfOk result (AreNoLess prices.old.unit kept.value) }
 {
-    let price = kept.payload.price;
+    let price = kept.payload.valuation.price;
     let chosen = choice(resources, search, leaf, several, price, walks, prices)?;
     division(resources, search, leaf, chosen, kept, prices)
 }
@@ -142,8 +146,10 @@ fn move_by<D: Deadline>(
     requires setting { leaf.now.setting ≡ setting_of search.now }
     requires found { IsFound (history search.now prices.old) leaf.now.sides found.kept found.relaxed }
     requires below { worth_of (history search.now prices.old) found.kept.value < search.now.cost }
+    requires deep { length leaf.now.sides ≤ MOST_SPLITS }
     ensures grown { HaveGrown search.now.instance search.now.windows prices.old prices.new }
     ensures planned { IfOk result (IsOpenMove search.now prices.new number leaf.now.sides) }
+    ensures no_less { IfOk result (LeavesNoLess prices.old.unit found.kept.value) }
 {
     let Found {
         kept,
@@ -151,7 +157,7 @@ fn move_by<D: Deadline>(
         by_tables,
     } = found;
     let least = &relaxed.walks;
-    let priced = kept.payload.price.round;
+    let priced = kept.payload.valuation.price.round;
     if let Some(cheaper) = cheaper_walks(resources, search, leaf, nets, least, priced, prices)? {
         match timed_move(resources, search, leaf, number, cheaper, prices)? {
             // No round is left, but a branch is.
@@ -203,7 +209,8 @@ fn found_at(
     ensures found { IfOk result (λ found.
         IsFound (history search.now prices.now) leaf.now.sides found.kept found.relaxed) }
 {
-    match walks_by_price(alloc, search, leaf, nets, kept.payload.price, prices)? {
+    let price = kept.payload.valuation.price;
+    match walks_by_price(alloc, search, leaf, nets, price, prices)? {
         Some(by_spans) => Ok(Found {
             kept,
             relaxed: RelaxedPlan { walks: by_spans },
@@ -214,17 +221,6 @@ fn found_at(
             relaxed: RelaxedPlan { walks },
             by_tables: None,
         }),
-    }
-}
-
-// What is kept of a leaf.
-pub(crate) fn kept_at(search: &Search, number: u32) -> Kept
-    requires { number < leaf_count search.now.tree }
-    ensures { IsSomeAnd (leaf_at search.now.tree number) (λ l. IsKeptAs l result) }
-{
-    Kept {
-        payload: *search.tree.payload(number),
-        value: search.tree.value(number),
     }
 }
 
@@ -268,7 +264,7 @@ fn open_move<D: Deadline>(
 {
     let network = search.network.copy(resources.alloc)?;
     let round = RoundNetwork::over(resources.alloc, &search.instance, network)?;
-    let sides = search.tree.leaf_sides(resources.alloc, number)?;
+    let sides = sides_at(resources.alloc, search, number)?;
     let leaf = Leaf::of(resources.alloc, &round, &search.windows, &sides)?;
     let mut nets = LentNets::new();
     match chosen(resources, search, &leaf, &mut nets, old, prices)? {
@@ -343,7 +339,7 @@ fn known_move<D: Deadline>(
             planned: Move::Close,
         });
     }
-    if (old.payload.price.round as usize) < search.trace.len() {
+    if (old.payload.valuation.price.round as usize) < search.trace.len() {
         return None;
     }
     Some(Planned {

@@ -10,8 +10,8 @@ ghost use Rattle.fp_session_history.specs.Solutions.{AreWalksUnder};
 use crate::NoMemory;
 use crate::improving::{improved, noted};
 use crate::kept::Kept;
+use crate::leaves::kept_at;
 use crate::outcomes::Outcome;
-use crate::planning::kept_at;
 use crate::preparations::{NOTHING, Prepared};
 use crate::searches::Search;
 use crate::timing::{Timing, timed};
@@ -191,7 +191,7 @@ pub(crate) fn priced_by_spans<D: Deadline>(
         return Ok(NOTHING);
     }
     let pricing = Pricing {
-        inherited: search.tree.payload(number).price,
+        inherited: search.tree.payload(number).valuation.price,
         effort: spans_alone(),
         times_walks: false,
         improved: Some(0),

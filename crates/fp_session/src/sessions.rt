@@ -12,7 +12,7 @@ ghost use Rattle.fp_session_history.specs.Solutions.{IsTimely};
 ghost use Rattle.fp_session.specs.Certificates.{IsPricedBy};
 ghost use Rattle.fp_certificate_rules.specs.Units.{IsGreatestUnit};
 ghost use Rattle.fp_duals_leaves.specs.Prices.{ArePrices};
-ghost use Rattle.fp_session.specs.Order.{IsInOrder};
+ghost use Rattle.fp_session.specs.Order.{IsInOrder, KeepLeast};
 ghost use Rattle.fp_session.specs.Preparations.{work_left};
 ghost use Rattle.fp_session.specs.Progress.{IsProgress};
 ghost use Rattle.fp_session.specs.Sessions.{IsSound, cheapest_of, hand_of};
@@ -130,14 +130,17 @@ impl Session {
     /// preorder at a tie. Its value doesn't fall, unless it is found empty, and the other leaves stay
     /// as they are. A round is called for by walks under its sides. It is split only where walks under
     /// its sides make no cheaper plan: a terminal stands twice on one of them, or they cost at least
-    /// what the incumbent does. The two leaves below may be worth less than it was: a class that is
-    /// forced is free for all, and points that were added tell classes apart that a table prices.
+    /// what the incumbent does. Where spans are sought, each of the two leaves below is empty or worth no
+    /// less than it was, so the least that leaves are worth never falls. Otherwise they may be worth less:
+    /// a class that is forced is free for all, and points that were added tell classes apart that a table
+    /// prices.
     ///
     /// A search that has ended stays as it is and gives the same answer again. `NoMemory` only where
     /// no memory is found; then all is as before.
     pub fn step(&mut self, alloc: Global) -> Result<Step, NoMemory>
         ensures step { IfOk result (IsStep (hand_of self.old) (hand_of self.new)) }
-        ensures order { IfOk result (λ step. self.old.left ≡ None → IsInOrder (hand_of self.old) (hand_of self.new) step) }
+        ensures order { IfOk result (λ step. self.old.left ≡ None → IsInOrder self.old.prices.unit (hand_of self.old) (hand_of self.new) step) }
+        ensures least { IfOk result (λ step. self.old.left ≡ None → IsSomeAnd self.old.prices.unit (λ unit. ⊤) → KeepLeast self.old.tree self.new.tree) }
         ensures fixed { StayFixed (hand_of self.old) (hand_of self.new) }
         ensures timed { self.old.left ≡ None → IfSome self.new.left (IsTimely false) }
         ensures answer { IfSome self.old.left (λ left. result ≡ Ok (Done (ending_of left))) }
@@ -160,7 +163,8 @@ impl Session {
     ) -> Result<Step, NoMemory>
         ensures step { IfOk result (IsStep (hand_of self.old) (hand_of self.new)) }
         ensures fewer { self.old.left ≡ None → OnOk result (steps_left (hand_of self.new) < steps_left (hand_of self.old)) }
-        ensures order { IfOk result (λ step. self.old.left ≡ None → IsInOrder (hand_of self.old) (hand_of self.new) step) }
+        ensures order { IfOk result (λ step. self.old.left ≡ None → IsInOrder self.old.prices.unit (hand_of self.old) (hand_of self.new) step) }
+        ensures least { IfOk result (λ step. self.old.left ≡ None → IsSomeAnd self.old.prices.unit (λ unit. ⊤) → KeepLeast self.old.tree self.new.tree) }
         ensures fixed { StayFixed (hand_of self.old) (hand_of self.new) }
         ensures timed { self.old.left ≡ None → IfSome self.new.left (IsTimely (has_shown seconds (C.moment clock.new) (C.faults clock.old) (C.faults clock.new))) }
         ensures later { IsLater (C.moment clock.old) (C.moment clock.new) (C.faults clock.old) (C.faults clock.new) }

@@ -59,7 +59,7 @@ fn root(
         forced: false,
     };
     let mut nets = LentNets::new();
-    let effort = &PriceEffort::NONE;
+    let effort = &PriceEffort::VALUE;
     let resources = &Resources::endless(alloc);
     match improve(resources, &leaf, &mut nets, 0, linear, effort, prices)? {
         Improved::Empty { .. } => Ok(emptied(0)),

@@ -21,8 +21,8 @@ pub(crate) fn tree_lines(alloc: Global, tree: &Tree<Payload>) -> Result<Vec<Node
         match tree.split_at(node) {
             Some(split) => lines.push(Node::Branch { split })?,
             None => {
-                let price = tree.payload(leaf).price;
-                lines.push(Node::Leaf { price })?;
+                let valuation = tree.payload(leaf).valuation;
+                lines.push(Node::Leaf { valuation })?;
                 leaf += 1;
             }
         }
@@ -39,7 +39,7 @@ pub(crate) fn split_notes(alloc: Global, tree: &Tree<Payload>) -> Result<Vec<Spl
         let payload = *tree.split_payload(split);
         notes.push(SplitNote {
             incumbent: payload.incumbent,
-            price: payload.price,
+            valuation: payload.valuation,
         })?;
     }
     Ok(notes)

@@ -11,7 +11,6 @@ use Rattle.fp_flatnet.specs.Tables.{windows_in}
 use Rattle.fp_tree.specs.declared.sides.Side.{Side}
 use Rattle.fp_prices.specs.declared.leaf_prices.Kind.{Kind}
 use Rattle.fp_prices.specs.declared.leaf_prices.Kind.TheVariants.{Even, Linear}
-use Rattle.fp_prices.specs.declared.leaf_prices.LeafPrice.{LeafPrice}
 use Rattle.fp_prices.specs.Leaves.{IsLeafEmpty, IsLeafValue}
 use Rattle.fp_prices.specs.Shares.{ClassShare}
 use Rattle.fp_prices.specs.Tables.{HasKind}
@@ -19,6 +18,8 @@ use Rattle.fp_prices_spans.specs.SpanKinds.{IsPricedValue, spans_beside}
 use Rattle.fp_prices_spans.specs.SpanLeaves.{IsSpanLeafValue}
 use Rattle.fp_prices_spans.specs.Spans.{ClassSpan}
 use Rattle.fp_prices_spans.proofs.SpanAppends.{IsPricedValue-tables, beside-append}
+use Rattle.fp_certificate_lines.specs.declared.certificates.Valuation.{Valuation}
+use Rattle.fp_certificate_lines.specs.Valuations.{sides_valued}
 use Rattle.fp_session_history.specs.declared.notes.SplitNote.{SplitNote}
 use Rattle.fp_session_history.specs.Notes.{History, Refinement, last_round, points_of, with_note, with_tables}
 use Rattle.fp_session_history.specs.PrintedLeaves.{IsEmptyAt}
@@ -26,49 +27,54 @@ use Rattle.fp_session_history.specs.Splits.{IsEarnedAt, IsEarnedSplit}
 use Rattle.fp_session_history.specs.Traces.{IsEarnedRound, IsEarnedTrace}
 use Rattle.fp_session_history.proofs.PointsKept.{points_of-with_note}
 
-module _ (h : History) (n : Refinement) (sides : List Side) (price : LeafPrice) (less : price.round < n.round) where
+module _ (h : History) (n : Refinement) (sides : List Side) (v : Valuation) (less : v.price.round < n.round) where
   -- a leaf that was earned as of an earlier round stays so
-  abbrev pub IsEarnedAt-with_note : IsEarnedAt h sides price → IsEarnedAt (with_note h n) sides price
+  abbrev pub IsEarnedAt-with_note : IsEarnedAt h sides v → IsEarnedAt (with_note h n) sides v
   IsEarnedAt-with_note leaf =
       let p = h.problem in
       let windows = windows_in h.windows in
-      let same : points_of h price.round ≡ points_of (with_note h n) price.round = sym (points_of-with_note h n price.round less) in
+      let same : points_of h v.price.round ≡ points_of (with_note h n) v.price.round = sym (points_of-with_note h n v.price.round less) in
       record {
         value = leaf.value;
-        is = subst (λ (qs : ℕ → List ℕ). IsPricedValue p windows qs sides h.tables h.spans price.kind price.forced leaf.value) same leaf.is;
+        is = subst (λ (qs : ℕ → List ℕ). IsPricedValue p windows qs (sides_valued v sides) h.tables h.spans v.price.kind v.price.forced leaf.value) same leaf.is;
         linear = subst (λ (qs : ℕ → List ℕ). (f : Bool) (other : ℕ) → IsLeafValue p windows qs sides [] Linear f other → other ≤ leaf.value) same leaf.linear;
         even = subst (λ (qs : ℕ → List ℕ). (f : Bool) (other : ℕ) → IsLeafValue p windows qs sides [] Even f other → other ≤ leaf.value) same leaf.even;
+        linear_under = subst (λ (qs : ℕ → List ℕ). (f : Bool) (other : ℕ) → IsLeafValue p windows qs (sides_valued v sides) [] Linear f other → other ≤ leaf.value) same leaf.linear_under;
+        even_under = subst (λ (qs : ℕ → List ℕ). (f : Bool) (other : ℕ) → IsLeafValue p windows qs (sides_valued v sides) [] Even f other → other ≤ leaf.value) same leaf.even_under;
       }
 
   -- and so does one that was empty
-  pub IsEmptyAt-with_note : IsEmptyAt h sides price → IsEmptyAt (with_note h n) sides price
+  pub IsEmptyAt-with_note : IsEmptyAt h sides v → IsEmptyAt (with_note h n) sides v
   IsEmptyAt-with_note leaf = record {
-    empty = subst (λ (qs : ℕ → List ℕ). IsLeafEmpty h.problem (windows_in h.windows) qs sides) (sym (points_of-with_note h n price.round less)) leaf.empty;
+    empty = subst (λ (qs : ℕ → List ℕ). IsLeafEmpty h.problem (windows_in h.windows) qs sides) (sym (points_of-with_note h n v.price.round less)) leaf.empty;
     linear = leaf.linear;
     plain = leaf.plain;
+    whole = leaf.whole;
   }
 
 -- a leaf that was earned stays so when tables are added, with spans beside them
-abbrev pub IsEarnedAt-with_tables : (h : History) (more : List (List ClassShare)) (spans : List (List ClassSpan)) (sides : List Side) (price : LeafPrice) → length h.spans ≡ length h.tables → HasKind h.tables price.kind → IsEarnedAt h sides price →
-    IsEarnedAt (with_tables h more spans) sides price
-IsEarnedAt-with_tables h more spans sides price beside has leaf = record {
+abbrev pub IsEarnedAt-with_tables : (h : History) (more : List (List ClassShare)) (spans : List (List ClassSpan)) (sides : List Side) (v : Valuation) → length h.spans ≡ length h.tables → HasKind h.tables v.price.kind → IsEarnedAt h sides v →
+    IsEarnedAt (with_tables h more spans) sides v
+IsEarnedAt-with_tables h more spans sides v beside has leaf = record {
   value = leaf.value;
-  is = subst (λ (s : List ClassSpan). IsSpanLeafValue h.problem (windows_in h.windows) (points_of h price.round) sides (h.tables ++ more) s price.kind price.forced leaf.value)
-      (sym (beside-append h.tables h.spans spans price.kind beside has))
-      (IsPricedValue-tables h.problem (windows_in h.windows) (points_of h price.round) sides h.tables price.kind price.forced leaf.value has more h.spans leaf.is);
+  is = subst (λ (s : List ClassSpan). IsSpanLeafValue h.problem (windows_in h.windows) (points_of h v.price.round) (sides_valued v sides) (h.tables ++ more) s v.price.kind v.price.forced leaf.value)
+      (sym (beside-append h.tables h.spans spans v.price.kind beside has))
+      (IsPricedValue-tables h.problem (windows_in h.windows) (points_of h v.price.round) (sides_valued v sides) h.tables v.price.kind v.price.forced leaf.value has more h.spans leaf.is);
   linear = leaf.linear;
   even = leaf.even;
+  linear_under = leaf.linear_under;
+  even_under = leaf.even_under;
 }
 
 module _ (h : History) (started ended : ℕ) (sides : List Side) (note : SplitNote) (split : IsEarnedSplit h started ended sides note) where
   -- a split stays earned when a note is added
-  pub IsEarnedSplit-with_note : (n : Refinement) → note.price.round < n.round → IsEarnedSplit (with_note h n) started ended sides note
-  IsEarnedSplit-with_note n less = record { leaf = IsEarnedAt-with_note h n sides note.price less split.leaf; below = split.below; first = split.first; last = split.last }
+  pub IsEarnedSplit-with_note : (n : Refinement) → note.valuation.price.round < n.round → IsEarnedSplit (with_note h n) started ended sides note
+  IsEarnedSplit-with_note n less = record { leaf = IsEarnedAt-with_note h n sides note.valuation less split.leaf; below = split.below; first = split.first; last = split.last }
 
   -- when tables are
-  pub IsEarnedSplit-with_tables : (more : List (List ClassShare)) (spans : List (List ClassSpan)) → length h.spans ≡ length h.tables → HasKind h.tables note.price.kind → IsEarnedSplit (with_tables h more spans) started ended sides note
+  pub IsEarnedSplit-with_tables : (more : List (List ClassShare)) (spans : List (List ClassSpan)) → length h.spans ≡ length h.tables → HasKind h.tables note.valuation.price.kind → IsEarnedSplit (with_tables h more spans) started ended sides note
   IsEarnedSplit-with_tables more spans beside has = record {
-    leaf = IsEarnedAt-with_tables h more spans sides note.price beside has split.leaf;
+    leaf = IsEarnedAt-with_tables h more spans sides note.valuation beside has split.leaf;
     below = split.below;
     first = split.first;
     last = split.last;

@@ -18,6 +18,7 @@ use Rattle.fp_certificate_lines.specs.declared.certificates.Answer.{Answer}
 use Rattle.fp_certificate_lines.specs.declared.certificates.Answer.TheVariants.{Optimal, Unfinished}
 use Rattle.fp_certificate_lines.specs.declared.certificates.Node.{Node}
 use Rattle.fp_certificate_lines.specs.declared.certificates.Spent.TheVariants.{Branches, Rounds, Time}
+use Rattle.fp_certificate_lines.specs.declared.certificates.Valuation.{Valuation}
 use Rattle.fp_certificate_lines.specs.Statements.{Statement}
 use Rattle.fp_certificate_rules.specs.Leaves.{fork_of}
 use Rattle.fp_certificate_rules.specs.Plans.{stated_cost}
@@ -61,28 +62,28 @@ pub record HasSeveral (p : Problem) (table : WindowTable) (points : ℕ → List
   pub forced : IsForcedChain p (is_allowed p (windows_in table) points sides shipment) (shipment_at p shipment) chain
   pub ends : EndsAs p (is_allowed p (windows_in table) points sides shipment) (shipment_at p shipment) chain (end.Several terminal)
 
--- P of the price and the sides of the leaf with a number
-abbrev pub AtLeaf : List (Leaf Node) → ℕ → (Rattle.fp_prices.specs.declared.leaf_prices.LeafPrice.LeafPrice → List Side → Type 0) → Type 0
+-- P of how the leaf with a number is valued, and of its sides
+abbrev pub AtLeaf : List (Leaf Node) → ℕ → (Valuation → List Side → Type 0) → Type 0
 AtLeaf leaves leaf P = IsSomeAnd (slice_get leaves leaf) (OfLeaf P)
 
 -- the rounds were all used: as many as the budget has, and a leaf is left that is worth less than
 -- the cost, with a relaxed plan that called for one more
 pub record HasUsedRounds (h : History) (budget : Budget) (leaves : List (Leaf Node)) (cost leaf : ℕ) (relaxed : List (List Leg)) : Type 0 where
   pub spent : length h.trace ≡ budget.rounds
-  pub leaf_left : AtLeaf leaves leaf (λ price sides. IsOpenBelow h cost sides price)
-  pub under : AtLeaf leaves leaf (λ price sides. AreWalksUnder h.problem h.windows (points_of h (last_round h)) sides relaxed)
+  pub leaf_left : AtLeaf leaves leaf (λ v sides. IsOpenBelow h cost sides v)
+  pub under : AtLeaf leaves leaf (λ v sides. AreWalksUnder h.problem h.windows (points_of h (last_round h)) sides relaxed)
   pub clashes : ClashesBelow h.problem h.windows (points_of h (last_round h)) cost relaxed
 
 -- the branches were all used: as many as the budget has, and a leaf is left that is worth less than
 -- the cost, in which a shipment has several ways to go
 pub record HasUsedBranches (h : History) (budget : Budget) (leaves : List (Leaf Node)) (branches : List (Branch Node)) (cost leaf shipment : ℕ) : Type 0 where
   pub spent : length branches ≡ budget.branches
-  pub leaf_left : AtLeaf leaves leaf (λ price sides. IsOpenBelow h cost sides price)
-  pub several : AtLeaf leaves leaf (λ price sides. HasSeveral h.problem h.windows (points_of h (last_round h)) sides shipment)
+  pub leaf_left : AtLeaf leaves leaf (λ v sides. IsOpenBelow h cost sides v)
+  pub several : AtLeaf leaves leaf (λ v sides. HasSeveral h.problem h.windows (points_of h (last_round h)) sides shipment)
 
 -- the time was over: a leaf is left that is worth less than the cost
 pub record HasUsedTime (h : History) (leaves : List (Leaf Node)) (cost leaf : ℕ) : Type 0 where
-  pub leaf_left : AtLeaf leaves leaf (λ price sides. IsOpenBelow h cost sides price)
+  pub leaf_left : AtLeaf leaves leaf (λ v sides. IsOpenBelow h cost sides v)
 
 -- an answer has its cause: it is optimal, and nothing was left; or it is unfinished, with the least
 -- that a leaf is worth as its bound, below the cost, and all that it says was spent was used (for

@@ -1,5 +1,5 @@
 //! What a search notes of its rounds and of its splits.
-use fp_prices::LeafPrice;
+use fp_certificate_lines::Valuation;
 use fp_relaxmodel::RelaxedPlan;
 use fp_timenodes::Place;
 use std::marker::Model;
@@ -28,12 +28,12 @@ impl Model for RoundNote {
     ghost view = { λ n. record { round = n.round; incumbent = n.incumbent; relaxed = n.relaxed; added = n.added.items } };
 }
 
-/// Why a leaf was split: the price that it had then, and what the incumbent cost, which was more
-/// than the leaf was worth.
+/// Why a leaf was split: how it was valued then, and what the incumbent cost, which was more than the
+/// leaf was worth.
 #[derive(Clone, Copy, Debug, PartialEq, Eq)]
 pub struct SplitNote {
     /// What the incumbent cost.
     pub incumbent: u128,
-    /// The leaf's price.
-    pub price: LeafPrice,
+    /// How the leaf was valued.
+    pub valuation: Valuation,
 }

@@ -9,7 +9,7 @@ from .near_names import near_kind
 
 ANSWERS = ("optimal", "unfinished", "infeasible", "direct")
 GREATEST = 2**127 - 1
-LATEST_TIME, LATEST_ROUND, FASTEST, GREATEST_SCALE = LATEST, 4000, 10_000_000, 10**9
+LATEST_TIME, LATEST_ROUND, FASTEST, GREATEST_SCALE, MOST_SPLITS = LATEST, 4000, 10_000_000, 10**9, 100_000
 TIME, FIGURE = (0, LATEST_TIME), (0, GREATEST)
 ENDS = (("FROM", "arc"), ("TO", "arc"))
 
@@ -34,6 +34,8 @@ LINES = {
     "leaf": (("KIND", (1, GREATEST, "linear", "even")), ("ROUND", (0, LATEST_ROUND)), ("MODE", ("plain", "forced"))),
     "end": (),
 }  # fmt: skip
+# The fields that may stand after those of a line: under how many of its sides a leaf is valued.
+FURTHER = {"leaf": (("SIDES", (0, MOST_SPLITS)),)}
 UNDER_DIRECT = ("leg", "truck", "end")
 # The lines with a number whose limit is another number, or hangs on the instance.
 LIMITED = ("scale", "span", "leaf")
@@ -67,6 +69,8 @@ class CertificateReading:
         if form is None:
             yield self.kind_fault(record)
             return
+        if len(record.fields) > len(words) + len(form):
+            form += FURTHER.get(record.kind, ())
         if len(record.fields) != len(words) + len(form):
             yield Fault(22, count_fault(words, form, len(record.fields)))
             return

@@ -40,7 +40,7 @@ pub enum LineKind {
     ByArc,
     /// `split,time,SHIPMENT,TERMINAL,AT`
     ByTime,
-    /// `leaf,KIND,ROUND,MODE`
+    /// `leaf,KIND,ROUND,MODE` or `leaf,KIND,ROUND,MODE,SIDES`
     Leaf,
     /// `end`
     End,

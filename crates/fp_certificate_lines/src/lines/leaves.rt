@@ -1,10 +1,11 @@
-//! Lines `leaf,KIND,ROUND,MODE`.
+//! Lines `leaf,KIND,ROUND,MODE` and `leaf,KIND,ROUND,MODE,SIDES`.
 ghost use Rattle.std.specs.Prelude.{◌≡◌, ◌++◌, false, OnOk};
 ghost use Rattle.fp_records.specs.Text.{line_of, with_field};
-ghost use Rattle.fp_certificate_lines.specs.Rows.{kind_text, leaf_fields, mode_text};
+ghost use Rattle.fp_certificate_lines.specs.Rows.{kind_text, leaf_fields, mode_text, with_sides};
 
 use crate::NoMemory;
-use fp_prices::{Kind, LeafPrice};
+use crate::certificates::Valuation;
+use fp_prices::Kind;
 use fp_records::Line;
 
 // Adds the kind of a leaf's prices.
@@ -29,15 +30,27 @@ fn write_mode(line: &mut Line, forced: bool) -> Result<(), NoMemory>
     }
 }
 
+// Adds under how many of its sides a leaf is valued, where that isn't under all.
+fn write_sides(line: &mut Line, sides: Option<u32>) -> Result<(), NoMemory>
+    ensures { OnOk result (line.new ≡ with_sides line.old sides) }
+{
+    match sides {
+        Some(count) => line.number(u128::from(count)),
+        None => Ok(()),
+    }
+}
+
 /// Adds the line of a leaf.
-pub fn write_leaf(line: &mut Line, price: LeafPrice) -> Result<(), NoMemory>
+pub fn write_leaf(line: &mut Line, valuation: Valuation) -> Result<(), NoMemory>
     requires begun { line.old.begun ≡ false }
-    ensures text { OnOk result (line.new.text ≡ line.old.text ++ line_of (leaf_fields price)) }
+    ensures text { OnOk result (line.new.text ≡ line.old.text ++ line_of (leaf_fields valuation)) }
     ensures ended { OnOk result (line.new.begun ≡ false) }
 {
+    let price = valuation.price;
     line.word(b"leaf")?;
     write_kind(line, price.kind)?;
     line.number(u128::from(price.round))?;
     write_mode(line, price.forced)?;
+    write_sides(line, valuation.sides)?;
     line.end()
 }

@@ -20,7 +20,7 @@ fn write_node(line: &mut Line, instance: &Instance, node: Node) -> Result<(), No
 {
     match node {
         Node::Branch { split } => write_split(line, instance, split),
-        Node::Leaf { price } => write_leaf(line, price),
+        Node::Leaf { valuation } => write_leaf(line, valuation),
     }
 }
 

@@ -1,22 +1,26 @@
 //! What the leaves of a certificate's tree are worth.
-ghost use Rattle.std.specs.Prelude.{◌≡◌, ◌↔◌, IfOk, IsTrue};
+ghost use Rattle.std.specs.Prelude.{◌≡◌, ◌↔◌, IfOk, IsTrue, None, Some};
+ghost use Rattle.fp_model.specs.Problem.{IsValid};
 ghost use Rattle.fp_prices.specs.RoundBounds.{AreRoundBounds};
 ghost use Rattle.fp_prices.specs.Tables.{HasKind};
 ghost use Rattle.fp_prices_spans.specs.SpanKinds.{spans_beside as spans_beside_table};
 ghost use Rattle.fp_prices_spans.specs.SpanLeaves.{IsSpanBoundOf};
 ghost use Rattle.fp_flatnet.specs.Tables.{windows_in};
 ghost use Rattle.fp_timenodes.specs.Points.{points_at};
+ghost use Rattle.fp_tree.specs.Ways.{way_sides};
+ghost use Rattle.fp_certificate_lines.specs.declared.certificates.Node.TheVariants.{Leaf};
 ghost use Rattle.fp_certificate_lines.specs.Ranges.{IsSplitInRange};
 ghost use Rattle.fp_certificate_rules.specs.Accepted.{claim_of as claim_of_answer};
-ghost use Rattle.fp_certificate_rules.specs.Leaves.{AreLeavesWorth, split_tail as tail_of_split};
-ghost use Rattle.fp_checker.specs.Bounds.{IsBoundWorth};
+ghost use Rattle.fp_certificate_rules.specs.Leaves.{AreLeavesWorth, IsLeafWorth, split_tail as tail_of_split};
+ghost use Rattle.fp_checker.specs.Bounds.{IsBoundWorth, IsEmptyBound};
+ghost use Rattle.fp_checker.specs.LeafWays.{IsKept, steps_of};
 ghost use Rattle.fp_certificate_rules.specs.Points.{ArePointsOf};
 ghost use Rattle.fp_certificate_rules.specs.Prices.{HasPrices};
 
 use crate::NoMemory;
 use crate::cases::Case;
 use crate::rules::leaf_ways::LeafWay;
-use fp_certificate_lines::{Answer, Node};
+use fp_certificate_lines::{Answer, Node, Valuation};
 use fp_certificate_rules::reaches;
 use fp_model::Instance;
 use fp_prices::{Kind, LeafBound, LeafPrice, RoundBounds};
@@ -47,7 +51,7 @@ fn claim_of(answer: Answer) -> u128
     }
 }
 
-// Whether a leaf of this bound is empty, or worth what the certificate claims in whole units of
+// Whether a leaf of this bound has a value, and is worth what the certificate claims in whole units of
 // money, rounded up to a multiple of its unit.
 fn is_bound_worth(case: &Case<'_>, bound: LeafBound) -> bool
     ensures { IsTrue result
@@ -56,7 +60,7 @@ fn is_bound_worth(case: &Case<'_>, bound: LeafBound) -> bool
     let certificate = case.certificate;
     let claim = claim_of(certificate.answer);
     match bound {
-        LeafBound::Empty { .. } => true,
+        LeafBound::Empty { .. } => false,
         LeafBound::Value { value } => {
             let money = value.div_ceil(u128::from(case.instance.scale()));
             reaches(money, certificate.unit, claim)
@@ -79,6 +83,7 @@ fn leaf_bound<'a>(
     requires prices { HasPrices case.now.problem case.now.windows case.now.told }
     requires kind { HasKind case.now.told.tables price.kind }
     requires kept { AreRoundBounds case.now.problem points.now case.now.told.tables kept }
+    ensures valid { IfOk result (λ _. IsValid case.now.problem) }
     ensures exact { IfOk result (λ found. IsSpanBoundOf case.now.problem (windows_in case.now.windows) (λ terminal. points_at points.now terminal price.round)
         sides.now case.now.told.tables (spans_beside_table case.now.told.spans price.kind) price.kind price.forced found.0) }
     ensures kept { IfOk result (λ found. AreRoundBounds case.now.problem points.now case.now.told.tables found.1) }
@@ -95,6 +100,99 @@ fn leaf_bound<'a>(
         alloc, instance, windows, points, sides, tables, spans, price,
     )?;
     Ok((bound, kept))
+}
+
+// Whether a leaf of this bound is empty.
+fn is_empty(bound: LeafBound) -> bool
+    ensures { IsTrue result ↔ IsEmptyBound bound }
+{
+    matches!(bound, LeafBound::Empty { .. })
+}
+
+// Whether the leaf at the end of a way is worth what the certificate claims, or empty, where it is valued
+// under all its sides; with what is kept for the leaves after it.
+fn is_whole_worth<'a>(
+    alloc: Global,
+    case: &Case<'a>,
+    points: &Points,
+    way: &LeafWay,
+    price: LeafPrice,
+    kept: RoundBounds<'a>,
+) -> Result<(bool, RoundBounds<'a>), NoMemory>
+    requires points { ArePointsOf case.now.problem case.now.windows.anchors case.now.told.points
+        points.now }
+    requires prices { HasPrices case.now.problem case.now.windows case.now.told }
+    requires kind { HasKind case.now.told.tables price.kind }
+    requires way { IsKept way.now }
+    requires kept { AreRoundBounds case.now.problem points.now case.now.told.tables kept }
+    ensures exact { IfOk result (λ found. IsTrue found.0
+        ↔ IsLeafWorth case.now.problem case.now.windows case.now.told (claim_of_answer case.now.told.answer)
+        (Leaf (record { price = price; sides = None })) (way_sides (steps_of way.now))) }
+    ensures kept { IfOk result (λ found. AreRoundBounds case.now.problem points.now case.now.told.tables found.1) }
+{
+    let found = leaf_bound(alloc, case, points, way.sides(), price, kept)?;
+    if is_bound_worth(case, found.0) {
+        return Ok((true, found.1));
+    }
+    Ok((is_empty(found.0), found.1))
+}
+
+// The same where it is valued under its first so many sides; it is empty only under all.
+fn is_first_worth<'a>(
+    alloc: Global,
+    case: &Case<'a>,
+    points: &Points,
+    way: &LeafWay,
+    price: LeafPrice,
+    count: u32,
+    kept: RoundBounds<'a>,
+) -> Result<(bool, RoundBounds<'a>), NoMemory>
+    requires points { ArePointsOf case.now.problem case.now.windows.anchors case.now.told.points
+        points.now }
+    requires prices { HasPrices case.now.problem case.now.windows case.now.told }
+    requires kind { HasKind case.now.told.tables price.kind }
+    requires way { IsKept way.now }
+    requires kept { AreRoundBounds case.now.problem points.now case.now.told.tables kept }
+    ensures exact { IfOk result (λ found. IsTrue found.0
+        ↔ IsLeafWorth case.now.problem case.now.windows case.now.told (claim_of_answer case.now.told.answer)
+        (Leaf (record { price = price; sides = Some count })) (way_sides (steps_of way.now))) }
+    ensures kept { IfOk result (λ found. AreRoundBounds case.now.problem points.now case.now.told.tables found.1) }
+{
+    let first = way.first_sides(alloc, count)?;
+    let under = leaf_bound(alloc, case, points, &first, price, kept)?;
+    if is_bound_worth(case, under.0) {
+        return Ok((true, under.1));
+    }
+    let whole = leaf_bound(alloc, case, points, way.sides(), price, under.1)?;
+    Ok((is_empty(whole.0), whole.1))
+}
+
+// Whether the leaf at the end of a way is worth what the certificate claims, or empty, with what is
+// kept for the leaves after it.
+fn is_leaf_worth<'a>(
+    alloc: Global,
+    case: &Case<'a>,
+    points: &Points,
+    way: &LeafWay,
+    valuation: Valuation,
+    kept: RoundBounds<'a>,
+) -> Result<(bool, RoundBounds<'a>), NoMemory>
+    requires points { ArePointsOf case.now.problem case.now.windows.anchors case.now.told.points
+        points.now }
+    requires prices { HasPrices case.now.problem case.now.windows case.now.told }
+    requires kind { HasKind case.now.told.tables valuation.price.kind }
+    requires way { IsKept way.now }
+    requires kept { AreRoundBounds case.now.problem points.now case.now.told.tables kept }
+    ensures exact { IfOk result (λ found. IsTrue found.0
+        ↔ IsLeafWorth case.now.problem case.now.windows case.now.told (claim_of_answer case.now.told.answer)
+        (Leaf valuation) (way_sides (steps_of way.now))) }
+    ensures kept { IfOk result (λ found. AreRoundBounds case.now.problem points.now case.now.told.tables found.1) }
+{
+    let price = valuation.price;
+    match valuation.sides {
+        None => is_whole_worth(alloc, case, points, way, price, kept),
+        Some(count) => is_first_worth(alloc, case, points, way, price, count, kept),
+    }
 }
 
 // Whether each leaf is worth what the certificate claims. The leaves are reached in preorder,
@@ -116,14 +214,14 @@ pub(crate) fn are_leaves_worth(
     let mut bounds = RoundBounds::of(alloc, instance, points, 0, Kind::Linear)?;
     for node in certificate.tree.as_slice() {
         match *node {
-            Node::Branch { split } => way = way.descend(split, split_tail(instance, split))?,
-            Node::Leaf { price } => {
-                let found = leaf_bound(alloc, case, points, way.sides(), price, bounds)?;
-                if !is_bound_worth(case, found.0) {
+            Node::Branch { split } => way = way.descend(alloc, split, split_tail(instance, split))?,
+            Node::Leaf { valuation } => {
+                let found = is_leaf_worth(alloc, case, points, &way, valuation, bounds)?;
+                if !found.0 {
                     return Ok(false);
                 }
                 bounds = found.1;
-                match way.advance()? {
+                match way.advance(alloc)? {
                     None => return Ok(true),
                     Some(next) => way = next,
                 }

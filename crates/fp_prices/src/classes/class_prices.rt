@@ -51,31 +51,37 @@ impl<'a> ClassPricing<'a> {
         let size = self.instance.shipment(shipment).size;
         clear(costs, self.network.classes());
         let mut next = 0;
+        let mut near = 0;
         while let Some(class) = row.first_from(next) {
-            costs[class as usize] = Some(self.cost(class, shipment, size));
+            let (arc, point) = self.network.of_class_near(near, class);
+            costs[class as usize] = Some(self.cost(class, arc, point, shipment, size));
+            near = arc;
             next = class + 1;
         }
     }
 
-    // What a class that is allowed for the shipment with a number and a size costs it: its price
-    // and the flow.
-    fn cost(&self, class: u32, shipment: u32, size: u64) -> u128
+    // What a class of an arc and a point that is allowed for the shipment with a number and a size
+    // costs it: its price and the flow.
+    fn cost(&self, class: u32, arc: u32, point: u32, shipment: u32, size: u64) -> u128
         requires shipment { shipment < length self.now.instance.now.shipments }
-        requires class { class < class_count self.now.network.now }
+        requires class { IsClass self.now.network.now (record { arc = arc; depart = point }) }
+        requires number { class ≡ class_number self.now.network.now (record { arc = arc; depart = point }) }
         requires priced { IsPricedClass self.now shipment class }
         requires size { size ≡ (shipment_at self.now.instance.now shipment).size }
         ensures { IsClassCost self.now shipment size (class_at self.now.network.now class) result }
     {
-        let arc = self.instance.arc(self.network.of_class(class).0);
-        let flow = u128::from(self.instance.scale()) * u128::from(arc.freight) * u128::from(size);
-        self.price(class, shipment, size) + flow
+        let freight = self.instance.arc(arc).freight;
+        let flow = u128::from(self.instance.scale()) * u128::from(freight) * u128::from(size);
+        self.price(class, arc, point, shipment, size) + flow
     }
 
-    /// The price of a class, by its number, that is allowed for the shipment with a number and a
-    /// size: nothing where the class is forced, and otherwise its truck price. Takes no memory.
-    pub(crate) fn price(&self, class: u32, shipment: u32, size: u64) -> u128
+    /// The price of the class of an arc and a point, with its number, that is allowed for the
+    /// shipment with a number and a size: nothing where the class is forced, and otherwise its truck
+    /// price. Takes no memory.
+    pub(crate) fn price(&self, class: u32, arc: u32, point: u32, shipment: u32, size: u64) -> u128
         requires shipment { shipment < length self.now.instance.now.shipments }
-        requires class { class < class_count self.now.network.now }
+        requires class { IsClass self.now.network.now (record { arc = arc; depart = point }) }
+        requires number { class ≡ class_number self.now.network.now (record { arc = arc; depart = point }) }
         requires priced { IsPricedClass self.now shipment class }
         requires size { size ≡ (shipment_at self.now.instance.now shipment).size }
         ensures { IsClassPrice self.now shipment size (class_at self.now.network.now class) result }
@@ -83,7 +89,6 @@ impl<'a> ClassPricing<'a> {
         if self.forced.row.get(class) {
             return 0;
         }
-        let (arc, point) = self.network.of_class(class);
         self.truck_price(class, arc, point, shipment, size)
     }
 

@@ -53,7 +53,8 @@ impl<'a> LeafPricing<'a> {
     {
         if self.leaf.row(shipment).get(class) {
             let size = self.pricing.instance.shipment(shipment).size;
-            Some(self.pricing.price(class, shipment, size))
+            let (arc, point) = self.pricing.network.of_class(class);
+            Some(self.pricing.price(class, arc, point, shipment, size))
         } else {
             None
         }

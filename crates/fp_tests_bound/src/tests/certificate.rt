@@ -42,7 +42,7 @@ fn what_is_read_is_written_as_it_stood(rt: HostRuntime) -> Result<(), Fail> {
     let alloc = rt.alloc();
     let rows = [
         "answer,optimal,300\nleg,S1,A,B,0,4\nleg,S2,B,C,0,5\nleg,S1,B,C,4,9\ntruck,A,B,0,1,4\ntruck,B,C,0,1,4\ntruck,B,C,4,1,4\npoint,B,4,1\ntable,1\nshare,A,B,0,0\nweight,S1,100000000\nshare,B,C,0,0\nweight,S2,100000000\nshare,B,C,4,0\nweight,S1,100000000\nleaf,1,1,plain\nend\n",
-        "answer,unfinished,170141183460469231731687303715884105727,299,branches\nscale,1000\ntable,1\ntable,2\nshare,B,C,7,12\nsplit,arc,S2,B,C\nsplit,time,S1,B,100000\nleaf,even,0,plain\nleaf,2,4000,forced\nleaf,linear,0,forced\nend\n",
+        "answer,unfinished,170141183460469231731687303715884105727,299,branches\nscale,1000\ntable,1\ntable,2\nshare,B,C,7,12\nsplit,arc,S2,B,C\nsplit,time,S1,B,100000\nleaf,even,0,plain\nleaf,2,4000,forced,100000\nleaf,linear,0,forced,0\nend\n",
         "answer,unfinished,9,0,rounds\nend\n",
         "answer,unfinished,9,5,rounds\nscale,1000\nunit,5\ntable,1\nshare,A,B,0,0\nspan,A,B,0,100001,100000,0\nweight,S1,99\ngroup,4\ngroup,100000\nspan,B,C,4,5,0,7\ntable,2\nspan,A,B,1,9,3,0\ngroup,2\nleaf,2,0,plain\nend\n",
         "answer,direct,0\nleg,S1,A,B,0,4\nend\n",

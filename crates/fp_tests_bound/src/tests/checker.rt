@@ -9,7 +9,7 @@ use fp_flatnet::Windows;
 use fp_model::{Leg, Plan};
 use fp_reader::{Tail, instance};
 use fp_records::records;
-use fp_tests_examples::{LINE, LINE_PROOF, TRIO, TRIO_PROOF};
+use fp_tests_examples::{LINE, LINE_PROOF, ONE_ARC, TRIO, TRIO_PROOF};
 use std::alloc::Global;
 use std::test::Fail;
 
@@ -26,6 +26,13 @@ const APART: &str =
     "terminal,A\nterminal,B\narc,A,B,5,10,60,0\nshipment,S1,A,B,5,0,9\nshipment,S2,A,B,5,6,14\n";
 
 const APART_ROUTE: &[Leg] = &[Leg { arc: 0, depart: 0 }];
+
+// One shipment with two ways of the same cost.
+const TWO_WAYS: &str =
+    "terminal,A\nterminal,B\nterminal,C\narc,A,B,5,6,60,0\narc,A,C,4,6,30,0\narc,C,B,4,6,30,0\nshipment,S1,A,B,5,0,20\n";
+
+// A split of TWO_WAYS, both of whose leaves are worth 60 under their side and 50 without it.
+const HALVES: &str = "leg,S1,A,B,0,5\ntruck,A,B,0,1,5\nsplit,arc,S1,A,B\n";
 
 const ROWS: [Row; 8] = [
     (
@@ -104,6 +111,46 @@ fn begins_by(plan: &Result<Plan, Rejected>, route: Option<&[Leg]>) -> bool {
         },
         Err(fault) => route.is_none() && *fault == Rejected::Part { number: 1 },
     }
+}
+
+// What is claimed of HALVES, its two leaves, and the first part that fails.
+type Half = (u32, &'static str, &'static str, Option<u32>);
+
+const HALF_ROWS: [Half; 9] = [
+    (60, "", "", None),
+    (61, "", "", Some(7)),
+    // Under none of its sides a leaf is worth what the root is.
+    (50, ",0", ",0", None),
+    (51, ",0", ",0", Some(7)),
+    (60, ",0", "", Some(7)),
+    (60, "", ",0", Some(7)),
+    // All of them are one, and it has no more.
+    (60, ",1", ",1", None),
+    (60, ",2", ",100000", None),
+    (61, ",2", ",100000", Some(7)),
+];
+
+// A leaf that is empty under all its sides is so whatever it is worth under the first of them.
+const EMPTY_HALF: &str =
+    "answer,optimal,104\nleg,S1,A,B,0,5\ntruck,A,B,0,1,4\nsplit,arc,S1,A,B\nleaf,linear,0,plain,0\nleaf,linear,0,forced\nend\n";
+
+#[test]
+fn leaves_are_valued_under_their_first_sides(rt: HostRuntime) -> Result<(), Fail> {
+    let alloc = rt.alloc();
+    for (claim, first, second, part) in HALF_ROWS {
+        let text = format!(in alloc;
+            "{TWO_WAYS}answer,unfinished,60,{claim},branches\n{HALVES}leaf,linear,0,forced{first}\nleaf,linear,0,forced{second}\nend\n"
+        )?;
+        assert!(rt; text.len() < 2000);
+        let told = told_of(alloc, text.as_str())?;
+        let failing = part.map(|number| Rejected::Part { number });
+        assert!(rt; told.verdict.err() == failing, "{text}");
+    }
+    let text = format!(in alloc; "{ONE_ARC}{EMPTY_HALF}")?;
+    assert!(rt; text.len() < 2000);
+    let told = told_of(alloc, text.as_str())?;
+    assert!(rt; told.verdict.is_ok());
+    Ok(())
 }
 
 #[test]

@@ -20,7 +20,7 @@ const PROOF: &str =
 const HEAVY: &str =
     "terminal,A\nterminal,B\narc,A,B,5,10,100,1000000000000\nshipment,S1,A,B,10000000000000,0,10\n";
 
-const ROWS: [Row; 36] = [
+const ROWS: [Row; 40] = [
     (ONE_ARC, PROOF, "leg", "lag", "refused,6,21\n"),
     (ONE_ARC, PROOF, "optimal", "bound", "refused,5,21\n"),
     (
@@ -129,6 +129,11 @@ const ROWS: [Row; 36] = [
         "split,time,S1,A,100001\nleaf",
         "refused,8,28\n",
     ),
+    // Under how many of its sides a leaf is valued.
+    (ONE_ARC, PROOF, "forced", "forced,100001", "refused,8,28\n"),
+    (ONE_ARC, PROOF, "forced", "forced,-1", "refused,8,23\n"),
+    (ONE_ARC, PROOF, "forced", "forced,x", "refused,8,23\n"),
+    (ONE_ARC, PROOF, "forced", "forced,0,0", "refused,8,22\n"),
     (
         ONE_ARC,
         PROOF,

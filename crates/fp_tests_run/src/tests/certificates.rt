@@ -31,7 +31,7 @@ const TRIO_ROOT: &str =
 const ONE_ARC_CHAIN: &str =
     "answer,optimal,104\nleg,S1,A,B,0,5\ntruck,A,B,0,1,4\nsplit,time,S1,A,4\nsplit,time,S1,A,2\nleaf,linear,0,forced\nleaf,linear,0,forced\nsplit,time,S1,A,3\nleaf,linear,0,plain\nleaf,linear,0,forced\nend\n";
 
-const ACCEPTED: [Checked; 17] = [
+const ACCEPTED: [Checked; 18] = [
     (ONE_ARC, ONE_ARC_PLAN, "", "", 0, "accepted,direct\n"),
     (ONE_ARC, ONE_ARC_SPLIT, "", "", 0, "accepted,optimal\n"),
     (ONE_ARC, ONE_ARC_CHAIN, "", "", 0, "accepted,optimal\n"),
@@ -83,6 +83,14 @@ const ACCEPTED: [Checked; 17] = [
     (TRIO, TRIO_PROOF, "", "", 0, "accepted,optimal\n"),
     (TRIO, TRIO_ROOT, "", "", 0, "accepted,unfinished\n"),
     (
+        TRIO,
+        TRIO_ROOT,
+        "plain",
+        "plain,0",
+        0,
+        "accepted,unfinished\n",
+    ),
+    (
         LARGE_LOADS,
         LARGE_LOADS_PROOF,
         "",
@@ -108,7 +116,7 @@ const ACCEPTED: [Checked; 17] = [
     ),
 ];
 
-const REJECTED: [Checked; 35] = [
+const REJECTED: [Checked; 36] = [
     // The second leaf of the chain isn't empty, nor is the last: plain prices aren't enough there.
     (
         ONE_ARC,
@@ -273,6 +281,15 @@ const REJECTED: [Checked; 35] = [
     ),
     (DETOUR, DETOUR_BY_ARC, "even", "linear", 12, "rejected,7\n"),
     (TRIO, TRIO_ROOT, "150", "151", 12, "rejected,7\n"),
+    // The last leaf is worth less under the first of its sides alone.
+    (
+        TRIO,
+        TRIO_PROOF,
+        "forced\nend",
+        "forced,1\nend",
+        12,
+        "rejected,7\n",
+    ),
     (
         TRIO,
         TRIO_PROOF,

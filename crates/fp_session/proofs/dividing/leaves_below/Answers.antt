@@ -4,7 +4,10 @@ use Rattle.fp_session.specs.Searches.{history}
 use Rattle.fp_session.proofs.Improvements.{IsKept-grown}
 use Rattle.fp_session.proofs.SameHands.{IsSearch-grown}
 use Rattle.fp_session.proofs.Trials.{kept-both, told-first, told-second}
-use Rattle.std.proofs.Common.{[], ◌∷◌, ◌++◌}
+use Rattle.std.proofs.Common.{ℕ, [], ◌∷◌, ◌++◌, ap, subst}
+use Rattle.std.specs.Prelude.{Option}
+use Rattle.fp_duals_leaves.specs.Prices.{PriceLists}
+use Rattle.fp_session.specs.Nodes.{IsRaisedTo}
 use Rattle.fp_session.proofs.dividing.leaves_below.Goals as goal
 
 pub raised-requires-clause-kept : goal.raised-requires-clause-kept
@@ -31,3 +34,23 @@ pub returns-in_ok-second-in-None-clause-kept : goal.returns-in_ok-second-in-None
 returns-in_ok-second-in-None-clause-kept g c =
     kept-both c.args.search.now c.child.new.prices c.child-in-None.new.prices c.args.leaf.now.sides c.args.chosen.candidate.split c.args.chosen.candidate.terminal c.first-one.result c.second-other.result c.in_ok-first-in-None.first c.in_ok-second-in-None.second
     c.first-one.ensures c.second-other.ensures c.child.ensures.grown.prices c.child-in-None.ensures.grown c.in_ok-first-in-None.ensures.kept c.in_ok-second-in-None.ensures.kept
+
+pub raised-requires-in-Some-clause-above : goal.raised-requires-in-Some-clause-above
+raised-requires-in-Some-clause-above g c =
+    IsKept-grown c.args.search.now c.args.prices.now c.raised.new.prices c.args.leaf.now.sides c.args.above c.requires.search.prices c.raised.ensures.grown c.requires.above
+
+pub child-requires-in-None-clause-above : goal.child-requires-in-None-clause-above
+child-requires-in-None-clause-above g c =
+    IsKept-grown c.args.search.now c.args.prices.now c.child.new.prices c.args.leaf.now.sides c.args.above c.requires.search.prices c.child.ensures.grown c.requires.above
+
+pub returns-in_ok-second-in-Some-clause-no_less : goal.returns-in_ok-second-in-Some-clause-no_less
+returns-in_ok-second-in-Some-clause-no_less g c = (
+  c.in_ok-first-in-Some.ensures.no_less,
+  subst (λ (o : Option ℕ). IsRaisedTo o c.args.above.value c.in_ok-second-in-Some.second) (ap (λ (x : PriceLists). x.unit) c.raised.ensures.grown.is) c.in_ok-second-in-Some.ensures.no_less,
+)
+
+pub returns-in_ok-second-in-None-clause-no_less : goal.returns-in_ok-second-in-None-clause-no_less
+returns-in_ok-second-in-None-clause-no_less g c = (
+  c.in_ok-first-in-None.ensures.no_less,
+  subst (λ (o : Option ℕ). IsRaisedTo o c.args.above.value c.in_ok-second-in-None.second) (ap (λ (x : PriceLists). x.unit) c.child.ensures.grown.is) c.in_ok-second-in-None.ensures.no_less,
+)

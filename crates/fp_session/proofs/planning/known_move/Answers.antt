@@ -1,10 +1,9 @@
 -- What was kept of the leaf decides.
-use Rattle.std.proofs.Common.{◌≡◌, ℕ, ◌<◌, ◌≤◌, ⊎_elim, inr, Bool, true, false, sym, ◌∙◌, arith}
-use Rattle.std.proofs.lemmas.Bool.{cases_lt, false≢true}
+use Rattle.std.proofs.Common.{inr, arith}
 use Rattle.fp_session_history.specs.Notes.{worth_of}
 use Rattle.fp_session.specs.Nodes.{IsSettled}
 use Rattle.fp_session.specs.Searches.{history}
-use Rattle.fp_session.proofs.OpenMoves.{below-cost, late-stays, reserve-stays, settled-stays}
+use Rattle.fp_session.proofs.OpenMoves.{below-cost, late-stays, settled-stays}
 use Rattle.fp_session.proofs.planning.known_move.Goals as goal
 
 pub returns-then-is_dear-clause-planned : goal.returns-then-is_dear-clause-planned

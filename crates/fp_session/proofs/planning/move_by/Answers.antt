@@ -71,3 +71,12 @@ returns-clause-planned g c = (
   c.in_ok-division-in-Some-2.ensures.division,
   dear-walks c.args.search.now c.args.leaf.now.sides c.args.found.relaxed c.are_cheaper.result c.requires.found.walks c.if-are_cheaper.false c.are_cheaper.ensures.1,
 )
+
+pub returns-clause-no_less : goal.returns-clause-no_less
+returns-clause-no_less g c = c.in_ok-division-in-Some-2.ensures.no_less
+
+pub returns-in_default-2-clause-no_less : goal.returns-in_default-2-clause-no_less
+returns-in_default-2-clause-no_less g c = c.in_ok-planned.ensures.no_less c.args.prices.now.unit c.args.found.kept.value
+
+pub returns-then-are_cheaper-clause-no_less : goal.returns-then-are_cheaper-clause-no_less
+returns-then-are_cheaper-clause-no_less g c = c.timed_move-then-are_cheaper.ensures.no_less c.args.prices.now.unit c.args.found.kept.value

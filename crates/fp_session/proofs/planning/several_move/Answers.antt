@@ -1,8 +1,10 @@
 -- The candidate that was chosen leaves the prices as they are.
 use Rattle.std.proofs.Common.{sym, subst}
-use Rattle.fp_prices.specs.Tables.{HasKind}
+use Rattle.std.proofs.lemmas.Result.{IfOk-weaker}
 use Rattle.fp_duals_leaves.specs.Prices.{HaveGrown, PriceLists}
 use Rattle.fp_session.specs.Choices.{IsChosen}
+use Rattle.fp_session.specs.Moves.{AreNoLess}
+use Rattle.fp_session.specs.Nodes.{IsKept}
 use Rattle.fp_session.specs.Searches.{IsSearch, history}
 use Rattle.fp_session.proofs.planning.several_move.Goals as goal
 
@@ -13,8 +15,13 @@ pub division-requires-clause-chosen : goal.division-requires-clause-chosen
 division-requires-clause-chosen g c =
     subst (λ (x : PriceLists). IsChosen (history c.args.search.now x) c.args.leaf.now c.in_ok-chosen.chosen) (sym c.choice.ensures.same) c.in_ok-chosen.ensures.chosen
 
-pub division-requires-clause-kind : goal.division-requires-clause-kind
-division-requires-clause-kind g c = subst (λ (x : PriceLists). HasKind x.tables c.args.kept.payload.price.kind) (sym c.choice.ensures.same) c.requires.kind
+pub division-requires-clause-above : goal.division-requires-clause-above
+division-requires-clause-above g c = subst (λ (x : PriceLists). IsKept (history c.args.search.now x) c.args.leaf.now.sides c.args.kept.payload c.args.kept.value) (sym c.choice.ensures.same) c.requires.kept
+
+pub returns-clause-no_less : goal.returns-clause-no_less
+returns-clause-no_less g c =
+    IfOk-weaker c.division.result (AreNoLess c.choice.new.prices.unit c.args.kept.value) (AreNoLess c.args.prices.now.unit c.args.kept.value)
+    (λ d less. subst (λ (x : PriceLists). AreNoLess x.unit c.args.kept.value d) c.choice.ensures.same less) c.division.ensures.no_less
 
 pub returns-clause-grown : goal.returns-clause-grown
 returns-clause-grown g c =

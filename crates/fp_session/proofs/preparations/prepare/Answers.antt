@@ -1,6 +1,6 @@
 -- Prices grow while it is done, and without memory they are as before.
 use Rattle.std.proofs.Common.{refl}
-use Rattle.fp_session.proofs.SameHands.{IsSearch-back, IsSearch-grown, cut-back, cut-few}
+use Rattle.fp_session.proofs.SameHands.{IsSearch-back, IsSearch-grown, cut-back}
 use Rattle.fp_session.proofs.preparations.prepare.Goals as goal
 
 pub keep_prepared-requires-clause-search : goal.keep_prepared-requires-clause-search

@@ -1,5 +1,5 @@
 -- The root is an open leaf that isn't known to be empty.
-use Rattle.std.proofs.Common.{◌≡◌, Bool, ⊎_elim, false, true, List, sym, ap, ◌∙◌, subst}
+use Rattle.std.proofs.Common.{◌≡◌, false, ap, ◌∙◌}
 use Rattle.std.specs.Prelude.{IsSomeAnd, Option, Some, None}
 use Rattle.fp_tree.specs.Nodes.{Node, leaf_at}
 use Rattle.fp_tree.specs.Trees.{Leaf}

@@ -5,12 +5,11 @@ use Rattle.fp_timenodes.specs.declared.places.TheConstants.{MOST_POINTS}
 use Rattle.fp_longestarcs.specs.Networks.{TimedNetwork, point_count}
 use Rattle.fp_longestarcs.specs.Whole.{IsWholeNetwork}
 use Rattle.fp_tree.specs.declared.sides.Side.{Side}
-use Rattle.fp_tree.specs.Nodes.{Node, closed_of, leaf_at}
+use Rattle.fp_tree.specs.Nodes.{Node, leaf_at}
 use Rattle.fp_tree.specs.Trees.{Leaf}
 use Rattle.fp_session.specs.declared.kept.Kept.{Kept}
 use Rattle.fp_session.specs.declared.outcomes.Outcome.TheVariants as outcome
 use Rattle.fp_session.specs.declared.payloads.Payload.{Payload}
-use Rattle.fp_session.specs.Moves.{AtOpenLeaf}
 use Rattle.fp_session.specs.Nodes.{IsKeptAs}
 use Rattle.fp_session.specs.Outcomes.{IsOutcome}
 use Rattle.fp_session.specs.Preparations.{IsRaised}

@@ -4,6 +4,7 @@ use Rattle.std.proofs.lemmas.Bool.{eqb-true}
 use Rattle.std.proofs.lemmas.Result.{IfOk-weaker}
 use Rattle.fp_flatnet.specs.declared.window_tables.Window.{Window}
 use Rattle.fp_flatnet.specs.Tables.{windows_in}
+use Rattle.fp_model.specs.Problem.{IsValid}
 use Rattle.fp_timenodes.specs.Points.{points_at}
 use Rattle.fp_prices.specs.Shares.{ClassShare}
 use Rattle.fp_prices.specs.Tables.{AreTables, HasKind}
@@ -12,6 +13,7 @@ use Rattle.fp_prices_spans.specs.SpanLeaves.{IsSpanBoundOf}
 use Rattle.fp_prices_spans.specs.SpanLists.{AreSpans}
 use Rattle.fp_prices_spans.specs.Spans.{ClassSpan}
 use Rattle.fp_certificate_lines.specs.Statements.{Statement}
+use Rattle.fp_checker.specs.Cases.{Tested}
 use Rattle.fp_checker.proofs.Spanned.{beside-spans, unspanned-bound}
 use Rattle.fp_checker.proofs.rules.leaves.leaf_bound.Goals as goal
 
@@ -35,6 +37,14 @@ span_bound_of-requires-clause-prices c =
       has_kind = subst (λ (ts : List (List ClassShare)). HasKind ts kind) (sym tables) named;
       are_spans = subst (AreSpans p) (sym beside) (beside-spans p c.case.inside.windows.now told c.case.invariant.range prices kind);
     }
+
+pub returns-then-is_empty-clause-valid : goal.returns-then-is_empty-clause-valid
+returns-then-is_empty-clause-valid c =
+    let valid : IsValid c.args.case.now.problem = subst (λ (t : Tested). IsValid t.problem) c.case.view_is c.case.invariant.belongs.valid in
+    IfOk-weaker c.bound.result _ _ (λ _ _. valid) c.bound.ensures.exact
+
+pub returns-clause-valid : goal.returns-clause-valid
+returns-clause-valid c = subst (λ (t : Tested). IsValid t.problem) c.case.view_is c.case.invariant.belongs.valid
 
 pub returns-then-is_empty-clause-exact : goal.returns-then-is_empty-clause-exact
 returns-then-is_empty-clause-exact c =

@@ -1,8 +1,5 @@
-use Rattle.std.proofs.Common.{◌≡◌, ◌∙◌, List, ap, subst}
-use Rattle.std.specs.Prelude.{All}
-use Rattle.fp_certificate_lines.specs.Ranges.{IsSpanInRange}
+use Rattle.std.proofs.Common.{◌∙◌, ap}
 use Rattle.fp_certificate_lines.specs.Statements.{Statement}
-use Rattle.fp_prices_spans.specs.Spans.{ClassSpan}
 use Rattle.fp_checker.proofs.Spanned.{told-paid}
 use Rattle.fp_checker.proofs.rules.price_spans.has_paid_spans.Goals as goal
 

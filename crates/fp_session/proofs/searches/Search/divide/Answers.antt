@@ -1,7 +1,7 @@
 -- A leaf that is divided, or has again what it had.
 use Rattle.std.proofs.Common.{◌≡◌, ℕ, ◌+◌, List, refl, sym, ap, ap₂, ◌∙◌}
 use Rattle.std.specs.Prelude.{IsSomeAnd}
-use Rattle.fp_tree.specs.Nodes.{Node, divide_leaf, fork_of, leaf_at, open_leaf, put_leaf, split_count, value_of}
+use Rattle.fp_tree.specs.Nodes.{Node, fork_of, leaf_at, put_leaf, value_of}
 use Rattle.fp_tree.specs.Trees.{Leaf, splits_before, with_leaf}
 use Rattle.fp_tree.proofs.TwoChanges.{with_leaf-put_back}
 use Rattle.fp_session.specs.declared.moves.Division.{Division}
@@ -9,8 +9,8 @@ use Rattle.fp_session.specs.declared.payloads.Payload.{Payload}
 use Rattle.fp_session.specs.declared.searches.Search.{Search}
 use Rattle.fp_session.specs.Moves.{fork_in}
 use Rattle.fp_session.specs.Nodes.{IsKept}
-use Rattle.fp_session.specs.Order.{with_cost, with_divided, with_kept}
-use Rattle.fp_session.specs.Searches.{IsSearch, history, in_hand}
+use Rattle.fp_session.specs.Order.{with_divided}
+use Rattle.fp_session.specs.Searches.{IsSearch, history}
 use Rattle.fp_session.proofs.Applied.{divide-applied, of-value, some-value}
 use Rattle.fp_session.proofs.OpenCounts.{branches-divided, leaves-divided}
 use Rattle.fp_session.proofs.SearchChanges.{IsSearch-reserve}

@@ -1,5 +1,5 @@
 -- The plan in reserve is taken.
-use Rattle.std.proofs.Common.{◌≡◌, ℕ, ◌<◌, ◌∙◌, subst, sym, ap}
+use Rattle.std.proofs.Common.{◌≡◌, ◌∙◌, subst, sym, ap}
 use Rattle.std.specs.Prelude.{IfSome, None, Option, Some}
 use Rattle.fp_session_looks.specs.declared.cheaper.Cheaper.{Cheaper}
 use Rattle.fp_session.specs.declared.searches.Search.{Search}

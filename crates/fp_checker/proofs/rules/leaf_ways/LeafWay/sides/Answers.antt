@@ -7,4 +7,4 @@ use Rattle.fp_checker.proofs.rules.leaf_ways.LeafWay.sides.Goals as goal
 
 pub returns : goal.returns
 returns c =
-    subst (λ (sides : List Side). AskAlike sides (way_sides (steps_of c.args.self.now))) (sym c.deref.ensures.value) (asks-alike c.args.self.now.sides.items c.args.self.now.entries.items c.requires)
+    subst (λ (sides : List Side). AskAlike sides (way_sides (steps_of c.args.self.now))) (sym c.deref.ensures.value) (asks-alike c.args.self.now.sides.items c.args.self.now.entries.items c.requires.comes)
