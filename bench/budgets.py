@@ -10,7 +10,7 @@ PROGRAM is the built program; without it the proved one in crates/freight/out is
 program of the same words, whose rows stand below those of PROGRAM. Each answer is handed back to the `check` of the
 program that gave it. A row ends with `dearer` where a larger budget gave a dearer plan than some smaller one, and with
 `lower` where it gave a lower bound; the last lines say how many rows do. A search with more of a budget does first what one
-with less does (docs/policies.md), but a split may lower a bound, and no clause promises it. Instances of more than 50
+with less does (docs/policies.md); without `--spans` a split may still lower a bound (docs/DECISIONS.md). Instances of more than 50
 shipments, which take minutes a row, are run where ONLY is set and their names have its word.
 """
 import os

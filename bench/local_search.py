@@ -5,7 +5,8 @@
     ONLY=WORD bench/local_search.py ..         the rows alone whose names have the word, as `day`
 
 From the direct plan of each instance it makes a search of TURNS turns for each LOOSE, with draws of its own, and prints the direct plan's cost, that
-of the cheapest plan found, and the seconds of all searches. The program is proved first, which takes some minutes where nothing is kept.
+of the cheapest plan found, the seconds of all searches, and how much of what they saved was by turns that took out shipments
+which share an arc, pass a terminal at about one moment, or leave together, in per cent. The program is proved first, which takes some minutes where nothing is kept.
 """
 import os
 import subprocess
@@ -34,7 +35,7 @@ SOURCE = """//! Local searches from the direct plan of an instance on standard i
 use anyhow::{Result, bail};
 use fp_ends::{Resources, StdSource, read_all};
 use fp_flatnet::{Verdict, Windows, direct, feasible};
-use fp_repair_search::{Search, local_search};
+use fp_repair_search::{Earnings, Search, local_search_with_earnings};
 use fp_model::Instance;
 use fp_reader::{Tail, instance};
 use fp_records::records;
@@ -55,8 +56,8 @@ fn told(alloc: Global, text: &[u8]) -> Result<Instance> {
     }
 }
 
-// Searches once for each allowance: the direct cost and the least cost met.
-fn searched(alloc: Global, instance: &Instance, turns: u32, looses: &[u32]) -> Result<(u128, u128)> {
+// Searches once for each allowance: the direct cost, the least cost met, and what each removal earned.
+fn searched(alloc: Global, instance: &Instance, turns: u32, looses: &[u32]) -> Result<(u128, u128, Earnings)> {
     if feasible(alloc, instance)? != Verdict::All {
         bail!("not in time");
     }
@@ -64,6 +65,7 @@ fn searched(alloc: Global, instance: &Instance, turns: u32, looses: &[u32]) -> R
     let windows = Windows::of(alloc, instance)?;
     let first = cost(alloc, instance, &plan)?;
     let mut least = first;
+    let mut earned = Earnings { arc: 0, terminal: 0, departure: 0 };
     let seed = u64::try_from(first).unwrap_or(0);
     for (number, loose) in looses.iter().enumerate() {
         let search = Search {
@@ -71,10 +73,13 @@ fn searched(alloc: Global, instance: &Instance, turns: u32, looses: &[u32]) -> R
             turns,
             loose: *loose,
         };
-        let found = local_search(&Resources::endless(alloc), instance, &windows, &plan, search)?;
+        let (found, by) = local_search_with_earnings(&Resources::endless(alloc), instance, &windows, &plan, search)?;
+        earned.arc = earned.arc.saturating_add(by.arc);
+        earned.terminal = earned.terminal.saturating_add(by.terminal);
+        earned.departure = earned.departure.saturating_add(by.departure);
         least = least.min(cost(alloc, instance, &found)?);
     }
-    Ok((first, least))
+    Ok((first, least, earned))
 }
 
 fn main(rt: HostRuntime) -> Result<()> {
@@ -91,9 +96,10 @@ fn main(rt: HostRuntime) -> Result<()> {
     };
     let instance = told(alloc, &text)?;
     let start = Instant::now(&rt)?;
-    let (first, least) = searched(alloc, &instance, *turns, looses)?;
+    let (first, least, earned) = searched(alloc, &instance, *turns, looses)?;
     let taken = start.elapsed(&rt)?.as_millis();
-    println!(rt; "{first} {least} {taken}")?;
+    let Earnings { arc, terminal, departure } = earned;
+    println!(rt; "{first} {least} {taken} {arc} {terminal} {departure}")?;
     Ok(())
 }
 """
@@ -128,12 +134,13 @@ def rows():
 def main():
     words = sys.argv[1:] if len(sys.argv) > 2 else (sys.argv[1:] or ["20000"]) + ["30", "60"]
     with proved(SOURCE, crates_below(list(USES)), USES) as program:
-        print(f"{'instance':18} {'direct':>9} {'search':>9}  seconds")
+        print(f"{'instance':18} {'direct':>9} {'search':>9}  seconds   arc terminal departure")
         for name, text in rows():
             if is_wanted(name):
                 done = subprocess.run([program] + words, input=text.encode(), stdout=subprocess.PIPE, check=True)
-                direct, least, taken = done.stdout.decode().split()
-                print(f"{name:18} {direct:>9} {least:>9} {int(taken) / 1000:8.3f}")
+                direct, least, taken, *earned = done.stdout.decode().split()
+                parts = [100 * int(part) / max(1, sum(map(int, earned))) for part in earned]
+                print(f"{name:18} {direct:>9} {least:>9} {int(taken) / 1000:8.3f} {parts[0]:4.0f}% {parts[1]:7.0f}% {parts[2]:8.0f}%")
 
 
 main()

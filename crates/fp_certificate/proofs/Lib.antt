@@ -5,6 +5,7 @@ mod ListsBack
 pub mod NamesBack
 pub mod NumbersBack
 mod PlainRows
+pub mod RangedFields
 pub mod Ranged
 mod ReadEnds
 mod SegmentsBack

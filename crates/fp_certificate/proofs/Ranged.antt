@@ -1,204 +1,39 @@
 -- What is read is in range.
-use Rattle.std.proofs.Common.{◌≡◌, ◌∙◌, ℕ, ◌+◌, ◌^◌, ◌-◌, ◌<◌, ◌≤◌, true, false, List, [], ◌∷◌, ◌++◌, length, get_or, drop, refl, sym, ap, subst, arith, lit≤, inl, inr}
-use Rattle.std.specs.Prelude.{Option, Some, None, Result, Ok, All, IfSome, ◌&&◌, ◌||◌, not, ◌==◌, codes, nat_lt}
-use Rattle.std.proofs.lemmas.Bool.{and_parts, cases_Bool, ltb-true, not-false, or_parts}
+use Rattle.std.proofs.Common.{◌≡◌, ◌∙◌, ℕ, ◌+◌, ◌^◌, ◌-◌, ◌<◌, List, [], ◌∷◌, ◌++◌, length, get_or, drop, refl, sym, ap, subst, arith, lit≤, inl, inr}
+use Rattle.std.specs.Prelude.{Option, Some, None, Result, Ok, All, ◌&&◌, ◌||◌, not, ◌==◌}
+use Rattle.std.proofs.lemmas.Bool.{and_parts, cases_Bool, not-false, or_parts}
 use Rattle.std.proofs.lemmas.List.{drop_more, length_push}
 use Rattle.std.proofs.lemmas.List.Elements.{All-nil, All-push, All-weaker}
-use Rattle.fp_model.specs.declared.limits.TheConstants.{GREATEST_SCALE, LAST_ROUND, LATEST, LONGEST_FASTEST}
-use Rattle.fp_model.specs.Problem.{Problem, weight_at}
-use Rattle.fp_prices.specs.declared.leaf_prices.Kind.{Kind}
-use Rattle.fp_prices.specs.declared.leaf_prices.Kind.TheVariants as price
-use Rattle.fp_prices.specs.declared.tables.Weight.{Weight}
+use Rattle.fp_model.specs.declared.limits.TheConstants.{LAST_ROUND}
+use Rattle.fp_model.specs.Problem.{Problem}
 use Rattle.fp_prices.specs.Shares.{ClassShare}
 use Rattle.fp_prices_spans.specs.Spans.{ClassSpan}
-use Rattle.fp_prices.specs.Tables.{AreCountable, HasKind}
+use Rattle.fp_prices.specs.Tables.{AreCountable}
 use Rattle.fp_records_fields.specs.Findings.{first_code}
-use Rattle.fp_records_fields.specs.Fields.{has_number, is_between, number_at, has_word}
+use Rattle.fp_records_fields.specs.Fields.{has_number, is_between, number_at}
 use Rattle.fp_records_fields.specs.Faults.{first_fault, Fault}
 use Rattle.fp_records_fields.proofs.Numerals.{is_between-limits}
 use Rattle.fp_records_fields.proofs.FaultTables.{IsClear-from_none}
-use Rattle.fp_tree.specs.declared.layout.TheConstants.{MOST_SPLITS}
-use Rattle.fp_certificate_lines.specs.declared.certificates.Answer.{Answer}
-use Rattle.fp_certificate_lines.specs.declared.certificates.Node.{Node}
-use Rattle.fp_certificate_lines.specs.declared.certificates.Node.TheVariants.{Branch}
-use Rattle.fp_certificate_lines.specs.declared.certificates.Node.TheVariants as node
 use Rattle.fp_certificate.specs.declared.drafts.Draft.{Draft}
 use Rattle.fp_certificate.specs.declared.lines.sections.Section.TheVariants as section
 use Rattle.fp_certificate.specs.declared.lines.kinds.LineKind.{LineKind}
 use Rattle.fp_certificate.specs.declared.lines.kinds.LineKind.TheVariants.{Direct, Optimal, Unfinished, Infeasible, Scale, Leg, Truck, Point, Table, Share, Span, ByArc, ByTime, Leaf, End}
 use Rattle.fp_certificate.specs.declared.lines.kinds.LineKind.TheVariants as kind
-use Rattle.fp_certificate.specs.Answers.{has_bad_scale, has_time, has_time_in_range, has_unfinished_digits, time_in, is_figure}
+use Rattle.fp_certificate.specs.Answers.{has_bad_scale, has_time, has_time_in_range, has_unfinished_digits, is_figure}
 use Rattle.fp_certificate.specs.Sections.{has_ended, is_misplaced}
 use Rattle.fp_certificate.specs.Kinds.{kind_of}
 use Rattle.fp_records_fields.specs.NamedParts.{lacks_arc, lacks_shipment, lacks_terminal}
 use Rattle.fp_certificate.specs.Points.{point_in}
-use Rattle.fp_certificate_lines.specs.Ranges.{IsAnswerInRange, IsGroupInRange, IsInRange, IsLegInRange, IsNodeInRange, IsPointInRange, IsScaleInRange, IsShareInRange, IsSpanInRange, IsTruckInRange, IsWeightInRange, largest_figure}
+use Rattle.fp_certificate_lines.specs.Ranges.{IsGroupInRange, IsInRange, IsLegInRange, IsNodeInRange, IsPointInRange, IsShareInRange, IsSpanInRange, IsTruckInRange, IsWeightInRange, largest_figure}
 use Rattle.fp_certificate.specs.Reading.{certificate_from, faults_of, finished, kind_code, line_code, nothing_read, with_kind, with_kind_of, with_line}
 use Rattle.fp_certificate_lines.specs.Statements.{Statement}
-use Rattle.fp_certificate.specs.Tables.{and_group, and_last_group, and_share, and_span, and_span_weight, and_weight, has_end_in_range, has_span, share_in, span_in, weight_in, with_last, with_weight}
+use Rattle.fp_certificate.specs.Tables.{and_share, and_span, has_end_in_range, share_in, span_in, weight_in}
 use Rattle.fp_certificate.specs.Timetables.{is_time, leg_in, truck_in}
-use Rattle.fp_certificate.specs.Trees.{has_kind_word, has_leaf_digits, has_leaf_ranges, has_sides_range, kind_in, lacks_sides, leaf_in, sides_in}
-use Rattle.fp_certificate.proofs.LineRanges.{All-with_last, in-time, small}
-use Rattle.fp_certificate.proofs.TableCounts.{AreCounted, counted-more, length-with_last, line-fewer}
+use Rattle.fp_certificate.specs.Trees.{has_kind_word, has_leaf_digits, has_leaf_ranges, has_sides_range, lacks_sides, leaf_in}
+use Rattle.fp_certificate.proofs.LineRanges.{in-time, small}
+use Rattle.fp_certificate.proofs.TableCounts.{AreCounted, counted-more, line-fewer}
 use Rattle.fp_records_fields.proofs.NamedParts.{arc_in-lt, shipment_in-lt, terminal_in-lt}
-
--- with another answer
-with-answer : (p : Problem) (c : Statement) (a : Answer) → IsAnswerInRange p a → IsInRange p c → IsInRange p (record c { answer = a })
-with-answer p c a h r = record {
-  answer = h;
-  scale = r.scale;
-  unit = r.unit;
-  legs = r.legs;
-  trucks = r.trucks;
-  points = r.points;
-  tables = r.tables;
-  spans = r.spans;
-  beside = r.beside;
-  tree = r.tree;
-}
-
--- with one more node
-IsInRange-with_node : (p : Problem) (c : Statement) (n : Node) → IsNodeInRange p c.tables n → IsInRange p c → IsInRange p (record c { tree = c.tree ++ (n ∷ []) })
-IsInRange-with_node p c n h r = record {
-  answer = r.answer;
-  scale = r.scale;
-  unit = r.unit;
-  legs = r.legs;
-  trucks = r.trucks;
-  points = r.points;
-  tables = r.tables;
-  spans = r.spans;
-  beside = r.beside;
-  tree = All-push (IsNodeInRange p c.tables) c.tree n r.tree h;
-}
-
--- a table that exists still does where there are more
-kind-grows : (few many : List (List ClassShare)) (kind : Kind) → length few ≤ length many → HasKind few kind → HasKind many kind
-kind-grows few many price.Linear le h = tt
-kind-grows few many price.Even le h = tt
-kind-grows few many (price.Table id) le h = (h.0, omega (arith, h.1))
-
-node-grows : (p : Problem) (few many : List (List ClassShare)) (n : Node) → length few ≤ length many → IsNodeInRange p few n → IsNodeInRange p many n
-node-grows p few many (Branch split) le h = h
-node-grows p few many (node.Leaf v) le h = record { kind = kind-grows few many v.price.kind le h.kind; round = h.round; sides = h.sides }
-
--- with other tables and other spans beside them, no fewer than before
-IsInRange-with_lists : (p : Problem) (c : Statement) (tables : List (List ClassShare)) (spans : List (List ClassSpan)) → length c.tables ≤ length tables → length spans ≡ length tables
-    → All (All (IsShareInRange p)) tables → All (All (IsSpanInRange p)) spans → IsInRange p c → IsInRange p (record c { tables = tables; spans = spans })
-IsInRange-with_lists p c tables spans le beside h t r = record {
-  answer = r.answer;
-  scale = r.scale;
-  unit = r.unit;
-  legs = r.legs;
-  trucks = r.trucks;
-  points = r.points;
-  tables = h;
-  spans = t;
-  beside = beside;
-  tree = All-weaker (IsNodeInRange p c.tables) (IsNodeInRange p tables) (λ n. node-grows p c.tables tables n le) c.tree r.tree;
-}
-
--- with a changed last table, of which the shares are in range again
-with-last-table : (p : Problem) (c : Statement) (f : List ClassShare → List ClassShare) → ((table : List ClassShare) → All (IsShareInRange p) table → All (IsShareInRange p) (f table))
-    → IsInRange p c → IsInRange p (record c { tables = with_last f c.tables })
-with-last-table p c f changes r =
-    let stays : length (with_last f c.tables) ≡ length c.tables = length-with_last f c.tables in
-    IsInRange-with_lists p c (with_last f c.tables) c.spans (omega arith) (omega (arith, r.beside))
-    (All-with_last (All (IsShareInRange p)) (All (IsShareInRange p)) f c.tables (λ table all. all) changes r.tables) r.spans r
-
--- with a changed last list of spans, which are in range again
-with-last-spans : (p : Problem) (c : Statement) (f : List ClassSpan → List ClassSpan) → ((list : List ClassSpan) → All (IsSpanInRange p) list → All (IsSpanInRange p) (f list))
-    → IsInRange p c → IsInRange p (record c { spans = with_last f c.spans })
-with-last-spans p c f changes r =
-    let stays : length (with_last f c.spans) ≡ length c.spans = length-with_last f c.spans in
-    IsInRange-with_lists p c c.tables (with_last f c.spans) (omega arith) (omega (arith, r.beside)) r.tables
-    (All-with_last (All (IsSpanInRange p)) (All (IsSpanInRange p)) f c.spans (λ list all. all) changes r.spans) r
-
--- with one more weight
-weight-ranged : (p : Problem) (before : Draft) (w : Weight) → IsWeightInRange p w → IsInRange p before.certificate → IsInRange p (with_weight before w).certificate
-weight-ranged p before w fits r =
-    let share : (x : ClassShare) → IsShareInRange p x → IsShareInRange p (and_weight w x) = λ x s. record {
-      arc = s.arc;
-      point = s.point;
-      price = s.price;
-      weights = All-push (IsWeightInRange p) x.weights w s.weights fits;
-    } in
-    let span : (x : ClassSpan) → IsSpanInRange p x → IsSpanInRange p (and_span_weight w x) = λ x s. record {
-      arc = s.arc;
-      point = s.point;
-      some = s.some;
-      until = s.until;
-      money = s.money;
-      charge = s.charge;
-      weights = All-push (IsWeightInRange p) x.weights w s.weights fits;
-      groups = s.groups;
-    } in
-    elim (cases_Bool (has_span before.certificate.spans)) [
-      | inl some ↦ rw some (with-last-spans p before.certificate (with_last (and_span_weight w))
-          (λ list all. All-with_last (IsSpanInRange p) (IsSpanInRange p) (and_span_weight w) list (λ x s. s) span all) r)
-      | inr none ↦ rw none (with-last-table p before.certificate (with_last (and_weight w))
-          (λ table all. All-with_last (IsShareInRange p) (IsShareInRange p) (and_weight w) table (λ x s. s) share all) r)
-    ]
-
--- with one more group
-group-ranged : (p : Problem) (c : Statement) (m : ℕ) → IsGroupInRange m → IsInRange p c → IsInRange p (record c { spans = and_last_group m c.spans })
-group-ranged p c m fits r =
-    let span : (x : ClassSpan) → IsSpanInRange p x → IsSpanInRange p (and_group m x) = λ x s. record {
-      arc = s.arc;
-      point = s.point;
-      some = s.some;
-      until = s.until;
-      money = s.money;
-      charge = s.charge;
-      weights = s.weights;
-      groups = All-push IsGroupInRange x.groups m s.groups fits;
-    } in
-    with-last-spans p c (with_last (and_group m)) (λ list all. All-with_last (IsSpanInRange p) (IsSpanInRange p) (and_group m) list (λ x s. s) span all) r
-
--- the fastest time of an infeasible answer
-time-range : (fields : List (List ℕ)) → has_time_in_range fields ≡ true → IfSome (time_in fields) (λ t. t ≤ LONGEST_FASTEST)
-time-range fields h = elim (cases_Bool (has_word (codes "none") fields 3)) [
-  | inl none ↦ rw none tt
-  | inr some ↦
-      let limit : is_between 0 LONGEST_FASTEST fields 3 ≡ true = rw some at h in
-      rw some (is_between-limits 0 LONGEST_FASTEST fields 3 limit).1
-]
-
--- a scale
-scale-range : (p : Problem) (fields : List (List ℕ)) → has_bad_scale p fields ≡ false → IsScaleInRange p (number_at fields 1)
-scale-range p fields h =
-    let limits = is_between 1 GREATEST_SCALE fields 1 in
-    let weight = weight_at (number_at fields 1) p.arcs p.shipments in
-    let parts = and_parts limits (nat_lt weight (2 ^ 127)) (not-false (limits && nat_lt weight (2 ^ 127)) h) in
-    let range = is_between-limits 1 GREATEST_SCALE fields 1 parts.0 in
-    record { least = range.0; most = range.1; fits = ltb-true weight (2 ^ 127) parts.1 }
-
--- the end of a span
-end-range : (fields : List (List ℕ)) → has_end_in_range fields ≡ true → (number_at fields 3 < number_at fields 4) × (number_at fields 4 ≤ LATEST + 1)
-end-range fields h =
-    let limits = is_between-limits (number_at fields 3 + 1) (LATEST + 1) fields 4 h in
-    (omega (arith, limits.0), limits.1)
-
--- the kind of a leaf's prices
-kind-range : (tables : List (List ClassShare)) (fields : List (List ℕ)) → (has_kind_word fields || is_between 1 (length tables) fields 1) ≡ true → HasKind tables (kind_in fields)
-kind-range tables fields h = elim (cases_Bool (has_word (codes "linear") fields 1)) [
-  | inl linear ↦ rw linear tt
-  | inr other ↦ elim (cases_Bool (has_word (codes "even") fields 1)) [
-    | inl even ↦ rw (other, even) tt
-    | inr table ↦
-        let limit : is_between 1 (length tables) fields 1 ≡ true = rw (other, table) at h in
-        rw (other, table) (is_between-limits 1 (length tables) fields 1 limit)
-  ]
-]
-
--- under how many of its sides it is valued
-sides-range : (fields : List (List ℕ)) → has_sides_range fields ≡ true → IfSome (sides_in fields) (λ count. count ≤ MOST_SPLITS)
-sides-range fields h = elim (cases_Bool (lacks_sides fields)) [
-  | inl lacks ↦ rw lacks tt
-  | inr told ↦
-      let limit : is_between 0 MOST_SPLITS fields 4 ≡ true = rw told at h in
-      rw told (is_between-limits 0 MOST_SPLITS fields 4 limit).1
-]
+use Rattle.fp_certificate.proofs.RangedFields.{IsInRange-with_lists, IsInRange-with_node, end-range, group-ranged, kind-range, scale-range, sides-range, time-range, weight-ranged, with-answer, with-last-spans, with-last-table}
 
 -- a line of a kind without a fault gives what is in range
 kind-ranged : (p : Problem) (before : Draft) (kind : LineKind) (fields : List (List ℕ)) → first_code (faults_of p before kind fields) ≡ None

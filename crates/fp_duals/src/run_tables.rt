@@ -3,9 +3,12 @@ ghost use Rattle.std.specs.Prelude.{◌≡◌, ◌+◌, ◌≤◌, All, IfOk, Ma
 ghost use Rattle.fp_prices.specs.Shares.{ClassShare};
 ghost use Rattle.fp_duals.specs.declared.limits.TheConstants.{MOST_PRICE_LINES};
 ghost use Rattle.fp_duals.specs.PriceLines.{AreWithinLimits, IsInTime, line_count, line_total};
+ghost use Rattle.fp_duals.specs.PriceTables.{ArePriceTables};
 
 use crate::NoMemory;
 use crate::limits::MOST_PRICE_LINES;
+use crate::table_tests::is_fit;
+use fp_model::Instance;
 use fp_prices::{Share, Table};
 use std::alloc::Global;
 use std::marker::Model;
@@ -101,6 +104,29 @@ impl Tables {
         self.list.push(table)?;
         self.lines += lines;
         Ok(())
+    }
+
+    /// Adds a table by which leaves of the instance may be priced, and tells whether it did: only where it
+    /// has a share, and no more than `most` price lines and those that are left. `NoMemory` only where no
+    /// memory is found.
+    pub fn push_fit(
+        &mut self,
+        instance: &Instance,
+        table: Table,
+        most: u32,
+    ) -> Result<bool, NoMemory>
+        requires tables { ArePriceTables instance.now self.old }
+        ensures added { IfOk result (λ added. MatchBool added
+            (self.new ≡ self.old ++ (table ∷ [])) (self.new ≡ self.old)) }
+        ensures tables { ArePriceTables instance.now self.new }
+        ensures lines { IfOk result (λ added. line_total self.new ≤ line_total self.old + most) }
+        ensures err { OnErr result (self.new ≡ self.old) }
+    {
+        if !is_fit(instance, &table, self.left().min(most)) {
+            return Ok(false);
+        }
+        self.push(table)?;
+        Ok(true)
     }
 
     /// Adds a table without shares, and tells whether it did: not where no price line is left.

@@ -9,9 +9,10 @@ use Rattle.fp_flatnet.specs.Tables.{WindowTable}
 use Rattle.fp_prices.specs.Shares.{ClassShare}
 use Rattle.fp_prices.specs.Tables.{IsAscendingTable}
 use Rattle.fp_prices_spans.specs.Spans.{ClassSpan}
-use Rattle.fp_duals.specs.PriceTables.{IsShareOf}
+use Rattle.fp_duals.specs.PriceTables.{ArePriceTables, IsShareOf}
 use Rattle.fp_duals.proofs.PriceTables.{ArePriceTables-append}
 use Rattle.fp_duals_leaves.specs.SoundSpans.{AreSoundSpans}
+use Rattle.fp_duals_leaves.proofs.SoundSpans.{no_spans-sound}
 use Rattle.fp_duals_leaves.specs.Prices.{ArePrices, HaveGrown, IsUnitOf, PriceLists, first_prices, with_more}
 
 -- prices that stayed
@@ -57,6 +58,25 @@ HaveGrown-spans p table before after spans are sought sound is = record {
     unit = are.unit;
     without = λ none. absurd (sought none);
   });
+}
+
+-- one table more without spans beside it
+pub HaveGrown-table : (p : Problem) (table : WindowTable) (before after : PriceLists) (shares : List ClassShare) → ArePrices p table before → ArePriceTables p after.tables → after ≡ with_more before (shares ∷ []) ([] ∷ []) →
+    HaveGrown p table before after
+HaveGrown-table p table before after shares are in_order is = record {
+  tables = shares ∷ [];
+  spans = [] ∷ [];
+  is = is;
+  prices = record {
+    tables = in_order;
+    spans = subst (λ (x : PriceLists). All (AreSoundSpans p table) x.spans) (sym is)
+        (All-append (AreSoundSpans p table) before.spans ([] ∷ []) are.spans (All-cons (AreSoundSpans p table) [] [] (no_spans-sound p table) (All-nil (AreSoundSpans p table))));
+    beside = omega (arith, are.beside, ap (λ (x : PriceLists). length x.spans) is, ap (λ (x : PriceLists). length x.tables) is, length-append before.spans ([] ∷ []), length-append before.tables (shares ∷ []));
+    unit = subst (λ (x : PriceLists). IfSome x.unit (IsUnitOf p)) (sym is) are.unit;
+    without = λ none. subst (λ (x : PriceLists). All (λ (ss : List ClassSpan). ss ≡ []) x.spans) (sym is)
+        (All-append (λ (ss : List ClassSpan). ss ≡ []) before.spans ([] ∷ []) (are.without (sym (ap (λ (x : PriceLists). x.unit) is) ∙ none))
+        (All-cons (λ (ss : List ClassSpan). ss ≡ []) [] [] refl (All-nil (λ (ss : List ClassSpan). ss ≡ []))));
+  };
 }
 
 -- the unit stays

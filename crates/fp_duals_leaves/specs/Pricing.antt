@@ -11,7 +11,10 @@ use Rattle.fp_allowed.specs.Walks.{IsTimedWalk}
 use Rattle.fp_prices.specs.declared.leaf_prices.Kind.TheVariants.{Even, Linear}
 use Rattle.fp_prices.specs.Leaves.{IsFirstWithout}
 use Rattle.fp_prices.specs.Tables.{HasKind}
-use Rattle.fp_prices_spans.specs.SpanKinds.{IsPricedValue}
+use Rattle.fp_prices.specs.declared.leaf_prices.LeafPrice.{LeafPrice}
+use Rattle.fp_prices.specs.declared.values.bounds.LeafBound.{LeafBound}
+use Rattle.fp_prices_spans.specs.SpanKinds.{IsPricedValue, spans_beside}
+use Rattle.fp_prices_spans.specs.SpanLeaves.{IsSpanBoundOf}
 use Rattle.fp_duals.specs.declared.improvements.Improved.{Improved}
 use Rattle.fp_duals.specs.declared.improvements.Improved.TheVariants.{Empty, Priced}
 use Rattle.fp_duals.specs.Improvements.{IsReachedChain}
@@ -25,6 +28,10 @@ module _ (p : Problem) (windows : ℕ → ℕ → Option Window) (points : ℕ �
     pub of_round : w.price.round ≡ round
     pub kind : HasKind x.tables w.price.kind
     pub is : IsPricedValue p windows points sides x.tables x.spans w.price.kind w.price.forced w.value
+
+  -- the bound of the leaf by a price, with the spans beside its table
+  abbrev pub IsPricedBound : LeafPrice → LeafBound → Type 0
+  IsPricedBound price bound = IsSpanBoundOf p windows points sides x.tables (spans_beside x.spans price.kind) price.kind price.forced bound
 
   -- the same price, or one by which the leaf is worth more
   abbrev pub IsNoLess : Worth → Worth → Type 0

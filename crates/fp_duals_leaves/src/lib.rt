@@ -16,14 +16,17 @@ mod pricing;
 mod roots;
 mod span_prices;
 mod span_tests;
+mod steady_prices;
+mod steady_tables;
 mod walks;
 
 pub use efforts::PriceEffort;
 pub use laws::price_lines_are_written;
 pub use prices::Prices;
-pub use pricing::{Worth, improve};
+pub use pricing::{Worth, bound_by, improve};
 pub use roots::improve_root;
 pub use span_prices::SpanPrice;
+pub use steady_prices::steady_price;
 pub use walks::walks_by_spans;
 
 /// The error of a call that finds no memory.

@@ -5,6 +5,7 @@ ghost use Rattle.fp_longestarcs.specs.Networks.{points_in};
 ghost use Rattle.fp_prices.specs.Tables.{HasKind};
 ghost use Rattle.fp_duals.specs.declared.limits.TheConstants.{MOST_PRICE_LINES};
 ghost use Rattle.fp_duals.specs.PriceLines.{AreWithinLimits};
+ghost use Rattle.fp_duals.specs.PriceTables.{ArePriceTables};
 ghost use Rattle.fp_prices_spans.specs.SpanKinds.{spans_beside as spans_beside_kind};
 ghost use Rattle.fp_duals_leaves.specs.PriceLines.{AreFewLines, price_lines, span_lines};
 ghost use Rattle.fp_duals_leaves.specs.Prices.{ArePrices, HaveGrown, empty_prices, first_prices, with_more};
@@ -14,6 +15,7 @@ use crate::NoMemory;
 use fp_duals::{Effort, Improved, Tables, improve_leaf};
 use fp_duals_nets::LentNets;
 use fp_ends::{Deadline, Resources};
+use fp_model::Instance;
 use fp_prices::{Kind, Leaf, LeafPrice, Table};
 use fp_prices_spans::{Span, TableSpans, spans_beside};
 use std::alloc::Global;
@@ -196,6 +198,34 @@ impl Prices {
             return Err(error.into());
         }
         Ok(improved)
+    }
+
+    /// Adds a table of the instance without spans beside it, and tells whether it did: not where it isn't one
+    /// by which leaves may be priced, nor where it would be more price lines than are left.
+    pub(crate) fn push_table(
+        &mut self,
+        alloc: Global,
+        instance: &Instance,
+        table: Table,
+    ) -> Result<bool, NoMemory>
+        requires tables { ArePriceTables instance.now self.old.tables }
+        requires beside { length self.old.spans ≡ length self.old.tables }
+        ensures added { IfOk result (λ added. MatchBool added
+            (self.new ≡ with_more self.old (table ∷ []) ([] ∷ [])) (self.new ≡ self.old)) }
+        ensures tables { ArePriceTables instance.now self.new.tables }
+        ensures err { OnErr result (self.new ≡ self.old) }
+    {
+        let room = self.left();
+        let count = self.count();
+        if !self.tables.push_fit(instance, table, room)? {
+            return Ok(false);
+        }
+        let spans = Vec::new(alloc);
+        if let Err(error) = self.spans.push(TableSpans { spans }) {
+            self.tables.cut(count);
+            return Err(error.into());
+        }
+        Ok(true)
     }
 
     /// Adds a table without shares and spans beside it, and tells whether it did: not where they

@@ -4,7 +4,7 @@ ghost use Rattle.fp_flatnet.specs.Tables.{windows_in};
 ghost use Rattle.fp_longestarcs.specs.Networks.{points_in};
 ghost use Rattle.fp_prices.specs.Tables.{HasKind};
 ghost use Rattle.fp_duals_leaves.specs.Prices.{ArePrices, HaveGrown};
-ghost use Rattle.fp_duals_leaves.specs.Pricing.{IsImprovedBy, IsNoLess};
+ghost use Rattle.fp_duals_leaves.specs.Pricing.{IsImprovedBy, IsNoLess, IsPricedBound};
 
 use crate::NoMemory;
 use crate::efforts::PriceEffort;
@@ -23,6 +23,27 @@ use std::alloc::Global;
 pub struct Worth {
     pub price: LeafPrice,
     pub value: u128,
+}
+
+/// The bound of a leaf by a price of a search, whatever its round: that the leaf is empty, or what it is
+/// worth with the spans beside the table that the price names.
+///
+/// It is what [`span_bound`] finds. `NoMemory` only where no memory is found.
+pub fn bound_by(
+    alloc: Global,
+    leaf: &Leaf,
+    price: LeafPrice,
+    prices: &Prices,
+) -> Result<LeafBound, NoMemory>
+    requires prices { ArePrices leaf.now.setting.problem leaf.now.setting.windows prices.now }
+    requires kind { HasKind prices.now.tables price.kind }
+    ensures { IfOk result
+        (IsPricedBound leaf.now.setting.problem (windows_in leaf.now.setting.windows)
+        (points_in leaf.now.setting.network) leaf.now.sides prices.now price.round price) }
+{
+    let LeafPrice { kind, forced, .. } = price;
+    let spans = prices.spans_beside(kind);
+    span_bound(alloc, leaf, prices.tables(), spans, kind, forced)
 }
 
 // What a leaf is worth, as of the same round, by the prices that it inherits, with the spans beside

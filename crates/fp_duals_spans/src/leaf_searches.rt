@@ -18,8 +18,8 @@ use fp_prices::{Kind, Leaf, Table};
 use fp_prices_spans::Span;
 use std::alloc::Global;
 
-// Among more shipments than so many, spans over whole arcs alone are sought where they are found:
-// the others take most of the time there, and gained a part in 300 on a day of 300.
+// Among more shipments than so many, spans over whole arcs alone are sought at first: the others take
+// most of the time there, and gained a part in 300 on a day of 300.
 const MOST_BY_CLASS: usize = 200;
 
 /// Prices from which a search starts: those of a kind, which may name one of the tables, in the
@@ -123,6 +123,7 @@ fn found_over_arcs<D: Deadline>(
 /// `NoMemory` only where no memory is found.
 ///
 /// They are sought over whole arcs, and over classes and runs of them; the better ones are taken.
+/// Where there are many shipments they are sought over classes only once there are some over arcs.
 /// One search over each net for each turn of the effort, and one over the sets of each span
 /// whose prices move. Takes memory that grows with the edges of the nets.
 pub fn proposed_spans<D: Deadline>(
@@ -138,7 +139,7 @@ pub fn proposed_spans<D: Deadline>(
 {
     let are_many = leaf.round().instance().shipments().len() > MOST_BY_CLASS;
     let over_arcs = match found_over_arcs(resources, leaf, model, start, effort)? {
-        Some(over_arcs) if are_many => return Ok(over_arcs.spans),
+        Some(over_arcs) if are_many && start.spans.is_empty() => return Ok(over_arcs.spans),
         found => found,
     };
     let by_class = StartPrices {

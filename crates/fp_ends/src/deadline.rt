@@ -29,9 +29,6 @@ pub trait Deadline {
     /// Whether the time seems to be over: never where it has no end.
     fn has_passed(&self) -> bool
         ensures { result ≡ true → ends self.now ≡ true };
-
-    /// Whether the time has an end.
-    fn is_set(&self) -> bool;
 }
 
 /// No deadline: the time is never over.
@@ -49,10 +46,6 @@ impl Deadline for NoDeadline {
     ghost ends = { λ _. false };
 
     fn has_passed(&self) -> bool {
-        false
-    }
-
-    fn is_set(&self) -> bool {
         false
     }
 }
@@ -89,9 +82,5 @@ impl<C: Clock> Deadline for ClockDeadline<'_, C> {
             Some(moment) => u64::from(seconds).saturating_mul(1000) <= moment,
             None => true,
         }
-    }
-
-    fn is_set(&self) -> bool {
-        self.seconds.is_some()
     }
 }

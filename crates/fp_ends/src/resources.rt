@@ -29,9 +29,4 @@ impl<D: Deadline> Resources<D> {
     {
         self.deadline.has_passed()
     }
-
-    /// Whether the time has an end.
-    pub fn is_limited(&self) -> bool {
-        self.deadline.is_set()
-    }
 }

@@ -85,8 +85,8 @@ fn route_cost(
     total
 }
 
-// What routes cost.
-fn routes_cost(instance: &Instance, routes: &[Vec<Leg>]) -> u128
+/// What routes cost: their trucks, counted once for each distinct departure, and their flow.
+pub fn routes_cost(instance: &Instance, routes: &[Vec<Leg>]) -> u128
     requires long { length routes.now ≡ length instance.now.shipments }
     requires arcs { All (λ (r : Vec Leg Global). ArcsExist instance.now r.items) routes.now }
     requires fits { cost_of instance.now (lists_of routes.now) < 2 ^ 128 }

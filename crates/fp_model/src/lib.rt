@@ -17,7 +17,7 @@ mod plans;
 mod routes;
 mod weights;
 
-pub use costs::{cost, load, trucks};
+pub use costs::{cost, load, routes_cost, trucks};
 pub use faults::{PlanFault, PlanKind, test_plan};
 pub use instances::Instance;
 pub use laws::limits_are_numbers;

@@ -10,6 +10,7 @@
 
 mod acceptance;
 mod draws;
+mod earnings;
 mod labels;
 mod load_factors;
 mod paths;
@@ -19,7 +20,8 @@ mod removal;
 mod searches;
 mod turns;
 
-pub use searches::{Search, local_search};
+pub use earnings::Earnings;
+pub use searches::{Search, local_search, local_search_with_earnings};
 
 /// The error of a call that finds no memory.
 pub type NoMemory = std::alloc::AllocError;

@@ -2,6 +2,7 @@
 
 use crate::NoMemory;
 use crate::draws::Draws;
+use crate::earnings::RemovalKind;
 use crate::load_factors::emptiest;
 use crate::relatedness::{Passage, has_arc, is_in, shares_arc};
 use fp_model::Instance;
@@ -25,13 +26,15 @@ pub(crate) struct Taken {
 }
 
 // The shipments that are taken out, the ones that they are drawn from, and those that pass a terminal
-// by how far from a moment. `most` is how many are taken out at once at most.
+// by how far from a moment. `most` is how many are taken out at once at most, and `kind` what those have
+// in common that are.
 #[derive(Drop)]
 pub(crate) struct Removal {
     pub taken: Vec<Taken>,
     near: Vec<usize>,
     passing: Vec<(u32, usize)>,
     most: u32,
+    pub kind: RemovalKind,
 }
 
 impl Removal {
@@ -47,6 +50,7 @@ impl Removal {
             near: Vec::new(alloc),
             passing: Vec::new(alloc),
             most,
+            kind: RemovalKind::Arc,
         }
     }
 
@@ -62,10 +66,15 @@ impl Removal {
         self.taken.clear();
         self.near.clear();
         let wanted = draws.below(self.most).saturating_add(1);
-        match draws.below(4) {
-            0 => self.draw_sharing(instance, &solution.routes, draws)?,
-            1 => self.draw_passing(instance, solution, wanted, draws)?,
-            _ => self.draw_departure(instance, solution, draws)?,
+        self.kind = match draws.below(4) {
+            0 => RemovalKind::Arc,
+            1 => RemovalKind::Terminal,
+            _ => RemovalKind::Departure,
+        };
+        match self.kind {
+            RemovalKind::Arc => self.draw_sharing(instance, &solution.routes, draws)?,
+            RemovalKind::Terminal => self.draw_passing(instance, solution, wanted, draws)?,
+            RemovalKind::Departure => self.draw_departure(instance, solution, draws)?,
         }
         self.take_near(instance, wanted, draws)
     }

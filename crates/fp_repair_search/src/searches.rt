@@ -9,6 +9,7 @@ ghost use Rattle.fp_flatnet.specs.Windows.{PlanLiesWithin};
 
 use crate::NoMemory;
 use crate::acceptance::is_no_dearer;
+use crate::earnings::Earnings;
 use crate::turns::Turns;
 use fp_ends::{Deadline, Resources};
 use fp_flatnet::Windows;
@@ -45,26 +46,46 @@ pub fn local_search<D: Deadline>(
     ensures within { IfOk result (λ r. PlanLiesWithin (windows_in windows.now) 1 r) }
     ensures cheaper { IfOk result (λ r. cost_of instance.now r ≤ cost_of instance.now start.now) }
 {
+    let (plan, _) = local_search_with_earnings(resources, instance, windows, start, search)?;
+    Ok(plan)
+}
+
+/// The plan that [`local_search`] finds, and what each kind of removal earned on the way to it.
+pub fn local_search_with_earnings<D: Deadline>(
+    resources: &Resources<D>,
+    instance: &Instance,
+    windows: &Windows,
+    start: &Plan,
+    search: Search,
+) -> Result<(Plan, Earnings), NoMemory>
+    requires belongs { BelongsTo instance.now windows.now }
+    requires plan { IsPlan instance.now 1 start.now }
+    requires within { PlanLiesWithin (windows_in windows.now) 1 start.now }
+    ensures plan { IfOk result (λ r. IsPlan instance.now 1 r.0) }
+    ensures within { IfOk result (λ r. PlanLiesWithin (windows_in windows.now) 1 r.0) }
+    ensures cheaper { IfOk result (λ r. cost_of instance.now r.0 ≤ cost_of instance.now start.now) }
+{
     let usable = all_usable_arcs(resources.alloc, instance, windows)?;
-    let found = found_plan(resources, instance, usable, start, search)?;
+    let (found, earnings) = found_plan(resources, instance, usable, start, search)?;
     if is_no_dearer(resources.alloc, instance, windows, &found, start)? {
-        return Ok(found);
+        return Ok((found, earnings));
     }
-    start.copy(resources.alloc)
+    Ok((start.copy(resources.alloc)?, earnings))
 }
 
 // So many turns are made between two looks at the clock. Before each the cheapest plan met is kept, and
 // no other is: so a call that is cut off later finds no dearer one.
 const TURNS_AT_ONCE: u32 = 64;
 
-// What the search finds over the arcs that each shipment may use. It need not be a plan.
+// What the search finds over the arcs that each shipment may use, and what earned it. It need not be a
+// plan.
 fn found_plan<D: Deadline>(
     resources: &Resources<D>,
     instance: &Instance,
     usable: Vec<UsableArcs>,
     start: &Plan,
     search: Search,
-) -> Result<Plan, NoMemory> {
+) -> Result<(Plan, Earnings), NoMemory> {
     let alloc = resources.alloc;
     let solution = solution_of(alloc, instance, &usable, start)?;
     let mut turns = Turns::new(alloc, instance, usable, solution, search.seed)?;
@@ -78,8 +99,8 @@ fn found_plan<D: Deadline>(
         turns.turn(instance, allowance(search, turn))?;
     }
     turns.keep_plan(alloc, instance)?;
-    let Turns { plan, .. } = turns;
-    Ok(plan)
+    let Turns { plan, earnings, .. } = turns;
+    Ok((plan, earnings))
 }
 
 // How much dearer than the best state met the state may be in a turn, in parts of 1024 of the cost.

@@ -2,6 +2,7 @@
 
 use crate::NoMemory;
 use crate::draws::Draws;
+use crate::earnings::Earnings;
 use crate::paths::Paths;
 use crate::plans::{plan_cost, plan_of};
 use crate::removal::Removal;
@@ -19,10 +20,12 @@ struct Undone {
 }
 
 // What the turns work on. `best` has the routes of the state of least cost met, and `plan` is the
-// cheapest of the plans that were kept, with what it costs.
+// cheapest of the plans that were kept, with what it costs. `earnings` tells what made the best state
+// cheaper.
 #[derive(Drop)]
 pub(crate) struct Turns {
     pub plan: Plan,
+    pub earnings: Earnings,
     plan_cost: Option<u128>,
     solution: Solution,
     best: Vec<Vec<GroupedLeg>>,
@@ -56,6 +59,7 @@ impl Turns {
             plan: Plan {
                 routes: Vec::new(alloc),
             },
+            earnings: Earnings::new(),
             plan_cost: None,
             best,
             best_cost: solution.cost,
@@ -198,6 +202,8 @@ impl Turns {
     // Keeps the state, as the best one if it is.
     fn keep_best(&mut self) -> Result<(), NoMemory> {
         if self.solution.cost < self.best_cost {
+            let less = self.best_cost.saturating_sub(self.solution.cost);
+            self.earnings.add(self.removal.kind, less);
             self.best_cost = self.solution.cost;
             self.is_new = true;
             copy_routes(&self.solution.routes, &mut self.best)?;

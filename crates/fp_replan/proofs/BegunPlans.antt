@@ -1,7 +1,6 @@
 -- Plans whose routes begin with kept legs and go on from them.
-use Rattle.std.proofs.Common.{◌≡◌, ℕ, ◌*◌, ◌<◌, ◌≤◌, ◌++◌, List, [], ◌∷◌, length, map, refl, sym, ap, ap₂, ◌∙◌, subst, arith}
+use Rattle.std.proofs.Common.{◌≡◌, ℕ, ◌*◌, ◌<◌, ◌++◌, List, [], ◌∷◌, length, map, refl, sym, ap, ap₂, ◌∙◌, arith}
 use Rattle.std.specs.Prelude.{slice_index_or}
-use Rattle.std.specs.List.{AllZip}
 use Rattle.std.specs.declared.alloc.Global.{Global}
 use Rattle.std.specs.declared.vec.Vec.{Vec}
 use Rattle.std.proofs.lemmas.List.{length-map}
@@ -23,7 +22,7 @@ use Rattle.fp_replan.specs.Starts.{GoOn, GoesOnFrom, HasLegsFrom, IsStuck}
 use Rattle.fp_replan.proofs.KeptRoutes.{AllFrom-from_zero}
 
 -- over the denominator 1 legs are what they are
-scaled-one : (legs : List Leg) → map (scaled 1) legs ≡ legs
+pub scaled-one : (legs : List Leg) → map (scaled 1) legs ≡ legs
 scaled-one [] = refl
 scaled-one (l ∷ legs) =
     let leg : ℕ → Leg = λ n. record { arc = l.arc; depart = n } in

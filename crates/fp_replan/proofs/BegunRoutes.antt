@@ -1,28 +1,28 @@
 -- Routes of a shipment that begin with kept legs: what every such route has, over any denominator,
 -- and that a route that goes on from them in time carries the shipment.
-use Rattle.std.proofs.Common.{◌≡◌, ◌≢◌, ℕ, ◌+◌, ◌*◌, ◌<◌, ◌≤◌, true, false, ◌||◌, Some, None, Option, List, [], ◌∷◌, ◌++◌, length, map, ⊎_elim, refl, sym, ap, ap₂, ◌∙◌, subst, arith, le_refl, append-nil, eq-eqb}
-use Rattle.std.specs.Prelude.{IsSomeAnd, MatchOption, ◌==◌}
+use Rattle.std.proofs.Common.{◌≡◌, ◌≢◌, ℕ, ◌+◌, ◌*◌, ◌≤◌, true, false, Some, None, Option, List, [], ◌∷◌, ◌++◌, map, refl, sym, ap, ◌∙◌, subst, arith, append-nil, eq-eqb}
+use Rattle.std.specs.Prelude.{IsSomeAnd, ◌==◌}
 use Rattle.std.specs.List.{AllByRecursion}
 use Rattle.std.proofs.Math.Nat.{le_of_mul-le-mul_left}
-use Rattle.std.proofs.lemmas.Bool.{cases_lt, false≢true, ne_eqb, or_parts}
+use Rattle.std.proofs.lemmas.Bool.{false≢true, ne_eqb, or_parts}
 use Rattle.std.proofs.lemmas.List.{map-append}
 use Rattle.fp_base_lists.specs.Distinct.{AreDistinct}
 use Rattle.fp_base_lists.specs.Membership.{list_has}
 use Rattle.fp_base_lists.proofs.Distinct.{AreDistinct-cons, AreDistinct-head, AreDistinct-tail}
 use Rattle.fp_base_lists.proofs.Elements.{AllByRecursion-always, AllByRecursion-append, AllByRecursion-both, AllByRecursion-weaker}
-use Rattle.fp_base_lists.proofs.Membership.{list_has-first, list_has-rest}
+use Rattle.fp_base_lists.proofs.Membership.{list_has-append, list_has-first, list_has-rest}
 use Rattle.fp_model.specs.declared.parts.Leg.{Leg}
 use Rattle.fp_model.specs.declared.parts.Shipment.{Shipment}
 use Rattle.fp_model.specs.Problem.{IsValid, Problem, arc_at, hold_at}
 use Rattle.fp_model.specs.Routes.{ArrivesBy, Carries, Leads, LeavesReady, arcs_of, ends_of, step, walk_time}
-use Rattle.fp_flatnet.proofs.LeastWalks.{Leads-append, steps, time-steps}
+use Rattle.fp_flatnet.proofs.LeastWalks.{Leads-append, time-steps}
 use Rattle.fp_flatnet.proofs.PlanExistence.{arrives-after}
 use Rattle.fp_replan.specs.Beginnings.{IsBeginning}
 use Rattle.fp_replan.specs.KeptLegs.{BeginWith, place_after, places_seen, scaled}
-use Rattle.fp_replan.specs.Starts.{Avoids, GoesOnFrom, HasLegsFrom, IsOnward, ready_after}
+use Rattle.fp_replan.specs.Starts.{Avoids, GoesOnPast, HasLegsFrom, HasLegsPast, IsOnward, ready_after}
 use Rattle.fp_replan.proofs.KeptRoutes.{arcs-begin}
 use Rattle.fp_replan.proofs.ListParts.{AllByRecursion-right}
-use Rattle.fp_replan.proofs.OnwardWalks.{IsLeastPast, IsLeastPast-begins, IsPastDistance, past-apart}
+use Rattle.fp_replan.proofs.OnwardWalks.{IsLeastPast, IsLeastPast-begins, IsPastDistance, ends-append, past-apart}
 
 -- legs that leave ready: the first ones do, and the later ones after those
 ready-parts : (p : Problem) (d r : ℕ) (front rest : List Leg) → 1 ≤ d → LeavesReady p d (d * r) (map (scaled d) front ++ rest) →
@@ -42,12 +42,12 @@ ready-join p r (l ∷ front) rest first later =
     (first.0, subst (λ n. LeavesReady p 1 n (front ++ rest)) (sym one) (ready-join p (l.depart + step p l.arc) front rest (subst (λ n. LeavesReady p 1 n front) one first.1) later))
 
 -- a walk after legs
-leads-after : (p : Problem) (origin : ℕ) (front : List Leg) (arcs : List ℕ) (there : ℕ) → Leads p origin (arcs_of front ++ arcs) there → Leads p (place_after p origin front) arcs there
+pub leads-after : (p : Problem) (origin : ℕ) (front : List Leg) (arcs : List ℕ) (there : ℕ) → Leads p origin (arcs_of front ++ arcs) there → Leads p (place_after p origin front) arcs there
 leads-after p origin [] arcs there leads = leads
 leads-after p origin (l ∷ front) arcs there leads = leads-after p (arc_at p l.arc).to front arcs there leads.2
 
 -- of two lists without a number twice, the second has none of the first
-distinct-parts : (xs ys : List ℕ) → AreDistinct (xs ++ ys) → AllByRecursion (λ y. list_has xs y ≡ false) ys
+pub distinct-parts : (xs ys : List ℕ) → AreDistinct (xs ++ ys) → AllByRecursion (λ y. list_has xs y ≡ false) ys
 distinct-parts [] ys once = AllByRecursion-always (λ y. list_has [] y ≡ false) (λ y. refl) ys
 distinct-parts (x ∷ xs) ys once =
     let apart : AllByRecursion (λ y. y ≢ x) ys = AllByRecursion-right (λ y. y ≢ x) xs ys (AreDistinct-head x (xs ++ ys) once) in
@@ -56,7 +56,7 @@ distinct-parts (x ∷ xs) ys once =
     (λ y both. rw (ne_eqb x y (λ e. both.0 (sym e)), both.1) refl) ys
     (AllByRecursion-both (λ y. y ≢ x) (λ y. list_has xs y ≡ false) ys apart later)
 
-distinct-join : (xs ys : List ℕ) → AreDistinct xs → AreDistinct ys → AllByRecursion (λ y. list_has xs y ≡ false) ys → AreDistinct (xs ++ ys)
+pub distinct-join : (xs ys : List ℕ) → AreDistinct xs → AreDistinct ys → AllByRecursion (λ y. list_has xs y ≡ false) ys → AreDistinct (xs ++ ys)
 distinct-join [] ys first second apart = second
 distinct-join (x ∷ xs) ys first second apart =
     let from_x : AllByRecursion (λ y. y ≢ x) ys =
@@ -68,17 +68,17 @@ distinct-join (x ∷ xs) ys first second apart =
     (distinct-join xs ys (AreDistinct-tail x xs first) second from_xs)
 
 -- the terminals of one walk after another
-seen-append : (p : Problem) (origin : ℕ) (front : List Leg) (arcs : List ℕ) → origin ∷ ends_of p (arcs_of front ++ arcs) ≡ places_seen p origin front ++ ends_of p arcs
+pub seen-append : (p : Problem) (origin : ℕ) (front : List Leg) (arcs : List ℕ) → origin ∷ ends_of p (arcs_of front ++ arcs) ≡ places_seen p origin front ++ ends_of p arcs
 seen-append p origin front arcs = ap (λ (xs : List ℕ). origin ∷ xs) (map-append (λ a. (arc_at p a).to) (arcs_of front) arcs)
 
 -- where a shipment is after legs it was
-place-seen : (p : Problem) (origin : ℕ) (front : List Leg) → list_has (places_seen p origin front) (place_after p origin front) ≡ true
+pub place-seen : (p : Problem) (origin : ℕ) (front : List Leg) → list_has (places_seen p origin front) (place_after p origin front) ≡ true
 place-seen p origin [] = list_has-first origin []
 place-seen p origin (l ∷ front) =
     list_has-rest origin (places_seen p (arc_at p l.arc).to front) (place_after p (arc_at p l.arc).to front) (place-seen p (arc_at p l.arc).to front)
 
 -- a walk that avoids terminals ends at none of them
-end-avoids : (p : Problem) (gone : List ℕ) (here a : ℕ) (arcs : List ℕ) (there : ℕ) → Leads p here (a ∷ arcs) there → Avoids p gone (a ∷ arcs) → list_has gone there ≡ false
+pub end-avoids : (p : Problem) (gone : List ℕ) (here a : ℕ) (arcs : List ℕ) (there : ℕ) → Leads p here (a ∷ arcs) there → Avoids p gone (a ∷ arcs) → list_has gone there ≡ false
 end-avoids p gone here a [] there leads avoids = subst (λ t. list_has gone t ≡ false) leads.2 avoids.0
 end-avoids p gone here a (b ∷ arcs) there leads avoids = end-avoids p gone (arc_at p a).to b arcs there leads.2 avoids.1
 
@@ -101,6 +101,30 @@ arrives-scaled p d due (l ∷ []) some arrives =
     let le : l.depart + (arc_at p l.arc).time ≤ due = le_of_mul-le-mul_left whole (omega (arith, some)) in
     omega (arith, le)
 arrives-scaled p d due (l ∷ m ∷ front) some arrives = arrives-scaled p d due (m ∷ front) some arrives
+
+-- what avoids terminals avoids some of them, and what avoids some and others avoids all
+pub avoids-later : (p : Problem) (xs ys arcs : List ℕ) → Avoids p (xs ++ ys) arcs → Avoids p ys arcs
+avoids-later p xs ys [] avoids = tt
+avoids-later p xs ys (a ∷ arcs) avoids =
+    let t : ℕ = (arc_at p a).to in
+    ((or_parts (list_has xs t) (list_has ys t) (sym (list_has-append xs ys t) ∙ avoids.0)).1, avoids-later p xs ys arcs avoids.1)
+
+pub avoids-first : (p : Problem) (xs ys arcs : List ℕ) → Avoids p (xs ++ ys) arcs → Avoids p xs arcs
+avoids-first p xs ys [] avoids = tt
+avoids-first p xs ys (a ∷ arcs) avoids =
+    let t : ℕ = (arc_at p a).to in
+    ((or_parts (list_has xs t) (list_has ys t) (sym (list_has-append xs ys t) ∙ avoids.0)).0, avoids-first p xs ys arcs avoids.1)
+
+pub avoids-both : (p : Problem) (xs ys arcs : List ℕ) → Avoids p xs arcs → Avoids p ys arcs → Avoids p (xs ++ ys) arcs
+avoids-both p xs ys [] first later = tt
+avoids-both p xs ys (a ∷ arcs) first later =
+    let t : ℕ = (arc_at p a).to in
+    (list_has-append xs ys t ∙ rw (first.0, later.0) refl, avoids-both p xs ys arcs first.1 later.1)
+
+-- the later arcs of a walk that avoids terminals avoid them
+pub avoids-rest : (p : Problem) (gone xs ys : List ℕ) → Avoids p gone (xs ++ ys) → Avoids p gone ys
+avoids-rest p gone [] ys avoids = avoids
+avoids-rest p gone (a ∷ xs) ys avoids = avoids-rest p gone xs ys avoids.1
 
 -- what every route has that begins with the legs
 pub record IsBegun (p : Problem) (d : ℕ) (s : Shipment) (front rest : List Leg) : Type 0 where
@@ -125,12 +149,12 @@ begun p d s front legs some carries begin =
     }
 
 -- no legs begin with those of which one leaves before it can
-pub none-unready : (p : Problem) (s : Shipment) (front : List Leg) → (LeavesReady p 1 s.release front → ⊥) → HasLegsFrom p s front → ⊥
-none-unready p s front unready (d, legs, some, carries, begin) = unready (begun p d s front legs some carries begin).ready
+pub none-unready : (p : Problem) (gone : List ℕ) (s : Shipment) (front : List Leg) → (LeavesReady p 1 s.release front → ⊥) → HasLegsPast p gone s front → ⊥
+none-unready p gone s front unready (d, legs, some, carries, begin, avoids) = unready (begun p d s front legs some carries begin).ready
 
 -- nor with those that end at the destination too late
-pub none-late : (p : Problem) (s : Shipment) (front : List Leg) → place_after p s.from front ≡ s.to → (ArrivesBy p 1 s.due front → ⊥) → HasLegsFrom p s front → ⊥
-none-late p s front there late (d, legs, some, carries, begin) = by_rest begin.0 (begun p d s front legs some carries begin)
+pub none-late : (p : Problem) (gone : List ℕ) (s : Shipment) (front : List Leg) → place_after p s.from front ≡ s.to → (ArrivesBy p 1 s.due front → ⊥) → HasLegsPast p gone s front → ⊥
+none-late p gone s front there late (d, legs, some, carries, begin, avoids) = by_rest begin.0 (begun p d s front legs some carries begin)
   where
     by_rest : (rest : List Leg) → IsBegun p d s front rest → ⊥
     by_rest [] is = late (arrives-scaled p d s.due front some (subst (ArrivesBy p d s.due) (append-nil (map (scaled d) front)) is.due))
@@ -140,16 +164,20 @@ none-late p s front there late (d, legs, some, carries, begin) = by_rest begin.0
         ∙ subst (λ t. list_has (places_seen p s.from front) t ≡ true) there (place-seen p s.from front))
 
 -- nor with those from which no walk that avoids the terminals is in time
-pub none-far : (p : Problem) (s : Shipment) (front : List Leg) (o : Option ℕ) → place_after p s.from front ≢ s.to →
-    IsPastDistance p (places_seen p s.from front) (place_after p s.from front) s.to o →
-    (IsSomeAnd o (λ n. ready_after p s.release front + n ≤ s.due + hold_at p s.to) → ⊥) → HasLegsFrom p s front → ⊥
-none-far p s front o away is far (d, legs, some, carries, begin) = by_rest begin.0 (begun p d s front legs some carries begin) o is far
+pub none-far : (p : Problem) (gone : List ℕ) (s : Shipment) (front : List Leg) (o : Option ℕ) → place_after p s.from front ≢ s.to →
+    IsPastDistance p (gone ++ places_seen p s.from front) (place_after p s.from front) s.to o →
+    (IsSomeAnd o (λ n. ready_after p s.release front + n ≤ s.due + hold_at p s.to) → ⊥) → HasLegsPast p gone s front → ⊥
+none-far p gone s front o away is far (d, legs, some, carries, begin, avoids) =
+    let arcs : arcs_of legs ≡ arcs_of front ++ arcs_of begin.0 = ap arcs_of begin.1 ∙ arcs-begin d front begin.0 in
+    let on = begun p d s front legs some carries begin in
+    let past : Avoids p gone (arcs_of begin.0) = avoids-rest p gone (arcs_of front) (arcs_of begin.0) (subst (Avoids p gone) arcs avoids) in
+    by_rest begin.0 on (avoids-both p gone (places_seen p s.from front) (arcs_of begin.0) past on.avoids) o is far
   where
-    by_rest : (rest : List Leg) → IsBegun p d s front rest → (q : Option ℕ) → IsPastDistance p (places_seen p s.from front) (place_after p s.from front) s.to q →
+    by_rest : (rest : List Leg) → IsBegun p d s front rest → Avoids p (gone ++ places_seen p s.from front) (arcs_of rest) → (q : Option ℕ) → IsPastDistance p (gone ++ places_seen p s.from front) (place_after p s.from front) s.to q →
         (IsSomeAnd q (λ n. ready_after p s.release front + n ≤ s.due + hold_at p s.to) → ⊥) → ⊥
-    by_rest rest on None none too_far = none (arcs_of rest) on.leads on.avoids
-    by_rest [] on (Some n) least too_far = away on.leads
-    by_rest (l ∷ rest) on (Some n) least too_far =
+    by_rest rest on past None none too_far = none (arcs_of rest) on.leads past
+    by_rest [] on past (Some n) least too_far = away on.leads
+    by_rest (l ∷ rest) on past (Some n) least too_far =
         let ready : ℕ = ready_after p s.release front in
         let time : ℕ = walk_time p (arcs_of (l ∷ rest)) in
         let after : l.depart + d * time ≤ d * s.due =
@@ -160,7 +188,7 @@ none-far p s front o away is far (d, legs, some, carries, begin) = by_rest begin
           arith,
           le,
           least.2,
-          least.1.least (arcs_of (l ∷ rest)) on.leads on.avoids,
+          least.1.least (arcs_of (l ∷ rest)) on.leads past,
           time-steps p (place_after p s.from front) s.to (arcs_of (l ∷ rest)) away on.leads,
         ))
 
@@ -190,17 +218,18 @@ onward-arrives p gone there here ready due (l ∷ m ∷ legs) on within =
     onward-arrives p gone there (arc_at p l.arc).to (ready + step p l.arc) due (m ∷ legs) on.3 (omega (arith, within))
 
 -- legs that go on from those with which a route begins carry the shipment where they arrive in time
-carries-join : (p : Problem) (s : Shipment) (front rest : List Leg) → IsValid p → s.from ≢ s.to → IsBeginning p s front → LeavesReady p 1 s.release front →
-    IsOnward p (places_seen p s.from front) s.to (place_after p s.from front) (ready_after p s.release front) rest → ArrivesBy p 1 s.due (front ++ rest) → Carries p 1 s (front ++ rest)
-carries-join p s front rest valid ends begin ready on arrives =
+carries-join : (p : Problem) (gone : List ℕ) (s : Shipment) (front rest : List Leg) → IsValid p → s.from ≢ s.to → IsBeginning p s front → LeavesReady p 1 s.release front →
+    IsOnward p (gone ++ places_seen p s.from front) s.to (place_after p s.from front) (ready_after p s.release front) rest → ArrivesBy p 1 s.due (front ++ rest) → Carries p 1 s (front ++ rest)
+carries-join p gone s front rest valid ends begin ready on arrives =
     let here : ℕ = place_after p s.from front in
-    let gone : List ℕ = places_seen p s.from front in
-    let least : IsLeastPast p gone here s.to (arcs_of rest) = onward-least p gone s.to here (ready_after p s.release front) rest valid on in
+    let seen : List ℕ = places_seen p s.from front in
+    let least : IsLeastPast p (gone ++ seen) here s.to (arcs_of rest) = onward-least p (gone ++ seen) s.to here (ready_after p s.release front) rest valid on in
     let arcs : arcs_of (front ++ rest) ≡ arcs_of front ++ arcs_of rest = map-append (λ (l : Leg). l.arc) front rest in
     let along : Leads p s.from (arcs_of (front ++ rest)) s.to =
     subst (λ (xs : List ℕ). Leads p s.from xs s.to) (sym arcs) (Leads-append p s.from here s.to (arcs_of front) (arcs_of rest) begin.leads least.leads) in
-    let once : AreDistinct (gone ++ ends_of p (arcs_of rest)) =
-    distinct-join gone (ends_of p (arcs_of rest)) begin.once (AreDistinct-tail here (ends_of p (arcs_of rest)) (past-apart p gone here s.to (arcs_of rest) valid least)) least.avoids in
+    let once : AreDistinct (seen ++ ends_of p (arcs_of rest)) =
+    distinct-join seen (ends_of p (arcs_of rest)) begin.once
+    (AreDistinct-tail here (ends_of p (arcs_of rest)) (past-apart p (gone ++ seen) here s.to (arcs_of rest) valid least)) (avoids-later p gone seen (arcs_of rest) least.avoids) in
     let start : 1 * s.release ≡ s.release = omega arith in
     record {
       route = record {
@@ -210,32 +239,48 @@ carries-join p s front rest valid ends begin ready on arrives =
       };
       ready =
           subst (λ n. LeavesReady p 1 n (front ++ rest)) (sym start)
-          (ready-join p s.release front rest ready (onward-ready p gone s.to here (ready_after p s.release front) rest on));
+          (ready-join p s.release front rest ready (onward-ready p (gone ++ seen) s.to here (ready_after p s.release front) rest on));
       due = arrives;
     }
 
 -- legs that end at the destination in time
-pub carries-there : (p : Problem) (s : Shipment) (front : List Leg) → IsValid p → s.from ≢ s.to → IsBeginning p s front → LeavesReady p 1 s.release front →
-    place_after p s.from front ≡ s.to → ArrivesBy p 1 s.due front → Carries p 1 s front × GoesOnFrom p s front front
-carries-there p s front valid ends begin ready there arrives = (
-  subst (Carries p 1 s) (append-nil front) (carries-join p s front [] valid ends begin ready there (subst (ArrivesBy p 1 s.due) (sym (append-nil front)) arrives)),
+pub carries-there : (p : Problem) (gone : List ℕ) (s : Shipment) (front : List Leg) → IsValid p → s.from ≢ s.to → IsBeginning p s front → LeavesReady p 1 s.release front →
+    place_after p s.from front ≡ s.to → ArrivesBy p 1 s.due front → Carries p 1 s front × GoesOnPast p (gone ++ places_seen p s.from front) s front front
+carries-there p gone s front valid ends begin ready there arrives = (
+  subst (Carries p 1 s) (append-nil front) (carries-join p gone s front [] valid ends begin ready there (subst (ArrivesBy p 1 s.due) (sym (append-nil front)) arrives)),
   ([], sym (append-nil front), there),
 )
 
 -- and legs that go on to it in time
-pub carries-onward : (p : Problem) (s : Shipment) (front legs : List Leg) (o : Option ℕ) → IsValid p → s.from ≢ s.to → IsBeginning p s front → LeavesReady p 1 s.release front →
-    place_after p s.from front ≢ s.to → IsPastDistance p (places_seen p s.from front) (place_after p s.from front) s.to o →
-    IsSomeAnd o (λ n. ready_after p s.release front + n ≤ s.due + hold_at p s.to) → GoesOnFrom p s front legs → Carries p 1 s legs
-carries-onward p s front legs None valid ends begin ready away is in_time goes = absurd in_time
-carries-onward p s front legs (Some n) valid ends begin ready away is in_time goes =
-    subst (Carries p 1 s) (sym goes.1) (carries-join p s front goes.0 valid ends begin ready goes.2 (arrives goes.0 goes.2))
+pub carries-onward : (p : Problem) (gone : List ℕ) (s : Shipment) (front legs : List Leg) (o : Option ℕ) → IsValid p → s.from ≢ s.to → IsBeginning p s front → LeavesReady p 1 s.release front →
+    place_after p s.from front ≢ s.to → IsPastDistance p (gone ++ places_seen p s.from front) (place_after p s.from front) s.to o →
+    IsSomeAnd o (λ n. ready_after p s.release front + n ≤ s.due + hold_at p s.to) → GoesOnPast p (gone ++ places_seen p s.from front) s front legs → Carries p 1 s legs
+carries-onward p gone s front legs None valid ends begin ready away is in_time goes = absurd in_time
+carries-onward p gone s front legs (Some n) valid ends begin ready away is in_time goes =
+    subst (Carries p 1 s) (sym goes.1) (carries-join p gone s front goes.0 valid ends begin ready goes.2 (arrives goes.0 goes.2))
   where
-    arrives : (rest : List Leg) → IsOnward p (places_seen p s.from front) s.to (place_after p s.from front) (ready_after p s.release front) rest → ArrivesBy p 1 s.due (front ++ rest)
+    arrives : (rest : List Leg) → IsOnward p (gone ++ places_seen p s.from front) s.to (place_after p s.from front) (ready_after p s.release front) rest → ArrivesBy p 1 s.due (front ++ rest)
     arrives [] on = absurd (away on)
     arrives (l ∷ rest) on =
-        let gone : List ℕ = places_seen p s.from front in
+        let past : List ℕ = gone ++ places_seen p s.from front in
         let here : ℕ = place_after p s.from front in
-        let least : IsLeastPast p gone here s.to (arcs_of (l ∷ rest)) = onward-least p gone s.to here (ready_after p s.release front) (l ∷ rest) valid on in
+        let least : IsLeastPast p past here s.to (arcs_of (l ∷ rest)) = onward-least p past s.to here (ready_after p s.release front) (l ∷ rest) valid on in
         arrives-join p 1 s.due front l rest
-        (onward-arrives p gone s.to here (ready_after p s.release front) s.due (l ∷ rest) on
+        (onward-arrives p past s.to here (ready_after p s.release front) s.due (l ∷ rest) on
         (omega (arith, in_time, is.2, least.least is.0 is.1.leads is.1.avoids, time-steps p here s.to (arcs_of (l ∷ rest)) away least.leads)))
+
+-- what goes on past terminals by legs after those that enter none of them enters none of them
+pub avoids-begun : (p : Problem) (gone : List ℕ) (s : Shipment) (front legs : List Leg) → IsValid p → Avoids p gone (arcs_of front) →
+    GoesOnPast p (gone ++ places_seen p s.from front) s front legs → Avoids p gone (arcs_of legs)
+avoids-begun p gone s front legs valid first goes =
+    let past : List ℕ = gone ++ places_seen p s.from front in
+    let least : IsLeastPast p past (place_after p s.from front) s.to (arcs_of goes.0) =
+    onward-least p past s.to (place_after p s.from front) (ready_after p s.release front) goes.0 valid goes.2 in
+    let arcs : arcs_of legs ≡ arcs_of front ++ arcs_of goes.0 = ap arcs_of goes.1 ∙ map-append (λ (l : Leg). l.arc) front goes.0 in
+    subst (Avoids p gone) (sym arcs)
+    (ends-append p gone (arcs_of front) (arcs_of goes.0) first (avoids-first p gone (places_seen p s.from front) (arcs_of goes.0) least.avoids))
+
+-- legs that begin with others enter none of no terminals
+pub HasLegsPast-none : (p : Problem) (s : Shipment) (front : List Leg) → HasLegsFrom p s front → HasLegsPast p [] s front
+HasLegsPast-none p s front (d, legs, some, carries, begin) =
+    (d, legs, some, carries, begin, AllByRecursion-always (λ t. list_has [] t ≡ false) (λ t. refl) (ends_of p (arcs_of legs)))

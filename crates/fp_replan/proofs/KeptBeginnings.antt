@@ -22,7 +22,7 @@ use Rattle.fp_replan.specs.KeptLegs.{AreKept, CanKeep, goes_on, kept_of, leg_of,
 use Rattle.fp_base_lists.proofs.Membership.{list_has-apart}
 
 -- one more kept leg of a shipment, and of another one
-kept_of-push : (kept : List Kept) (x : Kept) (k : ℕ) → kept_of (kept ++ (x ∷ [])) k ≡ kept_of kept k ++ map leg_of (cond (x.shipment == k) (x ∷ []) [])
+pub kept_of-push : (kept : List Kept) (x : Kept) (k : ℕ) → kept_of (kept ++ (x ∷ [])) k ≡ kept_of kept k ++ map leg_of (cond (x.shipment == k) (x ∷ []) [])
 kept_of-push kept x k =
     ap (map leg_of) (filter-append (λ (y : Kept). y.shipment == k) kept (x ∷ []))
     ∙ map-append leg_of (filter (λ (y : Kept). y.shipment == k) kept) (cond (x.shipment == k) (x ∷ []) [])
@@ -66,10 +66,10 @@ pub place_after-push : (p : Problem) (origin : ℕ) (legs : List Leg) (l : Leg) 
 place_after-push p origin [] l = refl
 place_after-push p origin (m ∷ legs) l = place_after-push p (arc_at p m.arc).to legs l
 
-arcs_of-push : (legs : List Leg) (l : Leg) → arcs_of (legs ++ (l ∷ [])) ≡ arcs_of legs ++ (l.arc ∷ [])
+pub arcs_of-push : (legs : List Leg) (l : Leg) → arcs_of (legs ++ (l ∷ [])) ≡ arcs_of legs ++ (l.arc ∷ [])
 arcs_of-push legs l = map-append (λ (m : Leg). m.arc) legs (l ∷ [])
 
-places_seen-push : (p : Problem) (origin : ℕ) (legs : List Leg) (l : Leg) → places_seen p origin (legs ++ (l ∷ [])) ≡ places_seen p origin legs ++ ((arc_at p l.arc).to ∷ [])
+pub places_seen-push : (p : Problem) (origin : ℕ) (legs : List Leg) (l : Leg) → places_seen p origin (legs ++ (l ∷ [])) ≡ places_seen p origin legs ++ ((arc_at p l.arc).to ∷ [])
 places_seen-push p origin legs l =
     ap (λ xs. origin ∷ xs) (ap (ends_of p) (arcs_of-push legs l) ∙ map-append (λ a. (arc_at p a).to) (arcs_of legs) (l.arc ∷ []))
 

@@ -1,19 +1,18 @@
 -- A plan lies within kept windows exactly where it keeps the legs.
-use Rattle.std.proofs.Common.{◌≡◌, ◌≢◌, ℕ, ◌+◌, ◌*◌, ◌<◌, ◌≤◌, true, false, List, [], ◌∷◌, ◌++◌, length, map, ⊎_elim, refl, sym, ap, ap₂, ◌∙◌, subst, arith, le_refl}
-use Rattle.std.specs.Prelude.{nat_eq, Option, Some, None, IsSomeAnd, ◌↔◌, slice_index_or}
-use Rattle.std.specs.List.{AllByRecursion, AllZip}
+use Rattle.std.proofs.Common.{◌≡◌, ◌≢◌, ℕ, ◌+◌, ◌*◌, ◌<◌, true, false, List, [], ◌∷◌, ◌++◌, length, map, ⊎_elim, refl, sym, ap, ap₂, ◌∙◌, subst, arith, le_refl}
+use Rattle.std.specs.Prelude.{nat_eq, Option, Some, None, IsSomeAnd, slice_index_or}
+use Rattle.std.specs.List.{AllByRecursion}
 use Rattle.std.proofs.lemmas.Bool.Decides.{eqb_tells}
 use Rattle.std.proofs.lemmas.List.{map-append}
 use Rattle.std.proofs.lemmas.Slice.Zip.{AllZip-long}
 use Rattle.fp_base_lists.specs.Distinct.{AreDistinct}
 use Rattle.fp_base_lists.specs.Membership.{list_has}
 use Rattle.fp_base_lists.specs.Numbered.{AllFrom}
-use Rattle.fp_base_lists.proofs.Elements.{AllByRecursion-append, AllByRecursion-both, AllByRecursion-from_map, AllByRecursion-map, AllByRecursion-weaker}
+use Rattle.fp_base_lists.proofs.Elements.{AllByRecursion-append, AllByRecursion-both, AllByRecursion-from_map, AllByRecursion-weaker}
 use Rattle.fp_base_lists.proofs.Numbered.{AllFrom-from_get_or, AllFrom-get_or_zero, AllZip-get_or}
 use Rattle.fp_model.specs.declared.parts.Leg.{Leg}
 use Rattle.fp_model.specs.declared.parts.Shipment.{Shipment}
 use Rattle.fp_model.specs.Numbered.{no_shipment, route_at, shipment_at}
-use Rattle.fp_model.specs.Plans.{IsPlan}
 use Rattle.fp_model.specs.Problem.{Problem, arc_at}
 use Rattle.fp_model.specs.Routes.{Carries, Leads, arcs_of, ends_of}
 use Rattle.fp_model.proofs.Bounds.{Leads-exist}
@@ -24,7 +23,7 @@ use Rattle.fp_replan.specs.Beginnings.{IsBeginning}
 use Rattle.fp_replan.specs.KeptLegs.{AreKept, BeginWith, Keeps, kept_of, place_after, scaled}
 use Rattle.fp_replan.specs.KeptWindows.{StaysOff, TellKept, window_at}
 use Rattle.fp_replan.proofs.KeptBeginnings.{IsBeginning-kept}
-use Rattle.fp_replan.proofs.ListParts.{AllByRecursion-left, AllByRecursion-right}
+use Rattle.fp_replan.proofs.ListParts.{AllByRecursion-right}
 use Rattle.fp_replan.proofs.RoutesOff.{off-tails}
 
 -- windows of a shipment, made of others by its kept legs

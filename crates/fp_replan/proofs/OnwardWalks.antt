@@ -24,8 +24,8 @@ use Rattle.fp_model.specs.Routes.{Leads, arcs_of, ends_of, step, walk_time}
 use Rattle.fp_model.proofs.Validity.{IsArc-valid, hold_at-le}
 use Rattle.fp_flatnet.specs.ArcGraphs.{arc_step, backward_edge, backward_shape}
 use Rattle.fp_flatnet.proofs.LeastWalks.{Leads-append, first-time, steps, steps-append, steps-held}
-use Rattle.fp_replan.specs.KeptLegs.{place_after, places_seen}
-use Rattle.fp_replan.specs.Starts.{AddsTo, Avoids, BeginsPast, BeginsPastFirst, GoesOnFrom, IsOnward, open_cost, open_costs, ready_after}
+use Rattle.fp_replan.specs.KeptLegs.{place_after}
+use Rattle.fp_replan.specs.Starts.{AddsTo, Avoids, BeginsPast, BeginsPastFirst, GoesOnPast, IsOnward, open_cost, open_costs, ready_after}
 use Rattle.fp_flatnet.proofs.ArcWalks.{backward-at, edges-append, reverse-cons}
 
 -- a walk that avoids terminals, of whose steps no other such walk has fewer
@@ -58,7 +58,7 @@ open-free p gone a lt some =
     (cases_Bool (list_has gone (arc_at p a).to))
 
 -- walks that avoid the terminals, one after the other
-ends-append : (p : Problem) (gone : List ℕ) (xs ys : List ℕ) → Avoids p gone xs → Avoids p gone ys → Avoids p gone (xs ++ ys)
+pub ends-append : (p : Problem) (gone : List ℕ) (xs ys : List ℕ) → Avoids p gone xs → Avoids p gone ys → Avoids p gone (xs ++ ys)
 ends-append p gone [] ys first later = later
 ends-append p gone (a ∷ xs) ys first later = (first.0, ends-append p gone xs ys first.1 later)
 
@@ -249,12 +249,12 @@ costs-more p gone n cost costs more lt so_far same pushed =
 
 -- a shipment is here and ready after legs that begin with others, can be in time by a walk of least
 -- steps, and goes on from those by what it goes on by from here
-pub record IsUnderway (p : Problem) (s : Shipment) (front : List Leg) (here ready : ℕ) (legs : List Leg) : Type 0 where
+pub record IsUnderway (p : Problem) (gone : List ℕ) (s : Shipment) (front : List Leg) (here ready : ℕ) (legs : List Leg) : Type 0 where
   pub inside : here < length p.terminals
   pub left : List ℕ
-  pub least : IsLeastPast p (places_seen p s.from front) here s.to left
+  pub least : IsLeastPast p gone here s.to left
   pub in_time : here ≢ s.to → ready + steps p left ≤ s.due + hold_at p s.to
-  pub so_far : (rest : List Leg) → IsOnward p (places_seen p s.from front) s.to here ready rest → GoesOnFrom p s front (legs ++ rest)
+  pub so_far : (rest : List Leg) → IsOnward p gone s.to here ready rest → GoesOnPast p gone s front (legs ++ rest)
 
 -- where a shipment is after legs is a terminal
 pub place-inside : (p : Problem) (origin : ℕ) (legs : List Leg) (there : ℕ) → IsValid p → origin < length p.terminals → Leads p origin (arcs_of legs) there →
@@ -263,11 +263,11 @@ place-inside p origin [] there valid inside leads = inside
 place-inside p origin (l ∷ legs) there valid inside leads = place-inside p (arc_at p l.arc).to legs there valid (IsArc-valid p l.arc valid leads.0).to leads.2
 
 -- it is underway after those legs
-pub underway-start : (p : Problem) (s : Shipment) (front : List Leg) (o : Option ℕ) → place_after p s.from front < length p.terminals →
-    IsPastDistance p (places_seen p s.from front) (place_after p s.from front) s.to o → IsSomeAnd o (λ n. ready_after p s.release front + n ≤ s.due + hold_at p s.to) →
-    IsUnderway p s front (place_after p s.from front) (ready_after p s.release front) front
-underway-start p s front None inside is in_time = absurd in_time
-underway-start p s front (Some n) inside is in_time = record {
+pub underway-start : (p : Problem) (gone : List ℕ) (s : Shipment) (front : List Leg) (o : Option ℕ) → place_after p s.from front < length p.terminals →
+    IsPastDistance p gone (place_after p s.from front) s.to o → IsSomeAnd o (λ n. ready_after p s.release front + n ≤ s.due + hold_at p s.to) →
+    IsUnderway p gone s front (place_after p s.from front) (ready_after p s.release front) front
+underway-start p gone s front None inside is in_time = absurd in_time
+underway-start p gone s front (Some n) inside is in_time = record {
   inside = inside;
   left = is.0;
   least = is.1;
@@ -283,10 +283,9 @@ begins-away p gone here there a valid begins =
     omega (arith, within, first-time p a begins.rest, begins.least [] same tt)
 
 -- one leg on it still is
-pub underway-more : (p : Problem) (s : Shipment) (front : List Leg) (here ready a : ℕ) (legs : List Leg) → IsValid p → IsUnderway p s front here ready legs →
-    BeginsPastFirst p (places_seen p s.from front) here s.to a → IsUnderway p s front (arc_at p a).to (ready + step p a) (legs ++ (record { arc = a; depart = ready } ∷ []))
-underway-more p s front here ready a legs valid under first =
-    let gone : List ℕ = places_seen p s.from front in
+pub underway-more : (p : Problem) (gone : List ℕ) (s : Shipment) (front : List Leg) (here ready a : ℕ) (legs : List Leg) → IsValid p → IsUnderway p gone s front here ready legs →
+    BeginsPastFirst p gone here s.to a → IsUnderway p gone s front (arc_at p a).to (ready + step p a) (legs ++ (record { arc = a; depart = ready } ∷ []))
+underway-more p gone s front here ready a legs valid under first =
     let leg : Leg = record { arc = a; depart = ready } in
     let away : here ≢ s.to = begins-away p gone here s.to a valid first.begins in
     let whole : IsLeastPast p gone here s.to (a ∷ first.begins.rest) = IsLeastPast-begins p gone here s.to a valid first.begins in
@@ -295,14 +294,14 @@ underway-more p s front here ready a legs valid under first =
       left = first.begins.rest;
       least = IsLeastPast-next p gone here s.to a first.begins.rest whole;
       in_time = λ further. omega (arith, under.in_time away, whole.least under.left under.least.leads under.least.avoids);
-      so_far = λ rest on. subst (GoesOnFrom p s front) (sym (append_assoc legs (leg ∷ []) rest)) (under.so_far (leg ∷ rest) (away, first, refl, on));
+      so_far = λ rest on. subst (GoesOnPast p gone s front) (sym (append_assoc legs (leg ∷ []) rest)) (under.so_far (leg ∷ rest) (away, first, refl, on));
     }
 
 -- while it is underway its times stay small
-pub underway-small : (p : Problem) (s : Shipment) (front : List Leg) (here ready a : ℕ) (legs : List Leg) → IsValid p → IsShipment (length p.terminals) s → IsUnderway p s front here ready legs →
-    BeginsPastFirst p (places_seen p s.from front) here s.to a → ready + step p a ≤ 1000000
-underway-small p s front here ready a legs valid shipment under first =
-    let away : here ≢ s.to = begins-away p (places_seen p s.from front) here s.to a valid first.begins in
+pub underway-small : (p : Problem) (gone : List ℕ) (s : Shipment) (front : List Leg) (here ready a : ℕ) (legs : List Leg) → IsValid p → IsShipment (length p.terminals) s → IsUnderway p gone s front here ready legs →
+    BeginsPastFirst p gone here s.to a → ready + step p a ≤ 1000000
+underway-small p gone s front here ready a legs valid shipment under first =
+    let away : here ≢ s.to = begins-away p gone here s.to a valid first.begins in
     omega (
       arith,
       under.in_time away,
@@ -313,19 +312,19 @@ underway-small p s front here ready a legs valid shipment under first =
     )
 
 -- where no arc begins such a walk it has arrived
-pub underway-end : (p : Problem) (s : Shipment) (front : List Leg) (here ready : ℕ) (legs : List Leg) → IsValid p → IsUnderway p s front here ready legs →
-    ((a : ℕ) → a < length p.arcs → BeginsPast p (places_seen p s.from front) here s.to a → ⊥) → GoesOnFrom p s front legs
-underway-end p s front here ready legs valid under none =
-    subst (GoesOnFrom p s front) (append-nil legs) (under.so_far [] (stay under.left under.least))
+pub underway-end : (p : Problem) (gone : List ℕ) (s : Shipment) (front : List Leg) (here ready : ℕ) (legs : List Leg) → IsValid p → IsUnderway p gone s front here ready legs →
+    ((a : ℕ) → a < length p.arcs → BeginsPast p gone here s.to a → ⊥) → GoesOnPast p gone s front legs
+underway-end p gone s front here ready legs valid under none =
+    subst (GoesOnPast p gone s front) (append-nil legs) (under.so_far [] (stay under.left under.least))
   where
-    stay : (arcs : List ℕ) → IsLeastPast p (places_seen p s.from front) here s.to arcs → here ≡ s.to
+    stay : (arcs : List ℕ) → IsLeastPast p gone here s.to arcs → here ≡ s.to
     stay [] least = least.leads
     stay (a ∷ arcs) least =
         absurd (none a least.leads.0 (record {
           rest = arcs;
           leads = least.leads;
           avoids = least.avoids;
-          least = least-time p (places_seen p s.from front) here s.to a arcs valid least.leads least.least;
+          least = least-time p gone here s.to a arcs valid least.leads least.least;
         }))
 
 -- its label falls, leg by leg

@@ -60,7 +60,7 @@ cost-front p n R =
     omega (arith, fewer, cheaper, flow-front p (take n p.shipments) n p.shipments R)
 
 -- what carries a shipment does so whatever the others are
-leads-same : (p : Problem) (ss : List Shipment) (here : ℕ) (arcs : List ℕ) (there : ℕ) → Leads p here arcs there → Leads (record p { shipments = ss }) here arcs there
+pub leads-same : (p : Problem) (ss : List Shipment) (here : ℕ) (arcs : List ℕ) (there : ℕ) → Leads p here arcs there → Leads (record p { shipments = ss }) here arcs there
 leads-same p ss here [] there leads = leads
 leads-same p ss here (a ∷ arcs) there leads = (leads.0, leads.1, leads-same p ss (arc_at p a).to arcs there leads.2)
 
@@ -73,7 +73,7 @@ due-same p ss d due [] arrives = tt
 due-same p ss d due (l ∷ []) arrives = arrives
 due-same p ss d due (l ∷ m ∷ legs) arrives = due-same p ss d due (m ∷ legs) arrives
 
-carries-same : (p : Problem) (ss : List Shipment) (d : ℕ) (s : Shipment) (legs : List Leg) → Carries p d s legs → Carries (record p { shipments = ss }) d s legs
+pub carries-same : (p : Problem) (ss : List Shipment) (d : ℕ) (s : Shipment) (legs : List Leg) → Carries p d s legs → Carries (record p { shipments = ss }) d s legs
 carries-same p ss d s legs c = record {
   route = record { some = c.route.some; leads = leads-same p ss s.from (arcs_of legs) s.to c.route.leads; once = c.route.once };
   ready = ready-same p ss d (d * s.release) legs c.ready;

@@ -1,7 +1,7 @@
 -- The plan that a search begins with that keeps legs: each shipment goes by its kept legs, and then
 -- on by a walk of least time that avoids the terminals where it was, as early as it can.
-use Rattle.std.specs.Prelude.{ℕ, ◌+◌, ◌≤◌, ◌<◌, ◌≡◌, ◌≢◌, false, List, [], ◌∷◌, ◌++◌, length, map, Option, None, Some, MatchOption, if◌then◌else◌}
-use Rattle.std.specs.List.{AllByRecursion, AllZip}
+use Rattle.std.specs.Prelude.{ℕ, ◌+◌, ◌≤◌, ◌<◌, ◌≡◌, ◌≢◌, false, List, [], ◌∷◌, ◌++◌, length, map, Option, None, Some, if◌then◌else◌}
+use Rattle.std.specs.List.{AllByRecursion}
 use Rattle.fp_base_lists.specs.Membership.{list_has}
 use Rattle.fp_base_lists.specs.Numbered.{AllFrom}
 use Rattle.fp_model.specs.declared.parts.Arc.{Arc}
@@ -10,7 +10,7 @@ use Rattle.fp_model.specs.declared.parts.Shipment.{Shipment}
 use Rattle.fp_model.specs.Numbered.{shipment_at}
 use Rattle.fp_model.specs.Plans.{IsPlan}
 use Rattle.fp_model.specs.Problem.{Problem, arc_at}
-use Rattle.fp_model.specs.Routes.{Carries, Leads, ends_of, step, walk_time}
+use Rattle.fp_model.specs.Routes.{Carries, Leads, arcs_of, ends_of, step, walk_time}
 use Rattle.fp_flatnet.specs.ArcGraphs.{arc_step}
 use Rattle.fp_replan.specs.declared.kept.Kept.{Kept}
 use Rattle.fp_replan.specs.declared.starts.Started.{Started}
@@ -47,10 +47,14 @@ abbrev pub ready_after : Problem → (ready : ℕ) → List Leg → ℕ
 ready_after p ready [] = ready
 ready_after p ready (l ∷ legs) = ready_after p (l.depart + step p l.arc) legs
 
+-- a route of a shipment that begins with legs, and goes on past terminals
+abbrev pub GoesOnPast : Problem → (gone : List ℕ) → Shipment → (front legs : List Leg) → Type 0
+GoesOnPast p gone s front legs = (rest : List Leg) × (legs ≡ front ++ rest)
+    × IsOnward p gone s.to (place_after p s.from front) (ready_after p s.release front) rest
+
 -- a route of a shipment that begins with legs, and goes on past the terminals where it was
 abbrev pub GoesOnFrom : Problem → Shipment → (front legs : List Leg) → Type 0
-GoesOnFrom p s front legs = (rest : List Leg) × (legs ≡ front ++ rest)
-    × IsOnward p (places_seen p s.from front) s.to (place_after p s.from front) (ready_after p s.release front) rest
+GoesOnFrom p s front legs = GoesOnPast p (places_seen p s.from front) s front legs
 
 -- each shipment has such a route
 abbrev pub GoOn : Problem → List Kept → List (List Leg) → Type 0
@@ -59,6 +63,11 @@ GoOn p kept routes = AllFrom (λ k legs. GoesOnFrom p (shipment_at p k) (kept_of
 -- over some denominator, a shipment has legs that carry it and begin with others
 abbrev pub HasLegsFrom : Problem → Shipment → List Leg → Type 0
 HasLegsFrom p s front = (d : ℕ) × (legs : List Leg) × (1 ≤ d) × Carries p d s legs × BeginWith d front legs
+
+-- over some denominator, a shipment has legs that carry it, begin with others and enter none of the
+-- terminals
+abbrev pub HasLegsPast : Problem → (gone : List ℕ) → Shipment → List Leg → Type 0
+HasLegsPast p gone s front = (d : ℕ) × (legs : List Leg) × (1 ≤ d) × Carries p d s legs × BeginWith d front legs × Avoids p gone (arcs_of legs)
 
 -- the first shipment that has no legs, over any denominator, that begin with its kept legs
 pub record IsStuck (p : Problem) (kept : List Kept) (k : ℕ) : Type 0 where

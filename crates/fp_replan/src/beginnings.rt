@@ -12,8 +12,8 @@ use crate::kept::Kept;
 use fp_model::{Instance, Leg, Shipment};
 use std::alloc::Global;
 
-// No kept legs, for so many shipments.
-pub(crate) fn no_beginnings(alloc: Global, count: usize) -> Result<Vec<Vec<Leg>>, NoMemory>
+/// No kept legs, for so many shipments. `NoMemory` only where no memory is found.
+pub fn no_beginnings(alloc: Global, count: usize) -> Result<Vec<Vec<Leg>>, NoMemory>
     ensures { IfOk result (λ beginnings. AreBeginnings [] count (lists_of beginnings.items)) }
 {
     let mut beginnings = Vec::new(alloc);
@@ -23,8 +23,8 @@ pub(crate) fn no_beginnings(alloc: Global, count: usize) -> Result<Vec<Vec<Leg>>
     Ok(beginnings)
 }
 
-// One more kept leg.
-pub(crate) fn keep(beginnings: &mut Vec<Vec<Leg>>, leg: Kept) -> Result<(), NoMemory>
+/// One more kept leg, of one of so many shipments. `NoMemory` only where no memory is found.
+pub fn keep(beginnings: &mut Vec<Vec<Leg>>, leg: Kept) -> Result<(), NoMemory>
     requires { leg.shipment < length beginnings.old.items }
     ensures { OnOk result ((kept : List Kept) (count : ℕ) → AreBeginnings kept count (lists_of beginnings.old.items)
         → AreBeginnings (kept ++ leg ∷ []) count (lists_of beginnings.new.items)) }
@@ -53,8 +53,8 @@ pub(crate) fn beginnings_of(
     Ok(beginnings)
 }
 
-// Where a shipment is after legs.
-pub(crate) fn place_after(instance: &Instance, origin: u32, legs: &[Leg]) -> u32
+/// Where a shipment is after legs: at the end of the last one, or at its origin. Takes no memory.
+pub fn place_after(instance: &Instance, origin: u32, legs: &[Leg]) -> u32
     requires { ArcsExist instance.now legs.now }
     ensures { result ≡ place_after_of instance.now origin legs.now }
 {
@@ -81,8 +81,9 @@ pub(crate) fn was_at(instance: &Instance, origin: u32, legs: &[Leg], terminal: u
     false
 }
 
-// Whether an arc goes on from legs of a shipment.
-pub(crate) fn goes_on(instance: &Instance, shipment: &Shipment, legs: &[Leg], number: u32) -> bool
+/// Whether an arc goes on from legs of a shipment: it leaves where they end, which isn't the
+/// destination, and enters no terminal where the shipment was. Takes no memory.
+pub fn goes_on(instance: &Instance, shipment: &Shipment, legs: &[Leg], number: u32) -> bool
     requires legs { ArcsExist instance.now legs.now }
     requires arc { number < length instance.now.arcs }
     ensures { result ≡ goes_on_of instance.now shipment.now legs.now number }

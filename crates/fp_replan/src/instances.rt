@@ -2,6 +2,7 @@
 ghost use Rattle.std.specs.Prelude.{ℕ, ◌≡◌, ◌≤◌, ◌<◌, List, length, map, take, IfOk};
 ghost use Rattle.fp_model.specs.declared.parts.Leg.{Leg};
 ghost use Rattle.fp_model.specs.Plans.{IsPlan, PlanExists};
+ghost use Rattle.fp_model.specs.Problem.{IsValid};
 ghost use Rattle.fp_replan.specs.Quotes.{HasPlanAtMost, without_last as without_last_of};
 ghost use Rattle.fp_model.specs.Costs.{cost};
 
@@ -38,6 +39,25 @@ fn copy_shipments(alloc: Global, shipments: &[Shipment]) -> Result<Vec<Shipment>
     Ok(copies)
 }
 
+/// The same instance but for its shipments, with which it is valid. `NoMemory` only where no memory is
+/// found.
+pub fn with_shipments(
+    alloc: Global,
+    instance: &Instance,
+    shipments: Vec<Shipment>,
+) -> Result<Instance, NoMemory>
+    requires { IsValid (record instance.now { shipments = shipments.items }) }
+    ensures { IfOk result (λ i. i ≡ record instance.now { shipments = shipments.items }) }
+{
+    let copy = Instance::new(
+        copy_names(alloc, instance.terminals())?,
+        instance.holds().to_vec(alloc)?,
+        instance.arcs().to_vec(alloc)?,
+        shipments,
+    );
+    Ok(copy.with_scale(instance.scale()))
+}
+
 /// The same instance but for its last shipment, of at least one.
 ///
 /// To each plan there is one of it that costs no more: the plan without the shipment's route.
@@ -50,11 +70,6 @@ pub fn without_last(alloc: Global, instance: &Instance) -> Result<Instance, NoMe
 {
     let shipments = instance.shipments();
     let kept = copy_shipments(alloc, &shipments[..shipments.len() - 1])?;
-    let copy = Instance::new(
-        copy_names(alloc, instance.terminals())?,
-        instance.holds().to_vec(alloc)?,
-        instance.arcs().to_vec(alloc)?,
-        kept,
-    );
-    Ok(copy.with_scale(instance.scale()))
+    let without = with_shipments(alloc, instance, kept)?;
+    Ok(without)
 }

@@ -14,11 +14,13 @@ mod ranges;
 mod reading;
 mod starts;
 
+pub use beginnings::{goes_on, keep, no_beginnings, place_after};
 pub use faults::KeptFault;
-pub use instances::without_last;
+pub use instances::{with_shipments, without_last};
 pub use kept::{Kept, MOST_KEPT};
 pub use kept_windows::windows;
 pub use laws::kept_limit_is_a_number;
+pub use onward::{backward_graph, begun_route, is_among, terminals_with};
 pub use ranges::{Bracket, extra_range};
 pub use reading::{read_kept, read_kept_with_index};
 pub use starts::{Started, start};

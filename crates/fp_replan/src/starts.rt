@@ -35,7 +35,7 @@ pub fn start(alloc: Global, instance: &Instance, kept: &[Kept]) -> Result<Starte
     let mut routes = Vec::new(alloc);
     for (number, front) in beginnings.iter().enumerate() {
         let shipment = instance.shipment(number as u32);
-        match begun_route(alloc, instance, &graph, shipment, front)? {
+        match begun_route(alloc, instance, &graph, shipment, front, &[])? {
             Some(route) => add_route(&mut routes, route)?,
             None => {
                 return Ok(Started::Stuck {

@@ -1,6 +1,6 @@
 -- Where spans are sought, the least that the leaves are worth which aren't empty doesn't fall from step to step.
 use Rattle.std.proofs.Common.{◌≡◌, ℕ, ◌≤◌, ⊎_elim, inl, inr, Bool, true, false, List, refl, sym, ◌∙◌, subst, arith}
-use Rattle.std.specs.Prelude.{⊤, IfOk, IfSome, IsSomeAnd, None, Option, Some, Result, Ok, Err}
+use Rattle.std.specs.Prelude.{⊤, IfOk, IsSomeAnd, None, Option, Some, Result, Ok, Err}
 use Rattle.std.specs.declared.alloc.AllocError.{AllocError}
 use Rattle.std.proofs.lemmas.Bool.{false≢true}
 use Rattle.fp_tree.specs.Nodes.{Node, closed_of, fork_of, leaf_at, value_of}
@@ -83,14 +83,8 @@ module _ (unit : Option ℕ) (s t : InHand) where
   by-split : IsSomeAnd unit (λ (u : ℕ). ⊤) → (w : WorksAtLeast unit s t step.Branch) → KeepLeast s.tree t.tree
   by-split spans w least all =
       let split : HasSplitAt unit s t w.leaf w.kept = w.work in
-      let one : IsNoLess w.kept.value split.first = by_unit (IsNoLess w.kept.value split.first) unit spans split.no_less.0 in
-      let other : IsNoLess w.kept.value split.second = by_unit (IsNoLess w.kept.value split.second) unit spans split.no_less.1 in
       subst (AreWorthLeast least) (sym split.tree)
-      (least-divided s.tree w.leaf (worked step.Branch w).0 (worked step.Branch w).1 w.kept (no-more step.Branch w) least all s.cost split.fork split.first split.second split.some one other)
-    where
-      by_unit : (P : Type 0) (o : Option ℕ) → IsSomeAnd o (λ (u : ℕ). ⊤) → IfSome o (λ (u : ℕ). P) → P
-      by_unit P None spans holds = absurd spans
-      by_unit P (Some u) spans holds = holds
+      (least-divided s.tree w.leaf (worked step.Branch w).0 (worked step.Branch w).1 w.kept (no-more step.Branch w) least all s.cost split.fork split.first split.second split.some (split.no_less.0 (inl spans)) (split.no_less.1 (inl spans)))
 
   -- a step that is in order keeps the least
   pub keep-order : (did : Step) → IsSomeAnd unit (λ (u : ℕ). ⊤) → IsInOrder unit s t did → KeepLeast s.tree t.tree

@@ -23,6 +23,7 @@ pub mod Improvements
 pub mod Trials
 pub mod TakenValuations
 pub mod EarlierPrices
+pub mod SteadyPrices
 pub mod Applied
 pub mod Divisions
 pub mod RepairedPlans

@@ -130,11 +130,11 @@ IsMoveAt-late s prices leaf sides kept m unsettled is =
     is
 
 -- and no leaf is left that is worth less
-LeavesNoLess-late : (s : Search) (unit : Option ℕ) (least leaf : ℕ) (m : Move) → IsLate s leaf m → LeavesNoLess unit least m
-LeavesNoLess-late s unit least leaf m is =
+LeavesNoLess-late : (s : Search) (unit : Option ℕ) (above : Kept) (leaf : ℕ) (m : Move) → IsLate s leaf m → LeavesNoLess unit above m
+LeavesNoLess-late s unit above leaf m is =
     ⊎_elim
-    (λ (takes : (m ≡ move.TakeReserve) × HasReserve s). subst (LeavesNoLess unit least) (sym takes.0) tt)
-    (λ (stops : (m ≡ move.Stop (left.Unsettled leaf)) × (s.reserve ≡ None)). subst (LeavesNoLess unit least) (sym stops.0) tt)
+    (λ (takes : (m ≡ move.TakeReserve) × HasReserve s). subst (LeavesNoLess unit above) (sym takes.0) tt)
+    (λ (stops : (m ≡ move.Stop (left.Unsettled leaf)) × (s.reserve ≡ None)). subst (LeavesNoLess unit above) (sym stops.0) tt)
     is
 
 -- a leaf of which something is found has something to search for, where it is worth less than the cost
@@ -148,7 +148,7 @@ IsUnsettled-found s before after sides kept walks found below = record {
 
 -- a move at an open leaf, by what is kept of it
 pub IsMove-at : (s : Search) (prices : PriceLists) (k : ℕ) (l : Leaf (Node Payload)) (kept : Kept) (m : Move) → leaf_at s.tree k ≡ Some l → closed_of l.node ≡ false →
-    IsKept (history s prices) l.sides kept.payload kept.value → (kept.payload.empty ≡ false → HasNoMore l kept) → IsMoveAt s prices k l.sides kept m → LeavesNoLess prices.unit kept.value m → IsMove s prices k kept m
+    IsKept (history s prices) l.sides kept.payload kept.value → (kept.payload.empty ≡ false → HasNoMore l kept) → IsMoveAt s prices k l.sides kept m → LeavesNoLess prices.unit kept m → IsMove s prices k kept m
 IsMove-at s prices k l kept m at still keeps no_less may less = record {
   kept = here (λ x. IsKept (history s prices) x.sides kept.payload kept.value) keeps;
   no_less = here (λ x. kept.payload.empty ≡ false → HasNoMore x kept) no_less;
@@ -178,7 +178,7 @@ module _ (s : Search) (before after : PriceLists) (k : ℕ) (sides : List Side) 
 
   -- a move there, by what is kept of it now
   pub chosen-move : (kept : Kept) (m : Move) → IsKept (history s after) sides kept.payload kept.value → (kept.payload.empty ≡ false → (old.payload.empty ≡ false) × (old.value ≤ kept.value)) → IsMoveAt s after k sides kept m →
-      LeavesNoLess after.unit kept.value m → IsMove s after k kept m
+      LeavesNoLess after.unit kept m → IsMove s after k kept m
   chosen-move kept m keeps no_less may less =
       IsMove-at s after k chosen.0 kept m chosen.1 chosen.2.0 (subst (λ (ss : List Side). IsKept (history s after) ss kept.payload kept.value) (sym way) keeps)
       (λ some. record { some = ap (λ (p : Payload). p.empty) chosen.2.1.payload ∙ (no_less some).0; value = omega (arith, (no_less some).1, chosen.2.1.value) }) (subst (λ (ss : List Side). IsMoveAt s after k ss kept m) (sym way) may) less
@@ -199,7 +199,7 @@ module _ (s : Search) (before after : PriceLists) (k : ℕ) (sides : List Side) 
       IsLate s k m → IsMove s after k kept m
   late-move kept walks m found known no_less below late =
       chosen-move kept m found.kept (λ some. (known, no_less)) (IsMoveAt-late s after k sides kept m (IsUnsettled-found s after after sides kept walks found below) late)
-      (LeavesNoLess-late s after.unit kept.value k m late)
+      (LeavesNoLess-late s after.unit kept k m late)
 
   -- and so it is after work by which the prices have grown
   pub late-move-grown : (between : PriceLists) (kept : Kept) (walks : List (List Leg)) (m : Move) → IsFound (history s between) sides kept walks → ArePrices s.instance s.windows between → HaveGrown s.instance s.windows between after →
@@ -207,15 +207,15 @@ module _ (s : Search) (before after : PriceLists) (k : ℕ) (sides : List Side) 
   late-move-grown between kept walks m found are grown known no_less below late =
       chosen-move kept m (IsKept-grown s between after sides kept are grown found.kept) (λ some. (known, no_less))
       (IsMoveAt-late s after k sides kept m (IsUnsettled-found s between after sides kept walks found (omega (arith, worth-grown s between after kept.value grown, below))) late)
-      (LeavesNoLess-late s after.unit kept.value k m late)
+      (LeavesNoLess-late s after.unit kept k m late)
 
   -- at another the move is one that may be made there
   pub found-move : (between : PriceLists) (kept : Kept) (walks : List (List Leg)) (m : Move) → IsFound (history s between) sides kept walks → ArePrices s.instance s.windows between → HaveGrown s.instance s.windows between after →
-      old.payload.empty ≡ false → old.value ≤ kept.value → worth_of (history s between) kept.value < s.cost → IsOpenMove s after k sides m → LeavesNoLess between.unit kept.value m → IsMove s after k kept m
+      old.payload.empty ≡ false → old.value ≤ kept.value → worth_of (history s between) kept.value < s.cost → IsOpenMove s after k sides m → LeavesNoLess between.unit kept m → IsMove s after k kept m
   found-move between kept walks m found are grown known no_less below may less =
       chosen-move kept m (IsKept-grown s between after sides kept are grown found.kept) (λ some. (known, no_less))
       (IsMoveAt-open s after k sides kept m (IsUnsettled-found s between after sides kept walks found (omega (arith, worth-grown s between after kept.value grown, below))) may)
-      (subst (λ (unit : Option ℕ). LeavesNoLess unit kept.value m) (sym (ap (λ (x : PriceLists). x.unit) grown.is)) less)
+      (subst (λ (unit : Option ℕ). LeavesNoLess unit kept m) (sym (ap (λ (x : PriceLists). x.unit) grown.is)) less)
 
   -- the leaf may be kept so, with a note as of which round its price was improved
   pub raised-there : (kept : Kept) (improved : Option ℕ) → IsKept (history s after) sides kept.payload kept.value → old.value ≤ kept.value → IsRaised s after (record { number = k; kept = noted_kept improved kept })
@@ -273,7 +273,7 @@ module _ (s : Search) (prices : PriceLists) (k : ℕ) (old : Kept) (is : IsSearc
   keeps : IsKept (history s prices) found.0.sides old.payload old.value
   keeps = was-kept s prices prices k found.0.sides old was on is
 
-  stays : (m : Move) → IsMoveAt s prices k found.0.sides old m → LeavesNoLess prices.unit old.value m → IsMove s prices k old m
+  stays : (m : Move) → IsMoveAt s prices k found.0.sides old m → LeavesNoLess prices.unit old m → IsMove s prices k old m
   stays m may less = chosen-move s prices prices k found.0.sides old was on old m keeps (λ some. (some, omega arith)) may less
 
   -- it is closed where it is settled
@@ -289,4 +289,4 @@ module _ (s : Search) (prices : PriceLists) (k : ℕ) (old : Kept) (is : IsSearc
   late-stays m some below last late =
       stays m
       (IsMoveAt-late s prices k found.0.sides old m (record { some = some; below = below; starts = kept-starts (history s prices) found.0.sides old.payload old.value keeps some last }) late)
-      (LeavesNoLess-late s prices.unit old.value k m late)
+      (LeavesNoLess-late s prices.unit old k m late)

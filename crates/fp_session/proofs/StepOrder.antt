@@ -98,7 +98,7 @@ module _ (s : Search) (prices : PriceLists) (k : ℕ) (kept : Kept) (m : Move) (
         first = d.first;
         second = d.second;
         some = (some-value (leaf_at s.tree k) (λ (l : Leaf (Node Payload)). (closed_of l.node ≡ false) × IsMoveAt s prices k l.sides kept (move.Divide d)) (planned-so (move.Divide d) same)).2.1.0.some;
-        no_less = subst (LeavesNoLess prices.unit kept.value) same is.below;
+        no_less = subst (LeavesNoLess prices.unit kept) same is.below;
         tree = tree;
         dear = of-open s.tree k (λ l. IsMoveAt s prices k l.sides kept (move.Divide d)) (λ l. HasDearWalks (in_hand s) l.sides) (λ l all. all.3) (planned-so (move.Divide d) same);
       })

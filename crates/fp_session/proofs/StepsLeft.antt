@@ -69,14 +69,3 @@ fixed-twice s t u one two = record {
 pub none-left : (o : Option Left) → Rattle.std.specs.Prelude.IsNone o → o ≡ None
 none-left None is = refl
 none-left (Some left) is = absurd (Rattle.std.proofs.lemmas.Bool.false≢true (sym is))
-
--- there are fewer than 8 preparations at a time
-few-preparations : (x : Preparation) → preparations_left x < 8
-few-preparations preparation.FirstLook = omega arith
-few-preparations preparation.Tables = omega arith
-few-preparations preparation.WideLook = omega arith
-few-preparations preparation.Spans = omega arith
-few-preparations preparation.DeepLook = omega arith
-few-preparations preparation.FoundLook = omega arith
-few-preparations preparation.LaterLook = omega arith
-few-preparations preparation.Nothing = omega arith

@@ -1,5 +1,5 @@
 -- What is kept of a leaf that takes over how the leaf above is valued.
-use Rattle.std.proofs.Common.{◌≡◌, ℕ, ◌≤◌, Bool, false, List, [], ◌++◌, length, sym, ap, ◌∙◌, subst, arith}
+use Rattle.std.proofs.Common.{◌≡◌, ℕ, ◌≤◌, ⊎_elim, Bool, false, List, [], ◌++◌, length, sym, ap, ◌∙◌, subst, arith}
 use Rattle.std.specs.Prelude.{⊤, Option, None, Some, IfOk, IfSome, IsSomeAnd, Result, Ok, Err}
 use Rattle.std.specs.declared.alloc.AllocError.{AllocError}
 use Rattle.std.proofs.Math.Seq.{take-append_seam}
@@ -17,7 +17,7 @@ use Rattle.fp_session_history.specs.Notes.{History, points_of}
 use Rattle.fp_session.specs.declared.kept.Kept.{Kept}
 use Rattle.fp_session.specs.declared.payloads.Payload.{Payload}
 use Rattle.fp_duals_leaves.specs.Prices.{HaveGrown, PriceLists}
-use Rattle.fp_session.specs.Nodes.{IsEarnedAs, IsKept, IsNoLess, IsRaisedTo}
+use Rattle.fp_session.specs.Nodes.{IsEarnedAs, IsKept, IsNoLess, IsRaisedTo, IsSteady}
 use Rattle.fp_session.specs.Outcomes.{count_taken, taken_kept}
 use Rattle.fp_session.proofs.EarnedSplits.{IsEarnedAs-kept}
 
@@ -83,11 +83,13 @@ some-unit (Some u) spans none = cc none
 pub no-unit : (p : Problem) (table : WindowTable) (before after : PriceLists) → HaveGrown p table before after → IsSomeAnd before.unit (λ (u : ℕ). ⊤) → after.unit ≡ None → ⊥
 no-unit p table before after grown spans none = some-unit before.unit spans (sym (ap (λ (x : PriceLists). x.unit) grown.is) ∙ none)
 
--- what is no less is so where spans are sought
-pub raised-to : (o : Option ℕ) (least : ℕ) (kept : Kept) → IsNoLess least kept → IsRaisedTo o least kept
-raised-to None least kept is = tt
-raised-to (Some u) least kept is = is
+-- what is no less is so where spans are sought, or the price above is steady
+pub raised-ok : (o : Option ℕ) (above : Kept) (r : Result Kept AllocError) → IfOk r (IsNoLess above.value) → IfOk r (IsRaisedTo o above)
+raised-ok o above (Ok kept) is = λ so. is
+raised-ok o above (Err e) is = tt
 
-pub raised-ok : (o : Option ℕ) (least : ℕ) (r : Result Kept AllocError) → IfOk r (IsNoLess least) → IfOk r (IsRaisedTo o least)
-raised-ok o least (Ok kept) is = raised-to o least kept is
-raised-ok o least (Err e) is = tt
+-- and where they aren't, it's enough that it is so by steady prices
+pub inherited-ok : (o : Option ℕ) (above : Kept) (r : Result Kept AllocError) → o ≡ None → (IsSteady above.payload.valuation.price → IfOk r (IsNoLess above.value)) → IfOk r (IsRaisedTo o above)
+inherited-ok o above (Ok kept) none is =
+    λ so. ⊎_elim (λ (spans : IsSomeAnd o (λ (u : ℕ). ⊤)). absurd (some-unit o spans none)) (λ (steady : IsSteady above.payload.valuation.price). is steady) so
+inherited-ok o above (Err e) none is = tt

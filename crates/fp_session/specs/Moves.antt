@@ -58,9 +58,10 @@ pub record IsDivision (h : History) (sides : List Side) (d : Division) : Type 0 
   pub first : IsKept h (sides ++ (first (fork_in d) ∷ [])) d.first.payload d.first.value
   pub second : IsKept h (sides ++ (second (fork_in d) ∷ [])) d.second.payload d.second.value
 
--- where spans are sought, each of the two leaves below is empty, or worth no less than so much
-abbrev pub AreNoLess : Option ℕ → (least : ℕ) → Division → Type 0
-AreNoLess unit least d = IsRaisedTo unit least d.first × IsRaisedTo unit least d.second
+-- where spans are sought, or the price of the leaf above is steady, of which this is kept, each of the two leaves below is empty, or
+-- worth no less than that one
+abbrev pub AreNoLess : Option ℕ → (above : Kept) → Division → Type 0
+AreNoLess unit above d = IsRaisedTo unit above d.first × IsRaisedTo unit above d.second
 
 -- nothing is left of rounds, and a relaxed plan under the sides calls for one
 pub record IsTimingLeft (s : Search) (sides : List Side) (relaxed : List (List Leg)) : Type 0 where
@@ -115,11 +116,10 @@ IsMoveAt s prices leaf sides kept (move.Divide division) =
     IsUnsettled (history s prices) s.cost sides kept × (split_count s.tree < s.budget.branches) × IsDivision (history s prices) sides division × HasDearWalks (in_hand s) sides
 IsMoveAt s prices leaf sides kept (move.Stop left) = IsUnsettled (history s prices) s.cost sides kept × IsStopAt s leaf sides left × (s.reserve ≡ None)
 
--- where spans are sought, a step leaves no leaf worth less than so much, which the leaf is worth at which
--- it works
-abbrev pub LeavesNoLess : Option ℕ → (least : ℕ) → Move → Type 0
-LeavesNoLess unit least (move.Divide division) = AreNoLess unit least division
-LeavesNoLess unit least m = ⊤
+-- and so a step leaves the leaves below the one at which it works, of which this is kept
+abbrev pub LeavesNoLess : Option ℕ → (above : Kept) → Move → Type 0
+LeavesNoLess unit above (move.Divide division) = AreNoLess unit above division
+LeavesNoLess unit above m = ⊤
 
 -- a step ends a search for want of time only where the time is over
 abbrev pub IsTimelyMove : (over : Bool) → Move → Type 0
@@ -144,4 +144,4 @@ pub record IsMove (s : Search) (prices : PriceLists) (leaf : ℕ) (now : Kept) (
   pub kept : AtOpenLeaf s.tree leaf (λ l. IsKept (history s prices) l.sides now.payload now.value)
   pub no_less : AtOpenLeaf s.tree leaf (λ l. now.payload.empty ≡ false → HasNoMore l now)
   pub planned : AtOpenLeaf s.tree leaf (λ l. IsMoveAt s prices leaf l.sides now m)
-  pub below : LeavesNoLess prices.unit now.value m
+  pub below : LeavesNoLess prices.unit now m

@@ -1,11 +1,12 @@
 -- What a search knows of the nodes of its tree.
-use Rattle.std.specs.Prelude.{ℕ, ◌≤◌, ◌≡◌, ◌⊎◌, List, length, false, true, MatchBool, IfSome, None, Option}
+use Rattle.std.specs.Prelude.{ℕ, ◌≤◌, ◌≡◌, ◌≢◌, ◌⊎◌, ⊤, List, length, false, true, MatchBool, IfSome, IsSomeAnd, None, Option}
 use Rattle.fp_flatnet.specs.Tables.{windows_in}
 use Rattle.fp_tree.specs.declared.sides.Side.{Side}
 use Rattle.fp_tree.specs.Nodes.{Node, closed_of, fork_of, value_of}
 use Rattle.fp_tree.specs.Sides.{Fork}
 use Rattle.fp_tree.specs.Trees.{Branch, Leaf}
 use Rattle.fp_allowed.specs.Slack.{DividesSome}
+use Rattle.fp_prices.specs.declared.leaf_prices.Kind.TheVariants.{Even}
 use Rattle.fp_prices.specs.declared.leaf_prices.LeafPrice.{LeafPrice}
 use Rattle.fp_prices.specs.Tables.{HasKind}
 use Rattle.fp_certificate_lines.specs.declared.certificates.Valuation.{Valuation}
@@ -43,9 +44,15 @@ pub record IsKept (h : History) (sides : List Side) (payload : Payload) (value :
 abbrev pub IsNoLess : ℕ → Kept → Type 0
 IsNoLess least kept = (kept.payload.empty ≡ true) ⊎ (least ≤ kept.value)
 
--- it is so where spans are sought, which a unit tells
-abbrev pub IsRaisedTo : Option ℕ → (least : ℕ) → Kept → Type 0
-IsRaisedTo unit least kept = IfSome unit (λ (u : ℕ). IsNoLess least kept)
+-- a price by which no leaf is worth less as of the same round where sides are added: none of its classes is free since it is forced, and
+-- it doesn't depend on how many shipments may use a class
+pub record IsSteady (price : LeafPrice) : Type 0 where
+  pub plain : price.forced ≡ false
+  pub shared : price.kind ≢ Even
+
+-- it is so of a leaf below one of which that is kept, where spans are sought, which a unit tells, or where the price of that one is steady
+abbrev pub IsRaisedTo : Option ℕ → (above : Kept) → Kept → Type 0
+IsRaisedTo unit above kept = (IsSomeAnd unit (λ (u : ℕ). ⊤) ⊎ IsSteady above.payload.valuation.price) → IsNoLess above.value kept
 
 -- this is kept of a leaf
 pub record IsKeptAs (l : Leaf (Node Payload)) (kept : Kept) : Type 0 where

@@ -62,7 +62,7 @@ pub record HasRoundAt (s t : InHand) (leaf : ℕ) (kept : Kept) : Type 0 where
   pub under : AtLeafSides s.tree leaf (λ sides. AreWalksHad s sides note.relaxed)
 
 -- the leaf was divided, of whose walks no cheaper plan can come: such walks would have called for a round; where spans are sought, which
--- a unit tells, each of the two leaves below is empty or worth no less than it was
+-- a unit tells, or its price is steady, each of the two leaves below is empty or worth no less than it was
 pub record HasSplitAt (unit : Option ℕ) (s t : InHand) (leaf : ℕ) (kept : Kept) : Type 0 where
   pub fork : Fork
   pub first : Kept
@@ -70,7 +70,7 @@ pub record HasSplitAt (unit : Option ℕ) (s t : InHand) (leaf : ℕ) (kept : Ke
   pub some : kept.payload.empty ≡ false
   pub tree : t.tree ≡ with_divided leaf fork first second (with_kept leaf (with_cost s.cost kept) s.tree)
   pub dear : AtLeafSides s.tree leaf (HasDearWalks s)
-  pub no_less : IsRaisedTo unit kept.value first × IsRaisedTo unit kept.value second
+  pub no_less : IsRaisedTo unit kept first × IsRaisedTo unit kept second
 
 -- what was left was left at the leaf
 abbrev pub LeavesAt : ℕ → Option Left → Type 0

@@ -1,25 +1,25 @@
 //! What is kept of the two leaves below a leaf that is split.
-ghost use Rattle.std.specs.Prelude.{[], ◌∷◌, ◌++◌, ◌≡◌, ◌<◌, ◌≤◌, ⊤, None, IfOk, IsSomeAnd, false, true, length};
+ghost use Rattle.std.specs.Prelude.{[], ◌∷◌, ◌++◌, ◌≡◌, ◌⊎◌, ℕ, ◌<◌, ◌≤◌, ⊤, None, IfOk, IsSomeAnd, IsTrue, ◌↔◌, false, true, length};
 ghost use Rattle.fp_prices.specs.Tables.{HasKind};
 ghost use Rattle.fp_tree.specs.declared.layout.TheConstants.{MOST_SPLITS};
-ghost use Rattle.fp_session.specs.Nodes.{IsKept, IsNoLess, IsRaisedTo};
-ghost use Rattle.fp_session.specs.Outcomes.{taken_kept};
-ghost use Rattle.fp_duals_leaves.specs.Prices.{HaveGrown};
+ghost use Rattle.fp_session.specs.Nodes.{IsKept, IsNoLess, IsPriceOf, IsRaisedTo, IsSteady};
+ghost use Rattle.fp_session.specs.Outcomes.{IsBestBy, IsNoLessBy, taken_kept};
+ghost use Rattle.fp_duals_leaves.specs.Prices.{ArePrices, HaveGrown};
 ghost use Rattle.fp_session.specs.Searches.{IsSearch, history, setting_of};
 
 use crate::NoMemory;
-use crate::improving::{emptied, improved, priced};
+use crate::improving::{emptied, greater, improved, priced};
 use crate::kept::Kept;
 use crate::outcomes::Outcome;
 use crate::payloads::Payload;
 use crate::searches::Search;
 use fp_certificate_lines::Valuation;
 use fp_duals::Improved;
-use fp_duals_leaves::{PriceEffort, Prices, improve};
+use fp_duals_leaves::{PriceEffort, Prices, bound_by, improve, steady_price};
 use fp_duals_nets::LentNets;
 use fp_ends::{Deadline, Resources};
 use fp_longestarcs::Network;
-use fp_prices::{Leaf, LeafPrice, RoundNetwork};
+use fp_prices::{Kind, Leaf, LeafBound, LeafPrice, RoundNetwork};
 use fp_tree::Side;
 use std::alloc::Global;
 
@@ -132,29 +132,46 @@ fn taken(above: Kept, sides: u32) -> Kept
     }
 }
 
-// What is kept of such a leaf as of the round that the price of the leaf above is of: that it is empty,
-// a price by which it is worth no less than the leaf above, or how that one is valued. Points that were
-// added since can make a table worth less.
+// What is kept of a leaf of which this was found by other prices, and of which a price is as of the same
+// round: that it is empty, or the price where the leaf is worth more by it.
+fn or_by(
+    alloc: Global,
+    leaf: &Leaf,
+    found: Kept,
+    price: LeafPrice,
+    prices: &Prices,
+) -> Result<Kept, NoMemory>
+    requires prices { ArePrices leaf.now.setting.problem leaf.now.setting.windows prices.now }
+    requires kind { HasKind prices.now.tables price.kind }
+    ensures { IfOk result (IsBestBy leaf.now prices.now found price) }
+{
+    match bound_by(alloc, leaf, price, prices)? {
+        LeafBound::Empty { .. } => Ok(emptied(price.round)),
+        LeafBound::Value { value } => Ok(greater(found, price, value)),
+    }
+}
+
+// What is kept of such a leaf as of the round that a price of the leaf above is of: that it is empty, or
+// the best of that price and of those that each leaf has. Points that were added since can make a table
+// worth less.
 #[tactic(auto, using(fp_duals_leaves::proofs::GrownPrices::HaveGrown_none))]
-fn as_above<D: Deadline>(
+fn as_of_price<D: Deadline>(
     resources: &Resources<D>,
     search: &Search,
     leaf: &Leaf,
     side: Side,
-    above: Kept,
+    price: LeafPrice,
     prices: &mut Prices,
 ) -> Result<Kept, NoMemory>
     requires search { IsSearch search.now prices.old }
-    requires spans { IsSomeAnd prices.old.unit (λ unit. ⊤) }
-    requires deep { length leaf.now.sides ≤ MOST_SPLITS }
-    requires above { IsKept (history search.now prices.old) leaf.now.sides above.payload above.value }
-    requires some { above.payload.empty ≡ false }
+    requires price { IsPriceOf (history search.now prices.old) price }
     ensures grown { HaveGrown search.now.instance search.now.windows prices.old prices.new }
     ensures kept { IfOk result (λ kept.
         IsKept (history search.now prices.new) (leaf.now.sides ++ (side ∷ [])) kept.payload kept.value) }
-    ensures no_less { IfOk result (IsNoLess above.value) }
+    ensures round { IfOk result (λ kept. kept.payload.valuation.price.round ≡ price.round) }
+    ensures inherited { IfOk result
+        (IsNoLessBy (history search.now prices.new) (leaf.now.sides ++ (side ∷ [])) price) }
 {
-    let price = above.payload.valuation.price;
     let network = Network::of(
         resources.alloc,
         &search.instance,
@@ -176,13 +193,11 @@ fn as_above<D: Deadline>(
         prices,
     )? {
         Improved::Empty { .. } => Ok(emptied(price.round)),
-        Improved::Priced { price, value, .. } => {
-            if value >= above.value {
-                Ok(priced(price, value))
-            } else {
-                Ok(taken(above, depth_of(leaf)))
-            }
-        }
+        Improved::Priced {
+            price: own,
+            value,
+            ..
+        } => or_by(resources.alloc, &below, priced(own, value), price, prices),
     }
 }
 
@@ -220,17 +235,100 @@ fn no_less<D: Deadline>(
         IsKept (history search.now prices.new) (leaf.now.sides ++ (side ∷ [])) kept.payload kept.value) }
     ensures no_less { IfOk result (IsNoLess above.value) }
 {
+    let price = above.payload.valuation.price;
     // As of the same round its value is at least those by linear and by even prices, and so is that of
     // the leaf above.
-    if kept.payload.valuation.price.round == above.payload.valuation.price.round {
+    if kept.payload.valuation.price.round == price.round {
         return Ok(taken(above, depth_of(leaf)));
     }
-    as_above(resources, search, leaf, side, above, prices)
+    let then = as_of_price(resources, search, leaf, side, price, prices)?;
+    if is_no_less(then, above.value) {
+        return Ok(then);
+    }
+    Ok(taken(above, depth_of(leaf)))
+}
+
+// The better of what is kept of a leaf in two ways.
+fn better_of(one: Kept, other: Kept) -> Kept
+    ensures either { (result ≡ one) ⊎ (result ≡ other) }
+    ensures no_less { (least : ℕ) → IsNoLess least other → IsNoLess least result }
+{
+    if other.payload.empty || other.value > one.value {
+        other
+    } else {
+        one
+    }
+}
+
+// Whether no leaf is worth less by a price, as of its round, where sides are added.
+fn is_steady(price: LeafPrice) -> bool
+    ensures { IsTrue result ↔ IsSteady price }
+{
+    !price.forced && price.kind != Kind::Even
+}
+
+// The price of a leaf of which this is kept, where it is steady or no other is found; or one that is, by
+// which the leaf is worth no less.
+#[tactic(auto, using(fp_duals_leaves::proofs::GrownPrices::HaveGrown_none))]
+fn price_below(
+    alloc: Global,
+    search: &Search,
+    leaf: &Leaf,
+    above: Kept,
+    prices: &mut Prices,
+) -> Result<LeafPrice, NoMemory>
+    requires search { IsSearch search.now prices.old }
+    requires without { prices.old.unit ≡ None }
+    requires price { IsPriceOf (history search.now prices.old) above.payload.valuation.price }
+    ensures grown { HaveGrown search.now.instance search.now.windows prices.old prices.new }
+    ensures price { IfOk result (IsPriceOf (history search.now prices.new)) }
+    ensures same { IsSteady above.payload.valuation.price
+        → IfOk result (λ price. price ≡ above.payload.valuation.price) }
+{
+    let price = above.payload.valuation.price;
+    if is_steady(price) {
+        return Ok(price);
+    }
+    let network = Network::of(alloc, &search.instance, &search.points, price.round)?;
+    let round = RoundNetwork::over(alloc, &search.instance, network)?;
+    let there = Leaf::of(alloc, &round, &search.windows, leaf.sides())?;
+    match steady_price(alloc, &there, price, above.value, prices)? {
+        Some(steady) => Ok(steady),
+        None => Ok(price),
+    }
+}
+
+// What is kept of such a leaf where spans aren't sought: what is kept, or what it is worth as of the round
+// of the price of the leaf above, where that is more. A steady price is then worth no less than there.
+#[tactic(auto, using(fp_duals_leaves::proofs::GrownPrices::HaveGrown_none))]
+fn as_inherited<D: Deadline>(
+    resources: &Resources<D>,
+    search: &Search,
+    leaf: &Leaf,
+    side: Side,
+    kept: Kept,
+    above: Kept,
+    prices: &mut Prices,
+) -> Result<Kept, NoMemory>
+    requires search { IsSearch search.now prices.old }
+    requires going { search.now.left ≡ None }
+    requires without { prices.old.unit ≡ None }
+    requires above { IsKept (history search.now prices.old) leaf.now.sides above.payload above.value }
+    requires some { above.payload.empty ≡ false }
+    requires kept { IsKept (history search.now prices.old) (leaf.now.sides ++ (side ∷ [])) kept.payload kept.value }
+    ensures grown { HaveGrown search.now.instance search.now.windows prices.old prices.new }
+    ensures kept { IfOk result (λ kept.
+        IsKept (history search.now prices.new) (leaf.now.sides ++ (side ∷ [])) kept.payload kept.value) }
+    ensures steady { IsSteady above.payload.valuation.price → IfOk result (IsNoLess above.value) }
+{
+    let price = price_below(resources.alloc, search, leaf, above, prices)?;
+    let then = as_of_price(resources, search, leaf, side, price, prices)?;
+    Ok(better_of(kept, then))
 }
 
 // What is kept of such a leaf of which this is kept after little effort, below a leaf of which that is
-// kept: improved with more effort where it is worth less than the leaf above, and at last, where
-// spans are sought, with no less value than that.
+// kept: improved with more effort where it is worth less than the leaf above, and at last as of the
+// round of the price of that one; where spans are sought, with no less value than that.
 #[tactic(auto, using(fp_duals_leaves::proofs::GrownPrices::HaveGrown_none))]
 pub(crate) fn raised<D: Deadline>(
     resources: &Resources<D>,
@@ -251,7 +349,7 @@ pub(crate) fn raised<D: Deadline>(
     ensures grown { HaveGrown search.now.instance search.now.windows prices.old prices.new }
     ensures kept { IfOk result (λ kept.
         IsKept (history search.now prices.new) (leaf.now.sides ++ (side ∷ [])) kept.payload kept.value) }
-    ensures no_less { IfOk result (IsRaisedTo prices.old.unit above.value) }
+    ensures no_less { IfOk result (IsRaisedTo prices.old.unit above) }
 {
     if is_no_less(kept, above.value) {
         return Ok(kept);
@@ -261,7 +359,7 @@ pub(crate) fn raised<D: Deadline>(
         return Ok(kept);
     }
     match prices.unit() {
-        None => Ok(kept),
+        None => as_inherited(resources, search, leaf, side, kept, above, prices),
         Some(_) => no_less(resources, search, leaf, side, kept, above, prices),
     }
 }
@@ -284,7 +382,7 @@ pub(crate) fn child<D: Deadline>(
     ensures grown { HaveGrown search.now.instance search.now.windows prices.old prices.new }
     ensures kept { IfOk result (λ kept.
         IsKept (history search.now prices.new) (leaf.now.sides ++ (side ∷ [])) kept.payload kept.value) }
-    ensures no_less { IfOk result (IsRaisedTo prices.old.unit above.value) }
+    ensures no_less { IfOk result (IsRaisedTo prices.old.unit above) }
 {
     let price = above.payload.valuation.price;
     let kept = new_child(resources, search, leaf, side, price, prices)?;

@@ -77,8 +77,8 @@ fn leaves_below<D: Deadline>(
     requires some { above.payload.empty ≡ false }
     ensures grown { HaveGrown search.now.instance search.now.windows prices.old prices.new }
     ensures kept { IfOk result (AreKeptBelow (history search.now prices.new) leaf.now.sides (fork_by chosen.candidate)) }
-    ensures no_less { IfOk result (λ below. IsRaisedTo prices.old.unit above.value below.first
-        × IsRaisedTo prices.old.unit above.value below.second) }
+    ensures no_less { IfOk result (λ below. IsRaisedTo prices.old.unit above below.first
+        × IsRaisedTo prices.old.unit above below.second) }
 {
     let one = chosen.candidate.split.first();
     let other = chosen.candidate.split.second(chosen.candidate.terminal);
@@ -114,7 +114,7 @@ pub(crate) fn division<D: Deadline>(
     requires some { above.payload.empty ≡ false }
     ensures grown { HaveGrown search.now.instance search.now.windows prices.old prices.new }
     ensures division { IfOk result (IsDivision (history search.now prices.new) leaf.now.sides) }
-    ensures no_less { IfOk result (AreNoLess prices.old.unit above.value) }
+    ensures no_less { IfOk result (AreNoLess prices.old.unit above) }
 {
     let below = leaves_below(resources, search, leaf, chosen, above, prices)?;
     Ok(Division {

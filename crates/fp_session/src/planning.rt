@@ -70,7 +70,7 @@ fn timed_move<D: Deadline>(
         leaf.now.sides relaxed }
     requires cheaper { cost_of search.now.instance relaxed < search.now.cost }
     ensures open_move { IfOk result (IsOpenMove search.now prices.now number leaf.now.sides) }
-    ensures no_less { (unit : Option ℕ) → (least : ℕ) → IfOk result (LeavesNoLess unit least) }
+    ensures no_less { (unit : Option ℕ) → (above : Kept) → IfOk result (LeavesNoLess unit above) }
 {
     match timed(resources, search, prices, relaxed)? {
         Timing::Better { cheaper } => Ok(Move::Better { cheaper }),
@@ -113,7 +113,7 @@ fn several_move<D: Deadline>(
     requires some { kept.payload.empty ≡ false }
     ensures grown { HaveGrown search.now.instance search.now.windows prices.old prices.new }
     ensures division { IfOk result (IsDivision (history search.now prices.new) leaf.now.sides) }
-    ensures no_less { IfOk result (AreNoLess prices.old.unit kept.value) }
+    ensures no_less { IfOk result (AreNoLess prices.old.unit kept) }
 {
     let price = kept.payload.valuation.price;
     let chosen = choice(resources, search, leaf, several, price, walks, prices)?;
@@ -149,7 +149,7 @@ fn move_by<D: Deadline>(
     requires deep { length leaf.now.sides ≤ MOST_SPLITS }
     ensures grown { HaveGrown search.now.instance search.now.windows prices.old prices.new }
     ensures planned { IfOk result (IsOpenMove search.now prices.new number leaf.now.sides) }
-    ensures no_less { IfOk result (LeavesNoLess prices.old.unit found.kept.value) }
+    ensures no_less { IfOk result (LeavesNoLess prices.old.unit found.kept) }
 {
     let Found {
         kept,
@@ -295,7 +295,7 @@ fn open_move<D: Deadline>(
                 prices,
             )?;
             let planned = move_by(resources, search, &leaf, &mut nets, number, found, prices)?;
-            // A split that was worked out in haste may lower what its leaf is worth.
+            // A split that was worked out in haste may leave leaves that are worth less, where spans aren't sought.
             if is_division(&planned) && resources.is_over() {
                 return Ok(Planned {
                     kept,

@@ -9,6 +9,7 @@ mod knapsack;
 mod labels;
 mod longestarcs;
 mod model;
+mod present;
 mod reader;
 mod records;
 mod rows;

@@ -1,9 +1,8 @@
-use Rattle.std.proofs.Common.{◌≡◌, ◌≤◌, ◌∙◌, ◌+◌, ◌++◌, ◌∷◌, [], ℕ, List, map, take, length, sym, ap, subst, arith}
-use Rattle.std.specs.Prelude.{Option, IsSomeAnd, slice_index, slice_index_or}
+use Rattle.std.proofs.Common.{◌≡◌, ◌∙◌, ◌+◌, ◌++◌, ◌∷◌, [], ℕ, List, map, take, sym, ap, subst}
+use Rattle.std.specs.Prelude.{slice_index, slice_index_or}
 use Rattle.std.proofs.lemmas.List.{map-append, take_more}
 use Rattle.fp_timenodes.specs.declared.places.Place.{Place}
-use Rattle.fp_flatnet.specs.declared.window_tables.Window.{Window}
-use Rattle.fp_flatnet.specs.Tables.{CanNarrow, WindowTable, narrowed, windows_in}
+use Rattle.fp_flatnet.specs.Tables.{WindowTable, narrowed, windows_in}
 use Rattle.fp_replan.specs.declared.kept.Kept.{Kept}
 use Rattle.fp_replan.specs.KeptLegs.{CanKeep, no_kept}
 use Rattle.fp_replan.specs.KeptWindows.{AreNarrow, kept_place}

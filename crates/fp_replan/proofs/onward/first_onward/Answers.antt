@@ -6,8 +6,7 @@ use Rattle.fp_labels.specs.Walks.{cost_of}
 use Rattle.fp_model.specs.declared.parts.Arc.{Arc}
 use Rattle.fp_model.specs.Problem.{arc_at}
 use Rattle.fp_model.proofs.Validity.{IsArc-valid}
-use Rattle.fp_replan.specs.KeptLegs.{places_seen}
-use Rattle.fp_replan.specs.Starts.{AddsTo, BeginsPast, open_costs}
+use Rattle.fp_replan.specs.Starts.{BeginsPast, open_costs}
 use Rattle.fp_replan.proofs.OnwardWalks.{IsPastDistance, adds-from_begins, begins-from_adds, label-past}
 use Rattle.fp_replan.proofs.onward.first_onward.Goals as goal
 use Rattle.fp_replan.proofs.onward.first_onward.Goals.{else-arc-here-via-then-arc-here+else-is_on_way, else-arc-here-via-else-arc-here}
@@ -15,7 +14,7 @@ use Rattle.fp_replan.proofs.onward.first_onward.Goals.{else-arc-here-via-then-ar
 pub returns-in_err-left : goal.returns-in_err-left
 returns-in_err-left c =
     let p = c.args.instance.now in
-    let gone : List ℕ = places_seen p c.args.shipment.now.from c.args.front.now in
+    let gone : List ℕ = c.args.gone.now in
     let here = c.args.here in
     let there = c.args.shipment.now.to in
     let none : IsPastDistance p gone here there None =
@@ -25,7 +24,7 @@ returns-in_err-left c =
 pub returns-then-is_on_way : goal.returns-then-is_on_way
 returns-then-is_on_way c =
     let p = c.args.instance.now in
-    let gone : List ℕ = places_seen p c.args.shipment.now.from c.args.front.now in
+    let gone : List ℕ = c.args.gone.now in
     let here = c.args.here in
     let there = c.args.shipment.now.to in
     let n = c.loop-number.number in
@@ -50,7 +49,7 @@ pub loop-number-preserved : goal.loop-number-preserved
 loop-number-preserved c =
     λ a more begins.
     let p = c.args.instance.now in
-    let gone : List ℕ = places_seen p c.args.shipment.now.from c.args.front.now in
+    let gone : List ℕ = c.args.gone.now in
     let here = c.args.here in
     let there = c.args.shipment.now.to in
     let n = c.loop-number.number in

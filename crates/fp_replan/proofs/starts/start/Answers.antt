@@ -1,4 +1,4 @@
-use Rattle.std.proofs.Common.{◌≡◌, ◌≤◌, ◌<◌, ◌∙◌, ℕ, List, [], length, sym, ap, subst, arith}
+use Rattle.std.proofs.Common.{◌≡◌, ◌≤◌, List, [], length, sym, ap, subst, arith}
 use Rattle.std.specs.declared.alloc.Global.{Global}
 use Rattle.std.specs.declared.vec.Vec.{Vec}
 use Rattle.std.proofs.lemmas.List.{length-map}
@@ -12,6 +12,7 @@ use Rattle.fp_replan.specs.Beginnings.{IsBeginning}
 use Rattle.fp_replan.specs.KeptLegs.{kept_of}
 use Rattle.fp_replan.specs.Starts.{GoesOnFrom, HasLegsFrom, IsStuck}
 use Rattle.fp_replan.proofs.BegunPlans.{AreBegun, AreBegun-routes, HasLegsFrom-route, IsBegunRoute, front-read, none-kept}
+use Rattle.fp_replan.proofs.BegunRoutes.{HasLegsPast-none}
 use Rattle.fp_replan.proofs.KeptBeginnings.{IsBeginning-kept}
 use Rattle.fp_replan.proofs.starts.start.Goals as goal
 
@@ -40,7 +41,7 @@ returns-in-None c =
     let stuck : IsStuck p kept n = record {
       exists = omega (arith, front.1, ap (λ (ss : List Shipment). length ss) c.shipments.ensures.same);
       earlier = λ i lt. HasLegsFrom-route p kept i _ (c.loop-number.invariant.1 i lt);
-      none = λ has. told (none has tt);
+      none = λ has. told (HasLegsPast-none p c.shipment-shipment.result.now c.deref.result.now (none has tt));
     } in
     (stuck, none-kept p kept n stuck)
 

@@ -16,4 +16,4 @@ raised-requires-clause-above g c =
 
 pub returns-clause-no_less : goal.returns-clause-no_less
 returns-clause-no_less g c =
-    subst (λ (o : Option ℕ). IfOk c.raised.result (IsRaisedTo o c.args.above.value)) (ap (λ (x : PriceLists). x.unit) c.new_child.ensures.grown.is) c.raised.ensures.no_less
+    subst (λ (o : Option ℕ). IfOk c.raised.result (IsRaisedTo o c.args.above)) (ap (λ (x : PriceLists). x.unit) c.new_child.ensures.grown.is) c.raised.ensures.no_less

@@ -46,11 +46,11 @@ child-requires-in-None-clause-above g c =
 pub returns-in_ok-second-in-Some-clause-no_less : goal.returns-in_ok-second-in-Some-clause-no_less
 returns-in_ok-second-in-Some-clause-no_less g c = (
   c.in_ok-first-in-Some.ensures.no_less,
-  subst (λ (o : Option ℕ). IsRaisedTo o c.args.above.value c.in_ok-second-in-Some.second) (ap (λ (x : PriceLists). x.unit) c.raised.ensures.grown.is) c.in_ok-second-in-Some.ensures.no_less,
+  subst (λ (o : Option ℕ). IsRaisedTo o c.args.above c.in_ok-second-in-Some.second) (ap (λ (x : PriceLists). x.unit) c.raised.ensures.grown.is) c.in_ok-second-in-Some.ensures.no_less,
 )
 
 pub returns-in_ok-second-in-None-clause-no_less : goal.returns-in_ok-second-in-None-clause-no_less
 returns-in_ok-second-in-None-clause-no_less g c = (
   c.in_ok-first-in-None.ensures.no_less,
-  subst (λ (o : Option ℕ). IsRaisedTo o c.args.above.value c.in_ok-second-in-None.second) (ap (λ (x : PriceLists). x.unit) c.child.ensures.grown.is) c.in_ok-second-in-None.ensures.no_less,
+  subst (λ (o : Option ℕ). IsRaisedTo o c.args.above c.in_ok-second-in-None.second) (ap (λ (x : PriceLists). x.unit) c.child.ensures.grown.is) c.in_ok-second-in-None.ensures.no_less,
 )

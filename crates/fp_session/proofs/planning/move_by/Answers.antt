@@ -76,7 +76,7 @@ pub returns-clause-no_less : goal.returns-clause-no_less
 returns-clause-no_less g c = c.in_ok-division-in-Some-2.ensures.no_less
 
 pub returns-in_default-2-clause-no_less : goal.returns-in_default-2-clause-no_less
-returns-in_default-2-clause-no_less g c = c.in_ok-planned.ensures.no_less c.args.prices.now.unit c.args.found.kept.value
+returns-in_default-2-clause-no_less g c = c.in_ok-planned.ensures.no_less c.args.prices.now.unit c.args.found.kept
 
 pub returns-then-are_cheaper-clause-no_less : goal.returns-then-are_cheaper-clause-no_less
-returns-then-are_cheaper-clause-no_less g c = c.timed_move-then-are_cheaper.ensures.no_less c.args.prices.now.unit c.args.found.kept.value
+returns-then-are_cheaper-clause-no_less g c = c.timed_move-then-are_cheaper.ensures.no_less c.args.prices.now.unit c.args.found.kept

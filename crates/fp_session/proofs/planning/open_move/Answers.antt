@@ -85,7 +85,7 @@ returns-clause-planned g c =
     found-move c.args.search.now c.args.prices.now c.move_by.new.prices c.args.number c.in_ok-leaf.leaf.sides c.args.old c.requires.old
     (subst (λ (ss : List Side). IsSomeAnd (leaf_at c.args.search.now.tree c.args.number) (λ (l : Leaf (Node Payload)). l.sides ≡ ss)) (sym (c.in_ok-leaf.ensures.sides ∙ c.deref.ensures.value)) c.in_ok-sides.ensures.sides) c.chosen.new.prices c.in-Open.kept c.in-Open.walks.items c.in_ok-planned-in-Open.planned came.0 c.chosen.ensures.grown.prices c.move_by.ensures.grown c.requires.some came.1 below
     c.in_ok-planned-in-Open.ensures.planned
-    (subst (λ (k : Kept). LeavesNoLess c.chosen.new.prices.unit k.value c.in_ok-planned-in-Open.planned) c.in_ok-found-in-Open.ensures.kept c.in_ok-planned-in-Open.ensures.no_less)
+    (subst (λ (k : Kept). LeavesNoLess c.chosen.new.prices.unit k c.in_ok-planned-in-Open.planned) c.in_ok-found-in-Open.ensures.kept c.in_ok-planned-in-Open.ensures.no_less)
 
 pub move_by-requires-clause-deep : goal.move_by-requires-clause-deep
 move_by-requires-clause-deep g c = subst (λ (ss : List Side). length ss ≤ MOST_SPLITS) (sym (c.in_ok-leaf.ensures.sides ∙ c.deref.ensures.value)) c.in_ok-sides.ensures.deep

@@ -20,8 +20,8 @@ division-requires-clause-above g c = subst (λ (x : PriceLists). IsKept (history
 
 pub returns-clause-no_less : goal.returns-clause-no_less
 returns-clause-no_less g c =
-    IfOk-weaker c.division.result (AreNoLess c.choice.new.prices.unit c.args.kept.value) (AreNoLess c.args.prices.now.unit c.args.kept.value)
-    (λ d less. subst (λ (x : PriceLists). AreNoLess x.unit c.args.kept.value d) c.choice.ensures.same less) c.division.ensures.no_less
+    IfOk-weaker c.division.result (AreNoLess c.choice.new.prices.unit c.args.kept) (AreNoLess c.args.prices.now.unit c.args.kept)
+    (λ d less. subst (λ (x : PriceLists). AreNoLess x.unit c.args.kept d) c.choice.ensures.same less) c.division.ensures.no_less
 
 pub returns-clause-grown : goal.returns-clause-grown
 returns-clause-grown g c =

@@ -1,0 +1,16 @@
+pub mod SettledLegs
+pub mod Beginnings
+pub mod Numbers
+pub mod PromisedLegs
+pub mod RestRoutes
+pub mod RestPlans
+pub mod RestCosts
+pub mod RestWindows
+pub mod DayRecords
+pub mod KeptOnly
+pub mod ShipmentWays
+pub mod ShipmentParts
+pub mod Weights
+pub mod SettledCosts
+pub mod WholePlans
+pub mod KeptDays

@@ -1,0 +1,11 @@
+pub mod Days
+pub mod Codes
+pub mod Records
+pub mod Drafts
+pub mod Arrivals
+pub mod Plans
+pub mod Rests
+pub mod Standings
+pub mod Parts
+pub mod Windows
+pub mod KeptDays

@@ -1,0 +1,153 @@
+-- By a steady price no leaf is worth less as of the same round where sides are added.
+use Rattle.std.proofs.Common.{◌≡◌, ℕ, ◌+◌, ◌*◌, ◌≤◌, ⊎_elim, inl, inr, Bool, true, false, List, [], ◌∷◌, ◌++◌, refl, ap, subst, arith}
+use Rattle.std.specs.Prelude.{◌≢◌, None, Option, sum_by, if◌then◌else◌}
+use Rattle.std.specs.List.{AllZip}
+use Rattle.std.proofs.lemmas.List.Sums.{sum_by-cons}
+use Rattle.fp_base_lists.specs.Numbered.{AllZipFrom}
+use Rattle.fp_model.specs.declared.parts.Leg.{Leg}
+use Rattle.fp_model.specs.declared.parts.Shipment.{Shipment}
+use Rattle.fp_model.specs.Costs.{all_legs, departures_cost, has_leg}
+use Rattle.fp_model.specs.Problem.{Problem}
+use Rattle.fp_flatnet.specs.declared.window_tables.Window.{Window}
+use Rattle.fp_flatnet.specs.Tables.{windows_in}
+use Rattle.fp_tree.specs.declared.sides.Side.{Side}
+use Rattle.fp_allowed.specs.Allowed.{AreAmong, is_allowed}
+use Rattle.fp_allowed.proofs.FewerSides.{AreAmong_append, IsTimedWalk_fewer, is_allowed_fewer}
+use Rattle.fp_prices.specs.declared.leaf_prices.Kind.{Kind}
+use Rattle.fp_prices.specs.declared.leaf_prices.Kind.TheVariants.{Even, Linear, Table}
+use Rattle.fp_prices.specs.declared.leaf_prices.LeafPrice.{LeafPrice}
+use Rattle.fp_prices.specs.Leaves.{IsLeastCost}
+use Rattle.fp_prices.specs.Prices.{truck_price}
+use Rattle.fp_prices.specs.Shares.{ClassShare}
+use Rattle.fp_prices.proofs.PlainChains.{all_legs-plain}
+use Rattle.fp_prices_spans.specs.SpanKinds.{IsPricedValue, spans_beside}
+use Rattle.fp_prices_spans.specs.SpanLeaves.{IsCharged, IsChargeOf, IsSpanLeafValue}
+use Rattle.fp_certificate_lines.specs.Valuations.{first_sides, sides_valued}
+use Rattle.fp_prices_spans.specs.SpanPrices.{is_held, span_price}
+use Rattle.fp_prices_spans.specs.Spans.{ClassSpan}
+use Rattle.fp_session_history.specs.Notes.{History, points_of}
+use Rattle.fp_session.specs.declared.kept.Kept.{Kept}
+use Rattle.fp_session.specs.Nodes.{IsEarnedAs, IsKept, IsNoLess, IsSteady}
+use Rattle.fp_session.specs.Outcomes.{IsNoLessBy}
+use Rattle.fp_session.proofs.EarnedSplits.{IsEarnedAs-kept}
+
+-- what a class costs a shipment, where these legs are free
+abbrev price_with : Problem → List (List ClassShare) → List ClassSpan → (ℕ → Leg → Bool) → Kind → (free : List Leg) → (k size : ℕ) → Leg → ℕ
+price_with p tables spans allowed kind free k size c = if has_leg c free then 0 else (if is_held spans c then span_price spans k c else truck_price p tables allowed kind c k size)
+
+-- it doesn't depend on what is allowed
+price-shared : (p : Problem) (tables : List (List ClassShare)) (spans : List ClassSpan) (allowed other : ℕ → Leg → Bool) (kind : Kind) (free : List Leg) → kind ≢ Even →
+    price_with p tables spans allowed kind free ≡ price_with p tables spans other kind free
+price-shared p tables spans allowed other Linear free shared = refl
+price-shared p tables spans allowed other Even free shared = absurd (shared refl)
+price-shared p tables spans allowed other (Table id) free shared = refl
+
+module _ (p : Problem) (windows : ℕ → ℕ → Option Window) (points : ℕ → List ℕ) (fewer sides : List Side) (among : AreAmong fewer sides) where
+  -- what is allowed under the sides, and under fewer
+  abbrev narrow : ℕ → Leg → Bool
+  narrow = is_allowed p windows points sides
+
+  abbrev wide : ℕ → Leg → Bool
+  wide = is_allowed p windows points fewer
+
+  -- the least cost of a shipment isn't less
+  least-more : (k : ℕ) (s : Shipment) (price : Leg → ℕ) (n m : ℕ) → IsLeastCost p points (wide k) s price n → IsLeastCost p points (narrow k) s price m → n ≤ m
+  least-more k s price n m few more = omega (arith, few.least more.walk (IsTimedWalk_fewer p windows points fewer sides k s more.walk among more.timed), more.cost)
+
+  -- nor are those of all
+  costs-more : (price : ℕ → ℕ → Leg → ℕ) (i : ℕ) (shipments : List Shipment) (A B : List ℕ) → AllZipFrom (λ k (s : Shipment) n. IsLeastCost p points (wide k) s (price k s.size) n) i shipments A →
+      AllZipFrom (λ k (s : Shipment) n. IsLeastCost p points (narrow k) s (price k s.size) n) i shipments B → sum_by (λ (n : ℕ). n) A ≤ sum_by (λ (n : ℕ). n) B
+  costs-more price i [] [] [] few more = omega arith
+  costs-more price i [] [] (b ∷ B) few more = absurd more
+  costs-more price i [] (a ∷ A) B few more = absurd few
+  costs-more price i (s ∷ shipments) [] B few more = absurd few
+  costs-more price i (s ∷ shipments) (a ∷ A) [] few more = absurd more
+  costs-more price i (s ∷ shipments) (a ∷ A) (b ∷ B) few more = omega (arith, least-more i s (price i s.size) a b few.0 more.0, costs-more price (i + 1) shipments A B few.1 more.1, sum_by-cons (λ (n : ℕ). n) a A, sum_by-cons (λ (n : ℕ). n) b B)
+
+  -- a span that is charged is so under fewer sides
+  charged-fewer : (chains others : List (List Leg)) → all_legs others ≡ [] → (span : ClassSpan) → IsCharged p narrow chains span → IsCharged p wide others span
+  charged-fewer chains others none span is = record {
+    class = is.class;
+    shipment = is.shipment;
+    exists = is.exists;
+    allowed_for_it = is_allowed_fewer p windows points fewer sides is.shipment is.class among is.allowed_for_it;
+    held = is.held;
+    not_free = ap (has_leg is.class) none;
+  }
+
+  -- so what a span takes off isn't more
+  charge-less : (chains others : List (List Leg)) → all_legs others ≡ [] → (span : ClassSpan) (n m : ℕ) → IsChargeOf p wide others span n → IsChargeOf p narrow chains span m → m ≤ n
+  charge-less chains others none span n m few more =
+      ⊎_elim
+      (λ (charged : IsCharged p narrow chains span × (m ≡ span.charge)).
+      ⊎_elim (λ (also : IsCharged p wide others span × (n ≡ span.charge)). omega (arith, charged.1, also.1))
+      (λ (no : (IsCharged p wide others span → ⊥) × (n ≡ 0)). absurd (no.0 (charged-fewer chains others none span charged.0))) few)
+      (λ (no : (IsCharged p narrow chains span → ⊥) × (m ≡ 0)). omega (arith, no.1))
+      more
+
+  charges-less : (chains others : List (List Leg)) → all_legs others ≡ [] → (spans : List ClassSpan) (A B : List ℕ) → AllZip (IsChargeOf p wide others) spans A → AllZip (IsChargeOf p narrow chains) spans B →
+      sum_by (λ (n : ℕ). n) B ≤ sum_by (λ (n : ℕ). n) A
+  charges-less chains others none [] [] [] few more = omega arith
+  charges-less chains others none [] [] (b ∷ B) few more = absurd more
+  charges-less chains others none [] (a ∷ A) B few more = absurd few
+  charges-less chains others none (span ∷ spans) [] B few more = absurd few
+  charges-less chains others none (span ∷ spans) (a ∷ A) [] few more = absurd more
+  charges-less chains others none (span ∷ spans) (a ∷ A) (b ∷ B) few more =
+      omega (arith, charge-less chains others none span a b few.0 more.0, charges-less chains others none spans A B few.1 more.1, sum_by-cons (λ (n : ℕ). n) a A, sum_by-cons (λ (n : ℕ). n) b B)
+
+  -- the value of a leaf isn't less
+  pub steady-value : (tables : List (List ClassShare)) (spans : List ClassSpan) (kind : Kind) → kind ≢ Even → (v w : ℕ) → IsSpanLeafValue p windows points fewer tables spans kind false v →
+      IsSpanLeafValue p windows points sides tables spans kind false w → v ≤ w
+  steady-value tables spans kind shared v w few more =
+      let none : all_legs few.chains ≡ [] = all_legs-plain p wide 0 p.shipments few.chains few.are_chains in
+      let nothing : all_legs more.chains ≡ [] = all_legs-plain p narrow 0 p.shipments more.chains more.are_chains in
+      let IsLeast : (ℕ → Leg → Bool) → (ℕ → ℕ → Leg → ℕ) → List ℕ → Type 0 = λ allowed price costs. AllZipFrom (λ k (s : Shipment) n. IsLeastCost p points (allowed k) s (price k s.size) n) 0 p.shipments costs in
+      let price : ℕ → ℕ → Leg → ℕ = price_with p tables spans wide kind [] in
+      let own : IsLeast wide price few.costs = subst (λ (free : List Leg). IsLeast wide (price_with p tables spans wide kind free) few.costs) none few.are_least in
+      let below : IsLeast narrow price more.costs =
+      subst (λ (f : ℕ → ℕ → Leg → ℕ). IsLeast narrow f more.costs) (price-shared p tables spans narrow wide kind [] shared)
+      (subst (λ (free : List Leg). IsLeast narrow (price_with p tables spans narrow kind free) more.costs) nothing more.are_least) in
+      let base : departures_cost p few.chains (all_legs few.chains) ≡ 0 = ap (departures_cost p few.chains) none in
+      omega (
+        arith,
+        few.value_is,
+        more.value_is,
+        ap (λ (n : ℕ). p.scale * n) base,
+        costs-more price 0 p.shipments few.costs more.costs own below,
+        charges-less more.chains few.chains none spans few.charges more.charges few.are_charges more.are_charges,
+      )
+
+-- a leaf below one of which that is kept, whose price is steady, is worth no less, where it is worth no less than by that price as of its round, and
+-- that one is valued under all its sides
+pub steady-no_less : (h : History) (sides more : List Side) (above kept : Kept) → IsSteady above.payload.valuation.price → h.unit ≡ None → IsKept h sides above.payload above.value → above.payload.empty ≡ false →
+    IsNoLessBy h (sides ++ more) above.payload.valuation.price kept → IsNoLess above.value kept
+steady-no_less h sides more above kept steady without is some by =
+    ⊎_elim
+    (λ (empty : kept.payload.empty ≡ true). inl empty)
+    (λ (worth : (value : ℕ) × IsPricedValue h.problem (windows_in h.windows) (points_of h price.round) (sides ++ more) h.tables h.spans price.kind price.forced value × (value ≤ kept.value)).
+    inr (omega (
+      arith,
+      own.is,
+      worth.2,
+      steady-value h.problem (windows_in h.windows) (points_of h price.round) sides (sides ++ more) (AreAmong_append sides more) h.tables (spans_beside h.spans price.kind) price.kind steady.shared own.earned.value worth.0
+          (here own.earned.is) (plain (sides ++ more) worth.0 worth.1),
+    )))
+    by
+  where
+    price : LeafPrice
+    price = above.payload.valuation.price
+
+    own : IsEarnedAs h sides above.payload.valuation above.value
+    own = IsEarnedAs-kept h sides above.payload above.value is some
+
+    -- the price is plain
+    plain : (under : List Side) (value : ℕ) → IsPricedValue h.problem (windows_in h.windows) (points_of h price.round) under h.tables h.spans price.kind price.forced value →
+        IsSpanLeafValue h.problem (windows_in h.windows) (points_of h price.round) under h.tables (spans_beside h.spans price.kind) price.kind false value
+    plain under value = subst (λ (f : Bool). IsPricedValue h.problem (windows_in h.windows) (points_of h price.round) under h.tables h.spans price.kind f value) steady.plain
+
+    -- the leaf above is valued under all its sides
+    here : IsPricedValue h.problem (windows_in h.windows) (points_of h price.round) (sides_valued above.payload.valuation sides) h.tables h.spans price.kind price.forced own.earned.value →
+        IsSpanLeafValue h.problem (windows_in h.windows) (points_of h price.round) sides h.tables (spans_beside h.spans price.kind) price.kind false own.earned.value
+    here v =
+        plain sides own.earned.value
+        (subst (λ (o : Option ℕ). IsPricedValue h.problem (windows_in h.windows) (points_of h price.round) (first_sides o sides) h.tables h.spans price.kind price.forced own.earned.value) (is.under.whole without) v)
