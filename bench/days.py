@@ -1,8 +1,9 @@
 #!/usr/bin/env python3
 """What `plan` finds on carriers' days of real size by small budgets, which take a second for the smallest and minutes for
-the largest: cost, bound, the gap between them in per cent of the cost, seconds and megabytes, without `--spans` and with.
+the largest, or by seconds: cost, bound, the gap between them in per cent of the cost, seconds and megabytes, without `--spans` and with.
 
     bench/days.py [PROGRAM [OTHER ..]]
+    BY=10,60,600 bench/days.py ..      by seconds, with `--spans` and the usual rounds and branches
     ONLY=WORD bench/days.py ..         the rows alone whose names have the word, as `20x60 ` or `seed 1, 0/0`
 
 PROGRAM is the built program; without it the proved one in crates/freight/out is taken, or the one in dist/. Each OTHER
@@ -45,14 +46,23 @@ def day(words, seed):
     return subprocess.run(made, stdout=subprocess.PIPE, check=True).stdout.decode()
 
 
+def options_of(budgets):
+    """What each run of a day is called, and the options that it is planned with."""
+    if "BY" in os.environ:
+        for seconds in os.environ["BY"].split(","):
+            yield f"{seconds} s, spans", ["--seconds", seconds, "--spans"]
+        return
+    for rounds, branches in budgets:
+        for spans in ([], ["--spans"]):
+            yield f"{rounds}/{branches}{', spans' if spans else ''}", ["--rounds", str(rounds), "--branches", str(branches), *spans]
+
+
 def runs():
     """What each run is called, the words and the seed of its day, and the options that it is planned with."""
     for kind, words, seeds, budgets in KINDS:
         for seed in seeds:
-            for rounds, branches in budgets:
-                for spans in ([], ["--spans"]):
-                    name = f"{kind} seed {seed}, {rounds}/{branches}{', spans' if spans else ''}"
-                    yield name, words, seed, ["--rounds", str(rounds), "--branches", str(branches), *spans]
+            for name, options in options_of(budgets):
+                yield f"{kind} seed {seed}, {name}", words, seed, options
 
 
 def row(program, name, text, options):

@@ -15,6 +15,10 @@ use fp_longestarcs::TimedWalk;
 use fp_prices::{Kind, Leaf, Table};
 use std::alloc::Global;
 
+// Among more prices than so many, as in the largest instances with wide windows, a turn of the subgradient
+// ascent takes a tenth of a second and more, and the exact ascent alone comes as far.
+const MOST_PARTS: usize = 1 << 20;
+
 /// The ascent over the prices of a leaf, over its nets.
 ///
 /// Nothing is promised of what it proposes. On a leaf where some shipment has no allowed timed walk
@@ -101,7 +105,7 @@ impl<'a> Ascent<'a> {
         };
         let mut pools = self.pools(resources.alloc, &prices, forced)?;
         let model = &mut *self.model;
-        if effort.turns > 0 {
+        if effort.turns > 0 && pools.parts.len() <= MOST_PARTS {
             ascend(resources, &mut model.nets, &mut pools, base, effort)?;
         }
         if effort.settle_passes > 0 {

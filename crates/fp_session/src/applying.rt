@@ -41,6 +41,9 @@ pub(crate) fn ending_of(left: &Left) -> Ending
     }
 }
 
+// A split, which several are tried for, takes about so many times as long as a round.
+const SPLIT_WORK: usize = 4;
+
 // A plan that waits in reserve, where it costs less than so much.
 fn waiting(reserve: Option<Cheaper>, cost: u128) -> Option<Cheaper>
     ensures less { IfSome result (λ plan. (reserve ≡ Some plan) × (plan.cost < cost)) }
@@ -53,10 +56,12 @@ fn waiting(reserve: Option<Cheaper>, cost: u128) -> Option<Cheaper>
 }
 
 impl Search {
-    // What is done next before a step, after a round or a split.
-    fn next_look(&self) -> Preparation {
-        let done = self.trace.len().saturating_add(self.tree.splits() as usize);
-        self.preparation.after_work(done, &self.instance)
+    // What is done next before a step, after a round or a split, which was so much work, in rounds.
+    fn next_look(&self, added: usize) -> Preparation {
+        let splits = SPLIT_WORK.saturating_mul(self.tree.splits() as usize);
+        let work = self.trace.len().saturating_add(splits);
+        let before = work.saturating_sub(added);
+        self.preparation.after_work(before, work, &self.instance)
     }
 
     // Keeps what was found of an open leaf, which is settled, and closes it. The tables serve the
@@ -134,7 +139,7 @@ impl Search {
         self.trace.push(round.note)?;
         self.points = round.refined.points;
         self.network = round.refined.network;
-        self.preparation = self.next_look();
+        self.preparation = self.next_look(1);
         Ok(())
     }
 
@@ -174,7 +179,7 @@ impl Search {
             .split_leaf(alloc, leaf, division.split, division.tail, first, second)
         {
             Ok(()) => {
-                self.preparation = self.next_look();
+                self.preparation = self.next_look(SPLIT_WORK);
                 Ok(())
             }
             Err(error) => {

@@ -62,11 +62,11 @@ impl Preparation {
         }
     }
 
-    // What is done next after so many rounds and splits: among fewer shipments, where these take less
-    // time, looks are rarer.
-    pub(crate) fn after_work(self, done: usize, instance: &Instance) -> Preparation {
+    // What is done next after more work than `before`, in rounds: among fewer shipments, where a round
+    // takes less time, looks are rarer.
+    pub(crate) fn after_work(self, before: usize, now: usize, instance: &Instance) -> Preparation {
         let every = (400 / instance.shipments().len().max(1)).max(1);
-        if self == Preparation::Nothing && done.is_multiple_of(every) {
+        if self == Preparation::Nothing && before / every < now / every {
             Preparation::LaterLook
         } else {
             self

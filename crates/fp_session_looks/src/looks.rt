@@ -33,9 +33,14 @@ fn count(instance: &Instance) -> u32 {
     u32::try_from(instance.shipments().len()).unwrap_or(u32::MAX)
 }
 
-// A look of so many searches, of so many turns a shipment, at most so many in all.
+// A look of so many searches, of so many turns a shipment, at most so many in all among many.
 fn look_of(instance: &Instance, searches: u32, each: u32, most: u32, goes_on: bool) -> Look {
     let shipments = count(instance);
+    let most = if shipments > MANY {
+        most
+    } else {
+        most.saturating_mul(2)
+    };
     Look {
         searches,
         turns: shipments.saturating_mul(each).min(most),
@@ -50,7 +55,7 @@ impl Look {
         if count(instance) > MANY {
             look_of(instance, 8, 50, 10_000, true)
         } else {
-            look_of(instance, 4, 25, 2_000, true)
+            look_of(instance, 4, 25, 1_000, true)
         }
     }
 
@@ -59,14 +64,17 @@ impl Look {
         look_of(instance, 8, 40, 5_000, false)
     }
 
-    /// A few long ones, each from the cheapest plan so far.
+    /// Long ones, each from the cheapest plan so far: more of them among few shipments, where they
+    /// take less time.
     pub fn deep(instance: &Instance) -> Look {
-        look_of(instance, 4, 250, 25_000, true)
+        let searches = if count(instance) > FEW { 4 } else { 8 };
+        look_of(instance, searches, 250, 25_000, true)
     }
 
-    /// Two long ones, while bounds are worked on.
+    /// Half as many long ones, while bounds are worked on.
     pub fn later(instance: &Instance) -> Look {
-        look_of(instance, 2, 250, 25_000, true)
+        let searches = if count(instance) > FEW { 2 } else { 4 };
+        look_of(instance, searches, 250, 25_000, true)
     }
 
     /// At a plan that a relaxed plan gave.
