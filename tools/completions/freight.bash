@@ -13,7 +13,7 @@ _freight_options() {
   yard) words='-o --output --allow-empty -h --help' ;;
   fleet) words='--trucks -o --output --allow-empty -h --help' ;;
   replan) words='--rounds --branches --seconds --spans --notes -o --output --certificate --timetable-only --allow-empty -h --help' ;;
-  quote) words='--rounds --branches --seconds --spans --notes -o --output --allow-empty -h --help' ;;
+  quote) words='--rounds --branches --seconds --spans --notes --shipment -o --output --allow-empty -h --help' ;;
   trial) words='-o --output -h --help' ;;
   import) words='-o --output --names --columns --zone --day --dates --decimal --time-unit -h --help' ;;
   export) words='-o --output --names --instance --fleet --by --to -h --help' ;;
@@ -26,7 +26,7 @@ _freight_options() {
 _freight() {
   local word=${COMP_WORDS[COMP_CWORD]} before=${COMP_WORDS[COMP_CWORD - 1]} words=
   COMPREPLY=()
-  case $before in --rounds | --branches | --scale | --seconds | -o | --output | --certificate | --names | --instance | --fleet | --columns | --zone | --day | --dates | --decimal | --time-unit | --by | --to | --zero | --unit) return ;; esac
+  case $before in --rounds | --branches | --scale | --seconds | -o | --output | --certificate | --names | --instance | --fleet | --shipment | --columns | --zone | --day | --dates | --decimal | --time-unit | --by | --to | --zero | --unit) return ;; esac
   case "$COMP_CWORD ${COMP_WORDS[1]} $word" in
   1\ *) words='direct plan improve bound check yard fleet replan quote trial import export picture help -h --help --version' ;;
   2\ help\ *) words='direct plan improve bound check yard fleet replan quote trial import export picture help' ;;

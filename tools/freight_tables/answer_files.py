@@ -4,9 +4,10 @@ from __future__ import annotations
 
 from dataclasses import dataclass
 
-from freight_text.faults import certificate_faults
-from freight_text.faults.line_fields import DIGITS, count_fault, shown, takes_number, words_of
-from freight_text.instances import FIELDS, Instance, instance_of, part_from
+from freight_text.days import planned_of
+from freight_text.faults import certificate_faults, kept_faults
+from freight_text.faults.line_fields import DIGITS, count_fault, no_arc_words, shown, takes_number, words_of
+from freight_text.instances import FIELDS, TOLD, Instance, part_from
 from freight_text.records import records_of
 from freight_text.timetables import Departure, Leg
 
@@ -20,6 +21,10 @@ LINES = {
     "answer,stuck": (("SHIPMENT", "shipment"),),
     "quote": (("SHIPMENT", "shipment"), ("LOW", AMOUNT), ("HIGH", AMOUNT)),
 }
+# The fields that a quote of a named shipment has besides.
+NAMED_QUOTE = (("ADDED", AMOUNT), ("OPEN", ("none", "before", "after", "both")))
+# The records that are told after an instance, after their first field; ARRIVE may be missing.
+KEPT, PRESENT = kept_faults.WHOLE_FORM, kept_faults.PRESENT_FORM
 LONGEST_NUMBER = 40
 
 
@@ -80,18 +85,33 @@ def part_of(data, path, *kinds):
     return part
 
 
+def form_of(record):
+    """The fields of a record of an instance, or of one that is told after it, or None where it is none."""
+    count = len(record.fields) - 1
+    if record.kind in TOLD:
+        return PRESENT if record.kind == "now" else KEPT[: max(4, count)]
+    if record.kind not in FIELDS:
+        return None
+    form = tuple((name, limits or ("shipment" if (record.kind, name) == ("shipment", "NAME") else "terminal")) for name, limits in FIELDS[record.kind])
+    return form[: max(1, count)] if record.kind == "terminal" else form
+
+
 def instance_in(data, path, names):
-    """The instance of a file; a sentence where a line is none of an instance with these names."""
-    records = []
+    """The instance that a file tells to be planned; a sentence where a line is none of an instance with these names."""
+    records, arcs = [], set()
     for record in records_of(data):
-        if record.kind in ("answer", "kept"):
+        form = form_of(record)
+        if record.kind == "answer":
             break
-        if record.kind not in FIELDS:
+        if form is None or record.kind in FIELDS and records and records[-1].kind in TOLD:
             raise Refusal(f"{path}, line {record.line}: it is no line of an instance: {shown(record.fields[0])}")
-        form = tuple((name, limits or ("shipment" if (record.kind, name) == ("shipment", "NAME") else "terminal")) for name, limits in FIELDS[record.kind])
-        checked(names, path, record, [record.kind], form[: max(1, len(record.fields) - 1)] if record.kind == "terminal" else form)
+        fields = checked(names, path, record, [record.kind], form)
+        if record.kind == "arc":
+            arcs.add(tuple(fields[:2]))
+        if record.kind == "kept" and tuple(fields[1:3]) not in arcs:
+            raise Refusal(f"{path}, line {record.line}: {no_arc_words(fields[1:3])}")
         records.append(record)
-    return instance_of(records)
+    return planned_of(records)
 
 
 def departure_of(fields, arrivals, instance, place):
@@ -113,7 +133,10 @@ def answer_in(data, path, names, instance):
     words = list(part[0].fields[: 1 if part[0].kind == "quote" else 2])
     if ",".join(words) not in LINES:
         raise Refusal(f"{path}, line {part[0].line}: no answer begins so: {shown(','.join(words))}")
-    fields = checked(names, path, part[0], words, LINES[",".join(words)])
+    form = LINES[",".join(words)]
+    if words == ["quote"] and len(part[0].fields) > 1 + len(form):
+        form += NAMED_QUOTE
+    fields = checked(names, path, part[0], words, form)
     if words[-1] == "unfinished" and int(fields[1]) > int(fields[0]):
         raise Refusal(f"{path}, line {part[0].line}: its bound is above its cost")
     legs = [checked(names, path, it, ["leg"], LINES["leg"]) for it in part if it.kind == "leg"]

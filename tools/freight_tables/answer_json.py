@@ -9,11 +9,17 @@ def gap_percent(cost, bound):
     return f"{tenths // 10}.{tenths % 10}"
 
 
+def quoted(fields, names, form):
+    """What a quote says; that of a named shipment has what it adds between the two plans in hand, and which of them isn't proved the cheapest."""
+    found = {"shipment": names.shipments[fields[0]], "least": form.money(int(fields[1])), "most": form.money(int(fields[2]))}
+    return {**found, "added": form.money(int(fields[3])), "unproved": fields[4]} if len(fields) > 3 else found
+
+
 def claim(answer, names, form):
     """What the first line of an answer says."""
     kind, fields = answer.kind, answer.fields
     if kind == "quote":
-        return {"shipment": names.shipments[fields[0]], "least": form.money(int(fields[1])), "most": form.money(int(fields[2]))}
+        return quoted(fields, names, form)
     if kind == "bound":
         return {"bound": form.money(int(fields[0]))}
     if kind == "stuck":

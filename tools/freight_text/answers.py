@@ -1,9 +1,9 @@
 """What an answer of the program says beside itself, in words, for standard error."""
 
 from . import rejections
+from .days import stuck_words
 from .faults import readings
 from .instances import instance_of, least_times
-from .kept_legs import stuck_words
 from .options import option
 from .records import records_of
 
@@ -55,17 +55,20 @@ def spent_words(words, spent):
 
 def unfinished_words(words, cost, bound, spent):
     gap = cost - bound
+    none = "no plan that keeps the legs" if words[0] == "replan" else "no plan"
     return [
-        f"no plan costs less than {bound:,}, and the one printed costs {cost:,}: at most {gap:,} more than the cheapest, {100 * gap / cost:.1f} % of its cost",
+        f"{none} costs less than {bound:,}, and the one printed costs {cost:,}: at most {gap:,} more than the cheapest, {100 * gap / cost:.1f} % of its cost",
         spent_words(words, spent),
     ]
 
 
-def quoted_words(name, low, high):
-    return [
-        f"carrying {name} costs {low:,} to {high:,} more: a search, of those without it and with it, had used up its rounds, its branches or its time",
-        "--rounds N, --branches N and --seconds N give the searches more, and bring the two numbers closer together",
-    ]
+def quoted_words(name, low, high, added=None, unfinished=None):
+    """What a quote tells that isn't one number; one by a name has what the shipment adds, and which search ended unfinished."""
+    searches = {"before": "the search without it", "after": "the search with it", "both": "each of the two searches"}
+    search = searches.get(unfinished, "a search, of those without it and with it,")
+    spent = f"carrying {name} costs {int(low):,} to {int(high):,} more: {search} had used up its rounds, its branches or its time"
+    more = "--rounds N, --branches N and --seconds N give the searches more, and bring the two numbers closer together"
+    return [spent, *([f"between the two timetables that were found {name} adds {int(added):,}"] if added else []), more]
 
 
 def unread_words(fields):
@@ -88,7 +91,7 @@ def explanation(words, status, data, answer):
     if fields[:2] == ["answer", "unfinished"]:
         return unfinished_words(words, int(fields[2]), int(fields[3]), fields[4])
     if fields[0] == "quote":
-        return quoted_words(fields[1], int(fields[2]), int(fields[3])) if status == 10 else []
+        return quoted_words(*fields[1:]) if status == 10 else []
     if len(data) > READ_AGAIN:
         return unread_words(fields)
     records = records_of(data)

@@ -8,6 +8,8 @@ from .records import Record
 MOST = {"terminal": 100, "arc": 1000, "shipment": 500}
 AMOUNT = 10**18
 LATEST = 100_000
+# The first fields of what may follow an instance and come before an answer: kept legs, and the present.
+TOLD = ("kept", "now")
 
 # Beyond so many digits a number is above every limit.
 MANY_DIGITS = 60
@@ -66,10 +68,10 @@ class Instance:
 
 
 def instance_of(records):
-    """The instance of records that the program read without a fault; of a certificate or kept legs after it nothing is taken."""
+    """The instance of records that the program read without a fault; of what is told after it and of a certificate nothing is taken."""
     instance = Instance()
     for record in records:
-        if record.kind in ("answer", "kept"):
+        if record.kind in ("answer", *TOLD):
             break
         instance.add(record)
     return instance

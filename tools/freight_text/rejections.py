@@ -1,6 +1,7 @@
 """Which part of a certificate fails, in words, and the place where it can be seen outside the proof."""
 
-from .instances import certificate_part, instance_of, least_times, trucks_for
+from .days import promise_fault, told_of
+from .instances import certificate_part, least_times, trucks_for
 
 PARTS = {
     1: "the leg lines aren't a plan in order",
@@ -12,6 +13,7 @@ PARTS = {
     7: "some leaf is worth less than the claim",
     8: "the shipment isn't too late, or its fastest time is another",
 }
+STUCK = "the shipment isn't the first that is stuck"
 
 ALONE = (
     "this is a timetable alone, without the lines that show its claim. Its legs are a plan, and its cost and its trucks are"
@@ -110,15 +112,17 @@ def truck_fault(instance, certificate):
     return f"the line truck,{','.join(map(str, wanted[len(stated)]))} is missing"
 
 
-def is_initial(instance, terminal, time):
-    return time == 0 or any(
-        (it.origin, it.release) == (terminal, time) or (it.destination, it.due) == (terminal, time)
-        for it in instance.shipments.values()
-    )
+def initial_points(instance, promises):
+    """The initial points but for 0 at each terminal: releases, due times, and where and when promised legs leave."""
+    points = {(it.tail, it.depart) for it in promises}
+    for it in instance.shipments.values():
+        points.update(((it.origin, it.release), (it.destination, it.due)))
+    return points
 
 
-def point_fault(instance, certificate):
+def point_fault(instance, certificate, promises=()):
     met, last, count = set(), 0, 0
+    initial = initial_points(instance, promises)
     for it in lines_of(certificate, "point"):
         terminal, time, number = it.fields[1], int(it.fields[2]), int(it.fields[3])
         count = count + 1 if number == last else 1
@@ -126,7 +130,7 @@ def point_fault(instance, certificate):
             return f"line {it.line}: round {number} comes after round {last}"
         if count > 8:
             return f"line {it.line}: it is the ninth point of round {number}"
-        if is_initial(instance, terminal, time):
+        if time == 0 or (terminal, time) in initial:
             return f"line {it.line}: {time} is an initial point of {terminal}"
         if (terminal, time) in met:
             return f"line {it.line}: the point stands twice"
@@ -257,10 +261,31 @@ def is_alone(certificate):
     return not any(it.kind in ("point", "table", "split", "leaf") for it in certificate)
 
 
+def stuck_fault(told, answer):
+    """What is wrong with an answer that no plan goes on."""
+    if not told.stuck:
+        return f"line {answer.line}: no shipment is stuck, since a plan {told.duty_words()}"
+    return f"line {answer.line}: the first that is stuck is {told.stuck[0]}: {told.stuck[1]}"
+
+
+def place_of(told, certificate, number):
+    """Where a part of a certificate fails, after what is told of an instance."""
+    instance, day = told.planned(), told.day
+    if number == 1:
+        return plan_fault(instance, certificate) or promise_fault(told.instance, day, legs_of(certificate))
+    if number == 4:
+        return point_fault(instance, certificate, [leg for name in instance.shipments for leg in day.promised(name)])
+    return PLACES[number](instance, certificate)
+
+
 def explanation(records, number):
     """One or two lines on a rejected certificate: the part that fails, and where."""
-    certificate = certificate_part(records)
+    certificate, told = certificate_part(records), told_of(records)
     if number == 6 and is_alone(certificate):
         return [f"part 6 of the certificate fails: {ALONE}"]
-    place = PLACES[number](instance_of(records), certificate)
+    if number == 8 and certificate[0].fields[1] == "stuck":
+        return [f"the answer stuck is false: {STUCK}", stuck_fault(told, certificate[0])]
+    if told.stuck:
+        return [f"no plan {told.duty_words()}, so an answer stuck is the one that is accepted", told.stuck[1]]
+    place = place_of(told, certificate, number)
     return [f"part {number} of the certificate fails: {PARTS[number]}"] + ([place] if place else [])

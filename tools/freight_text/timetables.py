@@ -2,7 +2,8 @@
 
 from dataclasses import dataclass
 
-from .instances import certificate_part, instance_of, trucks_for
+from .days import told_of
+from .instances import certificate_part, trucks_for
 from .records import records_of
 
 
@@ -39,11 +40,12 @@ class Departure:
 class Timetable:
     """An instance, the answer's kind and cost, and the legs and departures as they are printed.
 
-    Both are bytes without a fault: `page.inputs` looks for faults before.
+    Both are bytes without a fault: `page.inputs` looks for faults before. Of a day that is under way the instance is what is left.
     """
 
     def __init__(self, instance_data, answer_data):
-        self.instance = instance_of(records_of(instance_data))
+        self.told = told_of(records_of(instance_data))
+        self.instance = self.told.planned()
         lines = certificate_part(records_of(answer_data))
         self.answer = lines[0].fields if lines else ("answer", "none")
         self.legs = [Leg(*it.fields[1:4], int(it.fields[4]), int(it.fields[5])) for it in lines if it.kind == "leg"]

@@ -16,7 +16,7 @@ def all_names(options):
 
 
 def valued(kind):
-    """The names of the options whose value is of a kind, `FILE`, `N` or `TEXT`."""
+    """The names of the options whose value is of a kind, `FILE`, `N`, `NAME` or `TEXT`."""
     found = {name: None for it in COMMANDS for option in options_of(it) if option.value == kind for name in names_of(option)}
     return " | ".join(found)
 
@@ -29,7 +29,7 @@ def bash():
         "# The options of a command.", "_freight_options() {", "  local words=", "  case $1 in", *cases, "  esac", '  echo "$words"', "}", "",
         "# What may stand where the cursor is. Without a reply bash completes the names of files.", "_freight() {",
         '  local word=${COMP_WORDS[COMP_CWORD]} before=${COMP_WORDS[COMP_CWORD - 1]} words=', "  COMPREPLY=()",
-        f"  case $before in {valued('N')} | {valued('FILE')} | {valued('TEXT')}) return ;; esac", '  case "$COMP_CWORD ${COMP_WORDS[1]} $word" in',
+        f"  case $before in {' | '.join(map(valued, ('N', 'FILE', 'NAME', 'TEXT')))}) return ;; esac", '  case "$COMP_CWORD ${COMP_WORDS[1]} $word" in',
         f"  1\\ *) words='{' '.join(NAMES)} {all_names(WHOLE)}' ;;", f"  2\\ help\\ *) words='{' '.join(NAMES)}' ;;",
         '  *\\ -*) words=$(_freight_options "${COMP_WORDS[1]}") ;;', "  esac",
         "  # shellcheck disable=SC2207 # no word has a blank", '  COMPREPLY=($(compgen -W "$words" -- "$word"))', "}",
@@ -45,7 +45,7 @@ def quoted(text):
 
 def zsh_argument(option):
     names = names_of(option)
-    value = {"": "", "N": f":N, {option.range}:", "FILE": ":file:_files", "TEXT": ":text:"}[option.value]
+    value = {"": "", "N": f":N, {option.range}:", "FILE": ":file:_files", "NAME": ":name:", "TEXT": ":text:"}[option.value]
     described = f"[{option_line(option)}]".replace(":", "\\:")
     shut = f"({' '.join(names)})" if len(names) > 1 else ""
     return [quoted(f"{shut}{name}{described}{value}") for name in names]
@@ -72,7 +72,7 @@ def zsh():
 
 def fish_option(condition, option):
     short = f" -s {option.short[1:]}" if option.short else ""
-    value = {"": "", "N": " -x", "FILE": " -r -F", "TEXT": " -x"}[option.value]
+    value = {"": "", "N": " -x", "FILE": " -r -F", "NAME": " -x", "TEXT": " -x"}[option.value]
     return f"complete -c freight -n {quoted(condition)}{short} -l {option.name[2:]}{value} -d {quoted(option_line(option))}"
 
 

@@ -75,6 +75,7 @@ TRUCKS = Option("--trucks", "what each truck runs too, with its load")
 HELP = Option("--help", "this page, on standard output", short="-h")
 OUTPUT = Option("--output", "the answer goes to FILE: whole, or not at all", "FILE", short="-o")
 CERTIFICATE = Option("--certificate", "the whole answer goes to FILE, certificate and all: whole, or not at all", "FILE")
+SHIPMENT = Option("--shipment", "the shipment that is priced, in place of the last one; its name doesn't begin with -", "NAME")
 TIMETABLE_ONLY = Option("--timetable-only", "shows the lines answer, leg, truck and end alone, and no certificate")
 ALLOW_EMPTY = Option("--allow-empty", "an instance without shipments is as good as any: status 0, and no warning")
 
@@ -108,6 +109,7 @@ SEED = Range(0, 2_147_483_647)
 SEARCH = (ROUNDS, BRANCHES, SECONDS, SPANS, NOTES)
 PLAN = (ROUNDS, BRANCHES, SCALE, SECONDS, SPANS, NOTES)
 READER = (OUTPUT, ALLOW_EMPTY, HELP)
+QUOTER = (SHIPMENT, *READER)
 PLANNER = (OUTPUT, CERTIFICATE, TIMETABLE_ONLY, ALLOW_EMPTY, HELP)
 
 COMMANDS = (
@@ -115,11 +117,11 @@ COMMANDS = (
     Command("plan", "the cheapest timetable, with all that tells why", "INSTANCE", options=PLAN, own=PLANNER),
     Command("improve", "the cheapest timetable, going on from the answer's, so at most as dear", "INSTANCE ANSWER", options=PLAN, own=PLANNER),
     Command("bound", "a number under which no plan costs", "INSTANCE", options=(SECONDS, SPANS), own=READER),
-    Command("check", "whether an answer's certificate is accepted for the instance", "INSTANCE ANSWER", own=READER),
+    Command("check", "whether an answer's certificate is accepted for the instance", "INSTANCE [KEPT] ANSWER", own=READER),
     Command("yard", "each terminal's sheet of the answer's timetable, and one run of it", "INSTANCE ANSWER", (Place("SEED", SEED),), own=READER),
     Command("fleet", "the fewest trucks that run the answer's timetable, and which line each runs next", "INSTANCE ANSWER", options=(TRUCKS,), own=READER),
-    Command("replan", "the cheapest timetable that keeps the legs of trucks that roll already", "INSTANCE KEPT", options=SEARCH, own=PLANNER),
-    Command("quote", "what the last shipment adds to the cost: at least and at most", "INSTANCE", options=SEARCH, own=READER),
+    Command("replan", "the cheapest timetable that keeps the legs of trucks that roll, or goes on from now", "INSTANCE KEPT", options=SEARCH, own=PLANNER),
+    Command("quote", "what the last shipment, or one of a name, adds to the cost: at least and at most", "INSTANCE", options=SEARCH, own=QUOTER),
     Command(
         "trial",
         "what plan answers of an instance that is drawn; it reads nothing",
@@ -151,7 +153,7 @@ WHOLE = (Option("--help", "this page, on standard output", short="-h"), Option("
 
 RECORDS = (
     "INSTANCE is CSV: terminal,NAME[,HOLD]   arc,FROM,TO,TIME,CAPACITY,TRUCK,FREIGHT   shipment,NAME,FROM,TO,SIZE,RELEASE,DUE",
-    "KEPT, after it: kept,SHIPMENT,FROM,TO,DEPART.   ANSWER is what plan or direct printed of the instance.",
+    "KEPT, after it: kept,SHIPMENT,FROM,TO,DEPART[,ARRIVE]   now,TIME.   ANSWER is what plan, direct or replan printed of them.",
     "Files are read one after the other, as cat would; without a file it's standard input that is read, and - stands for it.",
 )
 LIMITS = "100 terminals, 1,000 arcs, 500 shipments, times to 100,000, 16 MB of input, 128 MB for check, yard, fleet and improve"
@@ -172,7 +174,7 @@ STATUSES = (
     Status(1, "the loader couldn't start the program: its C library is older than glibc 2.34", launcher=True),
     Status(2, "no proved program of these sources is here, or it couldn't be built", launcher=True),
     Status(10, "a plan that isn't proved the cheapest, with a bound", True),
-    Status(11, "no plan exists, or none that keeps the legs", True),
+    Status(11, "no plan exists, or none that keeps the legs or goes on from now", True),
     Status(12, "the certificate isn't accepted", True),
     Status(13, "the answer, of an instance without shipments: a warning", True, True),
     Status(20, "the words are none of the forms"),

@@ -79,12 +79,23 @@ foreign_option() {
   fi
 }
 
+# Says what is wrong with the name of a shipment, OPTION NAME. It fails where nothing is.
+name_fault() {
+  case $2 in
+  '') echo "$1 takes the name of a shipment" ;;
+  -?*) echo "$1 takes no name that begins with -, and \"$2\" does: write its record behind all others and leave $1 out, which prices the last shipment" ;;
+  *) return 1 ;;
+  esac
+}
+
 # Says what is wrong with the value of an option, NAME HAS-EQUALS VALUE. It fails where nothing is.
 value_fault() {
   if [ -n "${ranges[$1]:-}" ]; then
     number_fault "$1" "$1" "$3"
-  elif ! takes_file "$1"; then
+  elif ! takes_word "$1"; then
     [ -n "$2" ] && echo "$1 takes no value"
+  elif ! takes_file "$1"; then
+    name_fault "$1" "$3"
   elif [ -z "$3" ]; then
     echo "$1 takes the name of a file"
   else
@@ -103,7 +114,7 @@ option_fault() {
   fi
   if [ "$name" = "$3" ]; then
     equals='' value=''
-    if takes_file "$name" || [ -n "${ranges[$name]:-}" ]; then
+    if takes_word "$name" || [ -n "${ranges[$name]:-}" ]; then
       value=${4:-} taken=2
     fi
   fi

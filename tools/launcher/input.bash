@@ -37,6 +37,13 @@ ends_line() {
   [ ! -s "$1" ] || [ "$(tail -c 1 "$1" | wc -l)" -eq 1 ]
 }
 
+# What is said of a file that isn't here and may be meant as the name of a shipment.
+name_hint() {
+  if [ "${words[0]}" = quote ] && [ -z "$shipment" ] && [[ $1 != *[!A-Za-z0-9_-]* ]]; then
+    echo ": a shipment is named by --shipment $1"
+  fi
+}
+
 # Ends with 30 where a file can't be read, before anything is.
 look_at_files() {
   local file
@@ -44,7 +51,7 @@ look_at_files() {
     if [ "$file" = - ]; then
       continue
     elif [ ! -e "$file" ]; then
-      say "$file isn't here"
+      say "$file isn't here$(name_hint "$file")"
     elif [ -d "$file" ]; then
       say "$file is a folder, and no file"
     elif [ ! -r "$file" ]; then

@@ -91,7 +91,7 @@ say_until() {
 # What the last note of a search says of a plan, SEARCH.
 figures_of() {
   local none=none
-  [ "${words[0]}" != replan ] || none='none that keeps the legs'
+  [ "${words[0]}" != replan ] || none='none that keeps the legs or goes on from now'
   case ${costs[$1]:-}+${bounds[$1]:-} in
   +) echo 'there is no plan yet' ;;
   *+-) echo "the cheapest plan so far costs ${costs[$1]}" ;;

@@ -21,10 +21,9 @@ before_first() {
   LC_ALL=C tr '\r' '\n' <"$folder/input" | LC_ALL=C sed "/^[[:blank:]\"]*$1[[:blank:]\",]/,\$d"
 }
 
-# The instance alone: without the legs that are kept, and without the answer that is gone on from.
+# The instance, with the kept legs and the present of `replan`, and without the answer that `improve` goes on from.
 instance() {
   case ${words[0]} in
-  replan) before_first kept ;;
   improve) before_first answer ;;
   *) cat "$folder/input" ;;
   esac
@@ -83,7 +82,7 @@ hand_over() {
   [ -z "$stopped" ] || ended=$((128 + numbers["$stopped"]))
   exec 4>&-
   if [ "${words[0]}" = quote ]; then
-    say "$why: without the last shipment $(figures_of 1); with it $(figures_of 2)"
+    say "$why: without ${shipment:-the last shipment} $(figures_of 1); with it $(figures_of 2)"
   elif [ -z "${files_noted[1]:-}" ]; then
     say "$why: no plan was found yet, so there is no timetable to hand over"
   else

@@ -18,7 +18,7 @@ UNFINISHED = "answer,unfinished,300,200,rounds\nleg,S1\ntruck,A\npoint,A,1,1\nle
 TIMETABLE = "answer,unfinished,300,200,rounds\nleg,S1\ntruck,A\nend\n"
 
 # Says which program it is, and keeps a list of its runs and what it read last. `direct` answers, `plan` ends unfinished, with a
-# certificate, `bound` refuses what it reads, `yard 1` shows what it read, `fleet` has the status that the
+# certificate, `bound` refuses what it reads, `yard 1` shows what it read, `quote` keeps its name, `fleet` has the status that the
 # file `ends` has, and `trial` that of its seed. It takes --notes at the end, and writes none.
 PROGRAM = """#!/bin/sh
 echo "{name} $*" >>"{top}/runs"
@@ -26,6 +26,8 @@ words=$*
 case ${{words% --notes}} in
 direct | bound | 'yard 1') cat >"{top}/read" || exit 30 ;;
 plan | 'plan --rounds 0') cat >"{top}/read" || exit 30; printf %s '{plan}'; exit 10 ;;
+*--shipment*) echo refused,words; exit 20 ;;
+quote*) cat >"{top}/read" || exit 30; printf %s "$2" >"{top}/named" ;;
 fleet) exit "$(cat "{top}/ends")" ;;
 trial*) exit "$2" ;;
 *) echo refused,words; exit 20 ;;
@@ -33,6 +35,7 @@ esac
 {wait}
 case $1 in
 direct) echo answer,{name},104 ;;
+quote) echo quote,S,1,2 ;;
 bound) echo refused,1,1; exit 21 ;;
 yard) cat "{top}/read" ;;
 esac

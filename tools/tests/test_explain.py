@@ -84,8 +84,8 @@ PARTS = (
 
 # What follows the instance over two arcs, the refusal of the kept legs, and what is said of it.
 KEPT = (
-    ("kept,S1,A,B,0\nkeep", "9,31", 'the first field is "keep": after a kept record only kept records come (code 31, KeptKind)'),
-    ("kept,S1,A,B", "8,32", "4 fields in place of 5: kept,SHIPMENT,FROM,TO,DEPART"),
+    ("kept,S1,A,B,0\nkeep", "9,31", 'the first field is "keep": after the first kept or now record only such records come (code 31, KeptKind)'),
+    ("kept,S1,A,B", "8,32", "4 fields in place of 5 or 6: kept,SHIPMENT,FROM,TO,DEPART"),
     ("kept,S1,A,B,0x", "8,33", 'field DEPART is "0x": not whole digits'),
     ("kept,S9,A,B,0", "8,34", 'field SHIPMENT is "S9": no shipment'),
     ("kept,S1,A,D,0", "8,34", 'field TO is "D": no terminal'),
@@ -103,6 +103,10 @@ STUCK = (
     ("kept,S1,A,B,0\nkept,S1,B,C,3", "S1", "line 9: S1 leaves B at 3, and can at 4"),
     ("terminal,D\narc,A,D,1,10,100,0\nkept,S1,A,D,0", "S1", "no way leads on from D to C for S1"),
 )
+
+
+# Which searches of a quote ended unfinished, and what is said of them.
+QUOTED = (("before", "the search without it"), ("after", "the search with it"), ("both", "each of the two searches"))
 
 
 def said(words, status, data, answer):
@@ -162,7 +166,8 @@ class Explanations(unittest.TestCase):
         self.holds(text, "all 100,000 branches were used, as many as there may be", "the bound can rise")
         text = said("plan --seconds 60", 10, ONE_ARC.encode(), "answer,unfinished,180,150,time")
         self.holds(text, "its 60 seconds were over", "the cost may fall or the bound rise")
-        self.holds(said("replan --seconds=3600", 10, ONE_ARC.encode(), "answer,unfinished,180,150,time"), "its 3,600 seconds were over")
+        text = said("replan --seconds=3600", 10, ONE_ARC.encode(), "answer,unfinished,180,150,time")
+        self.holds(text, "its 3,600 seconds were over", "no plan that keeps the legs costs less than 150")
 
     def test_kept_legs(self):
         for records, refusal, part in KEPT:
@@ -176,6 +181,14 @@ class Explanations(unittest.TestCase):
         self.holds(said("quote", 21, ENDS.encode(), "refused,0,38"), "no shipment", "(code 38, NoShipment)")
         self.holds(said("quote --rounds 0", 10, TWO_ARCS.encode(), "quote,S2,0,100"), "carrying S2 costs 0 to 100 more", "--branches N")
         self.assertEqual(said("quote", 0, TWO_ARCS.encode(), "quote,S2,100,100"), "")
+
+    def test_quotes_by_a_name(self):
+        self.holds(said("quote S9 --rounds 0", 21, TWO_ARCS.encode(), "refused,0,38"), 'no shipment "S9", whose price is asked for (code 38')
+        self.holds(said("quote --rounds 0 s1", 21, TWO_ARCS.encode(), "refused,0,38"), '"S1" is there: names are compared letter by letter')
+        for unproved, part in QUOTED:
+            text = said("quote S1 --rounds=0", 10, TWO_ARCS.encode(), f"quote,S1,1000,2000,1500,{unproved}")
+            self.holds(text, f"carrying S1 costs 1,000 to 2,000 more: {part} had used up", "between the two timetables that were found S1 adds 1,500")
+        self.assertEqual(said("quote S1", 0, TWO_ARCS.encode(), "quote,S1,100,100,100,none"), "")
 
     def test_long_inputs_are_not_read_again(self):
         data = ONE_ARC.encode() + b"\n" * 33_000_000
@@ -215,6 +228,7 @@ class Program(unittest.TestCase):
         for records, refusal, _ in KEPT:
             self.prints("replan", f"{TWO_ARCS}{records}\n", 21, f"refused,{refusal}")
         self.prints("quote", ENDS, 21, "refused,0,38")
+        self.prints("quote S9", TWO_ARCS, 21, "refused,0,38")
 
     def test_rejections(self):
         self.prints("check", TWO_ARCS + "\n".join(PROVED) + "\n", 0, "accepted,optimal")

@@ -156,6 +156,7 @@ class Json(unittest.TestCase):
             ("answer,stuck,S_1\nend\n", {"answer": "stuck", "shipment": "S 1"}),
             ("answer,bound,100\nend\n", {"answer": "bound", "bound": "1.00"}),
             ("quote,S_1,100,250\nend\n", {"answer": "quote", "shipment": "S 1", "least": "1.00", "most": "2.50"}),
+            ("quote,S_1,100,250,200,before\nend\n", {"answer": "quote", "least": "1.00", "most": "2.50", "added": "2.00", "unproved": "before"}),
         ):
             with self.subTest(line):
                 value = self.whole(line)

@@ -115,6 +115,24 @@ class Files(InRepository):
             self.ends((0, ANSWER), "direct", input=data)
 
 
+# Names of shipments, as they are handed on to the program.
+NAMED = (b"S1", b"-", b"a name", b"\n", "\u00c9\u0301".encode(), b"\xff", b"*", b"$x", b"\\", b"'", b"--rounds=5"[2:], b"x --rounds")
+
+
+class Names(InRepository):
+    def test_a_shipment_of_any_name(self):
+        day = self.write("day", INSTANCE)
+        for place, name in enumerate(NAMED):
+            forms = ["quote", day, "--shipment", name], ["quote", b"--shipment=" + name, day], ["quote", "--rounds", "5", day, "--shipment", name]
+            self.ends((0, "quote,S,1,2\n"), forms[place % 3], quiet=place % 2)
+            self.assertEqual((self.top / "named").read_bytes(), name)
+
+    def test_a_name_that_looks_like_a_file(self):
+        self.ends((30, ""), "quote S1 day", "S1 isn't here: a shipment is named by --shipment S1\n", cwd=self.top)
+        self.assertNotIn("named", self.ends((30, ""), "quote day.csv", "day.csv isn't here", cwd=self.top))
+        self.ends((20, "refused,words\n"), ["quote", "--shipment", "-S1"], "write its record behind all others")
+
+
 # What stands at -o's file after a run: the words, the status, what is printed, and the file.
 KEPT = (
     ("direct -o out day", 0, "", ANSWER),
@@ -226,6 +244,25 @@ class Whole(InRepository):
         self.ends((0, ""), ["plan", day, "-o", out])
         self.ends((0, "accepted,optimal\n"), ["check", day, out])
         self.ends((0, "accepted,optimal\n"), ["check", day, "-"], input=stored.encode())
+
+    def test_a_day_that_is_under_way(self):
+        """The instance, what is told after it and the answer, each in a file of its own."""
+        whole = (TOP / "examples/late-truck.csv").read_bytes()
+        day, told = self.write("day", whole[: whole.index(b"now,")]), self.write("told", whole[whole.index(b"now,") :].rstrip())
+        out = str(self.top / "out")
+        self.ends((0, ""), ["replan", day, told, "-o", out])
+        self.assertEqual((self.top / "out").read_text(), (TOP / "examples/late-truck.csv.stdout").read_text())
+        self.ends((0, "accepted,optimal\n"), ["check", day, told, out])
+        self.ends((0, "accepted,optimal\n"), ["check", day, "-", out], input=b"now,540\nkept,P4,NICE,LYON,330,750\nkept,P1,NICE,LYON,330,750")
+        self.ends((12, "rejected,1\n"), ["check", day, out], "P1 leaves LYON and is at NICE")
+        self.ends((21, "refused,12,1\n"), ["yard", "1", day, told, out], "yard reads no present: ./freight replan and check do")
+
+    def test_a_quote_by_a_name(self):
+        day = str(TOP / "examples/carrier-day.csv")
+        self.ends((0, (TOP / "examples/carrier-day.csv.named-quote.stdout").read_text()), ["quote", day, "--shipment", "P4"])
+        for name in (b"p4", b"-", b"P4 ", b"*"):
+            self.ends((21, "refused,0,38\n"), ["quote", day, "--shipment", name], "whose price is asked for (code 38, NoShipment)")
+        self.ends((41, ""), ["quote", "--shipment", b"\xff", day], "the system didn't hand over the words as text")
 
     def test_a_timetable_alone(self):
         day, out = str(TOP / "examples/carrier-day.csv"), str(self.top / "out")

@@ -32,7 +32,8 @@ INPUTS = (
     ("direct", "\"ter\"minal,A\n \"terminal\",B\n", 1),
     ("plan", DAY + "answer,optimal,104\n", 1),
     ("plan", DAY + "kept,S1,A,B,0\n", 1),
-    ("check", DAY + "kept,S1,A,B,0\nanswer,optimal,104\n", 1),
+    ("fleet", DAY + "kept,S1,A,B,0\nanswer,optimal,104\n", 1),
+    ("improve", DAY + "now,0\nanswer,optimal,104\n", 1),
     ("direct", ENDS + "arc,A,B,5,10,100\n", 2),
     ("direct", "terminal\n", 2),
     ("direct", "terminal,C C\n", 3),
@@ -112,16 +113,25 @@ INPUTS = (
     ("replan", DAY + "kept,S1,A,B,100001\n", 35),
     ("replan", DAY + "kept,S1,A,B,0\nkept,S1,A,B,0\n", 36),
     ("replan", CHAIN + CARRIED + KEPT, 37),
+    ("replan", DAY + "now,5\n" + "now,6\n", 38),
+    ("check", DAY + "now,5\nnow,5\nanswer,optimal,104\n", 38),
     ("quote", ENDS, 38),
     ("quote", "", 38),
+    ("quote S2", DAY, 38),
+    ("replan", DAY + "kept,S1,A,B,4,3\n", 39),
+    ("check", DAY + "kept,S1,A,B,4,3\n", 39),
+    ("check", DAY + "kept,S1,A,B,0\nanswer,optimal,104\n", 26),
+    ("check", DAY + "kept,S1,A,B,0,5\nanswer,direct,0\nleg,S1,A,B,0,5\n", 25),
+    ("check", ENDS + f"arc,A,B,5,10,{GREAT},1\nshipment,S1,A,B,1000000000,0,10\nshipment,S2,A,B,1,0,10\nkept,S1,A,B,0,5\nanswer,optimal,1\nscale,1000000000\nend\n", 12),
 )  # fmt: skip
 
 # What examples are damaged by: one of their bytes, a field or a record becomes one of these, or goes, or comes once more.
 BYTES = (b",", b"\n", b"\r", b'"', b" ", b"\t", b"0", b"9", b"A", b";", b"\xa0", b"\xc3\x89", b"\0", b"-")
-FIELDS = (b"", b"0", b"100001", b"99999999999999999999", b"A", b"S1", b"terminal", b"answer", b"kept", b"end", b"table", b"optimal", b"none", b'"x"')
+FIELDS = (b"", b"0", b"100001", b"99999999999999999999", b"A", b"S1", b"terminal", b"answer", b"kept", b"end", b"table", b"optimal", b"none", b'"x"', b"now", b"stuck", b"700")
 EXAMPLES = (
     ("direct", "carrier-day.csv"), ("bound", "one-arc.csv"), ("quote --rounds 0 --branches 0", "shared-truck.csv"),
     ("check", "hub-proof.csv"), ("check", "proved-plan.csv"), ("yard 1", "proved-plan.csv"), ("fleet", "proved-plan.csv"), ("replan --rounds 0 --branches 0", "kept-day.csv"),
+    ("replan --rounds 0 --branches 0", "new-order.csv"), ("check", "late-answer.csv"), ("check", "stuck-answer.csv"), ("quote --rounds 0 P4", "carrier-day.csv"),
 )  # fmt: skip
 DAMAGED = 60
 

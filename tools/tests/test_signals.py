@@ -17,7 +17,7 @@ from searches import ACCEPTS, CHEAP, CUT, DEAR, NOTES, REJECTS, WAITS, Searches,
 SIGNALS = (signal.SIGINT, signal.SIGTERM, signal.SIGHUP)
 FIGURES = "the cheapest plan so far costs 250, and none costs less than 200 (a gap of 20.0 %)"
 QUOTED = f"{DEAR}note,4,2,300,100\n{CHEAP}note,5,2,250,200\n{DEAR}note,0,0,300,220\n"
-KEPT = INSTANCE + b'"kept" ,S1,A,B,4\n kept,S2\n'
+KEPT = INSTANCE + b'now,3\n"kept" ,S1,A,B,4\n kept,S2\n'
 LONG = "answer,unfinished,300,200,rounds\n" + "leg,S1\n" * 100_000 + "end\n"
 
 # The notes, what is done then or WAITS, where SIGTERM is sent, and the status, what is printed, and what is said.
@@ -97,20 +97,28 @@ class Stops(Searches):
         self.ends_with(run, 143, "", "no plan was found yet")
         self.assertEqual((self.top / "out").read_text(), "older")
 
-    def test_kept_legs_are_no_part_of_what_is_checked(self):
-        self.write("kept", KEPT)
-        run = self.begin("replan kept")
+    def test_a_timetable_is_checked_after_what_is_told(self):
+        self.write("told", KEPT)
+        run = self.begin("replan told")
         run.terminate()
-        self.ends_with(run, 143, CHEAP, "and none that keeps the legs costs less than 200")
+        self.ends_with(run, 143, CHEAP, "and none that keeps the legs or goes on from now costs less than 200")
+        self.assertEqual((self.top / "checked").read_bytes(), KEPT + b"\n" + CHEAP.encode())
+
+    def test_an_answer_that_is_gone_on_from_is_no_part_of_what_is_checked(self):
+        self.write("both", INSTANCE + DEAR.encode())
+        run = self.begin("improve both")
+        run.terminate()
+        self.ends_with(run, 143, CHEAP, FIGURES)
         self.assertEqual((self.top / "checked").read_bytes(), INSTANCE + b"\n" + CHEAP.encode())
 
     def test_a_quote_has_figures_alone(self):
-        said = "without the last shipment the cheapest plan so far costs 250, and none costs less than 200 (a gap of 20.0 %); with it "
+        said = "the cheapest plan so far costs 250, and none costs less than 200 (a gap of 20.0 %); with it "
         for notes, more in ((QUOTED, "the cheapest plan so far costs 300, and none costs less than 220 (a gap of 26.7 %)"), (NOTES, "there is no plan yet")):
-            self.searches(notes)
-            run = self.begin("quote day")
-            run.send_signal(signal.SIGINT)
-            self.ends_with(run, 130, "", said + more)
+            for words, name in (("quote day", "the last shipment"), ("quote --shipment S1 day", "S1")):
+                self.searches(notes)
+                run = self.begin(words)
+                run.send_signal(signal.SIGINT)
+                self.ends_with(run, 130, "", f"without {name} {said}{more}")
 
     def test_what_keeps_the_notes_is_killed(self):
         run = self.begin()
@@ -222,6 +230,15 @@ class Proved(Searches):
             self.assertEqual((run.returncode, text), (128 + name, b""), said)
             self.assertIn(b"which check accepts", said)
             self.ends((0, "accepted,direct\n"), ["check", self.day, str(self.top / "out")])
+
+    def test_what_goes_on_with_a_day_is_accepted(self):
+        now = self.write("now", b"now,480\n")
+        run = self.begin(f"replan {self.day} {now} -o out")
+        run.terminate()
+        text, said = run.communicate()
+        self.assertEqual((run.returncode, text), (143, b""), said)
+        self.assertIn(b"which check accepts", said)
+        self.ends((0, "accepted,direct\n"), ["check", self.day, now, str(self.top / "out")])
 
     def test_a_program_that_is_killed(self):
         run = self.begin(f"plan {self.day}")

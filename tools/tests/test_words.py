@@ -67,6 +67,13 @@ OWN_FAULTS = (
     ("plan -o a --output b", "--output stands here twice"),
     ("plan --certificate a --certificate=a", "--certificate stands here twice"),
     ("plan --allow-empty=yes", "--allow-empty takes no value"),
+    ("quote --shipment", "--shipment takes the name of a shipment"),
+    ("quote --shipment= day.csv", "--shipment takes the name of a shipment"),
+    ("quote --shipment -P1 day.csv", '--shipment takes no name that begins with -, and "-P1" does: write its record behind all others'),
+    ("quote --shipment=-- day.csv", 'and "--" does'),
+    ("quote --shipment P1 --shipment=P1", "--shipment stands here twice"),
+    ("plan --shipment P1", "plan doesn't take --shipment: it is an option of quote"),
+    ("quote --shipments P1", "quote has no option --shipments: did you mean --shipment?"),
     ("plan --timetable", "plan has no option --timetable: did you mean --timetable-only?"),
     ("bound --certificate a", "bound doesn't take --certificate: it is an option of direct, plan, improve, replan"),
     ("trial 7 8 30 --allow-empty", "trial doesn't take --allow-empty"),
@@ -76,6 +83,16 @@ OWN_FAULTS = (
 RIGHT = (
     "direct", "plan", "plan --rounds 4000 --branches=0 --scale 1 --spans", "plan --seconds=86400", "bound --spans --seconds 1", "check", "yard 0000000001", "fleet",
     "replan --spans --rounds 0", "quote --branches 100000", "improve --notes --scale=7 --rounds 0",
+)  # fmt: skip
+
+# Words of a quote, and the words of the program and the files that the launcher makes of them.
+QUOTES = (
+    ("quote --shipment P1 day.csv", "quote.P1.|.day.csv."),
+    ("quote day.csv --rounds 5 --shipment=P1 --spans -", "quote.P1.--rounds.5.--spans.|.day.csv.-."),
+    ("quote --shipment=a=b day.csv", "quote.a=b.|.day.csv."),
+    ("quote --shipment=\u00e9*'$x day.csv", "quote.\u00e9*'$x.|.day.csv."),
+    ("quote --rounds --shipment P1", "quote.--rounds.--shipment.|.P1."),
+    ("quote P1", "quote.|.P1."),
 )  # fmt: skip
 
 SOURCES = "say() { echo \"$*\"; }; for part in words command_line faults; do . tools/launcher/$part.bash; done; refused() { read_words \"$@\" || echo refused; }; "
@@ -100,7 +117,8 @@ class Faults(unittest.TestCase):
                 self.assertEqual(len(text.splitlines()), 2)
 
     def test_no_word_at_fault(self):
-        printed, errors = in_launcher("fault_after", [*RIGHT, "plan -o a day.csv --certificate=b --allow-empty --timetable-only"])
+        more = ["plan -o a day.csv --certificate=b --allow-empty --timetable-only", "quote day.csv --shipment P1", "quote --shipment=- --rounds 0"]
+        printed, errors = in_launcher("fault_after", [*RIGHT, *more])
         self.assertEqual(("".join(printed), errors), ("", ""))
 
     def test_the_launcher_refuses_its_own_options(self):
@@ -108,6 +126,10 @@ class Faults(unittest.TestCase):
         for cases, wanted in ((own, "refused\n"), (RIGHT, "")):
             printed, errors = in_launcher("refused", cases)
             self.assertEqual((printed, errors), ([wanted] * len(cases), ""))
+
+    def test_the_name_of_a_shipment_is_the_first_word_of_the_program(self):
+        printed, errors = in_launcher('told() { read_words "$@"; printf "%s." "${words[@]}" "|" "${files[@]}"; }; told', [words for words, _ in QUOTES])
+        self.assertEqual((printed, errors), ([text for _, text in QUOTES], ""))
 
     @unittest.skipIf(proved() is None, "the proved program of these sources isn't here")
     def test_the_program_judges_the_same(self):
@@ -155,7 +177,7 @@ class Made(unittest.TestCase):
 # What is typed, and what bash, zsh and fish offer for it, or some of it.
 COMPLETED = (
     ("pl", {"plan"}), ("im", {"import", "improve"}), ("re", {"replan"}), ("--v", {"--version"}), ("help ya", {"yard"}), ("plan --ro", {"--rounds"}),
-    ("bound --s", {"--seconds", "--spans"}), ("bound --ro", set()), ("plan --timetable", {"--timetable-only"}), ("trial 1 2 3 --a", set()),
+    ("quote --sh", {"--shipment"}), ("bound --s", {"--seconds", "--spans"}), ("bound --ro", set()), ("plan --timetable", {"--timetable-only"}), ("trial 1 2 3 --a", set()),
 )  # fmt: skip
 
 

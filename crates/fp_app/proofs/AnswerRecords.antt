@@ -1,59 +1,45 @@
--- Where the records of an instance end that those of a certificate follow.
-use Rattle.std.proofs.Common.{◌≡◌, ◌∙◌, ℕ, zero, suc, ◌+◌, Bool, true, false, cond, get_or, List, [], ◌∷◌, ◌++◌, refl, sym, ap, inl, inr}
-use Rattle.std.specs.Prelude.{Option, Some, None, Result, Ok, not, if◌then◌else◌, take_while, codes}
+-- What records of an instance and of a certificate begin with.
+use Rattle.std.proofs.Common.{◌≡◌, ◌∙◌, ℕ, ◌+◌, Bool, true, false, cond, List, [], ◌∷◌, refl, sym, ap, inl, inr}
+use Rattle.std.specs.Prelude.{Option, Some, None, Ok, not, if◌then◌else◌, codes}
 use Rattle.std.specs.Str.{bytes_eq}
 use Rattle.std.proofs.lemmas.Bool.{cases_Bool}
 use Rattle.std.proofs.lemmas.List.Sums.{take_while-cons}
 use Rattle.std.proofs.lemmas.Slice.Eq.{bytes_eq-Decides}
 use Rattle.fp_model.specs.Problem.{Problem}
-use Rattle.fp_records_fields.specs.Faults.{Fault, first_fault}
-use Rattle.fp_records_fields.specs.Fields.{field, is_kind}
-use Rattle.fp_records_fields.specs.Findings.{Finding, finding, first_code}
-use Rattle.fp_reader.specs.Faults.{arc_faults, record_code, shipment_faults, terminal_faults}
+use Rattle.fp_records_fields.specs.Fields.{field, has_word, is_kind}
+use Rattle.fp_reader.specs.Faults.{record_code}
 use Rattle.fp_reader.specs.Input.{is_answer, parts_from}
 use Rattle.fp_reader.specs.Parts.{with_record}
 use Rattle.fp_certificate.specs.declared.lines.kinds.LineKind.{LineKind}
 use Rattle.fp_certificate.specs.declared.lines.kinds.LineKind.TheVariants.{Direct, Optimal, Unfinished, Infeasible, Scale, Leg, Truck, Point, Table, Share, Span, Weight, ByArc, ByTime, Leaf, End}
 use Rattle.fp_certificate.specs.declared.lines.kinds.LineKind.TheVariants as kind
-use Rattle.fp_certificate.specs.Kinds.{kind_of, split_kind}
+use Rattle.fp_certificate.specs.Kinds.{answer_kind, kind_of, split_kind}
 use Rattle.fp_certificate.specs.Reading.{certificate_from, faults_of, kind_code, line_code, nothing_read, with_line}
 use Rattle.fp_certificate_lines.specs.Statements.{Statement}
+use Rattle.fp_replan_present.specs.Records.{is_kept}
+use Rattle.fp_app_tails.specs.Tails.{begins_tail, unkept_records}
+use Rattle.fp_app_tails.specs.Verdicts.{begins_stuck}
+use Rattle.fp_app.proofs.NoAnswers.{code_by, held-not_none, ok-none, ok-rest}
 
--- where something was read, the first record has no fault, and what follows was read
-ok-none : {A : Type 0} (ordinal : ℕ) (code : Option ℕ) (rest : Result A Fault) (x : A) → first_fault ordinal code rest ≡ Ok x → code ≡ None
-ok-none ordinal None rest x is = refl
-ok-none ordinal (Some code) rest x is = cc is
+-- an instance has no kept leg and no present
+tail-has_code : (before : Problem) (fields : List (List ℕ)) → begins_tail fields ≡ true → record_code before fields ≡ Some 1
+tail-has_code before fields begins =
+    elim (cases_Bool (is_kept fields)) [
+      | inl kept ↦ ap (code_by before fields) ((bytes_eq-Decides (field fields 0) (codes "kept")).0 kept)
+      | inr other ↦ ap (code_by before fields) ((bytes_eq-Decides (field fields 0) (codes "now")).0 (rw other at begins))
+    ]
 
-ok-rest : {A : Type 0} (ordinal : ℕ) (code : Option ℕ) (rest : Result A Fault) (x : A) → first_fault ordinal code rest ≡ Ok x → rest ≡ Ok x
-ok-rest ordinal None rest x is = is
-ok-rest ordinal (Some code) rest x is = cc is
-
--- the code of a record of an instance, by its first field
-abbrev code_by : Problem → List (List ℕ) → List ℕ → Option ℕ
-code_by before fields word =
-    if bytes_eq word (codes "terminal") then first_code (terminal_faults before fields)
-    else if bytes_eq word (codes "arc") then first_code (arc_faults before fields)
-    else if bytes_eq word (codes "shipment") then first_code (shipment_faults before fields)
-    else Some 1
-
--- an instance has no `answer`
-answer-has_code : (before : Problem) (fields : List (List ℕ)) → is_answer fields ≡ true → record_code before fields ≡ Some 1
-answer-has_code before fields answer = ap (code_by before fields) ((bytes_eq-Decides (field fields 0) (codes "answer")).0 answer)
-
--- so its records are those before the first `answer`
-pub instance-before_answer : (before : Problem) (ordinal : ℕ) (lines : List (List (List ℕ))) (p : Problem) → parts_from before ordinal lines ≡ Ok p → (fields : List (List ℕ)) (more : List (List (List ℕ))) →
-    is_answer fields ≡ true → take_while (λ (r : List (List ℕ)). not (is_answer r)) (lines ++ fields ∷ more) ≡ lines
-instance-before_answer before ordinal [] p is fields more answer =
-    take_while-cons (λ (r : List (List ℕ)). not (is_answer r)) fields more
-    ∙ ap (λ (b : Bool). cond (not b) (fields ∷ take_while (λ (r : List (List ℕ)). not (is_answer r)) more) []) answer
-instance-before_answer before ordinal (line ∷ lines) p is fields more answer =
-    elim (cases_Bool (is_answer line)) [
-      | inl first ↦ let none : Some 1 ≡ None = sym (answer-has_code before line first) ∙ ok-none ordinal (record_code before line) (parts_from (with_record before line) (ordinal + 1) lines) p is in cc none
-      | inr later ↦
-          take_while-cons (λ (r : List (List ℕ)). not (is_answer r)) line (lines ++ fields ∷ more)
-          ∙ ap (λ (b : Bool). cond (not b) (line ∷ take_while (λ (r : List (List ℕ)). not (is_answer r)) (lines ++ fields ∷ more)) []) later
+-- so none of its records is one
+pub unkept-whole : (before : Problem) (ordinal : ℕ) (lines : List (List (List ℕ))) (p : Problem) → parts_from before ordinal lines ≡ Ok p → unkept_records lines ≡ lines
+unkept-whole before ordinal [] p is = refl
+unkept-whole before ordinal (line ∷ lines) p is =
+    elim (cases_Bool (begins_tail line)) [
+      | inl begins ↦ let none : Some 1 ≡ None = sym (tail-has_code before line begins) ∙ ok-none ordinal (record_code before line) (parts_from (with_record before line) (ordinal + 1) lines) p is in cc none
+      | inr other ↦
+          take_while-cons (λ (r : List (List ℕ)). not (begins_tail r)) line lines
+          ∙ ap (λ (b : Bool). cond (not b) (line ∷ unkept_records lines) []) other
           ∙ ap (λ (rest : List (List (List ℕ))). line ∷ rest)
-          (instance-before_answer (with_record before line) (ordinal + 1) lines p (ok-rest ordinal (record_code before line) (parts_from (with_record before line) (ordinal + 1) lines) p is) fields more answer)
+          (unkept-whole (with_record before line) (ordinal + 1) lines p (ok-rest ordinal (record_code before line) (parts_from (with_record before line) (ordinal + 1) lines) p is))
     ]
 
 -- a line that isn't an answer's
@@ -94,19 +80,6 @@ kind_of-other fields later =
     rw later (other-by (is_kind (codes "scale") fields) (is_kind (codes "unit") fields) (is_kind (codes "leg") fields) (is_kind (codes "truck") fields) (is_kind (codes "point") fields) (is_kind (codes "table") fields) (is_kind (codes "share") fields) (is_kind (codes "span") fields) (is_kind (codes "weight") fields) (is_kind (codes "group") fields) (is_kind (codes "split") fields) (is_kind (codes "leaf") fields) (is_kind (codes "end") fields)
     (split_kind (field fields 1)) (split_kind-other (field fields 1)))
 
--- a table of which a fault holds has a code
-abbrev no_finding : Finding
-no_finding = finding 0 false
-
-held-not_none : (table : List Finding) (k : ℕ) → (get_or table k no_finding).holds ≡ true → first_code table ≡ None → ⊥
-held-not_none [] k holds none = cc holds
-held-not_none (f ∷ table) zero holds none = let g = rw holds at none in cc g
-held-not_none (f ∷ table) (suc k) holds none =
-    elim (cases_Bool f.holds) [
-      | inl held ↦ let g = rw held at none in cc g
-      | inr free ↦ held-not_none table k holds (rw free at none)
-    ]
-
 -- before an answer each other line has a fault
 other-faulty : (p : Problem) (fields : List (List ℕ)) (o : Option LineKind) → IsOther o → kind_code p nothing_read o fields ≡ None → ⊥
 other-faulty p fields None other none = cc none
@@ -144,4 +117,23 @@ certificate-begins p ordinal (line ∷ lines) c is =
       | inr later ↦
           absurd (other-faulty p line (kind_of line) (kind_of-other line later)
           (ok-none ordinal (line_code p nothing_read line) (certificate_from p (with_line p nothing_read line) (ordinal + 1) lines) c is))
+    ]
+
+-- and it isn't the one that no plan goes on, which is no line of a certificate
+stuck-no_kind : (fields : List (List ℕ)) → is_answer fields ≡ true → has_word (codes "stuck") fields 1 ≡ true → kind_of fields ≡ None
+stuck-no_kind fields answer stuck = rw answer (ap answer_kind ((bytes_eq-Decides (field fields 1) (codes "stuck")).0 stuck))
+
+answer-not_stuck : (p : Problem) (line : List (List ℕ)) → is_answer line ≡ true → line_code p nothing_read line ≡ None → has_word (codes "stuck") line 1 ≡ false
+answer-not_stuck p line answer code =
+    elim (cases_Bool (has_word (codes "stuck") line 1)) [
+      | inl stuck ↦ let none : Some 21 ≡ None = sym (ap (λ (o : Option LineKind). kind_code p nothing_read o line) (stuck-no_kind line answer stuck)) ∙ code in cc none
+      | inr other ↦ other
+    ]
+
+pub certificate-not_stuck : (p : Problem) (ordinal : ℕ) (lines : List (List (List ℕ))) (c : Statement) → certificate_from p nothing_read ordinal lines ≡ Ok c → begins_stuck lines ≡ false
+certificate-not_stuck p ordinal [] c is = refl
+certificate-not_stuck p ordinal (line ∷ lines) c is =
+    elim (cases_Bool (is_answer line)) [
+      | inl answer ↦ rw (answer, answer-not_stuck p line answer (ok-none ordinal (line_code p nothing_read line) (certificate_from p (with_line p nothing_read line) (ordinal + 1) lines) c is)) refl
+      | inr other ↦ rw other refl
     ]

@@ -13,7 +13,7 @@ use Rattle.fp_certificate.specs.Kinds.{kind_of}
 use Rattle.fp_certificate.specs.Reading.{certificate_from, kind_code, line_code, with_kind_of, with_line}
 use Rattle.fp_certificate_lines.specs.Statements.{Statement}
 use Rattle.fp_session.specs.Certificates.{named_scale}
-use Rattle.fp_app.specs.Checks.{scale_of}
+use Rattle.fp_app_tails.specs.Verdicts.{scale_of}
 
 abbrev scaled_to : Problem → ℕ → Problem
 scaled_to p scale = record p { scale = scale }

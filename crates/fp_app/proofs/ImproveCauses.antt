@@ -97,7 +97,7 @@ improve-rejection allowed scale spans input number told =
     (λ x is shows. improved-rejected allowed scale spans input x is number shows)
 
 -- what is enough for a search of all plans is so whatever it begins with
-enough-from : (p : Problem) (plan : List (List Leg)) (allowed : Allowance) (spent : Spent) → IsEnough p every allowed spent → IsEnough p (every_from plan) allowed spent
+pub enough-from : (p : Problem) (plan : List (List Leg)) (allowed : Allowance) (spent : Spent) → IsEnough p every allowed spent → IsEnough p (every_from plan) allowed spent
 enough-from p plan allowed Rounds is = is
 enough-from p plan allowed Branches is = is
 enough-from p plan allowed Time is = is

@@ -13,10 +13,13 @@ use Rattle.fp_app.specs.declared.shown.Shown.{Shown}
 use Rattle.fp_app.specs.declared.shown.Shown.TheVariants as shown
 use Rattle.fp_app.specs.declared.shown.Status.TheVariants as status
 use Rattle.fp_app.specs.Causes.{AloneStatus, CheckStatus, ImproveStatus, InputStatus, PlanStatus, SearchStatus, StatusOf, ToldStatus, TrialStatus, QuoteStatus}
-use Rattle.fp_app.specs.Checks.{ShowsCheck, scaled}
+use Rattle.fp_app.specs.Checks.{ShowsCheck}
+use Rattle.fp_app_tails.specs.Verdicts.{scaled}
 use Rattle.fp_app.specs.Improvements.{ShowsImprove}
-use Rattle.fp_app.specs.Inputs.{CertifiedInstance, OfCertificate, certificate_in, certified_at, instance_at, instance_in, leading_instance_in, limit_of, reads_source, KeptInstance, kept_in, quoted_in}
-use Rattle.fp_app.specs.Runs.{Answers, OfInput, ShowsAlone, ShowsBound, ShowsDirect, ShowsInput, ShowsSearch, ShowsQuote, ShowsReplan}
+use Rattle.fp_app.specs.Inputs.{CertifiedInstance, OfCertificate, certificate_in, certified_at, has_tail_in, instance_at, instance_in, leading_instance_in, limit_of, reads_source, named_in, quoted_in}
+use Rattle.fp_app.specs.NamedCauses.{NamedStatus}
+use Rattle.fp_app.specs.NamedQuotes.{ShowsNamedQuote}
+use Rattle.fp_app.specs.Runs.{Answers, OfInput, ShowsAlone, ShowsBound, ShowsDirect, ShowsInput, ShowsSearch, ShowsQuote}
 use Rattle.fp_app.specs.Searches.{Allowance, IsSearched, trial_allowance, within}
 use Rattle.fp_app.specs.Shown.{search_status, status_of}
 use Rattle.fp_app.specs.Fleets.{ShowsFleet}
@@ -25,9 +28,13 @@ use Rattle.fp_app.proofs.FleetCauses.{fleet-status}
 use Rattle.fp_app.proofs.ImproveCauses.{improve-status}
 use Rattle.fp_app.proofs.YardCauses.{yard-status}
 use Rattle.fp_app.proofs.SearchEnds.{SearchEnd, optimal, search-end, unfinished}
-use Rattle.fp_app.specs.Wanted.{every, keeping}
+use Rattle.fp_app.specs.Wanted.{every}
+use Rattle.fp_app.proofs.NamedCauses.{named-status}
 use Rattle.fp_app.proofs.QuoteCauses.{quote-status}
-use Rattle.fp_app.proofs.ReplanCauses.{end-status, replan-status}
+use Rattle.fp_app.proofs.ReplanCauses.{end-status}
+use Rattle.fp_app.proofs.SaidCauses.{said-status}
+use Rattle.fp_app.proofs.TailCauses.{tail-status}
+use Rattle.fp_app.specs.TailChecks.{SaidStatus, ShowsSaid}
 
 -- for a time that is known to be over or not
 module _ (over : Bool) where
@@ -89,12 +96,15 @@ module _ (over : Bool) where
   ShowsInput-InputStatus (Trial seed terminals shipments) input s told = absurd told
   ShowsInput-InputStatus (Yard seed) input s told = certificate-map input s (λ p c. ShowsYard seed p c s) (λ p c. ToldStatus p c (status_of s)) (λ p c. yard-status seed p c s) told
   ShowsInput-InputStatus (Fleet trucks) input s told = certificate-map input s (λ p c. ShowsFleet trucks p c s) (λ p c. ToldStatus p c (status_of s)) (λ p c. fleet-status trucks p c s) told
-  ShowsInput-InputStatus (Replan budget spans seconds notes) input s told =
-      MatchResult_map (kept_in input) (λ (x : KeptInstance). ShowsReplan (within budget over) spans x s) (λ (x : KeptInstance). SearchStatus x.instance (keeping x.kept) (within budget over) (status_of s)) s (λ (x : KeptInstance). replan-status (within budget over) spans x s) told
-  ShowsInput-InputStatus (Quote budget spans seconds notes) input s told =
+  ShowsInput-InputStatus (Replan budget spans seconds notes) input s told = tail-status (within budget over) spans input s told
+  ShowsInput-InputStatus (Quote budget spans seconds notes None) input s told =
       MatchResult_map (quoted_in input) (λ p. ShowsQuote (within budget over) spans p s) (λ p. QuoteStatus p (within budget over) (status_of s)) s (λ p. quote-status (within budget over) spans p s) told
+  ShowsInput-InputStatus (Quote budget spans seconds notes (Some name)) input s told =
+      MatchResult_map (named_in name input) (λ p. ShowsNamedQuote (within budget over) spans name p s) (λ p. NamedStatus name p (within budget over) (status_of s)) s (λ p. named-status (within budget over) spans name p s) told
   ShowsInput-InputStatus Check input s told =
-      certificate-map input s (λ p c. ShowsCheck (scaled p c) c s) (λ p c. CheckStatus (scaled p c) c (status_of s)) (λ p c. check-status (scaled p c) c s) told
+      MatchBool_map (has_tail_in input) (ShowsSaid input s) (OfCertificate input s (λ p c. ShowsCheck (scaled p c) c s)) (SaidStatus input (status_of s))
+      (MatchResult (leading_instance_in input) (λ p. MatchResult (certificate_in p input) (λ c. CheckStatus (scaled p c) c (status_of s)) (λ (f : Fault). status_of s ≡ status.BadInput)) (λ (f : Fault). status_of s ≡ status.BadInput))
+      (said-status input s) (certificate-map input s (λ p c. ShowsCheck (scaled p c) c s) (λ p c. CheckStatus (scaled p c) c (status_of s)) (λ p c. check-status (scaled p c) c s)) told
 
   OfInput_told : (o : Order) (input : List ℕ) (new : Option (List ℕ)) (s : Shown) → OfInput (limit_of (Some o)) (Some input) new s (λ i. ShowsInput over o i s)
       → MatchBool (nat_lt (limit_of (Some o)) (length input)) (status_of s ≡ status.TooLong) (InputStatus over o input (status_of s))

@@ -1,6 +1,6 @@
--- The kept windows of an instance are one table.
-use Rattle.std.proofs.Common.{◌≡◌, ◌≢◌, ◌∙◌, ℕ, ◌<◌, true, false, List, [], ◌∷◌, length, sym, subst, inl, inr}
-use Rattle.std.specs.Prelude.{Option, Some, None, ◌⊎◌}
+-- The kept windows of an instance are one table, and so are the windows of what is left of a day.
+use Rattle.std.proofs.Common.{◌≡◌, ◌≢◌, ◌∙◌, ℕ, ◌<◌, true, false, List, [], ◌∷◌, length, sym, ap, subst, inl, inr}
+use Rattle.std.specs.Prelude.{Option, Some, None, ◌⊎◌, cond}
 use Rattle.std.specs.List.{AllByRecursion}
 use Rattle.std.proofs.lemmas.Bool.{cases_Bool}
 use Rattle.std.proofs.lemmas.Bool.Decides.{eqb_tells}
@@ -16,7 +16,9 @@ use Rattle.fp_flatnet.specs.Tables.{WindowTable, windows_in}
 use Rattle.fp_replan.specs.declared.kept.Kept.{Kept}
 use Rattle.fp_replan.specs.KeptLegs.{kept_of}
 use Rattle.fp_replan.specs.KeptWindows.{IsKeptRow, StaysOff, window_at}
-use Rattle.fp_app.specs.Wanted.{AreKeptWindowsOf}
+use Rattle.fp_replan_present.specs.Days.{Day}
+use Rattle.fp_replan_present.specs.Rests.{gone_at, left_gone, left_kept}
+use Rattle.fp_app_tails.specs.Windows.{AreDayWindows, AreKeptWindowsOf}
 use Rattle.fp_app.proofs.OneTable.{IsWindowOrNone_unique, same-tables}
 
 -- what has not a number has it not in its rest
@@ -81,3 +83,11 @@ pub AreKeptWindowsOf-unique : (p : Problem) (kept : List Kept) (one two : Window
 AreKeptWindowsOf-unique p kept one two first second =
     same-tables p one two first.belongs second.belongs (first.anchored ∙ sym second.anchored)
     (λ k a ship arc. IsKeptRow-one p (shipment_at p k) (kept_of kept k) (windows_in one k) (windows_in two k) a (first.exact k ship) (second.exact k ship) arc)
+
+pub AreDayWindows-unique : (p : Problem) (day : Day) (q : Problem) (one two : WindowTable) → AreDayWindows p day q one → AreDayWindows p day q two → one ≡ two
+AreDayWindows-unique p day q one two first second =
+    same-tables q one two first.belongs second.belongs (first.anchored ∙ sym second.anchored)
+    (λ k a ship arc.
+    let own : first.exact.base k a ≡ second.exact.base k a =
+    IsKeptRow-one q (shipment_at q k) (kept_of (left_kept p day) k) (first.exact.base k) (second.exact.base k) a (first.exact.kept_windows k ship) (second.exact.kept_windows k ship) arc in
+    first.exact.shut k a ship arc ∙ ap (cond (list_has (gone_at (left_gone p day) k) (arc_at q a).to) None) own ∙ sym (second.exact.shut k a ship arc))

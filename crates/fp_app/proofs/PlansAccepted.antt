@@ -1,12 +1,14 @@
 -- `check` accepts what `plan` prints.
-use Rattle.std.proofs.Common.{◌≡◌, ◌∙◌, ℕ, ◌+◌, false, List, ◌++◌, length, drop, refl, sym, ap, subst, inl, inr}
-use Rattle.std.specs.Prelude.{MatchResult, Result, Ok, Err, not, take_while}
-use Rattle.std.proofs.Math.Seq.{drop-append_seam}
+use Rattle.std.proofs.Common.{◌≡◌, ◌∙◌, ℕ, ◌+◌, false, List, ◌++◌, length, drop, take, ltb, refl, sym, ap, subst, inl, inr, arith}
+use Rattle.std.specs.Prelude.{MatchResult, Result, Ok, Err}
+use Rattle.std.proofs.Math.Seq.{drop-append_seam, take-append_seam}
+use Rattle.std.proofs.lemmas.Bool.{cases_Bool, ltb-true}
+use Rattle.fp_app_tails.specs.Tails.{has_tail, unkept_records}
 use Rattle.fp_model.specs.Problem.{Problem}
 use Rattle.fp_records.specs.Fields.{records_of}
 use Rattle.fp_records_fields.specs.Faults.{Fault}
 use Rattle.fp_flatnet.specs.Tables.{WindowTable}
-use Rattle.fp_reader.specs.Input.{is_answer, parts_from, weighed_parts}
+use Rattle.fp_reader.specs.Input.{parts_from, weighed_parts}
 use Rattle.fp_reader.specs.Parts.{nothing_read as no_parts}
 use Rattle.fp_certificate.specs.Reading.{certificate_of, nothing_read}
 use Rattle.fp_certificate_lines.specs.Statements.{Statement}
@@ -14,21 +16,16 @@ use Rattle.fp_app_words.specs.declared.orders.Order.TheVariants as order
 use Rattle.fp_app.specs.declared.shown.Status.{Status}
 use Rattle.fp_app.specs.declared.shown.Status.TheVariants as status
 use Rattle.fp_app.specs.Causes.{CheckStatus, InputStatus}
-use Rattle.fp_app.specs.Checks.{AreWindowsOf, IsAcceptedFor, scale_of, scaled}
-use Rattle.fp_app.specs.Inputs.{certificate_in, instance_in, leading_instance_in, read_at_scale}
+use Rattle.fp_app.specs.Checks.{AreWindowsOf, IsAcceptedFor}
+use Rattle.fp_app_tails.specs.Verdicts.{scale_of, scaled}
+use Rattle.fp_app.specs.Inputs.{certificate_in, has_tail_in, instance_in, leading_instance_in, read_at_scale}
 use Rattle.fp_app.specs.Laws.{CheckAcceptsPlans}
 use Rattle.fp_app.specs.Texts.{certificate_text}
-use Rattle.fp_app.specs.Wanted.{AreWindowsFor, LooksForAll, Wanted, every, every_from, keeping}
-use Rattle.fp_app.proofs.AnswerRecords.{BeginsWithAnswer, certificate-begins, instance-before_answer}
+use Rattle.fp_app.specs.Wanted.{AreWindowsFor, LooksForAll, Wanted, every, every_from, going_on, keeping}
+use Rattle.fp_app.proofs.AnswerRecords.{BeginsWithAnswer, certificate-begins, unkept-whole}
+use Rattle.fp_app.proofs.NoAnswers.{Records, before_answer, instance-no_answer, none-before_answer}
 use Rattle.fp_app.proofs.CertificateScales.{certificate-scale, scale_of-named}
 use Rattle.fp_app.proofs.CertifiedInputs.{at_scale-is}
-
-abbrev Records : Type 0
-Records = List (List (List ℕ))
-
--- the records before the first `answer`
-abbrev before_answer : Records → Records
-before_answer lines = take_while (λ (r : List (List ℕ)). not (is_answer r)) lines
 
 -- an instance at a scale is one that was read, with that scale
 record IsRead (scale : ℕ) (r : Result Problem Fault) (p : Problem) : Type 0 where
@@ -49,6 +46,14 @@ weighed-parts : (r : Result Problem Fault) (p : Problem) → weighed_parts r ≡
 weighed-parts (Ok q) p is = record { parts = q; read = refl }
 weighed-parts (Err f) p is = cc is
 
+-- no number is below itself
+ltb-same : (n : ℕ) → ltb n n ≡ false
+ltb-same n =
+    elim (cases_Bool (ltb n n)) [
+      | inl less ↦ let g = ltb-true n n less in absurd (omega (arith, g))
+      | inr same ↦ same
+    ]
+
 -- what was accepted is done
 accepted-done : (p : Problem) (c : Statement) (result : Status) → IsAcceptedFor p c → CheckStatus p c result → result ≡ status.Done
 accepted-done p c result accepted (inl done) = done.0
@@ -62,7 +67,7 @@ module _ (q : Problem) (input longer : List ℕ) (more : Records) (c : Statement
       let parts : HasParts (parts_from no_parts 1 (records_of input)) = weighed-parts (parts_from no_parts 1 (records_of input)) q read in
       let begins : BeginsWithAnswer more = certificate-begins q 1 more c (given 1) in
       subst (λ (lines : Records). before_answer (records_of input ++ lines) ≡ records_of input) (sym begins.is)
-      (instance-before_answer no_parts 1 (records_of input) parts.parts parts.read begins.first begins.rest begins.answer)
+      (none-before_answer (records_of input) (instance-no_answer no_parts 1 (records_of input) parts.parts parts.read) begins.first begins.rest begins.answer)
 
   same-instance : leading_instance_in longer ≡ Ok q
   same-instance =
@@ -77,11 +82,23 @@ module _ (q : Problem) (input longer : List ℕ) (more : Records) (c : Statement
       ∙ ap (λ (lines : Records). certificate_of q (length (records_of input) + 1) lines) (drop-append_seam (records_of input) more)
       ∙ given (length (records_of input) + 1)
 
+  -- nothing is told after the instance
+  alone : has_tail_in longer ≡ false
+  alone =
+      let parts : HasParts (parts_from no_parts 1 (records_of input)) = weighed-parts (parts_from no_parts 1 (records_of input)) q read in
+      let whole : unkept_records (records_of input) ≡ records_of input = unkept-whole no_parts 1 (records_of input) parts.parts parts.read in
+      let none : has_tail (records_of input) ≡ false = ap (λ (lines : Records). ltb (length lines) (length (records_of input))) whole ∙ ltb-same (length (records_of input)) in
+      ap (λ (lines : Records). has_tail (take (length (before_answer lines)) lines)) joined
+      ∙ ap (λ (lines : Records). has_tail (take (length lines) (records_of input ++ more))) leading
+      ∙ ap has_tail (take-append_seam (records_of input) more)
+      ∙ none
+
   status-check : (result : Status) → InputStatus false order.Check longer result → CheckStatus (scaled q c) c result
   status-check result is =
+      let of = rw alone at is in
       let first = subst
       (λ (r : Result Problem Fault). MatchResult r (λ p. MatchResult (certificate_in p longer) (λ d. CheckStatus (scaled p d) d result) (λ (f : Fault). result ≡ status.BadInput)) (λ (f : Fault). result ≡ status.BadInput))
-      same-instance is in
+      same-instance of in
       subst (λ (r : Result Statement Fault). MatchResult r (λ d. CheckStatus (scaled q d) d result) (λ (f : Fault). result ≡ status.BadInput)) same-certificate first
 
 -- the windows of a search for all plans are those of the instance
@@ -89,6 +106,7 @@ all-windows : (p : Problem) (wanted : Wanted) (table : WindowTable) → LooksFor
 all-windows p every table all windows = windows
 all-windows p (every_from plan) table all windows = windows
 all-windows p (keeping kept) table all windows = absurd all
+all-windows q (going_on p day) table all windows = absurd all
 
 pub CheckAcceptsPlans_hold : CheckAcceptsPlans
 CheckAcceptsPlans_hold allowed wanted scale spans input longer p s all read searched joined result is =

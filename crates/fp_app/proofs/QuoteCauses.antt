@@ -1,6 +1,6 @@
 -- What `quote` shows, by its status.
 use Rattle.std.proofs.Common.{◌≡◌, ◌∙◌, ℕ, Bool, List, refl, sym, ap, inl, inr}
-use Rattle.std.specs.Prelude.{Ok, Option}
+use Rattle.std.specs.Prelude.{None, Ok, Option}
 use Rattle.fp_model.specs.Problem.{Problem}
 use Rattle.fp_session_history.specs.declared.budgets.Budget.{Budget}
 use Rattle.fp_session_history.specs.Solutions.{Solution}
@@ -64,7 +64,7 @@ module _ (allowed : Allowance) (spans : Bool) (input : List ℕ) (p : Problem) (
   extra-open (shown.Infeasible q shipment time) told ends = let g = ends in cc
   extra-open _ told ends = absurd told
 
-  extra-none : (budget : Budget) (seconds : Option ℕ) (notes : Bool) (s : Shown) → ShowsQuote allowed spans p s → status_of s ≡ status.Infeasible → ShowsNone (Quote budget spans seconds notes) input s
+  extra-none : (budget : Budget) (seconds : Option ℕ) (notes : Bool) (s : Shown) → ShowsQuote allowed spans p s → status_of s ≡ status.Infeasible → ShowsNone (Quote budget spans seconds notes None) input s
   extra-none budget seconds notes (shown.Infeasible q shipment time) told none = record {
     instance = p;
     shipment = shipment;
@@ -88,9 +88,9 @@ quote-open allowed spans input s told ends =
     MatchResult_shows status.Unfinished (quoted_in input) (quoted_in input) (λ p. ShowsQuote allowed spans p s) s (ShowsOpenExtra allowed spans input s) (λ e. cc e) refl ends told
     (λ p is shows. extra-open allowed spans input p is s shows ends)
 
-pub quote-none : (allowed : Allowance) (budget : Budget) (spans : Bool) (seconds : Option ℕ) (notes : Bool) (input : List ℕ) (s : Shown) → OfQuoted input s (λ p. ShowsQuote allowed spans p s) → status_of s ≡ status.Infeasible → ShowsNone (Quote budget spans seconds notes) input s
+pub quote-none : (allowed : Allowance) (budget : Budget) (spans : Bool) (seconds : Option ℕ) (notes : Bool) (input : List ℕ) (s : Shown) → OfQuoted input s (λ p. ShowsQuote allowed spans p s) → status_of s ≡ status.Infeasible → ShowsNone (Quote budget spans seconds notes None) input s
 quote-none allowed budget spans seconds notes input s told none =
-    MatchResult_shows status.Infeasible (quoted_in input) (quoted_in input) (λ p. ShowsQuote allowed spans p s) s (ShowsNone (Quote budget spans seconds notes) input s) (λ e. cc e) refl none told
+    MatchResult_shows status.Infeasible (quoted_in input) (quoted_in input) (λ p. ShowsQuote allowed spans p s) s (ShowsNone (Quote budget spans seconds notes None) input s) (λ e. cc e) refl none told
     (λ p is shows. extra-none allowed spans input p is budget seconds notes s shows none)
 
 -- the status of two searches

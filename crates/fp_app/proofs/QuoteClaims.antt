@@ -24,7 +24,7 @@ claim-least : (p : Problem) (allowed : Allowance) (a : Answer) → SearchEnd p e
 claim-least p allowed a (optimal cost same plans) = subst (NoPlanCheaper p) (sym (ap claim_of same)) plans
 claim-least p allowed a (unfinished cost bound spent same bounds) = subst (NoPlanCheaper p) (sym (ap claim_of same)) bounds.plans
 
-figures : (p : Problem) (allowed : Allowance) (spans : Bool) (s : Solution) → IsSearched p every allowed spans s → AreFigures p (claim_of s.certificate.answer) (stated_cost s.certificate.answer)
+pub figures : (p : Problem) (allowed : Allowance) (spans : Bool) (s : Solution) → IsSearched p every allowed spans s → AreFigures p (claim_of s.certificate.answer) (stated_cost s.certificate.answer)
 figures p allowed spans s told = record { low_is = claim-least p allowed s.certificate.answer (search-end p every allowed s.certificate.answer told.says); cost_is = cost-of_plan p allowed spans s told }
 
 -- the least cost lies between the figures
@@ -36,7 +36,7 @@ least-below p low c n is least = omega (arith, least.least is.cost_is.0 is.cost_
 
 -- and so does what the last shipment adds
 module _ (p : Problem) (b a : Answer) (before : AreFigures (without_last p) (claim_of b) (stated_cost b)) (after : AreFigures p (claim_of a) (stated_cost a)) where
-  extra-between : (extra : ℕ) → IsExtraCost p extra → IsBetween (extra_of b a) extra
+  pub extra-between : (extra : ℕ) → IsExtraCost p extra → IsBetween (extra_of b a) extra
   extra-between extra is =
       let low_b : claim_of b ≤ is.before = least-above (without_last p) (claim_of b) (stated_cost b) is.before before is.without in
       let high_b : is.before ≤ stated_cost b = least-below (without_last p) (claim_of b) (stated_cost b) is.before before is.without in
@@ -54,7 +54,7 @@ exact-extra p least most before after = record {
 }
 
 -- both answers optimal
-exact-both : (p : Problem) (b a : Answer) (least most : ℕ) → AreFigures (without_last p) (claim_of b) (stated_cost b) → AreFigures p (claim_of a) (stated_cost a) → b ≡ Optimal least → a ≡ Optimal most →
+pub exact-both : (p : Problem) (b a : Answer) (least most : ℕ) → AreFigures (without_last p) (claim_of b) (stated_cost b) → AreFigures p (claim_of a) (stated_cost a) → b ≡ Optimal least → a ≡ Optimal most →
     IsExtraCost p (most - least) × (extra_of b a ≡ record { low = most - least; high = most - least })
 exact-both p b a least most before after first second = (
   exact-extra p least most
@@ -74,7 +74,7 @@ searched-quoted p allowed spans before after first second =
       exact = λ least most is_least is_most. exact-both p before.certificate.answer after.certificate.answer least most one two is_least is_most;
     }
 
-bracketed : (p : Problem) (allowed : Allowance) (a : Answer) → SearchEnd p every allowed a → IsBracketed a
+pub bracketed : (p : Problem) (allowed : Allowance) (a : Answer) → SearchEnd p every allowed a → IsBracketed a
 bracketed p allowed a (optimal cost same plans) = subst IsBracketed (sym same) tt
 bracketed p allowed a (unfinished cost bound spent same bounds) = subst IsBracketed (sym same) tt
 

@@ -12,16 +12,21 @@ use Rattle.fp_app_words.specs.declared.orders.Order.TheVariants.{Direct, Check, 
 use Rattle.fp_app.specs.declared.shown.Shown.{Shown}
 use Rattle.fp_app.specs.declared.shown.Shown.TheVariants as shown
 use Rattle.fp_app.specs.declared.shown.Status.TheVariants as status
-use Rattle.fp_app.specs.Checks.{ShowsCheck, scaled}
+use Rattle.fp_app.specs.Checks.{ShowsCheck}
+use Rattle.fp_app_tails.specs.Verdicts.{scaled}
 use Rattle.fp_app.specs.Fleets.{ShowsFleet}
 use Rattle.fp_app.specs.Improvements.{ShowsImprove}
-use Rattle.fp_app.specs.Inputs.{CertifiedInstance, OfCertificate, certificate_in, certified_at, instance_at, instance_in, leading_instance_in, limit_of, reads_source, KeptInstance, kept_in, quoted_in}
-use Rattle.fp_app.specs.Runs.{Answers, OfInput, Reach, ShowsAlone, ShowsBound, ShowsDirect, ShowsInput, ShowsSearch, ShowsTrial, Writes, reach_of, whole, ShowsQuote, ShowsReplan}
+use Rattle.fp_app.specs.Inputs.{CertifiedInstance, OfCertificate, certificate_in, certified_at, has_tail_in, instance_at, instance_in, leading_instance_in, limit_of, reads_source, named_in, quoted_in}
+use Rattle.fp_app.specs.NamedQuotes.{ShowsNamedQuote}
+use Rattle.fp_app.specs.Runs.{Answers, OfInput, Reach, ShowsAlone, ShowsBound, ShowsDirect, ShowsInput, ShowsSearch, ShowsTrial, Writes, reach_of, whole, ShowsQuote, ShowsTail}
 use Rattle.fp_app.specs.Shown.{search_status, status_of, both_status}
 use Rattle.fp_app.specs.Yards.{ShowsYard}
 use Rattle.fp_app.specs.Texts.{IsText}
 use Rattle.fp_app.specs.Searches.{Allowance, within}
 use Rattle.fp_app.proofs.SearchEnds.{both-no_other, search-no_other}
+use Rattle.fp_app.proofs.SaidCauses.{said-no_other}
+use Rattle.fp_app.proofs.TailCauses.{tail-neither}
+use Rattle.fp_app.specs.TailChecks.{ShowsSaid}
 
 -- for a time that is known to be over or not
 module _ (over : Bool) where
@@ -36,8 +41,9 @@ module _ (over : Bool) where
 
   -- what no command shows answers no order
   module _ (s : Shown) (fault : (f : Fault) → s ≡ shown.BadInput f.ordinal f.code → ⊥) (long : s ≡ shown.TooLong → ⊥) (direct : (p : Problem) → ShowsDirect p s → ⊥)
-      (bound : (option : Bool) (p : Problem) → ShowsBound option p s → ⊥) (search_none : (allowed : Allowance) (spans : Bool) (p : Problem) → ShowsSearch allowed spans p s → ⊥) (check : (p : Problem) (c : Statement) → ShowsCheck p c s → ⊥)
-      (replan : (allowed : Allowance) (spans : Bool) (x : KeptInstance) → ShowsReplan allowed spans x s → ⊥) (quote : (allowed : Allowance) (spans : Bool) (p : Problem) → ShowsQuote allowed spans p s → ⊥)
+      (bound : (option : Bool) (p : Problem) → ShowsBound option p s → ⊥) (search_none : (allowed : Allowance) (spans : Bool) (p : Problem) → ShowsSearch allowed spans p s → ⊥) (check : (p : Problem) (c : Statement) → ShowsCheck p c s → ⊥) (said : (input : List ℕ) → ShowsSaid input s → ⊥)
+      (replan : (allowed : Allowance) (spans : Bool) (input : List ℕ) → ShowsTail allowed spans input s → ⊥) (quote : (allowed : Allowance) (spans : Bool) (p : Problem) → ShowsQuote allowed spans p s → ⊥)
+      (named : (allowed : Allowance) (spans : Bool) (name : List ℕ) (p : Problem) → ShowsNamedQuote allowed spans name p s → ⊥)
       (alone : (o : Order) → ShowsAlone o s → ⊥) (yard : (seed : ℕ) (p : Problem) (c : Statement) → ShowsYard seed p c s → ⊥)
       (fleet : (trucks : Bool) (p : Problem) (c : Statement) → ShowsFleet trucks p c s → ⊥) (improve : (allowed : Allowance) (spans : Bool) (x : CertifiedInstance) → ShowsImprove allowed spans x s → ⊥) where
     no-certificate : (input : List ℕ) (P : Problem → Statement → Type 0) → ((p : Problem) (c : Statement) → P p c → ⊥) → OfCertificate input s P → ⊥
@@ -53,12 +59,14 @@ module _ (over : Bool) where
     no-input (Improve budget scale spans seconds notes) input told =
         MatchResult_neither (certified_at scale input) (λ (x : CertifiedInstance). ShowsImprove (within budget over) spans x s) (λ (f : Fault). s ≡ shown.BadInput f.ordinal f.code) (improve (within budget over) spans) fault told
     no-input (Trial seed terminals shipments) input told = told
-    no-input (Replan budget spans seconds notes) input told =
-        MatchResult_neither (kept_in input) (λ (x : KeptInstance). ShowsReplan (within budget over) spans x s) (λ (f : Fault). s ≡ shown.BadInput f.ordinal f.code) (replan (within budget over) spans) fault told
-    no-input (Quote budget spans seconds notes) input told = MatchResult_neither (quoted_in input) (λ p. ShowsQuote (within budget over) spans p s) (λ (f : Fault). s ≡ shown.BadInput f.ordinal f.code) (quote (within budget over) spans) fault told
+    no-input (Replan budget spans seconds notes) input told = replan (within budget over) spans input told
+    no-input (Quote budget spans seconds notes None) input told = MatchResult_neither (quoted_in input) (λ p. ShowsQuote (within budget over) spans p s) (λ (f : Fault). s ≡ shown.BadInput f.ordinal f.code) (quote (within budget over) spans) fault told
+    no-input (Quote budget spans seconds notes (Some name)) input told =
+        MatchResult_neither (named_in name input) (λ p. ShowsNamedQuote (within budget over) spans name p s) (λ (f : Fault). s ≡ shown.BadInput f.ordinal f.code) (named (within budget over) spans name) fault told
     no-input (Yard seed) input told = no-certificate input (λ p c. ShowsYard seed p c s) (yard seed) told
     no-input (Fleet trucks) input told = no-certificate input (λ p c. ShowsFleet trucks p c s) (fleet trucks) told
-    no-input Check input told = no-certificate input (λ p c. ShowsCheck (scaled p c) c s) (λ p c. check (scaled p c) c) told
+    no-input Check input told =
+        MatchBool_neither (has_tail_in input) (ShowsSaid input s) (OfCertificate input s (λ p c. ShowsCheck (scaled p c) c s)) (said input) (no-certificate input (λ p c. ShowsCheck (scaled p c) c s) (λ p c. check (scaled p c) c)) told
 
     no-whole : (o : Order) (old new : Option (List ℕ)) → OfInput (limit_of (Some o)) old new s (λ input. ShowsInput over o input s) → ⊥
     no-whole o old new told =
@@ -74,11 +82,11 @@ module _ (over : Bool) where
 
   nothing-no_order : (o : Order) (old new : Option (List ℕ)) → Answers over (Some o) old new shown.Nothing → ⊥
   nothing-no_order o old new told =
-      no-answer shown.Nothing (λ f e. cc e) (λ e. cc e) (λ p none. none) (λ option p none. none) (λ allowed spans p none. none) (λ p c none. none) (λ allowed spans x none. none) (λ allowed spans p none. none) (alone-shows_trial shown.Nothing (λ seed terminals shipments none. none)) (λ seed p c none. none) (λ trucks p c none. none) (λ allowed spans x none. none) o old new told
+      no-answer shown.Nothing (λ f e. cc e) (λ e. cc e) (λ p none. none) (λ option p none. none) (λ allowed spans p none. none) (λ p c none. none) (λ input told. said-no_other status.NoMemory input shown.Nothing (λ e. cc e) (λ e. cc e) (λ e. cc e) told refl) (λ allowed spans input told. tail-neither allowed spans input shown.Nothing (λ x none. none) (λ x none. none) (λ f e. cc e) told) (λ allowed spans p none. none) (λ allowed spans name p none. none) (alone-shows_trial shown.Nothing (λ seed terminals shipments none. none)) (λ seed p c none. none) (λ trucks p c none. none) (λ allowed spans x none. none) o old new told
 
   words-no_order : (o : Order) (old new : Option (List ℕ)) → Answers over (Some o) old new shown.BadWords → ⊥
   words-no_order o old new told =
-      no-answer shown.BadWords (λ f e. cc e) (λ e. cc e) (λ p none. none) (λ option p none. none) (λ allowed spans p none. none) (λ p c none. none) (λ allowed spans x none. none) (λ allowed spans p none. none) (alone-shows_trial shown.BadWords (λ seed terminals shipments none. none)) (λ seed p c none. none) (λ trucks p c none. none) (λ allowed spans x none. none) o old new told
+      no-answer shown.BadWords (λ f e. cc e) (λ e. cc e) (λ p none. none) (λ option p none. none) (λ allowed spans p none. none) (λ p c none. none) (λ input told. said-no_other status.BadWords input shown.BadWords (λ e. cc e) (λ e. cc e) (λ e. cc e) told refl) (λ allowed spans input told. tail-neither allowed spans input shown.BadWords (λ x none. none) (λ x none. none) (λ f e. cc e) told) (λ allowed spans p none. none) (λ allowed spans name p none. none) (alone-shows_trial shown.BadWords (λ seed terminals shipments none. none)) (λ seed p c none. none) (λ trucks p c none. none) (λ allowed spans x none. none) o old new told
 
   nothing-no_answer : (o : Option Order) (old new : Option (List ℕ)) → Answers over o old new shown.Nothing → ⊥
   nothing-no_answer None old new told = cc told
@@ -97,7 +105,9 @@ module _ (over : Bool) where
   shown-whole (shown.Planned p x) some = search-whole x.certificate.answer
   shown-whole (shown.Trial seed failed p x) some = search-whole x.certificate.answer
   shown-whole (shown.Replanned p kept x) some = search-whole x.certificate.answer
+  shown-whole (shown.Underway p day rest x) some = search-whole x.certificate.answer
   shown-whole (shown.Quoted p x y) some = both-whole x.certificate.answer y.certificate.answer
+  shown-whole (shown.NamedQuote p x y more) some = both-whole x.certificate.answer y.certificate.answer
   shown-whole shown.Nothing some = absurd (some refl)
   shown-whole _ some = refl
 
@@ -113,7 +123,9 @@ module _ (over : Bool) where
   status_of_words (shown.Planned p x) same = absurd (search-no_other x.certificate.answer status.BadWords (λ e. cc e) (λ e. cc e) same)
   status_of_words (shown.Trial seed failed p x) same = absurd (search-no_other x.certificate.answer status.BadWords (λ e. cc e) (λ e. cc e) same)
   status_of_words (shown.Replanned p kept x) same = absurd (search-no_other x.certificate.answer status.BadWords (λ e. cc e) (λ e. cc e) same)
+  status_of_words (shown.Underway p day rest x) same = absurd (search-no_other x.certificate.answer status.BadWords (λ e. cc e) (λ e. cc e) same)
   status_of_words (shown.Quoted p x y) same = absurd (both-no_other x.certificate.answer y.certificate.answer status.BadWords (λ e. cc e) (λ e. cc e) same)
+  status_of_words (shown.NamedQuote p x y more) same = absurd (both-no_other x.certificate.answer y.certificate.answer status.BadWords (λ e. cc e) (λ e. cc e) same)
   status_of_words _ same = let g = same in cc
 
   pub BadWords-None : (o : Option Order) (old new : Option (List ℕ)) (s : Shown) → Answers over o old new s → status_of s ≡ status.BadWords → o ≡ None

@@ -10,8 +10,9 @@ use Rattle.fp_app.specs.declared.shown.Shown.{Shown}
 use Rattle.fp_app.specs.declared.shown.Shown.TheVariants as shown
 use Rattle.fp_app.specs.declared.shown.Status.TheVariants as status
 use Rattle.fp_app.specs.Causes.{ShowsNo, ShowsRejection}
-use Rattle.fp_app.specs.Checks.{ShowsCheck, ShowsRejected, scaled}
-use Rattle.fp_app.specs.Inputs.{certificate_in, instance_at, instance_in, leading_instance_in, kept_in, quoted_in}
+use Rattle.fp_app.specs.Checks.{ShowsCheck, ShowsRejected}
+use Rattle.fp_app_tails.specs.Verdicts.{scaled}
+use Rattle.fp_app.specs.Inputs.{OfCertificate, certificate_in, has_tail_in, instance_at, instance_in, leading_instance_in, named_in, quoted_in}
 use Rattle.fp_app.specs.Runs.{Answers, ShowsAlone, ShowsInput}
 use Rattle.fp_app.specs.Searches.{within}
 use Rattle.fp_app.specs.Shown.{status_of}
@@ -20,6 +21,9 @@ use Rattle.fp_app.proofs.ImproveCauses.{improve-rejection}
 use Rattle.fp_app.proofs.SearchEnds.{search-no_other, both-no_other}
 use Rattle.fp_app.proofs.YardCauses.{yard-rejection}
 use Rattle.fp_app.proofs.StatusCauses.{Answers-ShowsOf, ShowsOf}
+use Rattle.fp_app.proofs.SaidCauses.{said-rejected}
+use Rattle.fp_app.proofs.TailCauses.{each-of, tail-neither}
+use Rattle.fp_app.specs.TailChecks.{ShowsSaid, ShowsSaidNo}
 
 -- for a time that is known to be over or not
 module _ (over : Bool) where
@@ -56,9 +60,13 @@ module _ (over : Bool) where
   ShowsNo_input (Trial seed terminals shipments) input number told = absurd told
   ShowsNo_input (Yard seed) input number told = yard-rejection seed input number told
   ShowsNo_input (Fleet trucks) input number told = fleet-rejection trucks input number told
-  ShowsNo_input (Replan budget spans seconds notes) input number told = absurd (rejection-unread number (kept_in input) told)
-  ShowsNo_input (Quote budget spans seconds notes) input number told = absurd (rejection-unread number (quoted_in input) told)
-  ShowsNo_input Check input number told = ShowsNo_check input number (leading_instance_in input) refl told
+  ShowsNo_input (Replan budget spans seconds notes) input number told =
+      absurd (tail-neither (within budget over) spans input (shown.RejectedPart number) (λ x none. none) (λ x none. none) (rejection-no_fault number) told)
+  ShowsNo_input (Quote budget spans seconds notes None) input number told = absurd (rejection-unread number (quoted_in input) told)
+  ShowsNo_input (Quote budget spans seconds notes (Some name)) input number told = absurd (rejection-unread number (named_in name input) told)
+  ShowsNo_input Check input number told =
+      each-of (has_tail_in input) (ShowsSaid input (shown.RejectedPart number)) (OfCertificate input (shown.RejectedPart number) (λ p c. ShowsCheck (scaled p c) c (shown.RejectedPart number))) (ShowsSaidNo input (shown.RejectedPart number)) (IsUnaccepted input (shown.RejectedPart number))
+      (said-rejected input number) (λ of. ShowsNo_check input number (leading_instance_in input) refl of) told
 
   alone-no_rejection : (o : Order) (number : ℕ) → ShowsAlone o (shown.RejectedPart number) → ⊥
   alone-no_rejection (Trial seed terminals shipments) number told = told
@@ -81,7 +89,9 @@ module _ (over : Bool) where
   status_of_rejected (shown.Planned p x) same = absurd (search-no_other x.certificate.answer status.Rejected (λ e. cc e) (λ e. cc e) same)
   status_of_rejected (shown.Trial seed failed p x) same = absurd (search-no_other x.certificate.answer status.Rejected (λ e. cc e) (λ e. cc e) same)
   status_of_rejected (shown.Replanned p kept x) same = absurd (search-no_other x.certificate.answer status.Rejected (λ e. cc e) (λ e. cc e) same)
+  status_of_rejected (shown.Underway p day rest x) same = absurd (search-no_other x.certificate.answer status.Rejected (λ e. cc e) (λ e. cc e) same)
   status_of_rejected (shown.Quoted p x y) same = absurd (both-no_other x.certificate.answer y.certificate.answer status.Rejected (λ e. cc e) (λ e. cc e) same)
+  status_of_rejected (shown.NamedQuote p x y more) same = absurd (both-no_other x.certificate.answer y.certificate.answer status.Rejected (λ e. cc e) (λ e. cc e) same)
   status_of_rejected _ same = let g = same in cc
 
   pub Rejected-ShowsRejection : (o : Option Order) (input : List ℕ) (old new : Option (List ℕ)) (s : Shown) → old ≡ Some input → Answers over o old new s → status_of s ≡ status.Rejected → ShowsRejection o input s

@@ -7,7 +7,8 @@ use Rattle.fp_app.specs.declared.shown.Shown.{Shown}
 use Rattle.fp_app.specs.declared.shown.Shown.TheVariants as shown
 use Rattle.fp_app.specs.declared.shown.Status.TheVariants as status
 use Rattle.fp_app.specs.Causes.{SearchStatus, ShowsKept, ShowsKeptOptimal, ShowsKeptUnfinished, ShowsStuck}
-use Rattle.fp_app.specs.Inputs.{KeptInstance, OfKept, kept_in}
+use Rattle.fp_app_tails.specs.Tails.{KeptInstance, kept_in}
+use Rattle.fp_app.specs.Inputs.{OfKept}
 use Rattle.fp_app.specs.Runs.{ShowsReplan}
 use Rattle.fp_app.specs.Searches.{Allowance, IsSearched}
 use Rattle.fp_app.specs.Shown.{search_status, status_of}

@@ -8,6 +8,7 @@ use Rattle.fp_base_lists.specs.Elements.{AnyByRecursion}
 use Rattle.fp_base_lists.proofs.Ceilings.{div_ceil_mono}
 use Rattle.fp_model.specs.declared.parts.Leg.{Leg}
 use Rattle.fp_model.specs.Costs.{cost}
+use Rattle.fp_model.specs.Plans.{IsPlan}
 use Rattle.fp_model.specs.Problem.{IsValid, Problem, horizon}
 use Rattle.fp_timenodes.specs.declared.places.AddedPoint.{AddedPoint}
 use Rattle.fp_timenodes.proofs.PointLimit.{length_distinct_new}
@@ -54,9 +55,11 @@ use Rattle.fp_session.specs.Certificates.{IsPricedBy}
 use Rattle.fp_session.specs.Sessions.{SessionModel}
 use Rattle.fp_session.specs.Solved.{IsSolved}
 use Rattle.fp_session.specs.Starts.{IsSessionOf}
+use Rattle.fp_replan_present.specs.Rests.{joined, left_problem}
+use Rattle.fp_replan_present.proofs.RestPlans.{costs-joined}
 use Rattle.fp_app.specs.Searches.{Allowance, AreInTime, IsPricedAs, IsSearched, IsShortText, SaysOfPlans}
-use Rattle.fp_app.specs.Wanted.{AreWindowsFor, IsFirstPlan, IsWanted, NoneWantedCheaper, Wanted, WantedExists, every, every_from, keeping}
-use Rattle.fp_app.proofs.OneKeptTable.{AreKeptWindowsOf-unique}
+use Rattle.fp_app.specs.Wanted.{AreWindowsFor, IsFirstPlan, IsWanted, NoneWantedCheaper, Wanted, WantedExists, every, every_from, going_on, keeping}
+use Rattle.fp_app.proofs.OneKeptTable.{AreDayWindows-unique, AreKeptWindowsOf-unique}
 use Rattle.fp_app.proofs.OneTable.{AreWindowsOf_unique}
 use Rattle.fp_app.proofs.PlainValues.{flat-le_leaf}
 
@@ -95,18 +98,21 @@ windows-belong : (p : Problem) (wanted : Wanted) (table : WindowTable) → AreWi
 windows-belong p every table windows = windows.belongs
 windows-belong p (every_from plan) table windows = windows.belongs
 windows-belong p (keeping kept) table windows = windows.belongs
+windows-belong q (going_on p day) table windows = windows.belongs
 
 -- there is one table of them
 windows-one : (p : Problem) (wanted : Wanted) (one two : WindowTable) → AreWindowsFor p wanted one → AreWindowsFor p wanted two → one ≡ two
 windows-one p every one two first second = AreWindowsOf_unique p one two first second
 windows-one p (every_from plan) one two first second = AreWindowsOf_unique p one two first second
 windows-one p (keeping kept) one two first second = AreKeptWindowsOf-unique p kept one two first second
+windows-one q (going_on p day) one two first second = AreDayWindows-unique p day q one two first second
 
 -- what no plan within them costs less than, no wanted plan does
 wanted-cheaper : (p : Problem) (wanted : Wanted) (table : WindowTable) (c : ℕ) → AreWindowsFor p wanted table → NoPlanWithinCheaper p (windows_in table) c → NoneWantedCheaper p wanted c
 wanted-cheaper p every table c windows within = λ d routes some is. within d routes some is (CoverPlans-from_windows p (windows_in table) windows.exact d routes some is)
 wanted-cheaper p (every_from plan) table c windows within = λ d routes some is. within d routes some is (CoverPlans-from_windows p (windows_in table) windows.exact d routes some is)
 wanted-cheaper p (keeping kept) table c windows within = λ d routes some is keeps. within d routes some is ((windows.tell d routes some is).1 keeps)
+wanted-cheaper q (going_on p day) table c windows within = (windows.cheaper c).1 (subst (λ (x : Problem). NoPlanWithinCheaper x (windows_in table) c) windows.left within)
 
 -- what the answer of a search says, by what it left
 module _ (p : Problem) (wanted : Wanted) (table : WindowTable) (allowed : Allowance) (started : ℕ) (s : Solution) (windows : AreWindowsFor p wanted table) (range : IsInRange p s.certificate) (earned : IsEarnedSolution p table allowed.budget started s) where
@@ -165,6 +171,11 @@ is-wanted : (p : Problem) (wanted : Wanted) (table : WindowTable) (c : Statement
 is-wanted p every table c windows has = tt
 is-wanted p (every_from plan) table c windows has = tt
 is-wanted p (keeping kept) table c windows has = let some : 1 ≤ 1 = omega arith in (windows.tell 1 (routes_of p c) some has.plan).0 has.within
+is-wanted q (going_on p day) table c windows has =
+    let some : 1 ≤ 1 = omega arith in
+    let plan : IsPlan (left_problem p day) 1 (routes_of q c) = subst (λ (x : Problem). IsPlan x 1 (routes_of q c)) windows.left has.plan in
+    let costs = costs-joined p day 1 (routes_of q c) plan in
+    ((windows.tell 1 (joined p day 1 (routes_of q c)) some).1 (record { rests = routes_of q c; same = refl; plan = plan; within = has.within; costs = costs }), costs)
 
 -- the text of the certificate is short: its lines are few, and so are those of its prices
 short-text : (p : Problem) (table : WindowTable) (budget : Budget) (started : ℕ) (s : Solution) → IsValid p → TextsAreShort p → IsSolved p table budget started s → Applies s.certificate.answer Part.Tree →
@@ -227,3 +238,4 @@ pub searched-exists : (p : Problem) (wanted : Wanted) (allowed : Allowance) (spa
 searched-exists p every allowed spans s told = let some : 1 ≤ 1 = omega arith in (1, _, some, told.timetable.plan.plan)
 searched-exists p (every_from plan) allowed spans s told = let some : 1 ≤ 1 = omega arith in (1, _, some, told.timetable.plan.plan)
 searched-exists p (keeping kept) allowed spans s told = let some : 1 ≤ 1 = omega arith in (1, _, some, told.timetable.plan.plan, told.is_wanted)
+searched-exists q (going_on p day) allowed spans s told = let some : 1 ≤ 1 = omega arith in (1, joined p day 1 (routes_of q s.certificate), some, told.is_wanted.0)

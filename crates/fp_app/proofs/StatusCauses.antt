@@ -14,19 +14,22 @@ use Rattle.fp_app.specs.declared.shown.Shown.{Shown}
 use Rattle.fp_app.specs.declared.shown.Shown.TheVariants as shown
 use Rattle.fp_app.specs.declared.shown.Status.TheVariants as status
 use Rattle.fp_app.specs.Causes.{ShowsDone, ShowsFault, ShowsInfeasible, ShowsNone, ShowsNumber, ShowsOpen, ShowsOptimal, ShowsPlan, ShowsSolution, ShowsUnfinished, ShowsYes}
-use Rattle.fp_app.specs.Checks.{ShowsCheck, scaled}
+use Rattle.fp_app.specs.Checks.{ShowsCheck}
+use Rattle.fp_app_tails.specs.Verdicts.{scaled}
 use Rattle.fp_app.specs.Improvements.{ShowsImprove}
-use Rattle.fp_app.specs.Inputs.{CertifiedInstance, KeptInstance, certificate_in, certified_at, fault_in, fault_of, instance_at, instance_in, kept_in, leading_instance_in, input_fault, limit_of, quoted_in, reads_source}
-use Rattle.fp_app.specs.Runs.{Answers, OfInput, ShowsAlone, ShowsBound, ShowsDirect, ShowsInput, ShowsQuote, ShowsReplan, ShowsSearch}
+use Rattle.fp_app.specs.TailChecks.{ShowsSaid, ShowsSaidYes}
+use Rattle.fp_app.specs.Inputs.{CertifiedInstance, OfCertificate, certificate_in, certified_at, fault_of, has_tail_in, instance_at, instance_in, leading_instance_in, input_fault, limit_of, reads_source}
+use Rattle.fp_app.specs.Runs.{Answers, OfInput, ShowsAlone, ShowsBound, ShowsDirect, ShowsInput, ShowsSearch}
 use Rattle.fp_app.specs.Searches.{Allowance, IsSearched, trial_allowance, within}
 use Rattle.fp_app.specs.Shown.{search_status, status_of}
 use Rattle.fp_app.proofs.FleetCauses.{fleet-done, fleet-fault, fleet-no_other}
 use Rattle.fp_app.proofs.ImproveCauses.{improve-done, improve-not_none, improve-open}
 use Rattle.fp_app.proofs.SearchEnds.{SearchEnd, optimal, search-end, search-no_other, unfinished, both-no_other}
 use Rattle.fp_app.specs.Wanted.{every}
-use Rattle.fp_app.proofs.QuoteCauses.{quote-done, quote-none, quote-open}
-use Rattle.fp_app.proofs.ReadCauses.{MatchResult_shows}
-use Rattle.fp_app.proofs.ReplanCauses.{replan-done, replan-open, replan-stuck}
+use Rattle.fp_app.proofs.QuoteStatuses.{quotes-done, quotes-fault, quotes-none, quotes-open}
+use Rattle.fp_app.proofs.ReadCauses.{MatchResult_shows, ShowsFault_instance}
+use Rattle.fp_app.proofs.SaidCauses.{said-done, said-fault, said-no_other}
+use Rattle.fp_app.proofs.TailCauses.{both-give, each-of, tail-done, tail-fault, tail-open, tail-stuck}
 use Rattle.fp_app.proofs.YardCauses.{yard-done, yard-fault, yard-no_other}
 
 -- for a time that is known to be over or not
@@ -58,44 +61,34 @@ module _ (over : Bool) where
         | inr alone ↦ inr alone
       ]
 
-  -- the fault of an input that is an instance alone
-  ShowsFault_instance : {A : Type 0} (o : Order) (input : List ℕ) (ordinal code : ℕ) (P : A → Type 0) (read : Result A Fault) → ((p : A) → P p → ⊥) → fault_in (Some o) input ≡ fault_of read →
-      (r : Result A Fault) → read ≡ r → MatchResult r P (λ (f : Fault). shown.BadInput ordinal code ≡ shown.BadInput f.ordinal f.code) → ShowsFault (Some o) input (shown.BadInput ordinal code)
-  ShowsFault_instance o input ordinal code P read never own (Ok p) is told = absurd (never p told)
-  ShowsFault_instance o input ordinal code P read never own (Err f) is same = record { fault = f; first = own ∙ ap fault_of is; shows = same }
-
   -- the fault of a certificate
-  ShowsFault_certificate : (input : List ℕ) (ordinal code : ℕ) (p : Problem) (q : Result Statement Fault) → leading_instance_in input ≡ Ok p → certificate_in p input ≡ q →
+  ShowsFault_certificate : (input : List ℕ) (ordinal code : ℕ) (p : Problem) (q : Result Statement Fault) → has_tail_in input ≡ false → leading_instance_in input ≡ Ok p → certificate_in p input ≡ q →
       MatchResult q (λ c. ShowsCheck (scaled p c) c (shown.BadInput ordinal code)) (λ (f : Fault). shown.BadInput ordinal code ≡ shown.BadInput f.ordinal f.code) →
       ShowsFault (Some Check) input (shown.BadInput ordinal code)
-  ShowsFault_certificate input ordinal code p (Ok c) is read none = absurd none
-  ShowsFault_certificate input ordinal code p (Err f) is read same = record { fault = f; first = ap (input_fault input) is ∙ ap fault_of read; shows = same }
+  ShowsFault_certificate input ordinal code p (Ok c) alone is read none = absurd none
+  ShowsFault_certificate input ordinal code p (Err f) alone is read same = record { fault = f; first = rw alone (ap (input_fault input) is ∙ ap fault_of read); shows = same }
 
   -- the fault of an input to `check`
-  ShowsFault_check : (input : List ℕ) (ordinal code : ℕ) (r : Result Problem Fault) → leading_instance_in input ≡ r →
+  ShowsFault_check : (input : List ℕ) (ordinal code : ℕ) (r : Result Problem Fault) → has_tail_in input ≡ false → leading_instance_in input ≡ r →
       MatchResult r
       (λ p. MatchResult (certificate_in p input) (λ c. ShowsCheck (scaled p c) c (shown.BadInput ordinal code)) (λ (f : Fault). shown.BadInput ordinal code ≡ shown.BadInput f.ordinal f.code))
       (λ (f : Fault). shown.BadInput ordinal code ≡ shown.BadInput f.ordinal f.code) →
       ShowsFault (Some Check) input (shown.BadInput ordinal code)
-  ShowsFault_check input ordinal code (Ok p) is told = ShowsFault_certificate input ordinal code p (certificate_in p input) is refl told
-  ShowsFault_check input ordinal code (Err f) is same = record { fault = f; first = ap (input_fault input) is; shows = same }
+  ShowsFault_check input ordinal code (Ok p) alone is told = ShowsFault_certificate input ordinal code p (certificate_in p input) alone is refl told
+  ShowsFault_check input ordinal code (Err f) alone is same = record { fault = f; first = rw alone (ap (input_fault input) is); shows = same }
 
   -- a refusal of an order by the first fault of its input
   ShowsFault_input : (o : Order) (input : List ℕ) (ordinal code : ℕ) → ShowsInput over o input (shown.BadInput ordinal code) → ShowsFault (Some o) input (shown.BadInput ordinal code)
   ShowsFault_input Direct input ordinal code told = ShowsFault_instance Direct input ordinal code (λ p. ShowsDirect p (shown.BadInput ordinal code)) (instance_in input) (λ p none. none) refl (instance_in input) refl told
   ShowsFault_input (Bound option seconds) input ordinal code told = ShowsFault_instance (Bound option seconds) input ordinal code (λ p. ShowsBound option p (shown.BadInput ordinal code)) (instance_in input) (λ p none. none) refl (instance_in input) refl told
-  ShowsFault_input (Plan budget scale spans seconds notes) input ordinal code told =
-      ShowsFault_instance (Plan budget scale spans seconds notes) input ordinal code (λ p. ShowsSearch (within budget over) spans p (shown.BadInput ordinal code)) (instance_at scale input) (λ p none. none) refl (instance_at scale input) refl told
-  ShowsFault_input (Improve budget scale spans seconds notes) input ordinal code told =
-      ShowsFault_instance (Improve budget scale spans seconds notes) input ordinal code (λ (x : CertifiedInstance). ShowsImprove (within budget over) spans x (shown.BadInput ordinal code)) (certified_at scale input) (λ x none. none) refl (certified_at scale input) refl told
+  ShowsFault_input (Plan budget scale spans seconds notes) input ordinal code told = ShowsFault_instance (Plan budget scale spans seconds notes) input ordinal code (λ p. ShowsSearch (within budget over) spans p (shown.BadInput ordinal code)) (instance_at scale input) (λ p none. none) refl (instance_at scale input) refl told
+  ShowsFault_input (Improve budget scale spans seconds notes) input ordinal code told = ShowsFault_instance (Improve budget scale spans seconds notes) input ordinal code (λ (x : CertifiedInstance). ShowsImprove (within budget over) spans x (shown.BadInput ordinal code)) (certified_at scale input) (λ x none. none) refl (certified_at scale input) refl told
   ShowsFault_input (Trial seed terminals shipments) input ordinal code told = absurd told
   ShowsFault_input (Yard seed) input ordinal code told = yard-fault seed input ordinal code told
   ShowsFault_input (Fleet trucks) input ordinal code told = fleet-fault trucks input ordinal code told
-  ShowsFault_input (Replan budget spans seconds notes) input ordinal code told =
-      ShowsFault_instance (Replan budget spans seconds notes) input ordinal code (λ (x : KeptInstance). ShowsReplan (within budget over) spans x (shown.BadInput ordinal code)) (kept_in input) (λ x none. none) refl (kept_in input) refl told
-  ShowsFault_input (Quote budget spans seconds notes) input ordinal code told =
-      ShowsFault_instance (Quote budget spans seconds notes) input ordinal code (λ p. ShowsQuote (within budget over) spans p (shown.BadInput ordinal code)) (quoted_in input) (λ p none. none) refl (quoted_in input) refl told
-  ShowsFault_input Check input ordinal code told = ShowsFault_check input ordinal code (leading_instance_in input) refl told
+  ShowsFault_input (Replan budget spans seconds notes) input ordinal code told = tail-fault budget (within budget over) spans seconds notes input ordinal code told
+  ShowsFault_input (Quote budget spans seconds notes name) input ordinal code told = quotes-fault over budget spans seconds notes name input ordinal code told
+  ShowsFault_input Check input ordinal code told = both-give (has_tail_in input) (ShowsSaid input (shown.BadInput ordinal code)) (OfCertificate input (shown.BadInput ordinal code) (λ p c. ShowsCheck (scaled p c) c (shown.BadInput ordinal code))) (ShowsFault (Some Check) input (shown.BadInput ordinal code)) (said-fault input ordinal code) (λ alone of. ShowsFault_check input ordinal code (leading_instance_in input) alone refl of) told
 
   -- an order that reads no input refuses none
   alone-not_fault : (o : Order) (ordinal code : ℕ) → ShowsAlone o (shown.BadInput ordinal code) → ⊥
@@ -117,7 +110,9 @@ module _ (over : Bool) where
   status_of_bad_input (shown.Planned p x) same = absurd (search-no_other x.certificate.answer status.BadInput (λ e. cc e) (λ e. cc e) same)
   status_of_bad_input (shown.Trial seed failed p x) same = absurd (search-no_other x.certificate.answer status.BadInput (λ e. cc e) (λ e. cc e) same)
   status_of_bad_input (shown.Replanned p kept x) same = absurd (search-no_other x.certificate.answer status.BadInput (λ e. cc e) (λ e. cc e) same)
+  status_of_bad_input (shown.Underway p day rest x) same = absurd (search-no_other x.certificate.answer status.BadInput (λ e. cc e) (λ e. cc e) same)
   status_of_bad_input (shown.Quoted p x y) same = absurd (both-no_other x.certificate.answer y.certificate.answer status.BadInput (λ e. cc e) (λ e. cc e) same)
+  status_of_bad_input (shown.NamedQuote p x y more) same = absurd (both-no_other x.certificate.answer y.certificate.answer status.BadInput (λ e. cc e) (λ e. cc e) same)
   status_of_bad_input _ same = let g = same in cc
 
   pub BadInput-ShowsFault : (o : Option Order) (input : List ℕ) (old new : Option (List ℕ)) (s : Shown) → old ≡ Some input → Answers over o old new s → status_of s ≡ status.BadInput → ShowsFault o input s
@@ -231,9 +226,9 @@ module _ (over : Bool) where
   ShowsDone_input (Trial seed terminals shipments) input s told done = absurd told
   ShowsDone_input (Yard seed) input s told done = yard-done seed input s told done
   ShowsDone_input (Fleet trucks) input s told done = fleet-done trucks input s told done
-  ShowsDone_input (Replan budget spans seconds notes) input s told done = replan-done (within budget over) spans input s told done
-  ShowsDone_input (Quote budget spans seconds notes) input s told done = quote-done (within budget over) spans input s told done
-  ShowsDone_input Check input s told done = ShowsYes_check input s (leading_instance_in input) refl told done
+  ShowsDone_input (Replan budget spans seconds notes) input s told done = tail-done (within budget over) spans input s told done
+  ShowsDone_input (Quote budget spans seconds notes name) input s told done = quotes-done over budget spans seconds notes name input s told done
+  ShowsDone_input Check input s told done = each-of (has_tail_in input) (ShowsSaid input s) (OfCertificate input s (λ p c. ShowsCheck (scaled p c) c s)) (ShowsSaidYes input s) (ShowsYes input s) (λ of. said-done input s of done) (λ of. ShowsYes_check input s (leading_instance_in input) refl of done) told
 
   -- what an order shows that is done without an input
   ShowsDone_alone : (o : Order) (input : List ℕ) (s : Shown) → ShowsAlone o s → status_of s ≡ status.Done → ShowsDone over (Some o) input s
@@ -314,13 +309,13 @@ module _ (over : Bool) where
   ShowsNone_input (Trial seed terminals shipments) input s told none = absurd told
   ShowsNone_input (Yard seed) input s told none = absurd (yard-no_other seed status.Infeasible (λ e. cc e) (λ e. cc e) (λ e. cc e) input s told none)
   ShowsNone_input (Fleet trucks) input s told none = absurd (fleet-no_other status.Infeasible (λ e. cc e) (λ e. cc e) (λ e. cc e) trucks input s told none)
-  ShowsNone_input (Replan budget spans seconds notes) input s told none = replan-stuck (within budget over) spans input s told none
-  ShowsNone_input (Quote budget spans seconds notes) input s told none = quote-none (within budget over) budget spans seconds notes input s told none
+  ShowsNone_input (Replan budget spans seconds notes) input s told none = tail-stuck (within budget over) spans input s told none
+  ShowsNone_input (Quote budget spans seconds notes name) input s told none = quotes-none over budget spans seconds notes name input s told none
   ShowsNone_input Check input s told none =
-      MatchResult_shows status.Infeasible (leading_instance_in input) (leading_instance_in input)
-      (λ p. MatchResult (certificate_in p input) (λ c. ShowsCheck (scaled p c) c s) (λ (f : Fault). s ≡ shown.BadInput f.ordinal f.code)) s (ShowsNone Check input s) (λ e. cc e) refl none told
+      both-give (has_tail_in input) (ShowsSaid input s) (OfCertificate input s (λ p c. ShowsCheck (scaled p c) c s)) (ShowsNone Check input s) (λ tail of. absurd (said-no_other status.Infeasible input s (λ e. cc e) (λ e. cc e) (λ e. cc e) of none)) (λ alone of. MatchResult_shows status.Infeasible (leading_instance_in input) (leading_instance_in input)
+      (λ p. MatchResult (certificate_in p input) (λ c. ShowsCheck (scaled p c) c s) (λ (f : Fault). s ≡ shown.BadInput f.ordinal f.code)) s (ShowsNone Check input s) (λ e. cc e) refl none of
       (λ p is certified. MatchResult_shows status.Infeasible (certificate_in p input) (certificate_in p input) (λ c. ShowsCheck (scaled p c) c s) s (ShowsNone Check input s) (λ e. cc e) refl none certified
-      (λ c read shows. absurd (none-check (scaled p c) c s shows none)))
+      (λ c read shows. absurd (none-check (scaled p c) c s shows none)))) told
 
   -- nor is an order that reads no input
   alone-not_none : (o : Order) (s : Shown) → ShowsAlone o s → status_of s ≡ status.Infeasible → ⊥
@@ -368,13 +363,13 @@ module _ (over : Bool) where
   ShowsOpen_input (Trial seed terminals shipments) input s told ends = absurd told
   ShowsOpen_input (Yard seed) input s told ends = absurd (yard-no_other seed status.Unfinished (λ e. cc e) (λ e. cc e) (λ e. cc e) input s told ends)
   ShowsOpen_input (Fleet trucks) input s told ends = absurd (fleet-no_other status.Unfinished (λ e. cc e) (λ e. cc e) (λ e. cc e) trucks input s told ends)
-  ShowsOpen_input (Replan budget spans seconds notes) input s told ends = replan-open (within budget over) spans input s told ends
-  ShowsOpen_input (Quote budget spans seconds notes) input s told ends = quote-open (within budget over) spans input s told ends
+  ShowsOpen_input (Replan budget spans seconds notes) input s told ends = tail-open (within budget over) spans input s told ends
+  ShowsOpen_input (Quote budget spans seconds notes name) input s told ends = quotes-open over budget spans seconds notes name input s told ends
   ShowsOpen_input Check input s told ends =
-      MatchResult_shows status.Unfinished (leading_instance_in input) (leading_instance_in input)
-      (λ p. MatchResult (certificate_in p input) (λ c. ShowsCheck (scaled p c) c s) (λ (f : Fault). s ≡ shown.BadInput f.ordinal f.code)) s ⊥ (λ e. cc e) refl ends told
+      both-give (has_tail_in input) (ShowsSaid input s) (OfCertificate input s (λ p c. ShowsCheck (scaled p c) c s)) ⊥ (λ tail of. said-no_other status.Unfinished input s (λ e. cc e) (λ e. cc e) (λ e. cc e) of ends) (λ alone of. MatchResult_shows status.Unfinished (leading_instance_in input) (leading_instance_in input)
+      (λ p. MatchResult (certificate_in p input) (λ c. ShowsCheck (scaled p c) c s) (λ (f : Fault). s ≡ shown.BadInput f.ordinal f.code)) s ⊥ (λ e. cc e) refl ends of
       (λ p is certified. MatchResult_shows status.Unfinished (certificate_in p input) (certificate_in p input) (λ c. ShowsCheck (scaled p c) c s) s ⊥ (λ e. cc e) refl ends certified
-      (λ c read shows. check-not_open (scaled p c) c s shows ends))
+      (λ c read shows. check-not_open (scaled p c) c s shows ends))) told
 
   ShowsOpen_alone : (o : Order) (input : List ℕ) (s : Shown) → ShowsAlone o s → status_of s ≡ status.Unfinished → ShowsOpen over (Some o) input s
   ShowsOpen_alone (Trial seed terminals shipments) input (shown.Trial shown_seed None q x) told ends =

@@ -24,16 +24,22 @@ use Rattle.fp_app.specs.declared.shown.Shown.TheVariants as shown
 use Rattle.fp_app.specs.declared.shown.Status.{Status}
 use Rattle.fp_app.specs.declared.shown.Status.TheVariants as status
 use Rattle.fp_app.specs.Bounds.{IsRootBound}
-use Rattle.fp_app.specs.Checks.{IsAcceptedFor, ShowsAccepted, ShowsRejected, scaled}
+use Rattle.fp_app.specs.Checks.{IsAcceptedFor, ShowsAccepted, ShowsRejected}
 use Rattle.fp_fleet.specs.Fleets.{Assignment}
 use Rattle.fp_yard.specs.declared.events.Event.{Event}
+use Rattle.fp_app.specs.TailChecks.{SaidStatus, ShowsSaidNo, ShowsSaidYes}
+use Rattle.fp_app.specs.DayCauses.{ShowsDayOptimal, ShowsDayStuck, ShowsDayUnfinished}
 use Rattle.fp_app.specs.Fleets.{IsShownFleet, IsSmallestFleet}
 use Rattle.fp_app.specs.Yards.{IsDrawnLog}
 use Rattle.fp_app.specs.Plans.{IsToldPlan, ShowsUntold, TellsTimetable}
 use Rattle.fp_app.specs.Improvements.{IsImproved}
-use Rattle.fp_app.specs.Inputs.{CertifiedInstance, certificate_in, certified_at, fault_in, given_to, instance_at, instance_in, leading_instance_in, limit_of, reads_source, KeptInstance, kept_in, quoted_in}
-use Rattle.fp_app.specs.Quotes.{IsQuoted}
-use Rattle.fp_app.specs.Wanted.{NoKeptPlanCheaper, Wanted, WantedExists, every, every_from, keeping}
+use Rattle.fp_app.specs.Inputs.{CertifiedInstance, certificate_in, certified_at, fault_in, given_to, has_tail_in, instance_at, instance_in, leading_instance_in, limit_of, named_in, reads_source, quoted_in}
+use Rattle.fp_replan_present.specs.Rests.{left_problem}
+use Rattle.fp_app_tails.specs.Verdicts.{NoKeptPlanCheaper, scaled}
+use Rattle.fp_app_tails.specs.Tails.{DayInstance, KeptInstance, day_in, kept_in, tells_day_in}
+use Rattle.fp_app.specs.NamedCauses.{NamedStatus, ShowsNamedExact, ShowsNamedOpen}
+use Rattle.fp_app.specs.Quotes.{IsQuoted, IsUnfinished}
+use Rattle.fp_app.specs.Wanted.{Wanted, WantedExists, every, every_from, going_on, keeping}
 use Rattle.fp_replan.specs.declared.kept.Kept.{Kept}
 use Rattle.fp_replan.specs.KeptWindows.{CanBeKept}
 use Rattle.fp_replan.specs.Quotes.{IsExtraCost, without_last}
@@ -173,14 +179,6 @@ pub record ShowsExactExtra (allowed : Allowance) (spans : Bool) (input : List �
   pub with_it : extra.after.certificate.answer ≡ answer.Optimal most
   pub exact : IsExtraCost extra.instance (most - least)
 
--- a search is unfinished, and has its cause
-pub record IsUnfinished (p : Problem) (allowed : Allowance) (s : Solution) : Type 0 where
-  pub cost : ℕ
-  pub bound : ℕ
-  pub spent : Spent
-  pub answer : s.certificate.answer ≡ answer.Unfinished cost bound spent
-  pub bounds : IsBoundBelow p every allowed cost bound spent
-
 -- One of the two searches is unfinished.
 pub record ShowsOpenExtra (allowed : Allowance) (spans : Bool) (input : List ℕ) (result : Shown) : Type 0 where
   pub extra : ShowsExtra allowed spans input result
@@ -258,37 +256,41 @@ pub record ShowsFault (wanted : Option Order) (input : List ℕ) (result : Shown
 abbrev pub ShowsDone : (over : Bool) → Option Order → List ℕ → Shown → Type 0
 ShowsDone over None input result = ⊥
 ShowsDone over (Some order.Direct) input result = ShowsPlan input result
-ShowsDone over (Some order.Check) input result = ShowsYes input result
+ShowsDone over (Some order.Check) input result = MatchBool (has_tail_in input) (ShowsSaidYes input result) (ShowsYes input result)
 ShowsDone over (Some (order.Bound option seconds)) input result = ShowsNumber option input result
 ShowsDone over (Some (order.Plan budget scale spans seconds notes)) input result = ShowsOptimal (within budget over) spans (instance_at scale input) shown.Planned result
 ShowsDone over (Some (order.Improve budget scale spans seconds notes)) input result = ShowsImprovedOptimal (within budget over) scale spans input result
 ShowsDone over (Some (order.Trial seed terminals shipments)) input result = ShowsOptimal trial_allowance false (Ok (generated seed terminals shipments)) (shown.Trial seed None) result
 ShowsDone over (Some (order.Yard seed)) input result = ShowsRun seed input result
 ShowsDone over (Some (order.Fleet trucks)) input result = ShowsTrucks trucks input result
-ShowsDone over (Some (order.Replan budget spans seconds notes)) input result = ShowsKeptOptimal (within budget over) spans input result
-ShowsDone over (Some (order.Quote budget spans seconds notes)) input result = ShowsExactExtra (within budget over) spans input result
+ShowsDone over (Some (order.Replan budget spans seconds notes)) input result =
+    MatchBool (tells_day_in input) (ShowsDayOptimal (within budget over) spans input result) (ShowsKeptOptimal (within budget over) spans input result)
+ShowsDone over (Some (order.Quote budget spans seconds notes None)) input result = ShowsExactExtra (within budget over) spans input result
+ShowsDone over (Some (order.Quote budget spans seconds notes (Some name))) input result = ShowsNamedExact (within budget over) spans name input result
 
 -- what is shown where an order is unfinished
 abbrev pub ShowsOpen : (over : Bool) → Option Order → List ℕ → Shown → Type 0
 ShowsOpen over (Some (order.Plan budget scale spans seconds notes)) input result = ShowsUnfinished (within budget over) spans (instance_at scale input) shown.Planned result
 ShowsOpen over (Some (order.Improve budget scale spans seconds notes)) input result = ShowsImprovedUnfinished (within budget over) scale spans input result
 ShowsOpen over (Some (order.Trial seed terminals shipments)) input result = ShowsUnfinished trial_allowance false (Ok (generated seed terminals shipments)) (shown.Trial seed None) result
-ShowsOpen over (Some (order.Replan budget spans seconds notes)) input result = ShowsKeptUnfinished (within budget over) spans input result
-ShowsOpen over (Some (order.Quote budget spans seconds notes)) input result = ShowsOpenExtra (within budget over) spans input result
+ShowsOpen over (Some (order.Replan budget spans seconds notes)) input result =
+    MatchBool (tells_day_in input) (ShowsDayUnfinished (within budget over) spans input result) (ShowsKeptUnfinished (within budget over) spans input result)
+ShowsOpen over (Some (order.Quote budget spans seconds notes None)) input result = ShowsOpenExtra (within budget over) spans input result
+ShowsOpen over (Some (order.Quote budget spans seconds notes (Some name))) input result = ShowsNamedOpen (within budget over) spans name input result
 ShowsOpen over _ input result = ⊥
 
 -- what is shown where no plan exists, or none that keeps the legs
 abbrev pub ShowsInfeasible : Option Order → List ℕ → Shown → Type 0
 ShowsInfeasible None input result = ⊥
 ShowsInfeasible (Some (order.Improve budget scale spans seconds notes)) input result = ⊥
-ShowsInfeasible (Some (order.Replan budget spans seconds notes)) input result = ShowsStuck input result
+ShowsInfeasible (Some (order.Replan budget spans seconds notes)) input result = MatchBool (tells_day_in input) (ShowsDayStuck input result) (ShowsStuck input result)
 ShowsInfeasible (Some order) input result = ShowsNone order input result
 
 -- what is shown where a certificate is rejected: for `check` it isn't accepted for the instance at the
 -- certificate's scale, and for `yard`, `fleet` and `improve` it tells no plan, for `improve` of the
 -- instance at the scale of the words
 abbrev pub ShowsRejection : Option Order → List ℕ → Shown → Type 0
-ShowsRejection (Some order.Check) input result = ShowsNo (λ p c number. ShowsRejected (scaled p c) c number) input result
+ShowsRejection (Some order.Check) input result = MatchBool (has_tail_in input) (ShowsSaidNo input result) (ShowsNo (λ p c number. ShowsRejected (scaled p c) c number) input result)
 ShowsRejection (Some (order.Yard seed)) input result = ShowsNo ShowsUntold input result
 ShowsRejection (Some (order.Fleet trucks)) input result = ShowsNo ShowsUntold input result
 ShowsRejection (Some (order.Improve budget scale spans seconds notes)) input result = ShowsNo (λ p c number. ShowsUntold (record p { scale = scale }) c number) input result
@@ -344,9 +346,10 @@ ImproveStatus p c allowed result =
 abbrev pub InputStatus : (over : Bool) → Order → List ℕ → Status → Type 0
 InputStatus over order.Direct input result = MatchResult (instance_in input) (λ p. PlanStatus p result) (λ f. result ≡ status.BadInput)
 InputStatus over order.Check input result =
-    MatchResult (leading_instance_in input)
+    MatchBool (has_tail_in input) (SaidStatus input result)
+    (MatchResult (leading_instance_in input)
     (λ p. MatchResult (certificate_in p input) (λ c. CheckStatus (scaled p c) c result) (λ f. result ≡ status.BadInput))
-    (λ f. result ≡ status.BadInput)
+    (λ f. result ≡ status.BadInput))
 InputStatus over (order.Bound option seconds) input result = MatchResult (instance_in input) (λ p. PlanStatus p result) (λ f. result ≡ status.BadInput)
 InputStatus over (order.Plan budget scale spans seconds notes) input result = MatchResult (instance_at scale input) (λ p. SearchStatus p every (within budget over) result) (λ f. result ≡ status.BadInput)
 InputStatus over (order.Improve budget scale spans seconds notes) input result =
@@ -360,8 +363,12 @@ InputStatus over (order.Fleet trucks) input result =
     MatchResult (leading_instance_in input)
     (λ p. MatchResult (certificate_in p input) (λ c. ToldStatus p c result) (λ f. result ≡ status.BadInput))
     (λ f. result ≡ status.BadInput)
-InputStatus over (order.Replan budget spans seconds notes) input result = MatchResult (kept_in input) (λ (x : KeptInstance). SearchStatus x.instance (keeping x.kept) (within budget over) result) (λ f. result ≡ status.BadInput)
-InputStatus over (order.Quote budget spans seconds notes) input result = MatchResult (quoted_in input) (λ p. QuoteStatus p (within budget over) result) (λ f. result ≡ status.BadInput)
+InputStatus over (order.Replan budget spans seconds notes) input result =
+    MatchBool (tells_day_in input)
+    (MatchResult (day_in input) (λ (x : DayInstance). SearchStatus (left_problem x.instance x.day) (going_on x.instance x.day) (within budget over) result) (λ f. result ≡ status.BadInput))
+    (MatchResult (kept_in input) (λ (x : KeptInstance). SearchStatus x.instance (keeping x.kept) (within budget over) result) (λ f. result ≡ status.BadInput))
+InputStatus over (order.Quote budget spans seconds notes None) input result = MatchResult (quoted_in input) (λ p. QuoteStatus p (within budget over) result) (λ f. result ≡ status.BadInput)
+InputStatus over (order.Quote budget spans seconds notes (Some name)) input result = MatchResult (named_in name input) (λ p. NamedStatus name p (within budget over) result) (λ f. result ≡ status.BadInput)
 
 -- the one status of an order that reads no input
 abbrev pub AloneStatus : Order → Status → Type 0

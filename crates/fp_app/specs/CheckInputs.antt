@@ -8,13 +8,12 @@ use Rattle.fp_certificate_lines.specs.Statements.{Statement}
 use Rattle.fp_certificate.specs.Reading.{certificate_of}
 use Rattle.fp_app.specs.declared.commands.checks.CheckInput.{CheckInput}
 use Rattle.fp_app.specs.declared.commands.checks.CheckInput.TheVariants.{Fault, Both}
-use Rattle.fp_app_words.specs.declared.orders.Order.TheVariants.{Check}
-use Rattle.fp_app.specs.Inputs.{at_scale, certificate_in, certified_at, fault_in, leading_instance_in}
+use Rattle.fp_app.specs.Inputs.{at_scale, certificate_in, certified_at, input_fault, leading_instance_in}
 
 -- it is the instance and the certificate of the input, or the first fault
 abbrev pub IsCheckInput : List ℕ → CheckInput → Type 0
 IsCheckInput input (Both p c) = (leading_instance_in input ≡ Ok p) × (certificate_in p input ≡ Ok c)
-IsCheckInput input (Fault ordinal code) = fault_in (Some Check) input ≡ Some (record { ordinal = ordinal; code = code })
+IsCheckInput input (Fault ordinal code) = input_fault input (leading_instance_in input) ≡ Some (record { ordinal = ordinal; code = code })
 
 -- it is the instance of the input at a scale and the certificate, or the first fault
 abbrev pub IsCertifiedInput : ℕ → List ℕ → CheckInput → Type 0

@@ -1,6 +1,5 @@
 -- What `check` shows.
 use Rattle.std.specs.Prelude.{ℕ, ◌≡◌, [], Option, Some, None}
-use Rattle.fp_model.specs.declared.limits.TheConstants.{SCALE}
 use Rattle.fp_model.specs.Problem.{Problem}
 use Rattle.fp_flatnet.specs.Belonging.{BelongsTo}
 use Rattle.fp_flatnet.specs.Tables.{WindowTable, windows_in}
@@ -22,15 +21,6 @@ answer_kind (answer.Direct cost) = kind.Direct
 answer_kind (answer.Optimal cost) = kind.Optimal
 answer_kind (answer.Unfinished cost bound spent) = kind.Unfinished
 answer_kind (answer.Infeasible shipment time) = kind.Infeasible
-
--- the scale that a certificate names, and the usual one where it names none
-abbrev pub scale_of : Option ℕ → ℕ
-scale_of None = SCALE
-scale_of (Some scale) = scale
-
--- the instance with a certificate's scale
-abbrev pub scaled : Problem → Statement → Problem
-scaled p c = record p { scale = scale_of c.scale }
 
 -- the windows of the instance, without anchors
 pub record AreWindowsOf (p : Problem) (table : WindowTable) : Type 0 where

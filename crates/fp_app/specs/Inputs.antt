@@ -1,15 +1,15 @@
 -- What the bytes of an input give.
-use Rattle.std.specs.Prelude.{ℕ, Bool, true, false, ◌+◌, ◌^◌, ◌≡◌, ◌==◌, List, [], length, drop, take_while, not, codes, nat_lt, if◌then◌else◌, MatchResult, Result, Ok, Err, Option, Some, None}
+use Rattle.std.specs.Prelude.{ℕ, Bool, true, false, ◌+◌, ◌^◌, ◌≡◌, ◌==◌, List, length, drop, take, nat_lt, if◌then◌else◌, MatchResult, Result, Ok, Err, Option, Some, None, is_none}
 use Rattle.fp_model.specs.Problem.{Problem, weight_at}
 use Rattle.fp_records.specs.Fields.{records_of}
 use Rattle.fp_reader.specs.declared.reading.Tail.TheVariants.{Alone, Certificate}
 use Rattle.fp_reader.specs.Input.{input_of, instance_records}
 use Rattle.fp_records_fields.specs.Faults.{Fault}
-use Rattle.fp_records_fields.specs.Fields.{is_kind}
+use Rattle.fp_records_fields.specs.NamedParts.{shipment_named}
 use Rattle.fp_certificate.specs.Reading.{certificate_of}
 use Rattle.fp_certificate_lines.specs.Statements.{Statement}
-use Rattle.fp_replan.specs.declared.kept.Kept.{Kept}
-use Rattle.fp_replan.specs.Records.{kept_from}
+use Rattle.fp_app_tails.specs.Faults.{tail_fault}
+use Rattle.fp_app_tails.specs.Tails.{DayInstance, KeptInstance, day_in, has_tail, kept_in, tells_day_in, unkept_instance_in}
 use Rattle.fp_app.specs.declared.limits.TheConstants.{CHECK_LIMIT, INSTANCE_LIMIT}
 use Rattle.fp_app_words.specs.declared.orders.Order.{Order}
 use Rattle.fp_app_words.specs.declared.orders.Order.TheVariants as order
@@ -36,7 +36,7 @@ limit_of (Some (order.Trial seed terminals shipments)) = 0
 limit_of (Some (order.Yard seed)) = CHECK_LIMIT
 limit_of (Some (order.Fleet trucks)) = CHECK_LIMIT
 limit_of (Some (order.Replan budget spans seconds notes)) = INSTANCE_LIMIT
-limit_of (Some (order.Quote budget spans seconds notes)) = INSTANCE_LIMIT
+limit_of (Some (order.Quote budget spans seconds notes name)) = INSTANCE_LIMIT
 
 -- what an input alone gives: the instance of its records, or their first fault
 abbrev pub instance_in : List ℕ → Result Problem Fault
@@ -63,6 +63,14 @@ leading_instance_in input = input_of Certificate (records_of input)
 -- how many records of an input stand before the first `answer`
 abbrev pub leading_count : List ℕ → ℕ
 leading_count input = length (instance_records Certificate (records_of input))
+
+-- whether some of these tell kept legs or a day
+abbrev pub has_tail_in : List ℕ → Bool
+has_tail_in input = has_tail (take (leading_count input) (records_of input))
+
+-- the first fault of an input where they do
+abbrev pub tail_fault_in : List ℕ → Option Fault
+tail_fault_in input = tail_fault (leading_count input) (records_of input)
 
 -- what the records from the first `answer` on give for an instance: a certificate, or their first
 -- fault
@@ -93,37 +101,6 @@ certified_after scale input (Err f) = Err f
 abbrev pub certified_at : ℕ → List ℕ → Result CertifiedInstance Fault
 certified_at scale input = certified_after scale input (leading_instance_in input)
 
--- whether a record is one of a kept leg
-abbrev pub is_kept : List (List ℕ) → Bool
-is_kept fields = is_kind (codes "kept") fields
-
--- the records of an input before the first `kept`, which are those of the instance
-abbrev pub unkept_records : List (List (List ℕ)) → List (List (List ℕ))
-unkept_records records = take_while (λ fields. not (is_kept fields)) records
-
--- the instance of the records before the first `kept`, or their first fault
-abbrev pub unkept_instance_in : List ℕ → Result Problem Fault
-unkept_instance_in input = input_of Alone (unkept_records (records_of input))
-
--- an instance, and legs of it that are kept
-pub record KeptInstance : Type 0 where
-  pub instance : Problem
-  pub kept : List Kept
-
--- an instance with the legs that records from a place on keep, or the first fault of these records
-abbrev pub kept_legs : Problem → Result (List Kept) Fault → Result KeptInstance Fault
-kept_legs p (Ok kept) = Ok (record { instance = p; kept = kept })
-kept_legs p (Err f) = Err f
-
-abbrev pub kept_after : List (List (List ℕ)) → Result Problem Fault → Result KeptInstance Fault
-kept_after records (Ok p) = kept_legs p (kept_from p [] (length (unkept_records records) + 1) (drop (length (unkept_records records)) records))
-kept_after records (Err f) = Err f
-
--- the instance of an input and its kept legs, or the first fault: the instance's before those of the
--- kept legs
-abbrev pub kept_in : List ℕ → Result KeptInstance Fault
-kept_in input = kept_after (records_of input) (unkept_instance_in input)
-
 -- an instance that has a shipment, or a fault of the input as a whole where it has none
 abbrev pub with_shipment : Problem → Result Problem Fault
 with_shipment p = if length p.shipments == 0 then Err (record { ordinal = 0; code = 38 }) else Ok p
@@ -136,6 +113,19 @@ read_with_shipment (Err f) = Err f
 -- that there is no shipment
 abbrev pub quoted_in : List ℕ → Result Problem Fault
 quoted_in input = read_with_shipment (instance_in input)
+
+-- an instance that has a shipment of this name, or a fault of the input as a whole where it has none
+abbrev pub with_named : List ℕ → Problem → Result Problem Fault
+with_named name p = if is_none (shipment_named p name) then Err (record { ordinal = 0; code = 38 }) else Ok p
+
+abbrev pub read_with_named : List ℕ → Result Problem Fault → Result Problem Fault
+read_with_named name (Ok p) = with_named name p
+read_with_named name (Err f) = Err f
+
+-- what an input alone gives that has a shipment of a name: the instance of its records, their first fault,
+-- or that no shipment has the name
+abbrev pub named_in : List ℕ → List ℕ → Result Problem Fault
+named_in name input = read_with_named name (instance_in input)
 
 -- it is the instance of an input alone, or the first fault
 abbrev pub IsInstanceInput : List ℕ → InstanceInput → Type 0
@@ -174,9 +164,17 @@ OfInstance input result P = MatchResult (instance_in input) P (λ (f : Fault). r
 abbrev pub OfQuoted : List ℕ → Shown → (Problem → Type 0) → Type 0
 OfQuoted input result P = MatchResult (quoted_in input) P (λ (f : Fault). result ≡ shown.BadInput f.ordinal f.code)
 
+-- the instance of the input's records that has a shipment of a name, or the first fault
+abbrev pub OfNamed : List ℕ → List ℕ → Shown → (Problem → Type 0) → Type 0
+OfNamed name input result P = MatchResult (named_in name input) P (λ (f : Fault). result ≡ shown.BadInput f.ordinal f.code)
+
 -- the instance of the input's records and the legs that are kept, or the first fault
 abbrev pub OfKept : List ℕ → Shown → (KeptInstance → Type 0) → Type 0
 OfKept input result P = MatchResult (kept_in input) P (λ (f : Fault). result ≡ shown.BadInput f.ordinal f.code)
+
+-- the instance of the input's records and the day that is under way, or the first fault
+abbrev pub OfDay : List ℕ → Shown → (DayInstance → Type 0) → Type 0
+OfDay input result P = MatchResult (day_in input) P (λ (f : Fault). result ≡ shown.BadInput f.ordinal f.code)
 
 -- the instance of the input's records at a scale and the certificate after it, or the first fault
 abbrev pub OfCertified : ℕ → List ℕ → Shown → (CertifiedInstance → Type 0) → Type 0
@@ -204,15 +202,16 @@ input_fault input (Err f) = Some f
 abbrev pub fault_in : Option Order → List ℕ → Option Fault
 fault_in None input = None
 fault_in (Some order.Direct) input = fault_of (instance_in input)
-fault_in (Some order.Check) input = input_fault input (leading_instance_in input)
+fault_in (Some order.Check) input = if has_tail_in input then tail_fault_in input else input_fault input (leading_instance_in input)
 fault_in (Some (order.Bound option seconds)) input = fault_of (instance_in input)
 fault_in (Some (order.Plan budget scale spans seconds notes)) input = fault_of (instance_at scale input)
 fault_in (Some (order.Improve budget scale spans seconds notes)) input = fault_of (certified_at scale input)
 fault_in (Some (order.Trial seed terminals shipments)) input = None
 fault_in (Some (order.Yard seed)) input = input_fault input (leading_instance_in input)
 fault_in (Some (order.Fleet trucks)) input = input_fault input (leading_instance_in input)
-fault_in (Some (order.Replan budget spans seconds notes)) input = fault_of (kept_in input)
-fault_in (Some (order.Quote budget spans seconds notes)) input = fault_of (quoted_in input)
+fault_in (Some (order.Replan budget spans seconds notes)) input = if tells_day_in input then fault_of (day_in input) else fault_of (kept_in input)
+fault_in (Some (order.Quote budget spans seconds notes None)) input = fault_of (quoted_in input)
+fault_in (Some (order.Quote budget spans seconds notes (Some name))) input = fault_of (named_in name input)
 
 -- the instance that an order is about: that of the input, or its first fault, and for `trial` the one
 -- that is drawn
@@ -226,4 +225,5 @@ given_to (order.Trial seed terminals shipments) input = Ok (generated seed termi
 given_to (order.Yard seed) input = leading_instance_in input
 given_to (order.Fleet trucks) input = leading_instance_in input
 given_to (order.Replan budget spans seconds notes) input = unkept_instance_in input
-given_to (order.Quote budget spans seconds notes) input = quoted_in input
+given_to (order.Quote budget spans seconds notes None) input = quoted_in input
+given_to (order.Quote budget spans seconds notes (Some name)) input = named_in name input

@@ -14,11 +14,15 @@ use Rattle.fp_flatnet.specs.Windows.{PlanLiesWithin}
 use Rattle.fp_certificate_rules.specs.Claims.{NoPlanWithinCheaper}
 use Rattle.fp_session.specs.declared.progress.Progress.{Progress}
 use Rattle.fp_session.specs.Sessions.{SessionModel, cheapest_of}
+use Rattle.fp_records_fields.specs.NamedParts.{shipment_named}
 use Rattle.fp_replan.specs.Quotes.{without_last}
+use Rattle.fp_replan_quotes.specs.LastShipments.{with_last}
 use Rattle.fp_app_words.specs.declared.orders.Order.{Order}
 use Rattle.fp_app_words.specs.declared.orders.Order.TheVariants as order
-use Rattle.fp_app.specs.Inputs.{CertifiedInstance, KeptInstance, certified_at, instance_at, kept_in, quoted_in}
-use Rattle.fp_app.specs.Wanted.{AreWindowsFor, Wanted, every, keeping}
+use Rattle.fp_replan_present.specs.Rests.{left_problem}
+use Rattle.fp_app_tails.specs.Tails.{DayInstance, KeptInstance, day_in, kept_in, tells_day_in}
+use Rattle.fp_app.specs.Inputs.{CertifiedInstance, certified_at, instance_at, named_in, quoted_in}
+use Rattle.fp_app.specs.Wanted.{AreWindowsFor, Wanted, every, going_on, keeping}
 use Rattle.fp_app.specs.declared.notes.Figures.{Figures}
 use Rattle.fp_app.specs.declared.notes.Noted.{Noted}
 use Rattle.fp_app.specs.declared.shown.Shown.TheVariants as shown
@@ -140,6 +144,13 @@ abbrev pub AreQuoteNotes : Problem → (old new : Option (List ℕ)) → Type 0
 AreQuoteNotes p old new =
     (between : Option (List ℕ)) × MayNote true (IsNotedFor (without_last p) every old between) old between × MayNote true (IsNotedFor p every between new) between new
 
+-- of a search among the plans that keep legs, or of what is left of a day where one is told
+abbrev pub AreTailNotes : List ℕ → (old new : Option (List ℕ)) → Type 0
+AreTailNotes input old new =
+    MatchBool (tells_day_in input)
+    ((x : DayInstance) × (day_in input ≡ Ok x) × IsNotedFor (left_problem x.instance x.day) (going_on x.instance x.day) old new)
+    ((x : KeptInstance) × (kept_in input ≡ Ok x) × IsNotedFor x.instance (keeping x.kept) old new)
+
 -- what is noted while an order is done
 abbrev pub NotesOf : Option Order → List ℕ → (old new : Option (List ℕ)) → Type 0
 NotesOf (Some (order.Plan budget scale spans seconds notes)) input old new =
@@ -147,7 +158,9 @@ NotesOf (Some (order.Plan budget scale spans seconds notes)) input old new =
 NotesOf (Some (order.Improve budget scale spans seconds notes)) input old new =
     MayNote notes ((x : CertifiedInstance) × (certified_at scale input ≡ Ok x) × IsNotedFor x.instance every old new) old new
 NotesOf (Some (order.Replan budget spans seconds notes)) input old new =
-    MayNote notes ((x : KeptInstance) × (kept_in input ≡ Ok x) × IsNotedFor x.instance (keeping x.kept) old new) old new
-NotesOf (Some (order.Quote budget spans seconds notes)) input old new =
+    MayNote notes (AreTailNotes input old new) old new
+NotesOf (Some (order.Quote budget spans seconds notes None)) input old new =
     MayNote notes ((p : Problem) × (quoted_in input ≡ Ok p) × AreQuoteNotes p old new) old new
+NotesOf (Some (order.Quote budget spans seconds notes (Some name))) input old new =
+    MayNote notes ((p : Problem) × (k : ℕ) × (named_in name input ≡ Ok p) × (shipment_named p name ≡ Some k) × AreQuoteNotes (with_last p k) old new) old new
 NotesOf _ input old new = new ≡ old

@@ -2,13 +2,14 @@
 use Rattle.std.specs.Prelude.{ℕ, ◌-◌, ◌≡◌, Bool}
 use Rattle.fp_model.specs.Problem.{Problem}
 use Rattle.fp_certificate_lines.specs.declared.certificates.Answer.{Answer}
-use Rattle.fp_certificate_lines.specs.declared.certificates.Answer.TheVariants.{Optimal}
+use Rattle.fp_certificate_lines.specs.declared.certificates.Answer.TheVariants.{Optimal, Unfinished}
+use Rattle.fp_certificate_lines.specs.declared.certificates.Spent.{Spent}
 use Rattle.fp_certificate_rules.specs.Accepted.{claim_of}
 use Rattle.fp_certificate_rules.specs.Plans.{stated_cost}
 use Rattle.fp_session_history.specs.Solutions.{Solution}
 use Rattle.fp_replan.specs.declared.ranges.Bracket.{Bracket}
 use Rattle.fp_replan.specs.Quotes.{IsBetween, IsExtraCost, without_last}
-use Rattle.fp_app.specs.Searches.{Allowance, IsSearched}
+use Rattle.fp_app.specs.Searches.{Allowance, IsBoundBelow, IsSearched}
 use Rattle.fp_app.specs.Wanted.{every}
 
 -- the least and the greatest that the last shipment can add, by the answers of the searches without
@@ -25,3 +26,11 @@ pub record IsQuoted (p : Problem) (allowed : Allowance) (spans : Bool) (before a
   pub between : (extra : ℕ) → IsExtraCost p extra → IsBetween (extra_of before.certificate.answer after.certificate.answer) extra
   pub exact : (least most : ℕ) → before.certificate.answer ≡ Optimal least → after.certificate.answer ≡ Optimal most →
       IsExtraCost p (most - least) × (extra_of before.certificate.answer after.certificate.answer ≡ record { low = most - least; high = most - least })
+
+-- a search is unfinished, and has its cause
+pub record IsUnfinished (p : Problem) (allowed : Allowance) (s : Solution) : Type 0 where
+  pub cost : ℕ
+  pub bound : ℕ
+  pub spent : Spent
+  pub answer : s.certificate.answer ≡ Unfinished cost bound spent
+  pub bounds : IsBoundBelow p every allowed cost bound spent

@@ -12,6 +12,9 @@ use Rattle.fp_flatnet.specs.Verdicts.{IsBlocked}
 use Rattle.fp_reader.specs.Generator.{generated}
 use Rattle.fp_replan.specs.KeptWindows.{CanBeKept}
 use Rattle.fp_replan.specs.Starts.{IsStuck}
+use Rattle.fp_replan_present.specs.Plans.{IsStuckUnderway, UnderwayExists}
+use Rattle.fp_replan_present.specs.Rests.{IsOpen, IsRest}
+use Rattle.fp_app_tails.specs.Tails.{DayInstance, KeptInstance, tells_day_in}
 use Rattle.fp_app_words.specs.declared.orders.Order.{Order}
 use Rattle.fp_app_words.specs.declared.orders.Order.TheVariants as order
 use Rattle.fp_app.specs.declared.shown.Shown.{Shown}
@@ -19,16 +22,18 @@ use Rattle.fp_app.specs.declared.shown.Shown.TheVariants as shown
 use Rattle.fp_app.specs.declared.shown.Status.{Status}
 use Rattle.fp_app.specs.declared.shown.Status.TheVariants as status
 use Rattle.fp_app.specs.Bounds.{IsRootBound}
-use Rattle.fp_app.specs.Checks.{IsCheckOutcome, ShowsCheck, scaled}
+use Rattle.fp_app.specs.Checks.{IsCheckOutcome}
+use Rattle.fp_app.specs.TailChecks.{ShowsAnswer}
 use Rattle.fp_app.specs.Fleets.{ShowsFleet}
 use Rattle.fp_app.specs.Improvements.{ShowsImprove}
-use Rattle.fp_app.specs.Inputs.{OfCertificate, OfCertified, OfInstance, OfScaled, limit_of, reads_source, KeptInstance, OfKept, OfQuoted}
+use Rattle.fp_app.specs.Inputs.{OfCertificate, OfCertified, OfDay, OfInstance, OfScaled, limit_of, reads_source, OfKept, OfNamed, OfQuoted}
+use Rattle.fp_app.specs.NamedQuotes.{ShowsNamedQuote}
 use Rattle.fp_app.specs.Quotes.{IsQuoted}
 use Rattle.fp_app.specs.Yards.{ShowsYard}
 use Rattle.fp_app.specs.Searches.{Allowance, IsSearched, trial_allowance, within}
 use Rattle.fp_app.specs.Shown.{status_of}
 use Rattle.fp_app.specs.Texts.{IsText}
-use Rattle.fp_app.specs.Wanted.{every, keeping}
+use Rattle.fp_app.specs.Wanted.{every, going_on, keeping}
 
 -- Each command: what it shows for an instance.
 
@@ -71,6 +76,20 @@ ShowsReplan allowed spans x (shown.Replanned instance kept solved) =
 ShowsReplan allowed spans x (shown.Stuck instance shipment) = (instance ≡ x.instance) × IsStuck x.instance x.kept shipment × (CanBeKept x.instance x.kept → ⊥)
 ShowsReplan allowed spans x _ = ⊥
 
+-- `replan` of a day that is under way: where a plan goes on with it, what is left of it, and what a search
+-- with the budget shows of that, with the option of spans or without it; and otherwise the first shipment
+-- that no legs under way carry.
+abbrev pub ShowsDay : Allowance → (spans : Bool) → DayInstance → Shown → Type 0
+ShowsDay allowed spans x (shown.Underway instance day rest solved) =
+    (x ≡ record { instance = instance; day = day }) × IsOpen instance day × IsRest instance day rest × IsSearched rest.instance (going_on instance day) allowed spans solved
+ShowsDay allowed spans x (shown.Stuck instance shipment) = (instance ≡ x.instance) × IsStuckUnderway x.instance x.day shipment × (UnderwayExists x.instance x.day → ⊥)
+ShowsDay allowed spans x _ = ⊥
+
+-- the one or the other, by whether the records after the instance tell a day
+abbrev pub ShowsTail : Allowance → (spans : Bool) → List ℕ → Shown → Type 0
+ShowsTail allowed spans input result =
+    MatchBool (tells_day_in input) (OfDay input result (λ x. ShowsDay allowed spans x result)) (OfKept input result (λ x. ShowsReplan allowed spans x result))
+
 -- `quote`: where a plan exists, what searches without the last shipment and with it show, both with the
 -- option of spans or both without it, and otherwise the first shipment that can't be carried in time,
 -- with its fastest time.
@@ -102,15 +121,16 @@ TakesOneMore limit old new = (taken : List ℕ) × Consumes old new taken × (le
 -- What an order shows for the whole input, where its time is known to be over or not. One line for each command.
 abbrev pub ShowsInput : (over : Bool) → Order → List ℕ → Shown → Type 0
 ShowsInput over order.Direct input result = OfInstance input result (λ p. ShowsDirect p result)
-ShowsInput over order.Check input result = OfCertificate input result (λ p c. ShowsCheck (scaled p c) c result)
+ShowsInput over order.Check input result = ShowsAnswer input result
 ShowsInput over (order.Bound option seconds) input result = OfInstance input result (λ p. ShowsBound option p result)
 ShowsInput over (order.Plan budget scale spans seconds notes) input result = OfScaled scale input result (λ p. ShowsSearch (within budget over) spans p result)
 ShowsInput over (order.Improve budget scale spans seconds notes) input result = OfCertified scale input result (λ x. ShowsImprove (within budget over) spans x result)
 ShowsInput over (order.Trial seed terminals shipments) input result = ⊥
 ShowsInput over (order.Yard seed) input result = OfCertificate input result (λ p c. ShowsYard seed p c result)
 ShowsInput over (order.Fleet trucks) input result = OfCertificate input result (λ p c. ShowsFleet trucks p c result)
-ShowsInput over (order.Replan budget spans seconds notes) input result = OfKept input result (λ x. ShowsReplan (within budget over) spans x result)
-ShowsInput over (order.Quote budget spans seconds notes) input result = OfQuoted input result (λ p. ShowsQuote (within budget over) spans p result)
+ShowsInput over (order.Replan budget spans seconds notes) input result = ShowsTail (within budget over) spans input result
+ShowsInput over (order.Quote budget spans seconds notes None) input result = OfQuoted input result (λ p. ShowsQuote (within budget over) spans p result)
+ShowsInput over (order.Quote budget spans seconds notes (Some name)) input result = OfNamed name input result (λ p. ShowsNamedQuote (within budget over) spans name p result)
 
 -- What an order shows that reads no input.
 abbrev pub ShowsAlone : Order → Shown → Type 0

@@ -43,6 +43,7 @@ kind_word kind.Direct = codes "direct"
 kind_word kind.Optimal = codes "optimal"
 kind_word kind.Unfinished = codes "unfinished"
 kind_word kind.Infeasible = codes "infeasible"
+kind_word kind.Stuck = codes "stuck"
 
 -- the lines of a bound
 abbrev pub bound_lines : ℕ → List ℕ
@@ -70,6 +71,21 @@ stuck_lines name = lines_of ((codes "answer" ∷ codes "stuck" ∷ name ∷ []) 
 abbrev pub quote_lines : List ℕ → Bracket → List ℕ
 quote_lines name extra = lines_of ((codes "quote" ∷ name ∷ decimal extra.low ∷ decimal extra.high ∷ []) ∷ (codes "end" ∷ []) ∷ [])
 
+-- which of two searches ended unfinished, by their answers
+abbrev pub open_word : Answer → Answer → List ℕ
+open_word (answer.Unfinished cost bound spent) (answer.Unfinished other_cost other_bound other_spent) = codes "both"
+open_word (answer.Unfinished cost bound spent) other = codes "before"
+open_word other (answer.Unfinished cost bound spent) = codes "after"
+open_word first second = codes "none"
+
+-- the fields of what a named shipment adds: at least and at most so much, between the two plans in hand, and
+-- which of the two searches ended unfinished; and its lines
+abbrev pub named_quote_fields : List ℕ → Bracket → ℕ → List ℕ → List (List ℕ)
+named_quote_fields name extra more ends = codes "quote" ∷ name ∷ decimal extra.low ∷ decimal extra.high ∷ decimal more ∷ ends ∷ []
+
+abbrev pub named_quote_lines : List ℕ → Bracket → ℕ → List ℕ → List ℕ
+named_quote_lines name extra more ends = lines_of (named_quote_fields name extra more ends ∷ (codes "end" ∷ []) ∷ [])
+
 -- it is the text of what is shown
 abbrev pub IsText : Shown → List ℕ → Type 0
 IsText (shown.Direct p routes) text =
@@ -78,8 +94,11 @@ IsText (shown.Bound p price tables spans value) text = text ≡ bound_lines (who
 IsText (shown.Planned p solved) text = text ≡ certificate_text p solved.certificate
 IsText (shown.Trial seed failed p solved) text = text ≡ trial_lines seed failed p solved.certificate.answer
 IsText (shown.Replanned p kept solved) text = text ≡ certificate_text p solved.certificate
+IsText (shown.Underway p day rest solved) text = text ≡ certificate_text rest.instance solved.certificate
 IsText (shown.Stuck p shipment) text = text ≡ stuck_lines (shipment_name p shipment)
 IsText (shown.Quoted p before after) text = text ≡ quote_lines (shipment_name p (length p.shipments - 1)) (extra_of before.certificate.answer after.certificate.answer)
+IsText (shown.NamedQuote p before after more) text =
+    text ≡ named_quote_lines (shipment_name p (length p.shipments - 1)) (extra_of before.certificate.answer after.certificate.answer) more (open_word before.certificate.answer after.certificate.answer)
 IsText (shown.Infeasible p shipment time) text = text ≡ certificate_text p (timetable_of (answer.Infeasible shipment time) [] [])
 IsText (shown.Accepted kind) text = text ≡ line_of (codes "accepted" ∷ kind_word kind ∷ [])
 IsText (shown.RejectedPart number) text = text ≡ line_of (codes "rejected" ∷ decimal number ∷ [])

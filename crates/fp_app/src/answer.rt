@@ -15,6 +15,7 @@ use crate::commands::checks::check_shown;
 use crate::commands::directs::direct_shown;
 use crate::commands::fleets::fleet_shown;
 use crate::commands::improvements::improve_shown;
+use crate::commands::named_quotes::named_quote_shown;
 use crate::commands::options::SearchOptions;
 use crate::commands::quotes::quote_shown;
 use crate::commands::replans::replan_shown;
@@ -90,7 +91,7 @@ fn answer_order<S: Source, C: Clock, N: Sink>(
     ensures leaves { Leaves (Some order) source.old source.new }
     ensures noted { (input : List ℕ) → S.left source.old ≡ Some input → NotesOf (Some order) input (N.taken notes.old) (N.taken notes.new) }
 {
-    match take_input(alloc, source, limit_of(order))? {
+    match take_input(alloc, source, limit_of(&order))? {
         Some(bytes) => Ok(input_shown(alloc, clock, notes, order, bytes)?),
         None => Ok(Shown::TooLong),
     }
@@ -155,9 +156,13 @@ fn input_shown<C: Clock, N: Sink>(
             spans,
             seconds,
             notes: wanted,
+            name,
         } => {
             let options = SearchOptions::new(budget, spans, seconds, wanted);
-            quote_shown(alloc, clock, notes, options, bytes)
+            match name {
+                None => quote_shown(alloc, clock, notes, options, bytes),
+                Some(name) => named_quote_shown(alloc, clock, notes, options, bytes, &name),
+            }
         }
     }
 }

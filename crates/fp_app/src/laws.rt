@@ -1,6 +1,6 @@
 //! Laws on what runs answer, without a body.
 ghost use Rattle.std.specs.Prelude.{◌≡◌};
-ghost use Rattle.fp_app.specs.Laws.{CheckAcceptsPlans};
+ghost use Rattle.fp_app.specs.Laws.{CheckAcceptsPlans, CheckAcceptsReplans};
 
 use crate::limits::{CHECK_LIMIT, INSTANCE_LIMIT};
 
@@ -12,6 +12,14 @@ use crate::limits::{CHECK_LIMIT, INSTANCE_LIMIT};
 /// option of spans or without it.
 pub fn check_accepts_plans()
     ensures { CheckAcceptsPlans }
+{}
+
+/// `check` accepts what `replan` prints of kept legs or of a day that is under way: where the records of an
+/// input are those that were handed to `replan` and after them those of the text that it prints of a plan,
+/// the status that `check` has for the input is 0, with memory and without a fault of its source and its
+/// sink.
+pub fn check_accepts_replans()
+    ensures { CheckAcceptsReplans }
 {}
 
 /// Each limit of inputs is this number of bytes.

@@ -15,10 +15,11 @@ mod texts;
 mod top;
 
 pub use check_outcomes::CheckOutcome;
-pub use fp_app_words::{Order, WordFault, read_words};
+pub use fp_app_words::{NameWord, Order, WordFault, read_words};
 pub use fp_replan::Kept;
+pub use fp_replan_present::{Present, Rest, Tracked};
 pub use fp_session::{Budget, Left, RoundNote, Solved, SplitNote};
-pub use laws::{check_accepts_plans, input_limits_are_numbers};
+pub use laws::{check_accepts_plans, check_accepts_replans, input_limits_are_numbers};
 pub use limits::{CHECK_LIMIT, INSTANCE_LIMIT};
 pub use shown::{AnswerKind, Ran, Shown, Status};
 pub use texts::text;

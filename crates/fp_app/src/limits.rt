@@ -11,8 +11,8 @@ pub const INSTANCE_LIMIT: usize = 16_777_216;
 pub const CHECK_LIMIT: usize = 134_217_728;
 
 /// The most bytes of an input to an order.
-pub(crate) fn limit_of(order: Order) -> usize
-    ensures { result ≡ limit_of (Some order) }
+pub(crate) fn limit_of(order: &Order) -> usize
+    ensures { result ≡ limit_of (Some order.now) }
 {
     match order {
         Order::Direct | Order::Bound { .. } | Order::Plan { .. } => INSTANCE_LIMIT,

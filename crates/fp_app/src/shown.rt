@@ -9,6 +9,7 @@ use fp_fleet::{Fleet, TruckDays};
 use fp_model::{Instance, Plan};
 use fp_prices::{LeafPrice, Table};
 use fp_prices_spans::Span;
+use fp_replan_present::{Present, Rest};
 use fp_yard::Event;
 
 /// How a run ended.
@@ -67,6 +68,9 @@ pub enum AnswerKind {
     Unfinished,
     /// No plan exists.
     Infeasible,
+    /// No plan keeps the legs or goes on with the day that are told, and the shipment is the first that is
+    /// stuck.
+    Stuck,
 }
 
 impl AnswerKind {
@@ -79,6 +83,7 @@ impl AnswerKind {
             AnswerKind::Optimal => b"optimal",
             AnswerKind::Unfinished => b"unfinished",
             AnswerKind::Infeasible => b"infeasible",
+            AnswerKind::Stuck => b"stuck",
         }
     }
 }
@@ -139,7 +144,16 @@ pub enum Shown {
         kept: Vec<Kept>,
         solved: Solved,
     },
-    /// The first shipment that no legs carry that begin with its kept legs, by its number.
+    /// What a search shows of what is left of a day that is under way: its certificate, which is optimal or
+    /// unfinished and of what is left alone, the notes on its rounds and splits, and what it left.
+    Underway {
+        instance: Instance,
+        present: Present,
+        rest: Rest,
+        solved: Solved,
+    },
+    /// The first shipment that no legs carry that begin with its kept legs, or of a day that is under way,
+    /// that no legs under way carry, by its number.
     Stuck {
         instance: Instance,
         shipment: u32,
@@ -149,6 +163,14 @@ pub enum Shown {
         instance: Instance,
         before: Solved,
         after: Solved,
+    },
+    /// What searches show of an instance without its last shipment, which is the named one, and with it,
+    /// and what that one adds between the two plans in hand.
+    NamedQuote {
+        instance: Instance,
+        before: Solved,
+        after: Solved,
+        added: u128,
     },
     /// The first shipment that can't be carried in time, by its number, and its fastest time in
     /// the input's unit, `None` where it has no route.
@@ -232,12 +254,12 @@ impl Shown {
             Shown::Planned { solved, .. } | Shown::Trial { solved, .. } => search_status(
                 &solved.certificate.answer,
             ),
-            Shown::Replanned { solved, .. } => search_status(&solved.certificate.answer),
-            Shown::Stuck { .. } => Status::Infeasible,
-            Shown::Quoted { before, after, .. } => both_status(
-                &before.certificate.answer,
-                &after.certificate.answer,
+            Shown::Replanned { solved, .. } | Shown::Underway { solved, .. } => search_status(
+                &solved.certificate.answer,
             ),
+            Shown::Stuck { .. } => Status::Infeasible,
+            Shown::Quoted { before, after, .. } | Shown::NamedQuote { before, after, .. } =>
+                both_status(&before.certificate.answer, &after.certificate.answer),
             Shown::Infeasible { .. } => Status::Infeasible,
             Shown::Accepted { .. } => Status::Done,
             Shown::RejectedPart { .. } => Status::Rejected,

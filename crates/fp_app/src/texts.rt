@@ -8,7 +8,7 @@ ghost use Rattle.fp_certificate_rules.specs.Accepted.{claim_of};
 ghost use Rattle.fp_certificate_rules.specs.Plans.{stated_cost};
 ghost use Rattle.fp_app.specs.Quotes.{extra_of};
 ghost use Rattle.fp_app.specs.Shown.{CanBeQuoted, IsBracketed, IsPrintable};
-ghost use Rattle.fp_app.specs.Texts.{IsText, bound_lines, kind_word, outcome_fields, quote_lines, stuck_lines, trial_fields, trial_lines};
+ghost use Rattle.fp_app.specs.Texts.{IsText, bound_lines, kind_word, named_quote_fields, named_quote_lines, open_word, outcome_fields, quote_lines, stuck_lines, trial_fields, trial_lines};
 
 use crate::inputs::certificates::{direct_certificate, infeasible_certificate};
 use crate::{AnswerKind, NoMemory, Shown};
@@ -192,6 +192,78 @@ fn quote_text(
     extra_text(alloc, &instance.shipment(last).name, extra)
 }
 
+// Which of two searches ended unfinished, by their answers.
+fn open_word(before: Answer, after: Answer) -> &'static [u8]
+    ensures { result.now ≡ open_word before after }
+{
+    match (before, after) {
+        (Answer::Unfinished { .. }, Answer::Unfinished { .. }) => b"both",
+        (Answer::Unfinished { .. }, _) => b"before",
+        (_, Answer::Unfinished { .. }) => b"after",
+        _ => b"none",
+    }
+}
+
+// Adds the line of what a shipment adds: `quote`, its name, at least and at most so much and between two
+// plans, and which searches ended unfinished.
+fn write_added(
+    line: &mut Line,
+    name: &Name,
+    extra: Bracket,
+    added: u128,
+    ends: &[u8],
+) -> Result<(), NoMemory>
+    requires begun { line.old.begun ≡ false }
+    ensures text { OnOk result (line.new.text ≡ line.old.text ++ line_of (named_quote_fields name.now extra added ends.now)) }
+    ensures ended { OnOk result (line.new.begun ≡ false) }
+{
+    line.word(b"quote")?;
+    line.word(name.bytes())?;
+    line.number(extra.low)?;
+    line.number(extra.high)?;
+    line.number(added)?;
+    line.word(ends)?;
+    line.end()?;
+    Ok(())
+}
+
+// That line, and `end`.
+fn added_text(
+    alloc: Global,
+    name: &Name,
+    extra: Bracket,
+    added: u128,
+    ends: &[u8],
+) -> Result<Vec<u8>, NoMemory>
+    ensures { IfOk result (λ text. text.items ≡ named_quote_lines name.now extra added ends.now) }
+{
+    let mut line = Line::new(alloc)?;
+    write_added(&mut line, name, extra, added, ends)?;
+    line.word(b"end")?;
+    line.end()?;
+    Ok(line.into_bytes())
+}
+
+// What the last shipment of an instance adds, by the answers without it and with it, and between the two
+// plans in hand.
+fn named_quote_text(
+    alloc: Global,
+    instance: &Instance,
+    before: Answer,
+    after: Answer,
+    added: u128,
+) -> Result<Vec<u8>, NoMemory>
+    requires { CanBeQuoted instance.now before after }
+    ensures { IfOk result (λ text. text.items ≡ named_quote_lines (shipment_name instance.now (length instance.now.shipments - 1)) (extra_of before after) added (open_word before after)) }
+{
+    let (before_low, before_cost) = figures(before);
+    let (after_low, after_cost) = figures(after);
+    let extra = extra_range(before_low, before_cost, after_low, after_cost);
+    let last = instance.shipments().len() as u32 - 1;
+    let name = &instance.shipment(last).name;
+    added_text(alloc, name, extra, added, open_word(before, after))
+}
+
 /// The text of a plan as an answer of the kind `direct`.
 pub(crate) fn direct_text(
     alloc: Global,
@@ -238,6 +310,7 @@ pub fn text(alloc: Global, shown: &Shown) -> Result<Vec<u8>, NoMemory>
             solved,
             ..
         } => write(alloc, instance, &solved.certificate),
+        Shown::Underway { rest, solved, .. } => write(alloc, &rest.instance, &solved.certificate),
         Shown::Stuck { instance, shipment } => {
             stuck_text(alloc, &instance.shipment(*shipment).name)
         }
@@ -250,6 +323,18 @@ pub fn text(alloc: Global, shown: &Shown) -> Result<Vec<u8>, NoMemory>
             instance,
             before.certificate.answer,
             after.certificate.answer,
+        ),
+        Shown::NamedQuote {
+            instance,
+            before,
+            after,
+            added,
+        } => named_quote_text(
+            alloc,
+            instance,
+            before.certificate.answer,
+            after.certificate.answer,
+            *added,
         ),
         Shown::Infeasible {
             instance,

@@ -128,7 +128,7 @@ bound-in-time : order_of (codes "bound" ∷ codes "--spans" ∷ codes "--seconds
 unfolding clap_on_literals
 bound-in-time = refl
 
-quote-in-time : order_of (codes "quote" ∷ codes "--seconds=10" ∷ []) ≡ Some (Quote (record { rounds = 400; branches = 4000 }) false (Some 10) false)
+quote-in-time : order_of (codes "quote" ∷ codes "--seconds=10" ∷ []) ≡ Some (Quote (record { rounds = 400; branches = 4000 }) false (Some 10) false None)
 unfolding clap_on_literals
 quote-in-time = refl
 
@@ -235,11 +235,11 @@ spans-of-replan : order_of (codes "replan" ∷ codes "--branches" ∷ codes "3" 
 unfolding clap_on_literals
 spans-of-replan = refl
 
-the-quote : order_of (codes "quote" ∷ codes "--branches=3" ∷ codes "--rounds" ∷ codes "0" ∷ []) ≡ Some (Quote (record { rounds = 0; branches = 3 }) false None false)
+the-quote : order_of (codes "quote" ∷ codes "--branches=3" ∷ codes "--rounds" ∷ codes "0" ∷ []) ≡ Some (Quote (record { rounds = 0; branches = 3 }) false None false None)
 unfolding clap_on_literals
 the-quote = refl
 
-spans-of-quote : order_of (codes "quote" ∷ codes "--spans" ∷ codes "--rounds" ∷ codes "0" ∷ []) ≡ Some (Quote (record { rounds = 0; branches = 4000 }) true None false)
+spans-of-quote : order_of (codes "quote" ∷ codes "--spans" ∷ codes "--rounds" ∷ codes "0" ∷ []) ≡ Some (Quote (record { rounds = 0; branches = 4000 }) true None false None)
 unfolding clap_on_literals
 spans-of-quote = refl
 
@@ -247,3 +247,36 @@ spans-of-quote = refl
 scaled-quote : order_of (codes "quote" ∷ codes "--scale=7" ∷ []) ≡ None
 unfolding clap_on_literals
 scaled-quote = refl
+
+-- a name before, among or after the options of `quote`, whatever its bytes, and only once
+the-name : order_of (codes "quote" ∷ codes "S1" ∷ []) ≡ Some (Quote (record { rounds = 400; branches = 4000 }) false None false (Some (codes "S1")))
+unfolding clap_on_literals
+the-name = refl
+
+name-among : order_of (codes "quote" ∷ codes "--rounds" ∷ codes "0" ∷ codes "a,b" ∷ codes "--spans" ∷ []) ≡ Some (Quote (record { rounds = 0; branches = 4000 }) true None false (Some (codes "a,b")))
+unfolding clap_on_literals
+name-among = refl
+
+name-last : order_of (codes "quote" ∷ codes "--seconds=10" ∷ codes "--notes" ∷ codes "0" ∷ []) ≡ Some (Quote (record { rounds = 400; branches = 4000 }) false (Some 10) true (Some (codes "0")))
+unfolding clap_on_literals
+name-last = refl
+
+name-hyphen : order_of (codes "quote" ∷ codes "-" ∷ []) ≡ Some (Quote (record { rounds = 400; branches = 4000 }) false None false (Some (codes "-")))
+unfolding clap_on_literals
+name-hyphen = refl
+
+name-twice : order_of (codes "quote" ∷ codes "S1" ∷ codes "S1" ∷ []) ≡ None
+unfolding clap_on_literals
+name-twice = refl
+
+name-as_option : order_of (codes "quote" ∷ codes "-S1" ∷ []) ≡ None
+unfolding clap_on_literals
+name-as_option = refl
+
+name-as_value : order_of (codes "quote" ∷ codes "--rounds" ∷ codes "S1" ∷ []) ≡ None
+unfolding clap_on_literals
+name-as_value = refl
+
+name-by_option : order_of (codes "quote" ∷ codes "--name" ∷ codes "S1" ∷ []) ≡ None
+unfolding clap_on_literals
+name-by_option = refl

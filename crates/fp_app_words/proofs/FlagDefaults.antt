@@ -1,6 +1,6 @@
 -- The defaults of flags: a flag that wasn't given gets a row, which no one takes for the words'.
-use Rattle.std.proofs.Common.{◌≡◌, ◌∙◌, ℕ, false, List, [], ◌∷◌, map, refl, ap₂, inl, inr}
-use Rattle.std.specs.Prelude.{codes, fold}
+use Rattle.std.proofs.Common.{◌≡◌, ◌∙◌, ℕ, false, List, [], ◌∷◌, ◌++◌, map, refl, ap₂, inl, inr}
+use Rattle.std.specs.Prelude.{Option, codes, fold}
 use Rattle.std.specs.Str.{bytes_eq}
 use Rattle.std.proofs.lemmas.Bool.{cases_Bool, or_parts}
 use Rattle.clap.specs.Kinds.{or_else}
@@ -10,7 +10,7 @@ use Rattle.fp_app_words.specs.Commands.{was_given}
 use Rattle.fp_app_words.specs.Options.{Given, is_among, is_given, value_given}
 use Rattle.fp_app_words.proofs.GivenRows.{first_of-rows, rows, was_given-rows}
 use Rattle.fp_app_words.proofs.NoDefaults.{defaults_fault-more}
-use Rattle.fp_app_words.proofs.OptionRules.{flag, flag_rules, options-no_defaults, rule, rules}
+use Rattle.fp_app_words.proofs.OptionRules.{flag, flag_rules, options-no_defaults, rule, rules, slots, slots-no_defaults}
 
 -- a default is a good value
 fault-one : (found : List Row) (name : List ℕ) → default_fault found (flag name) ≡ []
@@ -25,8 +25,10 @@ unfolding defaults_fault
 fault-flags found [] = refl
 fault-flags found (name ∷ flags) = ap₂ or_else (fault-one found name) (fault-flags (with_default found (flag name)) flags)
 
-pub defaults_fault-rules : (found : List Row) (names flags : List (List ℕ)) → defaults_fault found (rules names flags) ≡ []
-defaults_fault-rules found names flags = defaults_fault-more found (map rule names) (flag_rules flags) (options-no_defaults names) ∙ fault-flags found flags
+pub defaults_fault-rules : (found : List Row) (place : Option (List ℕ)) (names flags : List (List ℕ)) → defaults_fault found (rules place names flags) ≡ []
+defaults_fault-rules found place names flags =
+    defaults_fault-more found (slots place) (map rule names ++ flag_rules flags) (slots-no_defaults place)
+    ∙ defaults_fault-more found (map rule names) (flag_rules flags) (options-no_defaults names) ∙ fault-flags found flags
 
 -- the rows where a flag of this name gets its default
 abbrev off : List ℕ → List Row → List Row

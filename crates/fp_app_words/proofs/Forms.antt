@@ -15,7 +15,7 @@ use Rattle.fp_app_words.specs.declared.orders.TheConstants.{FEWEST_TERMINALS, GR
 use Rattle.fp_app_words.specs.Commands.{app, entered_order, is_dashes, was_given}
 use Rattle.fp_app_words.specs.Options.{Given, is_among, is_given, value_given}
 use Rattle.fp_app_words.specs.Places.{by_places}
-use Rattle.fp_app_words.specs.Settings.{bound_by, bound_options, budget_by, budget_options, fleet_by, fleet_options, improve_by, is_number_between, names_of, plan_by, plan_options, quote_by, replan_by, scaled_by, seconds_by, trial_settings, yard_settings}
+use Rattle.fp_app_words.specs.Settings.{bound_by, bound_options, budget_by, budget_options, fleet_by, fleet_options, improve_by, is_number_between, names_of, plan_by, plan_options, quote_by, quote_options, replan_by, scaled_by, seconds_by, trial_settings, yard_settings}
 use Rattle.fp_app_words.specs.Words.{forms, order_of, texts}
 use Rattle.fp_app_words.proofs.BareWords.{leaf}
 use Rattle.fp_app_words.proofs.FirstWords.{faults-none}
@@ -45,8 +45,9 @@ scaled_by-rows order given =
 replan_by-rows : (given : List Given) → replan_by (λ name. first_of name (all_rows budget_options.flags given)) (λ name. was_given name (all_rows budget_options.flags given)) ≡ replan_by (value_given given) (is_given given)
 replan_by-rows given = rw (budget_by-rows budget_options.flags given refl refl, seconds_by-rows budget_options.flags given refl, was_given-all_rows budget_options.flags given (codes "spans"), was_given-all_rows budget_options.flags given (codes "notes")) refl
 
-quote_by-rows : (given : List Given) → quote_by (λ name. first_of name (all_rows budget_options.flags given)) (λ name. was_given name (all_rows budget_options.flags given)) ≡ quote_by (value_given given) (is_given given)
-quote_by-rows given = rw (budget_by-rows budget_options.flags given refl refl, seconds_by-rows budget_options.flags given refl, was_given-all_rows budget_options.flags given (codes "spans"), was_given-all_rows budget_options.flags given (codes "notes")) refl
+quote_by-rows : (given : List Given) → quote_by (λ name. first_of name (all_rows quote_options.flags given)) (λ name. was_given name (all_rows quote_options.flags given)) ≡ quote_by (value_given given) (is_given given)
+quote_by-rows given =
+    rw (budget_by-rows quote_options.flags given refl refl, seconds_by-rows quote_options.flags given refl, was_given-all_rows quote_options.flags given (codes "spans"), was_given-all_rows quote_options.flags given (codes "notes"), first_of-all_rows quote_options.flags given (codes "name") refl) refl
 
 -- three numbers, one after the other or at once
 three-numbers : (a b c : Bool) (x y z : ℕ) →
@@ -84,20 +85,20 @@ all-read = (
   (
     alone-reads (codes "check") Check refl refl,
     (
-      options-reads (codes "bound") bound_options (λ given. bound_by (value_given given) (is_given given)) bound_by-rows refl,
+      options-reads (codes "bound") bound_options (λ given. bound_by (value_given given) (is_given given)) bound_by-rows refl tt,
       (
-        options-reads (codes "plan") plan_options (λ given. plan_by (value_given given) (is_given given)) (scaled_by-rows (λ budget scale spans seconds notes. Plan budget scale spans seconds notes)) refl,
+        options-reads (codes "plan") plan_options (λ given. plan_by (value_given given) (is_given given)) (scaled_by-rows (λ budget scale spans seconds notes. Plan budget scale spans seconds notes)) refl tt,
         (
-          options-reads (codes "improve") plan_options (λ given. improve_by (value_given given) (is_given given)) (scaled_by-rows (λ budget scale spans seconds notes. Improve budget scale spans seconds notes)) refl,
+          options-reads (codes "improve") plan_options (λ given. improve_by (value_given given) (is_given given)) (scaled_by-rows (λ budget scale spans seconds notes. Improve budget scale spans seconds notes)) refl tt,
           (
             places-reads (codes "trial") trial_settings (λ n. Trial (n 0) (n 1) (n 2)) trial-gives refl (refl, refl, refl, λ seed. (refl, refl, refl, λ terminals. (refl, refl, refl, λ shipments. refl))),
             (
               places-reads (codes "yard") yard_settings (λ n. Yard (n 0)) yard-gives refl (refl, refl, refl, λ seed. refl),
               (
-                options-reads (codes "fleet") fleet_options (λ given. fleet_by (is_given given)) fleet_by-rows refl,
+                options-reads (codes "fleet") fleet_options (λ given. fleet_by (is_given given)) fleet_by-rows refl tt,
                 (
-                  options-reads (codes "replan") budget_options (λ given. replan_by (value_given given) (is_given given)) replan_by-rows refl,
-                  (options-reads (codes "quote") budget_options (λ given. quote_by (value_given given) (is_given given)) quote_by-rows refl, tt),
+                  options-reads (codes "replan") budget_options (λ given. replan_by (value_given given) (is_given given)) replan_by-rows refl tt,
+                  (options-reads (codes "quote") quote_options (λ given. quote_by (value_given given) (is_given given)) quote_by-rows refl (refl, refl), tt),
                 ),
               ),
             ),

@@ -10,6 +10,7 @@ pub mod OptionRules
 pub mod FlagDefaults
 pub mod OptionWords
 pub mod OptionForms
+pub mod PlainWords
 pub mod PlaceRules
 pub mod PlaceWords
 pub mod PlaceForms

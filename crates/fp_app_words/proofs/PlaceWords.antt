@@ -8,9 +8,9 @@ use Rattle.std.proofs.lemmas.List.Folds.{list_any-append}
 use Rattle.std.proofs.lemmas.Slice.Eq.{bytes_eq-Decides}
 use Rattle.std.proofs.Math.Bool.{and-false, or-false}
 use Rattle.clap.specs.Lexer.{long_of, short_of}
-use Rattle.clap.specs.Walk.{Row, Rule, arg_by_id, arg_by_index, bundle_met, finished, idle, is_pending, settled, to_positional, used, value, walked}
+use Rattle.clap.specs.Walk.{Row, Rule, arg_by_id, arg_by_index, bundle_met, finished, idle, is_pending, settled, used, walked}
 use Rattle.clap.specs.Simple.{Shape}
-use Rattle.clap.specs.Faults.{flags_fault, settle_fault, step_fault, use_fault, walk_fault}
+use Rattle.clap.specs.Faults.{flags_fault, settle_fault, use_fault, walk_fault}
 use Rattle.fp_app_words.specs.Commands.{bare, is_dashes}
 use Rattle.fp_app_words.specs.Options.{Given, is_among, is_option_word, is_given}
 use Rattle.fp_app_words.proofs.BareWords.{leaf}
@@ -18,6 +18,7 @@ use Rattle.fp_app_words.proofs.GivenRows.{rows}
 use Rattle.fp_app_words.proofs.NoDefaults.{defaults_fault-none, fold-with_default}
 use Rattle.fp_app_words.proofs.OptionRules.{use_fault-new, used-new}
 use Rattle.fp_app_words.proofs.PlaceRules.{after, arg_by_long-places, arg_by_short-places, misses, misses-none, misses-some, place, places, places-no_defaults}
+use Rattle.fp_app_words.proofs.PlainWords.{goes}
 use Rattle.fp_app_words.proofs.Walks.{Agrees, agrees-skip, agrees-stop, held, state_at, turn}
 
 -- a subcommand with places, as it is built
@@ -42,13 +43,6 @@ or-shift true b c = refl
 or-shift false true c = refl
 or-shift false false c = refl
 
-is_dashes-plain : (word : List ℕ) → is_option_word word ≡ false → is_dashes word ≡ false
-is_dashes-plain word plain =
-    elim (cases_Bool (is_dashes word)) [
-      | inl t ↦ let g = rw t at plain in cc g
-      | inr f ↦ f
-    ]
-
 module _ (command : List ℕ) (names : List (List ℕ)) where
   abbrev here : Shape
   here = shape command names
@@ -71,28 +65,6 @@ module _ (command : List ℕ) (names : List (List ℕ)) where
       turn here (state_at k found p idle) word ≡ [] → ⊥
   refused k found p word None d dashed l f = refused-short k found p word (short_of word) d dashed l refl f
   refused k found p word (Some (name, v)) d dashed l f = let g = rw (d, l, arg_by_long-places 1 names name) at f in cc g
-
-  -- any other word goes to the place of the number
-  record Goes (k : ℕ) (found : List Row) (p : Option (List ℕ × List (List ℕ))) (word : List ℕ) : Type 0 where
-    fault : turn here (state_at k found p idle) word ≡ step_fault here k (held found p) value
-    next : walked (places 1 names) [] (state_at k found p idle) word ≡ to_positional (places 1 names) (arg_by_index (places 1 names) k) word (state_at k found p idle) (held found p)
-
-  goes-flags : (k : ℕ) (found : List Row) (p : Option (List ℕ × List (List ℕ))) (word flags : List ℕ) (c : Option ℕ) → is_option_word word ≡ false → is_dashes word ≡ false → long_of word ≡ None → short_of word ≡ Some flags → slice_get (chars flags) 0 ≡ c →
-      Goes k found p word
-  unfolding walked flags_fault bundle_met chars
-  goes-flags k found p word [] None plain d l s e = record { fault = rw (d, l, s) refl; next = rw (d, l, s) refl }
-  goes-flags k found p word [] (Some y) plain d l s e = cc e
-  goes-flags k found p word (x ∷ xs) None plain d l s e = record { fault = rw (d, l, s, e) refl; next = rw (d, l, s, e) refl }
-  goes-flags k found p word (x ∷ xs) (Some y) plain d l s e = let g = rw (d, l, s, e) at plain in cc g
-
-  goes-short : (k : ℕ) (found : List Row) (p : Option (List ℕ × List (List ℕ))) (word : List ℕ) (t : Option (List ℕ)) → is_option_word word ≡ false → is_dashes word ≡ false → long_of word ≡ None → short_of word ≡ t → Goes k found p word
-  unfolding walked
-  goes-short k found p word None plain d l s = record { fault = rw (d, l, s) refl; next = rw (d, l, s) refl }
-  goes-short k found p word (Some flags) plain d l s = goes-flags k found p word flags _ plain d l s refl
-
-  goes : (k : ℕ) (found : List Row) (p : Option (List ℕ × List (List ℕ))) (word : List ℕ) (t : Option (List ℕ × Option (List ℕ))) → is_option_word word ≡ false → long_of word ≡ t → Goes k found p word
-  goes k found p word None plain l = goes-short k found p word (short_of word) plain (is_dashes-plain word plain) l refl
-  goes k found p word (Some v) plain l = let g = rw (is_dashes-plain word plain, l) at plain in cc g
 
   -- what is given and what is to come are the names
   abbrev Covers : List Given → List (List ℕ) → Type 0
@@ -133,17 +105,17 @@ module _ (command : List ℕ) (names : List (List ℕ)) where
   strays : (k : ℕ) (found : List Row) (p : Option (List ℕ × List (List ℕ))) (given : List Given) (word : List ℕ) (words : List (List ℕ)) → Before k found p given [] → is_option_word word ≡ false → Agrees here None (state_at k found p idle) (word ∷ words)
   strays k found p given word words b plain =
       agrees-stop here (state_at k found p idle) word words (λ f.
-      let none = sym (goes k found p word (long_of word) plain refl).fault ∙ f in
+      let none = sym (goes command (places 1 names) k found p word (long_of word) plain refl).fault ∙ f in
       let g = rw b.stands at none in
       cc g)
 
   -- a word in its place, and what comes after it
   module _ (k : ℕ) (found : List Row) (p : Option (List ℕ × List (List ℕ))) (given : List Given) (name word : List ℕ) (rest : List (List ℕ)) (b : Before k found p given (name ∷ rest)) where
     fits : is_option_word word ≡ false → turn here (state_at k found p idle) word ≡ []
-    fits plain = (goes k found p word (long_of word) plain refl).fault ∙ rw (b.stands.0, and-false (is_pending (place k name) p), b.passes) refl
+    fits plain = (goes command (places 1 names) k found p word (long_of word) plain refl).fault ∙ rw (b.stands.0, and-false (is_pending (place k name) p), b.passes) refl
 
     moves : is_option_word word ≡ false → walked (places 1 names) [] (state_at k found p idle) word ≡ state_at (after k) (rows given) (Some (name, word ∷ [])) idle
-    moves plain = (goes k found p word (long_of word) plain refl).next ∙ rw (b.stands.0, and-false (is_pending (place k name) p), b.finds) refl
+    moves plain = (goes command (places 1 names) k found p word (long_of word) plain refl).next ∙ rw (b.stands.0, and-false (is_pending (place k name) p), b.finds) refl
 
     next-before : Before (after k) (rows given) (Some (name, word ∷ [])) (given ++ (name, word) ∷ []) rest
     next-before =

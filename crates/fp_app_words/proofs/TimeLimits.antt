@@ -12,7 +12,7 @@ use Rattle.fp_app_words.specs.declared.orders.TheConstants.{MOST_SECONDS}
 use Rattle.fp_app_words.specs.declared.settings.TheConstants.{LONGEST_NUMBER}
 use Rattle.fp_app_words.specs.Options.{Given, by_options, is_given, options_of, value_given}
 use Rattle.fp_app_words.specs.Places.{are_numbers, by_places}
-use Rattle.fp_app_words.specs.Settings.{IsTimeLimit, Options, Setting, begins_with_zero, bound_by, bound_options, budget_by, budget_options, fleet_by, fleet_options, improve_by, is_number_between, number_if, option_number, plan_by, plan_options, quote_by, replan_by, scale_setting, scaled_by, seconds_by, trial_settings, yard_settings}
+use Rattle.fp_app_words.specs.Settings.{IsTimeLimit, Options, Setting, begins_with_zero, bound_by, bound_options, budget_by, budget_options, fleet_by, fleet_options, improve_by, is_number_between, number_if, option_number, plan_by, plan_options, quote_by, quote_options, replan_by, scale_setting, scaled_by, seconds_by, trial_settings, yard_settings}
 use Rattle.fp_app_words.specs.TimeLimits.{TimeLimitsHold, halved, seconds_of}
 use Rattle.fp_app_words.specs.Words.{Form, alone, forms, order_by}
 
@@ -74,8 +74,8 @@ module _ (text : List ℕ → Option (List ℕ)) (given : List ℕ → Bool) whe
 
   quote-holds : Holds (quote_by text given)
   quote-holds =
-      then-holds (λ (budget : Budget). option_map (λ seconds. Quote budget (given (codes "spans")) seconds (given (codes "notes"))) (seconds_by text))
-      (λ budget. limit-holds (λ seconds. Quote budget (given (codes "spans")) seconds (given (codes "notes"))) halved-holds (text (codes "seconds"))) (budget_by text)
+      then-holds (λ (budget : Budget). option_map (λ seconds. Quote budget (given (codes "spans")) seconds (given (codes "notes")) (text (codes "name"))) (seconds_by text))
+      (λ budget. limit-holds (λ seconds. Quote budget (given (codes "spans")) seconds (given (codes "notes")) (text (codes "name"))) halved-holds (text (codes "seconds"))) (budget_by text)
 
 -- a form's orders hold
 abbrev FormHolds : Form → Type 0
@@ -128,7 +128,7 @@ all-hold = (
                 (
                   options-hold budget_options (λ given. replan_by (value_given given) (is_given given)) (λ given. replan-holds (value_given given) (is_given given)),
                   (
-                    options-hold budget_options (λ given. quote_by (value_given given) (is_given given)) (λ given. quote-holds (value_given given) (is_given given)),
+                    options-hold quote_options (λ given. quote_by (value_given given) (is_given given)) (λ given. quote-holds (value_given given) (is_given given)),
                     tt,
                   ),
                 ),

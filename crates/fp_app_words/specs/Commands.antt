@@ -11,7 +11,7 @@ use Rattle.clap.specs.declared.parser.matches.ValueSource.{ValueSource}
 use Rattle.clap.specs.declared.parser.matches.ValueSource.TheVariants.{CommandLine, DefaultValue}
 use Rattle.fp_app_words.specs.declared.orders.Order.{Order}
 use Rattle.fp_app_words.specs.declared.orders.Order.TheVariants.{Direct, Check}
-use Rattle.fp_app_words.specs.Settings.{Options, bound_by, bound_options, budget_options, fleet_by, fleet_options, improve_by, names_of, plan_by, plan_options, quote_by, replan_by, trial_by, trial_settings, yard_by, yard_settings}
+use Rattle.fp_app_words.specs.Settings.{Options, bound_by, bound_options, budget_options, fleet_by, fleet_options, improve_by, names_of, plan_by, plan_options, quote_by, quote_options, replan_by, trial_by, trial_settings, yard_by, yard_settings}
 
 -- the word is `--`
 abbrev pub is_dashes : List ℕ → Bool
@@ -29,6 +29,15 @@ option_rule name = record (new_rule name) { long = Some name; action = Some Set 
 abbrev pub flag_rule : List ℕ → Rule
 flag_rule name = record (new_rule name) { long = Some name; action = Some SetTrue }
 
+-- a place that a word may fill
+abbrev pub free_place_rule : List ℕ → Rule
+free_place_rule name = record (new_rule name) { action = Some Set }
+
+-- where there is one
+abbrev pub free_places : Option (List ℕ) → List Rule
+free_places None = []
+free_places (Some name) = free_place_rule name ∷ []
+
 -- a place that a word must fill
 abbrev pub place_rule : List ℕ → Rule
 place_rule name = record (new_rule name) { required = true; action = Some Set }
@@ -39,7 +48,7 @@ IsLocal command = (out-Command command).has_globals ≡ false
 
 -- a subcommand with these options
 abbrev pub with_options : List ℕ → Options → Shape
-with_options command options = record (bare command) { rules = map option_rule (names_of options.settings) ++ map flag_rule options.flags }
+with_options command options = record (bare command) { rules = free_places options.place ++ (map option_rule (names_of options.settings) ++ map flag_rule options.flags) }
 
 -- a subcommand with places of these names, in this order
 abbrev pub with_places : List ℕ → List (List ℕ) → Shape
@@ -72,7 +81,7 @@ app = above (
     ∷ with_places (codes "yard") (names_of yard_settings)
     ∷ with_options (codes "fleet") fleet_options
     ∷ with_options (codes "replan") budget_options
-    ∷ with_options (codes "quote") budget_options
+    ∷ with_options (codes "quote") quote_options
     ∷ [])
 
 -- a value came from the words, and not from a default

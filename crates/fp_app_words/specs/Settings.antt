@@ -43,10 +43,12 @@ shipments_setting = record { name = codes "shipments"; least = 0; most = MOST_SH
 abbrev pub names_of : List Setting → List (List ℕ)
 names_of settings = map (λ (s : Setting). s.name) settings
 
--- The options of a command: those with a value, and the names of its flags, which have none.
+-- The options of a command: those with a value, the names of its flags, which have none, and the name of
+-- a place that a word which is no option may fill, where there is one.
 pub record Options : Type 0 where
   pub settings : List Setting
   pub flags : List (List ℕ)
+  pub place : Option (List ℕ)
 
 -- the numbers of a budget and of seconds
 abbrev pub budget_settings : List Setting
@@ -58,17 +60,21 @@ search_flags = codes "spans" ∷ codes "notes" ∷ []
 
 -- the options of `bound`, those of a command with a budget, and those of `plan` and `improve`
 abbrev pub bound_options : Options
-bound_options = record { settings = seconds_setting ∷ []; flags = codes "spans" ∷ [] }
+bound_options = record { settings = seconds_setting ∷ []; flags = codes "spans" ∷ []; place = None }
 
 abbrev pub budget_options : Options
-budget_options = record { settings = budget_settings; flags = search_flags }
+budget_options = record { settings = budget_settings; flags = search_flags; place = None }
 
 abbrev pub plan_options : Options
-plan_options = record { settings = budget_settings ++ scale_setting ∷ []; flags = search_flags }
+plan_options = record { settings = budget_settings ++ scale_setting ∷ []; flags = search_flags; place = None }
+
+-- those of `quote`: the same, and a place for the name of a shipment
+abbrev pub quote_options : Options
+quote_options = record { settings = budget_settings; flags = search_flags; place = Some (codes "name") }
 
 -- the flag of `fleet`
 abbrev pub fleet_options : Options
-fleet_options = record { settings = []; flags = codes "trucks" ∷ [] }
+fleet_options = record { settings = []; flags = codes "trucks" ∷ []; place = None }
 
 -- the places of `trial` and of `yard`
 abbrev pub trial_settings : List Setting
@@ -147,8 +153,12 @@ improve_by text is_given = scaled_by (λ budget scale spans seconds notes. Impro
 abbrev pub replan_by : (List ℕ → Option (List ℕ)) → (List ℕ → Bool) → Option Order
 replan_by text is_given = option_and_then (λ budget. option_map (λ seconds. Replan budget (is_given (codes "spans")) seconds (is_given (codes "notes"))) (seconds_by text)) (budget_by text)
 
+-- `quote` with a word in its place or none
+abbrev pub quote_of : (List ℕ → Option (List ℕ)) → (List ℕ → Bool) → (name : Option (List ℕ)) → Option Order
+quote_of text is_given name = option_and_then (λ budget. option_map (λ seconds. Quote budget (is_given (codes "spans")) seconds (is_given (codes "notes")) name) (seconds_by text)) (budget_by text)
+
 abbrev pub quote_by : (List ℕ → Option (List ℕ)) → (List ℕ → Bool) → Option Order
-quote_by text is_given = option_and_then (λ budget. option_map (λ seconds. Quote budget (is_given (codes "spans")) seconds (is_given (codes "notes"))) (seconds_by text)) (budget_by text)
+quote_by text is_given = quote_of text is_given (text (codes "name"))
 
 -- a limit of time, if there is one, is within its range
 abbrev pub IsTimeLimit : Option ℕ → Type 0
@@ -162,5 +172,5 @@ IsWithinLimits (Improve budget scale spans seconds notes) = IsBudget budget × (
 IsWithinLimits (Trial seed terminals shipments) = (seed ≤ GREATEST_SEED) × (FEWEST_TERMINALS ≤ terminals) × (terminals ≤ MOST_TERMINALS) × (shipments ≤ MOST_SHIPMENTS)
 IsWithinLimits (Yard seed) = seed ≤ GREATEST_SEED
 IsWithinLimits (Replan budget spans seconds notes) = IsBudget budget × IsTimeLimit seconds
-IsWithinLimits (Quote budget spans seconds notes) = IsBudget budget × IsTimeLimit seconds
+IsWithinLimits (Quote budget spans seconds notes name) = IsBudget budget × IsTimeLimit seconds
 IsWithinLimits _ = Unit {0}

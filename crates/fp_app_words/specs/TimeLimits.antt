@@ -19,7 +19,7 @@ seconds_of (Some (Bound spans seconds)) = seconds
 seconds_of (Some (Plan budget scale spans seconds notes)) = seconds
 seconds_of (Some (Improve budget scale spans seconds notes)) = seconds
 seconds_of (Some (Replan budget spans seconds notes)) = seconds
-seconds_of (Some (Quote budget spans seconds notes)) = halved seconds
+seconds_of (Some (Quote budget spans seconds notes name)) = halved seconds
 seconds_of (Some _) = None
 
 -- whatever the words, a limit of time is within its range

@@ -7,7 +7,7 @@ use Rattle.fp_app_words.specs.declared.orders.Order.{Order}
 use Rattle.fp_app_words.specs.declared.orders.Order.TheVariants.{Direct, Check, Trial, Yard}
 use Rattle.fp_app_words.specs.Options.{by_options, is_given, value_given}
 use Rattle.fp_app_words.specs.Places.{by_places}
-use Rattle.fp_app_words.specs.Settings.{bound_by, bound_options, budget_options, fleet_by, fleet_options, improve_by, plan_by, plan_options, quote_by, replan_by, trial_settings, yard_settings}
+use Rattle.fp_app_words.specs.Settings.{bound_by, bound_options, budget_options, fleet_by, fleet_options, improve_by, plan_by, plan_options, quote_by, quote_options, replan_by, trial_settings, yard_settings}
 use Rattle.fp_app_words.specs.declared.orders.WordFault.{WordFault}
 use Rattle.fp_app_words.specs.declared.orders.WordFault.TheVariants.{BadWords, NoMemory}
 
@@ -38,7 +38,7 @@ forms =
     ∷ record { name = codes "yard"; order = by_places yard_settings (λ n. Yard (n 0)) }
     ∷ record { name = codes "fleet"; order = by_options fleet_options (λ given. fleet_by (is_given given)) }
     ∷ record { name = codes "replan"; order = by_options budget_options (λ given. replan_by (value_given given) (is_given given)) }
-    ∷ record { name = codes "quote"; order = by_options budget_options (λ given. quote_by (value_given given) (is_given given)) }
+    ∷ record { name = codes "quote"; order = by_options quote_options (λ given. quote_by (value_given given) (is_given given)) }
     ∷ []
 
 -- what a first word and the words after it order by the first of these forms that has this name

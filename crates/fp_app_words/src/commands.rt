@@ -1,8 +1,8 @@
 //! The command line as clap reads it: one command with a subcommand for each form.
-ghost use Rattle.std.specs.Prelude.{◌≡◌, [], codes, false, IfOk, IfSome, option_and_then};
+ghost use Rattle.std.specs.Prelude.{◌≡◌, [], codes, false, IfOk, IfSome, None, option_and_then};
 ghost use Rattle.clap.specs.Words.{app_of, found_of, new_app, rows_of, rule_of, subcommand_rows_of};
-ghost use Rattle.fp_app_words.specs.Commands.{IsLocal, app, entered_order, flag_rule, option_rule, place_rule, with_options, with_places};
-ghost use Rattle.fp_app_words.specs.Settings.{IsWithinLimits, bound_options, budget_options, budget_settings, fleet_options, names_of, plan_options, trial_settings, yard_settings};
+ghost use Rattle.fp_app_words.specs.Commands.{IsLocal, app, entered_order, flag_rule, free_place_rule, option_rule, place_rule, with_options, with_places};
+ghost use Rattle.fp_app_words.specs.Settings.{IsWithinLimits, bound_options, budget_options, budget_settings, fleet_options, names_of, plan_options, quote_options, trial_settings, yard_settings};
 
 use crate::settings::{
     bound_by, fleet_by, improve_by, plan_by, quote_by, replan_by, trial_by, yard_by,
@@ -35,6 +35,14 @@ fn place<'a>(alloc: Global, name: &'a str) -> Arg<'a>
     Arg::new(alloc, name).required(true).action(ArgAction::Set)
 }
 
+// A place that a word may fill.
+fn free_place<'a>(alloc: Global, name: &'a str) -> Arg<'a>
+    ensures rule { rule_of result ≡ free_place_rule name.entry.now }
+    ensures local { result.global ≡ false }
+{
+    Arg::new(alloc, name).action(ArgAction::Set)
+}
+
 // The subcommand `bound`, with its options.
 fn bound_command<'a>(alloc: Global) -> Result<Command<'a>, NoMemory>
     ensures shape { IfOk result (λ command. (app_of command).top ≡ with_options (codes "bound") bound_options) }
@@ -49,7 +57,7 @@ fn bound_command<'a>(alloc: Global) -> Result<Command<'a>, NoMemory>
 // A subcommand with the numbers of a budget and of seconds, and no flag yet: those come after all
 // options with a value.
 fn budget_command<'a>(alloc: Global, name: &'a str) -> Result<Command<'a>, NoMemory>
-    ensures shape { IfOk result (λ command. app_of command ≡ record (new_app name.entry.now) { top = with_options name.entry.now (record { settings = budget_settings; flags = [] }) }) }
+    ensures shape { IfOk result (λ command. app_of command ≡ record (new_app name.entry.now) { top = with_options name.entry.now (record { settings = budget_settings; flags = []; place = None }) }) }
     ensures local { IfOk result IsLocal }
 {
     let command = Command::new(alloc, name)
@@ -59,12 +67,27 @@ fn budget_command<'a>(alloc: Global, name: &'a str) -> Result<Command<'a>, NoMem
     Ok(command)
 }
 
-// A subcommand with the options of a budget: `replan` or `quote`.
-fn search_command<'a>(alloc: Global, name: &'a str) -> Result<Command<'a>, NoMemory>
-    ensures shape { IfOk result (λ command. (app_of command).top ≡ with_options name.entry.now budget_options) }
+// The subcommand `replan`, with the options of a budget.
+fn replan_command<'a>(alloc: Global) -> Result<Command<'a>, NoMemory>
+    ensures shape { IfOk result (λ command. (app_of command).top ≡ with_options (codes "replan") budget_options) }
     ensures local { IfOk result IsLocal }
 {
-    let command = budget_command(alloc, name)?
+    let command = budget_command(alloc, "replan")?
+        .arg(flag(alloc, "spans"))?
+        .arg(flag(alloc, "notes"))?;
+    Ok(command)
+}
+
+// The subcommand `quote`, with the same and the place for a name, which comes first.
+fn quote_command<'a>(alloc: Global) -> Result<Command<'a>, NoMemory>
+    ensures shape { IfOk result (λ command. (app_of command).top ≡ with_options (codes "quote") quote_options) }
+    ensures local { IfOk result IsLocal }
+{
+    let command = Command::new(alloc, "quote")
+        .arg(free_place(alloc, "name"))?
+        .arg(option(alloc, "rounds"))?
+        .arg(option(alloc, "branches"))?
+        .arg(option(alloc, "seconds"))?
         .arg(flag(alloc, "spans"))?
         .arg(flag(alloc, "notes"))?;
     Ok(command)
@@ -130,48 +153,49 @@ pub fn command<'a>(alloc: Global) -> Result<Command<'a>, NoMemory>
         .subcommand(trial_command(alloc)?)?
         .subcommand(yard_command(alloc)?)?
         .subcommand(fleet_command(alloc)?)?
-        .subcommand(search_command(alloc, "replan")?)?
-        .subcommand(search_command(alloc, "quote")?)?;
+        .subcommand(replan_command(alloc)?)?
+        .subcommand(quote_command(alloc)?)?;
     Ok(command)
 }
 
-// What the subcommand of this name orders, by what a parse found in it.
-fn order_by(name: &str, matches: &ArgMatches) -> Option<Order>
-    ensures order { result ≡ entered_order (name.now, rows_of (found_of matches.now)) }
-    ensures range { IfSome result IsWithinLimits }
+// What the subcommand of this name orders, by what a parse found in it. `NoMemory` only where no memory is
+// found.
+fn order_by(alloc: Global, name: &str, matches: &ArgMatches) -> Result<Option<Order>, NoMemory>
+    ensures order { IfOk result (λ order. order ≡ entered_order (name.now, rows_of (found_of matches.now))) }
+    ensures range { IfOk result (λ order. IfSome order IsWithinLimits) }
 {
     if name == "direct" {
-        Some(Order::Direct)
+        Ok(Some(Order::Direct))
     } else if name == "check" {
-        Some(Order::Check)
+        Ok(Some(Order::Check))
     } else if name == "bound" {
-        bound_by(matches)
+        Ok(bound_by(matches))
     } else if name == "plan" {
-        plan_by(matches)
+        Ok(plan_by(matches))
     } else if name == "improve" {
-        improve_by(matches)
+        Ok(improve_by(matches))
     } else if name == "trial" {
-        trial_by(matches)
+        Ok(trial_by(matches))
     } else if name == "yard" {
-        yard_by(matches)
+        Ok(yard_by(matches))
     } else if name == "fleet" {
-        Some(fleet_by(matches))
+        Ok(Some(fleet_by(matches)))
     } else if name == "replan" {
-        replan_by(matches)
+        Ok(replan_by(matches))
     } else if name == "quote" {
-        quote_by(matches)
+        quote_by(alloc, matches)
     } else {
-        None
+        Ok(None)
     }
 }
 
-/// What the subcommand orders that a parse entered.
-pub fn order_in(matches: &ArgMatches) -> Option<Order>
-    ensures order { result ≡ option_and_then entered_order (subcommand_rows_of matches.now) }
-    ensures range { IfSome result IsWithinLimits }
+/// What the subcommand orders that a parse entered. `NoMemory` only where no memory is found.
+pub fn order_in(alloc: Global, matches: &ArgMatches) -> Result<Option<Order>, NoMemory>
+    ensures order { IfOk result (λ order. order ≡ option_and_then entered_order (subcommand_rows_of matches.now)) }
+    ensures range { IfOk result (λ order. IfSome order IsWithinLimits) }
 {
     match matches.subcommand() {
-        Some((name, entered)) => order_by(name, entered),
-        None => None,
+        Some((name, entered)) => order_by(alloc, name, entered),
+        None => Ok(None),
     }
 }

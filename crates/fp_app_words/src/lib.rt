@@ -8,7 +8,7 @@ mod reading;
 mod settings;
 
 pub use laws::{time_limits_hold, word_limits_are_numbers};
-pub use orders::{FEWEST_TERMINALS, GREATEST_SEED, MOST_SECONDS, Order, WordFault};
+pub use orders::{FEWEST_TERMINALS, GREATEST_SEED, MOST_SECONDS, NameWord, Order, WordFault};
 pub use reading::read_words;
 pub use settings::{LONGEST_NUMBER, USUAL_BRANCHES, USUAL_ROUNDS};
 

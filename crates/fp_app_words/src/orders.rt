@@ -1,11 +1,48 @@
 //! What words order, and why they order nothing.
+ghost use Rattle.std.specs.Prelude.{◌≡◌, IfOk};
+
+use crate::NoMemory;
 use fp_session_history::Budget;
+use std::alloc::Global;
+use std::marker::Model;
 use thiserror::Error;
+
+/// A word for a name, whatever its bytes. Contracts see it as its bytes.
+#[derive(Drop)]
+pub struct NameWord {
+    bytes: Vec<u8>,
+}
+
+impl Model for NameWord {
+    ghost use Rattle.std.specs.Prelude.{ℕ, List};
+
+    ghost Value = { List ℕ };
+
+    ghost view = { λ n. n.bytes.items };
+}
+
+impl NameWord {
+    /// A word of these bytes. `NoMemory` only where no memory is found.
+    pub fn new(alloc: Global, bytes: &[u8]) -> Result<NameWord, NoMemory>
+        ensures { IfOk result (λ word. word ≡ bytes.now) }
+    {
+        Ok(NameWord {
+            bytes: bytes.to_vec(alloc)?,
+        })
+    }
+
+    /// The bytes of the word.
+    pub fn bytes(&self) -> &[u8]
+        ensures { result.now ≡ self.now }
+    {
+        &self.bytes
+    }
+}
 
 /// A command, with the numbers and flags that its words give. `spans` says that its search seeks
 /// prices of runs of classes too, `seconds`, 1 to [`MOST_SECONDS`], when it ends at the latest, and
 /// `notes` that it is told of while it goes on.
-#[derive(Clone, Copy, Debug, PartialEq, Eq)]
+#[derive(Drop)]
 pub enum Order {
     /// Each shipment's fastest timetable.
     Direct,
@@ -56,12 +93,14 @@ pub enum Order {
         seconds: Option<u32>,
         notes: bool,
     },
-    /// What the last shipment adds to the cost, by two searches with this budget each.
+    /// What the shipment of a name adds to the cost, or the last one where none is named, by two searches
+    /// with this budget each.
     Quote {
         budget: Budget,
         spans: bool,
         seconds: Option<u32>,
         notes: bool,
+        name: Option<NameWord>,
     },
 }
 

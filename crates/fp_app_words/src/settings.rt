@@ -1,12 +1,13 @@
 //! What words give a command: the values of options, whether a flag is among them, and the words in
 //! places.
-ghost use Rattle.std.specs.Prelude.{◌≡◌, ◌≤◌, IfSome, Some, option_and_then};
+ghost use Rattle.std.specs.Prelude.{◌≡◌, ◌≤◌, IfOk, IfSome, Some, option_and_then};
 ghost use Rattle.clap.specs.Words.{first_of, found_of, rows_of};
 ghost use Rattle.fp_session_history.specs.Budgets.{IsBudget};
 ghost use Rattle.fp_app_words.specs.Commands.{is_from_words, was_given};
-ghost use Rattle.fp_app_words.specs.Settings.{IsTimeLimit, IsWithinLimits, begins_with_zero, bound_by, budget_by, fleet_by, improve_by, number_if, number_of, number_or, plan_by, quote_by, replan_by, seconds_by, trial_by, yard_by};
+ghost use Rattle.fp_app_words.specs.Settings.{IsTimeLimit, IsWithinLimits, begins_with_zero, bound_by, budget_by, fleet_by, improve_by, number_if, number_of, number_or, plan_by, quote_by, quote_of, replan_by, seconds_by, trial_by, yard_by};
 
-use crate::orders::{FEWEST_TERMINALS, GREATEST_SEED, MOST_SECONDS, Order};
+use crate::NoMemory;
+use crate::orders::{FEWEST_TERMINALS, GREATEST_SEED, MOST_SECONDS, NameWord, Order};
 use clap::ArgMatches;
 use clap::parser::ValueSource;
 use fp_model::SCALE;
@@ -14,6 +15,7 @@ use fp_model::limits::{GREATEST_SCALE, LAST_ROUND, MOST_SHIPMENTS, MOST_TERMINAL
 use fp_records_fields::digits::{is_number, short_between};
 use fp_session_history::Budget;
 use fp_tree::MOST_SPLITS;
+use std::alloc::Global;
 
 /// The rounds of a search for which no number was given.
 pub const USUAL_ROUNDS: u32 = 400;
@@ -198,9 +200,20 @@ pub fn replan_by(matches: &ArgMatches) -> Option<Order>
     })
 }
 
-/// The same for `quote`.
-pub fn quote_by(matches: &ArgMatches) -> Option<Order>
-    ensures order { result ≡ quote_by (λ name. first_of name (rows_of (found_of matches.now))) (λ name. was_given name (rows_of (found_of matches.now))) }
+// The word in the place of this name, where one was given. `NoMemory` only where no memory is found.
+fn word_in(alloc: Global, matches: &ArgMatches, name: &str) -> Result<Option<NameWord>, NoMemory>
+    ensures { IfOk result (λ word. word ≡ first_of name.now (rows_of (found_of matches.now))) }
+{
+    match matches.get_str(name) {
+        Some(text) => Ok(Some(NameWord::new(alloc, text.as_bytes())?)),
+        None => Ok(None),
+    }
+}
+
+// What `quote` orders with this word in its place; `None` exactly where the text of an option is no number
+// in its range.
+fn quote_with(matches: &ArgMatches, name: Option<NameWord>) -> Option<Order>
+    ensures order { result ≡ quote_of (λ name. first_of name (rows_of (found_of matches.now))) (λ name. was_given name (rows_of (found_of matches.now))) name }
     ensures range { IfSome result IsWithinLimits }
 {
     let budget = budget_by(matches)?;
@@ -212,7 +225,17 @@ pub fn quote_by(matches: &ArgMatches) -> Option<Order>
         spans,
         seconds,
         notes,
+        name,
     })
+}
+
+/// The same for `quote`, with the word in its place. `NoMemory` only where no memory is found.
+pub fn quote_by(alloc: Global, matches: &ArgMatches) -> Result<Option<Order>, NoMemory>
+    ensures order { IfOk result (λ order. order ≡ quote_by (λ name. first_of name (rows_of (found_of matches.now))) (λ name. was_given name (rows_of (found_of matches.now)))) }
+    ensures range { IfOk result (λ order. IfSome order IsWithinLimits) }
+{
+    let name = word_in(alloc, matches, "name")?;
+    Ok(quote_with(matches, name))
 }
 
 /// What the flag of `fleet` orders.

@@ -10,6 +10,7 @@ mod labels;
 mod longestarcs;
 mod model;
 mod present;
+mod quotes;
 mod reader;
 mod records;
 mod rows;

@@ -4,6 +4,7 @@ mod bounds;
 mod certificate_faults;
 mod certificate_fronts;
 mod certificates;
+mod days;
 mod deadlines;
 mod directs;
 mod dispatch;

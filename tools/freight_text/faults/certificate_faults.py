@@ -62,7 +62,7 @@ class CertificateReading:
     def faults(self, record):
         """The faults of a line after those before it, in the order of the codes' table."""
         if self.has_ended():
-            yield self.after_end_fault(record)
+            yield after_end_fault(record)
             return
         words = words_of_line(record)
         form = LINES.get(",".join(words))
@@ -108,12 +108,6 @@ class CertificateReading:
             names = f"none of {', '.join(ANSWERS)}" if record.kind == "answer" else "neither arc nor time"
             words = f"the second field is {second}: {names}"
         return Fault(21, words, hint, hint or None)
-
-    def after_end_fault(self, record):
-        hint = "an answer is checked alone: take the second one out" if record.kind == "answer" else ""
-        if record.kind in INSTANCE:
-            hint = certificate_kind_hint(record)
-        return Fault(27, "the record stands after the certificate's end", hint, "after the end")
 
     def order_words(self, record):
         """Why a line can't stand here; empty where it can. A certificate begins where an answer is."""
@@ -162,6 +156,14 @@ class CertificateReading:
             yield Fault(28, f"there is no table {numbers['KIND']}", cause=("table", numbers["KIND"]))
         if is_too_large(self.total, numbers.get("N", 0)):
             yield Fault(28, "the scale doesn't fit: the weight of the instance at it is above 2^127 - 1")
+
+
+def after_end_fault(record):
+    """The fault of a record after `end`."""
+    hint = "an answer is checked alone: take the second one out" if record.kind == "answer" else ""
+    if record.kind in INSTANCE:
+        hint = certificate_kind_hint(record)
+    return Fault(27, "the record stands after the certificate's end", hint, "after the end")
 
 
 def missing_end_fault(records, certificate):

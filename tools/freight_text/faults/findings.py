@@ -7,7 +7,10 @@ NAMES = {
     9: "ArcTaken", 10: "DueBeforeRelease", 11: "TooMany", 12: "TooLarge",
     21: "Kind", 22: "Fields", 23: "Digits", 24: "Order", 25: "Name", 26: "MissingEnd", 27: "AfterEnd", 28: "Range",
     31: "KeptKind", 32: "KeptFields", 33: "KeptDigits", 34: "KeptName", 35: "KeptRange", 36: "NotPrefix", 37: "KeptMany", 38: "NoShipment",
+    39: "ArriveBeforeDepart",
 }  # fmt: skip
+# The fault 38 of records that are told after an instance; NoShipment is that of a quote.
+PRESENT_TWICE = "PresentTwice"
 MOST_LISTED = 50
 # Where there are more than so many besides, the rest isn't counted.
 MOST_COUNTED = 10_000
@@ -23,13 +26,15 @@ class Fault:
     """What is wrong with a record.
 
     The words say which field it is, what stands there and what is wrong; the hint says what is known of the cause and what
-    to do, and is empty where nothing is. Of faults with one cause all but the first follow from it; None is no cause.
+    to do, and is empty where nothing is. Of faults with one cause all but the first follow from it; None is no cause. The
+    name is given where it isn't the usual one of the code.
     """
 
     code: int
     words: str
     hint: str = ""
     cause: object = None
+    name: str = ""
 
 
 @dataclass(frozen=True)
@@ -44,7 +49,7 @@ class Finding:
         """One line: where the fault is, what is wrong, its code and name, and what to do."""
         place = f"line {self.line} (record {self.ordinal}), " if self.line else ""
         hint = f"; {self.fault.hint}" if self.fault.hint else ""
-        return f"{place}{self.fault.words} (code {self.fault.code}, {NAMES[self.fault.code]}){hint}"
+        return f"{place}{self.fault.words} (code {self.fault.code}, {self.fault.name or NAMES[self.fault.code]}){hint}"
 
 
 @dataclass

@@ -1,5 +1,6 @@
 """The faults of an instance's records, codes 1 to 12."""
 
+import copy
 import re
 from collections import Counter
 from dataclasses import dataclass
@@ -34,13 +35,20 @@ class InstanceReading:
         """The command reads the records, which are all those of the instance; the data is that of the whole input."""
         self.command = command
         self.terminals, self.arcs, self.shipments = {}, {}, {}
-        self.counts, self.strays, self.names = Counter(), set(), NearNames()
+        self.counts, self.strays, self.names, self.delivered = Counter(), set(), NearNames(), frozenset()
         self.contents = contents_hint(data, records, FIELDS)
         self.terminal_lines = {it.fields[1]: it.line for it in reversed(records) if it.kind == "terminal" and len(it.fields) > 1}
 
     def is_empty(self):
         """Whether no records came before."""
         return not self.counts and not self.strays
+
+    def left(self, shipments):
+        """The same with these shipments alone, where the others are delivered."""
+        draft = copy.copy(self)
+        draft.shipments = {name: it for name, it in self.shipments.items() if name in shipments}
+        draft.names, draft.delivered = NearNames(), self.shipments.keys() - draft.shipments.keys()
+        return draft
 
     def kind_of(self, record):
         """The kind of a record, or the one that it seems to mean, or None."""

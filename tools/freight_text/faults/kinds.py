@@ -1,6 +1,6 @@
 """What a record seems to be whose first field is none of the kinds."""
 
-from ..instances import FIELDS
+from ..instances import FIELDS, TOLD
 from .contents import is_heading
 from .near_names import near_kind
 from .spaces import odd_space_hint
@@ -16,11 +16,16 @@ COMMENTS = ("#", "//", "--")
 ORDER = "hand on the instance first and then its answer, as in: cat day.csv answer.csv | ./freight check"
 KEPT_ORDER = "the instance's records stand before all kept legs: move them up"
 CHECKERS = ("check", "yard", "fleet", "improve")
-# The first field of what may follow the instance.
-TAILS = {**dict.fromkeys(CHECKERS, ("answer",)), "replan": ("kept",)}
-# First fields of what commands print that is no answer, and second fields of answers that aren't checked.
+# The first fields of what may follow an instance.
+TAILS = {**dict.fromkeys(CHECKERS, ("answer",)), "replan": TOLD, "check": (*TOLD, "answer")}
+NAMED = {"kept": "kept legs", "now": "present"}
+NO_ANSWER = 'an answer begins with its line "answer": none stands before this one'
+# First fields of what commands print that is no answer, and what is said of answers that a certificate doesn't begin with.
 PRINTED = ("refused", "rejected", "accepted")
-UNCHECKED = ("bound", "stuck")
+UNCHECKED = {
+    "bound": "an answer bound shows nothing that can be checked",
+    "stuck": "an answer stuck is checked after the kept or now records that replan was given: hand these on between the instance and the answer",
+}
 
 
 def separator_hint(text):
@@ -47,14 +52,14 @@ def writing_hint(record):
 
 def command_hint(record, command):
     """What is said of a record of an answer or of kept legs, where the command reads an instance."""
-    if record.kind == "kept":
-        return f"{command} reads no kept legs: ./freight replan does"
+    if record.kind in TOLD:
+        return f"{command} reads no {NAMED[record.kind]}: ./freight replan and check do"
     if record.kind in PRINTED:
         return "a command has printed this, and it's no record: take its lines out"
     if record.kind not in CERTIFICATE:
         return ""
     if command in CHECKERS:
-        return 'an answer begins with its line "answer": none stands before this one'
+        return NO_ANSWER
     if record.ordinal == 1:
         return f"this is an answer: {command} reads an instance, from which it makes one"
     return f"{command} reads an instance alone: an answer after it is for ./freight check, yard, fleet or improve"
@@ -82,17 +87,17 @@ def certificate_kind_hint(record):
     """What a record of no kind seems to be where an answer is read."""
     if record.kind in INSTANCE:
         return f"the instance's records stand after the answer: {ORDER}"
-    if record.kind == "kept":
-        return "kept legs are read by ./freight replan alone, after the instance"
+    if record.kind in TOLD:
+        return "kept and now records are read by ./freight replan and check, after the instance and before an answer"
     if record.kind == "answer" and record.fields[1:2] and record.fields[1] in UNCHECKED:
-        return f"an answer {record.fields[1]} shows nothing that can be checked"
+        return UNCHECKED[record.fields[1]]
     return writing_hint(record) or kind_hint(record, CERTIFICATE)
 
 
-def kept_kind_hint(record):
-    """What a record of no kind seems to be among kept legs."""
+def told_kind_hint(record, command):
+    """What a record of no kind seems to be among kept legs and the present."""
     if record.kind in INSTANCE:
         return KEPT_ORDER
     if record.kind in CERTIFICATE:
-        return "replan reads no answer: take its lines out"
-    return writing_hint(record) or kind_hint(record, ("kept",))
+        return "replan reads no answer: take its lines out" if command == "replan" else NO_ANSWER
+    return writing_hint(record) or kind_hint(record, TAILS.get(command, TOLD))

@@ -12,6 +12,7 @@ from .values import number_hint
 
 DIGITS = re.compile(r"[0-9]+")
 LONGEST_SHOWN = 40
+DELIVERED = "its kept legs bring it to its destination, so what is left of the day is without it"
 
 
 def decoded(text):
@@ -103,7 +104,7 @@ def strange_names(draft, fields):
         if known is None or text in known or text in draft.strays:
             continue
         kind = "shipment" if what == "shipment" else "terminal"
-        hint = draft.names.hint(text, known)
+        hint = DELIVERED if what == "shipment" and text in draft.delivered else draft.names.hint(text, known)
         yield unknown_words(name, kind, text), hint, None if hint else (kind, text)
     ends = tuple(text for _, what, text in fields if what == "arc")
     if len(ends) == 2 and ends not in draft.arcs and all(it in draft.terminals for it in ends):

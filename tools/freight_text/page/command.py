@@ -34,7 +34,7 @@ def word(read):
 
 def parser():
     words = Words(prog="freight picture", description=ABOUT, usage="freight picture INSTANCE ANSWER [CHECKED] [options] > timetable.html", allow_abbrev=False)
-    words.add_argument("instance", metavar="INSTANCE", help="the input of the program")
+    words.add_argument("instance", metavar="INSTANCE", help="the input of the program, with what is told after it")
     words.add_argument("answer", metavar="ANSWER", help="what direct, plan or replan printed for it")
     words.add_argument("checked", metavar="CHECKED", nargs="?", help="what check printed for both: without it the page says that nothing is checked")
     words.add_argument("--fleet", metavar="FILE", help="what fleet printed for both: adds a sheet for each truck")

@@ -5,16 +5,19 @@ That is less than what the program tests: whether a plan is one, and at its cost
 
 from dataclasses import replace
 
+from ..days import planned_of
 from ..faults import certificate_faults, line_fields
 from ..faults.instance_faults import InstanceReading
+from ..faults.kept_faults import KeptReading
 from ..faults.kinds import CERTIFICATE
 from ..faults.line_fields import DIGITS, shown, takes_number
+from ..faults.readings import parts_of
 from ..file_faults import FileFault, at
-from ..instances import Instance
 
 LONGEST = 1000
-# The faults of an instance that keep a page from being made of it.
+# The faults of an instance, and of what is told after it, that keep a page from being made of it.
 UNREADABLE = (1, 2, 3, 4, 5, 7)
+UNREADABLE_TOLD = (31, 32, 33, 34, 35, 36)
 NO_TIMETABLE = {
     "bound": "it's an answer of bound, a number without a timetable",
     "trial": "it's the answer of trial, which has no timetable",
@@ -26,28 +29,32 @@ def line_shown(record):
     return shown(",".join(record.fields))
 
 
-def instance_record_fault(reading, record):
-    """The first fault of an instance's record that keeps it from being read, or None; the reading takes the record."""
-    faults = [it for it in reading.faults(record) if it.code in UNREADABLE]
+def record_fault(reading, record, codes):
+    """The first fault of a record, of one of some codes, or None; the reading takes the record."""
+    faults = [it for it in reading.faults(record) if it.code in codes]
     reading.take(record)
     return "; ".join(filter(None, (faults[0].words, faults[0].hint))) if faults else None
 
 
+def check_records(reading, records, codes):
+    """Raises FileFault at the first record with a fault of one of some codes."""
+    for record in records:
+        words = record_fault(reading, record, codes)
+        if words:
+            raise FileFault(at(record, words))
+
+
 def checked_instance(records, data):
-    """The instance of some records, up to an answer or kept legs. Raises FileFault at the first record that can't be read."""
+    """The instance to be planned that some records tell, up to an answer. Raises FileFault at the first record that can't be read."""
     if not records:
         raise FileFault("it's empty: an instance is wanted")
     if records[0].kind in CERTIFICATE:
         raise FileFault("it's an answer: hand on the instance first, and the answer after it")
-    instance, reading = Instance(), InstanceReading("picture", records, data)
-    for record in records:
-        if record.kind in ("answer", "kept"):
-            break
-        words = instance_record_fault(reading, record)
-        if words:
-            raise FileFault(at(record, words))
-        instance.add(record)
-    return instance
+    parts = parts_of("check", records)
+    reading = InstanceReading("picture", parts.own, data)
+    check_records(reading, parts.own, UNREADABLE)
+    check_records(KeptReading("check", reading), parts.told, UNREADABLE_TOLD)
+    return planned_of(records)
 
 
 def line_fault(instance, before, form, record):

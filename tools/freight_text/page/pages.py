@@ -33,7 +33,8 @@ CHOSEN = " This day has many shipments: the chart shows what is chosen above, an
 def infeasible_words(timetable):
     name = timetable.answer[2]
     if timetable.answer[1] == "stuck":
-        return f"No timetable keeps the legs that stand: shipment {name} can't go on from its legs in time."
+        duty = timetable.told.duty_words() if timetable.told.day.is_underway() else "keeps the legs that stand"
+        return f"No timetable {duty}: shipment {name} can't go on from its legs in time."
     return f"No plan exists: shipment {name} can't be carried in time."
 
 
@@ -56,11 +57,20 @@ def clock_words(display):
     return f"The first day is {date_words(zero)}; times of later days have their day." if display.clock.dated else "A time with +1 is one of the day after."
 
 
+def day_words(day, display):
+    """What isn't shown of a day that is under way."""
+    if not day.is_underway():
+        return ""
+    present = "" if day.now is None else f"It is {display.clock.time(day.now)}. "
+    return f"{present}This is what is left of the day: what has left isn't shown, nor what it costs."
+
+
 def header(timetable, checked, display):
-    look, words = verdict(checked)
+    duty = timetable.told.duty_words()
+    look, words = verdict(checked, duty)
     planned = timetable.answer[1] not in ("infeasible", "stuck")
-    claim = cost_words(timetable.answer, checked, display.money) if planned else infeasible_words(timetable)
-    facts = [fact_words(timetable, display), clock_words(display)] if planned else []
+    claim = cost_words(timetable.answer, checked, duty, display.money) if planned else infeasible_words(timetable)
+    facts = [day_words(timetable.told.day, display), fact_words(timetable, display), clock_words(display)] if planned else []
     note = f'<p class="note">{escape(" ".join(filter(None, facts)))}</p>' if planned else ""
     behind = "" if look == "no" else certificate_words(timetable)
     return (

@@ -1,14 +1,18 @@
 //! What `check` shows.
-ghost use Rattle.std.specs.Prelude.{ℕ, ◌≡◌, ◌-◌, ◌<◌, ◌≤◌, ◌^◌, drop, length, IfOk};
+ghost use Rattle.std.specs.Prelude.{List, ℕ, ◌≡◌, ◌-◌, ◌<◌, ◌≤◌, ◌^◌, drop, length, IfOk};
 ghost use Rattle.fp_records_fields.specs.Indexes.{entries_of};
-ghost use Rattle.fp_app.specs.Checks.{ShowsCheck, scale_of, scaled};
+ghost use Rattle.fp_records.specs.Fields.{records_of};
+ghost use Rattle.fp_app.specs.Checks.{ShowsCheck};
+ghost use Rattle.fp_app_tails.specs.Verdicts.{scale_of, scaled};
+ghost use Rattle.fp_app.specs.TailChecks.{ShowsAnswer, shown_of};
 ghost use Rattle.fp_app.specs.CheckInputs.{AreCheckable, CanBeChecked, IsCheckInput, IsCheckInputOf};
-ghost use Rattle.fp_app.specs.Inputs.{OfCertificate};
 ghost use Rattle.fp_app.specs.declared.limits.TheConstants.{CHECK_LIMIT};
+ghost use Rattle.fp_app.specs.Inputs.{OfCertificate};
 ghost use Rattle.fp_app.specs.Shown.{IsPrintable};
 
 use crate::check_outcomes::check_outcome;
-use crate::{NoMemory, Shown};
+use crate::{AnswerKind, NoMemory, Shown};
+use fp_app_tails::{Verdict, answer_place, tail_place, verdict_after};
 use fp_certificate::{CertFault, Certificate, read_with_index};
 use fp_model::{Instance, SCALE};
 use fp_reader::{IndexedRead, InputFault, Tail, instance_with_index};
@@ -31,23 +35,61 @@ pub enum CheckInput {
     },
 }
 
-/// What `check` shows for the bytes of an input.
+/// What `check` shows for the bytes of an input: of the certificate after an instance, or of the answer after
+/// an instance and its kept legs or a day that is under way.
 pub fn check_shown(alloc: Global, bytes: Vec<u8>) -> Result<Shown, NoMemory>
     requires { length bytes.items ≤ CHECK_LIMIT }
-    ensures shown { IfOk result (λ shown. OfCertificate bytes.items shown (λ p c. ShowsCheck (scaled p c) c shown)) }
+    ensures shown { IfOk result (ShowsAnswer bytes.items) }
     ensures printable { IfOk result IsPrintable }
 {
-    match read_both(alloc, bytes)? {
+    let lines = records(alloc, &bytes)?;
+    drop(bytes);
+    let place = answer_place(&lines);
+    let begins = tail_place(&lines[..place]);
+    if begins < place {
+        let shown = said(verdict_after(alloc, &lines, place)?);
+        return Ok(shown);
+    }
+    let shown = certificate_shown(alloc, &lines)?;
+    Ok(shown)
+}
+
+// What is shown of the certificate that follows an instance.
+fn certificate_shown(alloc: Global, lines: &[Record]) -> Result<Shown, NoMemory>
+    requires { length lines.now < 2 ^ 32 - 1 }
+    ensures shown { IfOk result (λ shown. (input : List ℕ) → records_of input ≡ lines.now → OfCertificate input shown (λ p c. ShowsCheck (scaled p c) c shown)) }
+    ensures printable { IfOk result IsPrintable }
+{
+    match read_lines(alloc, lines)? {
         CheckInput::Both {
             instance,
             certificate,
-        } => verdict(alloc, instance, &certificate),
+        } => {
+            let shown = verdict(alloc, instance, &certificate)?;
+            Ok(shown)
+        }
         CheckInput::Fault { ordinal, code } => Ok(Shown::BadInput { ordinal, code }),
     }
 }
 
-/// The instance and the certificate of an input. Neither its bytes nor its records are kept; the
-/// index of names that reading the instance made serves the certificate too.
+// What is shown of what is said of an answer.
+fn said(verdict: Verdict) -> Shown
+    ensures is { result ≡ shown_of verdict }
+    ensures printable { IsPrintable result }
+{
+    match verdict {
+        Verdict::Accepted { answer } => Shown::Accepted {
+            kind: match answer {
+                Some(answer) => answer.into(),
+                None => AnswerKind::Stuck,
+            },
+        },
+        Verdict::Rejected { number } => Shown::RejectedPart { number },
+        Verdict::Fault { ordinal, code } => Shown::BadInput { ordinal, code },
+    }
+}
+
+/// The instance and the certificate of an input. Neither its bytes nor its records are kept.
 pub fn read_both(alloc: Global, bytes: Vec<u8>) -> Result<CheckInput, NoMemory>
     requires { length bytes.items ≤ CHECK_LIMIT }
     ensures given { IfOk result (IsCheckInput bytes.items) }
@@ -55,14 +97,24 @@ pub fn read_both(alloc: Global, bytes: Vec<u8>) -> Result<CheckInput, NoMemory>
 {
     let lines = records(alloc, &bytes)?;
     drop(bytes);
-    match instance_with_index(alloc, &lines, Tail::Certificate) {
+    read_lines(alloc, &lines)
+}
+
+// The instance and the certificate of records. The index of names that reading the instance made serves the
+// certificate too.
+fn read_lines(alloc: Global, lines: &[Record]) -> Result<CheckInput, NoMemory>
+    requires { length lines.now < 2 ^ 32 - 1 }
+    ensures given { IfOk result (λ given. (input : List ℕ) → records_of input ≡ lines.now → IsCheckInput input given) }
+    ensures checkable { IfOk result AreCheckable }
+{
+    match instance_with_index(alloc, lines, Tail::Certificate) {
         Ok(
             IndexedRead {
                 instance,
                 index,
                 used,
             },
-        ) => read_certificate(alloc, instance, &index, &lines, used),
+        ) => read_certificate(alloc, instance, &index, lines, used),
         Err(InputFault::Bad { ordinal, code }) => Ok(CheckInput::Fault { ordinal, code }),
         Err(InputFault::NoMemory) => Err(AllocError),
     }

@@ -1,6 +1,6 @@
 //! What `improve` shows.
 ghost use Rattle.std.specs.Prelude.{◌≡◌, ◌≤◌, Ok, length, IfOk};
-ghost use Rattle.fp_ends.specs.Deadlines.{has_shown};
+ghost use Rattle.fp_ends.specs.Deadlines.{IsLater, has_shown};
 ghost use Rattle.fp_model.specs.declared.limits.TheConstants.{GREATEST_SCALE};
 ghost use Rattle.fp_model.specs.Plans.{IsPlan};
 ghost use Rattle.fp_session_history.specs.Budgets.{IsBudget};
@@ -112,8 +112,8 @@ fn search_told<C: Clock, N: Sink>(
     }
 }
 
-// What a search shows of an instance that begins with this plan, with the option of spans or without it.
-fn solve_from<C: Clock, N: Sink>(
+/// What a search shows of an instance that begins with this plan, with the option of spans or without it.
+pub fn solve_from<C: Clock, N: Sink>(
     alloc: Global,
     clock: &mut C,
     notes: &mut N,
@@ -124,6 +124,7 @@ fn solve_from<C: Clock, N: Sink>(
     requires plan { IsPlan instance.now 1 plan }
     requires budget { IsBudget options.budget }
     ensures searched { IfOk result (IsSearched instance.now (every_from plan) (within options.budget (has_shown options.seconds (C.moment clock.new) (C.faults clock.old) (C.faults clock.new))) options.spans) }
+    ensures later { IsLater (C.moment clock.old) (C.moment clock.new) (C.faults clock.old) (C.faults clock.new) }
     ensures checkable { IfOk result (λ solved. CanBeChecked instance.now solved.certificate) }
     ensures noted { MayNote options.notes (IsNotedFor instance.now every (N.taken notes.old) (N.taken notes.new)) (N.taken notes.old) (N.taken notes.new) }
 {

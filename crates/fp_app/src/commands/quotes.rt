@@ -5,6 +5,7 @@ ghost use Rattle.fp_session_history.specs.Budgets.{IsBudget};
 ghost use Rattle.fp_model.specs.Plans.{PlanExists};
 ghost use Rattle.fp_model.specs.Problem.{Problem};
 ghost use Rattle.fp_app_words.specs.TimeLimits.{halved};
+ghost use Rattle.fp_app.specs.CheckInputs.{CanBeChecked};
 ghost use Rattle.fp_app.specs.declared.limits.TheConstants.{INSTANCE_LIMIT};
 ghost use Rattle.fp_app.specs.Inputs.{OfQuoted, quoted_in};
 ghost use Rattle.fp_app.specs.Notes.{AreQuoteNotes, IsNotedFor, MayNote};
@@ -46,8 +47,8 @@ pub fn quote_shown<C: Clock, N: Sink>(
     }
 }
 
-// The same search, which ends after half of its seconds.
-fn first_half(options: SearchOptions) -> SearchOptions
+/// The same search, which ends after half of its seconds.
+pub fn first_half(options: SearchOptions) -> SearchOptions
     ensures { result ≡ record options { seconds = halved options.seconds } }
 {
     match options.seconds {
@@ -91,8 +92,8 @@ fn quote_last<C: Clock, N: Sink>(
     }
 }
 
-// What a search shows without the last shipment.
-fn solve_without_last<C: Clock, N: Sink>(
+/// What a search shows without the last shipment.
+pub fn solve_without_last<C: Clock, N: Sink>(
     alloc: Global,
     instance: &Instance,
     clock: &mut C,
@@ -104,6 +105,7 @@ fn solve_without_last<C: Clock, N: Sink>(
     requires budget { IsBudget options.budget }
     ensures searched { IfOk result (IsSearched (without_last_of instance.now) every (within options.budget (has_shown options.seconds (C.moment clock.new) (C.faults clock.old) (C.faults clock.new))) options.spans) }
     ensures later { IsLater (C.moment clock.old) (C.moment clock.new) (C.faults clock.old) (C.faults clock.new) }
+    ensures checkable { IfOk result (λ solved. CanBeChecked (without_last_of instance.now) solved.certificate) }
     ensures noted { MayNote options.notes (IsNotedFor (without_last_of instance.now) every (N.taken notes.old) (N.taken notes.new)) (N.taken notes.old) (N.taken notes.new) }
 {
     let earlier = without_last(alloc, instance)?;

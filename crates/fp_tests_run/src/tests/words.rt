@@ -4,7 +4,7 @@ use crate::tests::runs::run_on;
 use fp_tests_examples::ONE_ARC;
 use std::test::Fail;
 
-const LINES: [&str; 56] = [
+const LINES: [&str; 59] = [
     "",
     "fly",
     "Direct",
@@ -56,6 +56,9 @@ const LINES: [&str; 56] = [
     "check --seconds 5",
     "trial 1 2 1 --seconds 5",
     "--rounds 5 plan",
+    "quote S1 S2",
+    "quote -S1",
+    "quote --name S1",
     "trial",
     "trial 1 1 1",
     "trial 1 2",

@@ -16,5 +16,5 @@ returns c =
     let trial = app_of-subcommand _ _ _ _ _ c.in_ok-subcommand-6.ensures improve c.in_ok-trial_command.ensures.shape c.in_ok-trial_command.ensures.local in
     let yard = app_of-subcommand _ _ _ _ _ c.in_ok-subcommand-7.ensures trial c.in_ok-yard_command.ensures.shape c.in_ok-yard_command.ensures.local in
     let fleet = app_of-subcommand _ _ _ _ _ c.in_ok-subcommand-8.ensures yard c.in_ok-fleet_command.ensures.shape c.in_ok-fleet_command.ensures.local in
-    let replan = app_of-subcommand _ _ _ _ _ c.in_ok-subcommand-9.ensures fleet c.in_ok-search_command.ensures.shape c.in_ok-search_command.ensures.local in
-    app_of-subcommand _ _ _ _ _ c.in_ok-command.ensures replan c.in_ok-search_command-2.ensures.shape c.in_ok-search_command-2.ensures.local
+    let replan = app_of-subcommand _ _ _ _ _ c.in_ok-subcommand-9.ensures fleet c.in_ok-replan_command.ensures.shape c.in_ok-replan_command.ensures.local in
+    app_of-subcommand _ _ _ _ _ c.in_ok-command.ensures replan c.in_ok-quote_command.ensures.shape c.in_ok-quote_command.ensures.local

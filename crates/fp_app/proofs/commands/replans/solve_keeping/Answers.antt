@@ -1,4 +1,5 @@
-use Rattle.fp_app.specs.Wanted.{AreKeptWindowsOf, keeping}
+use Rattle.fp_app_tails.specs.Windows.{AreKeptWindowsOf}
+use Rattle.fp_app.specs.Wanted.{keeping}
 use Rattle.fp_app.proofs.commands.replans.solve_keeping.Goals as goal
 
 pub returns-clause-searched : goal.returns-clause-searched

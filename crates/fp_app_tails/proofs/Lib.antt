@@ -1,0 +1,5 @@
+pub mod ToldFaults
+pub mod ScaledCertificates
+pub mod DayWindows
+pub mod Scales
+pub mod VerdictCases

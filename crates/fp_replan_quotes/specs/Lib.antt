@@ -1,0 +1,3 @@
+pub mod LastShipments
+pub mod NamedQuotes
+pub mod Starts
