@@ -5,8 +5,8 @@ use crate::NoMemory;
 use crate::group_charges::{GroupCharges, Weighed};
 use crate::layouts::{LaidSpan, Layout, of_span};
 use crate::prices::SpanPrices;
-use crate::sets::{Finding, Terms};
 use fp_duals_nets::{copy_all, part_mut};
+use fp_duals_sets::{Finding, Terms};
 use std::alloc::Global;
 use std::marker::Model;
 

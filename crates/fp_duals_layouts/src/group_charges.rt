@@ -4,7 +4,7 @@ use crate::NoMemory;
 use crate::layouts::{LaidSpan, Layout};
 use crate::moment_groups::MomentGroups;
 use crate::prices::SpanPrices;
-use crate::sets::{Finding, Sets, Terms};
+use fp_duals_sets::{Finding, Sets, Terms};
 use std::alloc::Global;
 
 /// No payer's number.

@@ -4,9 +4,7 @@
 //! A span prices a run of the classes of an arc with money for its trucks, a weight for each
 //! shipment, and a charge: what the weights of some set of shipments pass the money for the set's
 //! trucks by at most; or, where shipments are told apart by the moments at which they can leave,
-//! the sum of this over all greatest sets of shipments that can leave together. The charges are
-//! found by loads (R. E. Bellman, "Dynamic Programming", Princeton University Press, 1957), here in
-//! 64 bits and with few loads.
+//! the sum of this over all greatest sets of shipments that can leave together.
 //!
 //! It's made for heuristics, whose results are tested afterwards: nothing is promised of it but
 //! that it's safe and ends. All look-ups with a number that isn't there give nothing.
@@ -18,11 +16,9 @@ mod group_charges;
 mod groups;
 mod joins;
 mod layouts;
-mod load_rows;
 mod moment_groups;
 mod payers;
 mod prices;
-mod sets;
 
 pub use charges::Charges;
 pub use groups::Groups;
