@@ -1,5 +1,7 @@
 """What an answer of the program says beside itself, in words, for standard error."""
 
+import re
+
 from . import rejections
 from .days import stuck_words
 from .faults import readings
@@ -19,6 +21,8 @@ LIMITS = {
 }  # fmt: skip
 # Beyond so many bytes the place of a fault isn't looked for, since that would take longer than the answer did.
 READ_AGAIN = 32_000_000
+# A line of what is told after an instance: a kept leg, or the present.
+TOLD_LINE = re.compile(rb'(?:^|[\r\n])[ \t"]*(?:kept|now)[ \t",]')
 
 # What a search can use up: the most that it may be given, what it has without the option, and what each one does.
 BUDGETS = {
@@ -53,9 +57,14 @@ def spent_words(words, spent):
     return f"all {used:,} {spent} were used: {effect}; with {spans}--{spent} {more} (at most {most}) it takes longer, and the cost may fall or the bound rise"
 
 
-def unfinished_words(words, cost, bound, spent):
+def keeps_records(command, data):
+    """Whether a search is among the plans that keep legs or go on with a day."""
+    return command == "replan" or command == "improve" and TOLD_LINE.search(data) is not None
+
+
+def unfinished_words(words, data, cost, bound, spent):
     gap = cost - bound
-    none = "no plan that keeps the legs" if words[0] == "replan" else "no plan"
+    none = "no plan that keeps the legs" if keeps_records(words[0], data) else "no plan"
     return [
         f"{none} costs less than {bound:,}, and the one printed costs {cost:,}: at most {gap:,} more than the cheapest, {100 * gap / cost:.1f} % of its cost",
         spent_words(words, spent),
@@ -89,7 +98,7 @@ def explanation(words, status, data, answer):
     if fields == ["refused", "long"]:
         return [f"more than {LIMITS.get(words[0], 0):,} bytes came"]
     if fields[:2] == ["answer", "unfinished"]:
-        return unfinished_words(words, int(fields[2]), int(fields[3]), fields[4])
+        return unfinished_words(words, data, int(fields[2]), int(fields[3]), fields[4])
     if fields[0] == "quote":
         return quoted_words(*fields[1:]) if status == 10 else []
     if len(data) > READ_AGAIN:

@@ -285,6 +285,8 @@ def explanation(records, number):
         return [f"part 6 of the certificate fails: {ALONE}"]
     if number == 8 and certificate[0].fields[1] == "stuck":
         return [f"the answer stuck is false: {STUCK}", stuck_fault(told, certificate[0])]
+    if number == 1 and certificate[0].fields[1] == "stuck":
+        return [f"part 1 of the certificate fails: {PARTS[1]}", f"line {certificate[0].line}: an answer stuck tells no timetable"]
     if told.stuck:
         return [f"no plan {told.duty_words()}, so an answer stuck is the one that is accepted", told.stuck[1]]
     place = place_of(told, certificate, number)

@@ -115,11 +115,11 @@ PLANNER = (OUTPUT, CERTIFICATE, TIMETABLE_ONLY, ALLOW_EMPTY, HELP)
 COMMANDS = (
     Command("direct", "each shipment's fastest timetable; it joins nothing", "INSTANCE", own=PLANNER),
     Command("plan", "the cheapest timetable, with all that tells why", "INSTANCE", options=PLAN, own=PLANNER),
-    Command("improve", "the cheapest timetable, going on from the answer's, so at most as dear", "INSTANCE ANSWER", options=PLAN, own=PLANNER),
+    Command("improve", "the cheapest timetable, going on from the answer's, so at most as dear", "INSTANCE [KEPT] ANSWER", options=PLAN, own=PLANNER),
     Command("bound", "a number under which no plan costs", "INSTANCE", options=(SECONDS, SPANS), own=READER),
     Command("check", "whether an answer's certificate is accepted for the instance", "INSTANCE [KEPT] ANSWER", own=READER),
-    Command("yard", "each terminal's sheet of the answer's timetable, and one run of it", "INSTANCE ANSWER", (Place("SEED", SEED),), own=READER),
-    Command("fleet", "the fewest trucks that run the answer's timetable, and which line each runs next", "INSTANCE ANSWER", options=(TRUCKS,), own=READER),
+    Command("yard", "each terminal's sheet of the answer's timetable, and one run of it", "INSTANCE [KEPT] ANSWER", (Place("SEED", SEED),), own=READER),
+    Command("fleet", "the fewest trucks that run the answer's timetable, and which line each runs next", "INSTANCE [KEPT] ANSWER", options=(TRUCKS,), own=READER),
     Command("replan", "the cheapest timetable that keeps the legs of trucks that roll, or goes on from now", "INSTANCE KEPT", options=SEARCH, own=PLANNER),
     Command("quote", "what the last shipment, or one of a name, adds to the cost: at least and at most", "INSTANCE", options=SEARCH, own=QUOTER),
     Command(

@@ -88,10 +88,19 @@ say_until() {
   say "$goes $(number_of --rounds) rounds or $(number_of --branches) branches are used up, which may take hours: Ctrl-C $gives (--seconds N sets an end)"
 }
 
+# Whether the search is among the plans that keep legs or go on with a day.
+keeps_records() {
+  case ${words[0]} in
+  replan) true ;;
+  improve) LC_ALL=C tr '\r' '\n' <"$folder/input" | LC_ALL=C grep -aqE '^[[:blank:]"]*(kept|now)[[:blank:]",]' ;;
+  *) false ;;
+  esac
+}
+
 # What the last note of a search says of a plan, SEARCH.
 figures_of() {
   local none=none
-  [ "${words[0]}" != replan ] || none='none that keeps the legs or goes on from now'
+  ! keeps_records || none='none that keeps the legs or goes on from now'
   case ${costs[$1]:-}+${bounds[$1]:-} in
   +) echo 'there is no plan yet' ;;
   *+-) echo "the cheapest plan so far costs ${costs[$1]}" ;;

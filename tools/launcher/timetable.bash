@@ -21,7 +21,7 @@ before_first() {
   LC_ALL=C tr '\r' '\n' <"$folder/input" | LC_ALL=C sed "/^[[:blank:]\"]*$1[[:blank:]\",]/,\$d"
 }
 
-# The instance, with the kept legs and the present of `replan`, and without the answer that `improve` goes on from.
+# The instance, with the kept legs and the present, and without the answer that `improve` goes on from.
 instance() {
   case ${words[0]} in
   improve) before_first answer ;;

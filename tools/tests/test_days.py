@@ -49,10 +49,10 @@ CHECKED = (
     ("now,300", "answer,stuck,P1\nend,1", "12,22", "2 fields in place of 1: end"),
     ("now,300", "answer,stuck,P1\nend\nend", "13,27", "stands after the certificate's end"),
     ("now,300", "answer,best,1\nend", "11,21", 'the second field is "best"'),
-    ("now,300", "answer,direct,0\nkept,P1,A,B,0\nend", "12,21", "kept and now records are read by ./freight replan and check, after the instance and before an answer"),
+    ("now,300", "answer,direct,0\nkept,P1,A,B,0\nend", "12,21", "kept and now records are read by ./freight replan, check, yard, fleet and improve, after the instance and before an answer"),
     ("now,300", "leg,P1,A,B,0,100\nend", "11,31", 'an answer begins with its line "answer": none stands before this one'),
     ("kept,P3,A,B,0\nnow,100", "answer,direct,0\nleg,P3,A,B,0,100\nend", "13,25", "its kept legs bring it to its destination"),
-    ("", "answer,stuck,P1\nend", "10,21", "an answer stuck is checked after the kept or now records that replan was given"),
+    ("", "answer,stuck,P1\nend", "10,21", "an answer stuck is read after the kept or now records that replan was given"),
     ("kept,P1,A,B,0,280", "", "11,26", 'no certificate comes'),
 )  # fmt: skip
 
@@ -89,10 +89,19 @@ REJECTED = (
      "line 15: P4 has to leave B for C at 200, as it is kept on line 11"),
 )  # fmt: skip
 
+# What follows the hub, the lines of an answer that tells no timetable of what is left, the part, and what is said.
+UNTOLD = (
+    ("now,450", ("answer,stuck,P1", "end"), 1, "line 11: an answer stuck tells no timetable"),
+    ("now,300", ("answer,stuck,P1", "end"), 1, "line 11: an answer stuck tells no timetable"),
+    ("now,450", LEFT, 1, "no plan goes on with the day"),
+    ("kept,P1,A,B,0\nnow,310", LEFT, 1, "line 13: P1 leaves B at 300, and can at 310"),
+)
+
 # What is said of records that a command doesn't read there.
 HINTS = (
-    ("plan", f"{HUB}now,300\n", "plan reads no present: ./freight replan and check do"),
-    ("fleet", f"{HUB}kept,P1,A,B,0\nanswer,direct,0\nend\n", "fleet reads no kept legs: ./freight replan and check do"),
+    ("plan", f"{HUB}now,300\n", "plan reads no present: ./freight replan, check, yard, fleet and improve do"),
+    ("bound", f"{HUB}kept,P1,A,B,0\nanswer,direct,0\nend\n", "bound reads no kept legs: ./freight replan, check, yard, fleet and improve do"),
+    ("fleet", f"now,300\n{HUB}answer,direct,0\nend\n", "the instance's records stand before all kept legs: move them up"),
     ("replan", f"now,300\n{HUB}", "the instance's records stand before all kept legs: move them up"),
     ("check", f"now,300\n{HUB}answer,direct,0\nend\n", "the instance's records stand before all kept legs: move them up"),
     ("replan", f"{HUB}now,300\nanswer,direct,0\nend\n", "replan reads no answer: take its lines out"),
@@ -151,6 +160,10 @@ class Days(unittest.TestCase):
         for records, lines, number, part in REJECTED:
             self.assertIn(part, said("check", 12, joined(records, *lines), f"rejected,{number}"), (records, lines))
 
+    def test_answers_that_tell_no_timetable(self):
+        for records, lines, number, part in UNTOLD:
+            self.assertIn(part, said("yard 1", 12, joined(records, *lines), f"rejected,{number}"), (records, lines))
+
     def test_records_that_are_not_read(self):
         for command, text, part in HINTS:
             self.assertIn(part, findings_of([command], records_of(text.encode()), text.encode()).listed[0].sentence())
@@ -186,6 +199,9 @@ class Program(unittest.TestCase):
         self.prints("check", joined(WAITING, *LEFT), 0, "accepted,direct")
         for records, lines, number, _ in REJECTED:
             self.prints("check", joined(records, *lines), 12, f"rejected,{number}")
+        for records, lines, number, _ in UNTOLD:
+            for words in ("yard 1", "fleet", "improve"):
+                self.prints(words, joined(records, *lines), 12, f"rejected,{number}")
 
     def test_what_the_new_order_of_the_guide_costs(self):
         data = (TOP / "examples/new-order.csv").read_bytes()

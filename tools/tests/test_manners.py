@@ -255,7 +255,8 @@ class Whole(InRepository):
         self.ends((0, "accepted,optimal\n"), ["check", day, told, out])
         self.ends((0, "accepted,optimal\n"), ["check", day, "-", out], input=b"now,540\nkept,P4,NICE,LYON,330,750\nkept,P1,NICE,LYON,330,750")
         self.ends((12, "rejected,1\n"), ["check", day, out], "P1 leaves LYON and is at NICE")
-        self.ends((21, "refused,12,1\n"), ["yard", "1", day, told, out], "yard reads no present: ./freight replan and check do")
+        for words, stored in ((["yard", "1"], "yard"), (["fleet", "--trucks"], "trucks"), (["improve"], "improve")):
+            self.ends((0, (TOP / f"examples/late-answer.csv.{stored}.stdout").read_text()), [*words, day, told, out])
 
     def test_a_quote_by_a_name(self):
         day = str(TOP / "examples/carrier-day.csv")

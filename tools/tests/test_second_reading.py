@@ -32,8 +32,9 @@ INPUTS = (
     ("direct", "\"ter\"minal,A\n \"terminal\",B\n", 1),
     ("plan", DAY + "answer,optimal,104\n", 1),
     ("plan", DAY + "kept,S1,A,B,0\n", 1),
-    ("fleet", DAY + "kept,S1,A,B,0\nanswer,optimal,104\n", 1),
-    ("improve", DAY + "now,0\nanswer,optimal,104\n", 1),
+    ("bound", DAY + "kept,S1,A,B,0\nanswer,optimal,104\n", 1),
+    ("fleet", DAY + "kept,S1,A,B,0\nanswer,optimal,104\n", 26),
+    ("improve", DAY + "now,0\nanswer,optimal,104\n", 26),
     ("direct", ENDS + "arc,A,B,5,10,100\n", 2),
     ("direct", "terminal\n", 2),
     ("direct", "terminal,C C\n", 3),
@@ -131,7 +132,8 @@ FIELDS = (b"", b"0", b"100001", b"99999999999999999999", b"A", b"S1", b"terminal
 EXAMPLES = (
     ("direct", "carrier-day.csv"), ("bound", "one-arc.csv"), ("quote --rounds 0 --branches 0", "shared-truck.csv"),
     ("check", "hub-proof.csv"), ("check", "proved-plan.csv"), ("yard 1", "proved-plan.csv"), ("fleet", "proved-plan.csv"), ("replan --rounds 0 --branches 0", "kept-day.csv"),
-    ("replan --rounds 0 --branches 0", "new-order.csv"), ("check", "late-answer.csv"), ("check", "stuck-answer.csv"), ("quote --rounds 0 P4", "carrier-day.csv"),
+    ("replan --rounds 0 --branches 0", "new-order.csv"), ("check", "late-answer.csv"), ("check", "stuck-answer.csv"), ("yard 1", "late-answer.csv"),
+    ("fleet --trucks", "late-answer.csv"), ("improve --rounds 0 --branches 0", "late-answer.csv"), ("quote --rounds 0 P4", "carrier-day.csv"),
 )  # fmt: skip
 DAMAGED = 60
 

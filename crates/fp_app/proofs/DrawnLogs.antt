@@ -1,11 +1,10 @@
 -- What is known of a log that draws choose, once no event is allowed any more.
-use Rattle.std.proofs.Common.{◌≡◌, ◌∙◌, ℕ, ◌<◌, true, List, length, sym, ap, subst}
+use Rattle.std.proofs.Common.{◌≡◌, ◌∙◌, ℕ, ◌<◌, true, List, length, ap, subst}
 use Rattle.std.specs.Prelude.{All}
 use Rattle.fp_model.specs.declared.parts.Leg.{Leg}
 use Rattle.std.proofs.lemmas.List.{length-map}
 use Rattle.fp_model.specs.Problem.{Problem, arc_at}
 use Rattle.fp_model.specs.Plans.{IsPlan}
-use Rattle.fp_certificate_lines.specs.Statements.{Statement}
 use Rattle.fp_timetable.specs.declared.lines.TruckLine.{TruckLine}
 use Rattle.fp_timetable.specs.Lines.{AreTruckLines}
 use Rattle.fp_timetable.proofs.DepartureLines.{AreTruckLines-unique}
@@ -18,7 +17,6 @@ use Rattle.fp_yard.proofs.Departures.{stage-means}
 use Rattle.fp_yard.proofs.Histories.{arrived-departed}
 use Rattle.fp_yard.proofs.WholeRuns.{all-done, all-exist}
 use Rattle.fp_yard_sheets.specs.Rows.{EventsExist}
-use Rattle.fp_app.specs.Plans.{IsToldPlan}
 use Rattle.fp_app.specs.Yards.{IsDrawnLog}
 
 -- the events of a legal history are of truck lines of the plan
@@ -44,8 +42,8 @@ IsDrawnLog-run p plan seed s h is sound ends legal chosen ended = record {
   each = λ line lt. let come : arrived h line ≡ true = stage-means h line Done (all-done s h line sound ended lt) in (arrived-departed s h line legal come, come);
 }
 
--- a plan that was told, with such a log, can be printed
-pub IsPrintable-drawn : (p : Problem) (c : Statement) (plan : List (List Leg)) (seed : ℕ) (log : List Event) → IsToldPlan p c plan → IsDrawnLog p plan seed log →
+-- a plan with such a log can be printed
+pub IsPrintable-drawn : (p : Problem) (plan : List (List Leg)) (seed : ℕ) (log : List Event) → IsPlan p 1 plan → IsDrawnLog p plan seed log →
     IsPlan p 1 plan × ((lines : List TruckLine) → AreTruckLines p plan lines → EventsExist lines log)
-IsPrintable-drawn p c plan seed log told drawn =
-    (subst (IsPlan p 1) (sym told.is) told.tells.timetable.plan.plan, EventsExist-legal p plan drawn.schedule log drawn.is drawn.legal)
+IsPrintable-drawn p plan seed log is drawn =
+    (is, EventsExist-legal p plan drawn.schedule log drawn.is drawn.legal)

@@ -1,114 +1,159 @@
 -- What `improve` shows, by its status.
 use Rattle.std.proofs.Common.{◌≡◌, ◌∙◌, ℕ, Bool, List, refl, sym, ap, subst, inl, inr}
-use Rattle.std.specs.Prelude.{Ok}
-use Rattle.fp_model.specs.declared.parts.Leg.{Leg}
+use Rattle.std.specs.Prelude.{Option, Some, MatchBool, MatchResult, Ok}
 use Rattle.fp_model.specs.Problem.{Problem}
-use Rattle.fp_certificate_lines.specs.declared.certificates.Spent.{Spent}
-use Rattle.fp_certificate_lines.specs.declared.certificates.Spent.TheVariants.{Branches, Rounds, Time}
+use Rattle.fp_records_fields.specs.Faults.{Fault}
+use Rattle.fp_certificate_lines.specs.Statements.{Statement}
+use Rattle.fp_session_history.specs.declared.budgets.Budget.{Budget}
 use Rattle.fp_session_history.specs.Solutions.{Solution}
+use Rattle.fp_app_tails.specs.declared.answers.Scale.TheVariants as asked
+use Rattle.fp_app_words.specs.declared.orders.Order.TheVariants as order
 use Rattle.fp_app.specs.declared.shown.Shown.{Shown}
 use Rattle.fp_app.specs.declared.shown.Shown.TheVariants as shown
+use Rattle.fp_app.specs.declared.shown.Status.{Status}
 use Rattle.fp_app.specs.declared.shown.Status.TheVariants as status
-use Rattle.fp_app.specs.Causes.{ImproveStatus, ShowsImproved, ShowsImprovedOptimal, ShowsImprovedUnfinished, ShowsNo}
-use Rattle.fp_app.specs.Improvements.{IsImproved, ShowsImprove}
-use Rattle.fp_app.specs.Inputs.{CertifiedInstance, OfCertified, certified_at}
+use Rattle.fp_app.specs.Causes.{GivesCertified, ImproveStatus, ShowsFault, ShowsNo}
+use Rattle.fp_app.specs.Improvements.{IsImproved, IsImprovement, IsOpenImprovement, IsOptimalImprovement, ShowsImprove}
+use Rattle.fp_app.specs.Inputs.{CertifiedInstance, OfCertified, certified_at, has_tail_in}
 use Rattle.fp_app.specs.Plans.{ShowsUntold}
-use Rattle.fp_app.specs.Searches.{Allowance, IsEnough}
+use Rattle.fp_app.specs.Runs.{ShowsImproveOf}
+use Rattle.fp_app.specs.Searches.{Allowance}
 use Rattle.fp_app.specs.Shown.{search_status, status_of}
-use Rattle.fp_app.specs.Wanted.{every, every_from}
+use Rattle.fp_app.specs.TailAnswers.{EndsOfTail, GivesOfTail, IsUntold, RejectsTail, ShowsOfTail}
+use Rattle.fp_app.specs.Wanted.{Wanted, every, from_plan}
+use Rattle.fp_app.proofs.BegunSearches.{enough-from}
 use Rattle.fp_app.proofs.CertifiedInputs.{CertifiedParts, certified-parts}
 use Rattle.fp_app.proofs.ReadCauses.{MatchResult_shows}
 use Rattle.fp_app.proofs.SearchEnds.{SearchEnd, optimal, search-end, search-no_other, unfinished}
+use Rattle.fp_app.proofs.TailAnswers.{tail-ends, tail-gives, tail-no_other, tail-refused, tail-rejects}
+use Rattle.fp_app.proofs.TailCauses.{both-give, each-of, read-fault, read-gives}
 
--- how the search ended that is shown
-abbrev ImproveEnd : (allowed : Allowance) (scale : ℕ) (spans : Bool) (input : List ℕ) (s : Shown) → ShowsImproved allowed scale spans input s → Type 0
-ImproveEnd allowed scale spans input s told = SearchEnd told.instance (every_from told.improved.plan) allowed told.solved.certificate.answer
+module _ (allowed : Allowance) (spans : Bool) where
+  -- how the search ended that is shown
+  improved-end : (p : Problem) (wanted : Wanted) (c : Statement) (y : Solution) (told : IsImproved p wanted c allowed spans y) → SearchEnd p (from_plan wanted told.plan) allowed y.certificate.answer
+  improved-end p wanted c y told = search-end p (from_plan wanted told.plan) allowed y.certificate.answer told.searched.says
 
-end-optimal : (allowed : Allowance) (scale : ℕ) (spans : Bool) (input : List ℕ) (s : Shown) (told : ShowsImproved allowed scale spans input s) → ImproveEnd allowed scale spans input s told →
-    search_status told.solved.certificate.answer ≡ status.Done → ShowsImprovedOptimal allowed scale spans input s
-end-optimal allowed scale spans input s told (optimal cost same plans) done = record { solution = told; cost = cost; answer = same; plans = plans }
-end-optimal allowed scale spans input s told (unfinished cost bound spent same bounds) done = let e : status.Unfinished ≡ status.Done = sym (ap search_status same) ∙ done in cc e
+  improvement : (p : Problem) (wanted : Wanted) (c : Statement) (q : Problem) (y : Solution) → ShowsImprove allowed spans p wanted c (shown.Planned q y) → IsImprovement allowed spans p wanted c (shown.Planned q y)
+  improvement p wanted c q y told = record { solved = y; shows = ap (λ (x : Problem). shown.Planned x y) told.0; improved = told.1 }
 
-end-unfinished : (allowed : Allowance) (scale : ℕ) (spans : Bool) (input : List ℕ) (s : Shown) (told : ShowsImproved allowed scale spans input s) → ImproveEnd allowed scale spans input s told →
-    search_status told.solved.certificate.answer ≡ status.Unfinished → ShowsImprovedUnfinished allowed scale spans input s
-end-unfinished allowed scale spans input s told (optimal cost same plans) ends = let e : status.Done ≡ status.Unfinished = sym (ap search_status same) ∙ ends in cc e
-end-unfinished allowed scale spans input s told (unfinished cost bound spent same bounds) ends = record { solution = told; cost = cost; bound = bound; spent = spent; answer = same; bounds = bounds }
+  end-optimal : (p : Problem) (wanted : Wanted) (c : Statement) (s : Shown) (told : IsImprovement allowed spans p wanted c s) → SearchEnd p (from_plan wanted told.improved.plan) allowed told.solved.certificate.answer →
+      search_status told.solved.certificate.answer ≡ status.Done → IsOptimalImprovement allowed spans p wanted c s
+  end-optimal p wanted c s told (optimal cost same plans) done = record { solution = told; cost = cost; answer = same; plans = plans }
+  end-optimal p wanted c s told (unfinished cost bound spent same bounds) done = let e : status.Unfinished ≡ status.Done = sym (ap search_status same) ∙ done in cc e
 
-module _ (allowed : Allowance) (scale : ℕ) (spans : Bool) (input : List ℕ) (x : CertifiedInstance) (read : certified_at scale input ≡ Ok x) where
-  shows-improved : (q : Problem) (y : Solution) → ShowsImprove allowed spans x (shown.Planned q y) → ShowsImproved allowed scale spans input (shown.Planned q y)
-  shows-improved q y told =
-      record { instance = x.instance; certificate = x.certificate; solved = y; read = read; shows = ap (λ (p : Problem). shown.Planned p y) told.0; improved = told.1 }
+  end-open : (p : Problem) (wanted : Wanted) (c : Statement) (s : Shown) (told : IsImprovement allowed spans p wanted c s) → SearchEnd p (from_plan wanted told.improved.plan) allowed told.solved.certificate.answer →
+      search_status told.solved.certificate.answer ≡ status.Unfinished → IsOpenImprovement allowed spans p wanted c s
+  end-open p wanted c s told (optimal cost same plans) ends = let e : status.Done ≡ status.Unfinished = sym (ap search_status same) ∙ ends in cc e
+  end-open p wanted c s told (unfinished cost bound spent same bounds) ends = record { solution = told; cost = cost; bound = bound; spent = spent; answer = same; bounds = bounds }
 
-  improved-end : (y : Solution) (told : IsImproved x.instance x.certificate allowed spans y) → SearchEnd x.instance (every_from told.plan) allowed y.certificate.answer
-  improved-end y told = search-end x.instance (every_from told.plan) allowed y.certificate.answer told.searched.says
+  optimal-of : (s : Shown) → status_of s ≡ status.Done → (p : Problem) (wanted : Wanted) (c : Statement) → ShowsImprove allowed spans p wanted c s → IsOptimalImprovement allowed spans p wanted c s
+  unfolding improvement
+  optimal-of (shown.Planned q y) done p wanted c told = end-optimal p wanted c (shown.Planned q y) (improvement p wanted c q y told) (improved-end p wanted c y told.1) done
+  optimal-of (shown.RejectedPart number) done p wanted c told = let g = done in cc
+  optimal-of _ done p wanted c told = absurd told
 
-  improved-done : (s : Shown) → ShowsImprove allowed spans x s → status_of s ≡ status.Done → ShowsImprovedOptimal allowed scale spans input s
-  unfolding shows-improved
-  improved-done (shown.Planned q y) told done = end-optimal allowed scale spans input (shown.Planned q y) (shows-improved q y told) (improved-end y told.1) done
-  improved-done (shown.RejectedPart number) told done = let g = done in cc
-  improved-done _ told done = absurd told
+  open-of : (s : Shown) → status_of s ≡ status.Unfinished → (p : Problem) (wanted : Wanted) (c : Statement) → ShowsImprove allowed spans p wanted c s → IsOpenImprovement allowed spans p wanted c s
+  unfolding improvement
+  open-of (shown.Planned q y) ends p wanted c told = end-open p wanted c (shown.Planned q y) (improvement p wanted c q y told) (improved-end p wanted c y told.1) ends
+  open-of (shown.RejectedPart number) ends p wanted c told = let g = ends in cc
+  open-of _ ends p wanted c told = absurd told
 
-  improved-open : (s : Shown) → ShowsImprove allowed spans x s → status_of s ≡ status.Unfinished → ShowsImprovedUnfinished allowed scale spans input s
-  unfolding shows-improved
-  improved-open (shown.Planned q y) told ends = end-unfinished allowed scale spans input (shown.Planned q y) (shows-improved q y told) (improved-end y told.1) ends
-  improved-open (shown.RejectedPart number) told ends = let g = ends in cc
-  improved-open _ told ends = absurd told
+  untold-of : (number : ℕ) (p : Problem) (wanted : Wanted) (c : Statement) → ShowsImprove allowed spans p wanted c (shown.RejectedPart number) → IsUntold p wanted c (shown.RejectedPart number)
+  untold-of number p wanted c told = record { number = number; shows = refl; untold = told }
 
-  -- it shows of no instance that it has no plan
-  improved-not_none : (s : Shown) → ShowsImprove allowed spans x s → status_of s ≡ status.Infeasible → ⊥
-  improved-not_none (shown.Planned q y) told none = search-no_other y.certificate.answer status.Infeasible (λ e. cc e) (λ e. cc e) none
-  improved-not_none (shown.RejectedPart number) told none = let g = none in cc
-  improved-not_none _ told none = told
+  -- it is done, unfinished, rejects, or refuses its input, and has no other status
+  shown-no_other : (t : Status) → (status.Done ≡ t → ⊥) → (status.Unfinished ≡ t → ⊥) → (status.Rejected ≡ t → ⊥) → (s : Shown) → status_of s ≡ t → (p : Problem) (wanted : Wanted) (c : Statement) → ShowsImprove allowed spans p wanted c s → ⊥
+  shown-no_other t not_done not_open not_rejected (shown.Planned q y) same p wanted c told = search-no_other y.certificate.answer t not_done not_open same
+  shown-no_other t not_done not_open not_rejected (shown.RejectedPart number) same p wanted c told = not_rejected same
+  shown-no_other t not_done not_open not_rejected _ same p wanted c told = told
 
-  -- a rejection is of a certificate that tells no plan
-  improved-rejected : (number : ℕ) → ShowsImprove allowed spans x (shown.RejectedPart number) → ShowsNo (λ p c part. ShowsUntold (record p { scale = scale }) c part) input (shown.RejectedPart number)
-  improved-rejected number told =
-      let parts : CertifiedParts scale input x = certified-parts scale input x read in
-      record {
-        instance = parts.instance;
-        certificate = x.certificate;
-        number = number;
-        read = parts.read;
-        certified = parts.certified;
-        shows = refl;
-        rejected = subst (λ (p : Problem). ShowsUntold p x.certificate number) parts.at told;
-      }
+  end-status : (p : Problem) (wanted : Wanted) (c : Statement) (y : Solution) (told : IsImproved p wanted c allowed spans y) → SearchEnd p (from_plan wanted told.plan) allowed y.certificate.answer →
+      ImproveStatus allowed p wanted c (search_status y.certificate.answer)
+  end-status p wanted c y told (optimal cost same plans) = inl (ap search_status same, told.told.tells)
+  end-status p wanted c y told (unfinished cost bound spent same bounds) = inr (inl (ap search_status same, told.told.tells, (spent, λ enough. bounds.scarce (enough-from p wanted told.plan allowed spent enough))))
 
-pub improve-done : (allowed : Allowance) (scale : ℕ) (spans : Bool) (input : List ℕ) (s : Shown) → OfCertified scale input s (λ x. ShowsImprove allowed spans x s) → status_of s ≡ status.Done → ShowsImprovedOptimal allowed scale spans input s
-improve-done allowed scale spans input s told done =
-    MatchResult_shows status.Done (certified_at scale input) (certified_at scale input) (λ (x : CertifiedInstance). ShowsImprove allowed spans x s) s (ShowsImprovedOptimal allowed scale spans input s) (λ e. cc e) refl done told
-    (λ x is shows. improved-done allowed scale spans input x is s shows done)
+  -- the one status of `improve` for an instance and a certificate
+  improve-status : (s : Shown) (p : Problem) (wanted : Wanted) (c : Statement) → ShowsImprove allowed spans p wanted c s → ImproveStatus allowed p wanted c (status_of s)
+  improve-status (shown.Planned q y) p wanted c told = end-status p wanted c y told.1 (improved-end p wanted c y told.1)
+  improve-status (shown.RejectedPart number) p wanted c told = inr (inr (refl, told.untold))
+  improve-status _ p wanted c told = absurd told
 
-pub improve-open : (allowed : Allowance) (scale : ℕ) (spans : Bool) (input : List ℕ) (s : Shown) → OfCertified scale input s (λ x. ShowsImprove allowed spans x s) → status_of s ≡ status.Unfinished → ShowsImprovedUnfinished allowed scale spans input s
-improve-open allowed scale spans input s told ends =
-    MatchResult_shows status.Unfinished (certified_at scale input) (certified_at scale input) (λ (x : CertifiedInstance). ShowsImprove allowed spans x s) s (ShowsImprovedUnfinished allowed scale spans input s) (λ e. cc e) refl ends told
-    (λ x is shows. improved-open allowed scale spans input x is s shows ends)
+  module _ (n : ℕ) (input : List ℕ) where
+    module _ (s : Shown) where
+      abbrev OfTail : Type 0
+      OfTail = ShowsOfTail (asked.Of n) input s (λ p wanted c. ShowsImprove allowed spans p wanted c s)
 
-pub improve-not_none : (allowed : Allowance) (scale : ℕ) (spans : Bool) (input : List ℕ) (s : Shown) → OfCertified scale input s (λ x. ShowsImprove allowed spans x s) → status_of s ≡ status.Infeasible → ⊥
-improve-not_none allowed scale spans input s told none =
-    MatchResult_shows status.Infeasible (certified_at scale input) (certified_at scale input) (λ (x : CertifiedInstance). ShowsImprove allowed spans x s) s ⊥ (λ e. cc e) refl none told
-    (λ x is shows. improved-not_none allowed scale spans input x is s shows none)
+      abbrev OfAlone : Type 0
+      OfAlone = OfCertified n input s (λ (x : CertifiedInstance). ShowsImprove allowed spans x.instance every x.certificate s)
 
-pub improve-rejection : (allowed : Allowance) (scale : ℕ) (spans : Bool) (input : List ℕ) (number : ℕ) → OfCertified scale input (shown.RejectedPart number) (λ x. ShowsImprove allowed spans x (shown.RejectedPart number)) →
-    ShowsNo (λ p c part. ShowsUntold (record p { scale = scale }) c part) input (shown.RejectedPart number)
-improve-rejection allowed scale spans input number told =
-    MatchResult_shows status.Rejected (certified_at scale input) (certified_at scale input) (λ (x : CertifiedInstance). ShowsImprove allowed spans x (shown.RejectedPart number)) (shown.RejectedPart number)
-    (ShowsNo (λ p c part. ShowsUntold (record p { scale = scale }) c part) input (shown.RejectedPart number)) (λ e. cc e) refl refl told
-    (λ x is shows. improved-rejected allowed scale spans input x is number shows)
+      -- what is given by an instance alone
+      alone-gives : (t : Status) (D : Problem → Wanted → Statement → Type 0) → (status.BadInput ≡ t → ⊥) → ((p : Problem) (wanted : Wanted) (c : Statement) → ShowsImprove allowed spans p wanted c s → D p wanted c) → OfAlone → status_of s ≡ t → GivesCertified n input D
+      alone-gives t D not_refused each told same =
+          MatchResult_shows t (certified_at n input) (certified_at n input) (λ (x : CertifiedInstance). ShowsImprove allowed spans x.instance every x.certificate s) s (GivesCertified n input D) not_refused refl same told
+          (λ x is shows. record { instance = x.instance; certificate = x.certificate; read = is; holds = each x.instance every x.certificate shows })
 
--- what is enough for a search of all plans is so whatever it begins with
-pub enough-from : (p : Problem) (plan : List (List Leg)) (allowed : Allowance) (spent : Spent) → IsEnough p every allowed spent → IsEnough p (every_from plan) allowed spent
-enough-from p plan allowed Rounds is = is
-enough-from p plan allowed Branches is = is
-enough-from p plan allowed Time is = is
+      improve-gives : (t : Status) (D : Problem → Wanted → Statement → Type 0) → (status.Rejected ≡ t → ⊥) → (status.BadInput ≡ t → ⊥) → ((p : Problem) (wanted : Wanted) (c : Statement) → ShowsImprove allowed spans p wanted c s → D p wanted c) →
+          ShowsImproveOf allowed n spans input s → status_of s ≡ t → MatchBool (has_tail_in input) (GivesOfTail (asked.Of n) input D) (GivesCertified n input D)
+      improve-gives t D not_rejected not_refused each told same =
+          each-of (has_tail_in input) OfTail OfAlone (GivesOfTail (asked.Of n) input D) (GivesCertified n input D)
+          (λ of. tail-gives (asked.Of n) input s (λ p wanted c. ShowsImprove allowed spans p wanted c s) t D not_rejected not_refused each of same) (λ of. alone-gives t D not_refused each of same) told
 
--- the one status of `improve` for an instance and a certificate
-module _ (allowed : Allowance) (spans : Bool) (x : CertifiedInstance) where
-  end-status : (y : Solution) (told : IsImproved x.instance x.certificate allowed spans y) → SearchEnd x.instance (every_from told.plan) allowed y.certificate.answer → ImproveStatus x.instance x.certificate allowed (search_status y.certificate.answer)
-  end-status y told (optimal cost same plans) = inl (ap search_status same, told.told.tells)
-  end-status y told (unfinished cost bound spent same bounds) = inr (inl (ap search_status same, told.told.tells, (spent, λ enough. bounds.scarce (enough-from x.instance told.plan allowed spent enough))))
+      pub improve-done : ShowsImproveOf allowed n spans input s → status_of s ≡ status.Done →
+          MatchBool (has_tail_in input) (GivesOfTail (asked.Of n) input (λ p wanted c. IsOptimalImprovement allowed spans p wanted c s)) (GivesCertified n input (λ p wanted c. IsOptimalImprovement allowed spans p wanted c s))
+      improve-done told done = improve-gives status.Done (λ p wanted c. IsOptimalImprovement allowed spans p wanted c s) (λ e. cc e) (λ e. cc e) (optimal-of s done) told done
 
-  pub improve-status : (s : Shown) → ShowsImprove allowed spans x s → ImproveStatus x.instance x.certificate allowed (status_of s)
-  improve-status (shown.Planned q y) told = end-status y told.1 (search-end x.instance (every_from told.1.plan) allowed y.certificate.answer told.1.searched.says)
-  improve-status (shown.RejectedPart number) told = inr (inr (refl, told.untold))
-  improve-status _ told = absurd told
+      pub improve-open : ShowsImproveOf allowed n spans input s → status_of s ≡ status.Unfinished →
+          MatchBool (has_tail_in input) (GivesOfTail (asked.Of n) input (λ p wanted c. IsOpenImprovement allowed spans p wanted c s)) (GivesCertified n input (λ p wanted c. IsOpenImprovement allowed spans p wanted c s))
+      improve-open told ends = improve-gives status.Unfinished (λ p wanted c. IsOpenImprovement allowed spans p wanted c s) (λ e. cc e) (λ e. cc e) (open-of s ends) told ends
+
+      pub improve-no_other : (t : Status) → (status.Done ≡ t → ⊥) → (status.Unfinished ≡ t → ⊥) → (status.Rejected ≡ t → ⊥) → (status.BadInput ≡ t → ⊥) → ShowsImproveOf allowed n spans input s → status_of s ≡ t → ⊥
+      improve-no_other t not_done not_open not_rejected not_refused told same =
+          both-give (has_tail_in input) OfTail OfAlone ⊥
+          (λ is of. tail-no_other (asked.Of n) input s (λ p wanted c. ShowsImprove allowed spans p wanted c s) t not_rejected not_refused (shown-no_other t not_done not_open not_rejected s same) of same)
+          (λ is of. MatchResult_shows t (certified_at n input) (certified_at n input) (λ (x : CertifiedInstance). ShowsImprove allowed spans x.instance every x.certificate s) s ⊥ not_refused refl same of
+          (λ x read shows. shown-no_other t not_done not_open not_rejected s same x.instance every x.certificate shows)) told
+
+      pub improve-ends : ShowsImproveOf allowed n spans input s →
+          MatchBool (has_tail_in input) (EndsOfTail (asked.Of n) input (status_of s) (λ p wanted c. ImproveStatus allowed p wanted c (status_of s)))
+          (MatchResult (certified_at n input) (λ (x : CertifiedInstance). ImproveStatus allowed x.instance every x.certificate (status_of s)) (λ (f : Fault). status_of s ≡ status.BadInput))
+      improve-ends told =
+          each-of (has_tail_in input) OfTail OfAlone (EndsOfTail (asked.Of n) input (status_of s) (λ p wanted c. ImproveStatus allowed p wanted c (status_of s)))
+          (MatchResult (certified_at n input) (λ (x : CertifiedInstance). ImproveStatus allowed x.instance every x.certificate (status_of s)) (λ (f : Fault). status_of s ≡ status.BadInput))
+          (tail-ends (asked.Of n) input s (λ p wanted c. ShowsImprove allowed spans p wanted c s) (λ p wanted c. ImproveStatus allowed p wanted c (status_of s)) (improve-status s))
+          (read-gives (certified_at n input) (λ (x : CertifiedInstance). ShowsImprove allowed spans x.instance every x.certificate s) (λ (x : CertifiedInstance). ImproveStatus allowed x.instance every x.certificate (status_of s)) s
+          (λ (x : CertifiedInstance). improve-status s x.instance every x.certificate)) told
+
+    -- a rejection is of a certificate that tells no plan
+    alone-rejected : (number : ℕ) (x : CertifiedInstance) → certified_at n input ≡ Ok x → ShowsUntold x.instance every x.certificate number → ShowsNo (λ p c part. ShowsUntold (record p { scale = n }) every c part) input (shown.RejectedPart number)
+    alone-rejected number x read told =
+        let parts : CertifiedParts n input x = certified-parts n input x read in
+        record {
+          instance = parts.instance;
+          certificate = x.certificate;
+          number = number;
+          read = parts.read;
+          certified = parts.certified;
+          shows = refl;
+          rejected = subst (λ (p : Problem). ShowsUntold p every x.certificate number) parts.at told;
+        }
+
+    pub improve-rejection : (number : ℕ) → ShowsImproveOf allowed n spans input (shown.RejectedPart number) →
+        MatchBool (has_tail_in input) (RejectsTail (asked.Of n) input (shown.RejectedPart number)) (ShowsNo (λ p c part. ShowsUntold (record p { scale = n }) every c part) input (shown.RejectedPart number))
+    improve-rejection number told =
+        each-of (has_tail_in input) (OfTail (shown.RejectedPart number)) (OfAlone (shown.RejectedPart number)) (RejectsTail (asked.Of n) input (shown.RejectedPart number)) (ShowsNo (λ p c part. ShowsUntold (record p { scale = n }) every c part) input (shown.RejectedPart number))
+        (λ of. tail-rejects (asked.Of n) input (shown.RejectedPart number) (λ p wanted c. ShowsImprove allowed spans p wanted c (shown.RejectedPart number)) (untold-of number) of refl)
+        (λ of. MatchResult_shows status.Rejected (certified_at n input) (certified_at n input) (λ (x : CertifiedInstance). ShowsImprove allowed spans x.instance every x.certificate (shown.RejectedPart number)) (shown.RejectedPart number)
+        (ShowsNo (λ p c part. ShowsUntold (record p { scale = n }) every c part) input (shown.RejectedPart number)) (λ e. cc e) refl refl of (λ x is shows. alone-rejected number x is shows)) told
+
+    -- a refusal is by the first fault
+    pub improve-fault : (budget : Budget) (seconds : Option ℕ) (notes : Bool) (ordinal code : ℕ) → ShowsImproveOf allowed n spans input (shown.BadInput ordinal code) →
+        ShowsFault (Some (order.Improve budget n spans seconds notes)) input (shown.BadInput ordinal code)
+    improve-fault budget seconds notes ordinal code told =
+        both-give (has_tail_in input) (OfTail (shown.BadInput ordinal code)) (OfAlone (shown.BadInput ordinal code)) (ShowsFault (Some (order.Improve budget n spans seconds notes)) input (shown.BadInput ordinal code))
+        (λ tail of. record {
+          fault = record { ordinal = ordinal; code = code };
+          first = rw tail (tail-refused (asked.Of n) input (λ p wanted c. ShowsImprove allowed spans p wanted c (shown.BadInput ordinal code)) ordinal code (λ p wanted c none. none) of);
+          shows = refl;
+        })
+        (λ alone of. let x = read-fault (certified_at n input) (λ (x : CertifiedInstance). ShowsImprove allowed spans x.instance every x.certificate (shown.BadInput ordinal code)) (shown.BadInput ordinal code) (λ x none. none) of in
+        record { fault = x.0; first = rw alone x.1; shows = x.2 }) told

@@ -12,11 +12,10 @@ use Rattle.fp_app_words.specs.declared.orders.Order.TheVariants.{Direct, Check, 
 use Rattle.fp_app.specs.declared.shown.Shown.{Shown}
 use Rattle.fp_app.specs.declared.shown.Shown.TheVariants as shown
 use Rattle.fp_app.specs.declared.shown.Status.TheVariants as status
-use Rattle.fp_app.specs.Causes.{AloneStatus, CheckStatus, ImproveStatus, InputStatus, PlanStatus, SearchStatus, StatusOf, ToldStatus, TrialStatus, QuoteStatus}
+use Rattle.fp_app.specs.Causes.{AloneStatus, CheckStatus, InputStatus, PlanStatus, SearchStatus, StatusOf, ToldStatus, TrialStatus, QuoteStatus}
 use Rattle.fp_app.specs.Checks.{ShowsCheck}
 use Rattle.fp_app_tails.specs.Verdicts.{scaled}
-use Rattle.fp_app.specs.Improvements.{ShowsImprove}
-use Rattle.fp_app.specs.Inputs.{CertifiedInstance, OfCertificate, certificate_in, certified_at, has_tail_in, instance_at, instance_in, leading_instance_in, limit_of, reads_source, named_in, quoted_in}
+use Rattle.fp_app.specs.Inputs.{OfCertificate, certificate_in, has_tail_in, instance_at, instance_in, leading_instance_in, limit_of, reads_source, named_in, quoted_in}
 use Rattle.fp_app.specs.NamedCauses.{NamedStatus}
 use Rattle.fp_app.specs.NamedQuotes.{ShowsNamedQuote}
 use Rattle.fp_app.specs.Runs.{Answers, OfInput, ShowsAlone, ShowsBound, ShowsDirect, ShowsInput, ShowsSearch, ShowsQuote}
@@ -25,7 +24,8 @@ use Rattle.fp_app.specs.Shown.{search_status, status_of}
 use Rattle.fp_app.specs.Fleets.{ShowsFleet}
 use Rattle.fp_app.specs.Yards.{ShowsYard}
 use Rattle.fp_app.proofs.FleetCauses.{fleet-status}
-use Rattle.fp_app.proofs.ImproveCauses.{improve-status}
+use Rattle.fp_app.proofs.ImproveCauses.{improve-ends}
+use Rattle.fp_app.proofs.PlanCauses.{plan-ends}
 use Rattle.fp_app.proofs.YardCauses.{yard-status}
 use Rattle.fp_app.proofs.SearchEnds.{SearchEnd, optimal, search-end, unfinished}
 use Rattle.fp_app.specs.Wanted.{every}
@@ -91,11 +91,10 @@ module _ (over : Bool) where
   ShowsInput-InputStatus (Plan budget scale spans seconds notes) input s told =
       MatchResult_map (instance_at scale input) (λ p. ShowsSearch (within budget over) spans p s) (λ p. SearchStatus p every (within budget over) (status_of s)) s (λ p. search-input-status p (within budget over) spans s) told
   ShowsInput-InputStatus (Improve budget scale spans seconds notes) input s told =
-      MatchResult_map (certified_at scale input) (λ (x : CertifiedInstance). ShowsImprove (within budget over) spans x s) (λ (x : CertifiedInstance). ImproveStatus x.instance x.certificate (within budget over) (status_of s)) s
-      (λ (x : CertifiedInstance). improve-status (within budget over) spans x s) told
+      improve-ends (within budget over) spans scale input s told
   ShowsInput-InputStatus (Trial seed terminals shipments) input s told = absurd told
-  ShowsInput-InputStatus (Yard seed) input s told = certificate-map input s (λ p c. ShowsYard seed p c s) (λ p c. ToldStatus p c (status_of s)) (λ p c. yard-status seed p c s) told
-  ShowsInput-InputStatus (Fleet trucks) input s told = certificate-map input s (λ p c. ShowsFleet trucks p c s) (λ p c. ToldStatus p c (status_of s)) (λ p c. fleet-status trucks p c s) told
+  ShowsInput-InputStatus (Yard seed) input s told = plan-ends input s (λ p wanted c. ShowsYard seed p wanted c s) (λ p wanted c. ToldStatus p wanted c (status_of s)) (yard-status seed s) told
+  ShowsInput-InputStatus (Fleet trucks) input s told = plan-ends input s (λ p wanted c. ShowsFleet trucks p wanted c s) (λ p wanted c. ToldStatus p wanted c (status_of s)) (fleet-status trucks s) told
   ShowsInput-InputStatus (Replan budget spans seconds notes) input s told = tail-status (within budget over) spans input s told
   ShowsInput-InputStatus (Quote budget spans seconds notes None) input s told =
       MatchResult_map (quoted_in input) (λ p. ShowsQuote (within budget over) spans p s) (λ p. QuoteStatus p (within budget over) (status_of s)) s (λ p. quote-status (within budget over) spans p s) told

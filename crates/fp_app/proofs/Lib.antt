@@ -1,4 +1,5 @@
 pub mod AnswerRecords
+pub mod BegunSearches
 pub mod CertificateInputs
 pub mod CertificateScales
 pub mod CertifiedInputs
@@ -15,6 +16,7 @@ pub mod PlainValues
 pub mod PlansAccepted
 pub mod NoAnswers
 pub mod TailInstances
+pub mod ScaledPlans
 pub mod ReplansAccepted
 pub mod QuoteCauses
 pub mod NamedCauses
@@ -27,6 +29,8 @@ pub mod Rejections
 pub mod ReplanCauses
 pub mod DayCauses
 pub mod TailCauses
+pub mod TailAnswers
+pub mod PlanCauses
 pub mod TailNotes
 pub mod SaidCauses
 pub mod RootValues

@@ -26,7 +26,7 @@ use Rattle.fp_app.specs.Quotes.{IsUnfinished}
 use Rattle.fp_app.specs.Searches.{Allowance, IsBoundBelow}
 use Rattle.fp_app.specs.Shown.{both_status, search_status, status_of}
 use Rattle.fp_app.specs.Wanted.{every, every_from}
-use Rattle.fp_app.proofs.ImproveCauses.{enough-from}
+use Rattle.fp_app.proofs.BegunSearches.{enough-from}
 use Rattle.fp_app.proofs.NamedClaims.{figures-from}
 use Rattle.fp_app.proofs.ReadCauses.{MatchResult_shows}
 use Rattle.fp_app.proofs.SearchEnds.{SearchEnd, both-no_other, optimal, search-end, unfinished}
@@ -37,7 +37,7 @@ begun p k allowed spans before after more told = start_of (with_last p k) (route
 
 -- a bound among plans from one on is one among all
 every-below : (p : Problem) (plan : List (List Leg)) (allowed : Allowance) (cost bound : ℕ) (spent : Spent) → IsBoundBelow p (every_from plan) allowed cost bound spent → IsBoundBelow p every allowed cost bound spent
-every-below p plan allowed cost bound spent is = record { plans = is.plans; below = is.below; flat = is.flat; scarce = λ enough. is.scarce (enough-from p plan allowed spent enough) }
+every-below p plan allowed cost bound spent is = record { plans = is.plans; below = is.below; flat = is.flat; scarce = λ enough. is.scarce (enough-from p every plan allowed spent enough) }
 
 -- where a plan with the shipment is shown there is one of the instance as it was read
 named-exists : (p : Problem) (k : ℕ) (allowed : Allowance) (spans : Bool) (before after : Solution) (more : ℕ) → IsNamedQuote p k allowed spans before after more → PlanExists p
@@ -162,7 +162,7 @@ module _ (p : Problem) (k : ℕ) (name : List ℕ) (allowed : Allowance) (spans 
       inr (inl (
         ap (λ (x : Answer). both_status x With) first ∙ ap search_status second,
         named-exists p k allowed spans before after more told,
-        (k, spent, named, λ enough. bounds.scarce (enough-from (with_last p k) (begun p k allowed spans before after more told) allowed spent enough.1)),
+        (k, spent, named, λ enough. bounds.scarce (enough-from (with_last p k) every (begun p k allowed spans before after more told) allowed spent enough.1)),
       ))
   both-ends (unfinished cost bound spent first bounds) other =
       inr (inl (ap (λ (x : Answer). both_status x With) first, named-exists p k allowed spans before after more told, (k, spent, named, λ enough. bounds.scarce enough.0)))

@@ -54,7 +54,7 @@ module _ (p : Problem) (plan : List (List Leg)) (allowed : Allowance) where
   says-tells (Unfinished cost bound spent) says = tt
   says-tells _ says = absurd says
 
-  pub tells-from : (spans : Bool) (s : Solution) → IsSearched p (every_from plan) allowed spans s → TellsTimetable p s.certificate
+  pub tells-from : (spans : Bool) (s : Solution) → IsSearched p (every_from plan) allowed spans s → TellsTimetable p every s.certificate
   tells-from spans s told = record { table = told.table; windows = told.windows; answer = says-tells s.certificate.answer told.says; timetable = told.timetable }
 
 says-tells_every : (p : Problem) (allowed : Allowance) (a : Answer) → SaysOfPlans p every allowed a → TellsPlan a
@@ -62,7 +62,7 @@ says-tells_every p allowed (Optimal cost) says = tt
 says-tells_every p allowed (Unfinished cost bound spent) says = tt
 says-tells_every p allowed _ says = absurd says
 
-pub tells-every : (p : Problem) (allowed : Allowance) (spans : Bool) (s : Solution) → IsSearched p every allowed spans s → TellsTimetable p s.certificate
+pub tells-every : (p : Problem) (allowed : Allowance) (spans : Bool) (s : Solution) → IsSearched p every allowed spans s → TellsTimetable p every s.certificate
 tells-every p allowed spans s told = record { table = told.table; windows = told.windows; answer = says-tells_every p allowed s.certificate.answer told.says; timetable = told.timetable }
 
 -- the quote of the last shipment

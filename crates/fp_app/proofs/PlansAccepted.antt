@@ -21,7 +21,7 @@ use Rattle.fp_app_tails.specs.Verdicts.{scale_of, scaled}
 use Rattle.fp_app.specs.Inputs.{certificate_in, has_tail_in, instance_in, leading_instance_in, read_at_scale}
 use Rattle.fp_app.specs.Laws.{CheckAcceptsPlans}
 use Rattle.fp_app.specs.Texts.{certificate_text}
-use Rattle.fp_app.specs.Wanted.{AreWindowsFor, LooksForAll, Wanted, every, every_from, going_on, keeping}
+use Rattle.fp_app.specs.Wanted.{AreWindowsFor, LooksForAll, Wanted, every, every_from, going_on, going_on_from, keeping, keeping_from}
 use Rattle.fp_app.proofs.AnswerRecords.{BeginsWithAnswer, certificate-begins, unkept-whole}
 use Rattle.fp_app.proofs.NoAnswers.{Records, before_answer, instance-no_answer, none-before_answer}
 use Rattle.fp_app.proofs.CertificateScales.{certificate-scale, scale_of-named}
@@ -106,7 +106,9 @@ all-windows : (p : Problem) (wanted : Wanted) (table : WindowTable) → LooksFor
 all-windows p every table all windows = windows
 all-windows p (every_from plan) table all windows = windows
 all-windows p (keeping kept) table all windows = absurd all
+all-windows p (keeping_from kept plan) table all windows = absurd all
 all-windows q (going_on p day) table all windows = absurd all
+all-windows q (going_on_from p day plan) table all windows = absurd all
 
 pub CheckAcceptsPlans_hold : CheckAcceptsPlans
 CheckAcceptsPlans_hold allowed wanted scale spans input longer p s all read searched joined result is =

@@ -14,17 +14,17 @@ use Rattle.fp_app.specs.declared.shown.Shown.TheVariants as shown
 use Rattle.fp_app.specs.declared.shown.Status.TheVariants as status
 use Rattle.fp_app.specs.Checks.{ShowsCheck}
 use Rattle.fp_app_tails.specs.Verdicts.{scaled}
-use Rattle.fp_app.specs.Fleets.{ShowsFleet}
-use Rattle.fp_app.specs.Improvements.{ShowsImprove}
-use Rattle.fp_app.specs.Inputs.{CertifiedInstance, OfCertificate, certificate_in, certified_at, has_tail_in, instance_at, instance_in, leading_instance_in, limit_of, reads_source, named_in, quoted_in}
+use Rattle.fp_app.specs.Inputs.{OfCertificate, certificate_in, has_tail_in, instance_at, instance_in, leading_instance_in, limit_of, reads_source, named_in, quoted_in}
 use Rattle.fp_app.specs.NamedQuotes.{ShowsNamedQuote}
-use Rattle.fp_app.specs.Runs.{Answers, OfInput, Reach, ShowsAlone, ShowsBound, ShowsDirect, ShowsInput, ShowsSearch, ShowsTrial, Writes, reach_of, whole, ShowsQuote, ShowsTail}
+use Rattle.fp_app.specs.Runs.{Answers, OfInput, Reach, ShowsAlone, ShowsBound, ShowsDirect, ShowsInput, ShowsSearch, ShowsTrial, Writes, reach_of, whole, ShowsFleetOf, ShowsImproveOf, ShowsQuote, ShowsTail, ShowsYardOf}
 use Rattle.fp_app.specs.Shown.{search_status, status_of, both_status}
-use Rattle.fp_app.specs.Yards.{ShowsYard}
 use Rattle.fp_app.specs.Texts.{IsText}
 use Rattle.fp_app.specs.Searches.{Allowance, within}
 use Rattle.fp_app.proofs.SearchEnds.{both-no_other, search-no_other}
+use Rattle.fp_app.proofs.FleetCauses.{fleet-no_other}
+use Rattle.fp_app.proofs.ImproveCauses.{improve-no_other}
 use Rattle.fp_app.proofs.SaidCauses.{said-no_other}
+use Rattle.fp_app.proofs.YardCauses.{yard-no_other}
 use Rattle.fp_app.proofs.TailCauses.{tail-neither}
 use Rattle.fp_app.specs.TailChecks.{ShowsSaid}
 
@@ -40,12 +40,12 @@ module _ (over : Bool) where
   MatchResult_neither (Err y) P Q first second told = second y told
 
   -- what no command shows answers no order
-  module _ (s : Shown) (fault : (f : Fault) → s ≡ shown.BadInput f.ordinal f.code → ⊥) (long : s ≡ shown.TooLong → ⊥) (direct : (p : Problem) → ShowsDirect p s → ⊥)
+  module _ (s : Shown) (fault : (f : Fault) → s ≡ shown.BadInput f.ordinal f.code → ⊥) (direct : (p : Problem) → ShowsDirect p s → ⊥)
       (bound : (option : Bool) (p : Problem) → ShowsBound option p s → ⊥) (search_none : (allowed : Allowance) (spans : Bool) (p : Problem) → ShowsSearch allowed spans p s → ⊥) (check : (p : Problem) (c : Statement) → ShowsCheck p c s → ⊥) (said : (input : List ℕ) → ShowsSaid input s → ⊥)
       (replan : (allowed : Allowance) (spans : Bool) (input : List ℕ) → ShowsTail allowed spans input s → ⊥) (quote : (allowed : Allowance) (spans : Bool) (p : Problem) → ShowsQuote allowed spans p s → ⊥)
       (named : (allowed : Allowance) (spans : Bool) (name : List ℕ) (p : Problem) → ShowsNamedQuote allowed spans name p s → ⊥)
-      (alone : (o : Order) → ShowsAlone o s → ⊥) (yard : (seed : ℕ) (p : Problem) (c : Statement) → ShowsYard seed p c s → ⊥)
-      (fleet : (trucks : Bool) (p : Problem) (c : Statement) → ShowsFleet trucks p c s → ⊥) (improve : (allowed : Allowance) (spans : Bool) (x : CertifiedInstance) → ShowsImprove allowed spans x s → ⊥) where
+      (yard : (seed : ℕ) (input : List ℕ) → ShowsYardOf seed input s → ⊥)
+      (fleet : (trucks : Bool) (input : List ℕ) → ShowsFleetOf trucks input s → ⊥) (improve : (allowed : Allowance) (n : ℕ) (spans : Bool) (input : List ℕ) → ShowsImproveOf allowed n spans input s → ⊥) where
     no-certificate : (input : List ℕ) (P : Problem → Statement → Type 0) → ((p : Problem) (c : Statement) → P p c → ⊥) → OfCertificate input s P → ⊥
     no-certificate input P none told =
         MatchResult_neither (leading_instance_in input) (λ p. MatchResult (certificate_in p input) (P p) (λ (f : Fault). s ≡ shown.BadInput f.ordinal f.code)) (λ (f : Fault). s ≡ shown.BadInput f.ordinal f.code)
@@ -56,25 +56,26 @@ module _ (over : Bool) where
     no-input (Bound option seconds) input told = MatchResult_neither (instance_in input) (λ p. ShowsBound option p s) (λ (f : Fault). s ≡ shown.BadInput f.ordinal f.code) (bound option) fault told
     no-input (Plan budget scale spans seconds notes) input told =
         MatchResult_neither (instance_at scale input) (λ p. ShowsSearch (within budget over) spans p s) (λ (f : Fault). s ≡ shown.BadInput f.ordinal f.code) (search_none (within budget over) spans) fault told
-    no-input (Improve budget scale spans seconds notes) input told =
-        MatchResult_neither (certified_at scale input) (λ (x : CertifiedInstance). ShowsImprove (within budget over) spans x s) (λ (f : Fault). s ≡ shown.BadInput f.ordinal f.code) (improve (within budget over) spans) fault told
+    no-input (Improve budget scale spans seconds notes) input told = improve (within budget over) scale spans input told
     no-input (Trial seed terminals shipments) input told = told
     no-input (Replan budget spans seconds notes) input told = replan (within budget over) spans input told
     no-input (Quote budget spans seconds notes None) input told = MatchResult_neither (quoted_in input) (λ p. ShowsQuote (within budget over) spans p s) (λ (f : Fault). s ≡ shown.BadInput f.ordinal f.code) (quote (within budget over) spans) fault told
     no-input (Quote budget spans seconds notes (Some name)) input told =
         MatchResult_neither (named_in name input) (λ p. ShowsNamedQuote (within budget over) spans name p s) (λ (f : Fault). s ≡ shown.BadInput f.ordinal f.code) (named (within budget over) spans name) fault told
-    no-input (Yard seed) input told = no-certificate input (λ p c. ShowsYard seed p c s) (yard seed) told
-    no-input (Fleet trucks) input told = no-certificate input (λ p c. ShowsFleet trucks p c s) (fleet trucks) told
+    no-input (Yard seed) input told = yard seed input told
+    no-input (Fleet trucks) input told = fleet trucks input told
     no-input Check input told =
         MatchBool_neither (has_tail_in input) (ShowsSaid input s) (OfCertificate input s (λ p c. ShowsCheck (scaled p c) c s)) (said input) (no-certificate input (λ p c. ShowsCheck (scaled p c) c s) (λ p c. check (scaled p c) c)) told
 
-    no-whole : (o : Order) (old new : Option (List ℕ)) → OfInput (limit_of (Some o)) old new s (λ input. ShowsInput over o input s) → ⊥
-    no-whole o old new told =
-        MatchBool_neither (nat_lt (limit_of (Some o)) (length told.0)) (s ≡ shown.TooLong) (IsAtEnd new × ShowsInput over o told.0 s) long (λ part. no-input o told.0 part.1) told.2
+    -- where it is shown neither of an input that is too long nor by an order that reads none
+    module _ (long : s ≡ shown.TooLong → ⊥) (alone : (o : Order) → ShowsAlone o s → ⊥) where
+      no-whole : (o : Order) (old new : Option (List ℕ)) → OfInput (limit_of (Some o)) old new s (λ input. ShowsInput over o input s) → ⊥
+      no-whole o old new told =
+          MatchBool_neither (nat_lt (limit_of (Some o)) (length told.0)) (s ≡ shown.TooLong) (IsAtEnd new × ShowsInput over o told.0 s) long (λ part. no-input o told.0 part.1) told.2
 
-    no-answer : (o : Order) (old new : Option (List ℕ)) → Answers over (Some o) old new s → ⊥
-    no-answer o old new told =
-        MatchBool_neither (reads_source o) (OfInput (limit_of (Some o)) old new s (λ input. ShowsInput over o input s)) (ShowsAlone o s) (no-whole o old new) (alone o) told
+      no-answer : (o : Order) (old new : Option (List ℕ)) → Answers over (Some o) old new s → ⊥
+      no-answer o old new told =
+          MatchBool_neither (reads_source o) (OfInput (limit_of (Some o)) old new s (λ input. ShowsInput over o input s)) (ShowsAlone o s) (no-whole o old new) (alone o) told
 
   alone-shows_trial : (s : Shown) → ((seed terminals shipments : ℕ) → ShowsTrial seed terminals shipments s → ⊥) → (o : Order) → ShowsAlone o s → ⊥
   alone-shows_trial s none (Trial seed terminals shipments) told = none seed terminals shipments told
@@ -82,11 +83,16 @@ module _ (over : Bool) where
 
   nothing-no_order : (o : Order) (old new : Option (List ℕ)) → Answers over (Some o) old new shown.Nothing → ⊥
   nothing-no_order o old new told =
-      no-answer shown.Nothing (λ f e. cc e) (λ e. cc e) (λ p none. none) (λ option p none. none) (λ allowed spans p none. none) (λ p c none. none) (λ input told. said-no_other status.NoMemory input shown.Nothing (λ e. cc e) (λ e. cc e) (λ e. cc e) told refl) (λ allowed spans input told. tail-neither allowed spans input shown.Nothing (λ x none. none) (λ x none. none) (λ f e. cc e) told) (λ allowed spans p none. none) (λ allowed spans name p none. none) (alone-shows_trial shown.Nothing (λ seed terminals shipments none. none)) (λ seed p c none. none) (λ trucks p c none. none) (λ allowed spans x none. none) o old new told
+      no-answer shown.Nothing (λ f e. cc e) (λ p none. none) (λ option p none. none) (λ allowed spans p none. none) (λ p c none. none) (λ input told. said-no_other status.NoMemory input shown.Nothing (λ e. cc e) (λ e. cc e) (λ e. cc e) told refl) (λ allowed spans input told. tail-neither allowed spans input shown.Nothing (λ x none. none) (λ x none. none) (λ f e. cc e) told) (λ allowed spans p none. none) (λ allowed spans name p none. none) (λ seed input told. yard-no_other seed status.NoMemory (λ e. cc e) (λ e. cc e) (λ e. cc e) input shown.Nothing told refl) (λ trucks input told. fleet-no_other trucks status.NoMemory (λ e. cc e) (λ e. cc e) (λ e. cc e) input shown.Nothing told refl) (λ allowed n spans input told. improve-no_other allowed spans n input shown.Nothing status.NoMemory (λ e. cc e) (λ e. cc e) (λ e. cc e) (λ e. cc e) told refl) (λ e. cc e) (alone-shows_trial shown.Nothing (λ seed terminals shipments none. none)) o old new told
 
   words-no_order : (o : Order) (old new : Option (List ℕ)) → Answers over (Some o) old new shown.BadWords → ⊥
   words-no_order o old new told =
-      no-answer shown.BadWords (λ f e. cc e) (λ e. cc e) (λ p none. none) (λ option p none. none) (λ allowed spans p none. none) (λ p c none. none) (λ input told. said-no_other status.BadWords input shown.BadWords (λ e. cc e) (λ e. cc e) (λ e. cc e) told refl) (λ allowed spans input told. tail-neither allowed spans input shown.BadWords (λ x none. none) (λ x none. none) (λ f e. cc e) told) (λ allowed spans p none. none) (λ allowed spans name p none. none) (alone-shows_trial shown.BadWords (λ seed terminals shipments none. none)) (λ seed p c none. none) (λ trucks p c none. none) (λ allowed spans x none. none) o old new told
+      no-answer shown.BadWords (λ f e. cc e) (λ p none. none) (λ option p none. none) (λ allowed spans p none. none) (λ p c none. none) (λ input told. said-no_other status.BadWords input shown.BadWords (λ e. cc e) (λ e. cc e) (λ e. cc e) told refl) (λ allowed spans input told. tail-neither allowed spans input shown.BadWords (λ x none. none) (λ x none. none) (λ f e. cc e) told) (λ allowed spans p none. none) (λ allowed spans name p none. none) (λ seed input told. yard-no_other seed status.BadWords (λ e. cc e) (λ e. cc e) (λ e. cc e) input shown.BadWords told refl) (λ trucks input told. fleet-no_other trucks status.BadWords (λ e. cc e) (λ e. cc e) (λ e. cc e) input shown.BadWords told refl) (λ allowed n spans input told. improve-no_other allowed spans n input shown.BadWords status.BadWords (λ e. cc e) (λ e. cc e) (λ e. cc e) (λ e. cc e) told refl) (λ e. cc e) (alone-shows_trial shown.BadWords (λ seed terminals shipments none. none)) o old new told
+
+  -- no order shows of an input that it's too long
+  pub long-no_input : (o : Order) (input : List ℕ) → ShowsInput over o input shown.TooLong → ⊥
+  long-no_input o input told =
+      no-input shown.TooLong (λ f e. cc e) (λ p none. none) (λ option p none. none) (λ allowed spans p none. none) (λ p c none. none) (λ input told. said-no_other status.TooLong input shown.TooLong (λ e. cc e) (λ e. cc e) (λ e. cc e) told refl) (λ allowed spans input told. tail-neither allowed spans input shown.TooLong (λ x none. none) (λ x none. none) (λ f e. cc e) told) (λ allowed spans p none. none) (λ allowed spans name p none. none) (λ seed input told. yard-no_other seed status.TooLong (λ e. cc e) (λ e. cc e) (λ e. cc e) input shown.TooLong told refl) (λ trucks input told. fleet-no_other trucks status.TooLong (λ e. cc e) (λ e. cc e) (λ e. cc e) input shown.TooLong told refl) (λ allowed n spans input told. improve-no_other allowed spans n input shown.TooLong status.TooLong (λ e. cc e) (λ e. cc e) (λ e. cc e) (λ e. cc e) told refl) o input told
 
   nothing-no_answer : (o : Option Order) (old new : Option (List ℕ)) → Answers over o old new shown.Nothing → ⊥
   nothing-no_answer None old new told = cc told

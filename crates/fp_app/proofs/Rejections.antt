@@ -56,7 +56,7 @@ module _ (over : Bool) where
   ShowsNo_input Direct input number told = absurd (rejection-unread number (instance_in input) told)
   ShowsNo_input (Bound option seconds) input number told = absurd (rejection-unread number (instance_in input) told)
   ShowsNo_input (Plan budget scale spans seconds notes) input number told = absurd (rejection-unread number (instance_at scale input) told)
-  ShowsNo_input (Improve budget scale spans seconds notes) input number told = improve-rejection (within budget over) scale spans input number told
+  ShowsNo_input (Improve budget scale spans seconds notes) input number told = improve-rejection (within budget over) spans scale input number told
   ShowsNo_input (Trial seed terminals shipments) input number told = absurd told
   ShowsNo_input (Yard seed) input number told = yard-rejection seed input number told
   ShowsNo_input (Fleet trucks) input number told = fleet-rejection trucks input number told

@@ -1,80 +1,73 @@
--- `check` accepts what `replan` prints, after the records that were handed to it.
+-- `check` accepts what `replan` and `improve` print, after the records that were handed to them.
 use Rattle.std.proofs.Common.{◌≡◌, ◌∙◌, ℕ, ◌+◌, ◌<◌, ◌≤◌, ◌^◌, true, false, List, ◌++◌, length, drop, take, refl, sym, ap, subst, inl, inr}
-use Rattle.std.specs.Prelude.{Some, None, MatchResult, Result, Ok}
+use Rattle.std.specs.Prelude.{Option, Some, None, MatchResult, Result, Ok}
 use Rattle.std.proofs.Math.Seq.{drop-append_seam, take-append_seam}
 use Rattle.std.proofs.lemmas.List.{drop_all}
 use Rattle.std.specs.List.{list_any}
-use Rattle.std.proofs.lemmas.Bool.{cases_Bool, lt-ltb, ltb-false}
+use Rattle.std.proofs.lemmas.Bool.{cases_Bool, lt-ltb, ltb-false, ltb-true}
+use Rattle.fp_model.specs.declared.parts.Leg.{Leg}
 use Rattle.fp_model.specs.Problem.{Problem, weight_at}
 use Rattle.fp_records.specs.Fields.{records_of}
 use Rattle.fp_records_fields.specs.Faults.{Fault}
 use Rattle.fp_flatnet.specs.Tables.{WindowTable}
 use Rattle.fp_certificate_lines.specs.Statements.{Statement}
 use Rattle.fp_certificate_rules.specs.Accepted.{IsAccepted}
-use Rattle.fp_certificate.specs.Reading.{certificate_of}
+use Rattle.fp_certificate.specs.Reading.{certificate_of, nothing_read}
 use Rattle.fp_app_tails.specs.declared.verdicts.Verdict.{Verdict}
 use Rattle.fp_app_tails.specs.declared.verdicts.Verdict.TheVariants as verdict
 use Rattle.fp_app_tails.specs.Ahead.{GoesOn, ahead_problem}
+use Rattle.fp_app_tails.specs.Answers.{at_scale, fits}
 use Rattle.fp_app_tails.specs.Duties.{Duty, go_on, keep}
 use Rattle.fp_app_tails.specs.Tails.{day_told, has_tail, kept_told, tells_day, tells_more, unkept_instance, unkept_records}
 use Rattle.fp_app_tails.specs.Verdicts.{AreWindowsAhead, IsCertificateSaid, IsScaledVerdict, IsVerdict, IsVerdictAhead, IsVerdictAt, begins_stuck, scale_of, scaled}
 use Rattle.fp_replan.specs.declared.kept.Kept.{Kept}
 use Rattle.fp_replan_present.specs.Days.{Day}
-use Rattle.fp_replan_present.specs.Rests.{left_problem}
-use Rattle.fp_session.specs.Certificates.{named_scale}
+use Rattle.fp_app_tails.proofs.Scales.{ahead-at}
 use Rattle.fp_app_words.specs.declared.orders.Order.TheVariants.{Check}
 use Rattle.fp_app.specs.declared.shown.Status.{Status}
 use Rattle.fp_app.specs.declared.shown.Status.TheVariants as status
 use Rattle.fp_app.specs.Causes.{InputStatus}
 use Rattle.fp_app.specs.Inputs.{has_tail_in, leading_count}
-use Rattle.fp_app.specs.Laws.{CheckAcceptsReplans}
-use Rattle.fp_app.specs.Searches.{IsSearched}
+use Rattle.fp_app.specs.Laws.{CheckAcceptsReplans, IsTold, LooksForTold}
 use Rattle.fp_app.specs.Shown.{status_of}
 use Rattle.fp_app.specs.TailChecks.{SaidStatus, shown_of}
 use Rattle.fp_app.specs.Texts.{certificate_text}
-use Rattle.fp_app.specs.Wanted.{every, every_from, going_on, keeping}
+use Rattle.fp_app.specs.Wanted.{AreWindowsFor, Wanted, WantedExists, from_plan, wanted_by}
 use Rattle.fp_app.proofs.AnswerRecords.{BeginsWithAnswer, certificate-begins, certificate-not_stuck}
-use Rattle.fp_app.proofs.CertificateScales.{scale_of-named}
+use Rattle.fp_app.proofs.BegunSearches.{windows-from}
+use Rattle.fp_app.proofs.CertificateScales.{certificate-scale, scale_of-named}
 use Rattle.fp_app.proofs.NoAnswers.{Records, before_answer, none-before_answer}
-use Rattle.fp_app.proofs.OneKeptTable.{AreDayWindows-unique, AreKeptWindowsOf-unique}
-use Rattle.fp_app.proofs.SearchClaims.{searched-exists}
-use Rattle.fp_app.proofs.TailInstances.{IsReadOf, day-read, kept-read}
+use Rattle.fp_app.proofs.ScaledPlans.{goes-on}
+use Rattle.fp_app.proofs.SearchClaims.{searched-exists, windows-one}
+use Rattle.fp_app.proofs.TailAnswers.{wanted-windows}
+use Rattle.fp_app.proofs.TailInstances.{IsReadOf, IsUsual, day-read, kept-read}
 
--- a certificate that is accepted under a table of what is to be planned, the only one
-module _ (p : Problem) (duty : Duty) (c : Statement) (table : WindowTable) (one : (other : WindowTable) → AreWindowsAhead p duty other → other ≡ table) (goes : GoesOn p duty) (accepted : IsAccepted (ahead_problem p duty) table c) where
+-- a certificate that is accepted at its scale under a table of what is to be planned, the only one
+module _ (p : Problem) (duty : Duty) (c : Statement) (table : WindowTable) (one : (other : WindowTable) → AreWindowsAhead (scaled p c) duty other → other ≡ table) (goes : GoesOn (scaled p c) duty) (accepted : IsAccepted (ahead_problem (scaled p c) duty) table c)
+    (light : weight_at (scale_of c.scale) p.arcs p.shipments < 2 ^ 127) where
   abbrev IsYes : Verdict → Type 0
   IsYes v = status_of (shown_of v) ≡ status.Done
 
-  at-yes : (v : Verdict) → IsVerdictAt p duty c v → IsYes v
+  at-yes : (v : Verdict) → IsVerdictAt (scaled p c) duty c v → IsYes v
   at-yes (verdict.Accepted (Some a)) is = refl
   at-yes (verdict.Accepted None) is = absurd is
   at-yes (verdict.Rejected number) (inl none) = absurd (none.1 goes)
   at-yes (verdict.Rejected number) (inr rejected) =
-      let here : IsAccepted (ahead_problem p duty) rejected.table c = subst (λ (t : WindowTable). IsAccepted (ahead_problem p duty) t c) (sym (one rejected.table rejected.windows)) accepted in
+      let here : IsAccepted (ahead_problem (scaled p c) duty) rejected.table c = subst (λ (t : WindowTable). IsAccepted (ahead_problem (scaled p c) duty) t c) (sym (one rejected.table rejected.windows)) accepted in
       absurd (rejected.first.fails (here rejected.first.part rejected.first.applies))
   at-yes (verdict.Fault ordinal code) is = absurd is
 
-  -- at its scale, which is the instance's
-  scaled-yes : weight_at (scale_of c.scale) p.arcs p.shipments < 2 ^ 127 → scaled p c ≡ p → (v : Verdict) → IsScaledVerdict p duty c v → IsYes v
-  scaled-yes fits same v is =
-      let at : IsVerdictAt (scaled p c) duty c v = rw (lt-ltb (weight_at (scale_of c.scale) p.arcs p.shipments) (2 ^ 127) fits) at is in
-      at-yes v (subst (λ (q : Problem). IsVerdictAt q duty c v) same at)
+  scaled-yes : (v : Verdict) → IsScaledVerdict p duty c v → IsYes v
+  scaled-yes v is = at-yes v (rw (lt-ltb (weight_at (scale_of c.scale) p.arcs p.shipments) (2 ^ 127) light) at is)
 
-  read-yes : weight_at (scale_of c.scale) p.arcs p.shipments < 2 ^ 127 → scaled p c ≡ p → (read : Result Statement Fault) → read ≡ Ok c → (v : Verdict) → IsCertificateSaid p duty read v → IsYes v
-  read-yes fits same read back v (inl none) = absurd (none.0 goes)
-  read-yes fits same read back v (inr said) =
-      scaled-yes fits same v (subst (λ (r : Result Statement Fault). MatchResult r (λ d. IsScaledVerdict p duty d v) (λ (f : Fault). v ≡ verdict.Fault f.ordinal f.code)) back said.1)
+  read-yes : (read : Result Statement Fault) → read ≡ Ok c → (v : Verdict) → IsCertificateSaid p duty read v → IsYes v
+  read-yes read back v (inl none) = absurd (none.0 (goes-on p (scale_of c.scale) duty goes))
+  read-yes read back v (inr said) =
+      scaled-yes v (subst (λ (r : Result Statement Fault). MatchResult r (λ d. IsScaledVerdict p duty d v) (λ (f : Fault). v ≡ verdict.Fault f.ordinal f.code)) back said.1)
 
   -- and so the answer at a place where its text begins
-  pub ahead-yes : weight_at (scale_of c.scale) p.arcs p.shipments < 2 ^ 127 → scaled p c ≡ p → (place : ℕ) (records : Records) → begins_stuck (drop place records) ≡ false →
-      certificate_of (ahead_problem p duty) (place + 1) (drop place records) ≡ Ok c → (v : Verdict) → IsVerdictAhead p duty place records v → IsYes v
-  ahead-yes fits same place records other back v is =
-      read-yes fits same (certificate_of (ahead_problem p duty) (place + 1) (drop place records)) back v (rw other at is)
-
--- what is to be planned has the scale of the instance
-ahead-scale : (p : Problem) (duty : Duty) → (ahead_problem p duty).scale ≡ p.scale
-ahead-scale p (keep kept) = refl
-ahead-scale p (go_on day) = refl
+  pub ahead-yes : (place : ℕ) (records : Records) → begins_stuck (drop place records) ≡ false → certificate_of (ahead_problem p duty) (place + 1) (drop place records) ≡ Ok c → (v : Verdict) → IsVerdictAhead p duty place records v → IsYes v
+  ahead-yes place records other back v is = read-yes (certificate_of (ahead_problem p duty) (place + 1) (drop place records)) back v (rw other at is)
 
 -- an input that tells kept legs or a day, and after it the text of a certificate
 module _ (p : Problem) (duty : Duty) (c : Statement) (input longer : List ℕ) (more : Records) (read : IsReadOf input p) (joined : records_of longer ≡ records_of input ++ more)
@@ -97,12 +90,10 @@ module _ (p : Problem) (duty : Duty) (c : Statement) (input longer : List ℕ) (
       ∙ ap (λ (lines : Records). drop (length (records_of input)) lines) joined
       ∙ drop-append_seam (records_of input) more
 
-  answer-yes : (table : WindowTable) → ((other : WindowTable) → AreWindowsAhead p duty other → other ≡ table) → GoesOn p duty → IsAccepted (ahead_problem p duty) table c → c.scale ≡ named_scale (ahead_problem p duty).scale → (v : Verdict) →
-      IsVerdictAhead p duty (leading_count longer) (records_of longer) v → status_of (shown_of v) ≡ status.Done
-  answer-yes table one goes accepted named v is =
-      let own : scale_of c.scale ≡ p.scale = ap scale_of named ∙ scale_of-named (ahead_problem p duty).scale ∙ ahead-scale p duty in
-      ahead-yes p duty c table one goes accepted (subst (λ (n : ℕ). weight_at n p.arcs p.shipments < 2 ^ 127) (sym (own ∙ read.usual.scale)) read.usual.light)
-      (ap (λ (n : ℕ). record p { scale = n }) own) (leading_count longer) (records_of longer)
+  answer-yes : (table : WindowTable) → ((other : WindowTable) → AreWindowsAhead (scaled p c) duty other → other ≡ table) → GoesOn (scaled p c) duty → IsAccepted (ahead_problem (scaled p c) duty) table c →
+      weight_at (scale_of c.scale) p.arcs p.shipments < 2 ^ 127 → (v : Verdict) → IsVerdictAhead p duty (leading_count longer) (records_of longer) v → status_of (shown_of v) ≡ status.Done
+  answer-yes table one goes accepted light v is =
+      ahead-yes p duty c table one goes accepted light (leading_count longer) (records_of longer)
       (ap begins_stuck after ∙ certificate-not_stuck (ahead_problem p duty) 1 more c (back 1))
       (ap (λ (lines : Records). certificate_of (ahead_problem p duty) (leading_count longer + 1) lines) after ∙ back (leading_count longer + 1)) v is
 
@@ -130,27 +121,79 @@ tells-has_tail records tells =
           cc g
     ]
 
+-- what an input tells
+told-has_tail : (input : List ℕ) (p : Problem) (duty : Duty) → IsTold input p duty → has_tail (records_of input) ≡ true
+told-has_tail input p (keep kept) tells = tells.0
+told-has_tail input p (go_on day) tells = tells-has_tail (records_of input) tells.0
+
+told-read : (input : List ℕ) (p : Problem) (duty : Duty) → IsTold input p duty → IsReadOf input p
+told-read input p (keep kept) tells = kept-read input (record { instance = p; kept = kept }) (unkept_instance (records_of input)) refl tells.2
+told-read input p (go_on day) tells = day-read input (record { instance = p; day = day }) (unkept_instance (records_of input)) refl tells.1
+
+told-ahead : (input : List ℕ) (p : Problem) (duty : Duty) (place : ℕ) (records : Records) (v : Verdict) → IsTold input p duty → take place records ≡ records_of input → IsVerdict place records v → IsVerdictAhead p duty place records v
+told-ahead input p (keep kept) place records v tells front is = kept-ahead p kept place records v (ap tells_day front ∙ tells.1) (ap kept_told front ∙ tells.2) is
+told-ahead input p (go_on day) place records v tells front is = day-ahead p day place records v (ap tells_day front ∙ tells.0) (ap day_told front ∙ tells.1) is
+
+-- what is to be planned has the scale of the instance
+ahead-scale : (p : Problem) (duty : Duty) → (ahead_problem p duty).scale ≡ p.scale
+ahead-scale p (keep kept) = refl
+ahead-scale p (go_on day) = refl
+
+-- the instance at the scale that a certificate names is the one at the scale that was asked for, and it fits
+named-same : (p : Problem) (scale : Option ℕ) (n : ℕ) → n ≡ (at_scale scale p).scale → record p { scale = n } ≡ at_scale scale p
+named-same p None n own = ap (λ (m : ℕ). record p { scale = m }) own
+named-same p (Some m) n own = ap (λ (m : ℕ). record p { scale = m }) own
+
+named-light : (p : Problem) (scale : Option ℕ) → IsUsual p → fits scale p ≡ true → weight_at (at_scale scale p).scale p.arcs p.shipments < 2 ^ 127
+named-light p None usual fit = subst (λ (n : ℕ). weight_at n p.arcs p.shipments < 2 ^ 127) (sym usual.scale) usual.light
+named-light p (Some n) usual fit = ltb-true (weight_at n p.arcs p.shipments) (2 ^ 127) fit
+
+-- a certificate that reads back at a scale does so of the instance
+reads-back : (p : Problem) (duty : Duty) (scale : Option ℕ) (ordinal : ℕ) (more : Records) → certificate_of (ahead_problem (at_scale scale p) duty) ordinal more ≡ certificate_of (ahead_problem p duty) ordinal more
+reads-back p duty None ordinal more = refl
+reads-back p duty (Some n) ordinal more =
+    ap (λ (q : Problem). certificate_of q ordinal more) (ahead-at p n duty) ∙ certificate-scale (ahead_problem p duty) n nothing_read ordinal more
+
+-- the plans that are looked for go on, and their windows are those of what is to be planned
+goes-by : (p : Problem) (duty : Duty) (plan : List (List Leg)) → WantedExists (ahead_problem p duty) (from_plan (wanted_by p duty) plan) → GoesOn p duty
+goes-by p (keep kept) plan is = is
+goes-by p (go_on day) plan is = is
+
+goes-wanted : (p : Problem) (duty : Duty) → WantedExists (ahead_problem p duty) (wanted_by p duty) → GoesOn p duty
+goes-wanted p (keep kept) is = is
+goes-wanted p (go_on day) is = is
+
+looks-goes : (p : Problem) (duty : Duty) (wanted : Wanted) → LooksForTold p duty wanted → WantedExists (ahead_problem p duty) wanted → GoesOn p duty
+looks-goes p duty wanted (inl own) is = goes-wanted p duty (subst (λ (w : Wanted). WantedExists (ahead_problem p duty) w) own is)
+looks-goes p duty wanted (inr from) is = goes-by p duty from.0 (subst (λ (w : Wanted). WantedExists (ahead_problem p duty) w) from.1 is)
+
+looks-one : (p : Problem) (duty : Duty) (wanted : Wanted) (table other : WindowTable) → LooksForTold p duty wanted → AreWindowsFor (ahead_problem p duty) wanted table → AreWindowsAhead p duty other → other ≡ table
+looks-one p duty wanted table other looks windows ahead =
+    windows-one (ahead_problem p duty) wanted other table (looked looks) windows
+  where
+    own : AreWindowsFor (ahead_problem p duty) (wanted_by p duty) other
+    own = wanted-windows p duty (ahead_problem p duty) other refl ahead
+
+    looked : LooksForTold p duty wanted → AreWindowsFor (ahead_problem p duty) wanted other
+    looked (inl same) = subst (λ (w : Wanted). AreWindowsFor (ahead_problem p duty) w other) (sym same) own
+    looked (inr from) = subst (λ (w : Wanted). AreWindowsFor (ahead_problem p duty) w other) (sym from.1) (windows-from (ahead_problem p duty) (wanted_by p duty) from.0 other own)
+
 pub CheckAcceptsReplans_hold : CheckAcceptsReplans
-CheckAcceptsReplans_hold allowed every spans input longer q s tells searched joined result is = absurd tells
-CheckAcceptsReplans_hold allowed (every_from plan) spans input longer q s tells searched joined result is = absurd tells
-CheckAcceptsReplans_hold allowed (keeping kept) spans input longer q s tells searched joined result is =
-    let more : Records = records_of (certificate_text q s.certificate) in
-    let read : IsReadOf input q = kept-read input (record { instance = q; kept = kept }) (unkept_instance (records_of input)) refl tells.2 in
-    let front : take (leading_count longer) (records_of longer) ≡ records_of input = told q (keep kept) s.certificate input longer more read joined searched.back in
-    let said : SaidStatus longer result = said-of longer result (ap has_tail front ∙ tells.0) is in
+CheckAcceptsReplans_hold allowed wanted scale spans input longer p duty s tells fit looks searched joined result is =
+    let c : Statement = s.certificate in
+    let at : Problem = at_scale scale p in
+    let more : Records = records_of (certificate_text (ahead_problem at duty) c) in
+    let read : IsReadOf input p = told-read input p duty tells in
+    let back : (ordinal : ℕ) → certificate_of (ahead_problem p duty) ordinal more ≡ Ok c = λ ordinal. sym (reads-back p duty scale ordinal more) ∙ searched.back ordinal in
+    let front : take (leading_count longer) (records_of longer) ≡ records_of input = told p duty c input longer more read joined back in
+    let said : SaidStatus longer result = said-of longer result (ap has_tail front ∙ told-has_tail input p duty tells) is in
+    let own : scale_of c.scale ≡ at.scale = ap scale_of searched.scale ∙ scale_of-named (ahead_problem at duty).scale ∙ ahead-scale at duty in
+    let same : at ≡ scaled p c = sym (named-same p scale (scale_of c.scale) own) in
     said.ends
-    ∙ answer-yes q (keep kept) s.certificate input longer more read joined searched.back searched.table
-    (λ other windows. AreKeptWindowsOf-unique q kept other searched.table windows searched.windows) (searched-exists q (keeping kept) allowed spans s searched) searched.accepted searched.scale said.said
-    (kept-ahead q kept (leading_count longer) (records_of longer) said.said (ap tells_day front ∙ tells.1) (ap kept_told front ∙ tells.2) said.is)
-CheckAcceptsReplans_hold allowed (going_on p day) spans input longer q s tells searched joined result is =
-    let rest : Problem = left_problem p day in
-    let more : Records = records_of (certificate_text rest s.certificate) in
-    let found : IsSearched rest (going_on p day) allowed spans s = subst (λ (x : Problem). IsSearched x (going_on p day) allowed spans s) tells.2 searched in
-    let follows : records_of longer ≡ records_of input ++ more = joined ∙ ap (λ (x : Problem). records_of input ++ records_of (certificate_text x s.certificate)) tells.2 in
-    let read : IsReadOf input p = day-read input (record { instance = p; day = day }) (unkept_instance (records_of input)) refl tells.1 in
-    let front : take (leading_count longer) (records_of longer) ≡ records_of input = told p (go_on day) s.certificate input longer more read follows found.back in
-    let said : SaidStatus longer result = said-of longer result (ap has_tail front ∙ tells-has_tail (records_of input) tells.0) is in
-    said.ends
-    ∙ answer-yes p (go_on day) s.certificate input longer more read follows found.back found.table
-    (λ other windows. AreDayWindows-unique p day rest other found.table windows found.windows) (searched-exists rest (going_on p day) allowed spans s found) found.accepted found.scale said.said
-    (day-ahead p day (leading_count longer) (records_of longer) said.said (ap tells_day front ∙ tells.0) (ap day_told front ∙ tells.1) said.is)
+    ∙ answer-yes p duty c input longer more read joined back searched.table
+    (subst (λ (q : Problem). (other : WindowTable) → AreWindowsAhead q duty other → other ≡ searched.table) same (λ other windows. looks-one at duty wanted searched.table other looks searched.windows windows))
+    (subst (λ (q : Problem). GoesOn q duty) same (looks-goes at duty wanted looks (searched-exists (ahead_problem at duty) wanted allowed spans s searched)))
+    (subst (λ (q : Problem). IsAccepted (ahead_problem q duty) searched.table c) same searched.accepted)
+    (subst (λ (n : ℕ). weight_at n p.arcs p.shipments < 2 ^ 127) (sym own) (named-light p scale read.usual fit))
+    said.said
+    (told-ahead input p duty (leading_count longer) (records_of longer) said.said tells front said.is)

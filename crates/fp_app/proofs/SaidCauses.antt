@@ -1,19 +1,27 @@
 -- What `check` shows of an answer that follows kept legs or a day, by its status.
-use Rattle.std.proofs.Common.{◌≡◌, ◌∙◌, ℕ, true, List, sym, ap}
-use Rattle.std.specs.Prelude.{Some, None}
+use Rattle.std.proofs.Common.{◌≡◌, ◌∙◌, ℕ, true, List, sym, ap, subst}
+use Rattle.std.specs.Prelude.{Some, None, MatchBool}
 use Rattle.fp_records.specs.Fields.{records_of}
 use Rattle.fp_app_words.specs.declared.orders.Order.TheVariants.{Check}
 use Rattle.fp_app_tails.specs.declared.verdicts.Verdict.{Verdict}
 use Rattle.fp_app_tails.specs.declared.verdicts.Verdict.TheVariants as verdict
+use Rattle.fp_app_tails.specs.Verdicts.{IsVerdict}
 use Rattle.fp_app_tails.proofs.ToldFaults.{told-fault}
 use Rattle.fp_app.specs.declared.shown.Shown.{Shown}
 use Rattle.fp_app.specs.declared.shown.Shown.TheVariants as shown
 use Rattle.fp_app.specs.declared.shown.Status.{Status}
 use Rattle.fp_app.specs.declared.shown.Status.TheVariants as status
 use Rattle.fp_app.specs.Causes.{ShowsFault}
-use Rattle.fp_app.specs.Inputs.{has_tail_in, leading_count}
+use Rattle.fp_app.specs.Inputs.{IsTailAnswer, has_tail_in, leading_count}
 use Rattle.fp_app.specs.Shown.{status_of}
 use Rattle.fp_app.specs.TailChecks.{IsSaidOf, SaidStatus, ShowsSaid, ShowsSaidNo, ShowsSaidYes, shown_of}
+
+-- what is said of the answer at its place is shown
+pub said-shown : (input : List ℕ) (lines : List (List (List ℕ))) (place : ℕ) (v : Verdict) (s : Shown) (Y : Type 0) → records_of input ≡ lines → IsTailAnswer input (Some place) → IsVerdict place lines v → s ≡ shown_of v →
+    MatchBool (has_tail_in input) (ShowsSaid input s) Y
+said-shown input lines place v s Y same tells is shows =
+    let at : IsVerdict place (records_of input) v = subst (λ (ls : List (List (List ℕ))). IsVerdict place ls v) (sym same) is in
+    rw tells.0 (record { said = v; is = subst (λ (n : ℕ). IsVerdict n (records_of input) v) (sym tells.1) at; shows = shows })
 
 -- what is said is accepted, rejected, or a fault
 said-by : (t : Status) (v : Verdict) → (status.Done ≡ t → ⊥) → (status.Rejected ≡ t → ⊥) → (status.BadInput ≡ t → ⊥) → status_of (shown_of v) ≡ t → ⊥

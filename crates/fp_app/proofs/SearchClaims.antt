@@ -1,5 +1,5 @@
 -- What a search says of all plans, from what it has earned.
-use Rattle.std.proofs.Common.{◌≡◌, ◌∙◌, ℕ, ◌≤◌, ◌^◌, Bool, true, false, List, [], ◌∷◌, length, refl, sym, ap, subst, inl, inr, arith}
+use Rattle.std.proofs.Common.{◌≡◌, ◌∙◌, ℕ, ◌+◌, ◌≤◌, ◌^◌, Bool, true, false, List, [], ◌∷◌, length, refl, sym, ap, subst, inl, inr, arith}
 use Rattle.std.specs.Prelude.{◌⊎◌, IfSome, IsSomeAnd, MatchBool, None, Option}
 use Rattle.std.specs.Int.{div_ceil}
 use Rattle.std.specs.List.{AllByRecursion}
@@ -55,10 +55,16 @@ use Rattle.fp_session.specs.Certificates.{IsPricedBy}
 use Rattle.fp_session.specs.Sessions.{SessionModel}
 use Rattle.fp_session.specs.Solved.{IsSolved}
 use Rattle.fp_session.specs.Starts.{IsSessionOf}
+use Rattle.fp_replan.specs.declared.kept.Kept.{Kept}
+use Rattle.fp_replan.specs.KeptLegs.{Keeps}
+use Rattle.fp_replan_present.specs.Days.{Day}
+use Rattle.fp_replan_present.specs.Plans.{NoneUnderwayCheaper, sunk_cost}
 use Rattle.fp_replan_present.specs.Rests.{joined, left_problem}
 use Rattle.fp_replan_present.proofs.RestPlans.{costs-joined}
+use Rattle.fp_app_tails.specs.Verdicts.{NoKeptPlanCheaper}
+use Rattle.fp_app_tails.specs.Windows.{AreDayWindows, AreKeptWindowsOf}
 use Rattle.fp_app.specs.Searches.{Allowance, AreInTime, IsPricedAs, IsSearched, IsShortText, SaysOfPlans}
-use Rattle.fp_app.specs.Wanted.{AreWindowsFor, IsFirstPlan, IsWanted, NoneWantedCheaper, Wanted, WantedExists, every, every_from, going_on, keeping}
+use Rattle.fp_app.specs.Wanted.{AreWindowsFor, GoesOnWith, IsFirstPlan, IsWanted, NoneWantedCheaper, Wanted, WantedExists, every, every_from, going_on, going_on_from, keeping, keeping_from}
 use Rattle.fp_app.proofs.OneKeptTable.{AreDayWindows-unique, AreKeptWindowsOf-unique}
 use Rattle.fp_app.proofs.OneTable.{AreWindowsOf_unique}
 use Rattle.fp_app.proofs.PlainValues.{flat-le_leaf}
@@ -94,25 +100,38 @@ flat-leaves h (l ∷ leaves) flat bound some least all (inl here) = flat-node h 
 flat-leaves h (l ∷ leaves) flat bound some least all (inr later) = flat-leaves h leaves flat bound some least all.1 later
 
 -- the windows of the wanted plans belong to the instance
-windows-belong : (p : Problem) (wanted : Wanted) (table : WindowTable) → AreWindowsFor p wanted table → BelongsTo p table
+pub windows-belong : (p : Problem) (wanted : Wanted) (table : WindowTable) → AreWindowsFor p wanted table → BelongsTo p table
 windows-belong p every table windows = windows.belongs
 windows-belong p (every_from plan) table windows = windows.belongs
 windows-belong p (keeping kept) table windows = windows.belongs
+windows-belong p (keeping_from kept plan) table windows = windows.belongs
 windows-belong q (going_on p day) table windows = windows.belongs
+windows-belong q (going_on_from p day plan) table windows = windows.belongs
 
 -- there is one table of them
-windows-one : (p : Problem) (wanted : Wanted) (one two : WindowTable) → AreWindowsFor p wanted one → AreWindowsFor p wanted two → one ≡ two
+pub windows-one : (p : Problem) (wanted : Wanted) (one two : WindowTable) → AreWindowsFor p wanted one → AreWindowsFor p wanted two → one ≡ two
 windows-one p every one two first second = AreWindowsOf_unique p one two first second
 windows-one p (every_from plan) one two first second = AreWindowsOf_unique p one two first second
 windows-one p (keeping kept) one two first second = AreKeptWindowsOf-unique p kept one two first second
+windows-one p (keeping_from kept plan) one two first second = AreKeptWindowsOf-unique p kept one two first second
 windows-one q (going_on p day) one two first second = AreDayWindows-unique p day q one two first second
+windows-one q (going_on_from p day plan) one two first second = AreDayWindows-unique p day q one two first second
 
--- what no plan within them costs less than, no wanted plan does
+-- what no plan within them costs less than, none that keeps the legs or goes on with the day does
+none-kept_cheaper : (p : Problem) (kept : List Kept) (table : WindowTable) (c : ℕ) → AreKeptWindowsOf p kept table → NoPlanWithinCheaper p (windows_in table) c → NoKeptPlanCheaper p kept c
+none-kept_cheaper p kept table c windows within = λ d routes some is keeps. within d routes some is ((windows.tell d routes some is).1 keeps)
+
+none-under_way_cheaper : (q p : Problem) (day : Day) (table : WindowTable) (c : ℕ) → AreDayWindows p day q table → NoPlanWithinCheaper q (windows_in table) c → NoneUnderwayCheaper p day (sunk_cost p day + c)
+none-under_way_cheaper q p day table c windows within = (windows.cheaper c).1 (subst (λ (x : Problem). NoPlanWithinCheaper x (windows_in table) c) windows.left within)
+
+-- nor any wanted plan
 wanted-cheaper : (p : Problem) (wanted : Wanted) (table : WindowTable) (c : ℕ) → AreWindowsFor p wanted table → NoPlanWithinCheaper p (windows_in table) c → NoneWantedCheaper p wanted c
 wanted-cheaper p every table c windows within = λ d routes some is. within d routes some is (CoverPlans-from_windows p (windows_in table) windows.exact d routes some is)
 wanted-cheaper p (every_from plan) table c windows within = λ d routes some is. within d routes some is (CoverPlans-from_windows p (windows_in table) windows.exact d routes some is)
-wanted-cheaper p (keeping kept) table c windows within = λ d routes some is keeps. within d routes some is ((windows.tell d routes some is).1 keeps)
-wanted-cheaper q (going_on p day) table c windows within = (windows.cheaper c).1 (subst (λ (x : Problem). NoPlanWithinCheaper x (windows_in table) c) windows.left within)
+wanted-cheaper p (keeping kept) table c windows within = none-kept_cheaper p kept table c windows within
+wanted-cheaper p (keeping_from kept plan) table c windows within = none-kept_cheaper p kept table c windows within
+wanted-cheaper q (going_on p day) table c windows within = none-under_way_cheaper q p day table c windows within
+wanted-cheaper q (going_on_from p day plan) table c windows within = none-under_way_cheaper q p day table c windows within
 
 -- what the answer of a search says, by what it left
 module _ (p : Problem) (wanted : Wanted) (table : WindowTable) (allowed : Allowance) (started : ℕ) (s : Solution) (windows : AreWindowsFor p wanted table) (range : IsInRange p s.certificate) (earned : IsEarnedSolution p table allowed.budget started s) where
@@ -166,16 +185,25 @@ earned-in_time p table budget started s belongs earned =
     let few = length_distinct_new (length p.terminals) (horizon p.shipments) (added_of s.trace) (AreAddedPoints-IsEarnedTrace h started ended earned.trace).once each in
     subst (λ (points : List AddedPoint). AreInTime p points) (sym earned.points) (record { each = each; few = few })
 
--- the plan of the certificate is wanted
-is-wanted : (p : Problem) (wanted : Wanted) (table : WindowTable) (c : Statement) → AreWindowsFor p wanted table → HasPlan p (windows_in table) c → IsWanted wanted (routes_of p c)
-is-wanted p every table c windows has = tt
-is-wanted p (every_from plan) table c windows has = tt
-is-wanted p (keeping kept) table c windows has = let some : 1 ≤ 1 = omega arith in (windows.tell 1 (routes_of p c) some has.plan).0 has.within
-is-wanted q (going_on p day) table c windows has =
+-- the plan of the certificate keeps the legs, or goes on with the day
+plan-keeps : (p : Problem) (kept : List Kept) (table : WindowTable) (c : Statement) → AreKeptWindowsOf p kept table → HasPlan p (windows_in table) c → Keeps kept 1 (routes_of p c)
+plan-keeps p kept table c windows has = let some : 1 ≤ 1 = omega arith in (windows.tell 1 (routes_of p c) some has.plan).0 has.within
+
+plan-goes_on : (q p : Problem) (day : Day) (table : WindowTable) (c : Statement) → AreDayWindows p day q table → HasPlan q (windows_in table) c → GoesOnWith p day (routes_of q c)
+plan-goes_on q p day table c windows has =
     let some : 1 ≤ 1 = omega arith in
     let plan : IsPlan (left_problem p day) 1 (routes_of q c) = subst (λ (x : Problem). IsPlan x 1 (routes_of q c)) windows.left has.plan in
     let costs = costs-joined p day 1 (routes_of q c) plan in
     ((windows.tell 1 (joined p day 1 (routes_of q c)) some).1 (record { rests = routes_of q c; same = refl; plan = plan; within = has.within; costs = costs }), costs)
+
+-- the plan of the certificate is wanted
+is-wanted : (p : Problem) (wanted : Wanted) (table : WindowTable) (c : Statement) → AreWindowsFor p wanted table → HasPlan p (windows_in table) c → IsWanted wanted (routes_of p c)
+is-wanted p every table c windows has = tt
+is-wanted p (every_from plan) table c windows has = tt
+is-wanted p (keeping kept) table c windows has = plan-keeps p kept table c windows has
+is-wanted p (keeping_from kept plan) table c windows has = plan-keeps p kept table c windows has
+is-wanted q (going_on p day) table c windows has = plan-goes_on q p day table c windows has
+is-wanted q (going_on_from p day plan) table c windows has = plan-goes_on q p day table c windows has
 
 -- the text of the certificate is short: its lines are few, and so are those of its prices
 short-text : (p : Problem) (table : WindowTable) (budget : Budget) (started : ℕ) (s : Solution) → IsValid p → TextsAreShort p → IsSolved p table budget started s → Applies s.certificate.answer Part.Tree →
@@ -238,4 +266,6 @@ pub searched-exists : (p : Problem) (wanted : Wanted) (allowed : Allowance) (spa
 searched-exists p every allowed spans s told = let some : 1 ≤ 1 = omega arith in (1, _, some, told.timetable.plan.plan)
 searched-exists p (every_from plan) allowed spans s told = let some : 1 ≤ 1 = omega arith in (1, _, some, told.timetable.plan.plan)
 searched-exists p (keeping kept) allowed spans s told = let some : 1 ≤ 1 = omega arith in (1, _, some, told.timetable.plan.plan, told.is_wanted)
+searched-exists p (keeping_from kept plan) allowed spans s told = let some : 1 ≤ 1 = omega arith in (1, _, some, told.timetable.plan.plan, told.is_wanted)
+searched-exists q (going_on_from p day plan) allowed spans s told = let some : 1 ≤ 1 = omega arith in (1, joined p day 1 (routes_of q s.certificate), some, told.is_wanted.0)
 searched-exists q (going_on p day) allowed spans s told = let some : 1 ≤ 1 = omega arith in (1, joined p day 1 (routes_of q s.certificate), some, told.is_wanted.0)

@@ -16,14 +16,13 @@ use Rattle.fp_app.specs.declared.shown.Status.TheVariants as status
 use Rattle.fp_app.specs.Causes.{ShowsDone, ShowsFault, ShowsInfeasible, ShowsNone, ShowsNumber, ShowsOpen, ShowsOptimal, ShowsPlan, ShowsSolution, ShowsUnfinished, ShowsYes}
 use Rattle.fp_app.specs.Checks.{ShowsCheck}
 use Rattle.fp_app_tails.specs.Verdicts.{scaled}
-use Rattle.fp_app.specs.Improvements.{ShowsImprove}
 use Rattle.fp_app.specs.TailChecks.{ShowsSaid, ShowsSaidYes}
-use Rattle.fp_app.specs.Inputs.{CertifiedInstance, OfCertificate, certificate_in, certified_at, fault_of, has_tail_in, instance_at, instance_in, leading_instance_in, input_fault, limit_of, reads_source}
+use Rattle.fp_app.specs.Inputs.{OfCertificate, certificate_in, fault_of, has_tail_in, instance_at, instance_in, leading_instance_in, input_fault, limit_of, reads_source}
 use Rattle.fp_app.specs.Runs.{Answers, OfInput, ShowsAlone, ShowsBound, ShowsDirect, ShowsInput, ShowsSearch}
 use Rattle.fp_app.specs.Searches.{Allowance, IsSearched, trial_allowance, within}
 use Rattle.fp_app.specs.Shown.{search_status, status_of}
 use Rattle.fp_app.proofs.FleetCauses.{fleet-done, fleet-fault, fleet-no_other}
-use Rattle.fp_app.proofs.ImproveCauses.{improve-done, improve-not_none, improve-open}
+use Rattle.fp_app.proofs.ImproveCauses.{improve-done, improve-fault, improve-no_other, improve-open}
 use Rattle.fp_app.proofs.SearchEnds.{SearchEnd, optimal, search-end, search-no_other, unfinished, both-no_other}
 use Rattle.fp_app.specs.Wanted.{every}
 use Rattle.fp_app.proofs.QuoteStatuses.{quotes-done, quotes-fault, quotes-none, quotes-open}
@@ -82,7 +81,7 @@ module _ (over : Bool) where
   ShowsFault_input Direct input ordinal code told = ShowsFault_instance Direct input ordinal code (λ p. ShowsDirect p (shown.BadInput ordinal code)) (instance_in input) (λ p none. none) refl (instance_in input) refl told
   ShowsFault_input (Bound option seconds) input ordinal code told = ShowsFault_instance (Bound option seconds) input ordinal code (λ p. ShowsBound option p (shown.BadInput ordinal code)) (instance_in input) (λ p none. none) refl (instance_in input) refl told
   ShowsFault_input (Plan budget scale spans seconds notes) input ordinal code told = ShowsFault_instance (Plan budget scale spans seconds notes) input ordinal code (λ p. ShowsSearch (within budget over) spans p (shown.BadInput ordinal code)) (instance_at scale input) (λ p none. none) refl (instance_at scale input) refl told
-  ShowsFault_input (Improve budget scale spans seconds notes) input ordinal code told = ShowsFault_instance (Improve budget scale spans seconds notes) input ordinal code (λ (x : CertifiedInstance). ShowsImprove (within budget over) spans x (shown.BadInput ordinal code)) (certified_at scale input) (λ x none. none) refl (certified_at scale input) refl told
+  ShowsFault_input (Improve budget scale spans seconds notes) input ordinal code told = improve-fault (within budget over) spans scale input budget seconds notes ordinal code told
   ShowsFault_input (Trial seed terminals shipments) input ordinal code told = absurd told
   ShowsFault_input (Yard seed) input ordinal code told = yard-fault seed input ordinal code told
   ShowsFault_input (Fleet trucks) input ordinal code told = fleet-fault trucks input ordinal code told
@@ -222,7 +221,7 @@ module _ (over : Bool) where
   ShowsDone_input Direct input s told done = ShowsPlan_direct input s (instance_in input) refl told done
   ShowsDone_input (Bound option seconds) input s told done = ShowsNumber_bound option input s (instance_in input) refl told done
   ShowsDone_input (Plan budget scale spans seconds notes) input s told done = ShowsOptimal_search (within budget over) spans (instance_at scale input) s (instance_at scale input) refl told done
-  ShowsDone_input (Improve budget scale spans seconds notes) input s told done = improve-done (within budget over) scale spans input s told done
+  ShowsDone_input (Improve budget scale spans seconds notes) input s told done = improve-done (within budget over) spans scale input s told done
   ShowsDone_input (Trial seed terminals shipments) input s told done = absurd told
   ShowsDone_input (Yard seed) input s told done = yard-done seed input s told done
   ShowsDone_input (Fleet trucks) input s told done = fleet-done trucks input s told done
@@ -305,10 +304,10 @@ module _ (over : Bool) where
   ShowsNone_input (Bound option seconds) input s told none = MatchResult_shows status.Infeasible (instance_in input) (instance_in input) (λ p. ShowsBound option p s) s (ShowsNone (Bound option seconds) input s) (λ e. cc e) refl none told (λ p is shows. none-bound option seconds input p s is shows none)
   ShowsNone_input (Plan budget scale spans seconds notes) input s told none =
       MatchResult_shows status.Infeasible (instance_at scale input) (instance_at scale input) (λ p. ShowsSearch (within budget over) spans p s) s (ShowsNone (Plan budget scale spans seconds notes) input s) (λ e. cc e) refl none told (λ p is shows. none-search (within budget over) budget scale spans seconds notes input p s is shows none)
-  ShowsNone_input (Improve budget scale spans seconds notes) input s told none = improve-not_none (within budget over) scale spans input s told none
+  ShowsNone_input (Improve budget scale spans seconds notes) input s told none = improve-no_other (within budget over) spans scale input s status.Infeasible (λ e. cc e) (λ e. cc e) (λ e. cc e) (λ e. cc e) told none
   ShowsNone_input (Trial seed terminals shipments) input s told none = absurd told
   ShowsNone_input (Yard seed) input s told none = absurd (yard-no_other seed status.Infeasible (λ e. cc e) (λ e. cc e) (λ e. cc e) input s told none)
-  ShowsNone_input (Fleet trucks) input s told none = absurd (fleet-no_other status.Infeasible (λ e. cc e) (λ e. cc e) (λ e. cc e) trucks input s told none)
+  ShowsNone_input (Fleet trucks) input s told none = absurd (fleet-no_other trucks status.Infeasible (λ e. cc e) (λ e. cc e) (λ e. cc e) input s told none)
   ShowsNone_input (Replan budget spans seconds notes) input s told none = tail-stuck (within budget over) spans input s told none
   ShowsNone_input (Quote budget spans seconds notes name) input s told none = quotes-none over budget spans seconds notes name input s told none
   ShowsNone_input Check input s told none =
@@ -359,10 +358,10 @@ module _ (over : Bool) where
   ShowsOpen_input (Bound option seconds) input s told ends = MatchResult_shows status.Unfinished (instance_in input) (instance_in input) (λ p. ShowsBound option p s) s ⊥ (λ e. cc e) refl ends told (λ p is shows. bound-not_open option p s shows ends)
   ShowsOpen_input (Plan budget scale spans seconds notes) input s told ends =
       MatchResult_shows status.Unfinished (instance_at scale input) (instance_at scale input) (λ p. ShowsSearch (within budget over) spans p s) s (ShowsUnfinished (within budget over) spans (instance_at scale input) shown.Planned s) (λ e. cc e) refl ends told (λ p is shows. open-search (within budget over) spans (instance_at scale input) p s is shows ends)
-  ShowsOpen_input (Improve budget scale spans seconds notes) input s told ends = improve-open (within budget over) scale spans input s told ends
+  ShowsOpen_input (Improve budget scale spans seconds notes) input s told ends = improve-open (within budget over) spans scale input s told ends
   ShowsOpen_input (Trial seed terminals shipments) input s told ends = absurd told
   ShowsOpen_input (Yard seed) input s told ends = absurd (yard-no_other seed status.Unfinished (λ e. cc e) (λ e. cc e) (λ e. cc e) input s told ends)
-  ShowsOpen_input (Fleet trucks) input s told ends = absurd (fleet-no_other status.Unfinished (λ e. cc e) (λ e. cc e) (λ e. cc e) trucks input s told ends)
+  ShowsOpen_input (Fleet trucks) input s told ends = absurd (fleet-no_other trucks status.Unfinished (λ e. cc e) (λ e. cc e) (λ e. cc e) input s told ends)
   ShowsOpen_input (Replan budget spans seconds notes) input s told ends = tail-open (within budget over) spans input s told ends
   ShowsOpen_input (Quote budget spans seconds notes name) input s told ends = quotes-open over budget spans seconds notes name input s told ends
   ShowsOpen_input Check input s told ends =

@@ -30,7 +30,7 @@ both-give true X Y V first second x = first refl x
 both-give false X Y V first second y = second refl y
 
 -- what was read gives one thing, and its fault another
-read-gives : {A : Type 0} (r : Result A Fault) (P Q : A → Type 0) (s : Shown) → ((x : A) → P x → Q x) →
+pub read-gives : {A : Type 0} (r : Result A Fault) (P Q : A → Type 0) (s : Shown) → ((x : A) → P x → Q x) →
     MatchResult r P (λ (f : Fault). s ≡ shown.BadInput f.ordinal f.code) → MatchResult r Q (λ (f : Fault). status_of s ≡ status.BadInput)
 read-gives (Ok x) P Q s each told = each x told
 read-gives (Err f) P Q s each same = ap status_of same
@@ -42,7 +42,7 @@ read-neither (Ok x) P s none fault told = none x told
 read-neither (Err f) P s none fault same = fault f same
 
 -- only the fault
-read-fault : {A : Type 0} (r : Result A Fault) (P : A → Type 0) (s : Shown) → ((x : A) → P x → ⊥) →
+pub read-fault : {A : Type 0} (r : Result A Fault) (P : A → Type 0) (s : Shown) → ((x : A) → P x → ⊥) →
     MatchResult r P (λ (f : Fault). s ≡ shown.BadInput f.ordinal f.code) → (f : Fault) × (fault_of r ≡ Some f) × (s ≡ shown.BadInput f.ordinal f.code)
 read-fault (Ok x) P s none told = absurd (none x told)
 read-fault (Err f) P s none same = (f, refl, same)

@@ -25,21 +25,21 @@ use Rattle.fp_app.specs.declared.shown.Status.{Status}
 use Rattle.fp_app.specs.declared.shown.Status.TheVariants as status
 use Rattle.fp_app.specs.Bounds.{IsRootBound}
 use Rattle.fp_app.specs.Checks.{IsAcceptedFor, ShowsAccepted, ShowsRejected}
-use Rattle.fp_fleet.specs.Fleets.{Assignment}
-use Rattle.fp_yard.specs.declared.events.Event.{Event}
+use Rattle.fp_app.specs.TailAnswers.{EndsOfTail, GivesOfTail, RejectsTail}
 use Rattle.fp_app.specs.TailChecks.{SaidStatus, ShowsSaidNo, ShowsSaidYes}
 use Rattle.fp_app.specs.DayCauses.{ShowsDayOptimal, ShowsDayStuck, ShowsDayUnfinished}
-use Rattle.fp_app.specs.Fleets.{IsShownFleet, IsSmallestFleet}
-use Rattle.fp_app.specs.Yards.{IsDrawnLog}
-use Rattle.fp_app.specs.Plans.{IsToldPlan, ShowsUntold, TellsTimetable}
-use Rattle.fp_app.specs.Improvements.{IsImproved}
+use Rattle.fp_app.specs.Fleets.{IsShownRoster}
+use Rattle.fp_app.specs.Yards.{IsShownRun}
+use Rattle.fp_app.specs.Plans.{ShowsUntold, TellsTimetable}
+use Rattle.fp_app.specs.Improvements.{IsOpenImprovement, IsOptimalImprovement}
 use Rattle.fp_app.specs.Inputs.{CertifiedInstance, certificate_in, certified_at, fault_in, given_to, has_tail_in, instance_at, instance_in, leading_instance_in, limit_of, named_in, reads_source, quoted_in}
 use Rattle.fp_replan_present.specs.Rests.{left_problem}
+use Rattle.fp_app_tails.specs.declared.answers.Scale.TheVariants as asked
 use Rattle.fp_app_tails.specs.Verdicts.{NoKeptPlanCheaper, scaled}
 use Rattle.fp_app_tails.specs.Tails.{DayInstance, KeptInstance, day_in, kept_in, tells_day_in}
 use Rattle.fp_app.specs.NamedCauses.{NamedStatus, ShowsNamedExact, ShowsNamedOpen}
 use Rattle.fp_app.specs.Quotes.{IsQuoted, IsUnfinished}
-use Rattle.fp_app.specs.Wanted.{Wanted, WantedExists, every, every_from, going_on, keeping}
+use Rattle.fp_app.specs.Wanted.{Wanted, WantedExists, every, going_on, keeping}
 use Rattle.fp_replan.specs.declared.kept.Kept.{Kept}
 use Rattle.fp_replan.specs.KeptWindows.{CanBeKept}
 use Rattle.fp_replan.specs.Quotes.{IsExtraCost, without_last}
@@ -95,32 +95,12 @@ pub record ShowsUnfinished (allowed : Allowance) (spans : Bool) (given : Result 
   pub answer : solution.solved.certificate.answer ≡ answer.Unfinished cost bound spent
   pub bounds : IsBoundBelow solution.instance every allowed cost bound spent
 
--- The input gives an instance at a scale and a certificate that tells a plan, and what is shown is what
--- such a search shows that begins with that plan. It costs no more than that plan.
-pub record ShowsImproved (allowed : Allowance) (scale : ℕ) (spans : Bool) (input : List ℕ) (result : Shown) : Type 0 where
+-- The input gives an instance at a scale and a certificate, of which something holds among all plans.
+pub record GivesCertified (scale : ℕ) (input : List ℕ) (P : Problem → Wanted → Statement → Type 0) : Type 0 where
   pub instance : Problem
   pub certificate : Statement
-  pub solved : Solution
   pub read : certified_at scale input ≡ Ok (record { instance = instance; certificate = certificate })
-  pub shows : result ≡ shown.Planned instance solved
-  pub improved : IsImproved instance certificate allowed spans solved
-
--- What is shown is optimal: no plan is cheaper, over any denominator.
-pub record ShowsImprovedOptimal (allowed : Allowance) (scale : ℕ) (spans : Bool) (input : List ℕ) (result : Shown) : Type 0 where
-  pub solution : ShowsImproved allowed scale spans input result
-  pub cost : ℕ
-  pub answer : solution.solved.certificate.answer ≡ answer.Optimal cost
-  pub plans : NoPlanCheaper solution.instance cost
-
--- What is shown is unfinished: no plan costs less than its bound, over any denominator, and it tells
--- what was spent.
-pub record ShowsImprovedUnfinished (allowed : Allowance) (scale : ℕ) (spans : Bool) (input : List ℕ) (result : Shown) : Type 0 where
-  pub solution : ShowsImproved allowed scale spans input result
-  pub cost : ℕ
-  pub bound : ℕ
-  pub spent : Spent
-  pub answer : solution.solved.certificate.answer ≡ answer.Unfinished cost bound spent
-  pub bounds : IsBoundBelow solution.instance (every_from solution.improved.plan) allowed cost bound spent
+  pub holds : P instance every certificate
 
 -- The input gives an instance and legs that are kept, which some plan keeps, and what is shown is what
 -- such a search shows among the plans that keep them.
@@ -218,32 +198,13 @@ pub record ShowsNo (Rejects : Problem → Statement → ℕ → Type 0) (input :
   pub shows : result ≡ shown.RejectedPart number
   pub rejected : Rejects instance certificate number
 
--- The input gives an instance and a certificate that tells a plan, and what is shown is that plan with
--- a fleet of its truck lines that no roster of them undercuts, with the option of trucks also what each
--- truck runs.
-pub record ShowsTrucks (trucks : Bool) (input : List ℕ) (result : Shown) : Type 0 where
+-- The input gives an instance and a certificate, of which something holds among all plans.
+pub record GivesPlan (input : List ℕ) (P : Problem → Wanted → Statement → Type 0) : Type 0 where
   pub instance : Problem
   pub certificate : Statement
-  pub plan : List (List Leg)
-  pub fleet : Assignment
   pub read : leading_instance_in input ≡ Ok instance
   pub certified : certificate_in instance input ≡ Ok certificate
-  pub shows : IsShownFleet trucks instance certificate.trucks plan fleet result
-  pub told : IsToldPlan instance certificate plan
-  pub smallest : IsSmallestFleet instance certificate.trucks fleet
-
--- The input gives an instance and a certificate that tells a plan, and what is shown is that plan with
--- the log that the draws from a seed choose.
-pub record ShowsRun (seed : ℕ) (input : List ℕ) (result : Shown) : Type 0 where
-  pub instance : Problem
-  pub certificate : Statement
-  pub plan : List (List Leg)
-  pub log : Vec Event Global
-  pub read : leading_instance_in input ≡ Ok instance
-  pub certified : certificate_in instance input ≡ Ok certificate
-  pub shows : result ≡ shown.Yard instance plan log
-  pub told : IsToldPlan instance certificate plan
-  pub drawn : IsDrawnLog instance plan seed log.items
+  pub holds : P instance every certificate
 
 -- The records of the input have a fault for the order, and what is shown is the first.
 pub record ShowsFault (wanted : Option Order) (input : List ℕ) (result : Shown) : Type 0 where
@@ -259,10 +220,13 @@ ShowsDone over (Some order.Direct) input result = ShowsPlan input result
 ShowsDone over (Some order.Check) input result = MatchBool (has_tail_in input) (ShowsSaidYes input result) (ShowsYes input result)
 ShowsDone over (Some (order.Bound option seconds)) input result = ShowsNumber option input result
 ShowsDone over (Some (order.Plan budget scale spans seconds notes)) input result = ShowsOptimal (within budget over) spans (instance_at scale input) shown.Planned result
-ShowsDone over (Some (order.Improve budget scale spans seconds notes)) input result = ShowsImprovedOptimal (within budget over) scale spans input result
+ShowsDone over (Some (order.Improve budget n spans seconds notes)) input result =
+    MatchBool (has_tail_in input) (GivesOfTail (asked.Of n) input (λ p wanted c. IsOptimalImprovement (within budget over) spans p wanted c result)) (GivesCertified n input (λ p wanted c. IsOptimalImprovement (within budget over) spans p wanted c result))
 ShowsDone over (Some (order.Trial seed terminals shipments)) input result = ShowsOptimal trial_allowance false (Ok (generated seed terminals shipments)) (shown.Trial seed None) result
-ShowsDone over (Some (order.Yard seed)) input result = ShowsRun seed input result
-ShowsDone over (Some (order.Fleet trucks)) input result = ShowsTrucks trucks input result
+ShowsDone over (Some (order.Yard seed)) input result =
+    MatchBool (has_tail_in input) (GivesOfTail asked.Usual input (λ p wanted c. IsShownRun seed p wanted c result)) (GivesPlan input (λ p wanted c. IsShownRun seed p wanted c result))
+ShowsDone over (Some (order.Fleet trucks)) input result =
+    MatchBool (has_tail_in input) (GivesOfTail asked.Usual input (λ p wanted c. IsShownRoster trucks p wanted c result)) (GivesPlan input (λ p wanted c. IsShownRoster trucks p wanted c result))
 ShowsDone over (Some (order.Replan budget spans seconds notes)) input result =
     MatchBool (tells_day_in input) (ShowsDayOptimal (within budget over) spans input result) (ShowsKeptOptimal (within budget over) spans input result)
 ShowsDone over (Some (order.Quote budget spans seconds notes None)) input result = ShowsExactExtra (within budget over) spans input result
@@ -271,7 +235,8 @@ ShowsDone over (Some (order.Quote budget spans seconds notes (Some name))) input
 -- what is shown where an order is unfinished
 abbrev pub ShowsOpen : (over : Bool) → Option Order → List ℕ → Shown → Type 0
 ShowsOpen over (Some (order.Plan budget scale spans seconds notes)) input result = ShowsUnfinished (within budget over) spans (instance_at scale input) shown.Planned result
-ShowsOpen over (Some (order.Improve budget scale spans seconds notes)) input result = ShowsImprovedUnfinished (within budget over) scale spans input result
+ShowsOpen over (Some (order.Improve budget n spans seconds notes)) input result =
+    MatchBool (has_tail_in input) (GivesOfTail (asked.Of n) input (λ p wanted c. IsOpenImprovement (within budget over) spans p wanted c result)) (GivesCertified n input (λ p wanted c. IsOpenImprovement (within budget over) spans p wanted c result))
 ShowsOpen over (Some (order.Trial seed terminals shipments)) input result = ShowsUnfinished trial_allowance false (Ok (generated seed terminals shipments)) (shown.Trial seed None) result
 ShowsOpen over (Some (order.Replan budget spans seconds notes)) input result =
     MatchBool (tells_day_in input) (ShowsDayUnfinished (within budget over) spans input result) (ShowsKeptUnfinished (within budget over) spans input result)
@@ -286,14 +251,15 @@ ShowsInfeasible (Some (order.Improve budget scale spans seconds notes)) input re
 ShowsInfeasible (Some (order.Replan budget spans seconds notes)) input result = MatchBool (tells_day_in input) (ShowsDayStuck input result) (ShowsStuck input result)
 ShowsInfeasible (Some order) input result = ShowsNone order input result
 
--- what is shown where a certificate is rejected: for `check` it isn't accepted for the instance at the
+-- what is shown where an answer is rejected: for `check` it isn't accepted for the instance at the
 -- certificate's scale, and for `yard`, `fleet` and `improve` it tells no plan, for `improve` of the
 -- instance at the scale of the words
 abbrev pub ShowsRejection : Option Order → List ℕ → Shown → Type 0
 ShowsRejection (Some order.Check) input result = MatchBool (has_tail_in input) (ShowsSaidNo input result) (ShowsNo (λ p c number. ShowsRejected (scaled p c) c number) input result)
-ShowsRejection (Some (order.Yard seed)) input result = ShowsNo ShowsUntold input result
-ShowsRejection (Some (order.Fleet trucks)) input result = ShowsNo ShowsUntold input result
-ShowsRejection (Some (order.Improve budget scale spans seconds notes)) input result = ShowsNo (λ p c number. ShowsUntold (record p { scale = scale }) c number) input result
+ShowsRejection (Some (order.Yard seed)) input result = MatchBool (has_tail_in input) (RejectsTail asked.Usual input result) (ShowsNo (λ p c number. ShowsUntold p every c number) input result)
+ShowsRejection (Some (order.Fleet trucks)) input result = MatchBool (has_tail_in input) (RejectsTail asked.Usual input result) (ShowsNo (λ p c number. ShowsUntold p every c number) input result)
+ShowsRejection (Some (order.Improve budget n spans seconds notes)) input result =
+    MatchBool (has_tail_in input) (RejectsTail (asked.Of n) input result) (ShowsNo (λ p c number. ShowsUntold (record p { scale = n }) every c number) input result)
 ShowsRejection _ input result = ⊥
 
 -- the status of an order that asks for plans of an instance: done where a plan exists, and
@@ -328,19 +294,19 @@ TrialStatus p result = (result ≡ status.Done) ⊎ ((result ≡ status.Unfinish
 abbrev pub CheckStatus : Problem → Statement → Status → Type 0
 CheckStatus p c result = ((result ≡ status.Done) × IsAcceptedFor p c) ⊎ ((result ≡ status.Rejected) × (IsAcceptedFor p c → ⊥))
 
--- the status of an order about the plan that a certificate tells: done where it tells one, and
--- rejected where it tells none
-abbrev pub ToldStatus : Problem → Statement → Status → Type 0
-ToldStatus p c result = ((result ≡ status.Done) × TellsTimetable p c) ⊎ ((result ≡ status.Rejected) × (TellsTimetable p c → ⊥))
+-- the status of an order about the plan that a certificate tells, under the windows of the wanted plans: done
+-- where it tells one, and rejected where it tells none
+abbrev pub ToldStatus : Problem → Wanted → Statement → Status → Type 0
+ToldStatus p wanted c result = ((result ≡ status.Done) × TellsTimetable p wanted c) ⊎ ((result ≡ status.Rejected) × (TellsTimetable p wanted c → ⊥))
 
 -- the status of `improve` with a budget for an instance and a certificate: done or unfinished where it
 -- tells a plan, and rejected where it tells none. Where both the rounds and the branches are enough, it
 -- isn't unfinished.
-abbrev pub ImproveStatus : Problem → Statement → Allowance → Status → Type 0
-ImproveStatus p c allowed result =
-    ((result ≡ status.Done) × TellsTimetable p c)
-    ⊎ (((result ≡ status.Unfinished) × TellsTimetable p c × ((spent : Spent) × (IsEnough p every allowed spent → ⊥)))
-    ⊎ ((result ≡ status.Rejected) × (TellsTimetable p c → ⊥)))
+abbrev pub ImproveStatus : Allowance → Problem → Wanted → Statement → Status → Type 0
+ImproveStatus allowed p wanted c result =
+    ((result ≡ status.Done) × TellsTimetable p wanted c)
+    ⊎ (((result ≡ status.Unfinished) × TellsTimetable p wanted c × ((spent : Spent) × (IsEnough p wanted allowed spent → ⊥)))
+    ⊎ ((result ≡ status.Rejected) × (TellsTimetable p wanted c → ⊥)))
 
 -- the one status of an order for an input within its limit
 abbrev pub InputStatus : (over : Bool) → Order → List ℕ → Status → Type 0
@@ -352,17 +318,20 @@ InputStatus over order.Check input result =
     (λ f. result ≡ status.BadInput))
 InputStatus over (order.Bound option seconds) input result = MatchResult (instance_in input) (λ p. PlanStatus p result) (λ f. result ≡ status.BadInput)
 InputStatus over (order.Plan budget scale spans seconds notes) input result = MatchResult (instance_at scale input) (λ p. SearchStatus p every (within budget over) result) (λ f. result ≡ status.BadInput)
-InputStatus over (order.Improve budget scale spans seconds notes) input result =
-    MatchResult (certified_at scale input) (λ (x : CertifiedInstance). ImproveStatus x.instance x.certificate (within budget over) result) (λ f. result ≡ status.BadInput)
+InputStatus over (order.Improve budget n spans seconds notes) input result =
+    MatchBool (has_tail_in input) (EndsOfTail (asked.Of n) input result (λ p wanted c. ImproveStatus (within budget over) p wanted c result))
+    (MatchResult (certified_at n input) (λ (x : CertifiedInstance). ImproveStatus (within budget over) x.instance every x.certificate result) (λ f. result ≡ status.BadInput))
 InputStatus over (order.Trial seed terminals shipments) input result = ⊥
 InputStatus over (order.Yard seed) input result =
-    MatchResult (leading_instance_in input)
-    (λ p. MatchResult (certificate_in p input) (λ c. ToldStatus p c result) (λ f. result ≡ status.BadInput))
-    (λ f. result ≡ status.BadInput)
+    MatchBool (has_tail_in input) (EndsOfTail asked.Usual input result (λ p wanted c. ToldStatus p wanted c result))
+    (MatchResult (leading_instance_in input)
+    (λ p. MatchResult (certificate_in p input) (λ c. ToldStatus p every c result) (λ f. result ≡ status.BadInput))
+    (λ f. result ≡ status.BadInput))
 InputStatus over (order.Fleet trucks) input result =
-    MatchResult (leading_instance_in input)
-    (λ p. MatchResult (certificate_in p input) (λ c. ToldStatus p c result) (λ f. result ≡ status.BadInput))
-    (λ f. result ≡ status.BadInput)
+    MatchBool (has_tail_in input) (EndsOfTail asked.Usual input result (λ p wanted c. ToldStatus p wanted c result))
+    (MatchResult (leading_instance_in input)
+    (λ p. MatchResult (certificate_in p input) (λ c. ToldStatus p every c result) (λ f. result ≡ status.BadInput))
+    (λ f. result ≡ status.BadInput))
 InputStatus over (order.Replan budget spans seconds notes) input result =
     MatchBool (tells_day_in input)
     (MatchResult (day_in input) (λ (x : DayInstance). SearchStatus (left_problem x.instance x.day) (going_on x.instance x.day) (within budget over) result) (λ f. result ≡ status.BadInput))

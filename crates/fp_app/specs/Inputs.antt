@@ -8,6 +8,8 @@ use Rattle.fp_records_fields.specs.Faults.{Fault}
 use Rattle.fp_records_fields.specs.NamedParts.{shipment_named}
 use Rattle.fp_certificate.specs.Reading.{certificate_of}
 use Rattle.fp_certificate_lines.specs.Statements.{Statement}
+use Rattle.fp_app_tails.specs.declared.answers.Scale.{Scale}
+use Rattle.fp_app_tails.specs.declared.answers.Scale.TheVariants as asked
 use Rattle.fp_app_tails.specs.Faults.{tail_fault}
 use Rattle.fp_app_tails.specs.Tails.{DayInstance, KeptInstance, day_in, has_tail, kept_in, tells_day_in, unkept_instance_in}
 use Rattle.fp_app.specs.declared.limits.TheConstants.{CHECK_LIMIT, INSTANCE_LIMIT}
@@ -68,9 +70,14 @@ leading_count input = length (instance_records Certificate (records_of input))
 abbrev pub has_tail_in : List ℕ → Bool
 has_tail_in input = has_tail (take (leading_count input) (records_of input))
 
--- the first fault of an input where they do
-abbrev pub tail_fault_in : List ℕ → Option Fault
-tail_fault_in input = tail_fault (leading_count input) (records_of input)
+-- how many they are where they do
+abbrev pub IsTailAnswer : List ℕ → Option ℕ → Type 0
+IsTailAnswer input None = has_tail_in input ≡ false
+IsTailAnswer input (Some place) = (has_tail_in input ≡ true) × (leading_count input ≡ place)
+
+-- the first fault of an input where they do, with the answer at a scale
+abbrev pub tail_fault_in : Scale → List ℕ → Option Fault
+tail_fault_in n input = tail_fault n (leading_count input) (records_of input)
 
 -- what the records from the first `answer` on give for an instance: a certificate, or their first
 -- fault
@@ -202,13 +209,13 @@ input_fault input (Err f) = Some f
 abbrev pub fault_in : Option Order → List ℕ → Option Fault
 fault_in None input = None
 fault_in (Some order.Direct) input = fault_of (instance_in input)
-fault_in (Some order.Check) input = if has_tail_in input then tail_fault_in input else input_fault input (leading_instance_in input)
+fault_in (Some order.Check) input = if has_tail_in input then tail_fault_in asked.Named input else input_fault input (leading_instance_in input)
 fault_in (Some (order.Bound option seconds)) input = fault_of (instance_in input)
 fault_in (Some (order.Plan budget scale spans seconds notes)) input = fault_of (instance_at scale input)
-fault_in (Some (order.Improve budget scale spans seconds notes)) input = fault_of (certified_at scale input)
+fault_in (Some (order.Improve budget n spans seconds notes)) input = if has_tail_in input then tail_fault_in (asked.Of n) input else fault_of (certified_at n input)
 fault_in (Some (order.Trial seed terminals shipments)) input = None
-fault_in (Some (order.Yard seed)) input = input_fault input (leading_instance_in input)
-fault_in (Some (order.Fleet trucks)) input = input_fault input (leading_instance_in input)
+fault_in (Some (order.Yard seed)) input = if has_tail_in input then tail_fault_in asked.Usual input else input_fault input (leading_instance_in input)
+fault_in (Some (order.Fleet trucks)) input = if has_tail_in input then tail_fault_in asked.Usual input else input_fault input (leading_instance_in input)
 fault_in (Some (order.Replan budget spans seconds notes)) input = if tells_day_in input then fault_of (day_in input) else fault_of (kept_in input)
 fault_in (Some (order.Quote budget spans seconds notes None)) input = fault_of (quoted_in input)
 fault_in (Some (order.Quote budget spans seconds notes (Some name))) input = fault_of (named_in name input)

@@ -3,6 +3,7 @@ pub mod Texts
 pub mod Inputs
 pub mod Checks
 pub mod TailChecks
+pub mod TailAnswers
 pub mod Bounds
 pub mod Wanted
 pub mod Searches

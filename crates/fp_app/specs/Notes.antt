@@ -20,8 +20,10 @@ use Rattle.fp_replan_quotes.specs.LastShipments.{with_last}
 use Rattle.fp_app_words.specs.declared.orders.Order.{Order}
 use Rattle.fp_app_words.specs.declared.orders.Order.TheVariants as order
 use Rattle.fp_replan_present.specs.Rests.{left_problem}
+use Rattle.fp_app_tails.specs.declared.answers.Scale.TheVariants as asked
 use Rattle.fp_app_tails.specs.Tails.{DayInstance, KeptInstance, day_in, kept_in, tells_day_in}
-use Rattle.fp_app.specs.Inputs.{CertifiedInstance, certified_at, instance_at, named_in, quoted_in}
+use Rattle.fp_app.specs.Inputs.{CertifiedInstance, certified_at, has_tail_in, instance_at, named_in, quoted_in}
+use Rattle.fp_app.specs.TailAnswers.{GivesOfTail}
 use Rattle.fp_app.specs.Wanted.{AreWindowsFor, Wanted, every, going_on, keeping}
 use Rattle.fp_app.specs.declared.notes.Figures.{Figures}
 use Rattle.fp_app.specs.declared.notes.Noted.{Noted}
@@ -151,12 +153,19 @@ AreTailNotes input old new =
     ((x : DayInstance) × (day_in input ≡ Ok x) × IsNotedFor (left_problem x.instance x.day) (going_on x.instance x.day) old new)
     ((x : KeptInstance) × (kept_in input ≡ Ok x) × IsNotedFor x.instance (keeping x.kept) old new)
 
+-- of a search among all plans of an instance at a scale, or of what is to be planned after kept legs or in a day
+abbrev pub AreImproveNotes : ℕ → List ℕ → (old new : Option (List ℕ)) → Type 0
+AreImproveNotes n input old new =
+    MatchBool (has_tail_in input)
+    (GivesOfTail (asked.Of n) input (λ p wanted c. IsNotedFor p wanted old new))
+    ((x : CertifiedInstance) × (certified_at n input ≡ Ok x) × IsNotedFor x.instance every old new)
+
 -- what is noted while an order is done
 abbrev pub NotesOf : Option Order → List ℕ → (old new : Option (List ℕ)) → Type 0
 NotesOf (Some (order.Plan budget scale spans seconds notes)) input old new =
     MayNote notes ((p : Problem) × (instance_at scale input ≡ Ok p) × IsNotedFor p every old new) old new
-NotesOf (Some (order.Improve budget scale spans seconds notes)) input old new =
-    MayNote notes ((x : CertifiedInstance) × (certified_at scale input ≡ Ok x) × IsNotedFor x.instance every old new) old new
+NotesOf (Some (order.Improve budget n spans seconds notes)) input old new =
+    MayNote notes (AreImproveNotes n input old new) old new
 NotesOf (Some (order.Replan budget spans seconds notes)) input old new =
     MayNote notes (AreTailNotes input old new) old new
 NotesOf (Some (order.Quote budget spans seconds notes None)) input old new =

@@ -14,6 +14,7 @@ use Rattle.fp_replan.specs.KeptWindows.{CanBeKept}
 use Rattle.fp_replan.specs.Starts.{IsStuck}
 use Rattle.fp_replan_present.specs.Plans.{IsStuckUnderway, UnderwayExists}
 use Rattle.fp_replan_present.specs.Rests.{IsOpen, IsRest}
+use Rattle.fp_app_tails.specs.declared.answers.Scale.TheVariants as asked
 use Rattle.fp_app_tails.specs.Tails.{DayInstance, KeptInstance, tells_day_in}
 use Rattle.fp_app_words.specs.declared.orders.Order.{Order}
 use Rattle.fp_app_words.specs.declared.orders.Order.TheVariants as order
@@ -23,10 +24,11 @@ use Rattle.fp_app.specs.declared.shown.Status.{Status}
 use Rattle.fp_app.specs.declared.shown.Status.TheVariants as status
 use Rattle.fp_app.specs.Bounds.{IsRootBound}
 use Rattle.fp_app.specs.Checks.{IsCheckOutcome}
+use Rattle.fp_app.specs.TailAnswers.{ShowsOfTail}
 use Rattle.fp_app.specs.TailChecks.{ShowsAnswer}
 use Rattle.fp_app.specs.Fleets.{ShowsFleet}
 use Rattle.fp_app.specs.Improvements.{ShowsImprove}
-use Rattle.fp_app.specs.Inputs.{OfCertificate, OfCertified, OfDay, OfInstance, OfScaled, limit_of, reads_source, OfKept, OfNamed, OfQuoted}
+use Rattle.fp_app.specs.Inputs.{OfCertificate, OfCertified, OfDay, OfInstance, OfScaled, has_tail_in, limit_of, reads_source, OfKept, OfNamed, OfQuoted}
 use Rattle.fp_app.specs.NamedQuotes.{ShowsNamedQuote}
 use Rattle.fp_app.specs.Quotes.{IsQuoted}
 use Rattle.fp_app.specs.Yards.{ShowsYard}
@@ -98,6 +100,21 @@ ShowsQuote allowed spans p (shown.Quoted instance before after) = (instance ≡ 
 ShowsQuote allowed spans p (shown.Infeasible instance shipment time) = (instance ≡ p) × IsBlocked p shipment time × (PlanExists p → ⊥)
 ShowsQuote allowed spans p _ = ⊥
 
+-- `yard`, `fleet` and `improve`: of the plan that a certificate tells of an instance alone, or that an answer tells after
+-- kept legs or a day that is under way.
+abbrev pub ShowsYardOf : ℕ → List ℕ → Shown → Type 0
+ShowsYardOf seed input result =
+    MatchBool (has_tail_in input) (ShowsOfTail asked.Usual input result (λ p wanted c. ShowsYard seed p wanted c result)) (OfCertificate input result (λ p c. ShowsYard seed p every c result))
+
+abbrev pub ShowsFleetOf : (trucks : Bool) → List ℕ → Shown → Type 0
+ShowsFleetOf trucks input result =
+    MatchBool (has_tail_in input) (ShowsOfTail asked.Usual input result (λ p wanted c. ShowsFleet trucks p wanted c result)) (OfCertificate input result (λ p c. ShowsFleet trucks p every c result))
+
+abbrev pub ShowsImproveOf : Allowance → ℕ → (spans : Bool) → List ℕ → Shown → Type 0
+ShowsImproveOf allowed n spans input result =
+    MatchBool (has_tail_in input) (ShowsOfTail (asked.Of n) input result (λ p wanted c. ShowsImprove allowed spans p wanted c result))
+    (OfCertified n input result (λ x. ShowsImprove allowed spans x.instance every x.certificate result))
+
 -- The whole input was read and P holds of it, or more than the limit came.
 abbrev pub OfInput : ℕ → Option (List ℕ) → Option (List ℕ) → Shown → (List ℕ → Type 0) → Type 0
 OfInput limit old new result P =
@@ -124,10 +141,10 @@ ShowsInput over order.Direct input result = OfInstance input result (λ p. Shows
 ShowsInput over order.Check input result = ShowsAnswer input result
 ShowsInput over (order.Bound option seconds) input result = OfInstance input result (λ p. ShowsBound option p result)
 ShowsInput over (order.Plan budget scale spans seconds notes) input result = OfScaled scale input result (λ p. ShowsSearch (within budget over) spans p result)
-ShowsInput over (order.Improve budget scale spans seconds notes) input result = OfCertified scale input result (λ x. ShowsImprove (within budget over) spans x result)
+ShowsInput over (order.Improve budget n spans seconds notes) input result = ShowsImproveOf (within budget over) n spans input result
 ShowsInput over (order.Trial seed terminals shipments) input result = ⊥
-ShowsInput over (order.Yard seed) input result = OfCertificate input result (λ p c. ShowsYard seed p c result)
-ShowsInput over (order.Fleet trucks) input result = OfCertificate input result (λ p c. ShowsFleet trucks p c result)
+ShowsInput over (order.Yard seed) input result = ShowsYardOf seed input result
+ShowsInput over (order.Fleet trucks) input result = ShowsFleetOf trucks input result
 ShowsInput over (order.Replan budget spans seconds notes) input result = ShowsTail (within budget over) spans input result
 ShowsInput over (order.Quote budget spans seconds notes None) input result = OfQuoted input result (λ p. ShowsQuote (within budget over) spans p result)
 ShowsInput over (order.Quote budget spans seconds notes (Some name)) input result = OfNamed name input result (λ p. ShowsNamedQuote (within budget over) spans name p result)

@@ -1,5 +1,7 @@
 -- What `yard` shows.
 use Rattle.std.specs.Prelude.{ℕ, ◌<◌, ◌≡◌, List, length, true}
+use Rattle.std.specs.declared.alloc.Global.{Global}
+use Rattle.std.specs.declared.vec.Vec.{Vec}
 use Rattle.fp_model.specs.declared.parts.Leg.{Leg}
 use Rattle.fp_model.specs.Problem.{Problem}
 use Rattle.fp_certificate_lines.specs.Statements.{Statement}
@@ -10,6 +12,7 @@ use Rattle.fp_yard.specs.Schedules.{HasEnds, IsPlanSchedule, IsSound, Schedule}
 use Rattle.fp_app.specs.declared.shown.Shown.{Shown}
 use Rattle.fp_app.specs.declared.shown.Shown.TheVariants as shown
 use Rattle.fp_app.specs.Plans.{IsToldPlan, ShowsUntold}
+use Rattle.fp_app.specs.Wanted.{Wanted}
 
 -- The log of a plan that is run at its terminals to its end: a legal history of the plan's schedule,
 -- which the draws from a seed choose, in which each line departs and arrives. Since it is legal, each
@@ -25,7 +28,15 @@ pub record IsDrawnLog (p : Problem) (plan : List (List Leg)) (seed : ℕ) (log :
 
 -- what is shown of a certificate: the plan that it tells, with the log that draws from a seed choose,
 -- or why it tells none
-abbrev pub ShowsYard : ℕ → Problem → Statement → Shown → Type 0
-ShowsYard seed p c (shown.Yard instance plan log) = (instance ≡ p) × IsToldPlan p c plan × IsDrawnLog p plan seed log.items
-ShowsYard seed p c (shown.RejectedPart number) = ShowsUntold p c number
-ShowsYard seed p c _ = ⊥
+abbrev pub ShowsYard : ℕ → Problem → Wanted → Statement → Shown → Type 0
+ShowsYard seed p wanted c (shown.Yard instance plan log) = (instance ≡ p) × IsToldPlan p wanted c plan × IsDrawnLog p plan seed log.items
+ShowsYard seed p wanted c (shown.RejectedPart number) = ShowsUntold p wanted c number
+ShowsYard seed p wanted c _ = ⊥
+
+-- what is shown is the plan that a certificate tells, with that log
+pub record IsShownRun (seed : ℕ) (p : Problem) (wanted : Wanted) (c : Statement) (result : Shown) : Type 0 where
+  pub plan : List (List Leg)
+  pub log : Vec Event Global
+  pub shows : result ≡ shown.Yard p plan log
+  pub told : IsToldPlan p wanted c plan
+  pub drawn : IsDrawnLog p plan seed log.items

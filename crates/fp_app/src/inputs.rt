@@ -2,3 +2,4 @@
 pub(crate) mod certificates;
 pub(crate) mod input_bytes;
 pub(crate) mod instances;
+pub(crate) mod tails;

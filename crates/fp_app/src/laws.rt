@@ -14,10 +14,12 @@ pub fn check_accepts_plans()
     ensures { CheckAcceptsPlans }
 {}
 
-/// `check` accepts what `replan` prints of kept legs or of a day that is under way: where the records of an
-/// input are those that were handed to `replan` and after them those of the text that it prints of a plan,
-/// the status that `check` has for the input is 0, with memory and without a fault of its source and its
-/// sink.
+/// `check` accepts what `replan` prints of kept legs or of a day that is under way, and what `improve` prints
+/// of an answer that follows these: where the records of an input are those that were handed to `replan`, or
+/// to `improve` before the answer, and after them those of the text that it prints of a plan, the status that
+/// `check` has for the input is 0, with memory and without a fault of its source and its sink.
+///
+/// `improve` may be at any scale that fits the instance: the text names it.
 pub fn check_accepts_replans()
     ensures { CheckAcceptsReplans }
 {}

@@ -2,4 +2,8 @@ pub mod ToldFaults
 pub mod ScaledCertificates
 pub mod DayWindows
 pub mod Scales
+pub mod AheadCases
+pub mod AnswerCases
+pub mod AnswerParts
+pub mod AnswerFaults
 pub mod VerdictCases

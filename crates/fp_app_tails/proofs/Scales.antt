@@ -76,7 +76,7 @@ module _ (p : Problem) (scale : ℕ) where
         ap (λ (shipments : List Shipment). record at { shipments = shipments })
         (map-same (moved at day) (moved p day) moved-at (left_numbers at day) ∙ ap (λ (numbers : List ℕ). map (moved p day) numbers) numbers-at)
 
-  ahead-at : (duty : Duty) → ahead_problem at duty ≡ record (ahead_problem p duty) { scale = scale }
+  pub ahead-at : (duty : Duty) → ahead_problem at duty ≡ record (ahead_problem p duty) { scale = scale }
   ahead-at (keep kept) = refl
   ahead-at (go_on day) = left-at day
 

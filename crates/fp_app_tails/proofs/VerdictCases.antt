@@ -1,10 +1,10 @@
 -- What is said of an answer, by what was found.
-use Rattle.std.proofs.Common.{◌≡◌, ◌≢◌, ℕ, ◌<◌, ◌≤◌, ◌^◌, List, take, ltb, refl, sym, subst, inl, inr, arith}
-use Rattle.std.specs.Prelude.{None, Some}
-use Rattle.std.proofs.lemmas.Bool.{cases_Bool, lt-ltb, ltb-false, ltb-true}
+use Rattle.std.proofs.Common.{◌≡◌, ◌≢◌, ℕ, ◌<◌, ◌≤◌, ◌^◌, nat_lt, ltb, refl, sym, subst, inl, inr, arith}
+use Rattle.std.specs.Prelude.{Err, None, Ok, Result, Some}
+use Rattle.std.proofs.lemmas.Bool.{cases_Bool, ltb-false, ltb-true}
 use Rattle.std.proofs.lemmas.Bool.Decides.{eqb_tells}
 use Rattle.fp_model.specs.Problem.{Problem, weight_at}
-use Rattle.fp_flatnet.specs.Belonging.{BelongsTo}
+use Rattle.fp_records_fields.specs.Faults.{Fault}
 use Rattle.fp_flatnet.specs.Tables.{WindowTable, windows_in}
 use Rattle.fp_certificate_lines.specs.declared.certificates.Answer.{Answer}
 use Rattle.fp_certificate_lines.specs.declared.certificates.Answer.TheVariants as answer
@@ -14,15 +14,16 @@ use Rattle.fp_replan.proofs.BegunPlans.{none-kept}
 use Rattle.fp_replan_present.proofs.ShipmentParts.{none-underway}
 use Rattle.fp_app_tails.specs.declared.ahead.Ahead.{Ahead}
 use Rattle.fp_app_tails.specs.declared.ahead.Ahead.TheVariants as ahead
+use Rattle.fp_app_tails.specs.declared.answers.Answered.{Answered}
+use Rattle.fp_app_tails.specs.declared.answers.Answered.TheVariants as answered
+use Rattle.fp_app_tails.specs.declared.answers.Scale.TheVariants as scale
 use Rattle.fp_app_tails.specs.declared.verdicts.Verdict.{Verdict}
 use Rattle.fp_app_tails.specs.declared.verdicts.Verdict.TheVariants as verdict
 use Rattle.fp_app_tails.specs.Ahead.{GoesOn, IsAhead, IsStuckAt, ahead_problem}
+use Rattle.fp_app_tails.specs.Answers.{Gives, IsGivenOf, IsReadOf, IsScaledOf, IsWantedOf}
 use Rattle.fp_app_tails.specs.Duties.{Duty, go_on, keep}
-use Rattle.fp_app_tails.specs.Windows.{AreDayWindows}
-use Rattle.fp_app_tails.specs.declared.inputs.TailInput.TheVariants as given
-use Rattle.fp_app_tails.specs.Inputs.{IsTailInput}
-use Rattle.fp_app_tails.specs.Tails.{tells_day}
-use Rattle.fp_app_tails.specs.Verdicts.{AreWindowsAhead, ClaimsAhead, IsScaledVerdict, IsStuckSaid, IsStuckVerdict, IsTested, IsVerdict, IsVerdictAt, NoneAheadCheaper, scale_of, scaled}
+use Rattle.fp_app_tails.specs.Verdicts.{AreWindowsAhead, ClaimsAhead, IsCertificateSaid, IsReadVerdict, IsScaledVerdict, IsStuckSaid, IsStuckVerdict, IsTested, IsVerdictAt, NoneAheadCheaper, scale_of, scaled}
+use Rattle.fp_app_tails.proofs.AheadCases.{open-goes, stuck-at}
 
 -- where a shipment is stuck no plan goes on
 none-ahead : (p : Problem) (duty : Duty) (k : ℕ) → IsStuckAt p duty k → GoesOn p duty → ⊥
@@ -52,31 +53,9 @@ stuck-by p duty first k v stuck none is =
 open-by : (p : Problem) (duty : Duty) (k : ℕ) (v : Verdict) → GoesOn p duty → v ≡ verdict.Rejected 8 → IsStuckSaid p duty k v
 open-by p duty k v goes is = subst (λ (x : Verdict). IsStuckSaid p duty k x) (sym is) (refl, λ at. none-ahead p duty k at goes)
 
--- what is to be planned goes on, or no plan does
-open-goes : (p : Problem) (duty : Duty) (q : Problem) (table : WindowTable) → IsAhead p duty (ahead.Open q table) → GoesOn p duty
-open-goes p (keep kept) q table is = is.2
-open-goes p (go_on day) q table is = is.2
-
-stuck-at : (p : Problem) (duty : Duty) (k : ℕ) → IsAhead p duty (ahead.Stuck k) → IsStuckAt p duty k × (GoesOn p duty → ⊥)
-stuck-at p (keep kept) k is = is
-stuck-at p (go_on day) k is = is
-
 pub stuck-said : (p : Problem) (duty : Duty) (a : Ahead) (k : ℕ) (v : Verdict) → IsAhead p duty a → IsStuckVerdict a k v → IsStuckSaid p duty k v
 stuck-said p duty (ahead.Open q table) k v is says = open-by p duty k v (open-goes p duty q table is) says
 stuck-said p duty (ahead.Stuck first) k v is says = let at = stuck-at p duty first is in stuck-by p duty first k v at.0 at.1 says
-
-pub ahead-none : (p : Problem) (duty : Duty) (k : ℕ) → IsAhead p duty (ahead.Stuck k) → GoesOn p duty → ⊥
-ahead-none p duty k is = (stuck-at p duty k is).1
-
--- the instance that is to be planned, and its windows
-pub record IsPlannable (p : Problem) (duty : Duty) (q : Problem) (table : WindowTable) : Type 0 where
-  pub same : q ≡ ahead_problem p duty
-  pub windows : AreWindowsAhead p duty table
-  pub goes : GoesOn p duty
-
-pub open-plannable : (p : Problem) (duty : Duty) (q : Problem) (table : WindowTable) → IsAhead p duty (ahead.Open q table) → IsPlannable p duty q table
-open-plannable p (keep kept) q table is = record { same = is.0; windows = is.1; goes = is.2 }
-open-plannable p (go_on day) q table is = record { same = is.1.left; windows = subst (λ (x : Problem). AreDayWindows p day x table) is.1.left is.1; goes = is.2 }
 
 -- what no plan within the windows costs less than, none that is wanted does
 none-wanted : (p : Problem) (duty : Duty) (table : WindowTable) (c : ℕ) → AreWindowsAhead p duty table → NoPlanWithinCheaper (ahead_problem p duty) (windows_in table) c → NoneAheadCheaper p duty c
@@ -95,22 +74,45 @@ tested-by p duty table c (verdict.Accepted None) windows is = absurd is
 tested-by p duty table c (verdict.Rejected number) windows is = inr (record { table = table; windows = windows; first = is })
 tested-by p duty table c (verdict.Fault ordinal code) windows is = absurd is
 
-pub tested-said : (p : Problem) (duty : Duty) (q : Problem) (table : WindowTable) (c : Statement) (v : Verdict) → IsPlannable p duty q table → IsTested q table c v → IsVerdictAt p duty c v
-tested-said p duty q table c v plannable is = tested-by p duty table c v plannable.windows (subst (λ (x : Problem). IsTested x table c v) plannable.same is)
+-- what is said of a certificate by what it gives
+abbrev pub SaysOf : Answered → Verdict → Type 0
+SaysOf (answered.Read q table c) v = IsTested q table c v
+SaysOf answered.NoPlan v = v ≡ verdict.Rejected 1
+SaysOf (answered.Fault ordinal code) v = v ≡ verdict.Fault ordinal code
 
--- the windows belong to what is to be planned
-pub open-belongs : (p : Problem) (duty : Duty) (q : Problem) (table : WindowTable) → IsAhead p duty (ahead.Open q table) → BelongsTo q table
-open-belongs p (keep kept) q table is = subst (λ (x : Problem). BelongsTo x table) (sym is.0) is.1.belongs
-open-belongs p (go_on day) q table is = is.1.belongs
+module _ (a : Answered) (v : Verdict) (says : SaysOf a v) where
+  none-said : a ≡ answered.NoPlan → v ≡ verdict.Rejected 1
+  none-said is = subst (λ (x : Answered). SaysOf x v) is says
 
--- where the scale fits
-pub fits-said : (p : Problem) (duty : Duty) (c : Statement) (v : Verdict) → weight_at (scale_of c.scale) p.arcs p.shipments < 2 ^ 127 → IsVerdictAt (scaled p c) duty c v → IsScaledVerdict p duty c v
-fits-said p duty c v fits said = rw (lt-ltb (weight_at (scale_of c.scale) p.arcs p.shipments) (2 ^ 127) fits) said
+  fault-of : (ordinal code : ℕ) → a ≡ answered.Fault ordinal code → v ≡ verdict.Fault ordinal code
+  fault-of ordinal code is = subst (λ (x : Answered). SaysOf x v) is says
 
--- the fault of what is told
-pub fault-said : (place : ℕ) (records : List (List (List ℕ))) (ordinal code : ℕ) → IsTailInput (take place records) (given.Fault ordinal code) → IsVerdict place records (verdict.Fault ordinal code)
-fault-said place records ordinal code is =
-    elim (cases_Bool (tells_day (take place records))) [
-      | inl day ↦ let read = rw day at is in rw (day, read) refl
-      | inr kept ↦ let read = rw kept at is in rw (kept, read) refl
+-- of what is to be planned
+planned-said : (p : Problem) (duty : Duty) (c : Statement) (a : Answered) (v : Verdict) → SaysOf a v → Gives a p duty c → IsVerdictAt p duty c v
+planned-said p duty c (answered.Read q table d) v says is =
+    tested-by p duty table c v is.windows (subst (λ (x : Problem). IsTested x table c v) is.same (subst (λ (x : Statement). IsTested q table x v) is.certificate says))
+planned-said p duty c answered.NoPlan v says is = absurd is
+planned-said p duty c (answered.Fault ordinal code) v says is = absurd is
+
+rejected-said : (p : Problem) (duty : Duty) (c : Statement) (v : Verdict) → (GoesOn p duty → ⊥) → v ≡ verdict.Rejected 1 → IsVerdictAt p duty c v
+rejected-said p duty c v none is = subst (λ (x : Verdict). IsVerdictAt p duty c x) (sym is) (inl (refl, none))
+
+wanted-said : (p : Problem) (duty : Duty) (c : Statement) (a : Answered) (v : Verdict) → SaysOf a v → IsWantedOf p duty c a → IsVerdictAt p duty c v
+wanted-said p duty c a v says (inl none) = rejected-said p duty c v none.0 (none-said a v says none.1)
+wanted-said p duty c a v says (inr some) = planned-said p duty c a v says some.1
+
+-- at the scale that it names
+scaled-said : (p : Problem) (duty : Duty) (c : Statement) (a : Answered) (v : Verdict) → SaysOf a v → IsScaledOf p duty (Some (scale_of c.scale)) c a → IsScaledVerdict p duty c v
+scaled-said p duty c a v says is =
+    elim (cases_Bool (nat_lt (weight_at (scale_of c.scale) p.arcs p.shipments) (2 ^ 127))) [
+      | inl fit ↦ let own : IsWantedOf (scaled p c) duty c a = rw fit at is in rw fit (wanted-said (scaled p c) duty c a v says own)
+      | inr large ↦ let own : a ≡ answered.Fault 0 12 = rw large at is in rw large (fault-of a v says 0 12 own)
     ]
+
+read-said : (p : Problem) (duty : Duty) (read : Result Statement Fault) (a : Answered) (v : Verdict) → SaysOf a v → IsReadOf p duty scale.Named read a → IsReadVerdict p duty read v
+read-said p duty (Ok c) a v says is = scaled-said p duty c a v says is
+read-said p duty (Err f) a v says is = fault-of a v says f.ordinal f.code is
+
+pub given-said : (p : Problem) (duty : Duty) (read : Result Statement Fault) (a : Answered) (v : Verdict) → SaysOf a v → IsGivenOf p duty scale.Named read a → IsCertificateSaid p duty read v
+given-said p duty read a v says (inl none) = inl (none.0, none-said a v says none.1)
+given-said p duty read a v says (inr some) = inr (some.0, read-said p duty read a v says some.1)

@@ -5,4 +5,5 @@ pub mod Windows
 pub mod Duties
 pub mod Ahead
 pub mod Verdicts
+pub mod Answers
 pub mod Faults

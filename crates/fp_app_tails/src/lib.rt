@@ -2,11 +2,13 @@
 #![tactic(auto)]
 
 mod ahead;
+mod answers;
 mod inputs;
 mod places;
 mod stuck_answers;
 mod verdicts;
 
+pub use answers::{Answered, Scale, answered_after};
 pub use inputs::{TailInput, read_tail};
 pub use places::{answer_place, tail_place};
 pub use verdicts::{Verdict, verdict_after};

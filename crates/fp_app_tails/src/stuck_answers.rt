@@ -2,6 +2,7 @@
 ghost use Rattle.std.specs.Prelude.{◌≡◌, ◌<◌, ◌+◌, ◌-◌, ◌^◌, drop, length, None, Some, MatchOption, IfOk};
 ghost use Rattle.fp_records_fields.specs.Indexes.{entries_of};
 ghost use Rattle.fp_app_tails.specs.StuckAnswers.{IsStuckAnswer, ended_as, stuck_from, tells_stuck as tells_stuck_of};
+ghost use Rattle.fp_app_tails.specs.Verdicts.{begins_stuck};
 
 use crate::NoMemory;
 use fp_model::Instance;
@@ -26,8 +27,8 @@ pub struct RecordFault {
     pub code: u32,
 }
 
-/// Whether a record is an answer that no plan goes on: its second field is `stuck`.
-pub fn tells_stuck(line: &Record) -> bool
+// Whether a record is an answer that no plan goes on: its second field is `stuck`.
+fn tells_stuck(line: &Record) -> bool
     ensures { result ≡ tells_stuck_of line.now }
 {
     is_of_kind(line, b"answer") && has_word(line, 1, b"stuck")
@@ -109,4 +110,11 @@ pub fn read_stuck(
 {
     let index = Index::of(alloc, instance)?;
     Ok(stuck_at(instance, &index, lines, place))
+}
+
+/// Whether the record at a place is an answer that no plan goes on.
+pub fn is_stuck_at(lines: &[Record], place: usize) -> bool
+    ensures { result ≡ begins_stuck (drop place lines.now) }
+{
+    place < lines.len() && tells_stuck(&lines[place])
 }

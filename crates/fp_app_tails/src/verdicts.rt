@@ -1,21 +1,21 @@
 //! What `check` says of an answer that follows kept legs or a day that is under way.
-ghost use Rattle.std.specs.Prelude.{ℕ, ◌≡◌, ◌+◌, ◌<◌, ◌≤◌, ◌-◌, ◌^◌, drop, length, take, IfOk};
-ghost use Rattle.fp_certificate_lines.specs.Statements.{Statement};
+ghost use Rattle.std.specs.Prelude.{◌+◌, ◌<◌, ◌≤◌, ◌-◌, ◌^◌, drop, length, IfOk};
 ghost use Rattle.fp_flatnet.specs.Belonging.{BelongsTo};
 ghost use Rattle.fp_certificate.specs.Reading.{certificate_of};
 ghost use Rattle.fp_app_tails.specs.Ahead.{CanBeTold, ahead_problem};
 ghost use Rattle.fp_app_tails.specs.StuckAnswers.{stuck_from};
 ghost use Rattle.fp_app_tails.specs.Duties.{duty_of};
-ghost use Rattle.fp_app_tails.specs.Verdicts.{CanBeTested, IsCertificateSaid, IsNamedSaid, IsRead, IsReadVerdict, IsScaledVerdict, IsStuckVerdict, IsTested, IsVerdict, IsVerdictAhead, IsVerdictAt, begins_stuck, scale_of as scale_named};
+ghost use Rattle.fp_app_tails.specs.Verdicts.{CanBeTested, IsCertificateSaid, IsNamedSaid, IsStuckVerdict, IsTested, IsVerdict, IsVerdictAhead};
 
 use crate::NoMemory;
 use crate::ahead::{Ahead, Told, ahead_of};
+use crate::answers::{Answered, Scale, certificate_answer};
 use crate::inputs::{TailInput, read_tail};
-use crate::stuck_answers::{StuckAnswer, read_stuck, tells_stuck};
-use fp_certificate::{Answer, CertFault, Certificate, read};
+use crate::stuck_answers::{StuckAnswer, is_stuck_at, read_stuck};
+use fp_certificate::{Answer, Certificate};
 use fp_checker::{Rejected, check};
 use fp_flatnet::Windows;
-use fp_model::{Instance, SCALE};
+use fp_model::Instance;
 use fp_records::Record;
 use std::alloc::{AllocError, Global};
 
@@ -29,16 +29,6 @@ pub enum Verdict {
     Rejected { number: u32 },
     /// The first fault of the records.
     Fault { ordinal: u32, code: u32 },
-}
-
-// The scale that a certificate names, or the usual one where it names none.
-fn scale_of(certificate: &Certificate) -> u32
-    ensures { result ≡ scale_named certificate.now.scale }
-{
-    match certificate.scale {
-        Some(scale) => scale,
-        None => SCALE as u32,
-    }
 }
 
 // What is said of the answer that a shipment is the first that is stuck.
@@ -71,75 +61,7 @@ fn tested(
     }
 }
 
-// What is said of a certificate for an instance at the certificate's scale.
-fn verdict_at(
-    alloc: Global,
-    whole: &Instance,
-    told: &Told,
-    certificate: &Certificate,
-) -> Result<Verdict, NoMemory>
-    requires told { CanBeTold whole.now (duty_of told.now) }
-    requires read { IsRead whole.now (duty_of told.now) certificate.now }
-    ensures { IfOk result (IsVerdictAt whole.now (duty_of told.now) certificate.now) }
-{
-    match ahead_of(alloc, whole, told)? {
-        Ahead::Open { instance, windows } => {
-            let said = tested(alloc, &instance, &windows, certificate)?;
-            Ok(said)
-        }
-        Ahead::Stuck { .. } => Ok(Verdict::Rejected { number: 1 }),
-    }
-}
-
-// What is said of a certificate at the scale that it names.
-fn scaled_verdict(
-    alloc: Global,
-    instance: Instance,
-    told: &Told,
-    certificate: &Certificate,
-) -> Result<Verdict, NoMemory>
-    requires told { CanBeTold instance (duty_of told.now) }
-    requires read { IsRead instance (duty_of told.now) certificate.now }
-    ensures { IfOk result (IsScaledVerdict instance (duty_of told.now) certificate.now) }
-{
-    let scale = scale_of(certificate);
-    if !instance.fits(scale) {
-        return Ok(Verdict::Fault {
-            ordinal: 0,
-            code: 12,
-        });
-    }
-    let instance = instance.with_scale(scale);
-    let said = verdict_at(alloc, &instance, told, certificate)?;
-    Ok(said)
-}
-
-// What is said of the certificate at a place, read for what is to be planned.
-fn read_verdict(
-    alloc: Global,
-    instance: Instance,
-    told: &Told,
-    rest: &Instance,
-    lines: &[Record],
-    place: usize,
-) -> Result<Verdict, NoMemory>
-    requires told { CanBeTold instance (duty_of told.now) }
-    requires rest { rest.now ≡ ahead_problem instance (duty_of told.now) }
-    requires place { place ≤ length lines.now }
-    requires few { length lines.now < 2 ^ 32 - 1 }
-    ensures { IfOk result (IsReadVerdict instance (duty_of told.now) (certificate_of rest.now (place + 1) (drop place lines.now))) }
-{
-    match read(alloc, rest, lines, place) {
-        Ok(certificate) => {
-            let said = scaled_verdict(alloc, instance, told, &certificate)?;
-            Ok(said)
-        }
-        Err(CertFault::Bad { ordinal, code }) => Ok(Verdict::Fault { ordinal, code }),
-        Err(CertFault::NoMemory) => Err(AllocError),
-    }
-}
-
-// What is said of the certificate at a place.
+// What is said of the certificate at a place, at the scale that it names.
 fn certificate_verdict(
     alloc: Global,
     whole: Instance,
@@ -152,12 +74,17 @@ fn certificate_verdict(
     requires few { length lines.now < 2 ^ 32 - 1 }
     ensures { IfOk result (IsCertificateSaid whole (duty_of told.now) (certificate_of (ahead_problem whole (duty_of told.now)) (place + 1) (drop place lines.now))) }
 {
-    match ahead_of(alloc, &whole, told)? {
-        Ahead::Open { instance, .. } => {
-            let said = read_verdict(alloc, whole, told, &instance, lines, place)?;
+    match certificate_answer(alloc, whole, told, lines, place, Scale::Named)? {
+        Answered::Read {
+            instance,
+            windows,
+            certificate,
+        } => {
+            let said = tested(alloc, &instance, &windows, &certificate)?;
             Ok(said)
         }
-        Ahead::Stuck { .. } => Ok(Verdict::Rejected { number: 1 }),
+        Answered::NoPlan => Ok(Verdict::Rejected { number: 1 }),
+        Answered::Fault { ordinal, code } => Ok(Verdict::Fault { ordinal, code }),
     }
 }
 
@@ -179,13 +106,6 @@ fn stuck_said(
         StuckAnswer::Of { shipment } => Ok(stuck_verdict(&ahead, shipment)),
         StuckAnswer::Fault { ordinal, code } => Ok(Verdict::Fault { ordinal, code }),
     }
-}
-
-// Whether the record at a place is an answer that no plan goes on.
-fn is_stuck_at(lines: &[Record], place: usize) -> bool
-    ensures { result ≡ begins_stuck (drop place lines.now) }
-{
-    place < lines.len() && tells_stuck(&lines[place])
 }
 
 // What is said of the answer at a place, after what is told of an instance.

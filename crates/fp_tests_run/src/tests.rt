@@ -19,5 +19,6 @@ mod replans;
 mod runs;
 mod sizes;
 mod span_certificates;
+mod tail_plans;
 mod trials;
 mod words;

@@ -17,14 +17,14 @@ ORDER = "hand on the instance first and then its answer, as in: cat day.csv answ
 KEPT_ORDER = "the instance's records stand before all kept legs: move them up"
 CHECKERS = ("check", "yard", "fleet", "improve")
 # The first fields of what may follow an instance.
-TAILS = {**dict.fromkeys(CHECKERS, ("answer",)), "replan": TOLD, "check": (*TOLD, "answer")}
+TAILS = {**dict.fromkeys(CHECKERS, (*TOLD, "answer")), "replan": TOLD}
 NAMED = {"kept": "kept legs", "now": "present"}
 NO_ANSWER = 'an answer begins with its line "answer": none stands before this one'
 # First fields of what commands print that is no answer, and what is said of answers that a certificate doesn't begin with.
 PRINTED = ("refused", "rejected", "accepted")
 UNCHECKED = {
     "bound": "an answer bound shows nothing that can be checked",
-    "stuck": "an answer stuck is checked after the kept or now records that replan was given: hand these on between the instance and the answer",
+    "stuck": "an answer stuck is read after the kept or now records that replan was given: hand these on between the instance and the answer",
 }
 
 
@@ -53,7 +53,7 @@ def writing_hint(record):
 def command_hint(record, command):
     """What is said of a record of an answer or of kept legs, where the command reads an instance."""
     if record.kind in TOLD:
-        return f"{command} reads no {NAMED[record.kind]}: ./freight replan and check do"
+        return f"{command} reads no {NAMED[record.kind]}: ./freight replan, check, yard, fleet and improve do"
     if record.kind in PRINTED:
         return "a command has printed this, and it's no record: take its lines out"
     if record.kind not in CERTIFICATE:
@@ -88,7 +88,7 @@ def certificate_kind_hint(record):
     if record.kind in INSTANCE:
         return f"the instance's records stand after the answer: {ORDER}"
     if record.kind in TOLD:
-        return "kept and now records are read by ./freight replan and check, after the instance and before an answer"
+        return "kept and now records are read by ./freight replan, check, yard, fleet and improve, after the instance and before an answer"
     if record.kind == "answer" and record.fields[1:2] and record.fields[1] in UNCHECKED:
         return UNCHECKED[record.fields[1]]
     return writing_hint(record) or kind_hint(record, CERTIFICATE)

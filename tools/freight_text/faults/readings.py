@@ -40,8 +40,7 @@ def findings_of(words, records, data):
     scale = option(words, "--scale", SCALE)
     add_weights(findings, total, SCALE if command in CHECKERS else scale)
     findings.add_all(KeptReading(command, draft), parts.told)
-    if command in CHECKERS:
-        add_answer(findings, draft, records, parts)
+    if command in CHECKERS and add_answer(command, findings, draft, records, parts):
         add_weights(findings, None if findings.listed else total, scale)
     elif command == "quote":
         add_quoted(findings, draft, name_among(words))
@@ -54,19 +53,23 @@ def add_quoted(findings, draft, name):
         findings.add(no_shipment_fault(draft, name))
 
 
-def add_answer(findings, draft, records, parts):
-    """The faults of an answer: of one that no plan goes on, or of a certificate of what is to be planned, where a plan goes on."""
+def add_answer(command, findings, draft, records, parts):
+    """The faults of an answer: of one that no plan goes on, or of a certificate of what is to be planned, where a plan goes on.
+
+    It gives whether the scale of the words is looked at: not where no plan is told.
+    """
     if parts.told and parts.certificate and parts.certificate[0].fields[1:2] == ("stuck",):
         add_certificate(findings, StuckReading(draft), records, parts.certificate)
-        return
+        return False
     told = None if findings.listed else told_of([*parts.own, *parts.told])
     if told is None:
         add_certificate(findings, CertificateReading(draft, None), records, parts.certificate)
     elif not told.stuck:
         planned = told.planned()
         add_certificate(findings, CertificateReading(draft.left(planned.shipments), alone_cost(planned)), records, parts.certificate)
-        if parts.told and not findings.listed:
+        if command == "check" and parts.told and not findings.listed:
             add_scale(findings, told.instance, parts.certificate)
+    return told is None or not told.stuck
 
 
 def add_scale(findings, instance, certificate):

@@ -11,8 +11,9 @@ ghost use Rattle.fp_app.specs.Inputs.{OfCertificate};
 ghost use Rattle.fp_app.specs.Shown.{IsPrintable};
 
 use crate::check_outcomes::check_outcome;
+use crate::inputs::tails::tail_answer;
 use crate::{AnswerKind, NoMemory, Shown};
-use fp_app_tails::{Verdict, answer_place, tail_place, verdict_after};
+use fp_app_tails::{Verdict, verdict_after};
 use fp_certificate::{CertFault, Certificate, read_with_index};
 use fp_model::{Instance, SCALE};
 use fp_reader::{IndexedRead, InputFault, Tail, instance_with_index};
@@ -44,14 +45,16 @@ pub fn check_shown(alloc: Global, bytes: Vec<u8>) -> Result<Shown, NoMemory>
 {
     let lines = records(alloc, &bytes)?;
     drop(bytes);
-    let place = answer_place(&lines);
-    let begins = tail_place(&lines[..place]);
-    if begins < place {
-        let shown = said(verdict_after(alloc, &lines, place)?);
-        return Ok(shown);
+    match tail_answer(&lines) {
+        Some(place) => {
+            let verdict = verdict_after(alloc, &lines, place)?;
+            Ok(said(verdict))
+        }
+        None => {
+            let shown = certificate_shown(alloc, &lines)?;
+            Ok(shown)
+        }
     }
-    let shown = certificate_shown(alloc, &lines)?;
-    Ok(shown)
 }
 
 // What is shown of the certificate that follows an instance.
@@ -89,20 +92,9 @@ fn said(verdict: Verdict) -> Shown
     }
 }
 
-/// The instance and the certificate of an input. Neither its bytes nor its records are kept.
-pub fn read_both(alloc: Global, bytes: Vec<u8>) -> Result<CheckInput, NoMemory>
-    requires { length bytes.items ≤ CHECK_LIMIT }
-    ensures given { IfOk result (IsCheckInput bytes.items) }
-    ensures checkable { IfOk result AreCheckable }
-{
-    let lines = records(alloc, &bytes)?;
-    drop(bytes);
-    read_lines(alloc, &lines)
-}
-
-// The instance and the certificate of records. The index of names that reading the instance made serves the
-// certificate too.
-fn read_lines(alloc: Global, lines: &[Record]) -> Result<CheckInput, NoMemory>
+/// The instance and the certificate of records. The index of names that reading the instance made serves the
+/// certificate too.
+pub fn read_lines(alloc: Global, lines: &[Record]) -> Result<CheckInput, NoMemory>
     requires { length lines.now < 2 ^ 32 - 1 }
     ensures given { IfOk result (λ given. (input : List ℕ) → records_of input ≡ lines.now → IsCheckInput input given) }
     ensures checkable { IfOk result AreCheckable }

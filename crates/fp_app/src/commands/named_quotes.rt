@@ -19,6 +19,7 @@ ghost use Rattle.fp_app.specs.Notes.{AreQuoteNotes, MayNote};
 ghost use Rattle.fp_app.specs.Plans.{TellsTimetable};
 ghost use Rattle.fp_app.specs.Searches.{within};
 ghost use Rattle.fp_app.specs.Shown.{IsPrintable};
+ghost use Rattle.fp_app.specs.Wanted.{every};
 
 use crate::commands::improvements::solve_from;
 use crate::commands::options::SearchOptions;
@@ -171,7 +172,7 @@ fn fastest_plan(alloc: Global, instance: &Instance) -> Result<Plan, NoMemory>
 fn plan_without_last(alloc: Global, instance: &Instance, solved: &Solved) -> Result<Plan, NoMemory>
     requires shipment { 1 ≤ length instance.now.shipments }
     requires checkable { CanBeChecked (without_last_of instance.now) solved.now.certificate }
-    requires tells { TellsTimetable (without_last_of instance.now) solved.now.certificate }
+    requires tells { TellsTimetable (without_last_of instance.now) every solved.now.certificate }
     ensures routes { IfOk result (λ plan. plan ≡ routes_of (without_last_of instance.now) solved.now.certificate) }
     ensures plan { IfOk result (IsPlan (without_last_of instance.now) 1) }
 {
@@ -182,7 +183,7 @@ fn plan_without_last(alloc: Global, instance: &Instance, solved: &Solved) -> Res
 // The plan of a search.
 fn searched_plan(alloc: Global, instance: &Instance, solved: &Solved) -> Result<Plan, NoMemory>
     requires checkable { CanBeChecked instance.now solved.now.certificate }
-    requires tells { TellsTimetable instance.now solved.now.certificate }
+    requires tells { TellsTimetable instance.now every solved.now.certificate }
     ensures routes { IfOk result (λ plan. plan ≡ routes_of instance.now solved.now.certificate) }
     ensures plan { IfOk result (IsPlan instance.now 1) }
 {

@@ -4,8 +4,8 @@ use crate::tests::runs::{check_on, run_on};
 use fp_tests_examples::LINE;
 use std::test::Fail;
 
-// A hub B with a hold of 10 between A and C. P1 goes over it, P3 goes to it, and P4 leaves it.
-const HUB: &str =
+/// A hub B with a hold of 10 between A and C. P1 goes over it, P3 goes to it, and P4 leaves it.
+pub const HUB: &str =
     "terminal,A\nterminal,B,10\nterminal,C\narc,A,B,100,10,100,0\narc,B,C,120,10,100,0\narc,B,A,100,10,100,0\nshipment,P1,A,C,4,0,600\nshipment,P3,A,B,4,0,600\nshipment,P4,B,C,4,0,520\n";
 
 // What is left of it at 300, when P1 waits at B.

@@ -21,11 +21,11 @@ const OVER_C: &str =
 const JOINED: &str =
     "answer,direct,200\nleg,S1,A,B,0,4\nleg,S1,B,C,4,9\nleg,S2,B,C,4,9\ntruck,A,B,0,1,4\ntruck,B,C,4,1,8\nend\n";
 
-// The instance weighs less than 2^127 at the usual scale, and more at 1,000,000,000.
-const HEAVY: &str =
+/// The instance weighs less than 2^127 at the usual scale, and more at 1,000,000,000.
+pub const HEAVY: &str =
     "terminal,A\nterminal,B\narc,A,B,5,10,100,1000000000000\nshipment,S1,A,B,10000000000000,0,10\n";
 
-const HEAVY_PLAN: &str =
+pub const HEAVY_PLAN: &str =
     "answer,direct,10000000000100000000000000\nleg,S1,A,B,0,5\ntruck,A,B,0,1000000000000,10000000000000\nend\n";
 
 const ROWS: [Row; 18] = [

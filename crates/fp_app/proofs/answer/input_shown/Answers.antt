@@ -6,10 +6,9 @@ use Rattle.fp_app_words.specs.TimeLimits.{halved, seconds_of}
 use Rattle.fp_app_words.specs.declared.orders.Order.{Order}
 use Rattle.fp_app_words.specs.declared.orders.Order.TheVariants.{Quote}
 use Rattle.fp_app.specs.declared.commands.options.SearchOptions.{SearchOptions}
-use Rattle.fp_app.specs.Improvements.{ShowsImprove}
-use Rattle.fp_app.specs.Inputs.{OfCertified, OfNamed, OfQuoted, OfScaled}
+use Rattle.fp_app.specs.Inputs.{OfNamed, OfQuoted, OfScaled}
 use Rattle.fp_app.specs.NamedQuotes.{ShowsNamedQuote}
-use Rattle.fp_app.specs.Runs.{ShowsInput, ShowsQuote, ShowsSearch}
+use Rattle.fp_app.specs.Runs.{ShowsImproveOf, ShowsInput, ShowsQuote, ShowsSearch}
 use Rattle.fp_app.specs.Searches.{within}
 use Rattle.fp_app.proofs.answer.input_shown.Goals as goal
 
@@ -29,7 +28,7 @@ returns-in-Improve-clause-shown g c =
     let n : ℕ = g.C.Clock.faults c.improve_shown.new.clock in
     let input : List ℕ = c.args.bytes.items in
     subst (λ (o : Order). IfOk c.improve_shown.result (ShowsInput (has_shown (seconds_of (Some o)) m b n) o input)) (sym c.in-Improve.is)
-    (subst (λ (o : SearchOptions). IfOk c.improve_shown.result (λ shown. OfCertified c.in-Improve.scale input shown (λ x. ShowsImprove (within o.budget (has_shown o.seconds m b n)) o.spans x shown))) c.new-options-in-Improve.ensures c.improve_shown.ensures.shown)
+    (subst (λ (o : SearchOptions). IfOk c.improve_shown.result (ShowsImproveOf (within o.budget (has_shown o.seconds m b n)) c.in-Improve.scale o.spans input)) c.new-options-in-Improve.ensures c.improve_shown.ensures.shown)
 
 pub returns-in-None-clause-shown : goal.returns-in-None-clause-shown
 returns-in-None-clause-shown g c =

@@ -1,28 +1,44 @@
-use Rattle.std.proofs.Common.{◌+◌, drop, inl, inr, refl, subst}
-use Rattle.fp_model.specs.Problem.{Problem}
+use Rattle.std.proofs.Common.{◌+◌, drop, refl}
 use Rattle.fp_certificate.specs.Reading.{certificate_of}
-use Rattle.fp_app_tails.specs.declared.ahead.Ahead.TheVariants as ahead
-use Rattle.fp_app_tails.specs.Ahead.{IsAhead}
+use Rattle.fp_app_tails.specs.declared.answers.Answered.TheVariants as answered
+use Rattle.fp_app_tails.specs.declared.answers.Scale.TheVariants.{Named}
+use Rattle.fp_app_tails.specs.declared.verdicts.Verdict.TheVariants as verdict
+use Rattle.fp_app_tails.specs.Ahead.{ahead_problem}
+use Rattle.fp_app_tails.specs.Answers.{IsGivenOf, IsTestable}
 use Rattle.fp_app_tails.specs.Duties.{duty_of}
-use Rattle.fp_app_tails.specs.Verdicts.{IsReadVerdict}
-use Rattle.fp_app_tails.proofs.VerdictCases.{ahead-none, open-plannable}
+use Rattle.fp_app_tails.proofs.VerdictCases.{given-said}
 use Rattle.fp_app_tails.proofs.verdicts.certificate_verdict.Goals as goal
 
-pub read_verdict-requires-clause-rest : goal.read_verdict-requires-clause-rest
-read_verdict-requires-clause-rest c =
-    let opened : IsAhead c.args.whole (duty_of c.args.told.now) (ahead.Open c.in-Open.instance c.in-Open.windows) = rw c.in-Open.is at c.in_ok-instance.ensures in
-    (open-plannable c.args.whole (duty_of c.args.told.now) c.in-Open.instance c.in-Open.windows opened).same
+pub tested-requires-clause-belongs : goal.tested-requires-clause-belongs
+tested-requires-clause-belongs c =
+    let can : IsTestable (answered.Read c.in-Read.instance c.in-Read.windows c.in-Read.certificate) = rw c.in-Read.is at c.in_ok-instance.ensures.testable in
+    can.0
 
-pub returns-in_ok-said-in-Open : goal.returns-in_ok-said-in-Open
-returns-in_ok-said-in-Open c =
-    let opened : IsAhead c.args.whole (duty_of c.args.told.now) (ahead.Open c.in-Open.instance c.in-Open.windows) = rw c.in-Open.is at c.in_ok-instance.ensures in
-    let plannable = open-plannable c.args.whole (duty_of c.args.told.now) c.in-Open.instance c.in-Open.windows opened in
-    inr (
-      plannable.goes,
-      subst (λ (q : Problem). IsReadVerdict c.args.whole (duty_of c.args.told.now) (certificate_of q (c.args.place + 1) (drop c.args.place c.args.lines.now)) c.in_ok-said-in-Open.said) plannable.same c.in_ok-said-in-Open.ensures,
-    )
+pub tested-requires-clause-tested : goal.tested-requires-clause-tested
+tested-requires-clause-tested c =
+    let can : IsTestable (answered.Read c.in-Read.instance c.in-Read.windows c.in-Read.certificate) = rw c.in-Read.is at c.in_ok-instance.ensures.testable in
+    can.1
 
-pub returns-in-Stuck : goal.returns-in-Stuck
-returns-in-Stuck c =
-    let stuck : IsAhead c.args.whole (duty_of c.args.told.now) (ahead.Stuck c.in-Stuck.shipment) = rw c.in-Stuck.is at c.in_ok-instance.ensures in
-    inl (ahead-none c.args.whole (duty_of c.args.told.now) c.in-Stuck.shipment stuck, refl)
+pub returns-in_ok-said-in-Read : goal.returns-in_ok-said-in-Read
+returns-in_ok-said-in-Read c =
+    let p = c.args.whole in
+    let duty = duty_of c.args.told.now in
+    let read = certificate_of (ahead_problem p duty) (c.args.place + 1) (drop c.args.place c.args.lines.now) in
+    let given : IsGivenOf p duty Named read (answered.Read c.in-Read.instance c.in-Read.windows c.in-Read.certificate) = rw c.in-Read.is at c.in_ok-instance.ensures.given in
+    given-said p duty read (answered.Read c.in-Read.instance c.in-Read.windows c.in-Read.certificate) c.in_ok-said-in-Read.said c.in_ok-said-in-Read.ensures given
+
+pub returns-in-NoPlan : goal.returns-in-NoPlan
+returns-in-NoPlan c =
+    let p = c.args.whole in
+    let duty = duty_of c.args.told.now in
+    let read = certificate_of (ahead_problem p duty) (c.args.place + 1) (drop c.args.place c.args.lines.now) in
+    let given : IsGivenOf p duty Named read answered.NoPlan = rw c.in-NoPlan.is at c.in_ok-instance.ensures.given in
+    given-said p duty read answered.NoPlan (verdict.Rejected 1) refl given
+
+pub returns-in-Fault : goal.returns-in-Fault
+returns-in-Fault c =
+    let p = c.args.whole in
+    let duty = duty_of c.args.told.now in
+    let read = certificate_of (ahead_problem p duty) (c.args.place + 1) (drop c.args.place c.args.lines.now) in
+    let given : IsGivenOf p duty Named read (answered.Fault c.in-Fault.ordinal c.in-Fault.code) = rw c.in-Fault.is at c.in_ok-instance.ensures.given in
+    given-said p duty read (answered.Fault c.in-Fault.ordinal c.in-Fault.code) (verdict.Fault c.in-Fault.ordinal c.in-Fault.code) refl given
