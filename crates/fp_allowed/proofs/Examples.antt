@@ -1,17 +1,18 @@
 -- The definitions at one arc from A to B of time 5, where A has the points 0 and 3: the first
 -- shipment can leave from 0 to 5, the second from 3 to 7.
 use Rattle.std.proofs.Common.{◌≡◌, ℕ, Bool, true, false, List, [], ◌∷◌, refl, ap, arith}
-use Rattle.std.specs.Prelude.{Option, Some}
+use Rattle.std.specs.Prelude.{None, Option, Some}
 use Rattle.fp_model.specs.declared.parts.Leg.{Leg}
 use Rattle.fp_model.proofs.Examples.{two}
 use Rattle.fp_flatnet.specs.declared.window_tables.Window.{Window}
 use Rattle.fp_flatnet.specs.Tables.{windows_in}
-use Rattle.fp_longestarcs.specs.Networks.{TimedNetwork}
+use Rattle.fp_longestarcs.specs.Networks.{TimedNetwork, points_in}
 use Rattle.fp_tree.specs.declared.sides.Side.{Side}
 use Rattle.fp_tree.specs.declared.sides.Side.TheVariants.{Without, Only, Before, From}
 use Rattle.fp_allowed.specs.Bits.{allowed_in}
 use Rattle.fp_allowed.specs.Chains.{SeveralLeave, chain_stop}
 use Rattle.fp_allowed.specs.Departures.{departures_left}
+use Rattle.fp_allowed.specs.Heads.{head_within}
 use Rattle.fp_allowed.specs.Listing.{all_classes, class_at}
 use Rattle.fp_allowed.specs.Settings.{Setting}
 
@@ -100,3 +101,27 @@ left_before = refl
 
 left_from : left 0 (From 0 0 3 ∷ []) ≡ 3
 left_from = refl
+
+-- the head of the class from a point for a shipment with this window
+abbrev head : Option Window → ℕ → ℕ
+head o point = head_within two (points_in network) o (from point)
+
+head_without : head None 0 ≡ 0
+head_without = refl
+
+-- the window begins after the class's point: a departure from 5 on arrives from 10 on
+head_later : head (window 5 9) 0 ≡ 10
+head_later = refl
+
+head_between : head (window 6 9) 0 ≡ 10
+head_between = refl
+
+head_last : head (window 7 9) 0 ≡ 12
+head_last = refl
+
+head_too_early : head (window 4 9) 0 ≡ 0
+head_too_early = refl
+
+-- the window begins before the class's point
+head_inside : head (window 0 9) 3 ≡ 0
+head_inside = refl

@@ -4,6 +4,7 @@ pub mod SamePoints
 pub mod InitialPoints
 pub mod FewerSides
 pub mod ClassTimes
+pub mod Heads
 pub mod PlanClasses
 pub mod ListedClasses
 pub mod RowClasses

@@ -14,11 +14,30 @@ use Rattle.fp_longestarcs.specs.Classes.{class_of, head_of}
 use Rattle.fp_tree.specs.declared.sides.Side.{Side}
 use Rattle.fp_allowed.specs.Allowed.{exit_of, has_moment, is_allowed, is_moment, meets_all, tails_of}
 use Rattle.fp_allowed.specs.SamePoints.{AgreeOnPoints}
-use Rattle.fp_allowed.specs.Walks.{FollowsHeads, IsTimedWalk}
+use Rattle.fp_allowed.specs.Heads.{head_within, heads_within, not_before}
+use Rattle.fp_allowed.specs.Walks.{FollowsHeads, IsTimedWalk, IsWalkBy}
 
 -- agreement goes both ways
 pub AgreeOnPoints_sym : (p : Problem) (points others : ℕ → List ℕ) → AgreeOnPoints p points others → AgreeOnPoints p others points
 AgreeOnPoints_sym p points others same = λ terminal h at. sym (same terminal h at)
+
+-- a walk follows other heads where they agree on the arcs that exist
+FollowsHeads_same : (p : Problem) (heads others : Leg → ℕ) → ((c : Leg) → c.arc < length p.arcs → heads c ≡ others c) → (here there ready : ℕ) (walk : List Leg) →
+    Leads p here (arcs_of walk) there → FollowsHeads heads ready walk → FollowsHeads others ready walk
+FollowsHeads_same p heads others same here there ready [] leads follows = tt
+FollowsHeads_same p heads others same here there ready (c ∷ walk) leads follows = (
+  follows.0,
+  subst (λ (n : ℕ). FollowsHeads others n walk) (same c leads.0) (FollowsHeads_same p heads others same (arc_at p c.arc).to there (heads c) walk leads.2 follows.1),
+)
+
+-- so a walk by heads is one by those
+pub IsWalkBy_same : (p : Problem) (heads others : Leg → ℕ) (allowed : Leg → Bool) (s : Shipment) (walk : List Leg) → ((c : Leg) → c.arc < length p.arcs → heads c ≡ others c) →
+    IsWalkBy p heads allowed s walk → IsWalkBy p others allowed s walk
+IsWalkBy_same p heads others allowed s walk same goes = record {
+  leads = goes.leads;
+  allowed_all = goes.allowed_all;
+  follows = FollowsHeads_same p heads others same s.from s.to 0 walk goes.leads goes.follows;
+}
 
 module _ (p : Problem) (valid : IsValid p) (points others : ℕ → List ℕ) (same : AgreeOnPoints p points others) where
   -- the same class has the same moments
@@ -52,24 +71,24 @@ module _ (p : Problem) (valid : IsValid p) (points others : ℕ → List ℕ) (s
   pub head_of_same : (c : Leg) → c.arc < length p.arcs → head_of p points c ≡ head_of p others c
   head_of_same c h = floor_same (points (arc_at p c.arc).to) (others (arc_at p c.arc).to) 1 (c.depart + step p c.arc) (same (arc_at p c.arc).to (valid.parts.arcs c.arc no_arc h).to)
 
-  -- so a walk follows the same heads
-  pub FollowsHeads_same : (here there ready : ℕ) (walk : List Leg) → Leads p here (arcs_of walk) there → FollowsHeads p points ready walk → FollowsHeads p others ready walk
-  FollowsHeads_same here there ready [] leads follows = tt
-  FollowsHeads_same here there ready (c ∷ walk) leads follows = (
-    follows.0,
-    subst (λ (n : ℕ). FollowsHeads p others n walk) (head_of_same c leads.0) (FollowsHeads_same (arc_at p c.arc).to there (head_of p points c) walk leads.2 follows.1),
-  )
+  -- also for a shipment
+  pub head_within_same : (o : Option Window) (c : Leg) → c.arc < length p.arcs → head_within p points o c ≡ head_within p others o c
+  head_within_same None c h = head_of_same c h
+  head_within_same (Some w) c h = head_of_same (not_before w c) h
 
-  -- and a timed walk is one over the other points
+  -- so a timed walk is one over the other points
   pub IsTimedWalk_same : (allowed : Leg → Bool) (s : Shipment) (walk : List Leg) → IsTimedWalk p points allowed s walk → IsTimedWalk p others allowed s walk
-  IsTimedWalk_same allowed s walk timed = record {
-    leads = timed.leads;
-    allowed_all = timed.allowed_all;
-    follows = FollowsHeads_same s.from s.to 0 walk timed.leads timed.follows;
-  }
+  IsTimedWalk_same allowed s walk = IsWalkBy_same p (head_of p points) (head_of p others) allowed s walk head_of_same
 
   -- also where it is of the allowed classes
   pub allowed_walk_same : (windows : ℕ → ℕ → Option Window) (sides : List Side) (k : ℕ) (s : Shipment) (walk : List Leg) → IsTimedWalk p points (is_allowed p windows points sides k) s walk →
       IsTimedWalk p others (is_allowed p windows others sides k) s walk
   allowed_walk_same windows sides k s walk timed =
       subst (λ (allowed : ℕ → Leg → Bool). IsTimedWalk p others (allowed k) s walk) (is_allowed_same windows sides) (IsTimedWalk_same (is_allowed p windows points sides k) s walk timed)
+
+  -- and so is a walk of allowed classes by the heads for the shipment
+  pub shipment_walk_same : (windows : ℕ → ℕ → Option Window) (sides : List Side) (k : ℕ) (s : Shipment) (walk : List Leg) →
+      IsWalkBy p (heads_within p windows points k) (is_allowed p windows points sides k) s walk → IsWalkBy p (heads_within p windows others k) (is_allowed p windows others sides k) s walk
+  shipment_walk_same windows sides k s walk goes =
+      subst (λ (allowed : ℕ → Leg → Bool). IsWalkBy p (heads_within p windows others k) (allowed k) s walk) (is_allowed_same windows sides)
+      (IsWalkBy_same p (heads_within p windows points k) (heads_within p windows others k) (is_allowed p windows points sides k) s walk (λ c. head_within_same (windows k c.arc) c) goes)

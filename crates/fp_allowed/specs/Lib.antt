@@ -1,5 +1,6 @@
 pub mod Allowed
 pub mod Walks
+pub mod Heads
 pub mod SamePoints
 pub mod InitialPoints
 pub mod Listing

@@ -4,7 +4,7 @@ ghost use Rattle.std.specs.Prelude.{◌≡◌, ◌<◌, List, IfOk, IfSome, IsNo
 ghost use Rattle.fp_model.specs.Numbered.{shipment_at};
 ghost use Rattle.fp_flatnet.specs.Belonging.{BelongsTo};
 ghost use Rattle.fp_flatnet.specs.Tables.{windows_in};
-ghost use Rattle.fp_longestarcs.specs.Networks.{class_count};
+ghost use Rattle.fp_longestarcs.specs.Networks.{IsClass, class_count, points_in};
 ghost use Rattle.fp_longestarcs.specs.Whole.{IsWholeNetwork};
 ghost use Rattle.fp_tree.specs.declared.sides.Side.{Side};
 ghost use Rattle.fp_allowed.specs.Allowed.{tails_of};
@@ -12,12 +12,14 @@ ghost use Rattle.fp_allowed.specs.Bits.{AllowsPlans, IsRowUnder, allowed_in};
 ghost use Rattle.fp_allowed.specs.Chains.{IsForced, SeveralLeave};
 ghost use Rattle.fp_allowed.specs.Choices.{IsTaken, OneAtMost};
 ghost use Rattle.fp_allowed.specs.Departures.{DividesDepartures, IsSplitAt};
+ghost use Rattle.fp_allowed.specs.Heads.{heads_within};
 ghost use Rattle.fp_allowed.specs.Settings.{IsSetting};
 
 use crate::NoMemory;
 use crate::allowed_rows::allowed_row;
 use crate::chain_ends::Chain;
 use crate::choices::{Leaving, parting_split};
+use crate::class_heads::head_for;
 use crate::forced_chains::forced_chain;
 use fp_flatnet::Windows;
 use fp_longestarcs::Network;
@@ -82,6 +84,24 @@ impl<'a> Allowed<'a> {
             self.network,
             shipment,
             sides,
+        )
+    }
+
+    /// The head of a class for a shipment: the greatest point of the arc's head that isn't after the
+    /// later one of the class's point and the first time of the shipment's window for the arc, if it
+    /// has one, and the arc's step. Takes no memory.
+    pub fn head(&self, shipment: u32, arc: u32, point: u32) -> u32
+        requires shipment { shipment < length self.now.problem.shipments }
+        requires class { IsClass self.now.network (record { arc = arc; depart = point }) }
+        ensures { result ≡ heads_within self.now.problem (windows_in self.now.windows) (points_in self.now.network) shipment (record { arc = arc; depart = point }) }
+    {
+        head_for(
+            self.instance,
+            self.windows,
+            self.network,
+            shipment,
+            arc,
+            point,
         )
     }
 

@@ -12,6 +12,7 @@
 mod allowed_rows;
 mod chain_ends;
 mod choices;
+mod class_heads;
 mod classes;
 mod departures_left;
 mod exits;

@@ -8,6 +8,7 @@ use Rattle.fp_model.specs.declared.parts.Leg.{Leg}
 use Rattle.fp_model.specs.declared.parts.Shipment.{Shipment}
 use Rattle.fp_model.specs.Problem.{Problem, arc_at}
 use Rattle.fp_model.specs.Routes.{Leads, arcs_of}
+use Rattle.fp_longestarcs.specs.Classes.{head_of}
 use Rattle.fp_longestarcs.specs.Networks.{IsClass, TimedNetwork, class_number, points_in}
 use Rattle.fp_longestarcs.specs.Whole.{IsWholeNetwork}
 use Rattle.fp_allowed.specs.Bits.{bit_of, row_allows}
@@ -74,7 +75,7 @@ module _ (p : Problem) (net : TimedNetwork) (row : List Bool) (there : ℕ) wher
   record LeadsFrom (here : Standing) (walk : List Leg) : Type 0 where
     leads : Leads p here.terminal (arcs_of walk) there
     allowed_all : AllByRecursion (λ c. row_allows net row c ≡ true) walk
-    follows : FollowsHeads p (points_in net) here.ready walk
+    follows : FollowsHeads (head_of p (points_in net)) here.ready walk
 
   goes-leads : IsWholeNetwork p net → (walk : List Leg) (here : Standing) → goes_on p net row there walk here ≡ true → LeadsFrom here walk
   goes-leads whole [] here all = record { leads = eqb-true here.terminal there all; allowed_all = tt; follows = tt }

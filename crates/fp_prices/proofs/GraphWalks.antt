@@ -10,8 +10,8 @@ use Rattle.fp_model.specs.Problem.{Problem, IsValid}
 use Rattle.fp_longestarcs.specs.Networks.{TimedNetwork, class_count, points_in}
 use Rattle.fp_longestarcs.specs.Whole.{IsWholeNetwork}
 use Rattle.fp_prices.specs.ClassCosts.{AllowsClasses, HoldsClassCosts, IsFree}
-use Rattle.fp_prices.specs.Points.{edges_of, first_node}
-use Rattle.fp_prices.proofs.PointEdges.{holding-edge}
+use Rattle.fp_prices.specs.Points.{edges_by, edges_of, first_node}
+use Rattle.fp_prices.proofs.PointEdges.{holding-edge, length-edges, length-edges_by}
 
 -- costs of all edges of the graph of a whole network, for a shipment of a size
 pub record AreCosts (p : Problem) (net : TimedNetwork) (allowed : Leg → Bool) (price : Leg → ℕ) (size : ℕ) (costs : List (Option ℕ)) : Type 0 where
@@ -21,6 +21,11 @@ pub record AreCosts (p : Problem) (net : TimedNetwork) (allowed : Leg → Bool) 
   pub free : IsFree (class_count net) costs
   pub classes : AllowsClasses net allowed
   pub holds : HoldsClassCosts p net allowed price size costs
+
+-- so there are as many costs as edges by any heads
+pub costs-count : (p : Problem) (net : TimedNetwork) (heads : Leg → ℕ) (allowed : Leg → Bool) (price : Leg → ℕ) (size : ℕ) (costs : List (Option ℕ)) → AreCosts p net allowed price size costs →
+    length costs ≡ length (edges_by p net heads)
+costs-count p net heads allowed price size costs are = are.count ∙ length-edges p net ∙ sym (length-edges_by p net heads)
 
 -- some walk over open edges leads from one node to another at this cost
 abbrev pub Goes : List Edge → List (Option ℕ) → (here there cost : ℕ) → Type 0
@@ -42,20 +47,20 @@ goes-first edges costs here there e more cost exists leaves costs_so (walk, goes
 )
 
 -- waiting at a terminal from one of its points to a later one is free
-pub goes-later : (p : Problem) (net : TimedNetwork) (costs : List (Option ℕ)) (t n i there cost : ℕ) → length costs ≡ length (edges_of p net) → IsFree (class_count net) costs → t < length net.points →
-    i + n < length (points_in net t) → Goes (edges_of p net) costs (first_node net t + (i + n)) there cost → Goes (edges_of p net) costs (first_node net t + i) there cost
-goes-later p net costs t zero i there cost count free exists within goes =
+pub goes-later : (p : Problem) (net : TimedNetwork) (heads : Leg → ℕ) (costs : List (Option ℕ)) (t n i there cost : ℕ) → length costs ≡ length (edges_by p net heads) → IsFree (class_count net) costs → t < length net.points →
+    i + n < length (points_in net t) → Goes (edges_by p net heads) costs (first_node net t + (i + n)) there cost → Goes (edges_by p net heads) costs (first_node net t + i) there cost
+goes-later p net heads costs t zero i there cost count free exists within goes =
     let e : first_node net t + (i + 0) ≡ first_node net t + i = omega arith in
-    subst (λ (node : ℕ). Goes (edges_of p net) costs node there cost) e goes
-goes-later p net costs t (suc n) i there cost count free exists within goes =
-    let holding = holding-edge p net t i exists (omega (arith, within)) in
+    subst (λ (node : ℕ). Goes (edges_by p net heads) costs node there cost) e goes
+goes-later p net heads costs t (suc n) i there cost count free exists within goes =
+    let holding = holding-edge p net heads t i exists (omega (arith, within)) in
     let later : i + suc n ≡ i + 1 + n = omega arith in
-    let rest : Goes (edges_of p net) costs (first_node net t + (i + 1)) there cost =
-    goes-later p net costs t n (i + 1) there cost count free exists (omega (arith, within)) (subst (λ (m : ℕ). Goes (edges_of p net) costs (first_node net t + m) there cost) later goes) in
-    let next : first_node net t + (i + 1) ≡ (edge_at (edges_of p net) holding.0).to =
+    let rest : Goes (edges_by p net heads) costs (first_node net t + (i + 1)) there cost =
+    goes-later p net heads costs t n (i + 1) there cost count free exists (omega (arith, within)) (subst (λ (m : ℕ). Goes (edges_by p net heads) costs (first_node net t + m) there cost) later goes) in
+    let next : first_node net t + (i + 1) ≡ (edge_at (edges_by p net heads) holding.0).to =
     (let e : first_node net t + (i + 1) ≡ first_node net t + i + 1 = omega arith in e) ∙ ap (λ (e : Edge). e.to) (sym holding.3) in
     let nothing : 0 + cost ≡ cost = omega arith in
-    subst (λ (n : ℕ). Goes (edges_of p net) costs (first_node net t + i) there n) nothing
-    (goes-first (edges_of p net) costs (first_node net t + i) there holding.0 0 cost holding.2 (ap (λ (e : Edge). e.from) holding.3)
+    subst (λ (n : ℕ). Goes (edges_by p net heads) costs (first_node net t + i) there n) nothing
+    (goes-first (edges_by p net heads) costs (first_node net t + i) there holding.0 0 cost holding.2 (ap (λ (e : Edge). e.from) holding.3)
     (free holding.0 holding.1 (omega (arith, count, holding.2)))
-    (subst (λ (node : ℕ). Goes (edges_of p net) costs node there cost) next rest))
+    (subst (λ (node : ℕ). Goes (edges_by p net heads) costs node there cost) next rest))

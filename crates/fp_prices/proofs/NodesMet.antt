@@ -21,7 +21,7 @@ use Rattle.fp_base_lists.proofs.Places.{place_in-get_or}
 use Rattle.fp_prices.specs.LeastWalks.{classes_on, node_entered, node_left, nodes_met, same_node}
 use Rattle.fp_prices.specs.Points.{class_edge, edges_of, first_node, point_node}
 use Rattle.fp_prices.proofs.Nodes.{node-unique}
-use Rattle.fp_prices.proofs.PointEdges.{IsHolding, Joins, class-joins, edge-cases, edge-of-class}
+use Rattle.fp_prices.proofs.PointEdges.{IsHolding, Joins, are-heads, class-joins, edge-cases, edge-of-class}
 use Rattle.fp_prices.proofs.WalkEdges.{classes_on-class, classes_on-holding}
 
 -- a timed node
@@ -128,15 +128,15 @@ module _ (p : Problem) (net : TimedNetwork) (valid : IsValid p) (whole : IsWhole
 
   edge-view : (here place e : ℕ) → here < length net.points → place < length (points_in net here) → e < length (edges_of p net) → (edge_at (edges_of p net) e).from ≡ first_node net here + place →
       IsClassEdge here place e ⊎ IsHoldingEdge here place e
-  edge-view here place e exists within edge from = ⊎_elim class holding (edge-cases p net e whole.valid edge)
+  edge-view here place e exists within edge from = ⊎_elim class holding (edge-cases p net (head_of p (points_in net)) e whole.valid edge)
     where
       class : ((c : Leg) × IsClass net c × (class_number net c ≡ e)) → IsClassEdge here place e ⊎ IsHoldingEdge here place e
       class (c, is, number) =
-          let joins : Joins p net c = class-joins p net c valid whole is in
+          let joins : Joins p net (head_of p (points_in net)) c = class-joins p net (head_of p (points_in net)) c valid whole (are-heads p net valid whole) is in
           let tail : ℕ = (arc_at p c.arc).from in
           let head : ℕ = (arc_at p c.arc).to in
           let leaves : ℕ = place_in (points_in net tail) c.depart in
-          let shape : edge_at (edges_of p net) e ≡ class_edge p net c = ap (edge_at (edges_of p net)) (sym number) ∙ edge-of-class p net c whole.valid is in
+          let shape : edge_at (edges_of p net) e ≡ class_edge p net c = ap (edge_at (edges_of p net)) (sym number) ∙ edge-of-class p net (head_of p (points_in net)) c whole.valid is in
           let same = node-unique net tail here leaves place joins.tail exists joins.leaves within (ap (λ (g : Edge). g.from) (sym shape) ∙ from) in
           let departs : get_or (points_in net here) place 0 ≡ c.depart =
           ap (λ (n : ℕ). get_or (points_in net here) n 0) (sym same.1) ∙ ap (λ (t : ℕ). get_or (points_in net t) leaves 0) (sym same.0) ∙ joins.departs in

@@ -1,5 +1,6 @@
 -- The edges of the graph of a network's points, by their numbers.
 use Rattle.std.proofs.Common.{◌≡◌, ℕ, zero, suc, ◌+◌, ◌-◌, ◌<◌, ◌≤◌, ◌⊎◌, ⊎_elim, inl, inr, List, ◌++◌, length, get_or, sym, ap, ◌∙◌, subst, arith, length-append}
+use Rattle.std.specs.Prelude.{Option, true}
 use Rattle.std.proofs.lemmas.Bool.{cases_lt}
 use Rattle.std.proofs.lemmas.List.{get_or_append_left, get_or-append_right, get_or-append-add, get_or_default, take_all}
 use Rattle.std.proofs.lemmas.List.FromFn.{length-map-range_with_len, get_or-map-range_with_len}
@@ -7,8 +8,10 @@ use Rattle.fp_labels.specs.declared.graphs.Edge.{Edge}
 use Rattle.fp_labels.specs.Graphs.{edge_at, no_edge, HasEnds}
 use Rattle.fp_model.specs.declared.parts.Leg.{Leg}
 use Rattle.fp_model.specs.Problem.{Problem, arc_at, IsValid}
+use Rattle.fp_model.specs.Routes.{step}
+use Rattle.fp_flatnet.specs.declared.window_tables.Window.{Window}
+use Rattle.fp_base_lists.specs.Membership.{list_has}
 use Rattle.fp_timenodes.proofs.Floors.{IsFloorPoint-floor_point}
-use Rattle.fp_longestarcs.specs.Ascending.{ArePoints}
 use Rattle.fp_base_lists.specs.Ascending.{place_in}
 use Rattle.fp_longestarcs.specs.Classes.{head_of}
 use Rattle.fp_longestarcs.specs.Networks.{TimedNetwork, IsArcOfClass, IsClass, IsNetwork, class_count, class_number, copy_count, first_class, point_count, points_in, tail_in}
@@ -19,8 +22,10 @@ use Rattle.fp_longestarcs.proofs.HeadLists.{arc-count, tail-of}
 use Rattle.fp_base_lists.proofs.Places.{get_or-place_in}
 use Rattle.fp_longestarcs.proofs.ShortCopies.{head-within}
 use Rattle.fp_allowed.specs.Listing.{class_at}
+use Rattle.fp_allowed.specs.Heads.{heads_within}
+use Rattle.fp_allowed.proofs.Heads.{head_within-point}
 use Rattle.fp_allowed.proofs.ListedClasses.{class_at-number, class_by, class_by-number, IsClass-class_by}
-use Rattle.fp_prices.specs.Points.{class_edge, class_edges, edges_of, first_node, holding_at, holding_below, next_edge}
+use Rattle.fp_prices.specs.Points.{AreHeads, class_edge_by, class_edges_by, edges_by, edges_of, first_node, holding_at, holding_below, next_edge}
 use Rattle.fp_prices.proofs.Nodes.{nodes-more, nodes-within, node-within}
 
 -- a class has each number below their count
@@ -48,21 +53,30 @@ class-numbered net n valid h =
     )
 
 -- the classes' edges are as many as the classes
-length-class_edges : (p : Problem) (net : TimedNetwork) → length (class_edges p net) ≡ class_count net
-length-class_edges p net = length-map-range_with_len (λ n. class_edge p net (class_at net n)) 0 (class_count net)
+length-class_edges : (p : Problem) (net : TimedNetwork) (heads : Leg → ℕ) → length (class_edges_by p net heads) ≡ class_count net
+length-class_edges p net heads = length-map-range_with_len (λ n. class_edge_by p net heads (class_at net n)) 0 (class_count net)
 
 -- and there are as many more edges as holding edges
+pub length-edges_by : (p : Problem) (net : TimedNetwork) (heads : Leg → ℕ) → length (edges_by p net heads) ≡ class_count net + length (holding_below net (length net.points))
+length-edges_by p net heads = omega (arith, length-append (class_edges_by p net heads) (holding_below net (length net.points)), length-class_edges p net heads)
+
+-- whatever the heads, there are as many edges
 pub length-edges : (p : Problem) (net : TimedNetwork) → length (edges_of p net) ≡ class_count net + length (holding_below net (length net.points))
-length-edges p net = omega (arith, length-append (class_edges p net) (holding_below net (length net.points)), length-class_edges p net)
+length-edges p net = length-edges_by p net (head_of p (points_in net))
+
+-- so edges of the classes to which the holding edges were added are all edges
+pub edges-joined : (p : Problem) (net : TimedNetwork) (heads : Leg → ℕ) (edges old new : List Edge) → edges ≡ new → new ≡ old ++ holding_below net (length net.points) →
+    old ≡ class_edges_by p net heads → edges ≡ edges_by p net heads
+edges-joined p net heads edges old new is more classes = is ∙ more ∙ ap (λ (l : List Edge). l ++ holding_below net (length net.points)) classes
 
 -- a class's edge has its number
-pub edge-of-class : (p : Problem) (net : TimedNetwork) (c : Leg) → IsNetwork net → IsClass net c → edge_at (edges_of p net) (class_number net c) ≡ class_edge p net c
-edge-of-class p net c valid is =
+pub edge-of-class : (p : Problem) (net : TimedNetwork) (heads : Leg → ℕ) (c : Leg) → IsNetwork net → IsClass net c → edge_at (edges_by p net heads) (class_number net c) ≡ class_edge_by p net heads c
+edge-of-class p net heads c valid is =
     let n : ℕ = class_number net c in
     let below : n < class_count net = number-within net c valid is in
-    get_or_append_left (class_edges p net) (holding_below net (length net.points)) no_edge n (omega (arith, below, length-class_edges p net)) ∙
-    get_or-map-range_with_len (λ m. class_edge p net (class_at net m)) 0 (class_count net) n n no_edge below (omega arith) ∙
-    ap (class_edge p net) (class_at-number net c valid is)
+    get_or_append_left (class_edges_by p net heads) (holding_below net (length net.points)) no_edge n (omega (arith, below, length-class_edges p net heads)) ∙
+    get_or-map-range_with_len (λ m. class_edge_by p net heads (class_at net m)) 0 (class_count net) n n no_edge below (omega arith) ∙
+    ap (class_edge_by p net heads) (class_at-number net c valid is)
 
 -- an edge from a point of a terminal to the next one
 pub record IsHolding (net : TimedNetwork) (e : Edge) : Type 0 where
@@ -127,56 +141,55 @@ holding-few net (suc n) h =
     rw e (omega (arith, length-append (holding_below net n) (holding_at net n), length-holding_at net n, holding-few net n (omega arith), nodes-more net n (omega arith)))
 
 -- so there are few edges
-pub few-edges : (p : Problem) (net : TimedNetwork) → IsNetwork net → length (edges_of p net) ≤ 100001000 + point_count net
-few-edges p net valid =
-    omega (arith, length-edges p net, few-classes net valid, holding-few net (length net.points) (omega arith), nodes-within net (length net.points))
+pub few-edges : (p : Problem) (net : TimedNetwork) (heads : Leg → ℕ) → IsNetwork net → length (edges_by p net heads) ≤ 100001000 + point_count net
+few-edges p net heads valid =
+    omega (arith, length-edges_by p net heads, few-classes net valid, holding-few net (length net.points) (omega arith), nodes-within net (length net.points))
 
 -- each edge is a class's or a holding edge
-pub edge-cases : (p : Problem) (net : TimedNetwork) (e : ℕ) → IsNetwork net → e < length (edges_of p net) →
-    ((c : Leg) × IsClass net c × (class_number net c ≡ e)) ⊎ ((class_count net ≤ e) × IsHolding net (edge_at (edges_of p net) e))
-edge-cases p net e valid h =
+pub edge-cases : (p : Problem) (net : TimedNetwork) (heads : Leg → ℕ) (e : ℕ) → IsNetwork net → e < length (edges_by p net heads) →
+    ((c : Leg) × IsClass net c × (class_number net c ≡ e)) ⊎ ((class_count net ≤ e) × IsHolding net (edge_at (edges_by p net heads) e))
+edge-cases p net heads e valid h =
     let holding : List Edge = holding_below net (length net.points) in
     ⊎_elim
     (λ (early : e < class_count net). inl (class-numbered net e valid early))
     (λ (late : class_count net ≤ e).
     inr (
       late,
-      subst (IsHolding net) (sym (get_or-append_right (class_edges p net) holding (class_count net) e no_edge (length-class_edges p net) late))
-          (are-holding net (length net.points) (e - class_count net) (omega arith) (omega (arith, h, late, length-edges p net))),
+      subst (IsHolding net) (sym (get_or-append_right (class_edges_by p net heads) holding (class_count net) e no_edge (length-class_edges p net heads) late))
+          (are-holding net (length net.points) (e - class_count net) (omega arith) (omega (arith, h, late, length-edges_by p net heads))),
     ))
     (cases_lt e (class_count net))
 
 -- each point but the last of its terminal has an edge to the next one
-pub holding-edge : (p : Problem) (net : TimedNetwork) (t i : ℕ) → t < length net.points → i + 1 < length (points_in net t) →
-    (e : ℕ) × (class_count net ≤ e) × (e < length (edges_of p net)) × (edge_at (edges_of p net) e ≡ next_edge (first_node net t + i))
-holding-edge p net t i h within =
+pub holding-edge : (p : Problem) (net : TimedNetwork) (heads : Leg → ℕ) (t i : ℕ) → t < length net.points → i + 1 < length (points_in net t) →
+    (e : ℕ) × (class_count net ≤ e) × (e < length (edges_by p net heads)) × (edge_at (edges_by p net heads) e ≡ next_edge (first_node net t + i))
+holding-edge p net heads t i h within =
     let holding : List Edge = holding_below net (length net.points) in
     let there = has-holding net (length net.points) t i h within in
-    let long : length (class_edges p net) ≡ class_count net = length-class_edges p net in (
-      length (class_edges p net) + there.0,
+    let long : length (class_edges_by p net heads) ≡ class_count net = length-class_edges p net heads in (
+      length (class_edges_by p net heads) + there.0,
       omega (arith, long),
-      omega (arith, long, there.1, length-edges p net),
-      get_or-append-add (class_edges p net) holding there.0 no_edge ∙ there.2,
+      omega (arith, long, there.1, length-edges_by p net heads),
+      get_or-append-add (class_edges_by p net heads) holding there.0 no_edge ∙ there.2,
     )
 
--- a class leaves the terminal of its arc's tail at one of its points, and its head is one of those of the arc's head
-pub record Joins (p : Problem) (net : TimedNetwork) (c : Leg) : Type 0 where
+-- a class leaves the terminal of its arc's tail at one of its points, and its head by such heads is one of those of the arc's head
+pub record Joins (p : Problem) (net : TimedNetwork) (heads : Leg → ℕ) (c : Leg) : Type 0 where
   pub exists : c.arc < length p.arcs
   pub tail : (arc_at p c.arc).from < length net.points
   pub head : (arc_at p c.arc).to < length net.points
   pub leaves : place_in (points_in net (arc_at p c.arc).from) c.depart < length (points_in net (arc_at p c.arc).from)
   pub departs : get_or (points_in net (arc_at p c.arc).from) (place_in (points_in net (arc_at p c.arc).from) c.depart) 0 ≡ c.depart
-  pub enters : place_in (points_in net (arc_at p c.arc).to) (head_of p (points_in net) c) < length (points_in net (arc_at p c.arc).to)
-  pub arrives : get_or (points_in net (arc_at p c.arc).to) (place_in (points_in net (arc_at p c.arc).to) (head_of p (points_in net) c)) 0 ≡ head_of p (points_in net) c
+  pub enters : place_in (points_in net (arc_at p c.arc).to) (heads c) < length (points_in net (arc_at p c.arc).to)
+  pub arrives : get_or (points_in net (arc_at p c.arc).to) (place_in (points_in net (arc_at p c.arc).to) (heads c)) 0 ≡ heads c
 
-pub class-joins : (p : Problem) (net : TimedNetwork) (c : Leg) → IsValid p → IsWholeNetwork p net → IsClass net c → Joins p net c
-class-joins p net c valid whole is =
+pub class-joins : (p : Problem) (net : TimedNetwork) (heads : Leg → ℕ) (c : Leg) → IsValid p → IsWholeNetwork p net → AreHeads p net heads → IsClass net c → Joins p net heads c
+class-joins p net heads c valid whole are is =
     let exists : c.arc < length p.arcs = omega (arith, is.0, arc-count p net whole.arcs) in
     let tail : tail_in net c.arc ≡ (arc_at p c.arc).from = tail-of p net c.arc whole.arcs exists in
     let there = class-place net c whole.valid is in
     let head : (arc_at p c.arc).to < length net.points = head-within p net c.arc valid whole is.0 in
-    let ends : ArePoints (points_in net (arc_at p c.arc).to) = points-of net (arc_at p c.arc).to whole.valid head in
-    let enters = get_or-place_in (points_in net (arc_at p c.arc).to) (head_of p (points_in net) c) ends.ascending (IsFloorPoint-floor_point (points_in net (arc_at p c.arc).to) _ ends.zero).0 in
+    let enters = get_or-place_in (points_in net (arc_at p c.arc).to) (heads c) (points-of net (arc_at p c.arc).to whole.valid head).ascending (are c is) in
     record {
       exists = exists;
       tail = subst (λ (t : ℕ). t < length net.points) tail (whole.valid.tails c.arc 0 is.0);
@@ -187,24 +200,35 @@ class-joins p net c valid whole is =
       arrives = enters.1 0;
     }
 
+-- the heads of the classes are such points
+pub are-heads : (p : Problem) (net : TimedNetwork) → IsValid p → IsWholeNetwork p net → AreHeads p net (head_of p (points_in net))
+are-heads p net valid whole c is =
+    let zero : list_has (points_in net (arc_at p c.arc).to) 0 ≡ true = (points-of net (arc_at p c.arc).to whole.valid (head-within p net c.arc valid whole is.0)).zero in
+    (IsFloorPoint-floor_point (points_in net (arc_at p c.arc).to) (c.depart + step p c.arc) zero).0
+
+-- and so are those for a shipment
+pub are-heads_within : (p : Problem) (net : TimedNetwork) (windows : ℕ → ℕ → Option Window) (k : ℕ) → IsValid p → IsWholeNetwork p net → AreHeads p net (heads_within p windows (points_in net) k)
+are-heads_within p net windows k valid whole c is =
+    head_within-point p (points_in net) (windows k c.arc) c (points-of net (arc_at p c.arc).to whole.valid (head-within p net c.arc valid whole is.0)).zero
+
 -- both ends of each edge are nodes
-pub has-ends : (p : Problem) (net : TimedNetwork) → IsValid p → IsWholeNetwork p net → HasEnds (point_count net) (edges_of p net)
-has-ends p net valid whole k d h =
-    subst (λ (e : Edge). (e.from < point_count net) × (e.to < point_count net)) (get_or_default (edges_of p net) k no_edge d h)
-    (⊎_elim class holding (edge-cases p net k whole.valid h))
+pub has-ends : (p : Problem) (net : TimedNetwork) (heads : Leg → ℕ) → IsValid p → IsWholeNetwork p net → AreHeads p net heads → HasEnds (point_count net) (edges_by p net heads)
+has-ends p net heads valid whole are k d h =
+    subst (λ (e : Edge). (e.from < point_count net) × (e.to < point_count net)) (get_or_default (edges_by p net heads) k no_edge d h)
+    (⊎_elim class holding (edge-cases p net heads k whole.valid h))
   where
     Ends : Edge → Type 0
     Ends e = (e.from < point_count net) × (e.to < point_count net)
 
-    class : ((c : Leg) × IsClass net c × (class_number net c ≡ k)) → Ends (edge_at (edges_of p net) k)
+    class : ((c : Leg) × IsClass net c × (class_number net c ≡ k)) → Ends (edge_at (edges_by p net heads) k)
     class (c, is, number) =
-        let joins = class-joins p net c valid whole is in
-        subst Ends (sym (edge-of-class p net c whole.valid is) ∙ ap (edge_at (edges_of p net)) number) (
+        let joins = class-joins p net heads c valid whole are is in
+        subst Ends (sym (edge-of-class p net heads c whole.valid is) ∙ ap (edge_at (edges_by p net heads)) number) (
           node-within net (arc_at p c.arc).from (place_in (points_in net (arc_at p c.arc).from) c.depart) joins.tail joins.leaves,
-          node-within net (arc_at p c.arc).to (place_in (points_in net (arc_at p c.arc).to) (head_of p (points_in net) c)) joins.head joins.enters,
+          node-within net (arc_at p c.arc).to (place_in (points_in net (arc_at p c.arc).to) (heads c)) joins.head joins.enters,
         )
 
-    holding : ((class_count net ≤ k) × IsHolding net (edge_at (edges_of p net) k)) → Ends (edge_at (edges_of p net) k)
+    holding : ((class_count net ≤ k) × IsHolding net (edge_at (edges_by p net heads) k)) → Ends (edge_at (edges_by p net heads) k)
     holding (late, is) =
         subst Ends (sym is.is) (
           node-within net is.terminal is.place is.exists (omega (arith, is.within)),

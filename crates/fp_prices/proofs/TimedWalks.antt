@@ -124,7 +124,7 @@ module _ (p : Problem) (net : TimedNetwork) (costs : List (Option ℕ)) (there :
 
     -- to go by them all is to go by an allowed timed walk at this cost
     pub goes-timed : (walk : List Leg) (progress : Progress) → goes_on p net costs there walk progress ≡ true →
-        IsTimedFrom p net allowed price size progress.terminal progress.ready there progress.rest walk
+        IsTimedFrom p (head_of p (points_in net)) allowed price size progress.terminal progress.ready there progress.rest walk
     goes-timed [] progress all =
         let parts = and_parts (nat_eq progress.terminal there) (nat_eq progress.rest 0) all in
         record { leads = eqb-true progress.terminal there parts.0; allowed_all = tt; follows = tt; costs_so = sym (eqb-true progress.rest 0 parts.1) }
@@ -134,8 +134,8 @@ module _ (p : Problem) (net : TimedNetwork) (costs : List (Option ℕ)) (there :
         (λ (some : (next : Progress) × (after_class p net costs progress c ≡ Some next)).
         let by = takes progress c some.0 some.1 in
         let is = open-allowed c by.cost by.open_so in
-        let rest : IsTimedFrom p net allowed price size (arc_at p c.arc).to (head_of p (points_in net) c) there (progress.rest - by.cost) walk =
-        subst (λ (next : Progress). IsTimedFrom p net allowed price size next.terminal next.ready there next.rest walk) by.next_is
+        let rest : IsTimedFrom p (head_of p (points_in net)) allowed price size (arc_at p c.arc).to (head_of p (points_in net) c) there (progress.rest - by.cost) walk =
+        subst (λ (next : Progress). IsTimedFrom p (head_of p (points_in net)) allowed price size next.terminal next.ready there next.rest walk) by.next_is
         (goes-timed walk some.0 (sym (goes-some c walk progress some.0 some.1) ∙ all)) in
         record {
           leads = (class-exists p net c whole (classes c is.0), by.leaves, rest.leads);
@@ -145,7 +145,7 @@ module _ (p : Problem) (net : TimedNetwork) (costs : List (Option ℕ)) (there :
         })
         (option-cases (after_class p net costs progress c))
 
-    pub timed-goes : (walk : List Leg) (progress : Progress) → IsTimedFrom p net allowed price size progress.terminal progress.ready there progress.rest walk → goes_on p net costs there walk progress ≡ true
+    pub timed-goes : (walk : List Leg) (progress : Progress) → IsTimedFrom p (head_of p (points_in net)) allowed price size progress.terminal progress.ready there progress.rest walk → goes_on p net costs there walk progress ≡ true
     timed-goes [] progress timed = and_from _ _ (eq-eqb progress.terminal there timed.leads) (eq-eqb progress.rest 0 (sym timed.costs_so))
     timed-goes (c ∷ walk) progress timed =
         let cost : cost_by c + walk_cost p price size walk ≡ progress.rest = sym (sum_by-cons cost_by c walk) ∙ timed.costs_so in

@@ -4,9 +4,10 @@ use Rattle.fp_labels.specs.Walks.{cost_of}
 use Rattle.fp_model.specs.declared.parts.Leg.{Leg}
 use Rattle.fp_model.specs.declared.parts.Shipment.{Shipment}
 use Rattle.fp_model.specs.Problem.{Problem, arc_at}
+use Rattle.fp_longestarcs.specs.Classes.{head_of}
 use Rattle.fp_longestarcs.specs.Networks.{TimedNetwork, IsClass, class_number}
-use Rattle.fp_allowed.specs.Walks.{IsTimedWalk}
-use Rattle.fp_prices.specs.Leaves.{IsLeastCost}
+use Rattle.fp_allowed.specs.Walks.{IsWalkBy}
+use Rattle.fp_prices.specs.Leaves.{IsLeastCostBy}
 
 -- each class of the network has at its number its price and the shipment's flow, or nothing where it isn't allowed
 abbrev pub HoldsClassCosts : Problem → TimedNetwork → (Leg → Bool) → (Leg → ℕ) → (size : ℕ) → List (Option ℕ) → Type 0
@@ -22,7 +23,11 @@ AllowsClasses net allowed = (c : Leg) → allowed c ≡ true → IsClass net c
 abbrev pub IsFree : ℕ → List (Option ℕ) → Type 0
 IsFree first costs = (e : ℕ) → first ≤ e → e < length costs → cost_of costs e ≡ Some 0
 
--- the least cost over the allowed timed walks of a shipment, or that it has none
+-- the least cost over the allowed walks of a shipment by heads, or that it has none
+abbrev pub IsLeastBy : Problem → (Leg → ℕ) → (Leg → Bool) → Shipment → (Leg → ℕ) → Option ℕ → Type 0
+IsLeastBy p heads allowed s price o =
+    MatchOption o ((walk : List Leg) → IsWalkBy p heads allowed s walk → ⊥) (IsLeastCostBy p heads allowed s price)
+
+-- the least cost over its allowed timed walks, or that it has none
 abbrev pub IsLeastOver : Problem → (ℕ → List ℕ) → (Leg → Bool) → Shipment → (Leg → ℕ) → Option ℕ → Type 0
-IsLeastOver p points allowed s price o =
-    MatchOption o ((walk : List Leg) → IsTimedWalk p points allowed s walk → ⊥) (IsLeastCost p points allowed s price)
+IsLeastOver p points allowed s price o = IsLeastBy p (head_of p points) allowed s price o

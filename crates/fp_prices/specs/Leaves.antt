@@ -11,9 +11,10 @@ use Rattle.fp_model.specs.Plans.{IsPlan}
 use Rattle.fp_model.specs.Problem.{Problem, IsValid, arc_at, alone_total}
 use Rattle.fp_flatnet.specs.declared.window_tables.Window.{Window}
 use Rattle.fp_flatnet.specs.Windows.{PlanLiesWithin}
+use Rattle.fp_longestarcs.specs.Classes.{head_of}
 use Rattle.fp_tree.specs.declared.sides.Side.{Side}
 use Rattle.fp_allowed.specs.Allowed.{IsForcedChain, PlanObeys, is_allowed}
-use Rattle.fp_allowed.specs.Walks.{IsTimedWalk}
+use Rattle.fp_allowed.specs.Walks.{IsTimedWalk, IsWalkBy}
 use Rattle.fp_prices.specs.declared.leaf_prices.Kind.{Kind}
 use Rattle.fp_prices.specs.declared.values.bounds.LeafBound.{LeafBound}
 use Rattle.fp_prices.specs.declared.values.bounds.LeafBound.TheVariants.{Empty, Value}
@@ -24,12 +25,16 @@ use Rattle.fp_prices.specs.Prices.{AllKeepRule, truck_price}
 abbrev pub walk_cost : Problem → (Leg → ℕ) → ℕ → List Leg → ℕ
 walk_cost p price size walk = sum_by (λ (c : Leg). price c + p.scale * (arc_at p c.arc).freight * size) walk
 
--- the least cost of an allowed timed walk of a shipment
-pub record IsLeastCost (p : Problem) (points : ℕ → List ℕ) (allowed : Leg → Bool) (s : Shipment) (price : Leg → ℕ) (n : ℕ) : Type 0 where
+-- the least cost of an allowed walk of a shipment by heads
+pub record IsLeastCostBy (p : Problem) (heads : Leg → ℕ) (allowed : Leg → Bool) (s : Shipment) (price : Leg → ℕ) (n : ℕ) : Type 0 where
   pub walk : List Leg
-  pub timed : IsTimedWalk p points allowed s walk
+  pub timed : IsWalkBy p heads allowed s walk
   pub cost : walk_cost p price s.size walk ≡ n
-  pub least : (other : List Leg) → IsTimedWalk p points allowed s other → n ≤ walk_cost p price s.size other
+  pub least : (other : List Leg) → IsWalkBy p heads allowed s other → n ≤ walk_cost p price s.size other
+
+-- the least cost of an allowed timed walk of a shipment
+abbrev pub IsLeastCost : Problem → (ℕ → List ℕ) → (Leg → Bool) → Shipment → (Leg → ℕ) → ℕ → Type 0
+IsLeastCost p points allowed s price n = IsLeastCostBy p (head_of p points) allowed s price n
 
 -- the price of a class for a shipment at a leaf: nothing for a class of the forced chains, and otherwise its truck price
 abbrev pub leaf_price : Problem → List (List ClassShare) → (ℕ → Leg → Bool) → Kind → (chains : List (List Leg)) → (k size : ℕ) → Leg → ℕ

@@ -4,4 +4,5 @@ pub(crate) mod least_costs;
 pub(crate) mod nodes_met;
 pub(crate) mod point_graphs;
 pub(crate) mod priced_graphs;
+pub(crate) mod shipment_graphs;
 pub(crate) mod timed_walks;

@@ -22,7 +22,7 @@ use crate::timing::NextRound;
 use fp_certificate_lines::Spent;
 use fp_duals_leaves::Prices;
 use fp_session_history::{Ending, Left};
-use fp_session_looks::{Cheaper, Look};
+use fp_session_looks::Cheaper;
 use std::alloc::Global;
 
 // How a search ended that left this.
@@ -57,12 +57,11 @@ fn waiting(reserve: Option<Cheaper>, cost: u128) -> Option<Cheaper>
 
 impl Search {
     // What is done next before a step, after a round or a split, which was so much work, in rounds.
-    fn next_look(&self, prices: &Prices, added: usize) -> Preparation {
+    fn next_look(&self, added: usize) -> Preparation {
         let splits = SPLIT_WORK.saturating_mul(self.tree.splits() as usize);
         let work = self.trace.len().saturating_add(splits);
         let before = work.saturating_sub(added);
-        let every = Look::rounds_between(&self.instance, prices.unit().is_some());
-        self.preparation.after_work(before, work, every)
+        self.preparation.after_work(before, work, &self.instance)
     }
 
     // Keeps what was found of an open leaf, which is settled, and closes it. The tables serve the
@@ -140,7 +139,7 @@ impl Search {
         self.trace.push(round.note)?;
         self.points = round.refined.points;
         self.network = round.refined.network;
-        self.preparation = self.next_look(prices, 1);
+        self.preparation = self.next_look(1);
         Ok(())
     }
 
@@ -180,7 +179,7 @@ impl Search {
             .split_leaf(alloc, leaf, division.split, division.tail, first, second)
         {
             Ok(()) => {
-                self.preparation = self.next_look(prices, SPLIT_WORK);
+                self.preparation = self.next_look(SPLIT_WORK);
                 Ok(())
             }
             Err(error) => {

@@ -62,10 +62,10 @@ impl Preparation {
         }
     }
 
-    // What is done next after more work than `before`, in rounds, where a look comes every so many.
-    pub(crate) fn after_work(self, before: usize, now: usize, every: usize) -> Preparation
-        requires some { 1 ≤ every }
-    {
+    // What is done next after more work than `before`, in rounds: among fewer shipments, where a round
+    // takes less time, looks are rarer.
+    pub(crate) fn after_work(self, before: usize, now: usize, instance: &Instance) -> Preparation {
+        let every = (400 / instance.shipments().len().max(1)).max(1);
         if self == Preparation::Nothing && before / every < now / every {
             Preparation::LaterLook
         } else {

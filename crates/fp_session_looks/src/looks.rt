@@ -1,5 +1,5 @@
 //! Looks of several sizes.
-ghost use Rattle.std.specs.Prelude.{◌≤◌, IfOk, IfSome};
+ghost use Rattle.std.specs.Prelude.{IfOk, IfSome};
 ghost use Rattle.fp_flatnet.specs.Belonging.{BelongsTo};
 ghost use Rattle.fp_session_looks.specs.Plans.{IsBelow, IsIncumbent};
 
@@ -82,20 +82,6 @@ impl Look {
     pub fn later(instance: &Instance) -> Look {
         let searches = if count(instance) > FEW { 2 } else { 4 };
         look_of(instance, searches, 250, 25_000, true)
-    }
-
-    /// After how many rounds the next look comes: among fewer shipments, where a round takes less time,
-    /// looks are rarer, but among few not so rare where spans are sought, whose rounds take longer.
-    pub fn rounds_between(instance: &Instance, has_spans: bool) -> usize
-        ensures { 1 ≤ result }
-    {
-        let shipments = instance.shipments().len().max(1);
-        let work = if has_spans && count(instance) <= FEW {
-            100
-        } else {
-            400
-        };
-        (work / shipments).max(1)
     }
 
     /// At a plan that a relaxed plan gave.

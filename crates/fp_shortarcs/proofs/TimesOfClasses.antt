@@ -59,7 +59,7 @@ reached p s (c ∷ walk) pre here there (suc i) to on first each lt =
         subst (λ (n : ℕ). reach_of p (leg_at walk j) ≤ (leg_at (c ∷ walk) n).depart) at (each (suc j) (omega (arith, less)))
 
 -- each class of a timed walk stands at the head of the one before or later
-after-head : (p : Problem) (points : ℕ → List ℕ) (walk : List Leg) (ready j : ℕ) → FollowsHeads p points ready walk → j + 1 < length walk →
+after-head : (p : Problem) (points : ℕ → List ℕ) (walk : List Leg) (ready j : ℕ) → FollowsHeads (head_of p points) ready walk → j + 1 < length walk →
     head_of p points (leg_at walk j) ≤ (leg_at walk (j + 1)).depart
 after-head p points [] ready j follows lt = absurd (omega (arith, lt))
 after-head p points (c ∷ []) ready j follows lt = absurd (omega (arith, lt))

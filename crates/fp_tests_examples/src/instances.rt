@@ -17,6 +17,12 @@ pub const LINE: &str =
 pub const DETOUR: &str =
     "terminal,A\nterminal,B\nterminal,C\narc,A,B,5,10,100,0\narc,A,C,4,10,60,0\narc,C,B,4,10,60,0\nshipment,S1,A,B,4,0,20\n";
 
+/// S1 goes from A to D by C: straight to C in a truck of 100, where it comes at 10 and could leave
+/// with S2 by 15, or over B in trucks of 1 and 1, where it comes at 20. So the cheapest plan runs
+/// two trucks of 60 from C to D, and costs 122.
+pub const SLOW_WAY: &str =
+    "terminal,A\nterminal,B\nterminal,C\nterminal,D\narc,A,C,10,5,100,0\narc,A,B,10,5,1,0\narc,B,C,10,5,1,0\narc,C,D,10,10,60,0\nshipment,S1,A,D,5,0,30\nshipment,S2,C,D,5,10,25\n";
+
 /// Three shipments of which no two fit into a truck, over an arc of truck cost 60 or a way over C
 /// of 30 for each of its two arcs. Each pays 60 for a truck of its own, so the cheapest plan costs
 /// 180.

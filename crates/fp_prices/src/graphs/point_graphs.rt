@@ -1,13 +1,13 @@
 //! The graph of a network's points, over which each shipment goes at a leaf.
 ghost use Rattle.std.specs.Prelude.{◌≡◌, ◌+◌, ◌-◌, ◌<◌, ◌≤◌, ◌++◌, IfOk, OnOk, length, map};
 ghost use Rattle.std.specs.List.{range_with_len};
-ghost use Rattle.fp_labels.specs.Graphs.{HasEnds};
+ghost use Rattle.fp_model.specs.Problem.{IsValid, arc_at};
 ghost use Rattle.fp_longestarcs.specs.Ascending.{ArePoints};
 ghost use Rattle.fp_base_lists.specs.Ascending.{place_in};
-ghost use Rattle.fp_longestarcs.specs.Networks.{class_count, point_count, points_in};
+ghost use Rattle.fp_longestarcs.specs.Networks.{IsClass, class_count, point_count, points_in};
 ghost use Rattle.fp_longestarcs.specs.Whole.{IsWholeNetwork};
 ghost use Rattle.fp_allowed.specs.Listing.{class_at};
-ghost use Rattle.fp_prices.specs.Points.{AreFirstNodes, class_edge, class_edges, edges_of, last_node, next_edge, point_node};
+ghost use Rattle.fp_prices.specs.Points.{AreFirstNodes, class_edge, class_edges, holding_below, last_node, next_edge, point_node};
 ghost use Rattle.fp_prices.specs.PointGraphs.{IsPointGraph};
 ghost use Rattle.fp_prices.specs.ClassCosts.{IsFree};
 
@@ -65,7 +65,7 @@ impl PointGraph {
 }
 
 // The first node of each terminal, and how many nodes there are.
-fn first_nodes_of(
+pub(crate) fn first_nodes_of(
     alloc: Global,
     instance: &Instance,
     network: &Network,
@@ -85,18 +85,18 @@ fn first_nodes_of(
 }
 
 // Adds the holding edges of one terminal after the other to the edges of the classes.
-fn hold_at_all(
+pub(crate) fn hold_at_all(
     edges: &mut Vec<Edge>,
     instance: &Instance,
     network: &Network,
     firsts: &[u32],
 ) -> Result<(), NoMemory>
-    requires classes { edges.old.items ≡ class_edges instance.now network.now }
     requires whole { IsWholeNetwork instance.now network.now }
     requires few { point_count network.now ≤ MOST_POINTS }
     requires firsts { AreFirstNodes network.now firsts.now }
-    ensures edges { OnOk result (edges.new.items ≡ edges_of instance.now network.now) }
-    ensures ends { OnOk result (HasEnds (point_count network.now) edges.new.items) }
+    ensures edges { OnOk result
+        (edges.new.items ≡ edges.old.items ++ holding_below network.now (length network.now.points)) }
+    ensures valid { IsValid instance.now }
 {
     for terminal in 0..instance.terminals().len() as u32 {
         let last = last_node_of(network, firsts, terminal);
@@ -148,10 +148,32 @@ fn edge_of_class(instance: &Instance, network: &Network, firsts: &[u32], class: 
     ensures { result ≡ class_edge instance.now network.now (class_at network.now class) }
 {
     let (arc, point) = network.of_class(class);
+    let head = network.head(arc, point);
+    edge_to(instance, network, firsts, arc, point, head)
+}
+
+// The edge of the class of an arc and a point, where it leads to a head.
+pub(crate) fn edge_to(
+    instance: &Instance,
+    network: &Network,
+    firsts: &[u32],
+    arc: u32,
+    point: u32,
+    head: u32,
+) -> Edge
+    requires whole { IsWholeNetwork instance.now network.now }
+    requires few { point_count network.now ≤ MOST_POINTS }
+    requires firsts { AreFirstNodes network.now firsts.now }
+    requires class { IsClass network.now (record { arc = arc; depart = point }) }
+    ensures { result ≡ record {
+      from = point_node network.now (arc_at instance.now arc).from point;
+      to = point_node network.now (arc_at instance.now arc).to head;
+    } }
+{
     let taken = instance.arc(arc);
     Edge {
         from: node_of(network, firsts, taken.from, point),
-        to: node_of(network, firsts, taken.to, network.head(arc, point)),
+        to: node_of(network, firsts, taken.to, head),
     }
 }
 

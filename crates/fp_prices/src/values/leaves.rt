@@ -5,22 +5,26 @@ ghost use Rattle.fp_model.specs.declared.parts.Leg.{Leg};
 ghost use Rattle.fp_model.specs.Numbered.{shipment_at};
 ghost use Rattle.fp_flatnet.specs.Belonging.{BelongsTo};
 ghost use Rattle.fp_flatnet.specs.Tables.{windows_in};
+ghost use Rattle.fp_longestarcs.specs.Networks.{IsClass, points_in};
 ghost use Rattle.fp_allowed.specs.Allowed.{tails_of};
 ghost use Rattle.fp_allowed.specs.Bits.{IsRowUnder, allowed_in};
 ghost use Rattle.fp_allowed.specs.Chains.{IsForced, SeveralLeave};
 ghost use Rattle.fp_allowed.specs.Choices.{IsTaken, OneAtMost};
 ghost use Rattle.fp_allowed.specs.Departures.{DividesDepartures, IsSplitAt};
+ghost use Rattle.fp_allowed.specs.Heads.{heads_within};
 ghost use Rattle.fp_prices.specs.Forced.{AreRowsUnder};
 ghost use Rattle.fp_prices.specs.KnownCosts.{AreKnownCosts, IsSharedKind};
 ghost use Rattle.fp_prices.specs.LeafPricings.{AreChainsOf};
 ghost use Rattle.fp_prices.specs.LeafFindings.{AreLeafWalks, BoundsLeafPlans, HasLeafPreferred, IsEmptyLeaf, IsLeafBound};
 ghost use Rattle.fp_prices.specs.Leaves.{IsSmallBound};
+ghost use Rattle.fp_prices.specs.Points.{shape_by};
 ghost use Rattle.fp_prices.specs.Tables.{AreTables, HasKind};
 
 use crate::NoMemory;
 use crate::classes::bases::{bases, forced_classes};
 use crate::classes::class_rules::class_pricing;
 use crate::graphs::priced_graphs::PricedGraph;
+use crate::graphs::shipment_graphs::graph_within;
 use crate::leaf_prices::Kind;
 use crate::tables::Table;
 use crate::values::bounds::{LeafBound, value_over};
@@ -30,6 +34,7 @@ use crate::values::leaf_walks::walks_over;
 use crate::values::rounds::RoundNetwork;
 use fp_allowed::{Allowed, Chain};
 use fp_flatnet::Windows;
+use fp_labels::Graph;
 use fp_longestarcs::TimedWalk;
 use fp_model::Instance;
 use fp_rows::Row;
@@ -111,6 +116,34 @@ impl<'a> Leaf<'a> {
         ensures { result ≡ self.now.setting }
     {
         Allowed::new(self.round.instance(), self.windows, self.round.network())
+    }
+
+    /// The head of a class for a shipment, as [`Allowed::head`] has it.
+    pub fn head(&self, shipment: u32, arc: u32, point: u32) -> u32
+        requires shipment { shipment < length self.now.setting.problem.shipments }
+        requires class { IsClass self.now.setting.network (record { arc = arc; depart = point }) }
+        ensures { result ≡ heads_within self.now.setting.problem (windows_in self.now.setting.windows)
+            (points_in self.now.setting.network) shipment (record { arc = arc; depart = point }) }
+    {
+        self.allowed().head(shipment, arc, point)
+    }
+
+    /// The graph of the network's points with the heads for a shipment, in the place of those of the
+    /// classes: the nodes and the numbers of the edges are those of [`RoundNetwork::graph`].
+    /// `NoMemory` only where no memory is found.
+    pub fn graph(&self, alloc: Global, shipment: u32) -> Result<Graph, NoMemory>
+        requires { shipment < length self.now.setting.problem.shipments }
+        ensures { IfOk result (λ graph. graph ≡ shape_by self.now.setting.problem self.now.setting.network
+            (heads_within self.now.setting.problem (windows_in self.now.setting.windows)
+            (points_in self.now.setting.network) shipment)) }
+    {
+        graph_within(
+            alloc,
+            self.round.instance(),
+            self.round.network(),
+            &self.allowed(),
+            shipment,
+        )
     }
 
     /// The network of the leaf's round.

@@ -3,7 +3,7 @@
 use fp_allowed::{Allowed, ChainEnd, departures};
 use fp_flatnet::{Windows, initial};
 use fp_longestarcs::Network;
-use fp_tests_examples::{PAIR, instance_of};
+use fp_tests_examples::{PAIR, SLOW_WAY, instance_of};
 use fp_tree::{Side, Split};
 use std::test::Fail;
 
@@ -97,6 +97,31 @@ fn one_arc_under_sides(rt: HostRuntime) -> Result<(), Fail> {
             "shipment {shipment} under {} sides",
             sides.len()
         );
+    }
+    Ok(())
+}
+
+// S1 never leaves B before 10, so from there it comes to the greatest point of C that isn't after 20,
+// where the class of 0 alone comes to the one that isn't after 10. The straight arc's window begins
+// at its point.
+#[test]
+fn heads_for_a_shipment(rt: HostRuntime) -> Result<(), Fail> {
+    let alloc = rt.alloc();
+    let instance = instance_of(alloc, SLOW_WAY)?;
+    let windows = Windows::of(alloc, &instance)?;
+    assert!(rt; instance.shipments().len() == 2);
+    assert!(rt; instance.arcs().len() == 4);
+    for (at, want) in [(16, 16), (20, 20), (21, 10)] {
+        let mut points = initial(alloc, &instance, &windows)?;
+        points.add(alloc, 2, at, 1)?;
+        let network = Network::of(alloc, &instance, &points, 1)?;
+        let allowed = Allowed::new(&instance, &windows, &network);
+        assert!(rt; network.is_point(1, 0));
+        assert_eq!(rt; network.head(2, 0), 10, "of the class, with the point {at}");
+        assert_eq!(rt; allowed.head(0, 2, 0), want, "for S1, with the point {at}");
+        assert!(rt; network.is_point(0, 0));
+        assert_eq!(rt; allowed.head(0, 0, 0), 10, "straight, with the point {at}");
+        assert_eq!(rt; allowed.head(1, 2, 0), 10, "without a window, with the point {at}");
     }
     Ok(())
 }

@@ -1,4 +1,4 @@
--- The class with a number is the one that is found, and each end of its edge is its point's node.
+-- The class with a number is the one that is found, and its edge leads to its head.
 use Rattle.std.proofs.Common.{◌≡◌, ℕ, sym, ap, ◌∙◌}
 use Rattle.fp_labels.specs.declared.graphs.Edge.{Edge}
 use Rattle.fp_model.specs.declared.parts.Arc.{Arc}
@@ -17,8 +17,5 @@ returns c =
     let leg : Leg = record { arc = c.of_class-arc.result.0; depart = c.of_class-arc.result.1 } in
     let arc : Arc = arc_at p leg.arc in
     let is : class_at net c.args.class ≡ leg = ap (class_at net) (sym c.of_class-arc.ensures.number) ∙ class_at-number net leg c.requires.whole.valid c.of_class-arc.ensures.is in
-    let edge : ℕ → ℕ → Edge = λ a b. record { from = a; to = b } in
-    ap (λ (n : ℕ). edge n c.node_of-2.result) (c.node_of.ensures ∙ ap (λ (a : Arc). point_node net a.from leg.depart) c.arc-taken.ensures.same) ∙
-    ap (λ (n : ℕ). edge (point_node net arc.from leg.depart) n)
-    (c.node_of-2.ensures ∙ ap (λ (a : Arc). point_node net a.to c.head.result) c.arc-taken.ensures.same ∙ ap (λ (n : ℕ). point_node net arc.to n) (c.head.ensures.greatest p c.requires.whole)) ∙
-    ap (class_edge p net) (sym is)
+    let edge : ℕ → Edge = λ n. record { from = point_node net arc.from leg.depart; to = point_node net arc.to n } in
+    c.edge_to.ensures ∙ ap edge (c.head-head.ensures.greatest p c.requires.whole) ∙ ap (class_edge p net) (sym is)

@@ -1,12 +1,9 @@
 -- One more terminal has its holding edges.
-use Rattle.std.proofs.Common.{◌≡◌, ℕ, suc, ◌+◌, ◌-◌, ◌<◌, List, ◌++◌, length, get_or, map, append_assoc, sym, ap, ◌∙◌, subst, arith}
+use Rattle.std.proofs.Common.{◌≡◌, ℕ, suc, ◌+◌, ◌-◌, ◌<◌, List, ◌++◌, length, get_or, map, append_assoc, ap, ◌∙◌, arith}
 use Rattle.std.specs.List.{range_with_len}
 use Rattle.fp_labels.specs.declared.graphs.Edge.{Edge}
-use Rattle.fp_labels.specs.Graphs.{HasEnds}
-use Rattle.fp_model.specs.Problem.{Problem}
-use Rattle.fp_longestarcs.specs.Networks.{TimedNetwork, point_count, points_in}
-use Rattle.fp_prices.specs.Points.{class_edges, first_node, holding_at, holding_below, next_edge, last_node}
-use Rattle.fp_prices.proofs.PointEdges.{has-ends}
+use Rattle.fp_longestarcs.specs.Networks.{TimedNetwork, points_in}
+use Rattle.fp_prices.specs.Points.{first_node, holding_at, holding_below, next_edge, last_node}
 use Rattle.fp_prices.proofs.graphs.point_graphs.hold_at_all.Goals as goal
 
 -- the holding edges of a terminal after all that come before them
@@ -28,17 +25,11 @@ loop-terminal-preserved c =
     let exists : t < length net.points = omega (arith, c.loop-terminal-test.true, ap (λ (l : List (List ℕ)). length l) c.terminals.ensures.same, c.requires.whole.arcs.terminals) in
     c.in_ok-hold_between.ensures ∙
     ap (λ (l : List Edge). l ++ map next_edge (range_with_len first (last - first))) c.loop-terminal.invariant ∙
-    one-more (class_edges c.args.instance.now net) net t first last (c.requires.firsts.each t exists) c.last_node_of-last.ensures
+    one-more c.args.edges.now.items net t first last (c.requires.firsts.each t exists) c.last_node_of-last.ensures
 
 pub returns-clause-edges : goal.returns-clause-edges
 returns-clause-edges c =
     let net : TimedNetwork = c.args.network.now in
     let end : c.loop-terminal.terminal ≡ length net.points =
     omega (arith, c.loop-terminal-test.false, ap (λ (l : List (List ℕ)). length l) c.terminals.ensures.same, c.requires.whole.arcs.terminals) in
-    c.loop-terminal.invariant ∙ ap (λ (n : ℕ). class_edges c.args.instance.now net ++ holding_below net n) end
-
-pub returns-clause-ends : goal.returns-clause-ends
-returns-clause-ends c =
-    let p : Problem = c.args.instance.now in
-    let net : TimedNetwork = c.args.network.now in
-    subst (λ (l : List Edge). HasEnds (point_count net) l) (sym (returns-clause-edges c)) (has-ends p net c.terminals.ensures.valid c.requires.whole)
+    c.loop-terminal.invariant ∙ ap (λ (n : ℕ). c.args.edges.now.items ++ holding_below net n) end
