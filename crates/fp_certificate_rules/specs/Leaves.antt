@@ -10,8 +10,8 @@ use Rattle.fp_tree.specs.declared.sides.Split.{Split}
 use Rattle.fp_tree.specs.declared.sides.Split.TheVariants.{ByArc, ByTime}
 use Rattle.fp_tree.specs.Sides.{Fork}
 use Rattle.fp_tree.specs.Trees.{Leaf, IsTree, tree_leaves, tree_splits}
-use Rattle.fp_prices.specs.Leaves.{IsLeafEmpty}
-use Rattle.fp_prices_spans.specs.SpanKinds.{IsPricedValue}
+use Rattle.fp_prices_spans.specs.SpanKinds.{IsPricedValue, spans_beside}
+use Rattle.fp_prices_spans.specs.SpanLeaves.{IsSpanLeafEmpty}
 use Rattle.fp_certificate_lines.specs.declared.certificates.Node.{Node}
 use Rattle.fp_certificate_lines.specs.declared.certificates.Node.TheVariants as node
 use Rattle.fp_certificate_lines.specs.Statements.{Statement}
@@ -34,12 +34,12 @@ pub record HasTree (p : Problem) (c : Statement) : Type 0 where
   pub tree : IsTree (fork_of p) c.tree
   pub few : length (tree_splits (fork_of p) c.tree) ≤ MOST_SPLITS
 
--- a leaf is empty under all its sides, or its bound under those by which it is valued, in whole units of
+-- a leaf is empty by its heads under all its sides, or its bound under those by which it is valued, in whole units of
 -- money, rounded up to a multiple of the certificate's unit, is at least the claim
 abbrev pub IsLeafWorth : Problem → WindowTable → Statement → (claim : ℕ) → Node → List Side → Type 0
 IsLeafWorth p table c claim (node.Branch split) sides = ⊥
 IsLeafWorth p table c claim (node.Leaf v) sides =
-    IsLeafEmpty p (windows_in table) (points_as_of p table.anchors c v.price.round) sides
+    IsSpanLeafEmpty p (windows_in table) (points_as_of p table.anchors c v.price.round) sides (spans_beside c.spans v.price.kind)
     ⊎ ((value : ℕ) × IsPricedValue p (windows_in table) (points_as_of p table.anchors c v.price.round) (sides_valued v sides) c.tables c.spans v.price.kind v.price.forced value
     × (claim ≤ rounded_up c.unit (div_ceil value p.scale)))
 

@@ -6,8 +6,7 @@ use Rattle.fp_model.specs.declared.parts.Shipment.{Shipment}
 use Rattle.fp_model.specs.Problem.{Problem, arc_at}
 use Rattle.fp_longestarcs.specs.Classes.{head_of}
 use Rattle.fp_longestarcs.specs.Networks.{TimedNetwork, IsClass, class_number}
-use Rattle.fp_allowed.specs.Walks.{IsWalkBy}
-use Rattle.fp_prices.specs.Leaves.{IsLeastCostBy}
+use Rattle.fp_prices.specs.Leaves.{HasNoWalkBy, IsLeastCostBy}
 
 -- each class of the network has at its number its price and the shipment's flow, or nothing where it isn't allowed
 abbrev pub HoldsClassCosts : Problem → TimedNetwork → (Leg → Bool) → (Leg → ℕ) → (size : ℕ) → List (Option ℕ) → Type 0
@@ -26,7 +25,7 @@ IsFree first costs = (e : ℕ) → first ≤ e → e < length costs → cost_of 
 -- the least cost over the allowed walks of a shipment by heads, or that it has none
 abbrev pub IsLeastBy : Problem → (Leg → ℕ) → (Leg → Bool) → Shipment → (Leg → ℕ) → Option ℕ → Type 0
 IsLeastBy p heads allowed s price o =
-    MatchOption o ((walk : List Leg) → IsWalkBy p heads allowed s walk → ⊥) (IsLeastCostBy p heads allowed s price)
+    MatchOption o (HasNoWalkBy p heads allowed s) (IsLeastCostBy p heads allowed s price)
 
 -- the least cost over its allowed timed walks, or that it has none
 abbrev pub IsLeastOver : Problem → (ℕ → List ℕ) → (Leg → Bool) → Shipment → (Leg → ℕ) → Option ℕ → Type 0

@@ -55,21 +55,33 @@ pub record IsLeafValue (p : Problem) (windows : ℕ → ℕ → Option Window) (
       0 p.shipments costs
   pub value_is : value ≡ p.scale * departures_cost p chains (all_legs chains) + sum_by (λ (n : ℕ). n) costs
 
--- the shipment with the number k has no allowed timed walk
-abbrev pub HasNoWalk : Problem → (ℕ → ℕ → Option Window) → (ℕ → List ℕ) → List Side → ℕ → Type 0
-HasNoWalk p windows points sides k = (walk : List Leg) → IsTimedWalk p points (is_allowed p windows points sides k) (shipment_at p k) walk → ⊥
+-- a shipment has no allowed walk by heads
+abbrev pub HasNoWalkBy : Problem → (Leg → ℕ) → (Leg → Bool) → Shipment → Type 0
+HasNoWalkBy p heads allowed s = (walk : List Leg) → IsWalkBy p heads allowed s walk → ⊥
 
--- a leaf is empty where some shipment has no allowed timed walk
-pub record IsLeafEmpty (p : Problem) (windows : ℕ → ℕ → Option Window) (points : ℕ → List ℕ) (sides : List Side) : Type 0 where
+-- by heads for each shipment, some shipment has no allowed walk
+pub record IsEmptyBy (p : Problem) (heads : ℕ → Leg → ℕ) (allowed : ℕ → Leg → Bool) : Type 0 where
   pub shipment : ℕ
   pub exists : shipment < length p.shipments
-  pub none : HasNoWalk p windows points sides shipment
+  pub none : HasNoWalkBy p (heads shipment) (allowed shipment) (shipment_at p shipment)
+
+-- by heads for each shipment, the one with the number k is the first that has no allowed walk
+pub record IsFirstWithoutBy (p : Problem) (heads : ℕ → Leg → ℕ) (allowed : ℕ → Leg → Bool) (k : ℕ) : Type 0 where
+  pub exists : k < length p.shipments
+  pub none : HasNoWalkBy p (heads k) (allowed k) (shipment_at p k)
+  pub before : (j : ℕ) → j < k → HasNoWalkBy p (heads j) (allowed j) (shipment_at p j) → ⊥
+
+-- the shipment with the number k has no allowed timed walk
+abbrev pub HasNoWalk : Problem → (ℕ → ℕ → Option Window) → (ℕ → List ℕ) → List Side → ℕ → Type 0
+HasNoWalk p windows points sides k = HasNoWalkBy p (head_of p points) (is_allowed p windows points sides k) (shipment_at p k)
+
+-- a leaf is empty where some shipment has no allowed timed walk
+abbrev pub IsLeafEmpty : Problem → (ℕ → ℕ → Option Window) → (ℕ → List ℕ) → List Side → Type 0
+IsLeafEmpty p windows points sides = IsEmptyBy p (λ k. head_of p points) (is_allowed p windows points sides)
 
 -- the shipment with the number k is the first that has no allowed timed walk
-pub record IsFirstWithout (p : Problem) (windows : ℕ → ℕ → Option Window) (points : ℕ → List ℕ) (sides : List Side) (k : ℕ) : Type 0 where
-  pub exists : k < length p.shipments
-  pub none : HasNoWalk p windows points sides k
-  pub before : (j : ℕ) → j < k → HasNoWalk p windows points sides j → ⊥
+abbrev pub IsFirstWithout : Problem → (ℕ → ℕ → Option Window) → (ℕ → List ℕ) → List Side → ℕ → Type 0
+IsFirstWithout p windows points sides k = IsFirstWithoutBy p (λ k. head_of p points) (is_allowed p windows points sides) k
 
 -- the bound of a leaf: that it is empty, by its first shipment without an allowed timed walk, or its value
 abbrev pub IsBoundOf : Problem → (ℕ → ℕ → Option Window) → (ℕ → List ℕ) → List Side → List (List ClassShare) → Kind → Bool → LeafBound → Type 0

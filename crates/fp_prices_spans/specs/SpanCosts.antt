@@ -12,12 +12,12 @@ use Rattle.fp_longestarcs.specs.Networks.{TimedNetwork, points_in}
 use Rattle.fp_allowed.specs.Listing.{class_at}
 use Rattle.fp_prices.specs.declared.values.bounds.LeafBound.{LeafBound}
 use Rattle.fp_prices.specs.declared.values.bounds.LeafBound.TheVariants.{Empty, Value}
-use Rattle.fp_prices.specs.ClassCosts.{HoldsClassCosts, IsLeastOver}
+use Rattle.fp_prices.specs.ClassCosts.{HoldsClassCosts, IsLeastBy}
 use Rattle.fp_prices.specs.LeafPricings.{AreChainsOf, PricingModel, allowed_at}
-use Rattle.fp_prices.specs.Leaves.{IsFirstWithout, IsLeastCost}
+use Rattle.fp_prices.specs.Leaves.{IsFirstWithoutBy, IsLeastCostBy}
 use Rattle.fp_prices.specs.Rounds.{LeafModel}
 use Rattle.fp_prices_spans.specs.Spans.{ClassSpan}
-use Rattle.fp_prices_spans.specs.SpanLeaves.{IsChargeOf}
+use Rattle.fp_prices_spans.specs.SpanLeaves.{IsChargeOf, leaf_heads}
 use Rattle.fp_prices_spans.specs.SpanPrices.{leaf_span_price}
 
 -- the leaf has chains that it counts
@@ -35,11 +35,15 @@ AreSpanCostsOf m spans k costs =
     (chains : List (List Leg)) → AreChainsOf m.leaf m.forced chains →
     HoldsClassCosts m.leaf.setting.problem m.leaf.setting.network (allowed_at m.leaf k) (span_prices_at m spans chains k) (shipment_at m.leaf.setting.problem k).size costs
 
--- the least cost of the shipment with the number k, or that it has no allowed timed walk
+-- the heads by which the shipment with the number k goes at a leaf
+abbrev pub heads_at : LeafModel → List ClassSpan → ℕ → Leg → ℕ
+heads_at leaf spans k = leaf_heads leaf.setting.problem (windows_in leaf.setting.windows) (points_in leaf.setting.network) spans k
+
+-- the least cost of the shipment with the number k, or that it has no allowed walk by the leaf's heads
 abbrev pub IsLeastBySpans : PricingModel → List ClassSpan → ℕ → Option ℕ → Type 0
 IsLeastBySpans m spans k cost =
     (chains : List (List Leg)) → AreChainsOf m.leaf m.forced chains →
-    IsLeastOver m.leaf.setting.problem (points_in m.leaf.setting.network) (allowed_at m.leaf k) (shipment_at m.leaf.setting.problem k) (span_prices_at m spans chains k) cost
+    IsLeastBy m.leaf.setting.problem (heads_at m.leaf spans k) (allowed_at m.leaf k) (shipment_at m.leaf.setting.problem k) (span_prices_at m spans chains k) cost
 
 -- the least cost, if there is one, is at most 65,536 times the scaled cost of going over every arc alone, and 2^116
 abbrev pub IsSmallBySpans : Problem → ℕ → Option ℕ → Type 0
@@ -75,13 +79,13 @@ pub record IsValueBySpans (m : PricingModel) (spans : List ClassSpan) (bases val
   pub costs : List ℕ
   pub least : (chains : List (List Leg)) → AreChainsOf m.leaf m.forced chains →
       AllZipFrom
-      (λ k (s : Shipment) n. IsLeastCost m.leaf.setting.problem (points_in m.leaf.setting.network) (allowed_at m.leaf k) s
+      (λ k (s : Shipment) n. IsLeastCostBy m.leaf.setting.problem (heads_at m.leaf spans k) (allowed_at m.leaf k) s
       (leaf_span_price m.leaf.setting.problem m.tables spans (allowed_at m.leaf) m.kind chains k s.size) n)
       0 m.leaf.setting.problem.shipments costs
   pub is : value ≡ bases + sum_by (λ (n : ℕ). n) costs
 
--- what is found before the charges are taken off: the value, or the first shipment without an allowed timed walk
+-- what is found before the charges are taken off: the value, or the first shipment without an allowed walk by the leaf's heads
 abbrev pub IsFoundBySpans : PricingModel → List ClassSpan → (bases : ℕ) → LeafBound → Type 0
 IsFoundBySpans m spans bases (Empty shipment) =
-    IsFirstWithout m.leaf.setting.problem (windows_in m.leaf.setting.windows) (points_in m.leaf.setting.network) m.leaf.sides shipment
+    IsFirstWithoutBy m.leaf.setting.problem (heads_at m.leaf spans) (allowed_at m.leaf) shipment
 IsFoundBySpans m spans bases (Value value) = IsValueBySpans m spans bases value

@@ -1,7 +1,7 @@
 -- What a leaf of a search is worth under prices by spans: a number under which no plan of the leaf costs.
 -- The relaxation over a partially time-expanded network: Boland, Hewitt, Marshall and Savelsbergh, "The Continuous-Time Service
 -- Network Design Problem", Operations Research 65, 2017. Its bound by spans is this project's own.
-use Rattle.std.specs.Prelude.{ℕ, ◌+◌, ◌-◌, ◌*◌, ◌^◌, ◌≤◌, ◌≡◌, ◌<◌, ◌⊎◌, List, [], length, Bool, true, false, sum_by, Option, ◌↔◌}
+use Rattle.std.specs.Prelude.{ℕ, ◌+◌, ◌-◌, ◌*◌, ◌^◌, ◌≤◌, ◌≡◌, ◌<◌, ◌⊎◌, List, [], ◌∷◌, length, Bool, true, false, sum_by, Option, ◌↔◌}
 use Rattle.std.specs.List.{AllZip}
 use Rattle.fp_base_lists.specs.Numbered.{AllZipFrom}
 use Rattle.fp_model.specs.declared.parts.Leg.{Leg}
@@ -9,12 +9,14 @@ use Rattle.fp_model.specs.declared.parts.Shipment.{Shipment}
 use Rattle.fp_model.specs.Costs.{all_legs, cost, departures_cost, has_leg}
 use Rattle.fp_model.specs.Problem.{Problem, IsValid, alone_total}
 use Rattle.fp_flatnet.specs.declared.window_tables.Window.{Window}
+use Rattle.fp_longestarcs.specs.Classes.{head_of}
 use Rattle.fp_tree.specs.declared.sides.Side.{Side}
 use Rattle.fp_allowed.specs.Allowed.{is_allowed}
+use Rattle.fp_allowed.specs.Heads.{heads_within}
 use Rattle.fp_prices.specs.declared.values.bounds.LeafBound.{LeafBound}
 use Rattle.fp_prices.specs.declared.values.bounds.LeafBound.TheVariants.{Empty, Value}
 use Rattle.fp_prices.specs.declared.leaf_prices.Kind.{Kind}
-use Rattle.fp_prices.specs.Leaves.{IsChain, IsFirstWithout, IsLeafEmpty, IsLeafValue, IsLeastCost, IsPlanOfLeaf}
+use Rattle.fp_prices.specs.Leaves.{IsChain, IsEmptyBy, IsFirstWithoutBy, IsLeafValue, IsLeastCostBy, IsPlanOfLeaf}
 use Rattle.fp_prices.specs.Prices.{AllKeepRule}
 use Rattle.fp_prices.specs.Shares.{ClassShare}
 use Rattle.fp_prices_spans.specs.MomentRuns.{AreAmong}
@@ -36,6 +38,12 @@ abbrev pub IsChargeOf : Problem → (ℕ → Leg → Bool) → (chains : List (L
 IsChargeOf p allowed chains span n =
     (IsCharged p allowed chains span × (n ≡ span.charge)) ⊎ ((IsCharged p allowed chains span → ⊥) × (n ≡ 0))
 
+-- the heads by which the shipment with the number k goes at a leaf: where spans price it, those within the shipment's windows, and
+-- else those of the classes
+abbrev pub leaf_heads : Problem → (ℕ → ℕ → Option Window) → (ℕ → List ℕ) → List ClassSpan → ℕ → Leg → ℕ
+leaf_heads p windows points [] k = head_of p points
+leaf_heads p windows points (span ∷ spans) k = heads_within p windows points k
+
 -- the value of a leaf that isn't empty, under prices by spans: the bases, which are what the trucks of the forced chains cost, and the
 -- least cost of each shipment, less the charge of each span that is charged, once each, and at least 0
 pub record IsSpanLeafValue (p : Problem) (windows : ℕ → ℕ → Option Window) (points : ℕ → List ℕ) (sides : List Side) (tables : List (List ClassShare)) (spans : List ClassSpan) (kind : Kind) (forced : Bool) (value : ℕ) : Type 0 where
@@ -44,15 +52,21 @@ pub record IsSpanLeafValue (p : Problem) (windows : ℕ → ℕ → Option Windo
   pub charges : List ℕ
   pub are_chains : AllZipFrom (λ k. IsChain p (is_allowed p windows points sides k) forced) 0 p.shipments chains
   pub are_least : AllZipFrom
-      (λ k (s : Shipment) n. IsLeastCost p points (is_allowed p windows points sides k) s
+      (λ k (s : Shipment) n. IsLeastCostBy p (leaf_heads p windows points spans k) (is_allowed p windows points sides k) s
       (leaf_span_price p tables spans (is_allowed p windows points sides) kind chains k s.size) n)
       0 p.shipments costs
   pub are_charges : AllZip (IsChargeOf p (is_allowed p windows points sides) chains) spans charges
   pub value_is : value ≡ p.scale * departures_cost p chains (all_legs chains) + sum_by (λ (n : ℕ). n) costs - sum_by (λ (n : ℕ). n) charges
 
--- the bound of a leaf under prices by spans: that it is empty, by its first shipment without an allowed timed walk, or its value
+-- a leaf is empty by its heads: some shipment has no allowed walk by them
+abbrev pub IsSpanLeafEmpty : Problem → (ℕ → ℕ → Option Window) → (ℕ → List ℕ) → List Side → List ClassSpan → Type 0
+IsSpanLeafEmpty p windows points sides spans = IsEmptyBy p (leaf_heads p windows points spans) (is_allowed p windows points sides)
+
+-- the bound of a leaf under prices by spans: that it is empty, by its first shipment without an allowed walk by the leaf's heads, or
+-- its value
 abbrev pub IsSpanBoundOf : Problem → (ℕ → ℕ → Option Window) → (ℕ → List ℕ) → List Side → List (List ClassShare) → List ClassSpan → Kind → Bool → LeafBound → Type 0
-IsSpanBoundOf p windows points sides tables spans kind forced (Empty shipment) = IsFirstWithout p windows points sides shipment
+IsSpanBoundOf p windows points sides tables spans kind forced (Empty shipment) =
+    IsFirstWithoutBy p (leaf_heads p windows points spans) (is_allowed p windows points sides) shipment
 IsSpanBoundOf p windows points sides tables spans kind forced (Value value) = IsSpanLeafValue p windows points sides tables spans kind forced value
 
 -- a value is at most 65,537 times what all shipments cost that each go over every arc alone, and 2^125; for a valid instance it is
@@ -74,7 +88,7 @@ pub record SpanLeavesHaveOneValue : Type 0 where
   pub one : (p : Problem) (windows : ℕ → ℕ → Option Window) (points : ℕ → List ℕ) (sides : List Side) (tables : List (List ClassShare)) (spans : List ClassSpan) (kind : Kind) (forced : Bool) (v w : ℕ) →
       IsSpanLeafValue p windows points sides tables spans kind forced v → IsSpanLeafValue p windows points sides tables spans kind forced w → v ≡ w
   pub some : (p : Problem) (windows : ℕ → ℕ → Option Window) (points : ℕ → List ℕ) (sides : List Side) (tables : List (List ClassShare)) (spans : List ClassSpan) (kind : Kind) (forced : Bool) (v : ℕ) →
-      IsSpanLeafValue p windows points sides tables spans kind forced v → IsLeafEmpty p windows points sides → ⊥
+      IsSpanLeafValue p windows points sides tables spans kind forced v → IsSpanLeafEmpty p windows points sides spans → ⊥
 
 -- without spans, the value is that by the tables alone
 abbrev pub ValuesWithoutSpans : Type 0

@@ -9,9 +9,10 @@ use Rattle.fp_tree.specs.declared.sides.Side.{Side}
 use Rattle.fp_allowed.specs.Allowed.{is_allowed}
 use Rattle.fp_prices.specs.declared.leaf_prices.Kind.TheVariants.{Even, Linear}
 use Rattle.fp_prices.specs.declared.leaf_prices.LeafPrice.{LeafPrice}
-use Rattle.fp_prices.specs.Leaves.{IsFirstWithout, IsLeafValue}
+use Rattle.fp_prices.specs.Leaves.{IsLeafValue}
 use Rattle.fp_prices.specs.Rounds.{LeafModel}
-use Rattle.fp_prices_spans.specs.SpanKinds.{IsPricedValue}
+use Rattle.fp_prices_spans.specs.SpanKinds.{IsPricedValue, spans_beside}
+use Rattle.fp_prices_spans.specs.SpanLeaves.{IsSpanLeafEmpty}
 use Rattle.fp_duals_leaves.specs.Prices.{PriceLists}
 use Rattle.fp_duals.specs.Improvements.{IsReachedChain}
 use Rattle.fp_session_history.specs.Notes.{History, last_round, points_of}
@@ -80,10 +81,11 @@ abbrev pub IsOutcome : History → List Side → Kept → Outcome → Type 0
 IsOutcome h sides old (Empty kept) = IsKept h sides kept.payload kept.value × (kept.payload.empty ≡ true)
 IsOutcome h sides old (Open kept walks) = IsFound h sides kept walks.items × (old.value ≤ kept.value)
 
--- of a leaf of which this was found, and that is improved by a price as of the same round: it is empty, or the greater of both is kept
+-- of a leaf of which this was found, and that is improved by a price as of the same round: where it is empty by the heads of that price,
+-- what was found is kept, and else the greater of both
 abbrev pub IsBestBy : LeafModel → PriceLists → (found : Kept) → LeafPrice → Kept → Type 0
 IsBestBy l x found price kept =
-    ((kept ≡ empty_kept price.round) × ((shipment : ℕ) × IsFirstWithout l.setting.problem (windows_in l.setting.windows) (points_in l.setting.network) l.sides shipment))
+    ((kept ≡ found) × IsSpanLeafEmpty l.setting.problem (windows_in l.setting.windows) (points_in l.setting.network) l.sides (spans_beside x.spans price.kind))
     ⊎ ((value : ℕ) × IsPricedValue l.setting.problem (windows_in l.setting.windows) (points_in l.setting.network) l.sides x.tables x.spans price.kind price.forced value × IsGreater found price value kept)
 
 -- a leaf of which this is kept is empty, or worth no less than by a price, as of the price's round
