@@ -59,7 +59,7 @@ pub(crate) fn better_spans<D: Deadline>(
         (IsBetterPrice leaf.now.setting.problem leaf.now.setting.windows
         (points_in leaf.now.setting.network) leaf.now.sides value)) }
 {
-    let model = nets.at(resources.alloc, leaf)?;
+    let model = nets.within(resources.alloc, leaf)?;
     let spans = proposed_spans(resources, leaf, model, start, effort)?;
     if spans.is_empty() {
         return Ok(None);

@@ -39,7 +39,7 @@ pub fn walks_by_spans(
         forced,
         spans,
     };
-    let walks = proposed_walks(alloc, leaf, nets.at(alloc, leaf)?, start)?;
+    let walks = proposed_walks(alloc, leaf, nets.within(alloc, leaf)?, start)?;
     if are_allowed_walks(leaf, &walks) {
         Ok(Some(walks))
     } else {

@@ -7,6 +7,7 @@ use crate::money::arc_money::{ArcMoney, arc_money};
 use crate::money::units::MoneyUnit;
 use crate::nets::all_nets::{NetParts, all_nets};
 use crate::nets::shipment_nets::Nets;
+use crate::nets::steps::Heads;
 use fp_prices::Leaf;
 use std::alloc::Global;
 use std::marker::Model;
@@ -41,9 +42,9 @@ impl Model for LeafNets {
 }
 
 impl LeafNets {
-    /// The nets at a leaf. `NoMemory` only where no memory is found. Takes time and memory that
-    /// grow with the allowed classes of all shipments, and with the points for each shipment.
-    pub fn of(alloc: Global, leaf: &Leaf) -> Result<LeafNets, NoMemory> {
+    /// The nets at a leaf by such heads. `NoMemory` only where no memory is found. Takes time and memory
+    /// that grow with the allowed classes of all shipments, and with the points for each shipment.
+    pub(crate) fn of(alloc: Global, leaf: &Leaf, heads: Heads) -> Result<LeafNets, NoMemory> {
         let instance = leaf.round().instance();
         let network = leaf.round().network();
         let nodes = PointNodes::of(alloc, instance, network)?;
@@ -58,7 +59,7 @@ impl LeafNets {
             arcs: &arcs,
             unit,
         };
-        let nets = all_nets(alloc, leaf, &parts, &chains)?;
+        let nets = all_nets(alloc, leaf, &parts, &chains, heads)?;
         Ok(LeafNets {
             unit,
             classes,

@@ -2,6 +2,7 @@
 
 use crate::NoMemory;
 use crate::leaf_nets::LeafNets;
+use crate::nets::steps::Heads;
 use fp_prices::Leaf;
 use std::alloc::Global;
 use std::marker::Model;
@@ -11,7 +12,22 @@ use std::marker::Model;
 /// to contracts they're the same after each call, also after `NoMemory`, made or not.
 #[derive(Drop)]
 pub struct LentNets {
-    made: Option<LeafNets>,
+    by_classes: Option<LeafNets>,
+    within_windows: Option<LeafNets>,
+}
+
+// The nets of a leaf by such heads, which are made where they aren't yet.
+fn lent<'a>(
+    alloc: Global,
+    leaf: &Leaf,
+    made: &'a mut Option<LeafNets>,
+    heads: Heads,
+) -> Result<&'a mut LeafNets, NoMemory> {
+    let nets = match made.take() {
+        Some(nets) => nets,
+        None => LeafNets::of(alloc, leaf, heads)?,
+    };
+    Ok(made.insert(nets))
 }
 
 impl Model for LentNets {
@@ -25,15 +41,21 @@ impl Model for LentNets {
 impl LentNets {
     /// Nets that aren't made yet. Takes no memory.
     pub fn new() -> LentNets {
-        LentNets { made: None }
+        LentNets {
+            by_classes: None,
+            within_windows: None,
+        }
     }
 
-    /// The nets of a leaf, the same one each time. `NoMemory` only where no memory is found.
+    /// The nets of a leaf by the heads of its classes, the same leaf each time: what it is worth by
+    /// tables goes over them. `NoMemory` only where no memory is found.
     pub fn at(&mut self, alloc: Global, leaf: &Leaf) -> Result<&mut LeafNets, NoMemory> {
-        let nets = match self.made.take() {
-            Some(nets) => nets,
-            None => LeafNets::of(alloc, leaf)?,
-        };
-        Ok(self.made.insert(nets))
+        lent(alloc, leaf, &mut self.by_classes, Heads::OfClasses)
+    }
+
+    /// The nets of a leaf by the heads within each shipment's windows, the same leaf each time: what it
+    /// is worth by spans goes over them. `NoMemory` only where no memory is found.
+    pub fn within(&mut self, alloc: Global, leaf: &Leaf) -> Result<&mut LeafNets, NoMemory> {
+        lent(alloc, leaf, &mut self.within_windows, Heads::WithinWindows)
     }
 }

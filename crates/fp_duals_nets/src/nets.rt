@@ -5,3 +5,4 @@ pub(crate) mod least_walks;
 pub(crate) mod net_drafts;
 pub(crate) mod point_groups;
 pub(crate) mod shipment_nets;
+pub(crate) mod steps;

@@ -59,7 +59,7 @@ pub fn cheap_walks<D: Deadline>(
     ensures walks { IfOk result (λ found. IfSome found (λ walks. AreAllowedWalks leaf.now walks.items)) }
     ensures err { OnErr result (nets.new ≡ nets.old) }
 {
-    let model = nets.at(resources.alloc, leaf)?;
+    let model = nets.within(resources.alloc, leaf)?;
     match best_walks(resources, leaf, model, starts, turns)? {
         Some(walks) => {
             if are_allowed_walks(leaf, &walks) {

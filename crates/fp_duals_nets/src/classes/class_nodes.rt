@@ -55,8 +55,8 @@ impl PointNodes {
         self.firsts.get(terminal as usize).copied().unwrap_or(0)
     }
 
-    // The node of a point of a terminal.
-    fn node(&self, terminal: u32, at: u32) -> usize {
+    /// The node of a point of a terminal.
+    pub(crate) fn node(&self, terminal: u32, at: u32) -> usize {
         let first = self.first(terminal);
         let end = self.first(terminal.wrapping_add(1));
         let place = match self.points.get(first..end) {

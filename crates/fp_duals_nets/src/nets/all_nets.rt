@@ -8,6 +8,7 @@ use crate::money::units::MoneyUnit;
 use crate::nets::net_drafts::{NetDraft, Traveler};
 use crate::nets::point_groups::PointGroups;
 use crate::nets::shipment_nets::Nets;
+use crate::nets::steps::{Heads, Step, list_steps};
 use fp_allowed::Chain;
 use fp_model::Shipment;
 use fp_prices::Leaf;
@@ -30,7 +31,7 @@ fn drop_leaving(numbers: &mut Vec<u32>, classes: &[ClassNodes], terminal: u32) {
     });
 }
 
-// Adds the net of a shipment with a chain that may go by these classes.
+// Adds the net of a shipment with a chain that may take these steps.
 fn push_net(
     nets: &mut Nets,
     draft: &mut NetDraft,
@@ -38,10 +39,10 @@ fn push_net(
     parts: &NetParts,
     shipment: &Shipment,
     chain: &Chain,
-    numbers: &[u32],
+    steps: &[Step],
 ) -> Result<(), NoMemory> {
-    groups.group(numbers, parts.classes);
-    groups.list_edges(parts, numbers, shipment.size, &mut draft.between)?;
+    groups.group(steps);
+    groups.list_edges(parts, steps, shipment.size, &mut draft.between)?;
     let traveler = Traveler {
         size: shipment.size,
         forced: &chain.classes,
@@ -52,23 +53,34 @@ fn push_net(
     draft.push_net(nets, &traveler)
 }
 
-/// The nets of all shipments of a leaf, whose chains these are.
+/// The nets of all shipments of a leaf, whose chains these are, by such heads.
 pub(crate) fn all_nets(
     alloc: Global,
     leaf: &Leaf,
     parts: &NetParts,
     chains: &[Chain],
+    heads: Heads,
 ) -> Result<Nets, NoMemory> {
     let mut nets = Nets::new(alloc);
     let mut draft = NetDraft::new(alloc);
     let mut groups = PointGroups::of(alloc, parts.nodes)?;
     let mut numbers = Vec::new(alloc);
+    let mut steps = Vec::new(alloc);
     let count = leaf.round().network().classes();
     let instance = leaf.round().instance();
     for number in 0..instance.shipments().len() as u32 {
         let shipment = instance.shipment(number);
         list_set(leaf.row(number), count, &mut numbers)?;
         drop_leaving(&mut numbers, parts.classes, shipment.to);
+        list_steps(
+            leaf,
+            parts.nodes,
+            parts.classes,
+            &numbers,
+            number,
+            heads,
+            &mut steps,
+        )?;
         if let Some(chain) = chains.get(number as usize) {
             push_net(
                 &mut nets,
@@ -77,7 +89,7 @@ pub(crate) fn all_nets(
                 parts,
                 shipment,
                 chain,
-                &numbers,
+                &steps,
             )?;
         }
     }

@@ -1,9 +1,10 @@
 //! The points of a network in groups, and the edges of a shipment between them.
 
 use crate::NoMemory;
-use crate::classes::class_nodes::{ClassNodes, PointNodes, WAIT, arc_of};
+use crate::classes::class_nodes::{PointNodes, WAIT, arc_of};
 use crate::nets::all_nets::NetParts;
 use crate::nets::least_walks::FAR;
+use crate::nets::steps::Step;
 use std::alloc::Global;
 
 /// An edge between groups of points, for a class, or for waiting.
@@ -55,26 +56,24 @@ impl PointGroups {
         Ok(PointGroups { marks, count: 0 })
     }
 
-    /// Groups the points for a shipment that may go by these classes.
-    pub(crate) fn group(&mut self, numbers: &[u32], classes: &[ClassNodes]) {
+    /// Groups the points for a shipment that may take these steps.
+    pub(crate) fn group(&mut self, steps: &[Step]) {
         for mark in self.marks.iter_mut() {
             mark.entered = false;
             mark.left = false;
         }
-        for number in numbers {
-            if let Some(class) = classes.get(*number as usize) {
-                self.mark_class(class);
-            }
+        for step in steps {
+            self.mark_ends(step);
         }
         self.number_groups();
     }
 
-    // Marks the ends of a class.
-    fn mark_class(&mut self, class: &ClassNodes) {
-        if let Some(mark) = self.marks.get_mut(class.tail) {
+    // Marks the ends of a step.
+    fn mark_ends(&mut self, step: &Step) {
+        if let Some(mark) = self.marks.get_mut(step.tail) {
             mark.left = true;
         }
-        if let Some(mark) = self.marks.get_mut(class.head) {
+        if let Some(mark) = self.marks.get_mut(step.head) {
             mark.entered = true;
         }
     }
@@ -102,15 +101,14 @@ impl PointGroups {
         }
     }
 
-    // The edge of the class with a number for a size.
-    fn edge(&self, parts: &NetParts, number: u32, size: u64) -> Option<GroupEdge> {
-        let class = parts.classes.get(number as usize)?;
-        let arc = arc_of(number, parts.classes, parts.arcs)?;
+    // The edge of a step for a size.
+    fn edge(&self, parts: &NetParts, step: &Step, size: u64) -> Option<GroupEdge> {
+        let arc = arc_of(step.class, parts.classes, parts.arcs)?;
         let flow = arc.flow(parts.unit, size);
         Some(GroupEdge {
-            tail: self.of_node(class.tail),
-            head: self.of_node(class.head),
-            class: number,
+            tail: self.of_node(step.tail),
+            head: self.of_node(step.head),
+            class: step.class,
             flow,
             cost: flow.saturating_add(arc.linear(size)).min(FAR - 1),
         })
@@ -134,18 +132,18 @@ impl PointGroups {
         Ok(())
     }
 
-    /// Puts in the edges of a shipment of a size that may go by these classes, once the points are
-    /// grouped for it: those of the classes, and those over which it waits.
+    /// Puts in the edges of a shipment of a size that may take these steps, once the points are
+    /// grouped for it: those of the steps, and those over which it waits.
     pub(crate) fn list_edges(
         &self,
         parts: &NetParts,
-        numbers: &[u32],
+        steps: &[Step],
         size: u64,
         edges: &mut Vec<GroupEdge>,
     ) -> Result<(), NoMemory> {
         edges.clear();
-        for number in numbers {
-            if let Some(edge) = self.edge(parts, *number, size) {
+        for step in steps {
+            if let Some(edge) = self.edge(parts, step, size) {
                 edges.push(edge)?;
             }
         }
