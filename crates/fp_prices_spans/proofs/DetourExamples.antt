@@ -17,13 +17,13 @@ use Rattle.fp_timenodes.specs.Floor.{floor_point}
 use Rattle.fp_timenodes.proofs.Floors.{floor_is}
 use Rattle.fp_flatnet.specs.declared.window_tables.Window.{Window}
 use Rattle.fp_allowed.specs.Allowed.{is_allowed}
-use Rattle.fp_allowed.specs.Walks.{IsTimedWalk}
+use Rattle.fp_allowed.specs.Walks.{IsWalkBy}
 use Rattle.fp_allowed.proofs.AllowedClasses.{HasMoment, is_allowed_parts}
 use Rattle.fp_prices.specs.declared.leaf_prices.Kind.TheVariants.{Linear}
-use Rattle.fp_prices.specs.Leaves.{IsLeastCost, IsPlanOfLeaf}
+use Rattle.fp_prices.specs.Leaves.{IsLeastCostBy, IsPlanOfLeaf}
 use Rattle.fp_prices_spans.specs.MomentRuns.{group_weights, runs_of}
 use Rattle.fp_prices_spans.specs.Spans.{ClassSpan}
-use Rattle.fp_prices_spans.specs.SpanLeaves.{IsChargeOf, IsSpanLeafValue}
+use Rattle.fp_prices_spans.specs.SpanLeaves.{IsChargeOf, IsSpanLeafValue, leaf_heads}
 use Rattle.fp_prices_spans.specs.SpanPrices.{leaf_span_price}
 use Rattle.fp_prices_spans.specs.SpanRules.{KeepSpanRules, KeepWithin, KeepsSetRule}
 use Rattle.fp_prices_spans.proofs.EqualWeights.{by_count}
@@ -91,16 +91,17 @@ from_c pay k c h from = by_arc c.arc (at_zero k c h).0 (at_zero k c h).1 from
     by_arc (suc (suc zero)) below is there = ap pay is
     by_arc (suc (suc (suc a))) below is there = absurd (omega (arith, below))
 
--- an allowed walk pays for the straight arc, or for both arcs of the way round
-walk_pays : (k name n : ℕ) (pay : Leg → ℕ) → n ≤ pay (leg 0) → n ≤ pay (leg 1) + pay (leg 2) → (walk : List Leg) → IsTimedWalk detour points (allows k) (load name) walk → n ≤ sum_by pay walk
-walk_pays k name n pay straight round [] timed = absurd (omega (arith, timed.leads))
-walk_pays k name n pay straight round (c ∷ walk) timed =
+-- an allowed walk pays for the straight arc, or for both arcs of the way round, whatever the heads
+walk_pays : (heads : Leg → ℕ) (k name n : ℕ) (pay : Leg → ℕ) → n ≤ pay (leg 0) → n ≤ pay (leg 1) + pay (leg 2) → (walk : List Leg) → IsWalkBy detour heads (allows k) (load name) walk →
+    n ≤ sum_by pay walk
+walk_pays heads k name n pay straight round [] timed = absurd (omega (arith, timed.leads))
+walk_pays heads k name n pay straight round (c ∷ walk) timed =
     ⊎_elim
     (λ (there : (pay c ≡ pay (leg 0)) × ((arc_at detour c.arc).to ≡ 1)). omega (arith, there.0, straight, sum_by-cons pay c walk))
     (λ (half : (pay c ≡ pay (leg 1)) × ((arc_at detour c.arc).to ≡ 2)). omega (arith, half.0, round, sum_by-cons pay c walk, rest walk timed half.1))
     (from_a pay k c timed.allowed_all.0 timed.leads.1)
   where
-    rest : (walk : List Leg) → IsTimedWalk detour points (allows k) (load name) (c ∷ walk) → (arc_at detour c.arc).to ≡ 2 → pay (leg 2) ≤ sum_by pay walk
+    rest : (walk : List Leg) → IsWalkBy detour heads (allows k) (load name) (c ∷ walk) → (arc_at detour c.arc).to ≡ 2 → pay (leg 2) ≤ sum_by pay walk
     rest [] timed to = absurd (omega (arith, timed.leads.2, to))
     rest (e ∷ walk) timed to = omega (arith, from_c pay k e timed.allowed_all.1.0 (timed.leads.2.1 ∙ to), sum_by-cons pay e walk)
 
@@ -153,12 +154,12 @@ abbrev pays : List ClassSpan → ℕ → Leg → ℕ
 pays spans k c = leaf_span_price detour [] spans allows Linear ([] ∷ [] ∷ [] ∷ []) k 5 c + detour.scale * (arc_at detour c.arc).freight * 5
 
 least : (spans : List ClassSpan) (k name n : ℕ) → allows k (leg 0) ≡ true → pays spans k (leg 0) ≡ n → n ≤ pays spans k (leg 1) + pays spans k (leg 2) →
-    IsLeastCost detour points (allows k) (load name) (leaf_span_price detour [] spans allows Linear ([] ∷ [] ∷ [] ∷ []) k 5) n
+    IsLeastCostBy detour (leaf_heads detour windows points spans k) (allows k) (load name) (leaf_span_price detour [] spans allows Linear ([] ∷ [] ∷ [] ∷ []) k 5) n
 least spans k name n allowed straight round = record {
   walk = leg 0 ∷ [];
   timed = record { leads = (lit< tt, refl, refl); allowed_all = (allowed, tt); follows = (omega arith, tt) };
   cost = omega (arith, straight);
-  least = walk_pays k name n (pays spans k) (omega (arith, straight)) round;
+  least = walk_pays (leaf_heads detour windows points spans k) k name n (pays spans k) (omega (arith, straight)) round;
 }
 
 -- by linear prices each pays 50, either way

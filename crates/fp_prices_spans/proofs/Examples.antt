@@ -14,13 +14,13 @@ use Rattle.fp_model.specs.Problem.{Problem, IsValid, arc_at}
 use Rattle.fp_timenodes.specs.Floor.{floor_point}
 use Rattle.fp_flatnet.specs.declared.window_tables.Window.{Window}
 use Rattle.fp_allowed.specs.Allowed.{IsForcedChain, is_allowed}
-use Rattle.fp_allowed.specs.Walks.{IsTimedWalk}
+use Rattle.fp_allowed.specs.Walks.{IsWalkBy}
 use Rattle.fp_allowed.proofs.AllowedClasses.{HasMoment, is_allowed_parts}
 use Rattle.fp_prices.specs.declared.leaf_prices.Kind.TheVariants.{Linear}
-use Rattle.fp_prices.specs.Leaves.{IsLeastCost, IsPlanOfLeaf}
+use Rattle.fp_prices.specs.Leaves.{IsLeastCostBy, IsPlanOfLeaf}
 use Rattle.fp_prices_spans.specs.MomentRuns.{group_weights, runs_of}
 use Rattle.fp_prices_spans.specs.Spans.{ClassSpan}
-use Rattle.fp_prices_spans.specs.SpanLeaves.{IsCharged, IsChargeOf, IsSpanLeafValue}
+use Rattle.fp_prices_spans.specs.SpanLeaves.{IsCharged, IsChargeOf, IsSpanLeafValue, leaf_heads}
 use Rattle.fp_prices_spans.specs.SpanPrices.{holds, leaf_span_price, money_at, span_price}
 use Rattle.fp_prices_spans.specs.SpanRules.{IsSetOf, KeepSpanRules, KeepWithin, KeepsMoneyRule, KeepsSetRule}
 use Rattle.fp_prices_spans.proofs.EqualWeights.{by_count}
@@ -78,11 +78,11 @@ of_two qs k c h = by_arc c.arc refl (is_allowed_parts road windows (points qs) [
         by_moment has.moment is has.before falls
     by_arc (suc a) is parts = absurd (omega (arith, parts.0, is))
 
--- so an allowed walk pays for one of them at least
-walk_pays : (qs : List ℕ) (k name n : ℕ) (pay : Leg → ℕ) → n ≤ pay (leg (floor_point qs 1 0)) → n ≤ pay (leg (floor_point qs 1 1)) → (walk : List Leg) →
-    IsTimedWalk road (points qs) (allows qs k) (parcel name) walk → n ≤ sum_by pay walk
-walk_pays qs k name n pay first second [] timed = absurd (omega (arith, timed.leads))
-walk_pays qs k name n pay first second (c ∷ walk) timed =
+-- so an allowed walk pays for one of them at least, whatever the heads
+walk_pays : (qs : List ℕ) (heads : Leg → ℕ) (k name n : ℕ) (pay : Leg → ℕ) → n ≤ pay (leg (floor_point qs 1 0)) → n ≤ pay (leg (floor_point qs 1 1)) → (walk : List Leg) →
+    IsWalkBy road heads (allows qs k) (parcel name) walk → n ≤ sum_by pay walk
+walk_pays qs heads k name n pay first second [] timed = absurd (omega (arith, timed.leads))
+walk_pays qs heads k name n pay first second (c ∷ walk) timed =
     ⊎_elim
     (λ (e : c ≡ leg (floor_point qs 1 0)). omega (arith, ap pay e, first, sum_by-cons pay c walk))
     (λ (e : c ≡ leg (floor_point qs 1 1)). omega (arith, ap pay e, second, sum_by-cons pay c walk))
@@ -95,12 +95,12 @@ pays qs spans k c = leaf_span_price road [] spans (allows qs) Linear ([] ∷ [] 
 -- a shipment goes by the class of a point that is no dearer than the other
 least_by : (qs : List ℕ) (spans : List ClassSpan) (k name q : ℕ) → allows qs k (leg q) ≡ true → pays qs spans k (leg q) ≤ pays qs spans k (leg (floor_point qs 1 0)) →
     pays qs spans k (leg q) ≤ pays qs spans k (leg (floor_point qs 1 1)) →
-    IsLeastCost road (points qs) (allows qs k) (parcel name) (leaf_span_price road [] spans (allows qs) Linear ([] ∷ [] ∷ []) k 5) (pays qs spans k (leg q))
+    IsLeastCostBy road (leaf_heads road windows (points qs) spans k) (allows qs k) (parcel name) (leaf_span_price road [] spans (allows qs) Linear ([] ∷ [] ∷ []) k 5) (pays qs spans k (leg q))
 least_by qs spans k name q allowed first second = record {
   walk = leg q ∷ [];
   timed = record { leads = (lit< tt, refl, refl); allowed_all = (allowed, tt); follows = (omega arith, tt) };
   cost = omega arith;
-  least = walk_pays qs k name (pays qs spans k (leg q)) (pays qs spans k) first second;
+  least = walk_pays qs (leaf_heads road windows (points qs) spans k) k name (pays qs spans k (leg q)) (pays qs spans k) first second;
 }
 
 -- the value where the shipments go by the classes of these points, and the spans take so much off
@@ -289,7 +289,7 @@ abbrev chains : List (List Leg)
 chains = (leg 0 ∷ []) ∷ (leg 0 ∷ []) ∷ []
 
 free_by : (k name : ℕ) → allows alone k (leg 0) ≡ true →
-    IsLeastCost road (points alone) (allows alone k) (parcel name) (leaf_span_price road [] (whole 60000000 ∷ []) (allows alone) Linear chains k 5) 0
+    IsLeastCostBy road (leaf_heads road windows (points alone) (whole 60000000 ∷ []) k) (allows alone k) (parcel name) (leaf_span_price road [] (whole 60000000 ∷ []) (allows alone) Linear chains k 5) 0
 free_by k name allowed = record {
   walk = leg 0 ∷ [];
   timed = record { leads = (lit< tt, refl, refl); allowed_all = (allowed, tt); follows = (omega arith, tt) };

@@ -18,6 +18,7 @@ pub mod SpanOrders
 pub mod NoMoney
 pub mod EndMoney
 pub mod SpanSweeps
+pub mod LeafHeads
 pub mod SpanBounds
 pub mod PlaceSets
 pub mod SoundSpans

@@ -1,5 +1,5 @@
 -- What a leaf is worth by spans is the same over other lists of the same points.
-use Rattle.std.proofs.Common.{ℕ, Bool, false, List, subst}
+use Rattle.std.proofs.Common.{ℕ, Bool, List, subst}
 use Rattle.std.specs.Prelude.{Option, IfOk, Result, Ok, Err}
 use Rattle.std.specs.List.{AllZip}
 use Rattle.std.specs.declared.alloc.AllocError.{AllocError}
@@ -7,6 +7,7 @@ use Rattle.fp_base_lists.specs.Numbered.{AllZipFrom}
 use Rattle.fp_base_lists.proofs.Numbered.{AllZipFrom-weaker}
 use Rattle.fp_model.specs.declared.parts.Leg.{Leg}
 use Rattle.fp_model.specs.declared.parts.Shipment.{Shipment}
+use Rattle.fp_model.specs.Numbered.{shipment_at}
 use Rattle.fp_model.specs.Problem.{IsValid, Problem}
 use Rattle.fp_flatnet.specs.declared.window_tables.Window.{Window}
 use Rattle.fp_timenodes.specs.Points.{TimePoints, points_at}
@@ -15,25 +16,26 @@ use Rattle.fp_longestarcs.specs.Whole.{IsNetworkOf}
 use Rattle.fp_tree.specs.declared.sides.Side.{Side}
 use Rattle.fp_allowed.specs.Allowed.{is_allowed}
 use Rattle.fp_allowed.specs.SamePoints.{AgreeOnPoints}
-use Rattle.fp_allowed.proofs.SamePoints.{AgreeOnPoints_sym, IsTimedWalk_same, is_allowed_same}
+use Rattle.fp_allowed.specs.Walks.{IsWalkBy}
+use Rattle.fp_allowed.proofs.SamePoints.{AgreeOnPoints_sym, is_allowed_same}
 use Rattle.fp_prices.specs.declared.leaf_prices.Kind.{Kind}
 use Rattle.fp_prices.specs.declared.values.bounds.LeafBound.{LeafBound}
 use Rattle.fp_prices.specs.declared.values.bounds.LeafBound.TheVariants.{Empty, Value}
-use Rattle.fp_prices.specs.declared.leaf_prices.Kind.TheVariants.{Linear}
-use Rattle.fp_prices.specs.Leaves.{IsChain, IsLeastCost}
+use Rattle.fp_prices.specs.Leaves.{IsChain, IsLeastCostBy}
 use Rattle.fp_prices.specs.Shares.{ClassShare}
-use Rattle.fp_prices.proofs.SamePoints.{bound-same}
-use Rattle.fp_prices_spans.specs.SpanLeaves.{IsChargeOf, IsSpanBoundOf, IsSpanLeafValue}
+use Rattle.fp_prices_spans.specs.SpanLeaves.{IsChargeOf, IsSpanBoundOf, IsSpanLeafValue, leaf_heads}
 use Rattle.fp_prices_spans.specs.SpanPrices.{leaf_span_price}
 use Rattle.fp_prices_spans.specs.Spans.{ClassSpan}
+use Rattle.fp_prices_spans.proofs.LeafHeads.{leaf_walk-same}
 
 module _ (p : Problem) (valid : IsValid p) (windows : ℕ → ℕ → Option Window) (points others : ℕ → List ℕ) (same : AgreeOnPoints p points others) (sides : List Side) where
-  least-same : (allowed : Leg → Bool) (s : Shipment) (price : Leg → ℕ) (n : ℕ) → IsLeastCost p points allowed s price n → IsLeastCost p others allowed s price n
-  least-same allowed s price n least = record {
+  least-same : (spans : List ClassSpan) (k : ℕ) (s : Shipment) (price : Leg → ℕ) (n : ℕ) → IsLeastCostBy p (leaf_heads p windows points spans k) (is_allowed p windows points sides k) s price n →
+      IsLeastCostBy p (leaf_heads p windows others spans k) (is_allowed p windows others sides k) s price n
+  least-same spans k s price n least = record {
     walk = least.walk;
-    timed = IsTimedWalk_same p valid points others same allowed s least.walk least.timed;
+    timed = leaf_walk-same p valid points others same windows sides spans k s least.walk least.timed;
     cost = least.cost;
-    least = λ other timed. least.least other (IsTimedWalk_same p valid others points (AgreeOnPoints_sym p points others same) allowed s other timed);
+    least = λ other timed. least.least other (leaf_walk-same p valid others points (AgreeOnPoints_sym p points others same) windows sides spans k s other timed);
   }
 
   pub span_value-same : (tables : List (List ClassShare)) (spans : List ClassSpan) (kind : Kind) (forced : Bool) (value : ℕ) →
@@ -45,11 +47,13 @@ module _ (p : Problem) (valid : IsValid p) (windows : ℕ → ℕ → Option Win
         costs = is.costs;
         charges = is.charges;
         are_chains = subst (λ (allowed : ℕ → Leg → Bool). AllZipFrom (λ k. IsChain p (allowed k) forced) 0 p.shipments is.chains) e is.are_chains;
-        are_least = subst (λ (allowed : ℕ → Leg → Bool). AllZipFrom (λ k (s : Shipment) n. IsLeastCost p others (allowed k) s (leaf_span_price p tables spans allowed kind is.chains k s.size) n) 0 p.shipments is.costs) e
+        are_least = subst
+            (λ (allowed : ℕ → Leg → Bool).
+            AllZipFrom (λ k (s : Shipment) n. IsLeastCostBy p (leaf_heads p windows others spans k) (is_allowed p windows others sides k) s (leaf_span_price p tables spans allowed kind is.chains k s.size) n) 0 p.shipments is.costs) e
             (AllZipFrom-weaker
-            (λ k (s : Shipment) n. IsLeastCost p points (is_allowed p windows points sides k) s (leaf_span_price p tables spans (is_allowed p windows points sides) kind is.chains k s.size) n)
-            (λ k (s : Shipment) n. IsLeastCost p others (is_allowed p windows points sides k) s (leaf_span_price p tables spans (is_allowed p windows points sides) kind is.chains k s.size) n)
-            (λ k s n. least-same (is_allowed p windows points sides k) s (leaf_span_price p tables spans (is_allowed p windows points sides) kind is.chains k s.size) n) 0 p.shipments is.costs is.are_least);
+            (λ k (s : Shipment) n. IsLeastCostBy p (leaf_heads p windows points spans k) (is_allowed p windows points sides k) s (leaf_span_price p tables spans (is_allowed p windows points sides) kind is.chains k s.size) n)
+            (λ k (s : Shipment) n. IsLeastCostBy p (leaf_heads p windows others spans k) (is_allowed p windows others sides k) s (leaf_span_price p tables spans (is_allowed p windows points sides) kind is.chains k s.size) n)
+            (λ k s n. least-same spans k s (leaf_span_price p tables spans (is_allowed p windows points sides) kind is.chains k s.size) n) 0 p.shipments is.costs is.are_least);
         are_charges = subst (λ (allowed : ℕ → Leg → Bool). AllZip (IsChargeOf p allowed is.chains) spans is.charges) e is.are_charges;
         value_is = is.value_is;
       }
@@ -57,7 +61,16 @@ module _ (p : Problem) (valid : IsValid p) (windows : ℕ → ℕ → Option Win
   -- so is its bound
   pub span_bound-same : (tables : List (List ClassShare)) (spans : List ClassSpan) (kind : Kind) (forced : Bool) (bound : LeafBound) →
       IsSpanBoundOf p windows points sides tables spans kind forced bound → IsSpanBoundOf p windows others sides tables spans kind forced bound
-  span_bound-same tables spans kind forced (Empty shipment) is = bound-same p valid windows points others same sides tables Linear false (Empty shipment) is
+  span_bound-same tables spans kind forced (Empty shipment) is = record {
+    exists = is.exists;
+    none = λ walk goes. is.none walk (back shipment walk goes);
+    before = λ j below none. is.before j below (λ walk goes. none walk (leaf_walk-same p valid points others same windows sides spans j (shipment_at p j) walk goes));
+  }
+    where
+      back : (k : ℕ) (walk : List Leg) → IsWalkBy p (leaf_heads p windows others spans k) (is_allowed p windows others sides k) (shipment_at p k) walk →
+          IsWalkBy p (leaf_heads p windows points spans k) (is_allowed p windows points sides k) (shipment_at p k) walk
+      back k walk goes = leaf_walk-same p valid others points (AgreeOnPoints_sym p points others same) windows sides spans k (shipment_at p k) walk goes
+
   span_bound-same tables spans kind forced (Value value) is = span_value-same tables spans kind forced value is
 
 -- a bound over a network's points is one over the points as of its round

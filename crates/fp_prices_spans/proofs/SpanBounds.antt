@@ -21,15 +21,16 @@ use Rattle.fp_allowed.specs.Allowed.{is_allowed}
 use Rattle.fp_allowed.proofs.AllowedClasses.{is_allowed_parts}
 use Rattle.fp_allowed.proofs.PlanClasses.{plan_timed}
 use Rattle.fp_prices.proofs.ClassPrices.{AreWalks}
-use Rattle.fp_prices.proofs.LeafSums.{costs-le}
+use Rattle.fp_prices.proofs.LeafSums.{costs-le_by}
 use Rattle.fp_prices.proofs.PlanBounds.{size_at, sizes-agree}
 use Rattle.fp_prices.proofs.TakenByClasses.{NoneTwice, NoneTwiceInAny, paid}
 use Rattle.fp_prices.proofs.Users.{users-few}
 use Rattle.fp_prices.proofs.WalkClasses.{AreTimedWalks, chains-among, classes-once, none-twice, used-allowed, used-exist}
-use Rattle.fp_prices_spans.specs.SpanLeaves.{SpanValuesBoundPlans}
+use Rattle.fp_prices_spans.specs.SpanLeaves.{SpanValuesBoundPlans, leaf_heads}
 use Rattle.fp_prices_spans.specs.SpanPrices.{leaf_span_price}
 use Rattle.fp_prices_spans.proofs.ClassSums.{bases-and-span_prices}
 use Rattle.fp_prices_spans.proofs.DepartureTrucks.{ArePlanRoutes}
+use Rattle.fp_prices_spans.proofs.LeafHeads.{leaf_plan-walks}
 
 -- a plan has no arc twice in a route, since a route enters no terminal twice
 arcs-once : (p : Problem) (d : ℕ) (shipments : List Shipment) (plan : List (List Leg)) → AllZip (Carries p d) shipments plan → AllByRecursion (λ legs. AreDistinct (arcs_of legs)) plan
@@ -85,6 +86,7 @@ span_leaf-bounds p windows first points sides tables spans kind forced value val
     (λ k c allows. (is_allowed_parts p windows points sides k c allows).0) keep rules are
     (classes-once p points d p.shipments plan of_leaf.plan) routes of_leaf.within leaf.are_charges in
     let least : sum_by (λ (n : ℕ). n) leaf.costs ≤ paid (λ c k. price k (size_at p k) c) 0 walks + p.scale * flow_total p p.shipments walks =
-    costs-le p points allowed price (size_at p) 0 p.shipments leaf.costs walks (sizes-agree p) leaf.are_least timed in
+    costs-le_by p (leaf_heads p windows points spans) allowed price (size_at p) 0 p.shipments leaf.costs walks (sizes-agree p) leaf.are_least
+    (leaf_plan-walks p windows points sides spans d plan of_leaf) in
     let flow : p.scale * flow_total p p.shipments walks ≡ p.scale * flow_total p p.shipments plan = ap (λ (n : ℕ). p.scale * n) (flow_joins p of (λ l. refl) p.shipments plan) in
     omega (arith, leaf.value_is, bases, least, flow)

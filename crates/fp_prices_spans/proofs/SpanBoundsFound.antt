@@ -1,20 +1,22 @@
 -- What is found of a leaf by spans, less the charges, is its bound by spans.
-use Rattle.std.proofs.Common.{ℕ, List, arith}
+use Rattle.std.proofs.Common.{ℕ, List, map, arith}
 use Rattle.fp_model.specs.declared.parts.Leg.{Leg}
+use Rattle.fp_model.specs.Numbered.{route_at}
 use Rattle.fp_model.specs.Problem.{IsValid, Problem}
 use Rattle.fp_flatnet.specs.Tables.{windows_in}
+use Rattle.fp_longestarcs.specs.Classes.{class_of}
 use Rattle.fp_longestarcs.specs.Networks.{points_in}
 use Rattle.fp_prices.specs.declared.values.bounds.LeafBound.{LeafBound}
 use Rattle.fp_prices.specs.declared.values.bounds.LeafBound.TheVariants.{Empty, Value}
 use Rattle.fp_prices.specs.LeafPricings.{AreChainsOf, PricingModel}
 use Rattle.fp_prices.specs.Leaves.{BoundsPlans}
 use Rattle.fp_prices.specs.Prices.{AllKeepRule}
-use Rattle.fp_prices.proofs.PlanBounds.{leaves-bound-plans}
 use Rattle.fp_prices_spans.specs.MomentRuns.{AreAmong}
 use Rattle.fp_prices_spans.specs.SpanCosts.{AreBases, HasChains, IsAfterCharges, IsValueBySpans}
 use Rattle.fp_prices_spans.specs.SpanLeaves.{IsSpanBoundOf, IsSpanLeafValue}
 use Rattle.fp_prices_spans.specs.SpanRules.{KeepSpanRules}
 use Rattle.fp_prices_spans.specs.Spans.{ClassSpan}
+use Rattle.fp_prices_spans.proofs.LeafHeads.{leaf_route-walk}
 use Rattle.fp_prices_spans.proofs.SpanBounds.{span_leaf-bounds}
 
 module _ (m : PricingModel) (spans : List ClassSpan) where
@@ -41,7 +43,8 @@ module _ (m : PricingModel) (spans : List ClassSpan) where
   pub bound-plans : (first : ℕ → List ℕ) (b : LeafBound) → IsValid own → AreAmong own first (points_in m.leaf.setting.network) → AllKeepRule own m.tables →
       KeepSpanRules own (windows_in m.leaf.setting.windows) first spans →
       IsSpanBoundOf own (windows_in m.leaf.setting.windows) (points_in m.leaf.setting.network) m.leaf.sides m.tables spans m.kind m.forced b → BoundsPlans own (windows_in m.leaf.setting.windows) m.leaf.sides b
-  bound-plans first (Empty shipment) valid among keep rules is =
-      leaves-bound-plans.empty own (windows_in m.leaf.setting.windows) (points_in m.leaf.setting.network) m.leaf.sides (record { shipment = shipment; exists = is.exists; none = is.none })
+  bound-plans first (Empty shipment) valid among keep rules is = λ d plan of_leaf.
+      is.none (map (class_of own (points_in m.leaf.setting.network) d) (route_at plan shipment))
+      (leaf_route-walk own (windows_in m.leaf.setting.windows) (points_in m.leaf.setting.network) m.leaf.sides spans d shipment plan is.exists of_leaf)
   bound-plans first (Value value) valid among keep rules is =
       span_leaf-bounds own (windows_in m.leaf.setting.windows) first (points_in m.leaf.setting.network) m.leaf.sides m.tables spans m.kind m.forced value valid among keep rules is

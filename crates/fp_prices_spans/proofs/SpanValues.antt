@@ -10,13 +10,11 @@ use Rattle.fp_model.specs.declared.parts.Leg.{Leg}
 use Rattle.fp_model.specs.declared.parts.Shipment.{Shipment}
 use Rattle.fp_model.specs.Numbered.{no_shipment, shipment_at}
 use Rattle.fp_model.specs.Problem.{IsValid, Problem, alone_cost, alone_total}
-use Rattle.fp_flatnet.specs.Tables.{windows_in}
-use Rattle.fp_longestarcs.specs.Networks.{points_in}
-use Rattle.fp_allowed.specs.Walks.{IsTimedWalk}
+use Rattle.fp_allowed.specs.Walks.{IsWalkBy}
 use Rattle.fp_prices.specs.LeafPricings.{AreChainsOf, PricingModel, allowed_at}
-use Rattle.fp_prices.specs.Leaves.{IsFirstWithout, IsLeastCost}
+use Rattle.fp_prices.specs.Leaves.{IsFirstWithoutBy, IsLeastCostBy}
 use Rattle.fp_prices.specs.declared.values.bounds.LeafBound.TheVariants.{Value}
-use Rattle.fp_prices_spans.specs.SpanCosts.{HasChains, IsLeastBySpans, IsSmallBySpans, IsValueBySpans}
+use Rattle.fp_prices_spans.specs.SpanCosts.{HasChains, IsLeastBySpans, IsSmallBySpans, IsValueBySpans, heads_at}
 use Rattle.fp_prices_spans.specs.SpanLeaves.{IsSmallSpanBound}
 use Rattle.fp_prices_spans.specs.SpanPrices.{leaf_span_price}
 use Rattle.fp_prices_spans.specs.Spans.{ClassSpan}
@@ -28,7 +26,7 @@ module _ (m : PricingModel) (spans : List ClassSpan) (bases : ℕ) where
   -- a number is the least cost of a shipment by spans
   abbrev IsLeast : List (List Leg) → ℕ → Shipment → ℕ → Type 0
   IsLeast chains k s n =
-      IsLeastCost own (points_in m.leaf.setting.network) (allowed_at m.leaf k) s (leaf_span_price own m.tables spans (allowed_at m.leaf) m.kind chains k s.size) n
+      IsLeastCostBy own (heads_at m.leaf spans k) (allowed_at m.leaf k) s (leaf_span_price own m.tables spans (allowed_at m.leaf) m.kind chains k s.size) n
 
   -- the value is the bases and the least costs of the shipments so far, and small
   pub record AreLeastSoFar (i value : ℕ) : Type 0 where
@@ -79,8 +77,8 @@ module _ (m : PricingModel) (spans : List ClassSpan) (bases : ℕ) where
         let scaled : own.scale * 65536 * alone_total own.arcs (take (i + 1) own.shipments) ≤ own.scale * 65536 * alone_total own.arcs own.shipments = mul-le-mul_left (own.scale * 65536) part in
         omega (arith, so_far.is, few, costs-more cost small, scaled, valid.fits, exists, valid.parts.few_shipments)
 
-    -- the first shipment without an allowed timed walk
-    pub first-without : HasChains m.leaf m.forced → IsLeastBySpans m spans i None → IsFirstWithout own (windows_in m.leaf.setting.windows) (points_in m.leaf.setting.network) m.leaf.sides i
+    -- the first shipment without an allowed walk by the leaf's heads
+    pub first-without : HasChains m.leaf m.forced → IsLeastBySpans m spans i None → IsFirstWithoutBy own (heads_at m.leaf spans) (allowed_at m.leaf) i
     first-without has none = record {
       exists = exists;
       none = none has.0 has.1;
@@ -89,8 +87,8 @@ module _ (m : PricingModel) (spans : List ClassSpan) (bases : ℕ) where
           let same : get_or (take i own.shipments) j no_shipment ≡ shipment_at own j = get_or-take i own.shipments j no_shipment below in
           let number : 0 + j ≡ j = omega arith in
           no_walk at.walk
-          (subst (λ (k : ℕ). IsTimedWalk own (points_in m.leaf.setting.network) (allowed_at m.leaf k) (shipment_at own j) at.walk) number
-          (subst (λ (s : Shipment). IsTimedWalk own (points_in m.leaf.setting.network) (allowed_at m.leaf (0 + j)) s at.walk) same at.timed));
+          (subst (λ (k : ℕ). IsWalkBy own (heads_at m.leaf spans k) (allowed_at m.leaf k) (shipment_at own j) at.walk) number
+          (subst (λ (s : Shipment). IsWalkBy own (heads_at m.leaf spans (0 + j)) (allowed_at m.leaf (0 + j)) s at.walk) same at.timed));
     }
 
   -- all shipments

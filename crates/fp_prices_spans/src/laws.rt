@@ -13,12 +13,14 @@ use crate::spans::MOST_SPAN_WEIGHT;
 /// fractions of the unit of time. The value counts parts of a unit of money, so it is compared with
 /// the scale times the plan's cost. The instance is valid, the shares of all tables keep the price
 /// rule, and the spans keep the money rule and, by these windows and by first points that are all
-/// points of the leaf, the set rule. An empty leaf has no plan, which is a law of fp_prices.
+/// points of the leaf, the set rule. That a leaf that is empty by its heads has no plan is said of
+/// [`span_bound`](crate::span_bound).
 pub fn span_values_bound_plans()
     ensures { SpanValuesBoundPlans }
 {}
 
-/// Two values of one leaf under prices by spans are the same number, and an empty leaf has none.
+/// Two values of one leaf under prices by spans are the same number, and a leaf that is empty by its
+/// heads has none.
 ///
 /// So the value is decided by the instance, the windows, the points, the sides, the tables, the
 /// spans, the kind of prices and whether forced classes are paid whole.

@@ -22,7 +22,7 @@ use fp_prices::{Kind, Leaf, LeafBound, Table};
 use std::alloc::Global;
 
 // The bases and the least cost of each shipment under prices by spans, or the first that has no
-// allowed timed walk.
+// allowed walk by the leaf's heads.
 fn value_over(alloc: Global, by_spans: &SpanPricing, bases: u128) -> Result<LeafBound, NoMemory>
     requires by_spans { IsSpanPricing by_spans.now }
     requires bases { bases ≤ by_spans.now.pricing.now.leaf.setting.problem.scale * alone_total by_spans.now.pricing.now.leaf.setting.problem.arcs by_spans.now.pricing.now.leaf.setting.problem.shipments }
@@ -44,9 +44,14 @@ fn value_over(alloc: Global, by_spans: &SpanPricing, bases: u128) -> Result<Leaf
 }
 
 /// The bound of a leaf under prices by spans: what the trucks of its forced chains cost, where
-/// forced classes are paid whole, and the least cost of each shipment's allowed timed walks, less
-/// the charges of the spans that are charged, once each, and at least 0; or that the leaf is empty,
-/// with the first shipment that has no allowed timed walk.
+/// forced classes are paid whole, and the least cost of each shipment's allowed walks by the leaf's
+/// heads, less the charges of the spans that are charged, once each, and at least 0; or that the leaf
+/// is empty by these heads, with the first shipment that has no allowed walk by them.
+///
+/// Where spans stand, the head of a class for a shipment is [`Leaf::head`]: it counts that the
+/// shipment never leaves before its window for the class's arc begins. Without spans it is the head
+/// of the class, so that a walk is an allowed timed walk. A leaf may be empty by its heads and have
+/// allowed timed walks.
 ///
 /// A class that isn't forced and for which spans hold is priced by the spans alone, and every other
 /// class as [`Leaf::bound`] prices it by the tables and the kind. A span is charged where it holds
@@ -62,8 +67,8 @@ fn value_over(alloc: Global, by_spans: &SpanPricing, bases: u128) -> Result<Leaf
 /// The tables are in order and keep the price rule, and a kind by a table names one of them; the
 /// spans are in order, of arcs and shipments that exist, and their weights come together to less
 /// than [`MOST_SPAN_WEIGHT`](crate::MOST_SPAN_WEIGHT). `NoMemory` only where no memory is found.
-/// One search over the points for each shipment, and beside it time that grows with the classes and
-/// with the classes of the spans.
+/// One search over the points for each shipment, where spans stand over a graph of its own, and
+/// beside it time that grows with the classes and with the classes of the spans.
 pub fn span_bound(
     alloc: Global,
     leaf: &Leaf,

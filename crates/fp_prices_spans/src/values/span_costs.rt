@@ -2,20 +2,22 @@
 ghost use Rattle.std.specs.Prelude.{ℕ, ◌≡◌, ◌<◌, ◌≤◌, All, IfOk, None, if◌then◌else◌, length, slice_index_or};
 ghost use Rattle.std.specs.Option.{option_map};
 ghost use Rattle.fp_model.specs.Problem.{IsValid};
+ghost use Rattle.fp_labels.specs.Labels.{IsSmallFor};
 ghost use Rattle.fp_timenodes.specs.declared.places.TheConstants.{MOST_POINTS};
 ghost use Rattle.fp_longestarcs.specs.Networks.{class_count, point_count};
 ghost use Rattle.fp_longestarcs.specs.Whole.{IsWholeNetwork};
 ghost use Rattle.fp_allowed.specs.Bits.{bit_of};
 ghost use Rattle.fp_prices.specs.ClassCosts.{IsFree};
+ghost use Rattle.fp_prices.specs.PointGraphs.{AreOriginLabelsBy};
 ghost use Rattle.fp_prices.specs.Points.{edges_of};
 ghost use Rattle.fp_prices_spans.specs.declared.spans.TheConstants.{MOST_SPAN_WEIGHT};
-ghost use Rattle.fp_prices_spans.specs.SpanCosts.{AreSpanCostsOf, IsLeastBySpans, IsSmallBySpans, cost_at};
+ghost use Rattle.fp_prices_spans.specs.SpanCosts.{AreSpanCostsOf, IsLeastBySpans, IsSmallBySpans, cost_at, heads_at};
 ghost use Rattle.fp_prices_spans.specs.SpanPricings.{IsSpanPricing};
 
 use crate::NoMemory;
 use crate::spans::Span;
 use crate::values::span_prices::fill_prices;
-use fp_labels::distances;
+use fp_labels::{Labels, distances};
 use fp_longestarcs::Network;
 use fp_model::Instance;
 use fp_prices::LeafPricing;
@@ -127,9 +129,34 @@ fn fill_costs(
     );
 }
 
-/// The least cost of a shipment under prices by spans, `None` exactly where it has no allowed timed
-/// walk. Prices and costs are put in anew. `NoMemory` only where no memory is found. One search over
-/// the points.
+// The least costs and walks of a shipment from its origin by the leaf's heads, where these are the
+// costs of the edges: over the round's graph where no span stands, so that there the heads are those
+// of the classes.
+fn labels(
+    alloc: Global,
+    by_spans: &SpanPricing,
+    shipment: u32,
+    costs: &[Option<u128>],
+) -> Result<Labels, NoMemory>
+    requires shipment { shipment < length by_spans.now.pricing.now.leaf.setting.problem.shipments }
+    requires edges { length costs.now ≡ length (edges_of by_spans.now.pricing.now.leaf.setting.problem by_spans.now.pricing.now.leaf.setting.network) }
+    requires small { All (IsSmallFor (point_count by_spans.now.pricing.now.leaf.setting.network)) costs.now }
+    ensures { IfOk result (λ labels. AreOriginLabelsBy by_spans.now.pricing.now.leaf.setting.problem by_spans.now.pricing.now.leaf.setting.network
+        (heads_at by_spans.now.pricing.now.leaf by_spans.now.spans.now shipment) costs.now shipment labels) }
+{
+    let leaf = by_spans.pricing.leaf();
+    let round = leaf.round();
+    let start = round.start(shipment);
+    if by_spans.spans.is_empty() {
+        return distances(alloc, round.graph(), costs, start);
+    }
+    let graph = leaf.graph(alloc, shipment)?;
+    distances(alloc, &graph, costs, start)
+}
+
+/// The least cost of a shipment under prices by spans, `None` exactly where it has no allowed walk by
+/// the leaf's heads. Prices and costs are put in anew. `NoMemory` only where no memory is found. One
+/// search over the points, and where spans stand one graph of them.
 pub(crate) fn least_cost(
     alloc: Global,
     by_spans: &SpanPricing,
@@ -148,6 +175,6 @@ pub(crate) fn least_cost(
 {
     let round = by_spans.pricing.leaf().round();
     fill_costs(by_spans, shipment, prices, costs);
-    let labels = distances(alloc, round.graph(), costs, round.start(shipment))?;
-    Ok(labels.to(round.end(shipment)))
+    let found = labels(alloc, by_spans, shipment, costs)?;
+    Ok(found.to(round.end(shipment)))
 }

@@ -1,13 +1,14 @@
 //! What leaves are worth under prices by spans, and which spans are refused.
 
 ghost use Rattle.std.specs.Prelude.{[], ◌≡◌, ◌-◌, ◌<◌, ◌≤◌, ◌^◌, ◌∷◌, All, IfOk, length};
+ghost use Rattle.fp_flatnet.specs.Belonging.{BelongsTo};
 ghost use Rattle.fp_prices_spans.specs.SpanLists.{IsSpanOf};
 
 use fp_flatnet::{Windows, initial};
 use fp_model::Instance;
 use fp_prices::{Kind, Leaf, LeafBound, NoMemory, RoundNetwork, Weight};
 use fp_prices_spans::{MOST_SPAN_WEIGHT, Span, SpanFault, check_charges, check_spans, span_bound};
-use fp_tests_examples::{TRIO, instance_of};
+use fp_tests_examples::{SLOW_WAY, TRIO, instance_of};
 use fp_tree::Side;
 use std::alloc::Global;
 use std::test::Fail;
@@ -98,6 +99,61 @@ fn grouped_span(
     })
 }
 
+// A span of the classes of the last arc from one point up to and without another, with the money of
+// its truck, and for all of which one shipment pays that truck.
+fn one_pays(
+    alloc: Global,
+    point: u32,
+    until: u32,
+    shipment: u32,
+) -> Result<Span, NoMemory>
+    ensures { IfOk result (λ span. span
+        ≡ record {
+          arc = 3;
+          point = point;
+          until = until;
+          money = 60000000;
+          charge = 0;
+          weights = (record { shipment = shipment; w = 60000000 }) ∷ [];
+          groups = [];
+        }) }
+{
+    let weights = vec![in alloc; Weight { shipment, w: 60_000_000 }]?;
+    Ok(Span {
+        arc: 3,
+        point,
+        until,
+        money: 60_000_000,
+        charge: 0,
+        weights,
+        groups: Vec::new(alloc),
+    })
+}
+
+// What a leaf of a round is worth by spans, and by linear prices where none holds. `None` where the
+// spans are refused.
+fn leaf_bound(
+    alloc: Global,
+    round: &RoundNetwork,
+    windows: &Windows,
+    spans: &[Span],
+    sides: &[Side],
+    forced: bool,
+) -> Result<Option<LeafBound>, NoMemory>
+    requires belongs { BelongsTo round.now.problem windows.now }
+    requires exist { All (IsSpanOf round.now.problem) spans.now }
+    requires few { length spans.now < 2 ^ 32 - 1 }
+{
+    match check_spans(alloc, round.instance(), spans)? {
+        Some(_) => Ok(None),
+        None => {
+            let leaf = Leaf::of(alloc, round, windows, sides)?;
+            let bound = span_bound(alloc, &leaf, &[], spans, Kind::Linear, forced)?;
+            Ok(Some(bound))
+        }
+    }
+}
+
 // What a leaf with the initial points is worth by spans, and by linear prices where none holds.
 // `None` where the spans are refused or a charge doesn't pay.
 fn spanned_bound(
@@ -116,15 +172,32 @@ fn spanned_bound(
     if check_charges(alloc, instance, &windows, &points, spans)?.is_some() {
         return Ok(None);
     }
-    match check_spans(alloc, instance, spans)? {
-        Some(_) => Ok(None),
-        None => {
-            let round = RoundNetwork::of(alloc, instance, &points, 0)?;
-            let leaf = Leaf::of(alloc, &round, &windows, sides)?;
-            let bound = span_bound(alloc, &leaf, &[], spans, Kind::Linear, forced)?;
-            Ok(Some(bound))
-        }
+    let round = RoundNetwork::of(alloc, instance, &points, 0)?;
+    leaf_bound(alloc, &round, &windows, spans, sides, forced)
+}
+
+// The same with one more point of the third terminal, plain.
+fn pointed_bound(
+    alloc: Global,
+    instance: &Instance,
+    at: u32,
+    spans: &[Span],
+    sides: &[Side],
+) -> Result<Option<LeafBound>, NoMemory>
+    requires third { 2 < length instance.now.terminals }
+    requires terminals { length instance.now.terminals ≤ 100 }
+    requires at { at ≤ 100 }
+    requires exist { All (IsSpanOf instance.now) spans.now }
+    requires few { length spans.now < 2 ^ 32 - 1 }
+{
+    let windows = Windows::of(alloc, instance)?;
+    let mut points = initial(alloc, instance, &windows)?;
+    points.add(alloc, 2, at, 1)?;
+    if check_charges(alloc, instance, &windows, &points, spans)?.is_some() {
+        return Ok(None);
     }
+    let round = RoundNetwork::of(alloc, instance, &points, 1)?;
+    leaf_bound(alloc, &round, &windows, spans, sides, false)
 }
 
 #[test]
@@ -220,6 +293,55 @@ fn groups_of_departures(rt: HostRuntime) -> Result<(), Fail> {
         check_spans(alloc, &instance, &after)?,
         Some(SpanFault::Order)
     );
+    Ok(())
+}
+
+// S1 comes to C by B at 20, and so it pays the truck of the span from the point on, where S2 pays
+// that of the span before it. With the point 21 its head is 10 and it goes free.
+#[test]
+fn later_heads(rt: HostRuntime) -> Result<(), Fail> {
+    let alloc = rt.alloc();
+    let instance = instance_of(alloc, SLOW_WAY)?;
+    assert!(rt; instance.terminals().len() == 4);
+    assert!(rt; instance.arcs().len() == 4);
+    assert!(rt; instance.shipments().len() == 2);
+    for (at, units) in [(16, 122), (20, 122), (21, 62)] {
+        let spans = vec![in alloc; one_pays(alloc, 10, at, 1)?, one_pays(alloc, at, 100_001, 0)?]?;
+        let want = LeafBound::Value {
+            value: 1_000_000 * units,
+        };
+        let is = pointed_bound(alloc, &instance, at, &spans, &[])?;
+        assert_eq!(rt; is, Some(want), "with the point {at}");
+        let linear = pointed_bound(alloc, &instance, at, &[], &[])?;
+        assert_eq!(rt; linear, Some(LeafBound::Value { value: 62_000_000 }));
+    }
+    Ok(())
+}
+
+// Where S1 may go by B alone and leaves C before 16, it has timed walks and none by later heads.
+#[test]
+fn empty_by_later_heads(rt: HostRuntime) -> Result<(), Fail> {
+    let alloc = rt.alloc();
+    let instance = instance_of(alloc, SLOW_WAY)?;
+    assert!(rt; instance.terminals().len() == 4);
+    assert!(rt; instance.arcs().len() == 4);
+    assert!(rt; instance.shipments().len() == 2);
+    let spans = vec![in alloc; one_pays(alloc, 10, 16, 1)?, one_pays(alloc, 16, 100_001, 0)?]?;
+    let sides = [
+        Side::Without {
+            shipment: 0,
+            arc: 0,
+        },
+        Side::Before {
+            shipment: 0,
+            terminal: 2,
+            at: 16,
+        },
+    ];
+    let empty = pointed_bound(alloc, &instance, 16, &spans, &sides)?;
+    assert_eq!(rt; empty, Some(LeafBound::Empty { shipment: 0 }));
+    let linear = pointed_bound(alloc, &instance, 16, &[], &sides)?;
+    assert_eq!(rt; linear, Some(LeafBound::Value { value: 62_000_000 }));
     Ok(())
 }
 
