@@ -42,4 +42,5 @@ pub mod SpanAppends
 mod EqualWeights
 mod Examples
 mod DetourExamples
+mod HeadExamples
 mod GroupExamples

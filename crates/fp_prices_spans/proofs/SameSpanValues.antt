@@ -70,7 +70,6 @@ module _ (p : Problem) (valid : IsValid p) (windows : ℕ → ℕ → Option Win
       back : (k : ℕ) (walk : List Leg) → IsWalkBy p (leaf_heads p windows others spans k) (is_allowed p windows others sides k) (shipment_at p k) walk →
           IsWalkBy p (leaf_heads p windows points spans k) (is_allowed p windows points sides k) (shipment_at p k) walk
       back k walk goes = leaf_walk-same p valid others points (AgreeOnPoints_sym p points others same) windows sides spans k (shipment_at p k) walk goes
-
   span_bound-same tables spans kind forced (Value value) is = span_value-same tables spans kind forced value is
 
 -- a bound over a network's points is one over the points as of its round

@@ -1,18 +1,17 @@
 -- No plan of a leaf costs less than the leaf is worth under prices by spans.
-use Rattle.std.proofs.Common.{◌≡◌, ◌≢◌, ℕ, ◌+◌, ◌*◌, ◌≤◌, Bool, true, false, refl, List, [], ◌∷◌, length, map, sym, ap, ◌∙◌, arith}
-use Rattle.std.specs.Prelude.{sum_by, ◌==◌}
+use Rattle.std.proofs.Common.{◌≡◌, ℕ, ◌+◌, ◌*◌, ◌≤◌, Bool, true, refl, List, [], ◌∷◌, length, map, ap, ◌∙◌, arith}
+use Rattle.std.specs.Prelude.{sum_by}
 use Rattle.std.specs.List.{AllByRecursion, AllZip}
-use Rattle.std.proofs.lemmas.Bool.{and_left, ne_eqb, or_from}
 use Rattle.std.proofs.lemmas.List.{length-map}
 use Rattle.std.proofs.lemmas.List.Elements.{All-get_or, recursion_from_All}
 use Rattle.std.proofs.lemmas.Slice.Zip.{AllZip-long}
 use Rattle.fp_base_lists.specs.Distinct.{AreDistinct}
 use Rattle.fp_base_lists.specs.Numbered.{AllFrom}
-use Rattle.fp_base_lists.proofs.Distinct.{AreDistinct-from_map, AreDistinct-head, AreDistinct-tail}
+use Rattle.fp_base_lists.proofs.Distinct.{AreDistinct-from_map, AreDistinct-tail}
 use Rattle.fp_base_lists.proofs.Elements.{AllByRecursion-from_map}
 use Rattle.fp_model.specs.declared.parts.Leg.{Leg}
 use Rattle.fp_model.specs.declared.parts.Shipment.{Shipment}
-use Rattle.fp_model.specs.Costs.{all_legs, departures_cost, flow_total, has_leg, same_leg}
+use Rattle.fp_model.specs.Costs.{all_legs, departures_cost, flow_total}
 use Rattle.fp_model.specs.Problem.{Problem, IsArc, arc_at, no_arc}
 use Rattle.fp_model.specs.Routes.{Carries, arcs_of, ends_of}
 use Rattle.fp_model.proofs.Joins.{flow_joins}
@@ -23,7 +22,7 @@ use Rattle.fp_allowed.proofs.PlanClasses.{plan_timed}
 use Rattle.fp_prices.proofs.ClassPrices.{AreWalks}
 use Rattle.fp_prices.proofs.LeafSums.{costs-le_by}
 use Rattle.fp_prices.proofs.PlanBounds.{size_at, sizes-agree}
-use Rattle.fp_prices.proofs.TakenByClasses.{NoneTwice, NoneTwiceInAny, paid}
+use Rattle.fp_prices.proofs.TakenByClasses.{NoneTwiceInAny, paid}
 use Rattle.fp_prices.proofs.Users.{users-few}
 use Rattle.fp_prices.proofs.WalkClasses.{AreTimedWalks, chains-among, classes-once, none-twice, used-allowed, used-exist}
 use Rattle.fp_prices_spans.specs.SpanLeaves.{SpanValuesBoundPlans, leaf_heads}

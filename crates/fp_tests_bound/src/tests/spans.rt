@@ -101,12 +101,7 @@ fn grouped_span(
 
 // A span of the classes of the last arc from one point up to and without another, with the money of
 // its truck, and for all of which one shipment pays that truck.
-fn one_pays(
-    alloc: Global,
-    point: u32,
-    until: u32,
-    shipment: u32,
-) -> Result<Span, NoMemory>
+fn one_pays(alloc: Global, point: u32, until: u32, shipment: u32) -> Result<Span, NoMemory>
     ensures { IfOk result (λ span. span
         ≡ record {
           arc = 3;
@@ -118,7 +113,12 @@ fn one_pays(
           groups = [];
         }) }
 {
-    let weights = vec![in alloc; Weight { shipment, w: 60_000_000 }]?;
+    let weights = vec![in alloc;
+        Weight {
+            shipment,
+            w: 60_000_000
+        },
+    ]?;
     Ok(Span {
         arc: 3,
         point,
@@ -306,7 +306,10 @@ fn later_heads(rt: HostRuntime) -> Result<(), Fail> {
     assert!(rt; instance.arcs().len() == 4);
     assert!(rt; instance.shipments().len() == 2);
     for (at, units) in [(16, 122), (20, 122), (21, 62)] {
-        let spans = vec![in alloc; one_pays(alloc, 10, at, 1)?, one_pays(alloc, at, 100_001, 0)?]?;
+        let spans = vec![in alloc;
+            one_pays(alloc, 10, at, 1)?,
+            one_pays(alloc, at, 100_001, 0)?,
+        ]?;
         let want = LeafBound::Value {
             value: 1_000_000 * units,
         };
@@ -326,7 +329,10 @@ fn empty_by_later_heads(rt: HostRuntime) -> Result<(), Fail> {
     assert!(rt; instance.terminals().len() == 4);
     assert!(rt; instance.arcs().len() == 4);
     assert!(rt; instance.shipments().len() == 2);
-    let spans = vec![in alloc; one_pays(alloc, 10, 16, 1)?, one_pays(alloc, 16, 100_001, 0)?]?;
+    let spans = vec![in alloc;
+        one_pays(alloc, 10, 16, 1)?,
+        one_pays(alloc, 16, 100_001, 0)?,
+    ]?;
     let sides = [
         Side::Without {
             shipment: 0,
