@@ -121,7 +121,11 @@ fn heads_for_a_shipment(rt: HostRuntime) -> Result<(), Fail> {
         assert_eq!(rt; allowed.head(0, 2, 0), want, "for S1, with the point {at}");
         assert!(rt; network.is_point(0, 0));
         assert_eq!(rt; allowed.head(0, 0, 0), 10, "straight, with the point {at}");
-        assert_eq!(rt; allowed.head(1, 2, 0), 10, "without a window, with the point {at}");
+        assert_eq!(rt;
+            allowed.head(1, 2, 0),
+            10,
+            "without a window, with the point {at}"
+        );
     }
     Ok(())
 }
