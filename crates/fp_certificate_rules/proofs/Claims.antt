@@ -27,10 +27,12 @@ use Rattle.fp_tree.specs.declared.sides.Split.TheVariants.{ByArc, ByTime}
 use Rattle.fp_tree.specs.Sides.{Exit, IsTailOfSplit, Meets, MeetsAll}
 use Rattle.fp_tree.specs.Trees.{HaveTails, Leaf, tree_leaves}
 use Rattle.fp_prices.specs.declared.leaf_prices.LeafPrice.{LeafPrice}
-use Rattle.fp_prices.specs.Leaves.{IsLeafEmpty, IsPlanOfLeaf}
-use Rattle.fp_prices.proofs.PlanBounds.{leaf-empty}
+use Rattle.fp_prices.specs.Leaves.{IsPlanOfLeaf}
 use Rattle.fp_prices.proofs.PlanLeaves.{plan-obeys-leaf}
 use Rattle.fp_prices_spans.specs.SpanKinds.{IsPricedValue, spans_beside}
+use Rattle.fp_prices_spans.specs.SpanLeaves.{IsSpanLeafEmpty}
+use Rattle.fp_prices_spans.specs.Spans.{ClassSpan}
+use Rattle.fp_prices_spans.proofs.LeafHeads.{leaf_route-walk}
 use Rattle.fp_prices_spans.proofs.SpanBounds.{span_leaf-bounds}
 use Rattle.fp_certificate_lines.specs.declared.certificates.Answer.{Answer}
 use Rattle.fp_certificate_lines.specs.declared.certificates.Answer.TheVariants.{Direct, Optimal, Unfinished, Infeasible}
@@ -80,6 +82,12 @@ of-first-sides p windows d plan v sides of_leaf = record {
   obeys = obey-first p d 0 v.sides sides plan of_leaf.obeys;
 }
 
+-- a leaf that is empty by its heads has no plan: the classes of a plan's route are a walk by them
+span_leaf-empty : (p : Problem) (windows : ℕ → ℕ → Option Window) (points : ℕ → List ℕ) (sides : List Side) (spans : List ClassSpan) → IsSpanLeafEmpty p windows points sides spans → (d : ℕ) (plan : List (List Leg)) →
+    IsPlanOfLeaf p windows sides d plan → ⊥
+span_leaf-empty p windows points sides spans empty d plan of_leaf =
+    empty.none _ (leaf_route-walk p windows points sides spans d empty.shipment plan empty.exists of_leaf)
+
 -- a plan of a leaf costs at least what the leaf is worth
 IsLeafWorth-cost : (p : Problem) (table : WindowTable) (c : Statement) (claim d : ℕ) (plan : List (List Leg)) (x : Node) (sides : List Side) → IsValid p → AreKept p table c →
     IsPlanOfLeaf p (windows_in table) sides d plan → IsLeafWorth p table c claim x sides → claim ≤ cost p plan
@@ -88,7 +96,8 @@ IsLeafWorth-cost p table c claim d plan (node.Leaf v) sides valid keep of_leaf w
     let price : LeafPrice = v.price in
     let points : ℕ → List ℕ = points_as_of p table.anchors c price.round in
     ⊎_elim
-    (λ (empty : IsLeafEmpty p (windows_in table) points sides). absurd (leaf-empty p (windows_in table) points sides empty d plan of_leaf))
+    (λ (empty : IsSpanLeafEmpty p (windows_in table) points sides (spans_beside c.spans price.kind)).
+    absurd (span_leaf-empty p (windows_in table) points sides (spans_beside c.spans price.kind) empty d plan of_leaf))
     (λ (leaf : (value : ℕ) × IsPricedValue p (windows_in table) points (sides_valued v sides) c.tables c.spans price.kind price.forced value × (claim ≤ rounded_up c.unit (div_ceil value p.scale))).
     let le : leaf.0 ≤ p.scale * cost p plan = span_leaf-bounds p (windows_in table) (initial_points p table.anchors) points (sides_valued v sides) c.tables (spans_beside c.spans price.kind) price.kind price.forced leaf.0 valid
     (initial-among p table.anchors c.points price.round) keep.tables (keep.spans price.kind) leaf.1 d plan (of-first-sides p (windows_in table) d plan v sides of_leaf) in
