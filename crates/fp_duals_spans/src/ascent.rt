@@ -3,3 +3,4 @@ pub(crate) mod averages;
 pub(crate) mod directions;
 pub(crate) mod exact_ascent;
 pub(crate) mod subgradients;
+pub(crate) mod ties;

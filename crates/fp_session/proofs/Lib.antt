@@ -1,4 +1,3 @@
-pub mod RefinedPoints
 pub mod GrownWorths
 pub mod ImprovedLeaves
 pub mod TreeChanges

@@ -31,7 +31,8 @@ use Rattle.fp_session_history.specs.Traces.{IsEarnedRound}
 use Rattle.fp_session_history.proofs.HistoryPoints.{AgreeOnPoints-history, greatest_round-history, horizon-in_time}
 use Rattle.fp_session.specs.declared.searches.Search.{Search}
 use Rattle.fp_session.specs.Moves.{points_now}
-use Rattle.fp_session.specs.Refining.{ArePlacesOf, CanAdd, IsPlaceAmong}
+use Rattle.fp_session_clashes.specs.Places.{ArePlacesOf, IsPlaceAmong}
+use Rattle.fp_session_clashes.specs.Refining.{CanAdd}
 use Rattle.fp_session.specs.Searches.{IsSearch, history}
 
 module _ (s : Search) (prices : PriceLists) (is : IsSearch s prices) where

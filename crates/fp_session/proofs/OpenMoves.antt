@@ -31,21 +31,24 @@ use Rattle.fp_relaxmodel.proofs.RelaxedWalks.{IsRelaxedPlan-timed}
 use Rattle.fp_prices.specs.Rounds.{LeafModel}
 use Rattle.fp_session_history.specs.declared.endings.Left.{Left}
 use Rattle.fp_session_history.specs.declared.endings.Left.TheVariants as left
-use Rattle.fp_session_history.specs.Notes.{last_round, worth_of}
+use Rattle.fp_session_history.specs.Notes.{Refinement, last_round, worth_of}
 use Rattle.fp_session_history.specs.Solutions.{AreWalksUnder, HasSeveral}
 use Rattle.fp_session.specs.declared.dividing.Several.{Several}
 use Rattle.fp_session.specs.declared.kept.Kept.{Kept}
 use Rattle.fp_session.specs.declared.moves.Move.{Move}
 use Rattle.fp_session.specs.declared.moves.Move.TheVariants as move
+use Rattle.fp_session_clashes.specs.declared.refining.RefinedNetwork.{RefinedNetwork}
 use Rattle.fp_session.specs.declared.payloads.Payload.{Payload}
 use Rattle.fp_session.specs.declared.searches.Search.{Search}
 use Rattle.fp_session.specs.Dividing.{IsSeveral, NoneSeveral}
-use Rattle.fp_session.specs.Moves.{AtOpenLeaf, HasReserve, IsLate, IsLeftAt, IsMove, IsMoveAt, IsOpenMove, IsStopAt, IsUnsettled, LeavesNoLess, points_now}
+use Rattle.fp_session.specs.Moves.{AtOpenLeaf, HasReserve, IsLate, IsLeftAt, IsMove, IsMoveAt, IsNextRound, IsOpenMove, IsStopAt, IsUnsettled, LeavesNoLess, points_now}
 use Rattle.fp_session.specs.Nodes.{HasNoMore, IsKept, IsKeptAs, IsLeafOf, IsSettled}
+use Rattle.fp_session.specs.Order.{AreWalksHad}
 use Rattle.fp_session.specs.Outcomes.{IsFound, noted_kept}
 use Rattle.fp_session.specs.Preparations.{IsRaised}
 use Rattle.fp_duals_leaves.specs.Prices.{ArePrices, HaveGrown, PriceLists}
-use Rattle.fp_session.specs.Searches.{IsSearch, history, setting_of}
+use Rattle.fp_session_looks.specs.declared.cheaper.Cheaper.{Cheaper}
+use Rattle.fp_session.specs.Searches.{IsCheaper, IsSearch, history, in_hand, setting_of}
 use Rattle.fp_session.proofs.Applied.{of-value, some-value}
 use Rattle.fp_session.proofs.GrownWorths.{worth-grown}
 use Rattle.fp_duals_leaves.proofs.GrownPrices.{unit-some}
@@ -117,7 +120,7 @@ pub IsMoveAt-open : (s : Search) (prices : PriceLists) (leaf : ℕ) (sides : Lis
 IsMoveAt-open s prices leaf sides kept move.Close unsettled is = absurd is
 IsMoveAt-open s prices leaf sides kept (move.Better cheaper) unsettled is = is
 IsMoveAt-open s prices leaf sides kept move.TakeReserve unsettled is = is
-IsMoveAt-open s prices leaf sides kept (move.Refine note refined) unsettled is = (unsettled, is.0, is.1)
+IsMoveAt-open s prices leaf sides kept (move.Refine note refined) unsettled is = (record { some = unsettled.some; below = unsettled.below }, is.0, is.1)
 IsMoveAt-open s prices leaf sides kept (move.Divide division) unsettled is = (unsettled, is.0, is.1, is.2)
 IsMoveAt-open s prices leaf sides kept (move.Stop left) unsettled is = (unsettled, IsStopAt-left s leaf sides left is.0, is.1)
 
@@ -283,6 +286,20 @@ module _ (s : Search) (prices : PriceLists) (k : ℕ) (old : Kept) (is : IsSearc
   -- the plan in reserve is taken where there is one
   pub reserve-stays : HasReserve s → IsMove s prices k old move.TakeReserve
   reserve-stays some = stays move.TakeReserve some tt
+
+  -- a cheaper plan is taken
+  pub better-stays : (c : Cheaper) → IsCheaper s c → IsMove s prices k old (move.Better c)
+  better-stays c cheaper = stays (move.Better c) cheaper tt
+
+  -- a round is added that is called for by walks under its sides
+  pub round-stays : (sides : List Side) (note : Refinement) (refined : RefinedNetwork) → IsSomeAnd (leaf_at s.tree k) (λ (l : Leaf (Node Payload)). l.sides ≡ sides) → old.payload.empty ≡ false →
+      worth_of (history s prices) old.value < s.cost → IsNextRound s note refined → AreWalksHad (in_hand s) sides note.relaxed → IsMove s prices k old (move.Refine note refined)
+  round-stays sides note refined there some below next under =
+      stays (move.Refine note refined) (
+        record { some = some; below = below },
+        next,
+        subst (λ (ss : List Side). AreWalksHad (in_hand s) ss note.relaxed) (sym (of-value (leaf_at s.tree k) found.0 (λ (l : Leaf (Node Payload)). l.sides ≡ sides) found.1 there)) under,
+      ) tt
 
   -- and this is done where the time is over, and it was priced as of the last round
   pub late-stays : (m : Move) → old.payload.empty ≡ false → worth_of (history s prices) old.value < s.cost → last_round (history s prices) ≤ old.payload.valuation.price.round → IsLate s k m → IsMove s prices k old m

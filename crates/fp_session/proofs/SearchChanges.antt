@@ -31,7 +31,7 @@ use Rattle.fp_session_history.proofs.Stays.{IsEarnedAt-with_note, IsEarnedSplit-
 use Rattle.fp_session_looks.specs.declared.cheaper.Cheaper.{Cheaper}
 use Rattle.fp_session_looks.specs.Plans.{IsBelow}
 use Rattle.fp_session.specs.declared.moves.Division.{Division}
-use Rattle.fp_session.specs.declared.moves.Refined.{Refined}
+use Rattle.fp_session_clashes.specs.declared.refining.RefinedNetwork.{RefinedNetwork}
 use Rattle.fp_session.specs.declared.payloads.Payload.{Payload}
 use Rattle.fp_session.specs.declared.preparations.Preparation.{Preparation}
 use Rattle.fp_session.specs.declared.searches.Search.{Search}
@@ -237,7 +237,7 @@ module _ (s : Search) (prices : PriceLists) (is : IsSearch s prices) (going : s.
     }
 
   -- one more round
-  pub IsSearch-refine : (note : Refinement) (r : Refined) (trace : Vec Refinement Global) → trace.items ≡ s.trace.items ++ (note ∷ []) → IsNextRound s note r →
+  pub IsSearch-refine : (note : Refinement) (r : RefinedNetwork) (trace : Vec Refinement Global) → trace.items ≡ s.trace.items ++ (note ∷ []) → IsNextRound s note r →
       IsSearch (record s { points = r.points; network = r.network; trace = trace }) prices
   IsSearch-refine note r trace grown next = record {
     belongs = is.belongs;

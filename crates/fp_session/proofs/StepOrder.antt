@@ -21,7 +21,7 @@ use Rattle.fp_session_looks.specs.declared.cheaper.Cheaper.{Cheaper}
 use Rattle.fp_session.specs.declared.moves.Division.{Division}
 use Rattle.fp_session.specs.declared.moves.Move.{Move}
 use Rattle.fp_session.specs.declared.moves.Move.TheVariants as move
-use Rattle.fp_session.specs.declared.moves.Refined.{Refined}
+use Rattle.fp_session_clashes.specs.declared.refining.RefinedNetwork.{RefinedNetwork}
 use Rattle.fp_session.specs.declared.payloads.Payload.{Payload}
 use Rattle.fp_session.specs.declared.preparations.Preparation.{Preparation}
 use Rattle.fp_session.specs.declared.searches.Search.{Search}
@@ -79,7 +79,7 @@ module _ (s : Search) (prices : PriceLists) (k : ℕ) (kept : Kept) (m : Move) (
   better-order t u c reserve preparation tree taken = works u step.Better (ap (λ (x : Search). x.tree) taken ∙ tree)
 
   -- a round that is added
-  pub round-order : (t u : Search) (note : Refinement) (r : Refined) → m ≡ move.Refine note r → in_hand t ≡ with_round (in_hand s) note r t.preparation → u ≡ with_tree t u.tree →
+  pub round-order : (t u : Search) (note : Refinement) (r : RefinedNetwork) → m ≡ move.Refine note r → in_hand t ≡ with_round (in_hand s) note r t.preparation → u ≡ with_tree t u.tree →
       u.tree ≡ with_kept k kept t.tree → IsInOrder prices.unit (in_hand s) (in_hand u) step.Round
   round-order t u note r same with others tree = works u step.Round
       (record {

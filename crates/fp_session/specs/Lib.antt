@@ -1,6 +1,5 @@
 pub mod Nodes
 pub mod Searches
-pub mod Refining
 pub mod Outcomes
 pub mod Order
 pub mod Moves

@@ -20,12 +20,12 @@ use Rattle.fp_session.specs.declared.kept.Kept.{Kept}
 use Rattle.fp_session.specs.declared.moves.Division.{Division}
 use Rattle.fp_session.specs.declared.moves.Move.{Move}
 use Rattle.fp_session.specs.declared.moves.Move.TheVariants as move
-use Rattle.fp_session.specs.declared.moves.Refined.{Refined}
+use Rattle.fp_session_clashes.specs.declared.refining.RefinedNetwork.{RefinedNetwork}
 use Rattle.fp_session.specs.declared.payloads.Payload.{Payload}
 use Rattle.fp_session.specs.declared.searches.Search.{Search}
 use Rattle.fp_session.specs.Nodes.{HasNoMore, IsKept, IsRaisedTo, IsSettled}
 use Rattle.fp_session.specs.Outcomes.{IsAtLeastStarts}
-use Rattle.fp_session.specs.Refining.{IsRefined}
+use Rattle.fp_session_clashes.specs.Refining.{IsRefined}
 use Rattle.fp_session.specs.Order.{AreWalksHad, HasDearWalks}
 use Rattle.fp_session.specs.Searches.{IsCheaper, history, in_hand}
 
@@ -38,7 +38,7 @@ abbrev pub HasReserve : Search → Type 0
 HasReserve s = IsSomeAnd s.reserve (λ cheaper. ⊤)
 
 -- one more round, with the incumbent of the moment: it is earned, and there is one left
-pub record IsNextRound (s : Search) (note : Refinement) (r : Refined) : Type 0 where
+pub record IsNextRound (s : Search) (note : Refinement) (r : RefinedNetwork) : Type 0 where
   pub left : last_round (history s no_prices) < s.budget.rounds
   pub round : note.round ≡ last_round (history s no_prices) + 1
   pub incumbent : note.incumbent ≡ s.cost
@@ -95,6 +95,11 @@ pub record IsUnsettled (h : History) (cost : ℕ) (sides : List Side) (kept : Ke
   pub below : worth_of h kept.value < cost
   pub starts : IsAtLeastStarts h sides kept.value
 
+-- a leaf isn't empty and is worth less than the cost
+pub record IsWorthLess (h : History) (cost : ℕ) (kept : Kept) : Type 0 where
+  pub some : kept.payload.empty ≡ false
+  pub below : worth_of h kept.value < cost
+
 -- what a step may do at a leaf that has something to search for: it adds a round by walks under its sides, and divides it only where no
 -- cheaper plan can come of such walks
 abbrev pub IsOpenMove : Search → PriceLists → (leaf : ℕ) → List Side → Move → Type 0
@@ -111,7 +116,7 @@ IsMoveAt s prices leaf sides kept move.Close = IsSettled (history s prices) s.co
 IsMoveAt s prices leaf sides kept (move.Better cheaper) = IsCheaper s cheaper
 IsMoveAt s prices leaf sides kept move.TakeReserve = HasReserve s
 IsMoveAt s prices leaf sides kept (move.Refine note refined) =
-    IsUnsettled (history s prices) s.cost sides kept × IsNextRound s note refined × AreWalksHad (in_hand s) sides note.relaxed
+    IsWorthLess (history s prices) s.cost kept × IsNextRound s note refined × AreWalksHad (in_hand s) sides note.relaxed
 IsMoveAt s prices leaf sides kept (move.Divide division) =
     IsUnsettled (history s prices) s.cost sides kept × (split_count s.tree < s.budget.branches) × IsDivision (history s prices) sides division × HasDearWalks (in_hand s) sides
 IsMoveAt s prices leaf sides kept (move.Stop left) = IsUnsettled (history s prices) s.cost sides kept × IsStopAt s leaf sides left × (s.reserve ≡ None)

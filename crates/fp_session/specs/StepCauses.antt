@@ -9,7 +9,7 @@ use Rattle.fp_session_history.specs.declared.endings.Left.{Left}
 use Rattle.fp_session_history.specs.declared.endings.Left.TheVariants.{Nothing, Several, Timing, Unsettled}
 use Rattle.fp_session_history.specs.Notes.{Refinement}
 use Rattle.fp_session_looks.specs.declared.cheaper.Cheaper.{Cheaper}
-use Rattle.fp_session.specs.declared.moves.Refined.{Refined}
+use Rattle.fp_session_clashes.specs.declared.refining.RefinedNetwork.{RefinedNetwork}
 use Rattle.fp_session.specs.declared.payloads.Payload.{Payload}
 use Rattle.fp_session.specs.declared.preparations.Preparation.{Preparation}
 use Rattle.fp_session.specs.declared.searches.Search.{Search}
@@ -39,5 +39,5 @@ abbrev pub with_reserve : Search → Option Cheaper → Preparation → Search
 with_reserve s reserve preparation = record s { reserve = reserve; preparation = preparation }
 
 -- one more round, with what is done next before a step
-abbrev pub with_round : InHand → Refinement → Refined → Preparation → InHand
+abbrev pub with_round : InHand → Refinement → RefinedNetwork → Preparation → InHand
 with_round h note r preparation = record h { points = r.points; network = r.network; trace = h.trace ++ (note ∷ []); preparation = preparation }

@@ -1,17 +1,9 @@
 //! What a step is going to do, worked out before anything changes.
 use crate::kept::Kept;
-use fp_longestarcs::Network;
+use fp_session_clashes::RefinedNetwork;
 use fp_session_history::{Left, RoundNote};
 use fp_session_looks::Cheaper;
-use fp_timenodes::Points;
 use fp_tree::Split;
-
-// The points with those that a round adds, and the network with them.
-#[derive(Drop)]
-pub(crate) struct Refined {
-    pub points: Points,
-    pub network: Network,
-}
 
 // A split, with the terminal that its arc leaves, and the two leaves below it.
 #[derive(Clone, Copy, Debug, PartialEq, Eq)]
@@ -26,10 +18,19 @@ pub(crate) struct Division {
 #[derive(Drop)]
 pub(crate) enum Move {
     Close,
-    Better { cheaper: Cheaper },
+    Better {
+        cheaper: Cheaper,
+    },
     // The plan in reserve becomes the incumbent.
     TakeReserve,
-    Refine { note: RoundNote, refined: Refined },
-    Divide { division: Division },
-    Stop { left: Left },
+    Refine {
+        note: RoundNote,
+        refined: RefinedNetwork,
+    },
+    Divide {
+        division: Division,
+    },
+    Stop {
+        left: Left,
+    },
 }

@@ -26,14 +26,16 @@ use crate::leaves::{kept_at, sides_at};
 use crate::moves::{Division, Move};
 use crate::outcomes::Outcome;
 use crate::searches::Search;
+use crate::series::{are_fruitful, series_move};
 use crate::timing::{Timing, timed};
-use crate::walks::{are_cheaper, cheaper_walks, walks_by_price, walks_to_split_by};
+use crate::walks::{cheaper_walks, walks_by_price, walks_to_split_by};
 use crate::worths::{is_dear, is_dear_to_reserve};
 use fp_duals_leaves::Prices;
 use fp_duals_nets::LentNets;
 use fp_ends::{Deadline, Resources};
 use fp_prices::{Leaf, RoundNetwork};
 use fp_relaxmodel::{RelaxedPlan, TimedWalk};
+use fp_session_clashes::are_cheaper;
 use fp_session_history::Left;
 use std::alloc::Global;
 
@@ -144,6 +146,7 @@ fn move_by<D: Deadline>(
     requires search { IsSearch search.now prices.old }
     requires going { search.now.left ≡ None }
     requires setting { leaf.now.setting ≡ setting_of search.now }
+    requires leaf { number < leaf_count search.now.tree }
     requires found { IsFound (history search.now prices.old) leaf.now.sides found.kept found.relaxed }
     requires below { worth_of (history search.now prices.old) found.kept.value < search.now.cost }
     requires deep { length leaf.now.sides ≤ MOST_SPLITS }
@@ -157,15 +160,15 @@ fn move_by<D: Deadline>(
         by_tables,
     } = found;
     let least = &relaxed.walks;
-    let priced = kept.payload.valuation.price.round;
-    if let Some(cheaper) = cheaper_walks(resources, search, leaf, nets, least, priced, prices)? {
+    let fruitful = are_fruitful(search, kept_at(search, number), kept);
+    if let Some(cheaper) = cheaper_walks(resources, search, leaf, nets, least, fruitful, prices)? {
         match timed_move(resources, search, leaf, number, cheaper, prices)? {
             // No round is left, but a branch is.
             Move::Stop { .. } if has_branches(search) => {}
             planned => return Ok(planned),
         }
     }
-    if are_cheaper(search, &relaxed) {
+    if are_cheaper(&search.instance, &relaxed, search.cost) {
         return timed_move(resources, search, leaf, number, relaxed, prices);
     }
     if search.reserve.is_some() {
@@ -266,6 +269,9 @@ fn open_move<D: Deadline>(
     let round = RoundNetwork::over(resources.alloc, &search.instance, network)?;
     let sides = sides_at(resources.alloc, search, number)?;
     let leaf = Leaf::of(resources.alloc, &round, &search.windows, &sides)?;
+    if let Some(planned) = series_move(resources, search, &leaf, number, old, prices)? {
+        return Ok(planned);
+    }
     let mut nets = LentNets::new();
     match chosen(resources, search, &leaf, &mut nets, old, prices)? {
         Outcome::Empty { kept } => Ok(Planned {

@@ -15,13 +15,13 @@ use crate::outcomes::Outcome;
 use crate::preparations::{NOTHING, Prepared};
 use crate::searches::Search;
 use crate::timing::{Timing, timed};
-use crate::walks::are_cheaper;
 use fp_duals::Effort;
 use fp_duals_leaves::{PriceEffort, Prices};
 use fp_duals_nets::LentNets;
 use fp_ends::{Deadline, Resources};
 use fp_prices::{Kind, Leaf, LeafPrice, RoundNetwork};
 use fp_relaxmodel::{RelaxedPlan, TimedWalk};
+use fp_session_clashes::are_cheaper;
 use fp_session_looks::Cheaper;
 
 // An open leaf with a better price.
@@ -97,7 +97,7 @@ fn plan_of_walks<D: Deadline>(
     ensures { IfOk result (λ found. IfSome found (IsCheaper search.now)) }
 {
     let relaxed = RelaxedPlan { walks };
-    if !are_timed || !are_cheaper(search, &relaxed) {
+    if !are_timed || !are_cheaper(&search.instance, &relaxed, search.cost) {
         return Ok(None);
     }
     match timed(resources, search, prices, relaxed)? {

@@ -10,13 +10,12 @@ ghost use Rattle.fp_session.specs.Timing.{IsTiming};
 ghost use Rattle.fp_session_history.specs.Notes.{last_round};
 
 use crate::NoMemory;
-use crate::moves::Refined;
-use crate::refining::{places_of, refined};
 use crate::searches::Search;
 use fp_duals_leaves::Prices;
 use fp_ends::{Deadline, Resources};
 use fp_relaxmodel::RelaxedPlan;
 use fp_repair::repair_within;
+use fp_session_clashes::{RefinedNetwork, refined, round_places};
 use fp_session_history::RoundNote;
 use fp_session_looks::Cheaper;
 use fp_shortarcs::too_short;
@@ -27,7 +26,7 @@ use std::alloc::Global;
 #[derive(Drop)]
 pub(crate) struct NextRound {
     pub note: RoundNote,
-    pub refined: Refined,
+    pub refined: RefinedNetwork,
 }
 
 // What comes of a relaxed plan that costs less than the incumbent: a cheaper plan; one more round; or the
@@ -39,8 +38,8 @@ pub(crate) enum Timing {
     Spent { relaxed: RelaxedPlan },
 }
 
-// One more round, for a relaxed plan that calls for it. The tables serve the contract alone, here
-// and below.
+// One more round, for a relaxed plan that calls for it: where spans are sought, it adds points where the
+// walks clash.
 fn next_round(
     alloc: Global,
     search: &Search,
@@ -61,7 +60,15 @@ fn next_round(
         &search.network,
         &relaxed,
     )?;
-    let added = places_of(alloc, &shorts)?;
+    let has_spans = prices.unit().is_some();
+    let added = round_places(
+        alloc,
+        &search.instance,
+        &search.windows,
+        &relaxed,
+        &shorts,
+        has_spans,
+    )?;
     let round = search.trace.len() as u32 + 1;
     let points = search.points.copy(alloc)?;
     let network = search.network.copy(alloc)?;

@@ -1,6 +1,7 @@
 //! The averaged direction of the ascent.
 
 use crate::NoMemory;
+use crate::ascent::ties::Ties;
 use fp_duals_layouts::{Charges, Layout, SpanPrices, of_span};
 use fp_duals_nets::{Net, Nets, last_edge};
 use std::alloc::Global;
@@ -24,6 +25,9 @@ pub(crate) struct Direction {
     pub walks: Vec<usize>,
     // The part of the newest walks, in parts of 64.
     fresh: u64,
+    // What moves together, and the payers that move.
+    ties: Ties,
+    pub pulled: Vec<usize>,
 }
 
 // What is left of a mean when the part of the newest walks is taken off; in the end nothing.
@@ -51,7 +55,12 @@ fn age_all(means: &mut [i64], fresh: u64) {
 
 impl Direction {
     /// No direction yet.
-    pub(crate) fn of(alloc: Global, layout: &Layout, fresh: u32) -> Result<Direction, NoMemory> {
+    pub(crate) fn of(
+        alloc: Global,
+        layout: &Layout,
+        shipments: usize,
+        fresh: u32,
+    ) -> Result<Direction, NoMemory> {
         Ok(Direction {
             means: vec![in alloc; 0i64; layout.payers.len()]?,
             moving: Vec::new(alloc),
@@ -59,6 +68,8 @@ impl Direction {
             trucks: vec![in alloc; 0i64; layout.spans.len()]?,
             walks: Vec::new(alloc),
             fresh: u64::from(fresh.min(64)),
+            ties: Ties::of(alloc, layout, shipments)?,
+            pulled: Vec::new(alloc),
         })
     }
 
@@ -87,12 +98,6 @@ impl Direction {
             }
         }
         Ok(sum)
-    }
-
-    /// The payer at a place among those whose means aren't 0; no payer's number where there is
-    /// none.
-    pub(crate) fn moving_at(&self, place: usize) -> usize {
-        self.moving.get(place).copied().unwrap_or(usize::MAX)
     }
 
     /// The mean of a payer.
@@ -211,9 +216,30 @@ impl Direction {
         gain
     }
 
+    /// Gathers what moves together, without what would lower prices below 0.
+    pub(crate) fn gather(&mut self, prices: &SpanPrices) -> Result<(), NoMemory> {
+        self.ties.clear();
+        for payer in &self.moving {
+            let mean = self.means.get(*payer).copied().unwrap_or(0);
+            let can_move = mean > 0 || prices.weight(*payer) > 0;
+            self.ties.gather(*payer, mean, can_move)?;
+        }
+        self.ties.list_members(&mut self.pulled)
+    }
+
+    /// The payer at a place among those that move; no payer's number where there is none.
+    pub(crate) fn pulled_at(&self, place: usize) -> usize {
+        self.pulled.get(place).copied().unwrap_or(usize::MAX)
+    }
+
+    /// How a payer moves: by its mean and by the sum of what moves together.
+    pub(crate) fn pull(&self, payer: usize) -> i64 {
+        self.mean(payer).wrapping_add(self.ties.sum(payer))
+    }
+
     /// The squared length of the direction, without what would lower prices and money below 0.
     pub(crate) fn norm(&self, layout: &Layout, prices: &SpanPrices) -> u64 {
-        let mut norm = 0u64;
+        let mut norm = self.ties.norm();
         for payer in &self.moving {
             let mean = self.mean(*payer);
             if mean > 0 || prices.weight(*payer) > 0 {

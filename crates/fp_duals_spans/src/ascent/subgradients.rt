@@ -49,7 +49,7 @@ impl Climb {
         let small = layout.payers.len() <= effort.small as usize;
         let least = if small { 1 } else { effort.least_level };
         let mut climb = Climb {
-            direction: Direction::of(alloc, layout, effort.fresh)?,
+            direction: Direction::of(alloc, layout, nets.list.len(), effort.fresh)?,
             averages: Averages::of(alloc, layout, effort)?,
             charges: Charges::of(alloc, layout, u64::from(effort.loads), merges)?,
             value: 0,
@@ -85,9 +85,9 @@ impl Climb {
         prices: &mut SpanPrices,
         rate: u64,
     ) {
-        for place in 0..self.direction.moving.len() {
-            let number = self.direction.moving_at(place);
-            let mean = self.direction.mean(number);
+        for place in 0..self.direction.pulled.len() {
+            let number = self.direction.pulled_at(place);
+            let mean = self.direction.pull(number);
             if let Some(payer) = layout.payers.get(number)
                 && let Some(weight) = prices.weights.get_mut(number)
             {
@@ -141,6 +141,7 @@ impl Climb {
         self.direction.turn(layout, nets, &self.charges, turn == 0)?;
         self.averages
             .turn(nets, &self.direction.walks, &self.charges, turn);
+        self.direction.gather(prices)?;
         let norm = self.direction.norm(layout, prices);
         if norm == 0 {
             return Ok(false);

@@ -27,6 +27,14 @@ over-requires-clause-whole g c = subst (IsWholeNetwork c.args.search.now.instanc
 pub over-requires-clause-few : goal.over-requires-clause-few
 over-requires-clause-few g c = subst (λ (net : TimedNetwork). point_count net ≤ MOST_POINTS) (sym c.in_ok-network.ensures) (few-points c.args.search.now c.args.prices.now c.requires.search)
 
+pub series_move-requires-clause-sides : goal.series_move-requires-clause-sides
+series_move-requires-clause-sides g c =
+    subst (λ (ss : List Side). IsSomeAnd (leaf_at c.args.search.now.tree c.args.number) (λ (l : Leaf (Node Payload)). l.sides ≡ ss)) (sym (c.in_ok-leaf.ensures.sides ∙ c.deref.ensures.value)) c.in_ok-sides.ensures
+
+pub returns-in-Some-clause-planned : goal.returns-in-Some-clause-planned
+returns-in-Some-clause-planned g c =
+    subst (λ (o : Option Planned). IfSome o (λ p. IsMove c.args.search.now c.args.prices.now c.args.number p.kept p.planned)) c.in-Some.is c.in_ok-planned.ensures.planned
+
 pub chosen-requires-clause-kept : goal.chosen-requires-clause-kept
 chosen-requires-clause-kept g c =
     was-kept c.args.search.now c.args.prices.now c.args.prices.now c.args.number c.in_ok-leaf.leaf.sides c.args.old c.requires.old

@@ -9,7 +9,8 @@ use Rattle.fp_shortarcs.specs.declared.shorts.Short.{Short}
 use Rattle.fp_relaxmodel.proofs.UniqueGroups.{groups-met}
 use Rattle.fp_session_history.specs.Notes.{Refinement, last_round}
 use Rattle.fp_session.specs.declared.searches.Search.{Search}
-use Rattle.fp_session.specs.Refining.{ArePlacesOf, CanAdd, IsRefined}
+use Rattle.fp_session_clashes.specs.Places.{ArePlacesOf}
+use Rattle.fp_session_clashes.specs.Refining.{CanAdd, IsRefined}
 use Rattle.fp_session.specs.Searches.{history}
 use Rattle.fp_session.proofs.NextRounds.{greatest-now, network-next, places-can, relaxed-now, round-earned}
 use Rattle.fp_session.proofs.timing.next_round.Goals as goal

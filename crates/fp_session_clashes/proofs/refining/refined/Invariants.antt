@@ -1,7 +1,7 @@
 use Rattle.std.proofs.Common.{ℕ, ◌<◌, ◌≤◌, take, length, get_or}
 use Rattle.fp_timenodes.specs.declared.places.Place.{Place}
-use Rattle.fp_session.specs.Refining.{CanAdd, IsRefined}
-use Rattle.fp_session.proofs.refining.refined.Given as goal
+use Rattle.fp_session_clashes.specs.Refining.{CanAdd, IsRefined}
+use Rattle.fp_session_clashes.proofs.refining.refined.Given as goal
 
 abbrev pub invariant-loop-place : goal.invariant-loop-place
 invariant-loop-place l = record {

@@ -13,10 +13,10 @@ use Rattle.fp_longestarcs.specs.Networks.{TimedNetwork}
 use Rattle.fp_longestarcs.specs.Changes.{refined, restored}
 use Rattle.fp_longestarcs.specs.Whole.{IsNetworkOf}
 use Rattle.fp_session_history.specs.Notes.{points_added}
-use Rattle.fp_session.specs.declared.moves.Refined.{Refined}
-use Rattle.fp_session.specs.Refining.{CanAdd, IsRefined}
-use Rattle.fp_session.proofs.RefinedPoints.{CanAdd-later, IsNetworkOf-more, greatest_round-with_added, point_of, with_added_more}
-use Rattle.fp_session.proofs.refining.refined.Goals as goal
+use Rattle.fp_session_clashes.specs.declared.refining.RefinedNetwork.{RefinedNetwork}
+use Rattle.fp_session_clashes.specs.Refining.{CanAdd, IsRefined}
+use Rattle.fp_session_clashes.proofs.RefinedPoints.{CanAdd-later, IsNetworkOf-more, greatest_round-with_added, point_of, with_added_more}
+use Rattle.fp_session_clashes.proofs.refining.refined.Goals as goal
 
 -- a point that wasn't there is new
 is-new : (a : Added) (b : Bool) (r : Result Added AllocError) → r ≡ Ok a → ((r ≡ Ok added.There) ↔ IsTrue b) → b ≡ false → r ≡ Ok added.New
@@ -24,7 +24,7 @@ is-new added.There b r was there none = absurd (false≢true (sym none ∙ there
 is-new added.New b r was there none = was
 
 -- the points and the network after a place is added
-grown : (p : Problem) (v w : TimePoints) (net more : TimedNetwork) (round : ℕ) (places : List Place) (i : ℕ) (d : Place) (r : Refined) → i < length places → IsRefined p v round (take i places) r →
+grown : (p : Problem) (v w : TimePoints) (net more : TimedNetwork) (round : ℕ) (places : List Place) (i : ℕ) (d : Place) (r : RefinedNetwork) → i < length places → IsRefined p v round (take i places) r →
     CanAdd p r.points round (get_or places i d) → w ≡ with_added r.points (point_of round (get_or places i d) ∷ []) →
     more ≡ restored p (refined p r.network (get_or places i d).terminal (get_or places i d).at) (get_or places i d).terminal (get_or places i d).at →
     IsRefined p v round (take (i + 1) places) (record { points = w; network = more })

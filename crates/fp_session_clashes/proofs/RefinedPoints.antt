@@ -16,7 +16,7 @@ use Rattle.fp_longestarcs.specs.Whole.{IsNetworkOf}
 use Rattle.fp_longestarcs.proofs.NetworkRounds.{IsNetworkOf-with_added}
 use Rattle.fp_longestarcs.proofs.NewPoints.{lengthened-whole}
 use Rattle.fp_session_history.specs.Notes.{points_added}
-use Rattle.fp_session.specs.Refining.{CanAdd}
+use Rattle.fp_session_clashes.specs.Refining.{CanAdd}
 
 -- a place as a point of a round
 abbrev pub point_of : ℕ → Place → AddedPoint
