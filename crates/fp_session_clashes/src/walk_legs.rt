@@ -141,8 +141,11 @@ impl WalkLegs {
             firsts: Vec::new(alloc),
             groups: Vec::new(alloc),
         };
-        for (shipment, walk) in walks.iter().enumerate() {
-            if !legs.add_walk(instance, windows, shipment as u32, &walk.stops)? {
+        for (number, walk) in walks.iter().enumerate() {
+            let Ok(shipment) = u32::try_from(number) else {
+                return Ok(None);
+            };
+            if !legs.add_walk(instance, windows, shipment, &walk.stops)? {
                 return Ok(None);
             }
         }

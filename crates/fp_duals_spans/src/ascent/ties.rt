@@ -86,7 +86,12 @@ impl Ties {
     }
 
     /// Adds the mean of a payer to the sum of its group, where it can move.
-    pub(crate) fn gather(&mut self, payer: usize, mean: i64, can_move: bool) -> Result<(), NoMemory> {
+    pub(crate) fn gather(
+        &mut self,
+        payer: usize,
+        mean: i64,
+        can_move: bool,
+    ) -> Result<(), NoMemory> {
         let Some(group) = self.groups.get(payer).copied() else {
             return Ok(());
         };
