@@ -17,13 +17,13 @@ use Rattle.fp_allowed.specs.Walks.{IsTimedWalk}
 use Rattle.fp_prices.specs.declared.leaf_prices.Kind.{Kind}
 use Rattle.fp_prices.specs.declared.leaf_prices.Kind.TheVariants.{Even, Linear, Table}
 use Rattle.fp_prices.specs.declared.leaf_prices.LeafPrice.{LeafPrice}
-use Rattle.fp_prices.specs.Leaves.{IsLeastCost, leaf_price}
+use Rattle.fp_prices.specs.Leaves.{IsLeastCostBy, leaf_price}
 use Rattle.fp_prices.specs.LeastWalks.{IsLeastWalk}
 use Rattle.fp_prices.specs.Prices.{share_for, table_at, table_price}
 use Rattle.fp_prices.specs.Shares.{ClassShare}
 use Rattle.fp_prices.proofs.TableAppends.{HasKind-append, IsLeafValue-append}
 use Rattle.fp_prices_spans.specs.SpanKinds.{spans_beside}
-use Rattle.fp_prices_spans.specs.SpanLeaves.{IsSpanLeafValue}
+use Rattle.fp_prices_spans.specs.SpanLeaves.{IsSpanLeafValue, leaf_heads}
 use Rattle.fp_prices_spans.specs.SpanPrices.{is_held, leaf_span_price, span_price}
 use Rattle.fp_prices_spans.specs.Spans.{ClassSpan}
 use Rattle.fp_prices_spans.proofs.SpanAppends.{IsPricedValue-tables, beside-append}
@@ -50,7 +50,7 @@ module _ (p : Problem) (table : WindowTable) (points : ℕ → List ℕ) (sides 
     costs = is.costs;
     charges = is.charges;
     are_chains = is.are_chains;
-    are_least = subst (λ (price : ℕ → ℕ → Leg → ℕ). AllZipFrom (λ k (s : Shipment) n. IsLeastCost p points (is_allowed p (windows_in table) points sides k) s (price k s.size) n) 0 p.shipments is.costs)
+    are_least = subst (λ (price : ℕ → ℕ → Leg → ℕ). AllZipFrom (λ k (s : Shipment) n. IsLeastCostBy p (leaf_heads p (windows_in table) points spans k) (is_allowed p (windows_in table) points sides k) s (price k s.size) n) 0 p.shipments is.costs)
         (empty-price p tables spans (is_allowed p (windows_in table) points sides) id is.chains empty) is.are_least;
     are_charges = is.are_charges;
     value_is = is.value_is;

@@ -25,8 +25,8 @@ pub struct Worth {
     pub value: u128,
 }
 
-/// The bound of a leaf by a price of a search, whatever its round: that the leaf is empty, or what it is
-/// worth with the spans beside the table that the price names.
+/// The bound of a leaf by a price of a search, whatever its round: that the leaf is empty by the heads of
+/// that price, or what it is worth with the spans beside the table that the price names.
 ///
 /// It is what [`span_bound`] finds. `NoMemory` only where no memory is found.
 pub fn bound_by(
@@ -47,7 +47,8 @@ pub fn bound_by(
 }
 
 // What a leaf is worth, as of the same round, by the prices that it inherits, with the spans beside
-// their table, where it has some and that is more.
+// their table, where it has some and that is more. Where no walk goes by the heads of these prices it
+// keeps its first price.
 fn by_inherited(
     alloc: Global,
     leaf: &Leaf,
