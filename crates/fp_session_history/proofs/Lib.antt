@@ -1,6 +1,7 @@
 mod Examples
 pub mod PointsKept
 pub mod Stays
+pub mod EmptyLeaves
 pub mod AddedPoints
 pub mod Enough
 pub mod SamePoints
