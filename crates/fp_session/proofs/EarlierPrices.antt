@@ -1,5 +1,6 @@
 -- The price of a leaf as of a round that a search had before.
-use Rattle.std.proofs.Common.{◌≡◌, ℕ, ◌<◌, ◌≤◌, ⊎_elim, inl, inr, List, [], length, refl, sym, ap, ◌∙◌, subst, arith}
+use Rattle.std.proofs.Common.{◌≡◌, ℕ, ◌<◌, ◌≤◌, ⊎_elim, inr, List, [], length, refl, sym, ap, ◌∙◌, subst, arith}
+use Rattle.std.specs.Prelude.{None}
 use Rattle.std.specs.declared.alloc.Global.{Global}
 use Rattle.std.specs.declared.vec.Vec.{Vec}
 use Rattle.fp_model.specs.declared.parts.Leg.{Leg}
@@ -11,18 +12,22 @@ use Rattle.fp_longestarcs.specs.Whole.{IsNetworkOf}
 use Rattle.fp_tree.specs.declared.sides.Side.{Side}
 use Rattle.fp_allowed.specs.SamePoints.{AgreeOnPoints}
 use Rattle.fp_allowed.specs.Settings.{Setting}
+use Rattle.fp_prices.specs.declared.leaf_prices.Kind.{Kind}
 use Rattle.fp_prices.specs.declared.leaf_prices.Kind.TheVariants.{Even, Linear}
 use Rattle.fp_prices.specs.declared.leaf_prices.LeafPrice.{LeafPrice}
-use Rattle.fp_prices.specs.Leaves.{IsFirstWithout}
 use Rattle.fp_prices.specs.Rounds.{RoundModel}
 use Rattle.fp_prices.specs.Tables.{HasKind}
 use Rattle.fp_prices.proofs.TableAppends.{HasKind-append}
 use Rattle.fp_prices_spans.specs.SpanKinds.{IsPricedValue, spans_beside}
+use Rattle.fp_prices_spans.specs.SpanLeaves.{IsSpanLeafEmpty, IsSpanLeafValue}
+use Rattle.fp_prices_spans.specs.Spans.{ClassSpan}
+use Rattle.fp_prices_spans.proofs.OneSpanValue.{span_leaves-have-one-value}
 use Rattle.fp_prices_spans.proofs.SameSpanValues.{span_value-same}
 use Rattle.fp_duals.specs.declared.improvements.Improved.{Improved}
 use Rattle.fp_duals.specs.declared.improvements.Improved.TheVariants as improved
 use Rattle.fp_duals_leaves.specs.Prices.{HaveGrown, PriceLists}
 use Rattle.fp_duals_leaves.specs.Pricing.{IsPriceFound}
+use Rattle.fp_duals_leaves.proofs.SpansBeside.{beside-none}
 use Rattle.fp_duals_leaves.proofs.Worths.{found-no-less}
 use Rattle.fp_session_history.specs.Notes.{points_of}
 use Rattle.fp_session_history.proofs.HistoryPoints.{AgreeOnPoints-history}
@@ -78,12 +83,12 @@ module _ (s : Search) (before after : PriceLists) (is : IsSearch s before) (side
       }
 
   -- and of one for which another price was tried too
-  module _ (price : LeafPrice) (at : price.round ≡ round) (kind : HasKind after.tables price.kind) where
-    -- it is kept as of that round, with no less value than by that price
+  module _ (price : LeafPrice) (at : price.round ≡ round) (kind : HasKind after.tables price.kind) (grown : HaveGrown s.instance s.windows before after) where
+    -- it is kept as of that round, and where no spans are sought with no less value than by that price
     pub record IsKeptThen (now : Kept) : Type 0 where
       pub kept : IsKept (history s after) sides now.payload now.value
       pub of_round : now.payload.valuation.price.round ≡ price.round
-      pub inherited : IsNoLessBy (history s after) sides price now
+      pub inherited : before.unit ≡ None → IsNoLessBy (history s after) sides price now
 
     value-then : (v : ℕ) → IsPricedValue s.instance (windows_in s.windows) (points_in net) sides after.tables after.spans price.kind price.forced v →
         IsPricedValue s.instance (windows_in s.windows) (points_of (history s after) price.round) sides after.tables after.spans price.kind price.forced v
@@ -91,17 +96,24 @@ module _ (s : Search) (before after : PriceLists) (is : IsSearch s before) (side
         subst (λ (n : ℕ). IsPricedValue s.instance (windows_in s.windows) (points_of (history s after) n) sides after.tables after.spans price.kind price.forced v) (sym at)
         (span_value-same s.instance is.belongs.valid (windows_in s.windows) (points_in net) (points_of (history s after) round) agree-then sides after.tables (spans_beside after.spans price.kind) price.kind price.forced v value)
 
-    none-then : (shipment : ℕ) → IsFirstWithout s.instance (windows_in s.windows) (points_in net) sides shipment → IsKeptThen (empty_kept price.round)
-    none-then shipment first = record {
-      kept = subst (λ (n : ℕ). IsKept (history s after) sides (empty_kept n).payload (empty_kept n).value) (sym at)
-          (empty-as-of (history s after) net sides is.belongs.valid round had agree-then shipment 0 0 first);
-      of_round = refl;
-      inherited = inl refl;
-    }
+    -- where no spans are sought, none stand beside a table
+    unspanned-then : (k : Kind) → before.unit ≡ None → spans_beside after.spans k ≡ []
+    unspanned-then k without = beside-none s.instance s.windows after k grown.prices (ap (λ (x : PriceLists). x.unit) grown.is ∙ without)
 
     module _ (first : LeafPrice) (value : ℕ) (walks : Vec (List Leg) Global) (was : r ≡ improved.Priced first value walks) where
       found-then : IsPriceFound s.instance (windows_in s.windows) (points_in net) sides after round (record { price = first; value = value }) walks.items
       found-then = own-then (improved.Priced first value walks) was
+
+      -- where no walk goes by the heads of that price, what was found is kept; without spans there are such walks, since the leaf has a value
+      none-then : IsSpanLeafEmpty s.instance (windows_in s.windows) (points_in net) sides (spans_beside after.spans price.kind) → IsKeptThen (priced_kept first value)
+      none-then empty = record {
+        kept = kept-as-of (history s after) net sides is.belongs.valid round had agree-then first value walks.items found-then 0;
+        of_round = found-then.worth.of_round ∙ sym at;
+        inherited = λ without.
+            absurd (span_leaves-have-one-value.some s.instance (windows_in s.windows) (points_in net) sides after.tables [] first.kind first.forced value
+            (subst (λ (ss : List ClassSpan). IsSpanLeafValue s.instance (windows_in s.windows) (points_in net) sides after.tables ss first.kind first.forced value) (unspanned-then first.kind without) found-then.worth.is)
+            (subst (IsSpanLeafEmpty s.instance (windows_in s.windows) (points_in net) sides) (unspanned-then price.kind without) empty));
+      }
 
       greater-then : (v : ℕ) → IsPricedValue s.instance (windows_in s.windows) (points_in net) sides after.tables after.spans price.kind price.forced v → (kept : Kept) → IsGreater (priced_kept first value) price v kept → IsKeptThen kept
       greater-then v worth kept greater =
@@ -114,38 +126,38 @@ module _ (s : Search) (before after : PriceLists) (is : IsSearch s before) (side
                 (inr (record { of_round = at; kind = kind; is = worth }, new.1)))
                 0;
             of_round = refl;
-            inherited = inr (v, value-then v worth, omega arith);
+            inherited = λ _. inr (v, value-then v worth, omega arith);
           }))
           (λ (same : (kept ≡ priced_kept first value) × (v ≤ value)).
           subst IsKeptThen (sym same.0)
           (record {
             kept = kept-as-of (history s after) net sides is.belongs.valid round had agree-then first value walks.items found-then 0;
             of_round = found-then.worth.of_round ∙ sym at;
-            inherited = inr (v, value-then v worth, same.1);
+            inherited = λ _. inr (v, value-then v worth, same.1);
           }))
           greater
 
       pub best-then : (kept : Kept) → IsBestBy (record { setting = x; sides = sides }) after (priced_kept first value) price kept → IsKeptThen kept
       best-then kept best =
           ⊎_elim
-          (λ (none : (kept ≡ empty_kept price.round) × ((shipment : ℕ) × IsFirstWithout s.instance (windows_in s.windows) (points_in net) sides shipment)).
-          subst IsKeptThen (sym none.0) (none-then none.1.0 none.1.1))
+          (λ (none : (kept ≡ priced_kept first value) × IsSpanLeafEmpty s.instance (windows_in s.windows) (points_in net) sides (spans_beside after.spans price.kind)).
+          subst IsKeptThen (sym none.0) (none-then none.1))
           (λ (some : (v : ℕ) × IsPricedValue s.instance (windows_in s.windows) (points_in net) sides after.tables after.spans price.kind price.forced v × IsGreater (priced_kept first value) price v kept).
           greater-then some.0 some.1 kept some.2)
           (subst (λ (y : Setting). IsBestBy (record { setting = y; sides = sides }) after (priced_kept first value) price kept) setting best)
 
 -- so it is of a leaf under sides that it has, by a price as of the round
 pub best-under : (s : Search) (before after : PriceLists) (is : IsSearch s before) (own sides : List Side) (net : TimedNetwork) (price : LeafPrice) (had : price.round ≤ length s.trace.items)
-    (of : IsNetworkOf s.instance s.points price.round net) (x : Setting) (setting : x ≡ setting_with s net) (r : Improved) (here : ImprovedIn x own after price.round r) (kind : HasKind after.tables price.kind)
+    (of : IsNetworkOf s.instance s.points price.round net) (x : Setting) (setting : x ≡ setting_with s net) (r : Improved) (here : ImprovedIn x own after price.round r) (kind : HasKind after.tables price.kind) (grown : HaveGrown s.instance s.windows before after)
     (first : LeafPrice) (value : ℕ) (walks : Vec (List Leg) Global) → r ≡ improved.Priced first value walks → (found : Kept) → found ≡ priced_kept first value → own ≡ sides → (kept : Kept) →
     IsBestBy (record { setting = x; sides = own }) after found price kept →
-    IsKept (history s after) sides kept.payload kept.value × (kept.payload.valuation.price.round ≡ price.round) × IsNoLessBy (history s after) sides price kept
-best-under s before after is own sides net price had of x setting r here kind first value walks was found made way kept best =
-    let then = best-then s before after is own net price.round had of x setting r here price refl kind first value walks was kept
+    IsKept (history s after) sides kept.payload kept.value × (kept.payload.valuation.price.round ≡ price.round) × (before.unit ≡ None → IsNoLessBy (history s after) sides price kept)
+best-under s before after is own sides net price had of x setting r here kind grown first value walks was found made way kept best =
+    let then = best-then s before after is own net price.round had of x setting r here price refl kind grown first value walks was kept
     (subst (λ (k : Kept). IsBestBy (record { setting = x; sides = own }) after k price kept) made best) in (
       subst (λ (l : List Side). IsKept (history s after) l kept.payload kept.value) way then.kept,
       then.of_round,
-      subst (λ (l : List Side). IsNoLessBy (history s after) l price kept) way then.inherited,
+      λ without. subst (λ (l : List Side). IsNoLessBy (history s after) l price kept) way (then.inherited without),
     )
 
 -- a price of a search stays one when the prices grow

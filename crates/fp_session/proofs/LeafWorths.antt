@@ -9,8 +9,8 @@ use Rattle.fp_tree.specs.Nodes.{Node, fork_of as fork_at, leaf_at, leaf_count, v
 use Rattle.fp_tree.specs.Trees.{HaveTails, IsTree, Leaf, tree_leaves}
 use Rattle.fp_allowed.specs.Allowed.{tails_of}
 use Rattle.fp_prices.specs.declared.leaf_prices.LeafPrice.{LeafPrice}
-use Rattle.fp_prices.specs.Leaves.{IsLeafEmpty}
 use Rattle.fp_prices_spans.specs.SpanKinds.{IsPricedValue, spans_beside}
+use Rattle.fp_prices_spans.specs.SpanLeaves.{IsSpanLeafEmpty}
 use Rattle.fp_prices_spans.proofs.OneSpanValue.{span_leaves-have-one-value}
 use Rattle.fp_certificate_lines.specs.declared.certificates.Node.{Node as Line}
 use Rattle.fp_certificate_lines.specs.declared.certificates.Valuation.{Valuation}
@@ -20,6 +20,7 @@ use Rattle.fp_session_history.specs.Notes.{History, points_of, worth_of}
 use Rattle.fp_session_history.specs.PrintedLeaves.{IsEmptyAt, IsLeastWorth, IsOpenBelow, IsPrintedLeaf, IsWorth, OfLeaf}
 use Rattle.fp_session_history.specs.Solutions.{AtLeaf}
 use Rattle.fp_session_history.specs.Splits.{IsEarnedAt, IsValueAt}
+use Rattle.fp_session_history.proofs.EmptyLeaves.{empty-by_heads}
 use Rattle.fp_session.specs.declared.payloads.Payload.{Payload}
 use Rattle.fp_session.specs.Nodes.{IsEarnedAs, IsKept, IsLeafOf, IsSettled}
 use Rattle.fp_session.specs.TreeLines.{IsLeastBelow, leaf_worth, lines_of}
@@ -45,7 +46,7 @@ module _ (h : History) where
       let own : LeafPrice = payload.valuation.price in
       let whole : IsPricedValue h.problem (windows_in h.windows) (points_of h own.round) sides h.tables h.spans own.kind own.forced v =
       subst (λ (o : Option ℕ). IsPricedValue h.problem (windows_in h.windows) (points_of h own.round) (first_sides o sides) h.tables h.spans own.kind own.forced v) empty.whole is in
-      absurd (span_leaves-have-one-value.some h.problem (windows_in h.windows) (points_of h own.round) sides h.tables (spans_beside h.spans own.kind) own.kind own.forced v whole empty.empty))
+      absurd (span_leaves-have-one-value.some h.problem (windows_in h.windows) (points_of h own.round) sides h.tables (spans_beside h.spans own.kind) own.kind own.forced v whole (empty-by_heads h sides payload.valuation empty)))
       (λ mark earned.
       let own : LeafPrice = payload.valuation.price in
       (mark, earned.is ∙ span_leaves-have-one-value.one h.problem (windows_in h.windows) (points_of h own.round) (sides_valued payload.valuation sides) h.tables (spans_beside h.spans own.kind) own.kind own.forced earned.earned.value v earned.earned.is is))
@@ -55,15 +56,15 @@ module _ (h : History) where
   printed-kept sides payload value kept =
       by_mark (IsEmptyAt h sides payload.valuation ⊎ IsEarnedAt h sides payload.valuation) sides payload value kept (λ mark empty. inl empty) (λ mark earned. inr earned.earned)
 
-  -- a leaf is empty, or worth a claim
+  -- a leaf is empty by its heads, or worth a claim
   abbrev pub IsWorthClaim : (claim : ℕ) → List Side → Valuation → Type 0
   IsWorthClaim claim sides v =
-      IsLeafEmpty h.problem (windows_in h.windows) (points_of h v.price.round) sides
+      IsSpanLeafEmpty h.problem (windows_in h.windows) (points_of h v.price.round) sides (spans_beside h.spans v.price.kind)
       ⊎ ((value : ℕ) × IsValueAt h sides v value × (claim ≤ worth_of h value))
 
   pub worth-kept : (claim : ℕ) (sides : List Side) (payload : Payload) (value : ℕ) → IsKept h sides payload value → (payload.empty ≡ false → claim ≤ worth_of h value) → IsWorthClaim claim sides payload.valuation
   worth-kept claim sides payload value kept unmarked =
-      by_mark (IsWorthClaim claim sides payload.valuation) sides payload value kept (λ mark empty. inl empty.empty)
+      by_mark (IsWorthClaim claim sides payload.valuation) sides payload value kept (λ mark empty. inl (empty-by_heads h sides payload.valuation empty))
       (λ mark earned. inr (earned.earned.value, earned.earned.is, subst (λ (v : ℕ). claim ≤ worth_of h v) earned.is (unmarked mark)))
 
   -- a leaf that is settled and isn't empty is worth the cost

@@ -4,6 +4,7 @@ use Rattle.std.specs.Prelude.{◌≢◌, None, Option, sum_by, if◌then◌else�
 use Rattle.std.specs.List.{AllZip}
 use Rattle.std.proofs.lemmas.List.Sums.{sum_by-cons}
 use Rattle.fp_base_lists.specs.Numbered.{AllZipFrom}
+use Rattle.fp_base_lists.proofs.Elements.{AllByRecursion-weaker}
 use Rattle.fp_model.specs.declared.parts.Leg.{Leg}
 use Rattle.fp_model.specs.declared.parts.Shipment.{Shipment}
 use Rattle.fp_model.specs.Costs.{all_legs, departures_cost, has_leg}
@@ -12,16 +13,17 @@ use Rattle.fp_flatnet.specs.declared.window_tables.Window.{Window}
 use Rattle.fp_flatnet.specs.Tables.{windows_in}
 use Rattle.fp_tree.specs.declared.sides.Side.{Side}
 use Rattle.fp_allowed.specs.Allowed.{AreAmong, is_allowed}
-use Rattle.fp_allowed.proofs.FewerSides.{AreAmong_append, IsTimedWalk_fewer, is_allowed_fewer}
+use Rattle.fp_allowed.specs.Walks.{IsWalkBy}
+use Rattle.fp_allowed.proofs.FewerSides.{AreAmong_append, is_allowed_fewer}
 use Rattle.fp_prices.specs.declared.leaf_prices.Kind.{Kind}
 use Rattle.fp_prices.specs.declared.leaf_prices.Kind.TheVariants.{Even, Linear, Table}
 use Rattle.fp_prices.specs.declared.leaf_prices.LeafPrice.{LeafPrice}
-use Rattle.fp_prices.specs.Leaves.{IsLeastCost}
+use Rattle.fp_prices.specs.Leaves.{IsLeastCostBy}
 use Rattle.fp_prices.specs.Prices.{truck_price}
 use Rattle.fp_prices.specs.Shares.{ClassShare}
 use Rattle.fp_prices.proofs.PlainChains.{all_legs-plain}
 use Rattle.fp_prices_spans.specs.SpanKinds.{IsPricedValue, spans_beside}
-use Rattle.fp_prices_spans.specs.SpanLeaves.{IsCharged, IsChargeOf, IsSpanLeafValue}
+use Rattle.fp_prices_spans.specs.SpanLeaves.{IsCharged, IsChargeOf, IsSpanLeafValue, leaf_heads}
 use Rattle.fp_certificate_lines.specs.Valuations.{first_sides, sides_valued}
 use Rattle.fp_prices_spans.specs.SpanPrices.{is_held, span_price}
 use Rattle.fp_prices_spans.specs.Spans.{ClassSpan}
@@ -50,19 +52,27 @@ module _ (p : Problem) (windows : ℕ → ℕ → Option Window) (points : ℕ �
   abbrev wide : ℕ → Leg → Bool
   wide = is_allowed p windows points fewer
 
-  -- the least cost of a shipment isn't less
-  least-more : (k : ℕ) (s : Shipment) (price : Leg → ℕ) (n m : ℕ) → IsLeastCost p points (wide k) s price n → IsLeastCost p points (narrow k) s price m → n ≤ m
-  least-more k s price n m few more = omega (arith, few.least more.walk (IsTimedWalk_fewer p windows points fewer sides k s more.walk among more.timed), more.cost)
+  -- a walk under the sides is one by the same heads under fewer
+  walk-fewer : (heads : Leg → ℕ) (k : ℕ) (s : Shipment) (walk : List Leg) → IsWalkBy p heads (narrow k) s walk → IsWalkBy p heads (wide k) s walk
+  walk-fewer heads k s walk goes = record {
+    leads = goes.leads;
+    allowed_all = AllByRecursion-weaker (λ c. narrow k c ≡ true) (λ c. wide k c ≡ true) (λ c. is_allowed_fewer p windows points fewer sides k c among) walk goes.allowed_all;
+    follows = goes.follows;
+  }
+
+  -- so the least cost of a shipment isn't less
+  least-more : (heads : Leg → ℕ) (k : ℕ) (s : Shipment) (price : Leg → ℕ) (n m : ℕ) → IsLeastCostBy p heads (wide k) s price n → IsLeastCostBy p heads (narrow k) s price m → n ≤ m
+  least-more heads k s price n m few more = omega (arith, few.least more.walk (walk-fewer heads k s more.walk more.timed), more.cost)
 
   -- nor are those of all
-  costs-more : (price : ℕ → ℕ → Leg → ℕ) (i : ℕ) (shipments : List Shipment) (A B : List ℕ) → AllZipFrom (λ k (s : Shipment) n. IsLeastCost p points (wide k) s (price k s.size) n) i shipments A →
-      AllZipFrom (λ k (s : Shipment) n. IsLeastCost p points (narrow k) s (price k s.size) n) i shipments B → sum_by (λ (n : ℕ). n) A ≤ sum_by (λ (n : ℕ). n) B
-  costs-more price i [] [] [] few more = omega arith
-  costs-more price i [] [] (b ∷ B) few more = absurd more
-  costs-more price i [] (a ∷ A) B few more = absurd few
-  costs-more price i (s ∷ shipments) [] B few more = absurd few
-  costs-more price i (s ∷ shipments) (a ∷ A) [] few more = absurd more
-  costs-more price i (s ∷ shipments) (a ∷ A) (b ∷ B) few more = omega (arith, least-more i s (price i s.size) a b few.0 more.0, costs-more price (i + 1) shipments A B few.1 more.1, sum_by-cons (λ (n : ℕ). n) a A, sum_by-cons (λ (n : ℕ). n) b B)
+  costs-more : (heads : ℕ → Leg → ℕ) (price : ℕ → ℕ → Leg → ℕ) (i : ℕ) (shipments : List Shipment) (A B : List ℕ) → AllZipFrom (λ k (s : Shipment) n. IsLeastCostBy p (heads k) (wide k) s (price k s.size) n) i shipments A →
+      AllZipFrom (λ k (s : Shipment) n. IsLeastCostBy p (heads k) (narrow k) s (price k s.size) n) i shipments B → sum_by (λ (n : ℕ). n) A ≤ sum_by (λ (n : ℕ). n) B
+  costs-more heads price i [] [] [] few more = omega arith
+  costs-more heads price i [] [] (b ∷ B) few more = absurd more
+  costs-more heads price i [] (a ∷ A) B few more = absurd few
+  costs-more heads price i (s ∷ shipments) [] B few more = absurd few
+  costs-more heads price i (s ∷ shipments) (a ∷ A) [] few more = absurd more
+  costs-more heads price i (s ∷ shipments) (a ∷ A) (b ∷ B) few more = omega (arith, least-more (heads i) i s (price i s.size) a b few.0 more.0, costs-more heads price (i + 1) shipments A B few.1 more.1, sum_by-cons (λ (n : ℕ). n) a A, sum_by-cons (λ (n : ℕ). n) b B)
 
   -- a span that is charged is so under fewer sides
   charged-fewer : (chains others : List (List Leg)) → all_legs others ≡ [] → (span : ClassSpan) → IsCharged p narrow chains span → IsCharged p wide others span
@@ -101,7 +111,7 @@ module _ (p : Problem) (windows : ℕ → ℕ → Option Window) (points : ℕ �
   steady-value tables spans kind shared v w few more =
       let none : all_legs few.chains ≡ [] = all_legs-plain p wide 0 p.shipments few.chains few.are_chains in
       let nothing : all_legs more.chains ≡ [] = all_legs-plain p narrow 0 p.shipments more.chains more.are_chains in
-      let IsLeast : (ℕ → Leg → Bool) → (ℕ → ℕ → Leg → ℕ) → List ℕ → Type 0 = λ allowed price costs. AllZipFrom (λ k (s : Shipment) n. IsLeastCost p points (allowed k) s (price k s.size) n) 0 p.shipments costs in
+      let IsLeast : (ℕ → Leg → Bool) → (ℕ → ℕ → Leg → ℕ) → List ℕ → Type 0 = λ allowed price costs. AllZipFrom (λ k (s : Shipment) n. IsLeastCostBy p (leaf_heads p windows points spans k) (allowed k) s (price k s.size) n) 0 p.shipments costs in
       let price : ℕ → ℕ → Leg → ℕ = price_with p tables spans wide kind [] in
       let own : IsLeast wide price few.costs = subst (λ (free : List Leg). IsLeast wide (price_with p tables spans wide kind free) few.costs) none few.are_least in
       let below : IsLeast narrow price more.costs =
@@ -113,7 +123,7 @@ module _ (p : Problem) (windows : ℕ → ℕ → Option Window) (points : ℕ �
         few.value_is,
         more.value_is,
         ap (λ (n : ℕ). p.scale * n) base,
-        costs-more price 0 p.shipments few.costs more.costs own below,
+        costs-more (leaf_heads p windows points spans) price 0 p.shipments few.costs more.costs own below,
         charges-less more.chains few.chains none spans few.charges more.charges few.are_charges more.are_charges,
       )
 

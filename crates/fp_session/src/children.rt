@@ -133,7 +133,8 @@ fn taken(above: Kept, sides: u32) -> Kept
 }
 
 // What is kept of a leaf of which this was found by other prices, and of which a price is as of the same
-// round: that it is empty, or the price where the leaf is worth more by it.
+// round: the price where the leaf is worth more by it, and else what was found, also where no walk goes by
+// the heads of that price.
 fn or_by(
     alloc: Global,
     leaf: &Leaf,
@@ -146,14 +147,14 @@ fn or_by(
     ensures { IfOk result (IsBestBy leaf.now prices.now found price) }
 {
     match bound_by(alloc, leaf, price, prices)? {
-        LeafBound::Empty { .. } => Ok(emptied(price.round)),
+        LeafBound::Empty { .. } => Ok(found),
         LeafBound::Value { value } => Ok(greater(found, price, value)),
     }
 }
 
 // What is kept of such a leaf as of the round that a price of the leaf above is of: that it is empty, or
-// the best of that price and of those that each leaf has. Points that were added since can make a table
-// worth less.
+// the best of those that each leaf has and of that price, where walks go by its heads. Points that were
+// added since can make a table worth less.
 #[tactic(auto, using(fp_duals_leaves::proofs::GrownPrices::HaveGrown_none))]
 fn as_of_price<D: Deadline>(
     resources: &Resources<D>,
@@ -169,7 +170,7 @@ fn as_of_price<D: Deadline>(
     ensures kept { IfOk result (λ kept.
         IsKept (history search.now prices.new) (leaf.now.sides ++ (side ∷ [])) kept.payload kept.value) }
     ensures round { IfOk result (λ kept. kept.payload.valuation.price.round ≡ price.round) }
-    ensures inherited { IfOk result
+    ensures inherited { prices.old.unit ≡ None → IfOk result
         (IsNoLessBy (history search.now prices.new) (leaf.now.sides ++ (side ∷ [])) price) }
 {
     let network = Network::of(

@@ -40,4 +40,5 @@ returns-clause-steady g c =
     c.better_of.ensures.no_less c.args.above.value
     (steady-no_less (history s after) above (c.args.side ∷ []) c.args.above c.in_ok-then.then steady (ap (λ (x : PriceLists). x.unit) grown.is ∙ c.requires.without)
     (IsKept-grown s before after above c.args.above c.requires.search.prices grown c.requires.above) c.requires.some
-    (subst (λ (price : LeafPrice). IsNoLessBy (history s after) (above ++ (c.args.side ∷ [])) price c.in_ok-then.then) (c.in_ok-price.ensures.same steady) c.in_ok-then.ensures.inherited))
+    (subst (λ (price : LeafPrice). IsNoLessBy (history s after) (above ++ (c.args.side ∷ [])) price c.in_ok-then.then) (c.in_ok-price.ensures.same steady)
+    (c.in_ok-then.ensures.inherited (ap (λ (x : PriceLists). x.unit) c.price_below.ensures.grown.is ∙ c.requires.without))))

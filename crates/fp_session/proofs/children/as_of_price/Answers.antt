@@ -36,7 +36,7 @@ pub returns-in-Empty-clause-round : goal.returns-in-Empty-clause-round
 returns-in-Empty-clause-round g c = ap (λ (k : Kept). k.payload.valuation.price.round) c.emptied.ensures
 
 pub returns-in-Empty-clause-inherited : goal.returns-in-Empty-clause-inherited
-returns-in-Empty-clause-inherited g c = inl (ap (λ (k : Kept). k.payload.empty) c.emptied.ensures)
+returns-in-Empty-clause-inherited g c = λ _. inl (ap (λ (k : Kept). k.payload.empty) c.emptied.ensures)
 
 pub or_by-requires-clause-kind : goal.or_by-requires-clause-kind
 or_by-requires-clause-kind g c =
@@ -50,12 +50,28 @@ returns-clause-kept g c =
     let after : PriceLists = c.improve.new.prices in
     let sides : List Side = c.args.leaf.now.sides ++ (c.args.side ∷ []) in
     let setting = leaf-setting_with s c.in_ok-network.network c.in_ok-round.round c.in_ok-below.below.setting c.in_ok-round.ensures c.in_ok-below.ensures.setting in
-    let kind = (IsPriceOf-grown s c.args.prices.now after c.args.price (subst (λ (x : Setting). HaveGrown x.problem x.windows c.args.prices.now after) setting c.improve.ensures.grown) c.requires.price).kind in
+    let grown = subst (λ (x : Setting). HaveGrown x.problem x.windows c.args.prices.now after) setting c.improve.ensures.grown in
+    let kind = (IsPriceOf-grown s c.args.prices.now after c.args.price grown c.requires.price).kind in
     IfOk-weaker c.or_by.result (IsBestBy c.in_ok-below.below after c.priced.result c.args.price) (λ (kept : Kept). IsKept (history s after) sides kept.payload kept.value)
     (λ kept best.
     (best-under s c.args.prices.now after c.requires.search c.in_ok-below.below.sides sides c.in_ok-network.network c.args.price c.requires.price.round c.in_ok-network.ensures.whole
-    c.in_ok-below.below.setting setting c.in_ok-improve.field-0 c.in_ok-improve.ensures.improved kind c.in-Priced.own c.in-Priced.value c.in-Priced.walks c.in-Priced.is c.priced.result c.priced.ensures
+    c.in_ok-below.below.setting setting c.in_ok-improve.field-0 c.in_ok-improve.ensures.improved kind grown c.in-Priced.own c.in-Priced.value c.in-Priced.walks c.in-Priced.is c.priced.result c.priced.ensures
     (c.in_ok-below.ensures.sides ∙ c.deref.ensures.value ∙ c.in_ok-sides.ensures) kept best).0)
+    c.or_by.ensures
+
+pub returns-clause-round : goal.returns-clause-round
+returns-clause-round g c =
+    let s : Search = c.args.search.now in
+    let after : PriceLists = c.improve.new.prices in
+    let sides : List Side = c.args.leaf.now.sides ++ (c.args.side ∷ []) in
+    let setting = leaf-setting_with s c.in_ok-network.network c.in_ok-round.round c.in_ok-below.below.setting c.in_ok-round.ensures c.in_ok-below.ensures.setting in
+    let grown = subst (λ (x : Setting). HaveGrown x.problem x.windows c.args.prices.now after) setting c.improve.ensures.grown in
+    let kind = (IsPriceOf-grown s c.args.prices.now after c.args.price grown c.requires.price).kind in
+    IfOk-weaker c.or_by.result (IsBestBy c.in_ok-below.below after c.priced.result c.args.price) (λ (kept : Kept). kept.payload.valuation.price.round ≡ c.args.price.round)
+    (λ kept best.
+    (best-under s c.args.prices.now after c.requires.search c.in_ok-below.below.sides sides c.in_ok-network.network c.args.price c.requires.price.round c.in_ok-network.ensures.whole
+    c.in_ok-below.below.setting setting c.in_ok-improve.field-0 c.in_ok-improve.ensures.improved kind grown c.in-Priced.own c.in-Priced.value c.in-Priced.walks c.in-Priced.is c.priced.result c.priced.ensures
+    (c.in_ok-below.ensures.sides ∙ c.deref.ensures.value ∙ c.in_ok-sides.ensures) kept best).1)
     c.or_by.ensures
 
 pub returns-clause-inherited : goal.returns-clause-inherited
@@ -64,10 +80,12 @@ returns-clause-inherited g c =
     let after : PriceLists = c.improve.new.prices in
     let sides : List Side = c.args.leaf.now.sides ++ (c.args.side ∷ []) in
     let setting = leaf-setting_with s c.in_ok-network.network c.in_ok-round.round c.in_ok-below.below.setting c.in_ok-round.ensures c.in_ok-below.ensures.setting in
-    let kind = (IsPriceOf-grown s c.args.prices.now after c.args.price (subst (λ (x : Setting). HaveGrown x.problem x.windows c.args.prices.now after) setting c.improve.ensures.grown) c.requires.price).kind in
+    let grown = subst (λ (x : Setting). HaveGrown x.problem x.windows c.args.prices.now after) setting c.improve.ensures.grown in
+    let kind = (IsPriceOf-grown s c.args.prices.now after c.args.price grown c.requires.price).kind in
+    λ without.
     IfOk-weaker c.or_by.result (IsBestBy c.in_ok-below.below after c.priced.result c.args.price) (IsNoLessBy (history s after) sides c.args.price)
     (λ kept best.
     (best-under s c.args.prices.now after c.requires.search c.in_ok-below.below.sides sides c.in_ok-network.network c.args.price c.requires.price.round c.in_ok-network.ensures.whole
-    c.in_ok-below.below.setting setting c.in_ok-improve.field-0 c.in_ok-improve.ensures.improved kind c.in-Priced.own c.in-Priced.value c.in-Priced.walks c.in-Priced.is c.priced.result c.priced.ensures
-    (c.in_ok-below.ensures.sides ∙ c.deref.ensures.value ∙ c.in_ok-sides.ensures) kept best).2)
+    c.in_ok-below.below.setting setting c.in_ok-improve.field-0 c.in_ok-improve.ensures.improved kind grown c.in-Priced.own c.in-Priced.value c.in-Priced.walks c.in-Priced.is c.priced.result c.priced.ensures
+    (c.in_ok-below.ensures.sides ∙ c.deref.ensures.value ∙ c.in_ok-sides.ensures) kept best).2 without)
     c.or_by.ensures
