@@ -9,9 +9,8 @@ use Rattle.fp_tree.specs.declared.sides.Side.{Side}
 use Rattle.fp_prices.specs.declared.values.bounds.LeafBound.{LeafBound}
 use Rattle.fp_prices.specs.declared.values.bounds.LeafBound.TheVariants.{Empty, Value}
 use Rattle.fp_prices.specs.declared.leaf_prices.LeafPrice.{LeafPrice}
-use Rattle.fp_prices.specs.Leaves.{IsLeafEmpty}
 use Rattle.fp_prices_spans.specs.SpanKinds.{IsPricedValue, spans_beside}
-use Rattle.fp_prices_spans.specs.SpanLeaves.{IsSpanBoundOf}
+use Rattle.fp_prices_spans.specs.SpanLeaves.{IsSpanBoundOf, IsSpanLeafEmpty}
 use Rattle.fp_prices_spans.proofs.OneSpanValue.{span_leaves-have-one-value}
 use Rattle.fp_prices_spans.proofs.SameSpanValues.{span_bound-same}
 use Rattle.fp_certificate_rules.specs.Accepted.{claim_of}
@@ -22,9 +21,10 @@ use Rattle.fp_checker.specs.Cases.{Tested}
 use Rattle.fp_checker.specs.LeafWays.{AskAlike}
 use Rattle.fp_checker.proofs.SameSides.{AskAlike-sym, empty-alike, value-alike}
 
--- a leaf under these sides is empty, by the certificate's points as of a round
-abbrev pub IsEmptyUnder : Tested → ℕ → List Side → Type 0
-IsEmptyUnder t round sides = IsLeafEmpty t.problem (windows_in t.windows) (points_as_of t.problem t.windows.anchors t.told round) sides
+-- a leaf under these sides is empty by its heads, by the certificate's points as of a price's round
+abbrev pub IsEmptyUnder : Tested → LeafPrice → List Side → Type 0
+IsEmptyUnder t price sides =
+    IsSpanLeafEmpty t.problem (windows_in t.windows) (points_as_of t.problem t.windows.anchors t.told price.round) sides (spans_beside t.told.spans price.kind)
 
 -- or worth what the certificate claims, by a price
 abbrev pub IsWorthUnder : Tested → LeafPrice → List Side → Type 0
@@ -49,7 +49,7 @@ module _ (t : Tested) (v : TimePoints) (price : LeafPrice) (own sides : List Sid
       span_bound-same p valid (windows_in t.windows) (λ terminal. points_at v terminal price.round) points (λ terminal lt. are.same terminal price.round lt)
       own t.told.tables (spans_beside t.told.spans price.kind) price.kind price.forced bound is
 
-  empty-own : (b : LeafBound) → IsBound b → (IsEmptyBound b ↔ IsEmptyUnder t price.round own)
+  empty-own : (b : LeafBound) → IsBound b → (IsEmptyBound b ↔ IsEmptyUnder t price own)
   empty-own (Empty shipment) b = (λ _. record { shipment = shipment; exists = b.exists; none = b.none }, λ _. tt)
   empty-own (Value value) b =
       (λ none. absurd none, λ empty. absurd (span_leaves-have-one-value.some p (windows_in t.windows) points own t.told.tables (spans_beside t.told.spans price.kind) price.kind price.forced value b empty))
@@ -69,11 +69,11 @@ module _ (t : Tested) (v : TimePoints) (price : LeafPrice) (own sides : List Sid
   )
 
   -- so it tells whether the leaf is empty
-  pub bound-empty : IsEmptyBound bound ↔ IsEmptyUnder t price.round sides
+  pub bound-empty : IsEmptyBound bound ↔ IsEmptyUnder t price sides
   bound-empty =
       let by_own = empty-own bound told in (
-        λ empty. empty-alike p (windows_in t.windows) points own sides alike (by_own.0 empty),
-        λ empty. by_own.1 (empty-alike p (windows_in t.windows) points sides own (AskAlike-sym own sides alike) empty),
+        λ empty. empty-alike p (windows_in t.windows) points own sides alike (spans_beside t.told.spans price.kind) (by_own.0 empty),
+        λ empty. by_own.1 (empty-alike p (windows_in t.windows) points sides own (AskAlike-sym own sides alike) (spans_beside t.told.spans price.kind) empty),
       )
 
   -- and whether it is worth the claim

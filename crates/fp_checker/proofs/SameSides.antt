@@ -12,11 +12,10 @@ use Rattle.fp_timenodes.specs.Floor.{floor_point}
 use Rattle.fp_flatnet.specs.declared.window_tables.Window.{Window}
 use Rattle.fp_tree.specs.declared.sides.Side.{Side}
 use Rattle.fp_allowed.specs.Allowed.{exit_of, has_moment, is_allowed, is_moment, tails_of}
-use Rattle.fp_allowed.specs.Walks.{IsTimedWalk}
 use Rattle.fp_prices.specs.declared.leaf_prices.Kind.{Kind}
-use Rattle.fp_prices.specs.Leaves.{IsChain, IsLeafEmpty, IsLeastCost}
+use Rattle.fp_prices.specs.Leaves.{HasNoWalkBy, IsChain, IsLeastCostBy}
 use Rattle.fp_prices.specs.Shares.{ClassShare}
-use Rattle.fp_prices_spans.specs.SpanLeaves.{IsChargeOf, IsSpanLeafValue}
+use Rattle.fp_prices_spans.specs.SpanLeaves.{IsChargeOf, IsSpanLeafEmpty, IsSpanLeafValue, leaf_heads}
 use Rattle.fp_prices_spans.specs.SpanPrices.{leaf_span_price}
 use Rattle.fp_prices_spans.specs.Spans.{ClassSpan}
 use Rattle.fp_checker.specs.LeafWays.{AskAlike}
@@ -40,11 +39,11 @@ module _ (p : Problem) (windows : ℕ → ℕ → Option Window) (points : ℕ �
   allowed-alike = λ i k c. one-alike k c i
 
   -- so a leaf is empty alike
-  pub empty-alike : IsLeafEmpty p windows points sides → IsLeafEmpty p windows points others
-  empty-alike empty = record {
+  pub empty-alike : (spans : List ClassSpan) → IsSpanLeafEmpty p windows points sides spans → IsSpanLeafEmpty p windows points others spans
+  empty-alike spans empty = record {
     shipment = empty.shipment;
     exists = empty.exists;
-    none = subst (λ (allowed : ℕ → Leg → Bool). (walk : List Leg) → IsTimedWalk p points (allowed empty.shipment) (shipment_at p empty.shipment) walk → ⊥) allowed-alike empty.none;
+    none = subst (λ (allowed : ℕ → Leg → Bool). HasNoWalkBy p (leaf_heads p windows points spans empty.shipment) (allowed empty.shipment) (shipment_at p empty.shipment)) allowed-alike empty.none;
   }
 
   -- and has the same value
@@ -55,7 +54,7 @@ module _ (p : Problem) (windows : ℕ → ℕ → Option Window) (points : ℕ �
     costs = is.costs;
     charges = is.charges;
     are_chains = subst (λ (allowed : ℕ → Leg → Bool). AllZipFrom (λ k. IsChain p (allowed k) forced) 0 p.shipments is.chains) allowed-alike is.are_chains;
-    are_least = subst (λ (allowed : ℕ → Leg → Bool). AllZipFrom (λ k (s : Shipment) n. IsLeastCost p points (allowed k) s (leaf_span_price p tables spans allowed kind is.chains k s.size) n) 0 p.shipments is.costs) allowed-alike
+    are_least = subst (λ (allowed : ℕ → Leg → Bool). AllZipFrom (λ k (s : Shipment) n. IsLeastCostBy p (leaf_heads p windows points spans k) (allowed k) s (leaf_span_price p tables spans allowed kind is.chains k s.size) n) 0 p.shipments is.costs) allowed-alike
         is.are_least;
     are_charges = subst (λ (allowed : ℕ → Leg → Bool). AllZip (IsChargeOf p allowed is.chains) spans is.charges) allowed-alike is.are_charges;
     value_is = is.value_is;

@@ -24,6 +24,6 @@ returns-clause-exact c =
     let empty = bound-empty c.args.case.now c.args.points.now c.args.price c.sides.result.now sides c.in_ok-whole.whole.0 c.in_ok-whole.ensures.valid c.requires.points c.sides.ensures c.in_ok-whole.ensures.exact in (
       λ h. inl (empty.0 (c.is_empty.ensures.0 h)),
       λ e.
-          ⊎_elim (λ (x : IsEmptyUnder c.args.case.now c.args.price.round sides). c.is_empty.ensures.1 (empty.1 x))
+          ⊎_elim (λ (x : IsEmptyUnder c.args.case.now c.args.price sides). c.is_empty.ensures.1 (empty.1 x))
           (λ (w : IsWorthUnder c.args.case.now c.args.price first). absurd (false≢true (sym c.if-is_bound_worth.false ∙ c.is_bound_worth.ensures.1 (worth.1 w)))) e,
     )

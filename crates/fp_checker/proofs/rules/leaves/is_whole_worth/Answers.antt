@@ -19,6 +19,6 @@ returns-clause-exact c =
     let empty = bound-empty c.args.case.now c.args.points.now c.args.price c.sides.result.now sides c.in_ok-found.found.0 c.in_ok-found.ensures.valid c.requires.points c.sides.ensures c.in_ok-found.ensures.exact in (
       λ h. inl (empty.0 (c.is_empty.ensures.0 h)),
       λ e.
-          ⊎_elim (λ (x : IsEmptyUnder c.args.case.now c.args.price.round sides). c.is_empty.ensures.1 (empty.1 x))
+          ⊎_elim (λ (x : IsEmptyUnder c.args.case.now c.args.price sides). c.is_empty.ensures.1 (empty.1 x))
           (λ (w : IsWorthUnder c.args.case.now c.args.price sides). absurd (false≢true (sym c.if-is_bound_worth.false ∙ c.is_bound_worth.ensures.1 (worth.1 w)))) e,
     )
