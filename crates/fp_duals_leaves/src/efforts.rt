@@ -16,6 +16,20 @@ impl PriceEffort {
         tables: Effort::ROOT,
         spans: Some(SpanEffort::ROOT),
     };
+    /// For the root after rounds, where spans are sought: it goes on from those that it has, so tables
+    /// are left out.
+    pub const AGAIN: PriceEffort = PriceEffort {
+        tables: Effort {
+            turns: 0,
+            settle_passes: 0,
+            ..Effort::CHOSEN
+        },
+        spans: Some(SpanEffort {
+            patience: 30,
+            joins: 1,
+            ..SpanEffort::ROOT
+        }),
+    };
     /// For a leaf that a step has chosen.
     pub const CHOSEN: PriceEffort = PriceEffort {
         tables: Effort::CHOSEN,

@@ -116,14 +116,23 @@ pub(crate) fn noted(kept: Kept, improved: Option<u32>) -> Kept
 }
 
 // The effort at a leaf that a step has chosen. One that was improved before over the same points keeps
-// its price, and its walks alone are found again; so it is where the time is over.
-fn effort_at(leaf: &Leaf, is_improved: bool, is_over: bool) -> PriceEffort {
-    if is_improved || is_over {
+// its price, and its walks alone are found again; so it is where the time is over. The root goes on from
+// the spans that it got before, where these are sought.
+fn effort_at(
+    leaf: &Leaf,
+    improved: Option<u32>,
+    round: u32,
+    has_spans: bool,
+    is_over: bool,
+) -> PriceEffort {
+    if improved == Some(round) || is_over {
         PriceEffort::NONE
-    } else if leaf.sides().is_empty() {
-        PriceEffort::ROOT
-    } else {
+    } else if !leaf.sides().is_empty() {
         PriceEffort::CHOSEN
+    } else if has_spans && improved.is_some() {
+        PriceEffort::AGAIN
+    } else {
+        PriceEffort::ROOT
     }
 }
 
@@ -146,8 +155,14 @@ pub(crate) fn chosen<D: Deadline>(
 {
     let round = search.trace.len() as u32;
     let inherited = old.payload.valuation.price;
-    let is_improved = old.payload.improved == Some(round);
-    let effort = &effort_at(leaf, is_improved, resources.is_over());
+    let has_spans = prices.unit().is_some();
+    let effort = &effort_at(
+        leaf,
+        old.payload.improved,
+        round,
+        has_spans,
+        resources.is_over(),
+    );
     match improved(
         resources, search, leaf, nets, old, inherited, effort, prices,
     )? {
