@@ -22,17 +22,16 @@ use fp_prices::Leaf;
 use fp_session_clashes::laid_walks;
 
 // At most so many rounds follow one another without prices between them.
-const LONGEST: u32 = 8;
+const LONGEST: usize = 8;
 
 // A series of rounds that raises what a leaf is worth by less than this part of what the incumbent costs
 // was fruitless.
 const LEAST_GAIN: u128 = 1_000;
 
 // How many rounds came since a leaf was priced; none where it never was.
-fn rounds_since(search: &Search, kept: Kept) -> u32 {
-    let round = search.trace.len() as u32;
+fn rounds_since(search: &Search, kept: Kept) -> usize {
     match kept.payload.improved {
-        Some(priced) => round.saturating_sub(priced),
+        Some(priced) => search.trace.len().saturating_sub(priced as usize),
         None => 0,
     }
 }

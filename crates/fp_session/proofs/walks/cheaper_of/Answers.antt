@@ -13,20 +13,20 @@ use Rattle.fp_session.proofs.OpenMoves.{under-exist, under-relaxed}
 use Rattle.fp_session.proofs.walks.cheaper_of.Goals as goal
 
 pub are_cheaper-requires-clause-exist : goal.are_cheaper-requires-clause-exist
-are_cheaper-requires-clause-exist g c =
+are_cheaper-requires-clause-exist c =
     let allowed = subst (λ (o : Option (Vec (List Leg) Global)). IfSome o (λ walks. AreAllowedWalks c.args.leaf.now walks.items)) c.in-Some.is c.requires.walks in
     under-exist c.args.search.now c.args.leaf.now.sides c.in-Some.walks.items
     (allowed-under c.args.search.now c.args.prices.now c.args.leaf.now c.args.leaf.now.sides c.in-Some.walks.items c.requires.search c.requires.setting refl allowed)
 
 pub are_cheaper-requires-clause-routes : goal.are_cheaper-requires-clause-routes
-are_cheaper-requires-clause-routes g c = λ apart.
+are_cheaper-requires-clause-routes c = λ apart.
     let allowed = subst (λ (o : Option (Vec (List Leg) Global)). IfSome o (λ walks. AreAllowedWalks c.args.leaf.now walks.items)) c.in-Some.is c.requires.walks in
     let under = allowed-under c.args.search.now c.args.prices.now c.args.leaf.now c.args.leaf.now.sides c.in-Some.walks.items c.requires.search c.requires.setting refl allowed in
     HasRoutes-relaxed c.args.search.now.instance (windows_in c.args.search.now.windows) (points_now c.args.search.now) c.in-Some.walks.items
     (under-relaxed c.args.search.now c.args.leaf.now.sides c.in-Some.walks.items under c.args.prices.now c.requires.search apart)
 
 pub returns-then-are_cheaper : goal.returns-then-are_cheaper
-returns-then-are_cheaper g c =
+returns-then-are_cheaper c =
     let allowed = subst (λ (o : Option (Vec (List Leg) Global)). IfSome o (λ walks. AreAllowedWalks c.args.leaf.now walks.items)) c.in-Some.is c.requires.walks in
     under-cheaper c.args.search.now c.args.leaf.now.sides c.in-Some.walks.items
     (allowed-under c.args.search.now c.args.prices.now c.args.leaf.now c.args.leaf.now.sides c.in-Some.walks.items c.requires.search c.requires.setting refl allowed)
