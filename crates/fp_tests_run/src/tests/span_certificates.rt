@@ -2,7 +2,7 @@
 //! by its first part that fails, and those that it refuses, each by its ordinal and code.
 
 use crate::tests::runs::{Checked, wrong_row};
-use fp_tests_examples::{ONE_ARC, TRIO};
+use fp_tests_examples::{ONE_ARC, SLOW_WAY, TRIO};
 use std::test::Fail;
 
 // Each of the three pays a whole truck on either way, since no two fit into one.
@@ -35,7 +35,23 @@ const THIRDS_UNIT: &str =
 const ONE_ARC_PROOF: &str =
     "answer,optimal,104\nunit,4\nleg,S1,A,B,0,5\ntruck,A,B,0,1,4\nleaf,linear,0,forced\nend\n";
 
-const TESTED: [Checked; 25] = [
+// S1 comes to C by B at 20. By the heads of the classes it would be ready there at 10, and go on free
+// by the class for which S2 pays; by those for S1 it is ready at 16.
+const LATER_HEADS: &str =
+    "answer,optimal,122\nleg,S1,A,B,0,10\nleg,S1,B,C,10,20\nleg,S2,C,D,10,20\nleg,S1,C,D,20,30\ntruck,A,B,0,1,5\ntruck,B,C,10,1,5\ntruck,C,D,10,1,5\ntruck,C,D,20,1,5\npoint,C,16,1\ntable,1\nspan,C,D,10,16,60000000,0\nweight,S2,60000000\nspan,C,D,16,100001,60000000,0\nweight,S1,60000000\nleaf,1,1,plain\nend\n";
+
+// The same with the point 20, and with the point 21, where the head for S1 is that of the class.
+const LATER_HEADS_AT_20: &str =
+    "answer,optimal,122\nleg,S1,A,B,0,10\nleg,S1,B,C,10,20\nleg,S2,C,D,10,20\nleg,S1,C,D,20,30\ntruck,A,B,0,1,5\ntruck,B,C,10,1,5\ntruck,C,D,10,1,5\ntruck,C,D,20,1,5\npoint,C,20,1\ntable,1\nspan,C,D,10,20,60000000,0\nweight,S2,60000000\nspan,C,D,20,100001,60000000,0\nweight,S1,60000000\nleaf,1,1,plain\nend\n";
+
+const SAME_HEADS: &str =
+    "answer,optimal,122\nleg,S1,A,B,0,10\nleg,S1,B,C,10,20\nleg,S2,C,D,10,20\nleg,S1,C,D,20,30\ntruck,A,B,0,1,5\ntruck,B,C,10,1,5\ntruck,C,D,10,1,5\ntruck,C,D,20,1,5\npoint,C,21,1\ntable,1\nspan,C,D,10,21,60000000,0\nweight,S2,60000000\nspan,C,D,21,100001,60000000,0\nweight,S1,60000000\nleaf,1,1,plain\nend\n";
+
+// Both may leave C at 20, so a plan costs 62.
+const LATE_DUES: &str =
+    "terminal,A\nterminal,B\nterminal,C\nterminal,D\narc,A,C,10,5,100,0\narc,A,B,10,5,1,0\narc,B,C,10,5,1,0\narc,C,D,10,10,60,0\nshipment,S1,A,D,5,0,31\nshipment,S2,C,D,5,10,30\n";
+
+const TESTED: [Checked; 35] = [
     (TRIO, TRIO_SPANS, "", "", 0, "accepted,optimal\n"),
     // A weight above the truck's cost wants what it is above as the charge, and that comes off once.
     (
@@ -171,6 +187,62 @@ const TESTED: [Checked; 25] = [
         "unit,100",
         12,
         "rejected,5\n",
+    ),
+    // Where spans stand beside its table a leaf goes by the heads for each shipment.
+    (SLOW_WAY, LATER_HEADS, "", "", 0, "accepted,optimal\n"),
+    (
+        SLOW_WAY,
+        LATER_HEADS,
+        "optimal,122",
+        "unfinished,122,62,branches",
+        0,
+        "accepted,unfinished\n",
+    ),
+    (SLOW_WAY, LATER_HEADS_AT_20, "", "", 0, "accepted,optimal\n"),
+    (SLOW_WAY, SAME_HEADS, "", "", 12, "rejected,7\n"),
+    (
+        SLOW_WAY,
+        SAME_HEADS,
+        "optimal,122",
+        "unfinished,122,62,branches",
+        0,
+        "accepted,unfinished\n",
+    ),
+    (LATE_DUES, SAME_HEADS, "", "", 12, "rejected,7\n"),
+    // By linear prices it goes by those of the classes, also beside spans that no leaf names.
+    (
+        SLOW_WAY,
+        LATER_HEADS,
+        "leaf,1,1",
+        "leaf,linear,1",
+        12,
+        "rejected,7\n",
+    ),
+    // The first leaf is empty by its heads, where S1 has an allowed timed walk by those of the classes:
+    // so it isn't empty by linear prices, nor as of round 0, where both heads are 10.
+    (
+        SLOW_WAY,
+        LATER_HEADS,
+        "leaf,1,1,plain\n",
+        "split,arc,S1,A,C\nsplit,time,S1,C,16\nleaf,1,1,plain\nleaf,1,1,plain\nleaf,1,1,plain\n",
+        0,
+        "accepted,optimal\n",
+    ),
+    (
+        SLOW_WAY,
+        LATER_HEADS,
+        "leaf,1,1,plain\n",
+        "split,arc,S1,A,C\nsplit,time,S1,C,16\nleaf,linear,1,plain\nleaf,1,1,plain\nleaf,1,1,plain\n",
+        12,
+        "rejected,7\n",
+    ),
+    (
+        SLOW_WAY,
+        LATER_HEADS,
+        "leaf,1,1,plain\n",
+        "split,arc,S1,A,C\nsplit,time,S1,C,16\nleaf,1,0,plain\nleaf,1,1,plain\nleaf,1,1,plain\n",
+        12,
+        "rejected,7\n",
     ),
     // Of 100 for the truck and 4 for the freight.
     (ONE_ARC, ONE_ARC_PROOF, "", "", 0, "accepted,optimal\n"),
