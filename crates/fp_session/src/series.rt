@@ -26,7 +26,7 @@ const LONGEST: usize = 8;
 
 // A series of rounds that raises what a leaf is worth by less than this part of what the incumbent costs
 // was fruitless.
-const LEAST_GAIN: u128 = 1_000;
+const LEAST_GAIN: u128 = 10_000;
 
 // How many rounds came since a leaf was priced; none where it never was.
 fn rounds_since(search: &Search, kept: Kept) -> usize {
