@@ -1,6 +1,6 @@
 -- What comes of improving the leaf decides.
 use Rattle.std.proofs.Common.{◌≡◌, ◌<◌, ◌≤◌, List, length, sym, ◌∙◌, subst}
-use Rattle.std.specs.Prelude.{IsSomeAnd}
+use Rattle.std.specs.Prelude.{IfSome, IsSomeAnd, Option}
 use Rattle.fp_timenodes.specs.declared.places.TheConstants.{MOST_POINTS}
 use Rattle.fp_longestarcs.specs.Networks.{TimedNetwork, point_count}
 use Rattle.fp_longestarcs.specs.Whole.{IsWholeNetwork}
@@ -12,8 +12,9 @@ use Rattle.fp_session_history.specs.Notes.{worth_of}
 use Rattle.fp_session.specs.declared.kept.Kept.{Kept}
 use Rattle.fp_session.specs.declared.outcomes.Outcome.TheVariants as outcome
 use Rattle.fp_session.specs.declared.payloads.Payload.{Payload}
+use Rattle.fp_session.specs.declared.planning.Planned.{Planned}
 use Rattle.fp_session.specs.Searches.{history}
-use Rattle.fp_session.specs.Moves.{LeavesNoLess}
+use Rattle.fp_session.specs.Moves.{IsMove, LeavesNoLess}
 use Rattle.fp_session.specs.Outcomes.{IsOutcome}
 use Rattle.fp_session.proofs.Improvements.{HaveGrown-twice}
 use Rattle.fp_session.proofs.SameHands.{IsSearch-grown}
