@@ -5,6 +5,7 @@ use fp_flatnet::{Windows, initial};
 use fp_longestarcs::Network;
 use fp_tests_examples::{PAIR, SLOW_WAY, instance_of};
 use fp_tree::{Side, Split};
+use std::alloc::Global;
 use std::test::Fail;
 
 #[test]
@@ -101,31 +102,42 @@ fn one_arc_under_sides(rt: HostRuntime) -> Result<(), Fail> {
     Ok(())
 }
 
+// The heads on the slow way with a point of C at a time: of the class from B at 0, and for S1; of the straight
+// class for S1; of the class from B for S2.
+fn heads_with(alloc: Global, at: u32) -> Result<Option<(u32, u32, u32, u32)>, Fail> {
+    let instance = instance_of(alloc, SLOW_WAY)?;
+    let windows = Windows::of(alloc, &instance)?;
+    if instance.terminals().len() != 4 || instance.shipments().len() != 2 || at > 100 {
+        return Ok(None);
+    }
+    let mut points = initial(alloc, &instance, &windows)?;
+    points.add(alloc, 2, at, 1)?;
+    let network = Network::of(alloc, &instance, &points, 1)?;
+    let allowed = Allowed::new(&instance, &windows, &network);
+    if network.classes() < 3 {
+        return Ok(None);
+    }
+    let (straight, start) = network.of_class(0);
+    let (way, begin) = network.of_class(2);
+    if (straight, start, way, begin) != (0, 0, 2, 0) {
+        return Ok(None);
+    }
+    Ok(Some((
+        network.head(way, begin),
+        allowed.head(0, way, begin),
+        allowed.head(0, straight, start),
+        allowed.head(1, way, begin),
+    )))
+}
+
 // S1 never leaves B before 10, so from there it comes to the greatest point of C that isn't after 20,
 // where the class of 0 alone comes to the one that isn't after 10. The straight arc's window begins
-// at its point.
+// at its point, and S2 has no window from B.
 #[test]
 fn heads_for_a_shipment(rt: HostRuntime) -> Result<(), Fail> {
     let alloc = rt.alloc();
-    let instance = instance_of(alloc, SLOW_WAY)?;
-    let windows = Windows::of(alloc, &instance)?;
-    assert!(rt; instance.shipments().len() == 2);
-    assert!(rt; instance.arcs().len() == 4);
-    for (at, want) in [(16, 16), (20, 20), (21, 10)] {
-        let mut points = initial(alloc, &instance, &windows)?;
-        points.add(alloc, 2, at, 1)?;
-        let network = Network::of(alloc, &instance, &points, 1)?;
-        let allowed = Allowed::new(&instance, &windows, &network);
-        assert!(rt; network.is_point(1, 0));
-        assert_eq!(rt; network.head(2, 0), 10, "of the class, with the point {at}");
-        assert_eq!(rt; allowed.head(0, 2, 0), want, "for S1, with the point {at}");
-        assert!(rt; network.is_point(0, 0));
-        assert_eq!(rt; allowed.head(0, 0, 0), 10, "straight, with the point {at}");
-        assert_eq!(rt;
-            allowed.head(1, 2, 0),
-            10,
-            "without a window, with the point {at}"
-        );
-    }
+    assert_eq!(rt; heads_with(alloc, 16)?, Some((10, 16, 10, 10)));
+    assert_eq!(rt; heads_with(alloc, 20)?, Some((10, 20, 10, 10)));
+    assert_eq!(rt; heads_with(alloc, 21)?, Some((10, 10, 10, 10)));
     Ok(())
 }
