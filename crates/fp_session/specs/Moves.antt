@@ -37,12 +37,12 @@ points_now s = points_of (history s no_prices) (last_round (history s no_prices)
 abbrev pub HasReserve : Search → Type 0
 HasReserve s = IsSomeAnd s.reserve (λ cheaper. ⊤)
 
--- one more round, with the incumbent of the moment: it is earned, and there is one left
-pub record IsNextRound (s : Search) (note : Refinement) (r : RefinedNetwork) : Type 0 where
+-- one more round, with the incumbent of the moment, of a search with such a unit: it is earned, and there is one left
+pub record IsNextRound (s : Search) (unit : Option ℕ) (note : Refinement) (r : RefinedNetwork) : Type 0 where
   pub left : last_round (history s no_prices) < s.budget.rounds
   pub round : note.round ≡ last_round (history s no_prices) + 1
   pub incumbent : note.incumbent ≡ s.cost
-  pub earned : IsEarnedRound s.instance s.windows (points_now s) note
+  pub earned : IsEarnedRound s.instance s.windows unit (points_now s) note
   pub refined : IsRefined s.instance s.points note.round note.added r
 
 -- the fork of a division
@@ -106,7 +106,7 @@ abbrev pub IsOpenMove : Search → PriceLists → (leaf : ℕ) → List Side →
 IsOpenMove s prices leaf sides move.Close = ⊥
 IsOpenMove s prices leaf sides (move.Better cheaper) = IsCheaper s cheaper
 IsOpenMove s prices leaf sides move.TakeReserve = HasReserve s
-IsOpenMove s prices leaf sides (move.Refine note refined) = IsNextRound s note refined × AreWalksHad (in_hand s) sides note.relaxed
+IsOpenMove s prices leaf sides (move.Refine note refined) = IsNextRound s prices.unit note refined × AreWalksHad (in_hand s) sides note.relaxed
 IsOpenMove s prices leaf sides (move.Divide division) = (split_count s.tree < s.budget.branches) × IsDivision (history s prices) sides division × HasDearWalks (in_hand s) sides
 IsOpenMove s prices leaf sides (move.Stop left) = IsLeftAt s leaf sides left × (s.reserve ≡ None)
 
@@ -116,7 +116,7 @@ IsMoveAt s prices leaf sides kept move.Close = IsSettled (history s prices) s.co
 IsMoveAt s prices leaf sides kept (move.Better cheaper) = IsCheaper s cheaper
 IsMoveAt s prices leaf sides kept move.TakeReserve = HasReserve s
 IsMoveAt s prices leaf sides kept (move.Refine note refined) =
-    IsWorthLess (history s prices) s.cost kept × IsNextRound s note refined × AreWalksHad (in_hand s) sides note.relaxed
+    IsWorthLess (history s prices) s.cost kept × IsNextRound s prices.unit note refined × AreWalksHad (in_hand s) sides note.relaxed
 IsMoveAt s prices leaf sides kept (move.Divide division) =
     IsUnsettled (history s prices) s.cost sides kept × (split_count s.tree < s.budget.branches) × IsDivision (history s prices) sides division × HasDearWalks (in_hand s) sides
 IsMoveAt s prices leaf sides kept (move.Stop left) = IsUnsettled (history s prices) s.cost sides kept × IsStopAt s leaf sides left × (s.reserve ≡ None)

@@ -130,7 +130,7 @@ impl Search {
     fn refine(&mut self, prices: &Prices, round: NextRound) -> Result<(), NoMemory>
         requires search { IsSearch self.old prices.now }
         requires going { self.old.left ≡ None }
-        requires round { IsNextRound self.old round.note round.refined }
+        requires round { IsNextRound self.old prices.now.unit round.note round.refined }
         ensures search { OnOk result (IsSearch self.new prices.now) }
         ensures refined { OnOk result
             (in_hand self.new ≡ with_round (in_hand self.old) round.note round.refined self.new.preparation) }

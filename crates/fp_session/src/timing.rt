@@ -50,7 +50,7 @@ fn next_round(
     requires left { last_round (history search.now prices.now) < search.now.budget.rounds }
     requires clashes { ClashesBelow search.now.instance search.now.windows (points_now search.now)
         search.now.cost relaxed }
-    ensures next { IfOk result (λ r. IsNextRound search.now r.note r.refined) }
+    ensures next { IfOk result (λ r. IsNextRound search.now prices.now.unit r.note r.refined) }
     ensures by { IfOk result (λ r. r.note.relaxed ≡ relaxed) }
 {
     let shorts = too_short(
@@ -93,7 +93,7 @@ pub(crate) fn timed<D: Deadline>(
     requires relaxed { IsRelaxedPlan search.now.instance (windows_in search.now.windows)
         (points_now search.now) relaxed }
     requires cheaper { cost_of search.now.instance relaxed < search.now.cost }
-    ensures { IfOk result (IsTiming search.now relaxed) }
+    ensures { IfOk result (IsTiming search.now prices.now.unit relaxed) }
 {
     let plan = repair_within(
         resources,

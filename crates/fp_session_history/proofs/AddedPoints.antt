@@ -1,7 +1,7 @@
 -- The points that earned rounds add can be added to the initial ones, and how many rounds can be
 -- earned.
 use Rattle.std.proofs.Common.{◌≡◌, ◌≢◌, ℕ, zero, suc, ◌+◌, ◌*◌, ◌<◌, ◌≤◌, Bool, true, false, cond, List, [], ◌∷◌, ◌++◌, length, get_or, map, ⊎_elim, refl, sym, ap, ap₂, ◌∙◌, subst, arith, append-nil, append_assoc, eqb-true}
-use Rattle.std.specs.Prelude.{All, AllPairs, ◌==◌, count_by}
+use Rattle.std.specs.Prelude.{All, AllPairs, ◌==◌, count_by, Option, None, Some}
 use Rattle.std.proofs.lemmas.Bool.{cases_Bool, eqb-false, false≢true, false_from_ne_true, ne_eqb, or_left, or_right}
 use Rattle.std.proofs.lemmas.List.{get_or_append_left, length-append, length-map}
 use Rattle.std.proofs.lemmas.List.Elements.{All-append, All-head, All-map, All-tail, All-weaker}
@@ -24,7 +24,7 @@ use Rattle.fp_certificate_rules.specs.Points.{AreAddedPoints}
 use Rattle.fp_session_history.specs.Clashes.{IsShortPlace}
 use Rattle.fp_shortarcs.specs.TooShort.{CanBePoint, IsShort}
 use Rattle.fp_session_history.specs.Notes.{History, Refinement, added_of, points_added, points_of}
-use Rattle.fp_session_history.specs.Traces.{IsEarnedRound, IsEarnedTrace}
+use Rattle.fp_session_history.specs.Traces.{IsEarnedRound, IsEarnedTrace, IsRoundPlace}
 use Rattle.fp_session_history.proofs.PointsKept.{added_of-append, added_of_push}
 use Rattle.fp_shortarcs.proofs.NewPlaces.{CanBePoint-IsShort}
 
@@ -105,7 +105,7 @@ module _ (p : Problem) (anchors : List Place) where
 
 -- the points of rounds so far, and of earned rounds after them
 added-from : (h : History) (done rest : List Refinement) → h.trace ≡ done ++ rest → All (λ (q : AddedPoint). q.round ≤ length done) (added_of done) →
-    AllFrom (λ k (n : Refinement). n.round ≡ k) (length done + 1) rest → AllFrom (λ k (n : Refinement). IsEarnedRound h.problem h.windows (points_of h k) n) (length done) rest →
+    AllFrom (λ k (n : Refinement). n.round ≡ k) (length done + 1) rest → AllFrom (λ k (n : Refinement). IsEarnedRound h.problem h.windows h.unit (points_of h k) n) (length done) rest →
     AreAddedPoints h.problem h.windows.anchors (added_of done) → AreAddedPoints h.problem h.windows.anchors (added_of (done ++ rest))
 added-from h done [] is until rounds earned are = subst (λ (ns : List Refinement). AreAddedPoints h.problem h.windows.anchors (added_of ns)) (sym (append-nil done)) are
 added-from h done (n ∷ rest) is until rounds earned are =
@@ -118,7 +118,7 @@ added-from h done (n ∷ rest) is until rounds earned are =
     (All-weaker (λ (q : AddedPoint). q.round ≤ length done) (λ (q : AddedPoint). q.round ≤ length (done ++ n ∷ [])) (λ q le. omega (arith, le, long)) (added_of done) until)
     (All-points_added (λ (q : AddedPoint). q.round ≤ length (done ++ n ∷ [])) n.round n.added (λ k d lt. omega (arith, long, rounds.0)))))
     (subst (λ (k : ℕ). AllFrom (λ j (m : Refinement). m.round ≡ j) (k + 1) rest) (sym long) rounds.1)
-    (subst (λ (k : ℕ). AllFrom (λ j (m : Refinement). IsEarnedRound h.problem h.windows (points_of h j) m) k rest) (sym long) earned.1)
+    (subst (λ (k : ℕ). AllFrom (λ j (m : Refinement). IsEarnedRound h.problem h.windows h.unit (points_of h j) m) k rest) (sym long) earned.1)
     (subst (λ (qs : List AddedPoint). AreAddedPoints h.problem h.windows.anchors qs) (sym (added_of_push done n))
     (AreAddedPoints-more h.problem h.windows.anchors (added_of done) points n.round n.added are initial there
     (All-weaker (λ (q : AddedPoint). q.round ≤ length done) (λ (q : AddedPoint). q.round < n.round) (λ q le. omega (arith, le, rounds.0)) (added_of done) until)
@@ -154,14 +154,14 @@ abbrev IsInTime : Problem → AddedPoint → Type 0
 IsInTime p q = (q.terminal < length p.terminals) × (1 ≤ q.at) × (q.at ≤ horizon p.shipments)
 
 -- the places of an earned round are
-places-in_time : (h : History) (points : ℕ → List ℕ) (n : Refinement) → BelongsTo h.problem h.windows → IsEarnedRound h.problem h.windows points n →
+places-in_time : (h : History) (points : ℕ → List ℕ) (n : Refinement) → BelongsTo h.problem h.windows → IsEarnedRound h.problem h.windows h.unit points n →
     All (IsInTime h.problem) (points_added n.round n.added)
 places-in_time h points n belongs round =
     All-points_added (IsInTime h.problem) n.round n.added
-    (All-weaker (IsShortPlace h.problem points n.relaxed) (λ (q : Place). IsInTime h.problem (point_added n.round q)) in_time n.added round.short)
+    (All-weaker (IsRoundPlace h.problem h.unit points n.relaxed) (λ (q : Place). IsInTime h.problem (point_added n.round q)) (in_time h.unit) n.added round.places)
   where
-    in_time : (q : Place) → IsShortPlace h.problem points n.relaxed q → IsInTime h.problem (point_added n.round q)
-    in_time q place =
+    short : (q : Place) → IsShortPlace h.problem points n.relaxed q → IsInTime h.problem (point_added n.round q)
+    short q place =
         let can : CanBePoint h.problem points place.short =
         CanBePoint-IsShort h.problem h.windows points n.relaxed belongs round.clashes.is (place.short ∷ []) (λ k d lt. first k d lt) 0 place.short (omega arith) in
         subst (λ (r : Place). IsInTime h.problem (point_added n.round r)) (sym place.at) (can.terminal, can.after, can.before)
@@ -170,8 +170,13 @@ places-in_time h points n belongs round =
         first zero d lt = place.is
         first (suc k) d lt = absurd (omega (arith, lt))
 
+    in_time : (unit : Option ℕ) (q : Place) → IsRoundPlace h.problem unit points n.relaxed q → IsInTime h.problem (point_added n.round q)
+    in_time None q place = short q place
+    in_time (Some unit) q (inl place) = short q place
+    in_time (Some unit) q (inr place) = place
+
 -- so are all points of earned rounds, and there are at least as many as rounds
-rounds-in_time : (h : History) (k : ℕ) (notes : List Refinement) → BelongsTo h.problem h.windows → AllFrom (λ j (n : Refinement). IsEarnedRound h.problem h.windows (points_of h j) n) k notes →
+rounds-in_time : (h : History) (k : ℕ) (notes : List Refinement) → BelongsTo h.problem h.windows → AllFrom (λ j (n : Refinement). IsEarnedRound h.problem h.windows h.unit (points_of h j) n) k notes →
     All (IsInTime h.problem) (added_of notes) × (length notes ≤ length (added_of notes))
 rounds-in_time h k [] belongs earned = ((λ j d lt. absurd (omega (arith, lt))), omega arith)
 rounds-in_time h k (n ∷ notes) belongs earned =

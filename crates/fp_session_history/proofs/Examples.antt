@@ -131,7 +131,7 @@ separate ((a ∷ b ∷ []) ∷ (c ∷ []) ∷ []) arcs within =
     subst (λ (legs : List (List Leg)). 300 ≤ cost crossing legs) (sym is) (costs c.depart (omega (arith, at_c.1)))
 
 -- so the round is earned over the first points
-earned : IsEarnedRound crossing table (points_of history 0) round
+earned : IsEarnedRound crossing table None (points_of history 0) round
 earned = record {
   clashes = record {
     is = (relaxed_first, (relaxed_second, tt));
@@ -143,7 +143,7 @@ earned = record {
   some = lit≤ tt;
   few = lit≤ tt;
   distinct = search rules;
-  short = all_one (IsShortPlace crossing (points_of history 0) together) (record { terminal = 1; at = 4 }) place;
+  places = all_one (IsShortPlace crossing (points_of history 0) together) (record { terminal = 1; at = 4 }) place;
   new = all_one (λ (q : Place). list_has (points_of history 0 q.terminal) q.at ≡ false) (record { terminal = 1; at = 4 }) refl;
 }
   where

@@ -100,22 +100,22 @@ AllFrom_weaker_below P Q i end (x ∷ xs) le weaker all =
 module _ (h : History) (started ended : ℕ) (trace : IsEarnedTrace h started ended) where
   -- a trace stays earned with one more note that is earned over the points as of the last round,
   -- with the incumbent of the moment
-  pub IsEarnedTrace-with_note : (n : Refinement) → n.round ≡ last_round h + 1 → n.incumbent ≡ ended → ended ≤ started → IsEarnedRound h.problem h.windows (points_of h (last_round h)) n →
+  pub IsEarnedTrace-with_note : (n : Refinement) → n.round ≡ last_round h + 1 → n.incumbent ≡ ended → ended ≤ started → IsEarnedRound h.problem h.windows h.unit (points_of h (last_round h)) n →
       IsEarnedTrace (with_note h n) started ended
   IsEarnedTrace-with_note n next now le round = record {
     rounds = AllFrom_push (λ k (m : Refinement). m.round ≡ k) 1 h.trace n trace.rounds (omega (arith, next));
-    earned = AllFrom_push (λ k (m : Refinement). IsEarnedRound h.problem h.windows (points_of (with_note h n) k) m) 0 h.trace n
-        (AllFrom_weaker_below (λ k (m : Refinement). IsEarnedRound h.problem h.windows (points_of h k) m) (λ k (m : Refinement). IsEarnedRound h.problem h.windows (points_of (with_note h n) k) m) 0 (last_round h) h.trace
+    earned = AllFrom_push (λ k (m : Refinement). IsEarnedRound h.problem h.windows h.unit (points_of (with_note h n) k) m) 0 h.trace n
+        (AllFrom_weaker_below (λ k (m : Refinement). IsEarnedRound h.problem h.windows h.unit (points_of h k) m) (λ k (m : Refinement). IsEarnedRound h.problem h.windows h.unit (points_of (with_note h n) k) m) 0 (last_round h) h.trace
         (omega arith) (λ k m lt. kept k m (omega (arith, lt, next))) trace.earned)
         (let same : 0 + length h.trace ≡ last_round h = omega arith in
-        subst (λ (k : ℕ). IsEarnedRound h.problem h.windows (points_of (with_note h n) k) n) (sym same) (kept (last_round h) n (omega (arith, next)) round));
+        subst (λ (k : ℕ). IsEarnedRound h.problem h.windows h.unit (points_of (with_note h n) k) n) (sym same) (kept (last_round h) n (omega (arith, next)) round));
     falling = all_pairs_push (λ (m k : Refinement). k.incumbent ≤ m.incumbent) h.trace n trace.falling (λ k d lt. omega (arith, now, trace.last k d lt));
     first = All-push (λ (m : Refinement). m.incumbent ≤ started) h.trace n trace.first (omega (arith, now, le));
     last = All-push (λ (m : Refinement). ended ≤ m.incumbent) h.trace n trace.last (omega (arith, now));
   }
     where
-      kept : (k : ℕ) (m : Refinement) → k < n.round → IsEarnedRound h.problem h.windows (points_of h k) m → IsEarnedRound h.problem h.windows (points_of (with_note h n) k) m
-      kept k m less round_of = subst (λ (points : ℕ → List ℕ). IsEarnedRound h.problem h.windows points m) (sym (points_of-with_note h n k less)) round_of
+      kept : (k : ℕ) (m : Refinement) → k < n.round → IsEarnedRound h.problem h.windows h.unit (points_of h k) m → IsEarnedRound h.problem h.windows h.unit (points_of (with_note h n) k) m
+      kept k m less round_of = subst (λ (points : ℕ → List ℕ). IsEarnedRound h.problem h.windows h.unit points m) (sym (points_of-with_note h n k less)) round_of
 
   -- tables have no say in it
   pub IsEarnedTrace-with_tables : (more : List (List ClassShare)) (spans : List (List ClassSpan)) → IsEarnedTrace (with_tables h more spans) started ended
