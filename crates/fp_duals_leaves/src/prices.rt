@@ -18,6 +18,7 @@ use fp_ends::{Deadline, Resources};
 use fp_model::Instance;
 use fp_prices::{Kind, Leaf, LeafPrice, Table};
 use fp_prices_spans::{Span, TableSpans, spans_beside};
+use fp_timenodes::Place;
 use std::alloc::Global;
 use std::marker::Model;
 
@@ -34,6 +35,8 @@ pub struct Prices {
     // How many lines the spans have in all, with their weights and groups.
     span_lines: u32,
     unit: Option<u128>,
+    // Where least walks clashed in the last search for spans: heuristics alone read them.
+    clashes: Vec<Place>,
 }
 
 impl Model for Prices {
@@ -85,7 +88,14 @@ impl Prices {
             spans: Vec::new(alloc),
             span_lines: 0,
             unit,
+            clashes: Vec::new(alloc),
         }
+    }
+
+    /// Places of points without which least walks clashed in the last search that found spans, those that
+    /// cost most first. Nothing is promised of them.
+    pub fn clashes(&self) -> &[Place] {
+        &self.clashes
     }
 
     /// The tables.
@@ -230,7 +240,12 @@ impl Prices {
 
     /// Adds a table without shares and spans beside it, and tells whether it did: not where they
     /// would be more price lines than are left.
-    pub(crate) fn push_spans(&mut self, alloc: Global, spans: Vec<Span>) -> Result<bool, NoMemory>
+    pub(crate) fn push_spans(
+        &mut self,
+        alloc: Global,
+        spans: Vec<Span>,
+        clashes: Vec<Place>,
+    ) -> Result<bool, NoMemory>
         ensures added { IfOk result (λ added. MatchBool added
             (self.new ≡ with_more self.old ([] ∷ []) (spans.items ∷ [])) (self.new ≡ self.old)) }
         ensures full { IfOk result (λ added. added ≡ false
@@ -254,6 +269,7 @@ impl Prices {
             return Err(error.into());
         }
         self.span_lines += lines;
+        self.clashes = clashes;
         Ok(true)
     }
 }

@@ -38,7 +38,7 @@ pub(crate) enum Timing {
     Spent { relaxed: RelaxedPlan },
 }
 
-// One more round, for a relaxed plan that calls for it: where spans are sought, it adds points where the
+// One more round, for a relaxed plan that calls for it: where spans are sought, it adds points where least
 // walks clash.
 fn next_round(
     alloc: Global,
@@ -64,9 +64,9 @@ fn next_round(
     let added = round_places(
         alloc,
         &search.instance,
-        &search.windows,
-        &relaxed,
+        &search.network,
         &shorts,
+        prices.clashes(),
         has_spans,
     )?;
     let round = search.trace.len() as u32 + 1;

@@ -21,18 +21,24 @@ pub record IsPlaceAmong (shorts : List Short) (place : Place) : Type 0 where
   pub among : Contains shorts short
   pub is : place ≡ place_of short
 
+-- distinct places of legs, at most as many as a round may add
+pub record ArePlacesOf (shorts : List Short) (places : List Place) : Type 0 where
+  pub each : All (IsPlaceAmong shorts) places
+  pub distinct : AreDistinct places
+  pub few : length places ≤ MOST_IN_ROUND
+
 -- a place is free: it is at a terminal and in time, and no point of the network is there
 pub record IsFreePlace (p : Problem) (net : TimedNetwork) (place : Place) : Type 0 where
   pub in_time : IsPlaceInTime p place
   pub new : list_has (points_in net place.terminal) place.at ≡ false
 
--- a place is that of one of the legs; or, where any are sought, a free one
-abbrev pub IsPlaceFound : Problem → TimedNetwork → (any : Bool) → List Short → Place → Type 0
-IsPlaceFound p net false shorts place = IsPlaceAmong shorts place
-IsPlaceFound p net true shorts place = IsPlaceAmong shorts place ⊎ IsFreePlace p net place
-
--- distinct such places, at most as many as a round may add
-pub record ArePlacesFound (p : Problem) (net : TimedNetwork) (any : Bool) (shorts : List Short) (places : List Place) : Type 0 where
-  pub each : All (IsPlaceFound p net any shorts) places
+-- distinct free places, at most as many as a round may add
+pub record AreFreePlaces (p : Problem) (net : TimedNetwork) (places : List Place) : Type 0 where
+  pub each : All (IsFreePlace p net) places
   pub distinct : AreDistinct places
   pub few : length places ≤ MOST_IN_ROUND
+
+-- places for a round: of too short legs; or, where any are sought, free ones
+abbrev pub ArePlacesFound : Problem → TimedNetwork → (any : Bool) → List Short → List Place → Type 0
+ArePlacesFound p net false shorts places = ArePlacesOf shorts places
+ArePlacesFound p net true shorts places = ArePlacesOf shorts places ⊎ AreFreePlaces p net places

@@ -1,21 +1,16 @@
-//! Where the walks of a relaxed plan clash, at which places a round should add points, the network with
-//! these, and the same walks over it.
+//! At which places a round adds points, the network with these, and the same walks over it.
 //!
-//! A relaxed plan has no times where the legs of one class can't leave at one moment: on the way to it
-//! one of its shipments is held up, leg by leg, until another can't come in time any more. Points along
-//! that chain tell the two apart, and no others do. The source of rounds: Boland, Hewitt, Marshall and
-//! Savelsbergh, "The Continuous-Time Service Network Design Problem", Operations Research 65, 2017; to
-//! choose points by chains is this project's own.
+//! A round adds points at the places of too short legs of its relaxed plan (Boland, Hewitt, Marshall and
+//! Savelsbergh, "The Continuous-Time Service Network Design Problem", Operations Research 65, 2017). Where
+//! spans are sought it adds points where least walks clash, as the search for spans found, which is this
+//! project's own.
 //!
-//! The chains are a heuristic. What is proved of the places is that they are places of too short legs,
-//! each once, and some where there is one; of the network that it is that of the points; and of the walks
-//! that they are allowed.
+//! What is proved of the places is that they are such, each once, and some where there is a too short leg;
+//! of the network that it is that of the points; and of the walks that they are allowed.
 #![tactic(auto)]
 
-mod chains;
 mod cheaper_walks;
 mod laying;
-mod moments;
 mod places;
 mod refining;
 mod walk_legs;
