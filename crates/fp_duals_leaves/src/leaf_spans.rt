@@ -8,7 +8,7 @@ use crate::NoMemory;
 use crate::span_prices::SpanPrice;
 use crate::span_tests::are_sound;
 use fp_duals_nets::LentNets;
-use fp_duals_spans::{SpanEffort, StartPrices, proposed_spans};
+use fp_duals_spans::{ClashVotes, SpanEffort, StartPrices, proposed_spans};
 use fp_ends::{Deadline, Resources};
 use fp_prices::{Kind, Leaf, LeafBound};
 use fp_prices_spans::{Span, span_bound};
@@ -43,7 +43,8 @@ fn price_by(
 ///
 /// They are sought from some prices, over the nets of the leaf. What is found keeps both rules of
 /// spans, by the leaf's windows and the initial points, so no plan of the leaf costs less than it's
-/// worth by them, where the initial points are among those of its network.
+/// worth by them, where the initial points are among those of its network. On the way least walks vote for
+/// points.
 /// Nothing is promised of when spans are found. `NoMemory` only where no memory is found.
 pub(crate) fn better_spans<D: Deadline>(
     resources: &Resources<D>,
@@ -52,6 +53,7 @@ pub(crate) fn better_spans<D: Deadline>(
     start: StartPrices,
     value: u128,
     effort: &SpanEffort,
+    votes: &mut ClashVotes,
 ) -> Result<Option<SpanPrice>, NoMemory>
     requires tables { AreTables leaf.now.setting.problem start.tables.now }
     requires kind { HasKind start.tables.now start.kind }
@@ -60,7 +62,7 @@ pub(crate) fn better_spans<D: Deadline>(
         (points_in leaf.now.setting.network) leaf.now.sides value)) }
 {
     let model = nets.within(resources.alloc, leaf)?;
-    let spans = proposed_spans(resources, leaf, model, start, effort)?;
+    let spans = proposed_spans(resources, leaf, model, start, effort, votes)?;
     if spans.is_empty() {
         return Ok(None);
     }

@@ -12,11 +12,14 @@ use crate::leaf_spans::better_spans;
 use crate::prices::Prices;
 use fp_duals::Improved;
 use fp_duals_nets::LentNets;
-use fp_duals_spans::{SpanEffort, StartPrices};
+use fp_duals_spans::{ClashVotes, SpanEffort, StartPrices};
 use fp_ends::{Deadline, Resources};
 use fp_prices::{Kind, Leaf, LeafBound, LeafPrice};
 use fp_prices_spans::span_bound;
 use std::alloc::Global;
+
+// At most so many places are kept at which least walks clash: what a series of rounds adds.
+const MOST_CLASHES: usize = 64;
 
 /// A price of a leaf, and what the leaf is worth by it.
 #[derive(Clone, Copy, Debug, PartialEq, Eq)]
@@ -108,12 +111,15 @@ fn by_spans<D: Deadline>(
         forced,
         spans: prices.spans_beside(kind),
     };
-    let found = better_spans(resources, leaf, nets, start, first.value, effort)?;
+    let mut votes = ClashVotes::of(resources.alloc, leaf.round().instance())?;
+    let value = first.value;
+    let found = better_spans(resources, leaf, nets, start, value, effort, &mut votes)?;
     let Some(found) = found else {
         return Ok(first);
     };
     let id = prices.count() + 1;
-    if !prices.push_spans(resources.alloc, found.spans)? {
+    let clashes = votes.places(resources.alloc, MOST_CLASHES)?;
+    if !prices.push_spans(resources.alloc, found.spans, clashes)? {
         return Ok(first);
     }
     Ok(Worth {

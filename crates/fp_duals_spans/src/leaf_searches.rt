@@ -3,6 +3,7 @@ ghost use Rattle.std.specs.Prelude.{◌≡◌, OnErr};
 ghost use Rattle.fp_prices.specs.Tables.{AreTables, HasKind};
 
 use crate::NoMemory;
+use crate::clash_votes::ClashVotes;
 use crate::efforts::SpanEffort;
 use crate::inherited_spans::{joined_runs, put_spans};
 use crate::keeping::PASSES;
@@ -95,6 +96,7 @@ fn found_over_arcs<D: Deadline>(
     model: &mut LeafNets,
     start: StartPrices,
     effort: &SpanEffort,
+    votes: &mut ClashVotes,
 ) -> Result<Option<Found>, NoMemory>
     requires tables { AreTables leaf.now.setting.problem start.tables.now }
     requires kind { HasKind start.tables.now start.kind }
@@ -113,7 +115,7 @@ fn found_over_arcs<D: Deadline>(
     if goes_on {
         put_costs(&layout, &model.nets, &mut prices);
     }
-    let found = search_arcs(resources, model, layout, prices, effort)?;
+    let found = search_arcs(resources, model, layout, prices, effort, votes)?;
     Ok(Some(found))
 }
 
@@ -122,7 +124,7 @@ fn found_over_arcs<D: Deadline>(
 /// promised of the spans, and they are of no use where some shipment has no allowed timed walk.
 /// `NoMemory` only where no memory is found.
 ///
-/// They are sought over whole arcs, and over classes and runs of them; the better ones are taken.
+/// On the way least walks vote for points where they clash. Spans are sought over whole arcs, and over classes and runs of them; the better ones are taken.
 /// Where there are many shipments they are sought over classes only once there are some over arcs.
 /// One search over each net for each turn of the effort, and one over the sets of each span
 /// whose prices move. Takes memory that grows with the edges of the nets.
@@ -132,13 +134,14 @@ pub fn proposed_spans<D: Deadline>(
     model: &mut LeafNets,
     start: StartPrices,
     effort: &SpanEffort,
+    votes: &mut ClashVotes,
 ) -> Result<Vec<Span>, NoMemory>
     requires tables { AreTables leaf.now.setting.problem start.tables.now }
     requires kind { HasKind start.tables.now start.kind }
     ensures { OnErr result (model.new ≡ model.old) }
 {
     let are_many = leaf.round().instance().shipments().len() > MOST_BY_CLASS;
-    let over_arcs = match found_over_arcs(resources, leaf, model, start, effort)? {
+    let over_arcs = match found_over_arcs(resources, leaf, model, start, effort, votes)? {
         Some(over_arcs) if are_many && start.spans.is_empty() => return Ok(over_arcs.spans),
         found => found,
     };
@@ -158,7 +161,7 @@ pub fn proposed_spans<D: Deadline>(
         merges: false,
     };
     let known = over_arcs.as_ref().map_or(0, |over_arcs| over_arcs.value);
-    let found = search.best(resources, model, known)?;
+    let found = search.best(resources, model, known, votes)?;
     match over_arcs {
         Some(over_arcs) if over_arcs.value > found.value => Ok(over_arcs.spans),
         _ => Ok(found.spans),

@@ -16,6 +16,7 @@
 #![tactic(auto)]
 
 mod ascent;
+mod clash_votes;
 mod efforts;
 mod inherited_spans;
 mod keeping;
@@ -27,6 +28,7 @@ mod separation;
 mod starts;
 mod whole_arcs;
 
+pub use clash_votes::ClashVotes;
 pub use efforts::SpanEffort;
 pub use leaf_searches::{StartPrices, proposed_spans, proposed_walks};
 

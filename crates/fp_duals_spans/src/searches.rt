@@ -3,8 +3,10 @@
 
 use crate::NoMemory;
 use crate::ascent::averages::Averages;
+use crate::ascent::clashes::Ground;
 use crate::ascent::exact_ascent::settle;
 use crate::ascent::subgradients::ascend;
+use crate::clash_votes::ClashVotes;
 use crate::efforts::SpanEffort;
 use crate::keeping::kept_spans;
 use crate::proposals::Proposal;
@@ -81,7 +83,13 @@ impl<'a> Search<'a> {
         &mut self,
         resources: &Resources<D>,
         model: &mut LeafNets,
+        votes: &mut ClashVotes,
     ) -> Result<Averages, NoMemory> {
+        let mut ground = Ground {
+            classes: &model.classes,
+            arcs: &model.arcs,
+            votes,
+        };
         ascend(
             resources,
             &self.layout,
@@ -89,6 +97,7 @@ impl<'a> Search<'a> {
             &mut self.prices,
             self.effort,
             self.merges,
+            &mut ground,
         )
     }
 
@@ -123,9 +132,10 @@ impl<'a> Search<'a> {
         resources: &Resources<D>,
         model: &mut LeafNets,
         known: u64,
+        votes: &mut ClashVotes,
     ) -> Result<Found, NoMemory> {
         let mut search = self;
-        let mut averages = search.ascend(resources, model)?;
+        let mut averages = search.ascend(resources, model, votes)?;
         let mut best = search.settled(resources, model)?;
         let mut before = best.value;
         for _ in 0..search.effort.joins {
@@ -137,7 +147,7 @@ impl<'a> Search<'a> {
                 break;
             }
             search = search.join(resources.alloc, &model.nets, &runs)?;
-            averages = search.ascend(resources, model)?;
+            averages = search.ascend(resources, model, votes)?;
             let found = search.settled(resources, model)?;
             let last = is_little_more(found.value, before);
             before = found.value;

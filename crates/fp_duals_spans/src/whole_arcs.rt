@@ -1,6 +1,7 @@
 //! What a search over whole arcs begins with.
 
 use crate::NoMemory;
+use crate::clash_votes::ClashVotes;
 use crate::efforts::SpanEffort;
 use crate::searches::{Found, Search};
 use fp_duals_layouts::{Layout, Payer, SpanPrices};
@@ -68,6 +69,7 @@ pub(crate) fn search_arcs<D: Deadline>(
     layout: Layout,
     prices: SpanPrices,
     effort: &SpanEffort,
+    votes: &mut ClashVotes,
 ) -> Result<Found, NoMemory> {
     let mut search = Search {
         layout,
@@ -75,7 +77,7 @@ pub(crate) fn search_arcs<D: Deadline>(
         effort: &arc_effort(effort),
         merges: false,
     };
-    search.ascend(resources, model)?;
+    search.ascend(resources, model, votes)?;
     let found = search.settled(resources, model)?;
     if effort.merged_turns == 0 || resources.is_over() {
         return Ok(found);
@@ -86,7 +88,7 @@ pub(crate) fn search_arcs<D: Deadline>(
         effort: &merged_effort(effort),
         merges: true,
     };
-    merging.ascend(resources, model)?;
+    merging.ascend(resources, model, votes)?;
     let merged = merging.settled(resources, model)?;
     if merged.value > found.value {
         Ok(merged)

@@ -1,6 +1,6 @@
 -- The points that earned rounds add can be added to the initial ones, and how many rounds can be
 -- earned.
-use Rattle.std.proofs.Common.{◌≡◌, ◌≢◌, ℕ, zero, suc, ◌+◌, ◌*◌, ◌<◌, ◌≤◌, Bool, true, false, cond, List, [], ◌∷◌, ◌++◌, length, get_or, map, ⊎_elim, refl, sym, ap, ap₂, ◌∙◌, subst, arith, append-nil, append_assoc, eqb-true}
+use Rattle.std.proofs.Common.{◌≡◌, ◌≢◌, ℕ, inl, inr, zero, suc, ◌+◌, ◌*◌, ◌<◌, ◌≤◌, Bool, true, false, cond, List, [], ◌∷◌, ◌++◌, length, get_or, map, ⊎_elim, refl, sym, ap, ap₂, ◌∙◌, subst, arith, append-nil, append_assoc, eqb-true}
 use Rattle.std.specs.Prelude.{All, AllPairs, ◌==◌, count_by, Option, None, Some}
 use Rattle.std.proofs.lemmas.Bool.{cases_Bool, eqb-false, false≢true, false_from_ne_true, ne_eqb, or_left, or_right}
 use Rattle.std.proofs.lemmas.List.{get_or_append_left, length-append, length-map}

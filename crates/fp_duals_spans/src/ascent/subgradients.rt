@@ -3,6 +3,7 @@
 
 use crate::NoMemory;
 use crate::ascent::averages::Averages;
+use crate::ascent::clashes::{Clashes, Ground};
 use crate::ascent::directions::Direction;
 use crate::efforts::SpanEffort;
 use fp_duals_ascent::{Target, Way, rate};
@@ -176,8 +177,11 @@ impl Climb {
     }
 }
 
+// In each turn of so many least walks vote for points.
+const VOTING: u32 = 4;
+
 /// Moves the prices by the spans of a layout to better ones, where `merges` with groups merged that
-/// are charged no more together. The averages over the turns.
+/// are charged no more together, and else with votes for points. The averages over the turns.
 pub(crate) fn ascend<D: Deadline>(
     resources: &Resources<D>,
     layout: &Layout,
@@ -185,9 +189,15 @@ pub(crate) fn ascend<D: Deadline>(
     prices: &mut SpanPrices,
     effort: &SpanEffort,
     merges: bool,
+    ground: &mut Ground,
 ) -> Result<Averages, NoMemory> {
+    let mut clashes = Clashes::of(resources.alloc, layout)?;
     let mut climb = Climb::of(resources.alloc, layout, nets, prices, effort, merges)?;
     for turn in 0..effort.turns {
+        if !merges && turn % VOTING == 0 {
+            let walks = &climb.direction.walks;
+            clashes.vote(layout, nets, walks, &climb.charges, ground)?;
+        }
         if !climb.step(layout, nets, prices, turn)? {
             break;
         }
