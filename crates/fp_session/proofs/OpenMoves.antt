@@ -293,7 +293,7 @@ module _ (s : Search) (prices : PriceLists) (k : ℕ) (old : Kept) (is : IsSearc
 
   -- a round is added that is called for by walks under its sides
   pub round-stays : (sides : List Side) (note : Refinement) (refined : RefinedNetwork) → IsSomeAnd (leaf_at s.tree k) (λ (l : Leaf (Node Payload)). l.sides ≡ sides) → old.payload.empty ≡ false →
-      worth_of (history s prices) old.value < s.cost → IsNextRound s note refined → AreWalksHad (in_hand s) sides note.relaxed → IsMove s prices k old (move.Refine note refined)
+      worth_of (history s prices) old.value < s.cost → IsNextRound s prices.unit note refined → AreWalksHad (in_hand s) sides note.relaxed → IsMove s prices k old (move.Refine note refined)
   round-stays sides note refined there some below next under =
       stays (move.Refine note refined) (
         record { some = some; below = below },

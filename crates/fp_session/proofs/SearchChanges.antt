@@ -237,7 +237,7 @@ module _ (s : Search) (prices : PriceLists) (is : IsSearch s prices) (going : s.
     }
 
   -- one more round
-  pub IsSearch-refine : (note : Refinement) (r : RefinedNetwork) (trace : Vec Refinement Global) → trace.items ≡ s.trace.items ++ (note ∷ []) → IsNextRound s note r →
+  pub IsSearch-refine : (note : Refinement) (r : RefinedNetwork) (trace : Vec Refinement Global) → trace.items ≡ s.trace.items ++ (note ∷ []) → IsNextRound s prices.unit note r →
       IsSearch (record s { points = r.points; network = r.network; trace = trace }) prices
   IsSearch-refine note r trace grown next = record {
     belongs = is.belongs;

@@ -51,10 +51,10 @@ module _ (s : Search) (prices : PriceLists) (k : ℕ) (kept : Kept) (m : Move) (
       AtOpenLeaf-fact s.tree k (IsCheaper s c) (planned-as (move.Better c) same)
 
   -- a round that is to be added is the next one
-  pub refine-next : (note : Refinement) (r : RefinedNetwork) → m ≡ move.Refine note r → IsNextRound s note r
+  pub refine-next : (note : Refinement) (r : RefinedNetwork) → m ≡ move.Refine note r → IsNextRound s prices.unit note r
   refine-next note r same =
-      AtOpenLeaf-fact s.tree k (IsNextRound s note r)
-      (AtOpenLeaf-map s.tree k (λ l. IsMoveAt s prices k l.sides kept (move.Refine note r)) (λ l. IsNextRound s note r) (λ l both. both.1) (planned-as (move.Refine note r) same))
+      AtOpenLeaf-fact s.tree k (IsNextRound s prices.unit note r)
+      (AtOpenLeaf-map s.tree k (λ l. IsMoveAt s prices k l.sides kept (move.Refine note r)) (λ l. IsNextRound s prices.unit note r) (λ l both. both.1) (planned-as (move.Refine note r) same))
 
   module _ (d : Division) (same : m ≡ move.Divide d) where
     -- a leaf that is to be divided has something to search for
@@ -101,7 +101,7 @@ IsKept-with_note h started cost n sides payload value next kept =
     let open_still : IsLeafOf h cost (leaf_put payload value false sides) = record { kept = kept; closed = λ shut. absurd (Rattle.std.proofs.lemmas.Bool.false≢true shut) } in
     (IsLeafOf-with_note h started cost n next (leaf_put payload value false sides) open_still).kept
 
-module _ (s t : Search) (prices : PriceLists) (note : Refinement) (r : RefinedNetwork) (next : IsNextRound s note r) (with : in_hand t ≡ with_round (in_hand s) note r t.preparation) where
+module _ (s t : Search) (prices : PriceLists) (note : Refinement) (r : RefinedNetwork) (next : IsNextRound s prices.unit note r) (with : in_hand t ≡ with_round (in_hand s) note r t.preparation) where
   -- what was found of an open leaf is still true after a round
   pub round-kept : (k : ℕ) (kept : Kept) → AtOpenLeaf s.tree k (λ l. IsKept (history s prices) l.sides kept.payload kept.value) →
       AtOpenLeaf t.tree k (λ l. IsKept (history t prices) l.sides kept.payload kept.value)

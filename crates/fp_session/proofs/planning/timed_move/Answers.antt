@@ -11,14 +11,14 @@ use Rattle.fp_session.proofs.planning.timed_move.Goals as goal
 
 pub returns-in-Refine-clause-open_move : goal.returns-in-Refine-clause-open_move
 returns-in-Refine-clause-open_move g c =
-    let own : IsTiming c.args.search.now c.args.relaxed (timing.Refine c.in-Refine.round) = subst (IsTiming c.args.search.now c.args.relaxed) c.in-Refine.is c.in_ok-cheaper.ensures in (
+    let own : IsTiming c.args.search.now c.args.prices.now.unit c.args.relaxed (timing.Refine c.in-Refine.round) = subst (IsTiming c.args.search.now c.args.prices.now.unit c.args.relaxed) c.in-Refine.is c.in_ok-cheaper.ensures in (
       own.0,
       subst (λ (walks : List (List Leg)). AreWalksUnder c.args.search.now.instance c.args.search.now.windows (points_now c.args.search.now) c.args.leaf.now.sides walks) (sym own.1) c.requires.under,
     )
 
 pub returns-else-is_some-clause-open_move : goal.returns-else-is_some-clause-open_move
 returns-else-is_some-clause-open_move g c =
-    let own : IsTiming c.args.search.now c.args.relaxed (timing.Spent c.in-Spent.relaxed) = subst (IsTiming c.args.search.now c.args.relaxed) c.in-Spent.is c.in_ok-cheaper.ensures in (
+    let own : IsTiming c.args.search.now c.args.prices.now.unit c.args.relaxed (timing.Spent c.in-Spent.relaxed) = subst (IsTiming c.args.search.now c.args.prices.now.unit c.args.relaxed) c.in-Spent.is c.in_ok-cheaper.ensures in (
       (
         refl,
         record {

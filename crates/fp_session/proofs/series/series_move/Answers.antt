@@ -21,13 +21,13 @@ timed-requires-clause-relaxed g c =
 pub returns-in-Better-clause-planned : goal.returns-in-Better-clause-planned
 returns-in-Better-clause-planned g c =
     better-stays c.args.search.now c.args.prices.now c.args.number c.args.old c.requires.search c.requires.old c.in-Better.cheaper
-    (subst (IsTiming c.args.search.now c.in-Some-cheaper_of.relaxed) c.in-Better.is c.in_ok-cheaper.ensures)
+    (subst (IsTiming c.args.search.now c.args.prices.now.unit c.in-Some-cheaper_of.relaxed) c.in-Better.is c.in_ok-cheaper.ensures)
 
 pub returns-in-Refine-clause-planned : goal.returns-in-Refine-clause-planned
 returns-in-Refine-clause-planned g c =
     let found : AreCheaperWalks c.args.search.now c.args.leaf.now.sides c.in-Some-cheaper_of.relaxed =
     subst (λ (o : Option (List (List Leg))). IfSome o (AreCheaperWalks c.args.search.now c.args.leaf.now.sides)) c.in-Some-cheaper_of.is c.cheaper_of.ensures in
-    let own : IsTiming c.args.search.now c.in-Some-cheaper_of.relaxed (timing.Refine c.in-Refine.round) = subst (IsTiming c.args.search.now c.in-Some-cheaper_of.relaxed) c.in-Refine.is c.in_ok-cheaper.ensures in
+    let own : IsTiming c.args.search.now c.args.prices.now.unit c.in-Some-cheaper_of.relaxed (timing.Refine c.in-Refine.round) = subst (IsTiming c.args.search.now c.args.prices.now.unit c.in-Some-cheaper_of.relaxed) c.in-Refine.is c.in_ok-cheaper.ensures in
     round-stays c.args.search.now c.args.prices.now c.args.number c.args.old c.requires.search c.requires.old c.args.leaf.now.sides c.in-Refine.round.note c.in-Refine.round.refined c.requires.sides c.requires.some
     (below-cost (worth_of (history c.args.search.now c.args.prices.now) c.args.old.value) c.args.search.now.cost c.is_dear.result c.if-is_dear.false c.is_dear.ensures.1) own.0
     (subst (λ (walks : List (List Leg)). AreWalksUnder c.args.search.now.instance c.args.search.now.windows (points_now c.args.search.now) c.args.leaf.now.sides walks) (sym own.1) found.under)
