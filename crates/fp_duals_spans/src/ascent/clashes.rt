@@ -75,9 +75,7 @@ impl Clashes {
             ground.votes.add(&self.chain, cost)?;
             return Ok(None);
         }
-        Ok(Some(
-            now.saturating_add(ground.votes.step(leg.class.stop.arc)),
-        ))
+        Ok(Some(now.saturating_add(ground.votes.step(leg.class.stop.arc))))
     }
 
     // Goes by a walk of a net, of which the last edge stands first, until it clashes.
