@@ -1,5 +1,6 @@
 //! The tests, a file for each subject.
 
+mod clashes;
 mod dispatch;
 mod duals;
 mod local;
