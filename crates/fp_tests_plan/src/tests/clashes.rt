@@ -42,8 +42,18 @@ fn places_after(
     Ok(Some(places))
 }
 
-// A point that stands, no terminal, a time past the latest due time, and two places that are free.
-const SOME: [Place; 6] = [
+// A point that stands, no terminal, and a time past the latest due time.
+const TAKEN: [Place; 3] = [
+    Place { terminal: 1, at: 0 },
+    Place { terminal: 4, at: 3 },
+    Place {
+        terminal: 1,
+        at: 21,
+    },
+];
+
+// The same, and two places that are free, one of them twice.
+const MIXED: [Place; 6] = [
     Place { terminal: 1, at: 0 },
     Place { terminal: 4, at: 3 },
     Place {
@@ -59,15 +69,16 @@ const SOME: [Place; 6] = [
 fn places_for_a_round(rt: HostRuntime) -> Result<(), Fail> {
     let alloc = rt.alloc();
     let instance = instance_of(alloc, MISSED)?;
+    let free = [Place { terminal: 1, at: 6 }, Place { terminal: 0, at: 3 }];
     let short = [
         Place { terminal: 1, at: 4 },
         Place { terminal: 1, at: 5 },
         Place { terminal: 0, at: 3 },
     ];
     for (clashes, any, want) in [
-        (SOME.as_slice(), true, SOME[3..5].as_ref()),
-        (SOME.as_slice(), false, short.as_slice()),
-        (SOME[..3].as_ref(), true, short.as_slice()),
+        (MIXED.as_slice(), true, free.as_slice()),
+        (MIXED.as_slice(), false, short.as_slice()),
+        (TAKEN.as_slice(), true, short.as_slice()),
     ] {
         let places = places_after(alloc, &instance, clashes, any)?.expect(&rt, "in time");
         assert_eq!(rt; places.as_slice(), want);
