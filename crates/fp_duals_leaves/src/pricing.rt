@@ -18,8 +18,20 @@ use fp_prices::{Kind, Leaf, LeafBound, LeafPrice};
 use fp_prices_spans::span_bound;
 use std::alloc::Global;
 
-// At most so many places are kept at which least walks clash: what a series of rounds adds.
-const MOST_CLASHES: usize = 64;
+// At least, and at most, so many places are kept at which least walks clash: what a series of rounds adds.
+const FEW_CLASHES: usize = 64;
+
+const MANY_CLASHES: usize = 256;
+
+// At most so many places are kept at a leaf: two for each shipment, as prices of more shipments take
+// longer.
+fn most_clashes(leaf: &Leaf) -> usize {
+    let shipments = leaf.round().instance().shipments().len();
+    shipments
+        .saturating_mul(2)
+        .max(FEW_CLASHES)
+        .min(MANY_CLASHES)
+}
 
 /// A price of a leaf, and what the leaf is worth by it.
 #[derive(Clone, Copy, Debug, PartialEq, Eq)]
@@ -118,7 +130,7 @@ fn by_spans<D: Deadline>(
         return Ok(first);
     };
     let id = prices.count() + 1;
-    let clashes = votes.places(resources.alloc, MOST_CLASHES)?;
+    let clashes = votes.places(resources.alloc, most_clashes(leaf))?;
     if !prices.push_spans(resources.alloc, found.spans, clashes)? {
         return Ok(first);
     }

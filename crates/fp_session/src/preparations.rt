@@ -63,9 +63,10 @@ impl Preparation {
     }
 
     // What is done next after more work than `before`, in rounds: among fewer shipments, where a round
-    // takes less time, looks are rarer.
+    // takes less time, looks are rarer; and among many, where a look takes as long as many rounds of a
+    // series, they come after as many of them.
     pub(crate) fn after_work(self, before: usize, now: usize, instance: &Instance) -> Preparation {
-        let every = (400 / instance.shipments().len().max(1)).max(1);
+        let every = (400 / instance.shipments().len().max(1)).max(6);
         if self == Preparation::Nothing && before / every < now / every {
             Preparation::LaterLook
         } else {

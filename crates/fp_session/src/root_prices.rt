@@ -22,7 +22,7 @@ use fp_ends::{Deadline, Resources};
 use fp_prices::{Kind, Leaf, LeafPrice, RoundNetwork};
 use fp_relaxmodel::{RelaxedPlan, TimedWalk};
 use fp_session_clashes::are_cheaper;
-use fp_session_looks::Cheaper;
+use fp_session_looks::{Cheaper, MANY};
 
 // An open leaf with a better price.
 #[derive(Clone, Copy, Debug, PartialEq, Eq)]
@@ -147,7 +147,8 @@ fn priced_at<D: Deadline>(
 }
 
 // The root gets its tables. Where spans are sought, a plan is made of its walks, as the first step makes
-// one where they aren't.
+// one where they aren't; among many shipments tables are left out then: they take as long as spans, and
+// what spans find over whole arcs doesn't begin from them.
 #[tactic(auto, using(fp_duals_leaves::proofs::GrownPrices::HaveGrown_none))]
 pub(crate) fn priced_by_tables<D: Deadline>(
     resources: &Resources<D>,
@@ -163,6 +164,9 @@ pub(crate) fn priced_by_tables<D: Deadline>(
         return Ok(NOTHING);
     };
     let has_spans = prices.unit().is_some();
+    if has_spans && search.instance.shipments().len() > MANY as usize {
+        return Ok(NOTHING);
+    }
     let pricing = Pricing {
         inherited: LINEAR,
         effort: TABLES,

@@ -22,7 +22,7 @@ use fp_prices::Leaf;
 use fp_session_clashes::laid_walks;
 
 // At most so many rounds follow one another without prices between them.
-const LONGEST: usize = 8;
+const LONGEST: usize = 32;
 
 // A series of rounds that raises what a leaf is worth by less than this part of what the incumbent costs
 // was fruitless.

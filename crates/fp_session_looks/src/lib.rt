@@ -5,7 +5,7 @@ mod cheaper;
 mod looks;
 
 pub use cheaper::Cheaper;
-pub use looks::{Look, look_from};
+pub use looks::{Look, MANY, look_from};
 
 /// The error of a call that finds no memory.
 pub type NoMemory = std::alloc::AllocError;

@@ -25,8 +25,9 @@ pub struct Look {
 // At most so many shipments are few: states may get dearer among them.
 const FEW: u32 = 100;
 
-// Among more shipments than so many prices take so long that the first look is longer.
-const MANY: u32 = 200;
+/// Among more shipments than so many a turn of a local search takes so long that searches have fewer, and a
+/// search for prices so long that there are fewer of these.
+pub const MANY: u32 = 200;
 
 // How many shipments an instance has.
 fn count(instance: &Instance) -> u32 {
@@ -53,7 +54,7 @@ impl Look {
     /// A short one, at the plan that a search begins with.
     pub fn first(instance: &Instance) -> Look {
         if count(instance) > MANY {
-            look_of(instance, 8, 50, 10_000, true)
+            look_of(instance, 8, 10, 3_000, true)
         } else {
             look_of(instance, 4, 25, 1_000, true)
         }
@@ -65,14 +66,14 @@ impl Look {
     }
 
     /// Long ones, each from the cheapest plan so far: more of them among few shipments, where they
-    /// take less time. Between few and many a search as long as later ones would take most of ten
-    /// seconds, which prices need.
+    /// take less time. Between few and many, where rounds raise what the root is worth by most within ten
+    /// seconds, there are two.
     pub fn deep(instance: &Instance) -> Look {
         let shipments = count(instance);
         if shipments <= FEW {
             look_of(instance, 8, 250, 25_000, true)
         } else if shipments <= MANY {
-            look_of(instance, 4, 250, 12_500, true)
+            look_of(instance, 2, 250, 12_500, true)
         } else {
             look_of(instance, 4, 250, 25_000, true)
         }

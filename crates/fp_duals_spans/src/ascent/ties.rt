@@ -4,21 +4,21 @@ use crate::NoMemory;
 use fp_duals_layouts::Layout;
 use std::alloc::Global;
 
+// No group.
+const NO_GROUP: u32 = u32::MAX;
+
 /// The payers in groups: those of one shipment for single classes of one arc, and each other payer for
 /// itself. A point divides a class, and what was paid for it is to be paid for both: moved each for
 /// itself, they would take many turns to rise by as much.
 #[derive(Drop)]
 pub(crate) struct Ties {
     // The group of each payer.
-    groups: Vec<usize>,
-    // The payers of all groups, and where each group ends.
-    members: Vec<usize>,
-    ends: Vec<usize>,
+    groups: Vec<u32>,
     // The sum over each group of what its payers' means have that can move, where it's gathered.
     sums: Vec<i64>,
     gathered: Vec<bool>,
     // The groups that are gathered.
-    list: Vec<usize>,
+    list: Vec<u32>,
 }
 
 // The arc for a single class of which a payer pays, if it's such a payer.
@@ -36,9 +36,7 @@ impl Ties {
     pub(crate) fn of(alloc: Global, layout: &Layout, shipments: usize) -> Result<Ties, NoMemory> {
         let payers = layout.payers.len();
         let mut ties = Ties {
-            groups: vec![in alloc; 0usize; payers]?,
-            members: Vec::with_capacity(alloc, payers)?,
-            ends: Vec::new(alloc),
+            groups: vec![in alloc; NO_GROUP; payers]?,
             sums: Vec::new(alloc),
             gathered: Vec::new(alloc),
             list: Vec::new(alloc),
@@ -46,9 +44,6 @@ impl Ties {
         for shipment in 0..shipments {
             ties.add_shipment(layout, shipment)?;
         }
-        let groups = ties.ends.len();
-        ties.sums.resize(groups, 0)?;
-        ties.gathered.resize(groups, false)?;
         Ok(ties)
     }
 
@@ -58,15 +53,12 @@ impl Ties {
         for payer in layout.own.group(shipment) {
             let arc = single_arc(layout, *payer);
             if arc.is_none() || arc != before {
-                self.ends.push(self.members.len())?;
+                self.sums.push(0)?;
+                self.gathered.push(false)?;
             }
             before = arc;
-            self.members.push(*payer)?;
-            if let Some(end) = self.ends.last_mut() {
-                *end = self.members.len();
-            }
             if let Some(group) = self.groups.get_mut(*payer) {
-                *group = self.ends.len().wrapping_sub(1);
+                *group = (self.sums.len() as u32).wrapping_sub(1);
             }
         }
         Ok(())
@@ -75,10 +67,10 @@ impl Ties {
     /// Forgets what is gathered.
     pub(crate) fn clear(&mut self) {
         for group in &self.list {
-            if let Some(gathered) = self.gathered.get_mut(*group) {
+            if let Some(gathered) = self.gathered.get_mut(*group as usize) {
                 *gathered = false;
             }
-            if let Some(sum) = self.sums.get_mut(*group) {
+            if let Some(sum) = self.sums.get_mut(*group as usize) {
                 *sum = 0;
             }
         }
@@ -95,13 +87,13 @@ impl Ties {
         let Some(group) = self.groups.get(payer).copied() else {
             return Ok(());
         };
-        if let Some(gathered) = self.gathered.get_mut(group)
+        if let Some(gathered) = self.gathered.get_mut(group as usize)
             && !*gathered
         {
             *gathered = true;
             self.list.push(group)?;
         }
-        if can_move && let Some(sum) = self.sums.get_mut(group) {
+        if can_move && let Some(sum) = self.sums.get_mut(group as usize) {
             *sum = sum.wrapping_add(mean);
         }
         Ok(())
@@ -109,35 +101,29 @@ impl Ties {
 
     /// The sum of a payer's group.
     pub(crate) fn sum(&self, payer: usize) -> i64 {
-        let group = self.groups.get(payer).copied().unwrap_or(usize::MAX);
-        self.sums.get(group).copied().unwrap_or(0)
+        let group = self.groups.get(payer).copied().unwrap_or(NO_GROUP);
+        self.sums.get(group as usize).copied().unwrap_or(0)
     }
 
     /// The sum of the squares of all sums.
     pub(crate) fn norm(&self) -> u64 {
         let mut norm = 0u64;
         for group in &self.list {
-            let sum = self.sums.get(*group).copied().unwrap_or(0).unsigned_abs();
+            let sum = self.sums.get(*group as usize).copied().unwrap_or(0);
+            let sum = sum.unsigned_abs();
             norm = norm.saturating_add(sum.saturating_mul(sum));
         }
         norm
     }
 
-    // The payers in a group.
-    fn group(&self, number: usize) -> &[usize] {
-        let end = self.ends.get(number).copied().unwrap_or(0);
-        let first = match number.checked_sub(1) {
-            Some(before) => self.ends.get(before).copied().unwrap_or(0),
-            None => 0,
-        };
-        self.members.get(first..end).unwrap_or(&[])
-    }
-
-    /// Puts in the payers of all groups that are gathered.
+    /// Puts in the payers of all groups that are gathered, in their order: in which they stand by
+    /// shipment within a span, so that prices and edges are gone through as they lie in memory.
     pub(crate) fn list_members(&self, payers: &mut Vec<usize>) -> Result<(), NoMemory> {
         payers.clear();
-        for group in &self.list {
-            payers.extend_from_slice(self.group(*group))?;
+        for (payer, group) in self.groups.iter().enumerate() {
+            if self.gathered.get(*group as usize).copied().unwrap_or(false) {
+                payers.push(payer)?;
+            }
         }
         Ok(())
     }
