@@ -57,11 +57,13 @@ fn waiting(reserve: Option<Cheaper>, cost: u128) -> Option<Cheaper>
 
 impl Search {
     // What is done next before a step, after a round or a split, which was so much work, in rounds.
-    fn next_look(&self, added: usize) -> Preparation {
+    fn next_look(&self, added: usize, prices: &Prices) -> Preparation {
         let splits = SPLIT_WORK.saturating_mul(self.tree.splits() as usize);
         let work = self.trace.len().saturating_add(splits);
         let before = work.saturating_sub(added);
-        self.preparation.after_work(before, work, &self.instance)
+        let has_series = prices.unit().is_some();
+        self.preparation
+            .after_work(before, work, &self.instance, has_series)
     }
 
     // Keeps what was found of an open leaf, which is settled, and closes it. The tables serve the
@@ -139,7 +141,7 @@ impl Search {
         self.trace.push(round.note)?;
         self.points = round.refined.points;
         self.network = round.refined.network;
-        self.preparation = self.next_look(1);
+        self.preparation = self.next_look(1, prices);
         Ok(())
     }
 
@@ -179,7 +181,7 @@ impl Search {
             .split_leaf(alloc, leaf, division.split, division.tail, first, second)
         {
             Ok(()) => {
-                self.preparation = self.next_look(SPLIT_WORK);
+                self.preparation = self.next_look(SPLIT_WORK, prices);
                 Ok(())
             }
             Err(error) => {

@@ -1,6 +1,6 @@
 //! What is done before a step, in this order: prices for the root, and between them looks for a cheaper
 //! plan, which waits in reserve. So whatever a search may spend, it first does what it does with nothing to
-//! spend, and a search for spans first does what one without them does.
+//! spend, and a search for spans first does what one without them does, but for tables among many shipments.
 ghost use Rattle.std.specs.Prelude.{◌≡◌, ◌<◌, ◌≤◌, ◌⊎◌, IfOk, IfSome, None, OnErr, Some, false, true};
 ghost use Rattle.fp_duals_leaves.specs.Prices.{HaveGrown};
 ghost use Rattle.fp_session.specs.Preparations.{ComesOfPreparing, IsPrepared, preparations_left};
@@ -63,10 +63,17 @@ impl Preparation {
     }
 
     // What is done next after more work than `before`, in rounds: among fewer shipments, where a round
-    // takes less time, looks are rarer; and among many, where a look takes as long as many rounds of a
-    // series, they come after as many of them.
-    pub(crate) fn after_work(self, before: usize, now: usize, instance: &Instance) -> Preparation {
-        let every = (400 / instance.shipments().len().max(1)).max(6);
+    // takes less time, looks are rarer; and where rounds come in series, of which each takes little time
+    // beside a look among many shipments, there are some between two looks.
+    pub(crate) fn after_work(
+        self,
+        before: usize,
+        now: usize,
+        instance: &Instance,
+        has_series: bool,
+    ) -> Preparation {
+        let least = if has_series { 6 } else { 1 };
+        let every = (400 / instance.shipments().len().max(1)).max(least);
         if self == Preparation::Nothing && before / every < now / every {
             Preparation::LaterLook
         } else {
