@@ -1,8 +1,5 @@
 //! The ascent over the prices of spans: by an averaged direction, and by passes over the shipments.
-pub(crate) mod averages;
-pub(crate) mod clashes;
 pub(crate) mod directions;
 pub(crate) mod exact_ascent;
-pub(crate) mod set_moments;
 pub(crate) mod subgradients;
 pub(crate) mod ties;

@@ -3,7 +3,6 @@ ghost use Rattle.std.specs.Prelude.{◌≡◌, OnErr};
 ghost use Rattle.fp_prices.specs.Tables.{AreTables, HasKind};
 
 use crate::NoMemory;
-use crate::clash_votes::ClashVotes;
 use crate::efforts::SpanEffort;
 use crate::inherited_spans::{joined_runs, put_spans};
 use crate::keeping::PASSES;
@@ -11,6 +10,7 @@ use crate::moments::tell_apart;
 use crate::searches::{Found, Search};
 use crate::starts::Start;
 use crate::whole_arcs::{are_over_arcs, put_costs, search_arcs};
+use fp_duals_clashes::ClashVotes;
 use fp_duals_layouts::{Layout, SpanPrices};
 use fp_duals_nets::{LeafNets, LoadCosts, least_walks, loads_where, timed_walks};
 use fp_ends::{Deadline, Resources};

@@ -16,7 +16,6 @@
 #![tactic(auto)]
 
 mod ascent;
-mod clash_votes;
 mod efforts;
 mod inherited_spans;
 mod keeping;
@@ -24,11 +23,9 @@ mod leaf_searches;
 mod moments;
 mod proposals;
 mod searches;
-mod separation;
 mod starts;
 mod whole_arcs;
 
-pub use clash_votes::ClashVotes;
 pub use efforts::SpanEffort;
 pub use leaf_searches::{StartPrices, proposed_spans, proposed_walks};
 

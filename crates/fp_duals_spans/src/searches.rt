@@ -2,17 +2,15 @@
 //! are joined over them where they may gain.
 
 use crate::NoMemory;
-use crate::ascent::averages::Averages;
-use crate::ascent::clashes::Ground;
 use crate::ascent::exact_ascent::settle;
 use crate::ascent::subgradients::ascend;
-use crate::clash_votes::ClashVotes;
 use crate::efforts::SpanEffort;
 use crate::keeping::kept_spans;
 use crate::proposals::Proposal;
-use crate::separation::separate;
+use fp_duals_clashes::{ClashVotes, Ground};
 use fp_duals_layouts::{Layout, Run, SpanPrices};
 use fp_duals_nets::{LeafNets, Nets};
+use fp_duals_runs::{Averages, separate};
 use fp_ends::{Deadline, Resources};
 use fp_prices_spans::Span;
 use std::alloc::Global;

@@ -1,9 +1,9 @@
 //! What a search over whole arcs begins with.
 
 use crate::NoMemory;
-use crate::clash_votes::ClashVotes;
 use crate::efforts::SpanEffort;
 use crate::searches::{Found, Search};
+use fp_duals_clashes::ClashVotes;
 use fp_duals_layouts::{Layout, Payer, SpanPrices};
 use fp_duals_nets::{LeafNets, Nets};
 use fp_ends::{Deadline, Resources};

@@ -7,3 +7,4 @@ mod local;
 mod repair;
 mod session;
 mod shortarcs;
+mod votes;

@@ -2,13 +2,13 @@
 //! value, and what they come to too much is charged.
 
 use crate::NoMemory;
-use crate::ascent::averages::Averages;
-use crate::ascent::clashes::{Clashes, Ground};
 use crate::ascent::directions::Direction;
 use crate::efforts::SpanEffort;
 use fp_duals_ascent::{Target, Way, rate};
+use fp_duals_clashes::{Clashes, Ground};
 use fp_duals_layouts::{Charges, Layout, SpanPrices, change_costs};
 use fp_duals_nets::Nets;
+use fp_duals_runs::Averages;
 use fp_ends::{Deadline, Resources};
 use std::alloc::Global;
 
@@ -51,7 +51,7 @@ impl Climb {
         let least = if small { 1 } else { effort.least_level };
         let mut climb = Climb {
             direction: Direction::of(alloc, layout, nets.list.len(), effort.fresh)?,
-            averages: Averages::of(alloc, layout, effort)?,
+            averages: Averages::of(alloc, layout, effort.joins > 0, effort.fresh)?,
             charges: Charges::of(alloc, layout, u64::from(effort.loads), merges)?,
             value: 0,
             start: 0,

@@ -2,7 +2,7 @@
 //! trucks than the classes have one by one.
 
 use crate::NoMemory;
-use crate::ascent::averages::{Averages, ONE};
+use crate::averages::{Averages, ONE};
 use fp_duals_layouts::{LaidSpan, Layout, Run, SpanPrices, of_span};
 use std::alloc::Global;
 
@@ -183,8 +183,8 @@ fn end_of_arc(layout: &Layout, first: usize) -> usize {
 }
 
 /// Runs of classes over which joined spans may gain, by the averages of an ascent to these prices,
-/// at most a few for each arc.
-pub(crate) fn separate(
+/// at most a few for each arc. `NoMemory` only where no memory is found.
+pub fn separate(
     alloc: Global,
     layout: &Layout,
     prices: &SpanPrices,

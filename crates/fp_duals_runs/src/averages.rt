@@ -2,7 +2,6 @@
 //! whose prices are sought.
 
 use crate::NoMemory;
-use crate::efforts::SpanEffort;
 use fp_duals_layouts::{Charges, Layout};
 use fp_duals_nets::Nets;
 use std::alloc::Global;
@@ -12,12 +11,12 @@ pub(crate) const ONE: u64 = 1 << 20;
 
 /// Averages over the turns.
 #[derive(Drop)]
-pub(crate) struct Averages {
+pub struct Averages {
     /// How much of each payer's walks uses what it pays for, in spans of single classes, in parts of
     /// `ONE`.
-    pub used: Vec<u64>,
+    pub(crate) used: Vec<u64>,
     /// The trucks of the charged sets of each span, in parts of `ONE`.
-    pub trucks: Vec<u64>,
+    pub(crate) trucks: Vec<u64>,
     // The least part of the newest turn, in parts of `ONE`.
     fresh: u64,
 }
@@ -30,14 +29,15 @@ fn lower(list: &mut [u64], part: u64) {
 }
 
 impl Averages {
-    /// No turns yet; the newest will count at least half of `fresh` times in 64. Where an effort
-    /// joins no spans, nothing is averaged.
-    pub(crate) fn of(
+    /// No turns yet; the newest will count at least half of `fresh` times in 64. Where no spans are to
+    /// be joined, nothing is averaged. `NoMemory` only where no memory is found.
+    pub fn of(
         alloc: Global,
         layout: &Layout,
-        effort: &SpanEffort,
+        joins: bool,
+        fresh: u32,
     ) -> Result<Averages, NoMemory> {
-        let (payers, spans) = if effort.joins > 0 {
+        let (payers, spans) = if joins {
             (layout.payers.len(), layout.spans.len())
         } else {
             (0, 0)
@@ -45,12 +45,12 @@ impl Averages {
         Ok(Averages {
             used: vec![in alloc; 0u64; payers]?,
             trucks: vec![in alloc; 0u64; spans]?,
-            fresh: u64::from(effort.fresh.min(64)).wrapping_mul(ONE / 128),
+            fresh: u64::from(fresh.min(64)).wrapping_mul(ONE / 128),
         })
     }
 
     /// Adds the walks of a turn, whose number is counted from 0, and its charged sets.
-    pub(crate) fn turn(&mut self, nets: &Nets, walks: &[usize], charges: &Charges, turn: u32) {
+    pub fn turn(&mut self, nets: &Nets, walks: &[usize], charges: &Charges, turn: u32) {
         let part = (ONE / u64::from(turn).wrapping_add(1).max(1)).max(self.fresh);
         lower(&mut self.used, part);
         lower(&mut self.trucks, part);

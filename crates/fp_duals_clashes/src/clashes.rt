@@ -1,28 +1,40 @@
 //! Where the least walks of an ascent clash with the sets that they are charged with.
 
+ghost use Rattle.std.specs.Prelude.{◌≡◌, OnErr};
+
 use crate::NoMemory;
-use crate::ascent::set_moments::SetMoments;
-use crate::clash_votes::ClashVotes;
+use crate::set_moments::SetMoments;
+use crate::votes::ClashVotes;
 use fp_duals_layouts::{Charges, Layout};
 use fp_duals_nets::{ArcMoney, ClassNodes, Net, Nets, WAIT};
 use fp_timenodes::Place;
 use std::alloc::Global;
+use std::marker::Model;
 
 /// What votes go over: the classes of the leaf's network and what its arcs cost.
 #[derive(Drop)]
-pub(crate) struct Ground<'a> {
+pub struct Ground<'a> {
     pub classes: &'a [ClassNodes],
     pub arcs: &'a [ArcMoney],
     pub votes: &'a mut ClashVotes,
 }
 
-/// What clashes are found with.
+/// What clashes are found with. To contracts it holds nothing, so it's the same after each call, also after
+/// `NoMemory`.
 #[derive(Drop)]
-pub(crate) struct Clashes {
+pub struct Clashes {
     moments: SetMoments,
     chain: Vec<Place>,
     // What a vote counts for, in parts of 2^20: later turns count for more.
     strength: u64,
+}
+
+impl Model for Clashes {
+    ghost use Rattle.std.specs.Prelude.{⊤};
+
+    ghost Value = { ⊤ };
+
+    ghost view = { λ _. tt };
 }
 
 // A leg of a walk: the payer that pays for it, its class, and the size of its shipment.
@@ -49,7 +61,7 @@ fn scaled(number: u64, part: u64) -> u64 {
 
 impl Clashes {
     /// None yet. `NoMemory` only where no memory is found.
-    pub(crate) fn of(alloc: Global, layout: &Layout) -> Result<Clashes, NoMemory> {
+    pub fn of(alloc: Global, layout: &Layout) -> Result<Clashes, NoMemory> {
         Ok(Clashes {
             moments: SetMoments::of(alloc, layout)?,
             chain: Vec::new(alloc),
@@ -112,14 +124,16 @@ impl Clashes {
     }
 
     /// Votes by the walks of all nets, one after the other. `NoMemory` only where no memory is found.
-    pub(crate) fn vote(
+    pub fn vote(
         &mut self,
         layout: &Layout,
         nets: &Nets,
         walks: &[usize],
         charges: &Charges,
         ground: &mut Ground,
-    ) -> Result<(), NoMemory> {
+    ) -> Result<(), NoMemory>
+        ensures { OnErr result (self.new ≡ self.old) }
+    {
         self.strength = self.strength.saturating_add(self.strength / 25);
         self.moments.find(layout, charges)?;
         let mut begin = 0usize;

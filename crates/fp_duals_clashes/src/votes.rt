@@ -1,9 +1,12 @@
 //! Where points are missing: chains of places that lead to clashes of least walks, with votes.
 
+ghost use Rattle.std.specs.Prelude.{◌≡◌, OnErr};
+
 use crate::NoMemory;
 use fp_model::Instance;
 use fp_timenodes::Place;
 use std::alloc::Global;
+use std::marker::Model;
 
 // Once there are so many votes, those for equal chains are put together.
 const MANY: usize = 20_000;
@@ -21,13 +24,22 @@ struct Vote {
 /// Votes of a search for chains of places. A least walk clashes where it comes to an arc after the last
 /// moment at which the set that it's charged with could leave together: the moments from the last one at
 /// which it had to wait, up to there, are the chain at which points would tell it apart from the set.
-/// Nothing is promised of them.
+/// Nothing is promised of them: to contracts they hold nothing, so they're the same after each call,
+/// also after `NoMemory`.
 #[derive(Drop)]
 pub struct ClashVotes {
     // How long after it left by each arc a shipment can leave again.
     steps: Vec<u32>,
     places: Vec<Place>,
     votes: Vec<Vote>,
+}
+
+impl Model for ClashVotes {
+    ghost use Rattle.std.specs.Prelude.{⊤};
+
+    ghost Value = { ⊤ };
+
+    ghost view = { λ _. tt };
 }
 
 // A number of a chain: chains with the same number are taken for equal.
@@ -55,7 +67,7 @@ impl ClashVotes {
     }
 
     /// How long after it left by an arc a shipment can leave again.
-    pub(crate) fn step(&self, arc: u32) -> u32 {
+    pub fn step(&self, arc: u32) -> u32 {
         self.steps.get(arc as usize).copied().unwrap_or(0)
     }
 
@@ -98,7 +110,9 @@ impl ClashVotes {
     }
 
     /// A vote for a chain. `NoMemory` only where no memory is found.
-    pub(crate) fn add(&mut self, chain: &[Place], cost: u64) -> Result<(), NoMemory> {
+    pub fn add(&mut self, chain: &[Place], cost: u64) -> Result<(), NoMemory>
+        ensures { OnErr result (self.new ≡ self.old) }
+    {
         if self.votes.len() >= MANY {
             self.merge()?;
         }
