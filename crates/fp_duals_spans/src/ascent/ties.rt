@@ -58,7 +58,8 @@ impl Ties {
             }
             before = arc;
             if let Some(group) = self.groups.get_mut(*payer) {
-                *group = (self.sums.len() as u32).wrapping_sub(1);
+                let groups = u32::try_from(self.sums.len()).unwrap_or(NO_GROUP);
+                *group = groups.wrapping_sub(1);
             }
         }
         Ok(())
