@@ -7,7 +7,6 @@ use fp_model::Instance;
 use fp_reader::generate;
 use fp_session::{Budget, Ending, NoMemory, Session, Step};
 use fp_tests_examples::{LINE, PAIR, TRIO, instance_of};
-use fp_timenodes::Place;
 use std::alloc::Global;
 use std::test::Fail;
 
@@ -149,58 +148,6 @@ fn more_rounds_give_no_less(rt: HostRuntime) -> Result<(), Fail> {
             before = now;
         }
         assert!(rt; before.is_some());
-    }
-    Ok(())
-}
-
-// S2 waits at A for S4, which comes there at 3, so it comes to B at 6, where S3 has to leave by 5. All but
-// S3 can go together, or all but S4: four trucks run, at 400.
-const MISSED: &str =
-    "terminal,A\nterminal,B\nterminal,C\nterminal,D\narc,A,B,3,10,100,0\narc,B,C,4,10,100,0\narc,D,A,3,10,100,0\nshipment,S1,A,C,1,1,20\nshipment,S2,A,C,1,2,20\nshipment,S3,B,C,1,0,9\nshipment,S4,D,B,1,0,20\n";
-
-// A search for spans from the direct plan of an instance, where it has one.
-fn session_by_spans(alloc: Global, instance: Instance) -> Result<Option<Session>, NoMemory> {
-    let Verdict::All = feasible(alloc, &instance)? else {
-        return Ok(None);
-    };
-    let start = direct(alloc, &instance)?;
-    let windows = Windows::of(alloc, &instance)?;
-    let session = Session::with_spans(alloc, instance, windows, start, AMPLE)?;
-    Ok(Some(session))
-}
-
-#[test]
-fn a_chain_enters_link_by_link(rt: HostRuntime) -> Result<(), Fail> {
-    let alloc = rt.alloc();
-    let instance = instance_of(alloc, MISSED)?;
-    let Some(session) = session_by_spans(alloc, instance)? else {
-        assert!(rt; false);
-        return Ok(());
-    };
-    let solved = session.solve(alloc)?;
-    assert_eq!(rt; solved.certificate.answer, Answer::Optimal { cost: 400 });
-    let places = [
-        Place { terminal: 1, at: 5 },
-        Place { terminal: 0, at: 3 },
-        Place { terminal: 1, at: 6 },
-    ];
-    assert_eq!(rt; solved.trace.len(), places.len());
-    for (note, place) in solved.trace.iter().zip(&places) {
-        assert_eq!(rt; note.added.as_slice(), [*place].as_slice());
-    }
-    Ok(())
-}
-
-#[test]
-fn rounds_end_where_walks_have_times(rt: HostRuntime) -> Result<(), Fail> {
-    let alloc = rt.alloc();
-    let instance = generate(alloc, 3, 4, 6)?;
-    let Some(mut session) = session_by_spans(alloc, instance)? else {
-        assert!(rt; false);
-        return Ok(());
-    };
-    for step in [Step::Better, Step::Round, Step::Better, Step::Closed] {
-        assert_eq!(rt; session.step(alloc)?, step);
     }
     Ok(())
 }
