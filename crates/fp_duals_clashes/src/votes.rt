@@ -4,6 +4,7 @@ ghost use Rattle.std.specs.Prelude.{◌≡◌, OnErr};
 
 use crate::NoMemory;
 use fp_model::Instance;
+use fp_prices::RoundNetwork;
 use fp_timenodes::Place;
 use std::alloc::Global;
 use std::marker::Model;
@@ -127,26 +128,42 @@ impl ClashVotes {
         Ok(())
     }
 
-    /// The places of the chains whose votes cost most, each once, at most so many. `NoMemory` only where
-    /// no memory is found.
-    pub fn places(mut self, alloc: Global, most: usize) -> Result<Vec<Place>, NoMemory> {
+    /// The places of the chains whose votes cost most, each once, at most so many, and none at which the
+    /// round's network has a point. `NoMemory` only where no memory is found.
+    pub fn places(
+        mut self,
+        alloc: Global,
+        round: &RoundNetwork,
+        most: usize,
+    ) -> Result<Vec<Place>, NoMemory> {
         self.merge()?;
         self.votes.sort_by_key(|vote| u64::MAX - vote.cost)?;
         let mut found: Vec<Place> = Vec::new(alloc);
         for vote in &self.votes {
             let end = vote.first.saturating_add(vote.count);
             if let Some(chain) = self.places.get(vote.first..end) {
-                add_places(&mut found, chain, most)?;
+                add_places(&mut found, round, chain, most)?;
             }
         }
         Ok(found)
     }
 }
 
-// Adds the places of a chain, each once, until there are so many.
-fn add_places(found: &mut Vec<Place>, chain: &[Place], most: usize) -> Result<(), NoMemory> {
+// Whether a place is at a terminal, and the network has no point there.
+fn is_free(round: &RoundNetwork, place: Place) -> bool {
+    (place.terminal as usize) < round.instance().terminals().len()
+        && !round.network().is_point(place.terminal, place.at)
+}
+
+// Adds the free places of a chain, each once, until there are so many.
+fn add_places(
+    found: &mut Vec<Place>,
+    round: &RoundNetwork,
+    chain: &[Place],
+    most: usize,
+) -> Result<(), NoMemory> {
     for place in chain {
-        if found.len() < most && !found.contains(place) {
+        if found.len() < most && is_free(round, *place) && !found.contains(place) {
             found.push(*place)?;
         }
     }

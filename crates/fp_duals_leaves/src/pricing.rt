@@ -131,7 +131,7 @@ fn by_spans<D: Deadline>(
         return Ok(first);
     };
     let id = prices.count() + 1;
-    let clashes = votes.places(resources.alloc, most_clashes(leaf))?;
+    let clashes = votes.places(resources.alloc, leaf.round(), most_clashes(leaf))?;
     if !prices.push_spans(resources.alloc, found.spans, clashes)? {
         return Ok(first);
     }

@@ -20,7 +20,8 @@ use fp_prices_spans::Span;
 use std::alloc::Global;
 
 // Among more shipments than so many, spans over whole arcs alone are sought at first: the others take
-// most of the time there, and gained a part in 300 on a day of 300.
+// most of the time there, and gained a part in 300 on a day of 300. Once there are some, over classes
+// alone: over arcs as much time again gains nothing by the points that were added.
 const MOST_BY_CLASS: usize = 200;
 
 /// Prices from which a search starts: those of a kind, which may name one of the tables, in the
@@ -124,8 +125,9 @@ fn found_over_arcs<D: Deadline>(
 /// promised of the spans, and they are of no use where some shipment has no allowed timed walk.
 /// `NoMemory` only where no memory is found.
 ///
-/// On the way least walks vote for points where they clash. Spans are sought over whole arcs, and over classes and runs of them; the better ones are taken.
-/// Where there are many shipments they are sought over classes only once there are some over arcs.
+/// On the way least walks vote for points where they clash. Spans are sought over whole arcs, and over
+/// classes and runs of them; the better ones are taken. Where there are many shipments they are sought
+/// over arcs alone at first, and over classes alone once there are some.
 /// One search over each net for each turn of the effort, and one over the sets of each span
 /// whose prices move. Takes memory that grows with the edges of the nets.
 pub fn proposed_spans<D: Deadline>(
@@ -141,8 +143,14 @@ pub fn proposed_spans<D: Deadline>(
     ensures { OnErr result (model.new ≡ model.old) }
 {
     let are_many = leaf.round().instance().shipments().len() > MOST_BY_CLASS;
-    let over_arcs = match found_over_arcs(resources, leaf, model, start, effort, votes)? {
-        Some(over_arcs) if are_many && start.spans.is_empty() => return Ok(over_arcs.spans),
+    let goes_on = !start.spans.is_empty();
+    let over_arcs = if are_many && goes_on {
+        None
+    } else {
+        found_over_arcs(resources, leaf, model, start, effort, votes)?
+    };
+    let over_arcs = match over_arcs {
+        Some(over_arcs) if are_many => return Ok(over_arcs.spans),
         found => found,
     };
     let by_class = StartPrices {

@@ -7,6 +7,7 @@ use fp_model::Instance;
 use fp_reader::generate;
 use fp_session::{Budget, Ending, NoMemory, Session, Step};
 use fp_tests_examples::{LINE, PAIR, TRIO, instance_of};
+use fp_timenodes::Place;
 use std::alloc::Global;
 use std::test::Fail;
 
@@ -148,6 +149,63 @@ fn more_rounds_give_no_less(rt: HostRuntime) -> Result<(), Fail> {
             before = now;
         }
         assert!(rt; before.is_some());
+    }
+    Ok(())
+}
+
+// S2 waits at A for S4, which comes there at 3, so it comes to B at 6, where S3 has to leave by 5. All but
+// S3 can go together, or all but S4: four trucks run, at 400.
+const MISSED: &str =
+    "terminal,A\nterminal,B\nterminal,C\nterminal,D\narc,A,B,3,10,100,0\narc,B,C,4,10,100,0\narc,D,A,3,10,100,0\nshipment,S1,A,C,1,1,20\nshipment,S2,A,C,1,2,20\nshipment,S3,B,C,1,0,9\nshipment,S4,D,B,1,0,20\n";
+
+// A search for spans from the direct plan of an instance, where it has one.
+fn session_by_spans(alloc: Global, instance: Instance) -> Result<Option<Session>, NoMemory> {
+    let Verdict::All = feasible(alloc, &instance)? else {
+        return Ok(None);
+    };
+    let start = direct(alloc, &instance)?;
+    let windows = Windows::of(alloc, &instance)?;
+    let session = Session::with_spans(alloc, instance, windows, start, AMPLE)?;
+    Ok(Some(session))
+}
+
+// The places that rounds add one after the other where the shipments can't all meet.
+fn missed_places(alloc: Global) -> Result<Vec<Place>, NoMemory> {
+    let mut places = Vec::new(alloc);
+    for (terminal, at) in [(1, 5), (0, 3), (1, 6)] {
+        places.push(Place { terminal, at })?;
+    }
+    Ok(places)
+}
+
+#[test]
+fn rounds_add_points_where_walks_clash(rt: HostRuntime) -> Result<(), Fail> {
+    let alloc = rt.alloc();
+    let instance = instance_of(alloc, MISSED)?;
+    let Some(session) = session_by_spans(alloc, instance)? else {
+        assert!(rt; false);
+        return Ok(());
+    };
+    let solved = session.solve(alloc)?;
+    assert_eq!(rt; solved.certificate.answer, Answer::Optimal { cost: 400 });
+    let mut added = Vec::new(alloc);
+    for note in &solved.trace {
+        added.extend_from_slice(&note.added)?;
+    }
+    assert_eq!(rt; added, missed_places(alloc)?);
+    Ok(())
+}
+
+#[test]
+fn rounds_end_where_walks_have_times(rt: HostRuntime) -> Result<(), Fail> {
+    let alloc = rt.alloc();
+    let instance = generate(alloc, 3, 4, 6)?;
+    let Some(mut session) = session_by_spans(alloc, instance)? else {
+        assert!(rt; false);
+        return Ok(());
+    };
+    for step in [Step::Better, Step::Round, Step::Better, Step::Closed] {
+        assert_eq!(rt; session.step(alloc)?, step);
     }
     Ok(())
 }
