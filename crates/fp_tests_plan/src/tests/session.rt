@@ -6,6 +6,7 @@ use fp_flatnet::{Verdict, Windows, direct, feasible};
 use fp_model::Instance;
 use fp_reader::generate;
 use fp_session::{Budget, Ending, NoMemory, Session, Step};
+use fp_session_history::RoundNote;
 use fp_tests_examples::{LINE, PAIR, TRIO, instance_of};
 use fp_timenodes::Place;
 use std::alloc::Global;
@@ -169,6 +170,16 @@ fn session_by_spans(alloc: Global, instance: Instance) -> Result<Option<Session>
     Ok(Some(session))
 }
 
+// The places that the rounds of some notes added.
+fn added_places(alloc: Global, trace: &[RoundNote]) -> Result<Vec<Place>, NoMemory> {
+    let mut added = Vec::new(alloc);
+    for note in trace {
+        let places = note.added.as_slice();
+        added.extend_from_slice(places)?;
+    }
+    Ok(added)
+}
+
 // The places that rounds add one after the other where the shipments can't all meet.
 fn missed_places(alloc: Global) -> Result<Vec<Place>, NoMemory> {
     let mut places = Vec::new(alloc);
@@ -187,11 +198,9 @@ fn rounds_add_points_where_walks_clash(rt: HostRuntime) -> Result<(), Fail> {
         return Ok(());
     };
     let solved = session.solve(alloc)?;
-    assert_eq!(rt; solved.certificate.answer, Answer::Optimal { cost: 400 });
-    let mut added = Vec::new(alloc);
-    for note in &solved.trace {
-        added.extend_from_slice(&note.added)?;
-    }
+    let shown = &solved;
+    assert_eq!(rt; shown.certificate.answer, Answer::Optimal { cost: 400 });
+    let added = added_places(alloc, &shown.trace)?;
     assert_eq!(rt; added, missed_places(alloc)?);
     Ok(())
 }

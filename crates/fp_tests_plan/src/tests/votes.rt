@@ -1,6 +1,6 @@
 //! Votes for places where least walks clash with the sets that they are charged with.
 ghost use Rattle.std.specs.Prelude.{◌≤◌, All, length};
-ghost use Rattle.fp_timenodes.specs.Places.{IsPlace};
+ghost use Rattle.fp_timenodes.specs.Points.{IsPlace};
 
 use fp_duals_clashes::{ClashVotes, Clashes, Ground, NoMemory};
 use fp_duals_layouts::{Charges, Layout, SpanPrices};
