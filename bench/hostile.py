@@ -6,6 +6,7 @@
 PROGRAM is the built program; without it the proved one in crates/freight/out or in dist/ is taken. Each input goes through `check`:
 
 - `spans`: 100,000 spans of one arc, each of which ends where the next begins.
+- `gifts`: 10,000 gifts of one arc beside a table; `check` takes time in the square of their number.
 - `later` and `first`: a chain of 100,000 splits by time; all nodes but the leaves lie on the second sides, or on the first.
 - `in turn`: a chain of 100,000 splits, on the second sides, by times at two terminals in turn.
 - `half`: the same as `later`, each leaf valued under the first 50,000 of its sides.
@@ -23,6 +24,7 @@ sys.path.insert(0, os.path.dirname(os.path.abspath(__file__)))
 from kit import built_program, measured
 
 COUNT = 100_000
+GIFTS = 10_000
 BYTES = 134_217_728
 
 ONE_ARC = ["terminal,A", "terminal,B", "arc,A,B,5,10,100,1", "shipment,S1,A,B,4,0,100000"]
@@ -43,6 +45,12 @@ def spans():
     """One shipment over one arc, and spans that only touch; none of the prices is above 0."""
     lines = [f"span,A,B,{point},{point + 1},0,0" for point in range(COUNT)]
     return text_of(ONE_ARC, ["answer,unfinished,104,0,branches"], ONE_LEG, ["table,1"], lines, ["leaf,1,0,plain", "end"])
+
+
+def gifts():
+    """One shipment over one arc, and gifts of that which no leaf is priced by."""
+    lines = [f"gift,A,B,{point},{point + 1},most,1" for point in range(GIFTS)]
+    return text_of(ONE_ARC, ["answer,unfinished,104,0,branches"], ONE_LEG, ["table,1"], lines, [LEAF, "end"])
 
 
 def later():
@@ -122,6 +130,7 @@ def faultless(*lines):
 # Where no answer is named, the last record is of no kind.
 CASES = (
     ("spans", spans, "accepted,unfinished\n"),
+    ("gifts", gifts, "accepted,unfinished\n"),
     ("later", later, "accepted,unfinished\n"),
     ("first", first, "accepted,unfinished\n"),
     ("in turn", in_turn, "accepted,unfinished\n"),

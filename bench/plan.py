@@ -1,5 +1,5 @@
 #!/usr/bin/env python3
-"""What `plan` finds: cost, bound, ending, seconds and memory, on generated instances, a carrier's lines and hubs, and a day of real size;
+"""What `plan` finds: cost, bound, ending, seconds, memory and splits, on generated instances, a carrier's lines and hubs, and a day of real size;
 without `--spans`, with it, and with it and no branches.
 
     bench/plan.py [PROGRAM [OTHER ..]]
@@ -8,7 +8,7 @@ without `--spans`, with it, and with it and no branches.
 PROGRAM is the built program; without it the proved one in crates/freight/out is taken, or the one in dist/. OTHER, with words of its
 own, is another program that takes the same words and input, but for `--spans`: whether it seeks spans is for its own words to say, so
 its figures stand beside the rows with spans alone. Each answer of PROGRAM is handed back to its `check`. The ending is `optimal`, or
-what was used up.
+what was used up. Splits are those of PROGRAM's tree: by an arc, by a time, by trucks and by a way, as 3/0/2/1.
 """
 import os
 import sys
@@ -20,6 +20,7 @@ from kit import HEADS, TOP, built_program, check_answer, is_wanted, planned, row
 SPANS = "--spans"
 SHORT = ["--rounds", "40", "--branches", "100"]
 ROOT = ["--rounds", "40", "--branches", "0", SPANS]
+KINDS = ("arc", "time", "trucks", "way")
 
 
 def all_cases():
@@ -36,16 +37,22 @@ def all_cases():
     yield "france-day.csv, spans", day, SHORT + [SPANS]
 
 
+def splits_of(printed):
+    """How many splits of each kind the tree of an answer has."""
+    kinds = [line.split(",", 2)[1] for line in printed.splitlines() if line.startswith("split,")]
+    return "/".join(str(kinds.count(kind)) for kind in KINDS)
+
+
 def main():
     program = built_program()
     others = [sys.argv[2:]] if len(sys.argv) > 2 else []
-    print(" | ".join([f"{'instance':34} {HEADS}"] + [HEADS] * len(others)))
+    print(" | ".join([f"{'instance':34} {HEADS} {'splits':>12}"] + [HEADS] * len(others)))
     for name, text, options in all_cases():
         if not is_wanted(name):
             continue
         figures, printed = planned([program, "plan"] + options, text)
         check_answer(program, name, text, printed)
-        rows = [row_of(*figures)]
+        rows = [f"{row_of(*figures)} {splits_of(printed):>12}"]
         if SPANS in options:
             words = ["plan"] + [word for word in options if word != SPANS]
             rows += [row_of(*planned(other + words, text)[0]) for other in others]

@@ -2,13 +2,14 @@
 
 from .days import promise_fault, told_of
 from .instances import certificate_part, least_times, trucks_for
+from .money_rule import Run, money_fault
 
 PARTS = {
     1: "the leg lines aren't a plan in order",
     2: "COST isn't the plan's",
     3: "the truck lines aren't the plan's departures",
     4: "the points aren't in order, too many in a round, initial, or twice",
-    5: "a table isn't in order, a share or a span breaks its rule, or the unit doesn't divide what plans cost",
+    5: "a table isn't in order, a share, a span or a gift breaks its rule, or the unit doesn't divide what plans cost",
     6: "the splits and leaves aren't one tree",
     7: "some leaf is worth less than the claim",
     8: "the shipment isn't too late, or its fastest time is another",
@@ -19,6 +20,9 @@ ALONE = (
     "this is a timetable alone, without the lines that show its claim. Its legs are a plan, and its cost and its trucks are"
     " right; to have the claim checked hand on the whole answer, which plan keeps with --certificate FILE"
 )
+
+# The lines of tables.
+TABLE_LINES = ("table", "share", "span", "weight", "group", "gift")
 
 
 def lines_of(certificate, kind):
@@ -145,21 +149,26 @@ def scale_of(certificate):
 
 
 class TableReader:
-    """Goes over the lines of tables and keeps the share in hand, and the spans of the table."""
+    """Goes over the lines of tables and keeps the share in hand, and the spans and the gifts of the table."""
 
     def __init__(self, instance, scale):
         self.instance, self.scale = instance, scale
         self.arc_place = {ends: place for place, ends in enumerate(instance.arcs)}
         self.shipment_place = {name: place for place, name in enumerate(instance.shipments)}
-        self.share, self.last_share, self.last_weight, self.last_moment, self.spans = None, None, None, None, []
+        self.share, self.last_share, self.last_span, self.last_weight, self.last_moment, self.runs = None, None, None, None, None, []
 
     def take(self, it):
-        """Takes a line, and says what is wrong with it or with the share before it."""
-        fault = self.rule_fault() if it.kind in ("table", "share", "span") else None
+        """Takes a line, and says what is wrong with it, with the share before it, or with the money of the table before it."""
+        fault = self.rule_fault() if it.kind in ("table", "share", "span", "gift") else None
         if it.kind == "table":
-            self.share, self.last_share, self.spans = None, None, []
+            fault = fault or self.money_fault()
+            self.share, self.last_share, self.last_span, self.runs = None, None, None, []
+        elif it.kind == "gift":
+            self.share = None
+            self.keep_run(it)
         elif it.kind == "span":
             fault = fault or self.span_fault(it)
+            self.keep_run(it)
             self.share, self.last_weight, self.last_moment = None, None, int(it.fields[3])
         elif it.kind == "share":
             key = (self.arc_place[it.fields[1], it.fields[2]], int(it.fields[3]))
@@ -178,21 +187,27 @@ class TableReader:
         return fault
 
     def span_fault(self, it):
-        """What is wrong with the place of a span and its money; it is kept."""
-        arc, (point, until, money) = self.arc_place[it.fields[1], it.fields[2]], map(int, it.fields[3:6])
-        before = self.spans[-1][:3] if self.spans else None
-        self.spans.append((arc, point, until, money))
-        if before is not None and (arc, point, until) <= before:
+        """What is wrong with the place of a span, of those of its table."""
+        place = (self.arc_place[it.fields[1], it.fields[2]], *map(int, it.fields[3:5]))
+        before, self.last_span = self.last_span, place
+        if before is not None and place <= before:
             return f"line {it.line}: spans ascend by the arc's place in the input, then by POINT and then by UNTIL"
-        held = sum(it[3] for it in self.spans if it[0] == arc and it[2] > point)
-        most = self.scale * self.instance.arcs[it.fields[1], it.fields[2]].truck
-        return f"line {it.line}: at {point} the spans of the arc have {held:,}, and scale times TRUCK is {most:,}" if held > most else None
+        return None
+
+    def keep_run(self, it):
+        """Keeps a span or a gift."""
+        side, money = ("span", it.fields[5]) if it.kind == "span" else it.fields[5:7]
+        self.runs.append(Run(it.line, tuple(it.fields[1:3]), *map(int, it.fields[3:5]), side, int(money)))
+
+    def money_fault(self):
+        """What is wrong with the money of the table's spans and gifts."""
+        return money_fault(self.runs, {ends: self.scale * arc.truck for ends, arc in self.instance.arcs.items()})
 
     def moment_fault(self, it):
         """What is wrong with the moment of a group; it is kept."""
         moment, before = int(it.fields[1]), self.last_moment
         self.last_moment = moment
-        if before < moment < self.spans[-1][2]:
+        if before < moment < self.runs[-1].until:
             return None
         return f"line {it.line}: the MOMENTs of a span ascend, after its POINT and before its UNTIL"
 
@@ -208,11 +223,11 @@ class TableReader:
 def table_fault(instance, certificate):
     reader = TableReader(instance, scale_of(certificate))
     for it in certificate:
-        if it.kind in ("table", "share", "span", "weight", "group"):
+        if it.kind in TABLE_LINES:
             fault = reader.take(it)
             if fault:
                 return fault
-    return reader.rule_fault() or unit_fault(instance, certificate) or "the CHARGE of a span doesn't pay for the weights of its groups"
+    return reader.rule_fault() or reader.money_fault() or unit_fault(instance, certificate) or "the CHARGE of a span doesn't pay for the weights of its groups"
 
 
 def unit_fault(instance, certificate):

@@ -10,6 +10,10 @@ sys.path.insert(0, str(pathlib.Path(__file__).resolve().parent))
 from programs import TOP, proved  # noqa: E402
 
 
+# The instances of the page, in its order: all but the second have their certificates with them.
+EXAMPLES = ("hub-proof", "three-trucks", "two-groups", "two-or-three", "two-ways")
+
+
 def shown_lines():
     """The lines that stand indented on the page, without what is said of them."""
     page = (TOP / "docs/certificate.md").read_text()
@@ -19,11 +23,12 @@ def shown_lines():
 @unittest.skipIf(proved() is None, "the proved program of these sources isn't here")
 class Page(unittest.TestCase):
     def test_lines(self):
-        first, second, third = ((TOP / f"examples/{name}.csv").read_bytes() for name in ("hub-proof", "three-trucks", "two-groups"))
-        answer = self.prints("plan --spans --branches 0", second)
-        self.assertEqual("\n".join(shown_lines()) + "\n", (first + second + answer + third).decode())
-        for data in (first, second + answer, third):
+        hub, trio, groups, trucks, ways = ((TOP / f"examples/{name}.csv").read_bytes() for name in EXAMPLES)
+        answer = self.prints("plan --spans --branches 0", trio)
+        self.assertEqual("\n".join(shown_lines()) + "\n", (hub + trio + answer + groups + trucks + ways).decode())
+        for data in (hub, trio + answer, groups, trucks):
             self.assertEqual(self.prints("check", data), b"accepted,optimal\n")
+        self.assertEqual(self.prints("check", ways), b"accepted,unfinished\n")
 
     def prints(self, words, data):
         return subprocess.run([proved(), *words.split()], input=data, capture_output=True).stdout

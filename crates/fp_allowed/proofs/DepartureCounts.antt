@@ -1,7 +1,7 @@
 -- The departures left at a terminal, arc by arc.
 use Rattle.std.proofs.Common.{◌≡◌, ℕ, zero, suc, ◌+◌, ◌*◌, ◌<◌, ◌≤◌, Bool, true, false, ◌&&◌, cond, List, length, refl, sym, ap, ◌∙◌, arith, add-one}
 use Rattle.std.specs.Prelude.{nat_eq, nat_le, Option, Some, None, IfSome, option_map}
-use Rattle.std.proofs.lemmas.Bool.{eq-eqb, ne_eqb}
+use Rattle.std.proofs.lemmas.Bool.{and_right, eq-eqb, ne_eqb}
 use Rattle.fp_model.specs.declared.parts.Shipment.{Shipment}
 use Rattle.fp_model.specs.Numbered.{no_shipment, shipment_at}
 use Rattle.fp_model.specs.Problem.{Problem}
@@ -11,12 +11,12 @@ use Rattle.fp_flatnet.specs.declared.window_tables.Window.{Window}
 use Rattle.fp_flatnet.specs.Belonging.{BelongsTo, IsNarrowed}
 use Rattle.fp_flatnet.specs.Tables.{WindowTable, windows_in}
 use Rattle.fp_tree.specs.declared.sides.Side.{Side}
-use Rattle.fp_allowed.specs.Allowed.{exit_of, tails_of}
+use Rattle.fp_allowed.specs.Allowed.{exit_of, meets_all, tails_of}
 use Rattle.fp_allowed.specs.Departures.{departures_below, departures_in, is_departure}
 use Rattle.fp_base_lists.specs.Below.{count_below}
-use Rattle.fp_allowed.specs.Moments.{all_let, concerned}
-use Rattle.fp_base_lists.proofs.CountsBelow.{count_below-same, count_below-le}
-use Rattle.fp_allowed.proofs.OpenMoments.{meets_all-concerned}
+use Rattle.fp_allowed.specs.Moments.{all_let, concerned, is_barred}
+use Rattle.fp_base_lists.proofs.CountsBelow.{count_below-le, count_below-more, count_below-same}
+use Rattle.fp_allowed.proofs.OpenMoments.{meets_all-barred, meets_all-concerned}
 
 -- the window is some time up to the latest
 abbrev pub IsInTime : Window → Type 0
@@ -32,20 +32,27 @@ windows_in_time p table k a belongs shipment arc =
     narrowed-in_time p (shipment_at p k) a table.anchors (windows_in table k a) (belongs.valid.parts.shipments k no_shipment shipment).within.due (belongs.narrowed k a shipment arc)
 
 -- what the concerned sides let leave in a window are the departures in it
-departures-let : (p : Problem) (k arc : ℕ) (sides own : List Side) (w : Window) → own ≡ concerned p k (tails_of p arc) sides →
+departures-let : (p : Problem) (k arc : ℕ) (sides own : List Side) (w : Window) → own ≡ concerned p k (tails_of p arc) sides → is_barred p k arc sides ≡ false →
     count_below (w.hi + 1) (λ m. nat_le w.lo m && all_let arc m own) ≡ departures_in p sides k arc (Some w)
-departures-let p k arc sides own w is =
+departures-let p k arc sides own w is free =
     count_below-same (w.hi + 1) (λ m. nat_le w.lo m && all_let arc m own) (is_departure p sides k arc w)
-    (λ m h. ap (λ (b : Bool). nat_le w.lo m && b) (ap (λ (l : List Side). all_let arc m l) is ∙ sym (meets_all-concerned p k (exit_of p (record { arc = arc; depart = m })) sides refl)))
+    (λ m h. ap (λ (b : Bool). nat_le w.lo m && b) (ap (λ (l : List Side). all_let arc m l) is ∙ sym (meets_all-concerned p k (record { arc = arc; depart = m }) sides free)))
 
-pub departures_some : (p : Problem) (k arc lo hi n : ℕ) (sides own : List Side) (o : Option Window) → option_map {U = ℕ × ℕ} (λ w. (w.lo, w.hi)) o ≡ Some (lo, hi) → own ≡ concerned p k (tails_of p arc) sides →
+pub departures_some : (p : Problem) (k arc lo hi n : ℕ) (sides own : List Side) (o : Option Window) → option_map {U = ℕ × ℕ} (λ w. (w.lo, w.hi)) o ≡ Some (lo, hi) → own ≡ concerned p k (tails_of p arc) sides → is_barred p k arc sides ≡ false →
     n ≡ count_below (hi + 1) (λ m. nat_le lo m && all_let arc m own) → n ≡ departures_in p sides k arc o
-departures_some p k arc lo hi n sides own None is own_is n_is = cc is
-departures_some p k arc lo hi n sides own (Some w) is own_is n_is =
+departures_some p k arc lo hi n sides own None is own_is free n_is = cc is
+departures_some p k arc lo hi n sides own (Some w) is own_is free n_is =
     let pair : ◌≡◌ {A = ℕ × ℕ} (w.lo, w.hi) (lo, hi) = cc is in
     let lo_is : w.lo ≡ lo = ap (λ (x : ℕ × ℕ). x.0) pair in
     let hi_is : w.hi ≡ hi = ap (λ (x : ℕ × ℕ). x.1) pair in
-    n_is ∙ rw (← lo_is, ← hi_is) (departures-let p k arc sides own w own_is)
+    n_is ∙ rw (← lo_is, ← hi_is) (departures-let p k arc sides own w own_is free)
+
+-- none by an arc that is barred
+pub departures_in-barred : (p : Problem) (k arc : ℕ) (sides : List Side) (o : Option Window) → is_barred p k arc sides ≡ true → departures_in p sides k arc o ≡ 0
+departures_in-barred p k arc sides None barred = refl
+departures_in-barred p k arc sides (Some w) barred =
+    ap (λ (n : ℕ). count_below n (is_departure p sides k arc w)) (let e : w.hi + 1 ≡ 0 + (w.hi + 1) = omega arith in e) ∙ count_below-more 0 (w.hi + 1) (is_departure p sides k arc w)
+    (λ m h. and_right (nat_le w.lo m) (meets_all k sides (exit_of p (record { arc = arc; depart = m }))) (meets_all-barred p k (record { arc = arc; depart = m }) sides barred))
 
 -- at each arc there are at most as many departures as moments
 pub departures_in_le : (p : Problem) (k arc : ℕ) (sides : List Side) (o : Option Window) → IfSome o IsInTime → departures_in p sides k arc o ≤ 100001

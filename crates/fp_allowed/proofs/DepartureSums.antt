@@ -9,7 +9,7 @@ use Rattle.fp_model.specs.Problem.{Problem}
 use Rattle.fp_flatnet.specs.declared.window_tables.Window.{Window}
 use Rattle.fp_tree.specs.declared.sides.Side.{Side}
 use Rattle.fp_tree.specs.declared.sides.Split.{Split}
-use Rattle.fp_tree.specs.declared.sides.Split.TheVariants.{ByArc, ByTime}
+use Rattle.fp_tree.specs.declared.sides.Split.TheVariants.{ByArc, ByTime, ByTrucks, ByWay}
 use Rattle.fp_tree.specs.Sides.{Exit, first_of_split, second_of_split}
 use Rattle.fp_allowed.specs.Allowed.{exit_of, meets, meets_all, tails_of}
 use Rattle.fp_allowed.specs.Departures.{IsSplitAt, departures_below, departures_in, departures_left, is_departure}
@@ -21,22 +21,29 @@ pub meets_all_push : (k : ℕ) (sides : List Side) (side : Side) (e : Exit) → 
 meets_all_push k sides side e = list_all-append (meets k e) sides (side ∷ []) ∙ ap (λ (b : Bool). meets_all k sides e && b) (and-true (meets k e side))
 
 -- a leg that leaves the terminal of a split meets one of its sides
-one_side : (p : Problem) (k terminal : ℕ) (split : Split) (e : Exit) → IsSplitAt p k terminal split → e.tail ≡ terminal → meets k e (second_of_split split terminal) ≡ not (meets k e (first_of_split split))
-one_side p k terminal (ByArc shipment arc) e at leaves =
-    rw (eq-eqb k shipment (sym at.0), eq-eqb e.tail terminal leaves) (twice (nat_eq e.arc arc))
+one_side : (p : Problem) (k terminal : ℕ) (split : Split) (c : Leg) → IsSplitAt p k terminal split → tails_of p c.arc ≡ terminal → meets k (exit_of p c) (second_of_split split terminal) ≡ not (meets k (exit_of p c) (first_of_split split))
+one_side p k terminal (ByArc shipment arc) c at leaves =
+    rw (eq-eqb k shipment (sym at.0), eq-eqb (tails_of p c.arc) terminal leaves) (twice (nat_eq c.arc arc))
   where
     twice : (b : Bool) → b ≡ not (not b)
     twice true = refl
     twice false = refl
-one_side p k terminal (ByTime shipment place at) e is leaves =
-    rw (eq-eqb k shipment (sym is.0), eq-eqb e.tail place (leaves ∙ sym is.1)) not_before
+one_side p k terminal (ByTime shipment place at) c is leaves =
+    rw (eq-eqb k shipment (sym is.0), eq-eqb (tails_of p c.arc) place (leaves ∙ sym is.1)) not_before
   where
-    not_before : nat_le at e.moment ≡ not (nat_lt e.moment at)
+    not_before : nat_le at c.depart ≡ not (nat_lt c.depart at)
     not_before =
         ⊎_elim
-        (λ (early : e.moment < at). rw (lt-leb at e.moment early, lt-ltb e.moment at early) refl)
-        (λ (late : at ≤ e.moment). rw (le-leb at e.moment late, le-ltb e.moment at late) refl)
-        (cases_lt e.moment at)
+        (λ (early : c.depart < at). rw (lt-leb at c.depart early, lt-ltb c.depart at early) refl)
+        (λ (late : at ≤ c.depart). rw (le-leb at c.depart late, le-ltb c.depart at late) refl)
+        (cases_lt c.depart at)
+one_side p k terminal (ByTrucks arc point until most) c at leaves = absurd at
+one_side p k terminal (ByWay shipment arc) c at leaves =
+    rw (eq-eqb k shipment (sym at.0), eq-eqb (tails_of p c.arc) (tails_of p arc) (leaves ∙ sym at.2)) (twice (nat_eq c.arc arc))
+  where
+    twice : (b : Bool) → not (not b && true) ≡ not (not b)
+    twice true = refl
+    twice false = refl
 
 -- a test and one more, or one more that is its opposite
 opposites : (lo all first second : Bool) → second ≡ not first → one_if (lo && (all && first)) + one_if (lo && (all && second)) ≡ one_if (lo && all)
@@ -63,7 +70,7 @@ module _ (p : Problem) (windows : ℕ → ℕ → Option Window) (sides : List S
       (λ m.
       let e : Exit = exit_of p (record { arc = arc; depart = m }) in
       rw (meets_all_push k sides (first_of_split split) e, meets_all_push k sides (second_of_split split terminal) e)
-      (opposites (nat_le w.lo m) (meets_all k sides e) (meets k e (first_of_split split)) (meets k e (second_of_split split terminal)) (one_side p k terminal split e at leaves)))
+      (opposites (nat_le w.lo m) (meets_all k sides e) (meets k e (first_of_split split)) (meets k e (second_of_split split terminal)) (one_side p k terminal split (record { arc = arc; depart = m }) at leaves)))
 
   below_divided : (a : ℕ) → departures_below p windows with_first k terminal a + departures_below p windows with_second k terminal a ≡ departures_below p windows sides k terminal a
   below_divided zero = refl

@@ -8,7 +8,7 @@ use Rattle.fp_flatnet.specs.declared.window_tables.Window.{Window}
 use Rattle.fp_flatnet.specs.Tables.{windows_in}
 use Rattle.fp_longestarcs.specs.Networks.{TimedNetwork, points_in}
 use Rattle.fp_tree.specs.declared.sides.Side.{Side}
-use Rattle.fp_tree.specs.declared.sides.Side.TheVariants.{Without, Only, Before, From}
+use Rattle.fp_tree.specs.declared.sides.Side.TheVariants.{Without, Only, Before, From, AtMost, MoreThan, Through}
 use Rattle.fp_allowed.specs.Bits.{allowed_in}
 use Rattle.fp_allowed.specs.Chains.{SeveralLeave, chain_stop}
 use Rattle.fp_allowed.specs.Departures.{departures_left}
@@ -78,6 +78,28 @@ only_elsewhere = refl
 another : both 1 (Before 0 0 3 ∷ Without 0 0 ∷ []) ≡ false ∷ true ∷ []
 another = refl
 
+-- on the way by the only arc there is no rival, and by another one that leaves A the classes are barred, for that shipment alone
+through_here : both 0 (Through 0 0 ∷ []) ≡ true ∷ true ∷ []
+through_here = refl
+
+-- at most 0 trucks from 0 until 3 leave no moment to the class from 0, whosever leg it is, and until 2
+-- they leave it one; at most 1 and more than 0 forbid none
+no_trucks : both 0 (AtMost 0 0 3 0 ∷ []) ≡ false ∷ true ∷ []
+no_trucks = refl
+
+no_trucks_before : both 0 (AtMost 0 0 2 0 ∷ []) ≡ true ∷ true ∷ []
+no_trucks_before = refl
+
+-- two runs together leave none to the class from 3
+no_trucks_of_all : both 1 (AtMost 0 3 5 0 ∷ AtMost 0 5 8 0 ∷ []) ≡ false ∷ false ∷ []
+no_trucks_of_all = refl
+
+one_truck : both 0 (AtMost 0 0 9 1 ∷ MoreThan 0 0 9 0 ∷ []) ≡ true ∷ true ∷ []
+one_truck = refl
+
+other_trucks : both 0 (AtMost 1 0 9 0 ∷ []) ≡ true ∷ true ∷ []
+other_trucks = refl
+
 -- two classes of the first shipment leave A
 several : SeveralLeave two (allowed_in setting [] 0) 0
 several = record { one = from 0; two = from 3; one_allowed = refl; two_allowed = refl; one_leaves = refl; two_leaves = refl; differ = λ same. absurd (omega (arith, ap (λ (c : Leg). c.depart) same)) }
@@ -101,6 +123,10 @@ left_before = refl
 
 left_from : left 0 (From 0 0 3 ∷ []) ≡ 3
 left_from = refl
+
+-- a run in the middle leaves what is before it and after it
+left_beside : left 0 (AtMost 0 2 4 0 ∷ []) ≡ 4
+left_beside = refl
 
 -- the head of the class from a point for a shipment with this window
 abbrev head : Option Window → ℕ → ℕ

@@ -6,9 +6,11 @@ pub mod FewerSides
 pub mod ClassTimes
 pub mod Heads
 pub mod PlanClasses
+pub mod PlanCounts
 pub mod ListedClasses
 pub mod RowClasses
 pub mod OpenMoments
+pub mod OpenParts
 pub mod RowBits
 pub mod ClassesBetween
 pub mod ClassRanges
@@ -19,7 +21,6 @@ pub mod MomentRows
 pub mod DepartureCounts
 pub mod DepartureSums
 pub mod Slack
-pub mod BranchLimit
 pub mod FirstBits
 pub mod ArcExits
 pub mod TerminalExits

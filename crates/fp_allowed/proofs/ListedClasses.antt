@@ -1,5 +1,5 @@
 -- The list of all classes of a network, and the numbers of its classes.
-use Rattle.std.proofs.Common.{◌≡◌, ℕ, zero, suc, ◌+◌, ◌-◌, ◌<◌, ◌≤◌, List, [], ◌∷◌, ◌++◌, length, get_or, take, map, refl, sym, ap, ◌∙◌, arith, length-append}
+use Rattle.std.proofs.Common.{◌≡◌, ℕ, zero, suc, ◌+◌, ◌-◌, ◌<◌, ◌≤◌, List, [], ◌∷◌, ◌++◌, length, get_or, take, map, refl, ap, ◌∙◌, arith, length-append}
 use Rattle.std.proofs.lemmas.List.{get_or-map, length-map, get_or_append_left, get_or-append-add, take_all}
 use Rattle.std.proofs.lemmas.List.Sums.{sum_by-cons}
 use Rattle.fp_model.specs.declared.parts.Leg.{Leg}
@@ -10,7 +10,7 @@ use Rattle.fp_longestarcs.specs.Networks.{IsClass, IsNetwork, TimedNetwork, clas
 use Rattle.fp_longestarcs.proofs.ClassNumbers.{class-place, first-mono, first-more, tail-points}
 use Rattle.fp_base_lists.proofs.Places.{place_in-get_or, place_in-unique}
 use Rattle.fp_base_lists.proofs.Membership.{list_has-get_or}
-use Rattle.fp_allowed.specs.Listing.{all_classes, class_at, classes_from}
+use Rattle.fp_allowed.specs.Listing.{class_at, classes_from}
 
 -- the points of a terminal, none where there is no such terminal
 abbrev points_of : List (List ℕ) → ℕ → List ℕ

@@ -93,7 +93,7 @@ walks-from p windows points sides d k (s ∷ ss) (r ∷ plan) h is within obeys 
 pub plan_walks : (p : Problem) (windows : ℕ → ℕ → Option Window) (points : ℕ → List ℕ) (sides : List Side) (d : ℕ) (plan : List (List Leg)) → 1 ≤ d → IsPlan p d plan →
     PlanLiesWithin windows d plan → PlanObeys p d sides plan →
     AllZipFrom (λ k (s : Shipment) r. IsWalkBy p (heads_within p windows points k) (is_allowed p windows points sides k) s r) 0 p.shipments (map (map (class_of p points d)) plan)
-plan_walks p windows points sides d plan h is within obeys = walks-from p windows points sides d 0 p.shipments plan (omega (arith, h)) is within obeys
+plan_walks p windows points sides d plan h is within obeys = walks-from p windows points sides d 0 p.shipments plan (omega (arith, h)) is within obeys.legs
 
 -- so they are an allowed timed walk
 pub plan_timed : (p : Problem) (windows : ℕ → ℕ → Option Window) (points : ℕ → List ℕ) (sides : List Side) (d : ℕ) (plan : List (List Leg)) → 1 ≤ d → IsPlan p d plan →

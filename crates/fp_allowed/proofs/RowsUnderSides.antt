@@ -7,11 +7,11 @@ use Rattle.fp_model.specs.Numbered.{shipment_at}
 use Rattle.fp_flatnet.specs.Tables.{windows_in}
 use Rattle.fp_tree.specs.declared.sides.Side.{Side}
 use Rattle.fp_tree.specs.declared.sides.Split.{Split}
-use Rattle.fp_tree.specs.declared.sides.Split.TheVariants.{ByArc, ByTime}
+use Rattle.fp_tree.specs.declared.sides.Split.TheVariants.{ByArc, ByTime, ByTrucks, ByWay}
 use Rattle.fp_allowed.specs.Allowed.{tails_of}
 use Rattle.fp_allowed.specs.Bits.{IsRowUnder, allowed_in, row_allows}
 use Rattle.fp_allowed.specs.Chains.{IsForced, SeveralLeave}
-use Rattle.fp_allowed.specs.Choices.{IsTaken, OneAtMost, PartsClasses}
+use Rattle.fp_allowed.specs.Choices.{AreByTwo, IsTaken, OneAtMost, PartsClasses}
 use Rattle.fp_allowed.specs.Departures.{DividesDepartures, IsSplitAt}
 use Rattle.fp_allowed.specs.ForcedChains.{ForcedChain}
 use Rattle.fp_allowed.specs.Settings.{IsSetting, Setting}
@@ -28,19 +28,21 @@ forced_under s v sides k row (Ok chain) same is forced under =
     subst (λ (x : Setting). IsForced x.problem x.network (allowed_in x sides k) (shipment_at x.problem k) chain) same
     (subst (λ (allowed : Leg → Bool). IsForced s.problem s.network allowed (shipment_at s.problem k) chain) (row_allows_under s sides k row is under_s) forced)
 
+-- allowed classes of which one alone is by an arc differ
+two_differ : (s : Setting) (allowed : Leg → Bool) (terminal arc : ℕ) → AreByTwo allowed (λ c. tails_of s.problem c.arc ≡ terminal) arc → SeveralLeave s.problem allowed terminal
+two_differ s allowed terminal arc two = record {
+  one = two.one;
+  two = two.two;
+  one_allowed = two.one_leaves.allowed_it;
+  two_allowed = two.two_leaves.allowed_it;
+  one_leaves = two.one_leaves.leaves;
+  two_leaves = two.two_leaves.leaves;
+  differ = λ e. two.not_by (sym (ap (λ (c : Leg). c.arc) e) ∙ two.by);
+}
+
 -- allowed classes that a split parts differ
 parted_differ : (s : Setting) (allowed : Leg → Bool) (k terminal : ℕ) (split : Split) → PartsClasses s.problem allowed k terminal split → SeveralLeave s.problem allowed terminal
-parted_differ s allowed k terminal (ByArc shipment arc) parts =
-    let two = parts.1 in
-    record {
-      one = two.one;
-      two = two.two;
-      one_allowed = two.one_leaves.allowed_it;
-      two_allowed = two.two_leaves.allowed_it;
-      one_leaves = two.one_leaves.leaves;
-      two_leaves = two.two_leaves.leaves;
-      differ = λ e. two.not_by (sym (ap (λ (c : Leg). c.arc) e) ∙ two.by);
-    }
+parted_differ s allowed k terminal (ByArc shipment arc) parts = two_differ s allowed terminal arc parts.1
 parted_differ s allowed k terminal (ByTime shipment place at) parts =
     let parted = parts.2 in
     record {
@@ -52,6 +54,8 @@ parted_differ s allowed k terminal (ByTime shipment place at) parts =
       two_leaves = parted.two_leaves.leaves;
       differ = λ e. absurd (omega (arith, parted.before, parted.from, ap (λ (c : Leg). c.depart) e));
     }
+parted_differ s allowed k terminal (ByTrucks arc point until most) parts = absurd parts
+parted_differ s allowed k terminal (ByWay shipment arc) parts = two_differ s allowed terminal arc parts.1
 
 -- what a split, or none, says of the bits
 abbrev pub Parts : Setting → (Leg → Bool) → ℕ → ℕ → Option Split → Type 0
@@ -88,6 +92,12 @@ divides_under s v sides k terminal row (Some split) same is parts under =
     subst (λ (x : Setting). DividesDepartures x.problem (windows_in x.windows) sides k terminal split) same
     (divides s sides k terminal is split (PartsClasses-IsSplitAt s row k terminal split is parts) (parts_under s sides k terminal row (Some split) is under_s parts)
     (λ c h. allowed_in-IsClass s sides k c is h))
+
+-- and so where a split is, whatever none says
+pub some_divides : (s v : Setting) (sides : List Side) (k terminal : ℕ) (row : List Bool) (o : Option Split) → s ≡ v → IsSetting s → IfSome o (PartsClasses s.problem (row_allows s.network row) k terminal) →
+    IsRowUnder v sides k row → IfSome o (DividesDepartures v.problem (windows_in v.windows) sides k terminal)
+some_divides s v sides k terminal row None same is parts under = tt
+some_divides s v sides k terminal row (Some split) same is parts under = divides_under s v sides k terminal row (Some split) same is parts under
 
 -- which split is taken by the bits is taken by the sides
 pub taken_under : (s v : Setting) (sides : List Side) (k terminal : ℕ) (row : List Bool) (o : Option Split) → s ≡ v → IsSetting s →

@@ -1,5 +1,5 @@
 -- A split that parts the allowed classes of a terminal divides the departures left there.
-use Rattle.std.proofs.Common.{◌≡◌, ℕ, ◌<◌, ◌≤◌, Bool, true, false, ◌&&◌, List, [], ◌∷◌, ◌++◌, ⊎_elim, refl, sym, ap, ◌∙◌, subst, arith}
+use Rattle.std.proofs.Common.{◌≡◌, ℕ, ◌<◌, ◌≤◌, Bool, true, false, ◌&&◌, List, [], ◌∷◌, ◌++◌, length, ⊎_elim, refl, sym, ap, ◌∙◌, subst, arith}
 use Rattle.std.specs.Prelude.{nat_eq, nat_le, nat_lt, not, IsSomeAnd, Option, Some, None}
 use Rattle.std.proofs.lemmas.Bool.{and_from, cases_lt, eq-eqb, le-leb, lt-ltb, ne_eqb, or_right}
 use Rattle.fp_model.specs.declared.parts.Leg.{Leg}
@@ -16,12 +16,12 @@ use Rattle.fp_longestarcs.proofs.ClassNumbers.{tail-points}
 use Rattle.fp_longestarcs.proofs.HeadLists.{arc-count, tail-of}
 use Rattle.fp_base_lists.proofs.Membership.{StandsAt-from_list_has, StandsAt}
 use Rattle.fp_tree.specs.declared.sides.Side.{Side}
-use Rattle.fp_tree.specs.declared.sides.Side.TheVariants.{Without, Only, Before, From}
+use Rattle.fp_tree.specs.declared.sides.Side.TheVariants.{Without, Only, Before, From, Through}
 use Rattle.fp_tree.specs.declared.sides.Split.{Split}
-use Rattle.fp_tree.specs.declared.sides.Split.TheVariants.{ByArc, ByTime}
+use Rattle.fp_tree.specs.declared.sides.Split.TheVariants.{ByArc, ByTime, ByTrucks, ByWay}
 use Rattle.fp_allowed.specs.Allowed.{exit_of, meets, meets_all, tails_of}
 use Rattle.fp_allowed.specs.Bits.{allowed_in, row_allows}
-use Rattle.fp_allowed.specs.Choices.{PartsClasses}
+use Rattle.fp_allowed.specs.Choices.{AreByTwo, PartsClasses}
 use Rattle.fp_allowed.specs.Departures.{DividesDepartures, IsSplitAt, departures_left}
 use Rattle.fp_allowed.specs.Leaving.{OneLeaves}
 use Rattle.fp_allowed.specs.Settings.{IsSetting, Setting}
@@ -35,15 +35,26 @@ point_in_time net c are is =
     let at : StandsAt (points_in net (tail_in net c.arc)) c.depart = StandsAt-from_list_has (points_in net (tail_in net c.arc)) c.depart is.1 in
     omega (arith, at.is 0, are.in_time at.place 0 at.within)
 
+-- an arc by which one of two classes leaves a terminal whose bits are set exists, and leaves it
+by_two-at : (s : Setting) (row : List Bool) (terminal arc : ℕ) → IsSetting s → AreByTwo (row_allows s.network row) (λ c. tails_of s.problem c.arc ≡ terminal) arc →
+    (arc < length s.problem.arcs) × (tails_of s.problem arc ≡ terminal)
+by_two-at s row terminal arc is two =
+    let class : IsClass s.network two.one = (is_class_parts s.network row two.one two.one_leaves.allowed_it).0 in
+    (omega (arith, two.by, class.0, arc-count s.problem s.network is.whole.arcs), ap (tails_of s.problem) (sym two.by) ∙ two.one_leaves.leaves)
+
 -- a split that parts classes whose bits are set is one at the terminal
 pub PartsClasses-IsSplitAt : (s : Setting) (row : List Bool) (k terminal : ℕ) (split : Split) → IsSetting s → PartsClasses s.problem (row_allows s.network row) k terminal split → IsSplitAt s.problem k terminal split
 PartsClasses-IsSplitAt s row k terminal (ByArc shipment arc) is parts =
-    let class : IsClass s.network parts.1.one = (is_class_parts s.network row parts.1.one parts.1.one_leaves.allowed_it).0 in
-    (parts.0, omega (arith, parts.1.by, class.0, arc-count s.problem s.network is.whole.arcs), ap (tails_of s.problem) (sym parts.1.by) ∙ parts.1.one_leaves.leaves)
+    let there = by_two-at s row terminal arc is parts.1 in
+    (parts.0, there.0, there.1)
 PartsClasses-IsSplitAt s row k terminal (ByTime shipment place at) is parts =
     let two : Leg = parts.2.two in
     let class : IsClass s.network two = (is_class_parts s.network row two parts.2.two_leaves.allowed_it).0 in
     (parts.0, parts.1, omega (arith, parts.2.from, point_in_time s.network two (tail-points s.network two.arc is.whole.valid class.0) class))
+PartsClasses-IsSplitAt s row k terminal (ByTrucks arc point until most) is parts = absurd parts
+PartsClasses-IsSplitAt s row k terminal (ByWay shipment arc) is parts =
+    let there = by_two-at s row terminal arc is parts.1 in
+    (parts.0, there.0, there.1)
 
 -- a moment of a class that meets one more side
 with_side : (p : Problem) (points : ℕ → List ℕ) (sides : List Side) (side : Side) (k : ℕ) (c : Leg) (o : Option Window) →
@@ -112,3 +123,15 @@ module _ (s : Setting) (sides : List Side) (k terminal : ℕ) (is : IsSetting s)
       early : (m : ℕ) (qs : List ℕ) (q : ℕ) → floor_point qs 1 m ≡ q → q < time → list_has qs time ≡ true → m < time
       early m qs q falls before there =
           ⊎_elim (λ (less : m < time). less) (λ (late : time ≤ m). absurd (omega (arith, falls, before, floor_greatest qs 1 m time there (omega arith)))) (cases_lt m time)
+  divides (ByTrucks arc point until most) at parts classes = absurd at
+  divides (ByWay shipment arc) at parts classes =
+      let two = parts.1 in
+      record {
+        first = departures_left_with (Without shipment arc) two.two two.two_leaves (λ m falls. rw (ne_eqb two.two.arc arc two.not_by) (without (nat_eq k shipment)));
+        second = departures_left_with (Through shipment arc) two.one two.one_leaves (λ m falls. rw (eq-eqb two.one.arc arc two.by) (without (nat_eq k shipment)));
+        together = departures_left_divided s.problem (windows_in s.windows) sides k terminal (ByWay shipment arc) at;
+      }
+    where
+      without : (b : Bool) → not (b && false) ≡ true
+      without true = refl
+      without false = refl

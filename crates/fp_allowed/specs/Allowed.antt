@@ -9,19 +9,25 @@ use Rattle.fp_model.specs.declared.parts.Leg.{Leg}
 use Rattle.fp_model.specs.declared.parts.Shipment.{Shipment}
 use Rattle.fp_base_lists.specs.Numbered.{AllFrom}
 use Rattle.fp_model.specs.Problem.{Problem, arc_at}
+use Rattle.fp_model.specs.TruckCounts.{trucks_between}
 use Rattle.fp_timenodes.specs.Floor.{floor_point}
 use Rattle.fp_flatnet.specs.declared.window_tables.Window.{Window}
 use Rattle.fp_tree.specs.declared.sides.Side.{Side}
-use Rattle.fp_tree.specs.declared.sides.Side.TheVariants.{Without, Only, Before, From}
-use Rattle.fp_tree.specs.Sides.{Exit, MeetsAll}
+use Rattle.fp_tree.specs.declared.sides.Side.TheVariants.{Without, Only, Before, From, AtMost, MoreThan, Through}
+use Rattle.fp_tree.specs.Sides.{Exit, HasCounts, MeetsAll}
 
 -- the terminal that an arc leaves
 abbrev pub tails_of : Problem → ℕ → ℕ
 tails_of p a = (arc_at p a).from
 
+-- whether an arc is a rival of another: not that arc, but one that leaves the same terminal, or enters
+-- the same one
+abbrev pub is_rival : Problem → ℕ → ℕ → Bool
+is_rival p arc other = not (nat_eq arc other) && (nat_eq (arc_at p arc).from (arc_at p other).from || nat_eq (arc_at p arc).to (arc_at p other).to)
+
 -- a leg as a tree sees it
 abbrev pub exit_of : Problem → Leg → Exit
-exit_of p l = record { arc = l.arc; tail = tails_of p l.arc; moment = l.depart }
+exit_of p l = record { arc = l.arc; tail = tails_of p l.arc; moment = l.depart; is_rival = is_rival p l.arc }
 
 -- whether a leg of the shipment with the number k that leaves at a whole moment meets a side
 abbrev pub meets : ℕ → Exit → Side → Bool
@@ -29,6 +35,9 @@ meets k e (Without shipment arc) = not (nat_eq k shipment && nat_eq e.arc arc)
 meets k e (Only shipment arc tail) = not (nat_eq k shipment && nat_eq e.tail tail) || nat_eq e.arc arc
 meets k e (Before shipment terminal at) = not (nat_eq k shipment && nat_eq e.tail terminal) || nat_lt e.moment at
 meets k e (From shipment terminal at) = not (nat_eq k shipment && nat_eq e.tail terminal) || nat_le at e.moment
+meets k e (AtMost arc point until trucks) = not (nat_eq trucks 0 && nat_eq e.arc arc && nat_le point e.moment && nat_lt e.moment until)
+meets k e (MoreThan arc point until trucks) = true
+meets k e (Through shipment arc) = not (nat_eq k shipment && e.is_rival arc)
 
 -- whether it meets all of the sides
 abbrev pub meets_all : ℕ → List Side → Exit → Bool
@@ -72,6 +81,8 @@ pub record IsForcedChain (p : Problem) (allowed : Leg → Bool) (s : Shipment) (
   pub forced : AreForced p allowed s.to [] s.from chain
   pub whole : (c : Leg) → AreForced p allowed s.to [] s.from (chain ++ (c ∷ [])) → ⊥
 
--- over the denominator d, each leg of each shipment meets the sides
-abbrev pub PlanObeys : Problem → ℕ → List Side → List (List Leg) → Type 0
-PlanObeys p d sides routes = AllFrom (λ k r. AllByRecursion (λ (l : Leg). MeetsAll d k sides (exit_of p l)) r) 0 routes
+-- over the denominator d, each leg of each shipment meets the sides, and so many trucks leave as they
+-- ask
+pub record PlanObeys (p : Problem) (d : ℕ) (sides : List Side) (routes : List (List Leg)) : Type 0 where
+  pub legs : AllFrom (λ k r. AllByRecursion (λ (l : Leg). MeetsAll d k sides (exit_of p l)) r) 0 routes
+  pub trucks : HasCounts (trucks_between p d routes) sides

@@ -7,7 +7,7 @@ use Rattle.fp_flatnet.specs.declared.window_tables.Window.{Window}
 use Rattle.fp_longestarcs.specs.Networks.{TimedNetwork, class_count, class_number}
 use Rattle.fp_longestarcs.specs.Whole.{IsWholeNetwork}
 use Rattle.fp_tree.specs.declared.sides.Split.{Split}
-use Rattle.fp_tree.specs.declared.sides.Split.TheVariants.{ByArc, ByTime}
+use Rattle.fp_tree.specs.declared.sides.Split.TheVariants.{ByArc, ByTime, ByTrucks, ByWay}
 use Rattle.fp_allowed.specs.declared.choices.Leaving.{Leaving}
 use Rattle.fp_allowed.specs.declared.choices.Pick.{Pick}
 use Rattle.fp_allowed.specs.Allowed.{tails_of}
@@ -101,11 +101,15 @@ abbrev pub PartsClasses : Problem → (Leg → Bool) → ℕ → ℕ → Split �
 PartsClasses p allowed k terminal (ByArc shipment arc) = (shipment ≡ k) × AreByTwo allowed (λ c. tails_of p c.arc ≡ terminal) arc
 PartsClasses p allowed k terminal (ByTime shipment place at) =
     (shipment ≡ k) × (place ≡ terminal) × IsParted allowed (λ c. tails_of p c.arc ≡ terminal) at
+PartsClasses p allowed k terminal (ByTrucks arc point until most) = ⊥
+PartsClasses p allowed k terminal (ByWay shipment arc) = (shipment ≡ k) × AreByTwo allowed (λ c. tails_of p c.arc ≡ terminal) arc
 
 -- which split is taken at a terminal: by the arc that is preferred to all others, or, where all
--- allowed classes leave it by one arc, by the point of the middle one
+-- allowed classes leave it by one arc, by the point of the middle one; none is by trucks or by a way
 abbrev pub IsTaken : Problem → (ℕ → ℕ → Option Window) → TimedNetwork → (Leg → Bool) → ℕ → ℕ → Split → Type 0
 IsTaken p windows net allowed k terminal (ByArc shipment arc) =
     AreByTwo allowed (λ c. tails_of p c.arc ≡ terminal) arc × IsPreferredToAll (last_moment windows k) allowed (λ c. tails_of p c.arc ≡ terminal) arc
 IsTaken p windows net allowed k terminal (ByTime shipment place at) =
     (arc : ℕ) × ((other : Leg) → OneLeaves allowed (λ c. tails_of p c.arc ≡ terminal) other → other.arc ≡ arc) × IsMiddle net allowed arc at
+IsTaken p windows net allowed k terminal (ByTrucks arc point until most) = ⊥
+IsTaken p windows net allowed k terminal (ByWay shipment arc) = ⊥

@@ -6,7 +6,7 @@ use Rattle.fp_timenodes.specs.declared.places.TheConstants.{LATEST}
 use Rattle.fp_flatnet.specs.declared.window_tables.Window.{Window}
 use Rattle.fp_tree.specs.declared.sides.Side.{Side}
 use Rattle.fp_tree.specs.declared.sides.Split.{Split}
-use Rattle.fp_tree.specs.declared.sides.Split.TheVariants.{ByArc, ByTime}
+use Rattle.fp_tree.specs.declared.sides.Split.TheVariants.{ByArc, ByTime, ByTrucks, ByWay}
 use Rattle.fp_tree.specs.Sides.{first_of_split, second_of_split}
 use Rattle.fp_allowed.specs.Allowed.{exit_of, meets_all, tails_of}
 
@@ -31,10 +31,13 @@ departures_below p windows sides k terminal (suc a) =
 abbrev pub departures_left : Problem → (ℕ → ℕ → Option Window) → List Side → ℕ → ℕ → ℕ
 departures_left p windows sides k terminal = departures_below p windows sides k terminal (length p.arcs)
 
--- a split of the shipment with the number k at a terminal: by an arc that leaves it, or by a time
+-- a split of the shipment with the number k at a terminal: by an arc that leaves it or the way by it, or by a time; one by trucks is of no
+-- shipment
 abbrev pub IsSplitAt : Problem → ℕ → ℕ → Split → Type 0
 IsSplitAt p k terminal (ByArc shipment arc) = (shipment ≡ k) × (arc < length p.arcs) × (tails_of p arc ≡ terminal)
 IsSplitAt p k terminal (ByTime shipment place at) = (shipment ≡ k) × (place ≡ terminal) × (at ≤ LATEST)
+IsSplitAt p k terminal (ByTrucks arc point until most) = ⊥
+IsSplitAt p k terminal (ByWay shipment arc) = (shipment ≡ k) × (arc < length p.arcs) × (tails_of p arc ≡ terminal)
 
 -- a split divides the departures left: each side, added to the sides, leaves some of them, and
 -- together they leave all

@@ -1,12 +1,10 @@
 -- The slack of sides: how often departures that are left can still be divided.
-use Rattle.std.specs.Prelude.{ℕ, ◌-◌, ◌<◌, ◌≡◌, List, length, IfSome, Option}
-use Rattle.std.specs.List.{AllByRecursion}
+use Rattle.std.specs.Prelude.{ℕ, ◌-◌, ◌<◌, ◌≡◌, List, length, Option}
 use Rattle.fp_base_lists.specs.Below.{sum_below}
 use Rattle.fp_model.specs.Problem.{Problem}
 use Rattle.fp_flatnet.specs.declared.window_tables.Window.{Window}
 use Rattle.fp_tree.specs.declared.sides.Side.{Side}
 use Rattle.fp_tree.specs.Sides.{Fork, second, second_of_split}
-use Rattle.fp_tree.specs.Trees.{Branch}
 use Rattle.fp_allowed.specs.Departures.{DividesDepartures, departures_left}
 
 -- the departures left at a terminal less one, and 0 where none is left
@@ -25,7 +23,3 @@ pub record DividesSome (p : Problem) (windows : ℕ → ℕ → Option Window) (
   pub exists : shipment < length p.shipments
   pub tail : second f ≡ second_of_split f.split terminal
   pub divides : DividesDepartures p windows sides shipment terminal f.split
-
--- so does each of the splits, under the sides on its way
-abbrev pub AllDivide : Problem → (ℕ → ℕ → Option Window) → {X : Type 0} → (X → Option Fork) → List (Branch X) → Type 0
-AllDivide p windows {X} fork_of branches = AllByRecursion (λ (b : Branch X). IfSome (fork_of b.node) (DividesSome p windows b.sides)) branches

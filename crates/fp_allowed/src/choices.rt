@@ -1,6 +1,6 @@
 //! The split of a shipment at a terminal that parts the allowed classes that leave it.
 
-ghost use Rattle.std.specs.Prelude.{ℕ, ◌≡◌, ◌<◌, ◌≤◌, true, false, IfSome, MatchBool, MatchOption, length};
+ghost use Rattle.std.specs.Prelude.{ℕ, ◌≡◌, ◌<◌, ◌≤◌, ◌≢◌, true, false, IfSome, IsTrue, MatchBool, MatchOption, length};
 ghost use Rattle.fp_model.specs.declared.parts.Leg.{Leg};
 ghost use Rattle.fp_flatnet.specs.Tables.{windows_in};
 ghost use Rattle.fp_longestarcs.specs.Networks.{IsNetwork, class_count, tail_in};
@@ -8,6 +8,7 @@ ghost use Rattle.fp_allowed.specs.Allowed.{tails_of};
 ghost use Rattle.fp_allowed.specs.Bits.{bit_of, row_allows};
 ghost use Rattle.fp_allowed.specs.Choices.{IsBetter, IsLeaving, IsMiddle, IsParted, IsTaken, OneAtMost, PartsClasses, Picks, last_moment as last_moment_of};
 ghost use Rattle.fp_allowed.specs.Leaving.{OneLeaves};
+ghost use Rattle.fp_tree.specs.declared.sides.Split.TheVariants.{ByWay};
 
 use crate::exits::{class_range, first_set};
 use fp_flatnet::Windows;
@@ -160,4 +161,42 @@ pub(crate) fn parting_split(leaving: &Leaving) -> Option<Split>
         terminal,
         at,
     })
+}
+
+// Whether an allowed class leaves the terminal by another arc than this one.
+fn has_other(leaving: &Leaving, arc: u32) -> bool
+    requires { IsLeaving leaving.now }
+    ensures { IsTrue result → (c : Leg) × OneLeaves (row_allows leaving.now.network.now leaving.now.row.now)
+        (λ k. tails_of leaving.now.instance.now k.arc ≡ leaving.now.terminal) c × (c.arc ≢ arc) }
+{
+    let terminal = leaving.terminal;
+    for other in 0..leaving.instance.arcs().len() as u32 {
+        if other != arc
+            && leaving.instance.arc(other).from == terminal
+            && has_allowed(leaving.network, other, terminal, leaving.row)
+        {
+            return true;
+        }
+    }
+    false
+}
+
+// The split of a shipment by the way by an arc that leaves the terminal, where allowed classes leave it
+// by that arc and by another.
+pub(crate) fn way_split(leaving: &Leaving, arc: u32) -> Option<Split>
+    requires leaving { IsLeaving leaving.now }
+    requires arc { arc < length leaving.now.instance.now.arcs }
+    requires tail { tails_of leaving.now.instance.now arc ≡ leaving.now.terminal }
+    ensures way { IfSome result (λ split. split ≡ ByWay leaving.now.shipment arc) }
+    ensures parts { IfSome result (PartsClasses leaving.now.instance.now
+        (row_allows leaving.now.network.now leaving.now.row.now) leaving.now.shipment leaving.now.terminal) }
+{
+    let by_it = has_allowed(leaving.network, arc, leaving.terminal, leaving.row);
+    if by_it && has_other(leaving, arc) {
+        return Some(Split::ByWay {
+            shipment: leaving.shipment,
+            arc,
+        });
+    }
+    None
 }

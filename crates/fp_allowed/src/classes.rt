@@ -7,6 +7,7 @@ ghost use Rattle.fp_flatnet.specs.Tables.{windows_in};
 ghost use Rattle.fp_longestarcs.specs.Networks.{IsClass, class_count, points_in};
 ghost use Rattle.fp_longestarcs.specs.Whole.{IsWholeNetwork};
 ghost use Rattle.fp_tree.specs.declared.sides.Side.{Side};
+ghost use Rattle.fp_tree.specs.declared.sides.Split.TheVariants.{ByWay};
 ghost use Rattle.fp_allowed.specs.Allowed.{tails_of};
 ghost use Rattle.fp_allowed.specs.Bits.{AllowsPlans, IsRowUnder, allowed_in};
 ghost use Rattle.fp_allowed.specs.Chains.{IsForced, SeveralLeave};
@@ -18,7 +19,7 @@ ghost use Rattle.fp_allowed.specs.Settings.{IsSetting};
 use crate::NoMemory;
 use crate::allowed_rows::allowed_row;
 use crate::chain_ends::Chain;
-use crate::choices::{Leaving, parting_split};
+use crate::choices::{Leaving, parting_split, way_split};
 use crate::class_heads::head_for;
 use crate::forced_chains::forced_chain;
 use fp_flatnet::Windows;
@@ -67,7 +68,7 @@ impl<'a> Allowed<'a> {
 
     /// The row of a shipment under sides: one bit per class, set exactly where the class has a
     /// whole moment inside the shipment's window for the arc that no side forbids. The sides of
-    /// other shipments ask nothing of it.
+    /// other shipments ask nothing of it, nor do those by trucks but where at most 0 are to leave.
     ///
     /// So for every plan over any denominator that lies within the windows and obeys the sides, the
     /// classes of the shipment's legs are set, and each stands at or after the head of the one
@@ -151,5 +152,33 @@ impl<'a> Allowed<'a> {
             row,
             terminal,
         })
+    }
+
+    /// The split of a shipment by the way by an arc, under a row of its, that leaves something on both
+    /// sides. `None` where not both that arc and another one that leaves the same terminal have allowed
+    /// classes.
+    ///
+    /// `row` has one bit per class. For each list of sides under which it is the shipment's row, each
+    /// side of the split, added to that list, leaves the shipment some departures at the terminal, and
+    /// together they leave those that the list alone leaves. Takes no memory.
+    pub fn way(&self, shipment: u32, row: &Row, arc: u32) -> Option<Split>
+        requires shipment { shipment < length self.now.problem.shipments }
+        requires row { length row.now ≡ class_count self.now.network }
+        requires arc { arc < length self.now.problem.arcs }
+        ensures way { IfSome result (λ split. split ≡ ByWay shipment arc) }
+        ensures at { IfSome result (IsSplitAt self.now.problem shipment (tails_of self.now.problem arc)) }
+        ensures divides { (sides : List Side) → IsRowUnder self.now sides shipment row.now →
+            IfSome result (DividesDepartures self.now.problem (windows_in self.now.windows) sides shipment (tails_of self.now.problem arc)) }
+    {
+        let terminal = self.instance.arc(arc).from;
+        let leaving = Leaving {
+            instance: self.instance,
+            windows: self.windows,
+            network: self.network,
+            shipment,
+            row,
+            terminal,
+        };
+        way_split(&leaving, arc)
     }
 }

@@ -1,6 +1,6 @@
 //! How many departures a shipment has left at a terminal under sides.
 
-ghost use Rattle.std.specs.Prelude.{ℕ, ◌≡◌, ◌+◌, ◌<◌, ◌≤◌, ◌&&◌, not, Some, List, IfOk, IfSome, length, nat_le};
+ghost use Rattle.std.specs.Prelude.{ℕ, ◌≡◌, ◌+◌, ◌<◌, ◌≤◌, ◌&&◌, not, Some, List, IfOk, IfSome, false, length, nat_le};
 ghost use Rattle.fp_model.specs.Problem.{Problem};
 ghost use Rattle.fp_flatnet.specs.Belonging.{BelongsTo};
 ghost use Rattle.fp_flatnet.specs.Tables.{windows_in};
@@ -8,10 +8,10 @@ ghost use Rattle.fp_tree.specs.declared.sides.Side.{Side};
 ghost use Rattle.fp_allowed.specs.Allowed.{tails_of};
 ghost use Rattle.fp_allowed.specs.Departures.{departures_in, departures_left};
 ghost use Rattle.fp_base_lists.specs.Below.{count_below};
-ghost use Rattle.fp_allowed.specs.Moments.{all_let, concerned as concerned_of, in_range, lets};
+ghost use Rattle.fp_allowed.specs.Moments.{all_let, barring as barring_for, concerned as concerned_of, in_range, is_barred as is_barred_of, lets};
 
 use crate::NoMemory;
-use crate::moments::concerned;
+use crate::moments::{barring, concerned, is_barred};
 use fp_flatnet::{Window, Windows};
 use fp_model::Instance;
 use fp_model::limits::LATEST;
@@ -38,18 +38,52 @@ pub fn departures(
     ensures { IfOk result (λ n. n ≡ departures_left instance.now (windows_in windows.now) sides.now shipment terminal) }
 {
     let own = concerned(alloc, instance, shipment, terminal, sides)?;
+    let through = barring(alloc, shipment, sides)?;
     let mut moments = Row::new(alloc, MOMENTS)?;
     let mut total = 0;
     for arc in 0..instance.arcs().len() as u32 {
         if instance.arc(arc).from == terminal {
-            total += departures_by(windows, shipment, arc, &own, &mut moments);
+            total += departures_at(
+                instance,
+                windows,
+                shipment,
+                arc,
+                &through,
+                &own,
+                &mut moments,
+            );
         }
     }
     Ok(total)
 }
 
-// The departures by one arc, where the sides are those that restrict the shipment's departures from
-// the arc's tail. What the row holds before is free.
+// The departures by one arc under sides of which `through` may bar arcs for the shipment, and `own` restrict
+// its departures from the arc's tail: none where a side bars it. What the row holds before is free.
+fn departures_at(
+    instance: &Instance,
+    windows: &Windows,
+    shipment: u32,
+    arc: u32,
+    through: &[Side],
+    own: &[Side],
+    moments: &mut Row,
+) -> u32
+    requires shipment { shipment < length windows.now.rows }
+    requires arc { arc < length windows.now.tails }
+    requires in_time { IfSome (windows_in windows.now shipment arc) (λ w. (w.lo ≤ w.hi) × (w.hi ≤ LATEST)) }
+    requires long { length moments.old ≡ MOMENTS }
+    ensures long { length moments.new ≡ MOMENTS }
+    ensures exact { (others : List Side) → own.now ≡ concerned_of instance.now shipment (tails_of instance.now arc) others → through.now ≡ barring_for shipment others →
+        result ≡ departures_in instance.now others shipment arc (windows_in windows.now shipment arc) }
+{
+    if is_barred(instance, shipment, arc, through) {
+        return 0;
+    }
+    departures_by(windows, shipment, arc, own, moments)
+}
+
+// The departures by one arc that no side bars, where the sides are those that restrict the shipment's
+// departures from the arc's tail. What the row holds before is free.
 fn departures_by(
     windows: &Windows,
     shipment: u32,
@@ -62,7 +96,7 @@ fn departures_by(
     requires in_time { IfSome (windows_in windows.now shipment arc) (λ w. (w.lo ≤ w.hi) × (w.hi ≤ LATEST)) }
     requires long { length moments.old ≡ MOMENTS }
     ensures long { length moments.new ≡ MOMENTS }
-    ensures exact { (p : Problem) (others : List Side) → sides.now ≡ concerned_of p shipment (tails_of p arc) others →
+    ensures exact { (p : Problem) (others : List Side) → sides.now ≡ concerned_of p shipment (tails_of p arc) others → is_barred_of p shipment arc others ≡ false →
         result ≡ departures_in p others shipment arc (windows_in windows.now shipment arc) }
 {
     match windows.window(shipment, arc) {
@@ -99,5 +133,18 @@ fn forbidden(arc: u32, side: Side) -> (u32, u32)
         Side::Only { arc: other, .. } => (0, if arc == other { 0 } else { MOMENTS }),
         Side::Before { at, .. } => (at.min(MOMENTS), MOMENTS),
         Side::From { at, .. } => (0, at.min(MOMENTS)),
+        Side::AtMost {
+            arc: other,
+            point,
+            until,
+            ..
+        } => {
+            if arc == other && point < until {
+                (point.min(MOMENTS), until.min(MOMENTS))
+            } else {
+                (0, 0)
+            }
+        }
+        Side::MoreThan { .. } | Side::Through { .. } => (0, 0),
     }
 }

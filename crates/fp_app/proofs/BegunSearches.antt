@@ -1,5 +1,5 @@
 -- A search that begins with a plan in hand looks for the same plans.
-use Rattle.std.proofs.Common.{◌≡◌, ◌≤◌, Bool, List, refl, subst}
+use Rattle.std.proofs.Common.{◌≡◌, ◌≤◌, List, refl, subst}
 use Rattle.fp_model.specs.declared.parts.Leg.{Leg}
 use Rattle.fp_model.specs.Costs.{cost}
 use Rattle.fp_model.specs.Problem.{Problem}
@@ -38,8 +38,8 @@ first-is q (going_on p day) plan first is = is
 first-is q (going_on_from p day other) plan first is = is
 
 -- so what it shows costs no more
-pub no-dearer : (p : Problem) (wanted : Wanted) (plan : List (List Leg)) (allowed : Allowance) (spans : Bool) (s : Solution) → IsSearched p (from_plan wanted plan) allowed spans s → stated_cost s.certificate.answer ≤ cost p plan
-no-dearer p wanted plan allowed spans s told = subst (λ (x : List (List Leg)). stated_cost s.certificate.answer ≤ cost p x) (first-is p wanted plan told.first told.begins) told.earned.cheaper
+pub no-dearer : (p : Problem) (wanted : Wanted) (plan : List (List Leg)) (allowed : Allowance) (s : Solution) → IsSearched p (from_plan wanted plan) allowed s → stated_cost s.certificate.answer ≤ cost p plan
+no-dearer p wanted plan allowed s told = subst (λ (x : List (List Leg)). stated_cost s.certificate.answer ≤ cost p x) (first-is p wanted plan told.first told.begins) told.earned.cheaper
 
 -- and what is enough for it is so whatever it begins with
 pub enough-from : (p : Problem) (wanted : Wanted) (plan : List (List Leg)) (allowed : Allowance) (spent : Spent) → IsEnough p wanted allowed spent → IsEnough p (from_plan wanted plan) allowed spent

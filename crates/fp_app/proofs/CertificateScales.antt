@@ -7,7 +7,7 @@ use Rattle.fp_model.specs.Problem.{Problem}
 use Rattle.fp_records_fields.specs.Faults.{Fault, first_fault}
 use Rattle.fp_certificate.specs.declared.drafts.Draft.{Draft}
 use Rattle.fp_certificate.specs.declared.lines.kinds.LineKind.{LineKind}
-use Rattle.fp_certificate.specs.declared.lines.kinds.LineKind.TheVariants.{Direct, Optimal, Unfinished, Infeasible, Scale, Leg, Truck, Point, Table, Share, Span, Weight, ByArc, ByTime, Leaf, End}
+use Rattle.fp_certificate.specs.declared.lines.kinds.LineKind.TheVariants.{Direct, Optimal, Unfinished, Infeasible, Scale, Leg, Truck, Point, Table, Share, Span, Weight, ByArc, ByTime, ByTrucks, ByWay, Leaf, End}
 use Rattle.fp_certificate.specs.declared.lines.kinds.LineKind.TheVariants as kind
 use Rattle.fp_certificate.specs.Kinds.{kind_of}
 use Rattle.fp_certificate.specs.Reading.{certificate_from, kind_code, line_code, with_kind_of, with_line}
@@ -34,8 +34,11 @@ kind_code-scale p scale before (Some Share) fields = refl
 kind_code-scale p scale before (Some Span) fields = refl
 kind_code-scale p scale before (Some Weight) fields = refl
 kind_code-scale p scale before (Some kind.Group) fields = refl
+kind_code-scale p scale before (Some kind.Gift) fields = refl
 kind_code-scale p scale before (Some ByArc) fields = refl
 kind_code-scale p scale before (Some ByTime) fields = refl
+kind_code-scale p scale before (Some ByTrucks) fields = refl
+kind_code-scale p scale before (Some ByWay) fields = refl
 kind_code-scale p scale before (Some Leaf) fields = refl
 kind_code-scale p scale before (Some End) fields = refl
 
@@ -58,8 +61,11 @@ with_kind-scale p scale before (Some Share) fields = refl
 with_kind-scale p scale before (Some Span) fields = refl
 with_kind-scale p scale before (Some Weight) fields = refl
 with_kind-scale p scale before (Some kind.Group) fields = refl
+with_kind-scale p scale before (Some kind.Gift) fields = refl
 with_kind-scale p scale before (Some ByArc) fields = refl
 with_kind-scale p scale before (Some ByTime) fields = refl
+with_kind-scale p scale before (Some ByTrucks) fields = refl
+with_kind-scale p scale before (Some ByWay) fields = refl
 with_kind-scale p scale before (Some Leaf) fields = refl
 with_kind-scale p scale before (Some End) fields = refl
 

@@ -1,5 +1,5 @@
 -- What `replan` shows of a day that is under way, by its status.
-use Rattle.std.proofs.Common.{◌≡◌, ◌∙◌, ℕ, Bool, List, refl, sym, ap, subst, inr}
+use Rattle.std.proofs.Common.{◌≡◌, ◌∙◌, ℕ, List, refl, sym, ap, subst, inr}
 use Rattle.std.specs.Prelude.{Ok}
 use Rattle.fp_model.specs.Problem.{Problem}
 use Rattle.fp_certificate_lines.specs.declared.certificates.Answer.{Answer}
@@ -46,54 +46,54 @@ end-unfinished : (p : Problem) (wanted : Wanted) (allowed : Allowance) (a : Answ
 end-unfinished p wanted allowed a (optimal cost same plans) ends = let e : status.Done ≡ status.Unfinished = sym (ap search_status same) ∙ ends in cc e
 end-unfinished p wanted allowed a (unfinished cost bound spent same bounds) ends = record { cost = cost; bound = bound; spent = spent; is = same; bounds = bounds }
 
-shown-optimal : (allowed : Allowance) (spans : Bool) (input : List ℕ) (s : Shown) (told : ShowsUnderway allowed spans input s) → EndsOptimal told.rest.instance (going_on told.instance told.day) told.solved.certificate.answer →
-    ShowsDayOptimal allowed spans input s
-shown-optimal allowed spans input s told ends = record { solution = told; cost = ends.cost; answer = ends.is; plans = ends.plans }
+shown-optimal : (allowed : Allowance) (input : List ℕ) (s : Shown) (told : ShowsUnderway allowed input s) → EndsOptimal told.rest.instance (going_on told.instance told.day) told.solved.certificate.answer →
+    ShowsDayOptimal allowed input s
+shown-optimal allowed input s told ends = record { solution = told; cost = ends.cost; answer = ends.is; plans = ends.plans }
 
-shown-unfinished : (allowed : Allowance) (spans : Bool) (input : List ℕ) (s : Shown) (told : ShowsUnderway allowed spans input s) → EndsUnfinished told.rest.instance (going_on told.instance told.day) allowed told.solved.certificate.answer →
-    ShowsDayUnfinished allowed spans input s
-shown-unfinished allowed spans input s told ends = record { solution = told; cost = ends.cost; bound = ends.bound; spent = ends.spent; answer = ends.is; bounds = ends.bounds }
+shown-unfinished : (allowed : Allowance) (input : List ℕ) (s : Shown) (told : ShowsUnderway allowed input s) → EndsUnfinished told.rest.instance (going_on told.instance told.day) allowed told.solved.certificate.answer →
+    ShowsDayUnfinished allowed input s
+shown-unfinished allowed input s told ends = record { solution = told; cost = ends.cost; bound = ends.bound; spent = ends.spent; answer = ends.is; bounds = ends.bounds }
 
-module _ (allowed : Allowance) (spans : Bool) (input : List ℕ) (x : DayInstance) (read : day_in input ≡ Ok x) where
+module _ (allowed : Allowance) (input : List ℕ) (x : DayInstance) (read : day_in input ≡ Ok x) where
   -- what is shown is of what is left, or stuck
-  each-shown : (s : Shown) → ShowsDay allowed spans x s → (X : Type 0) →
-      ((p : Problem) (day : Day) (rest : Rest) (y : Solution) → s ≡ shown.Underway p day rest y → x ≡ record { instance = p; day = day } → IsOpen p day → IsRest p day rest → IsSearched rest.instance (going_on p day) allowed spans y → X) →
+  each-shown : (s : Shown) → ShowsDay allowed x s → (X : Type 0) →
+      ((p : Problem) (day : Day) (rest : Rest) (y : Solution) → s ≡ shown.Underway p day rest y → x ≡ record { instance = p; day = day } → IsOpen p day → IsRest p day rest → IsSearched rest.instance (going_on p day) allowed y → X) →
       ((p : Problem) (shipment : ℕ) → s ≡ shown.Stuck p shipment → X) → X
   each-shown (shown.Underway p day rest y) told X going stuck = going p day rest y refl told.0 told.1 told.2 told.3
   each-shown (shown.Stuck p shipment) told X going stuck = stuck p shipment refl
   each-shown _ told X going stuck = absurd told
 
   module _ (s : Shown) (p : Problem) (day : Day) (rest : Rest) (y : Solution) (shows : s ≡ shown.Underway p day rest y) (same : x ≡ record { instance = p; day = day }) (goes : IsOpen p day) (left : IsRest p day rest)
-      (searched : IsSearched rest.instance (going_on p day) allowed spans y) where
-    underway : ShowsUnderway allowed spans input s
+      (searched : IsSearched rest.instance (going_on p day) allowed y) where
+    underway : ShowsUnderway allowed input s
     underway = record { instance = p; day = day; rest = rest; solved = y; read = read ∙ ap Ok same; shows = shows; goes_on = goes; left = left; searched = searched }
 
     ended : SearchEnd rest.instance (going_on p day) allowed y.certificate.answer
     ended = search-end rest.instance (going_on p day) allowed y.certificate.answer searched.says
 
-    underway-done : status_of s ≡ status.Done → ShowsDayOptimal allowed spans input s
+    underway-done : status_of s ≡ status.Done → ShowsDayOptimal allowed input s
     unfolding underway
-    underway-done done = shown-optimal allowed spans input s underway (end-optimal rest.instance (going_on p day) allowed y.certificate.answer ended (ap status_of (sym shows) ∙ done))
+    underway-done done = shown-optimal allowed input s underway (end-optimal rest.instance (going_on p day) allowed y.certificate.answer ended (ap status_of (sym shows) ∙ done))
 
-    underway-open : status_of s ≡ status.Unfinished → ShowsDayUnfinished allowed spans input s
+    underway-open : status_of s ≡ status.Unfinished → ShowsDayUnfinished allowed input s
     unfolding underway
-    underway-open ends = shown-unfinished allowed spans input s underway (end-unfinished rest.instance (going_on p day) allowed y.certificate.answer ended (ap status_of (sym shows) ∙ ends))
+    underway-open ends = shown-unfinished allowed input s underway (end-unfinished rest.instance (going_on p day) allowed y.certificate.answer ended (ap status_of (sym shows) ∙ ends))
 
   stuck-not : (s : Shown) (p : Problem) (shipment : ℕ) (t : Status) → (status.Infeasible ≡ t → ⊥) → s ≡ shown.Stuck p shipment → status_of s ≡ t → ⊥
   stuck-not s p shipment t other shows same = other (ap status_of (sym shows) ∙ same)
 
   -- by no clauses: what they give would be compared field by field
-  going-done : (s : Shown) → ShowsDay allowed spans x s → status_of s ≡ status.Done → ShowsDayOptimal allowed spans input s
+  going-done : (s : Shown) → ShowsDay allowed x s → status_of s ≡ status.Done → ShowsDayOptimal allowed input s
   going-done s told done =
-      each-shown s told (ShowsDayOptimal allowed spans input s) (λ p day rest y shows same goes left searched. underway-done s p day rest y shows same goes left searched done)
+      each-shown s told (ShowsDayOptimal allowed input s) (λ p day rest y shows same goes left searched. underway-done s p day rest y shows same goes left searched done)
       (λ p shipment shows. absurd (stuck-not s p shipment status.Done (λ e. cc e) shows done))
 
-  going-open : (s : Shown) → ShowsDay allowed spans x s → status_of s ≡ status.Unfinished → ShowsDayUnfinished allowed spans input s
+  going-open : (s : Shown) → ShowsDay allowed x s → status_of s ≡ status.Unfinished → ShowsDayUnfinished allowed input s
   going-open s told ends =
-      each-shown s told (ShowsDayUnfinished allowed spans input s) (λ p day rest y shows same goes left searched. underway-open s p day rest y shows same goes left searched ends)
+      each-shown s told (ShowsDayUnfinished allowed input s) (λ p day rest y shows same goes left searched. underway-open s p day rest y shows same goes left searched ends)
       (λ p shipment shows. absurd (stuck-not s p shipment status.Unfinished (λ e. cc e) shows ends))
 
-  going-stuck : (s : Shown) → ShowsDay allowed spans x s → status_of s ≡ status.Infeasible → ShowsDayStuck input s
+  going-stuck : (s : Shown) → ShowsDay allowed x s → status_of s ≡ status.Infeasible → ShowsDayStuck input s
   going-stuck (shown.Underway p day rest y) told none = absurd (search-no_other y.certificate.answer status.Infeasible (λ e. cc e) (λ e. cc e) none)
   going-stuck (shown.Stuck p shipment) told none = record {
     instance = x.instance;
@@ -106,25 +106,25 @@ module _ (allowed : Allowance) (spans : Bool) (input : List ℕ) (x : DayInstanc
   }
   going-stuck _ told none = absurd told
 
-pub day-done : (allowed : Allowance) (spans : Bool) (input : List ℕ) (s : Shown) → OfDay input s (λ x. ShowsDay allowed spans x s) → status_of s ≡ status.Done → ShowsDayOptimal allowed spans input s
-day-done allowed spans input s told done =
-    MatchResult_shows status.Done (day_in input) (day_in input) (λ (x : DayInstance). ShowsDay allowed spans x s) s (ShowsDayOptimal allowed spans input s) (λ e. cc e) refl done told
-    (λ x is shows. going-done allowed spans input x is s shows done)
+pub day-done : (allowed : Allowance) (input : List ℕ) (s : Shown) → OfDay input s (λ x. ShowsDay allowed x s) → status_of s ≡ status.Done → ShowsDayOptimal allowed input s
+day-done allowed input s told done =
+    MatchResult_shows status.Done (day_in input) (day_in input) (λ (x : DayInstance). ShowsDay allowed x s) s (ShowsDayOptimal allowed input s) (λ e. cc e) refl done told
+    (λ x is shows. going-done allowed input x is s shows done)
 
-pub day-open : (allowed : Allowance) (spans : Bool) (input : List ℕ) (s : Shown) → OfDay input s (λ x. ShowsDay allowed spans x s) → status_of s ≡ status.Unfinished → ShowsDayUnfinished allowed spans input s
-day-open allowed spans input s told ends =
-    MatchResult_shows status.Unfinished (day_in input) (day_in input) (λ (x : DayInstance). ShowsDay allowed spans x s) s (ShowsDayUnfinished allowed spans input s) (λ e. cc e) refl ends told
-    (λ x is shows. going-open allowed spans input x is s shows ends)
+pub day-open : (allowed : Allowance) (input : List ℕ) (s : Shown) → OfDay input s (λ x. ShowsDay allowed x s) → status_of s ≡ status.Unfinished → ShowsDayUnfinished allowed input s
+day-open allowed input s told ends =
+    MatchResult_shows status.Unfinished (day_in input) (day_in input) (λ (x : DayInstance). ShowsDay allowed x s) s (ShowsDayUnfinished allowed input s) (λ e. cc e) refl ends told
+    (λ x is shows. going-open allowed input x is s shows ends)
 
-pub day-stuck : (allowed : Allowance) (spans : Bool) (input : List ℕ) (s : Shown) → OfDay input s (λ x. ShowsDay allowed spans x s) → status_of s ≡ status.Infeasible → ShowsDayStuck input s
-day-stuck allowed spans input s told none =
-    MatchResult_shows status.Infeasible (day_in input) (day_in input) (λ (x : DayInstance). ShowsDay allowed spans x s) s (ShowsDayStuck input s) (λ e. cc e) refl none told
-    (λ x is shows. going-stuck allowed spans input x is s shows none)
+pub day-stuck : (allowed : Allowance) (input : List ℕ) (s : Shown) → OfDay input s (λ x. ShowsDay allowed x s) → status_of s ≡ status.Infeasible → ShowsDayStuck input s
+day-stuck allowed input s told none =
+    MatchResult_shows status.Infeasible (day_in input) (day_in input) (λ (x : DayInstance). ShowsDay allowed x s) s (ShowsDayStuck input s) (λ e. cc e) refl none told
+    (λ x is shows. going-stuck allowed input x is s shows none)
 
-pub day-status : (allowed : Allowance) (spans : Bool) (x : DayInstance) (s : Shown) → ShowsDay allowed spans x s → SearchStatus (left_problem x.instance x.day) (going_on x.instance x.day) allowed (status_of s)
-day-status allowed spans x (shown.Underway p day rest y) told =
+pub day-status : (allowed : Allowance) (x : DayInstance) (s : Shown) → ShowsDay allowed x s → SearchStatus (left_problem x.instance x.day) (going_on x.instance x.day) allowed (status_of s)
+day-status allowed x (shown.Underway p day rest y) told =
     subst (λ (z : DayInstance). SearchStatus (left_problem z.instance z.day) (going_on z.instance z.day) allowed (search_status y.certificate.answer)) (sym told.0)
     (subst (λ (q : Problem). SearchStatus q (going_on p day) allowed (search_status y.certificate.answer)) told.2.instance
-    (end-status rest.instance (going_on p day) allowed spans y told.3 (search-end rest.instance (going_on p day) allowed y.certificate.answer told.3.says)))
-day-status allowed spans x (shown.Stuck p shipment) told = inr (inr (refl, told.2))
-day-status allowed spans x _ told = absurd told
+    (end-status rest.instance (going_on p day) allowed y told.3 (search-end rest.instance (going_on p day) allowed y.certificate.answer told.3.says)))
+day-status allowed x (shown.Stuck p shipment) told = inr (inr (refl, told.2))
+day-status allowed x _ told = absurd told

@@ -58,12 +58,12 @@ module _ (over : Bool) where
   bound-status option p (shown.Infeasible q shipment time) told = inr (refl, told.2)
   bound-status option p _ told = absurd told
 
-  search-input-status : (p : Problem) (allowed : Allowance) (spans : Bool) (s : Shown) → ShowsSearch allowed spans p s → SearchStatus p every allowed (status_of s)
-  search-input-status p allowed spans (shown.Planned q solved) told = end-status p every allowed spans solved told.1 (search-end p every allowed solved.certificate.answer told.1.says)
-  search-input-status p allowed spans (shown.Infeasible q shipment time) told = inr (inr (refl, told.2))
-  search-input-status p allowed spans _ told = absurd told
+  search-input-status : (p : Problem) (allowed : Allowance) (s : Shown) → ShowsSearch allowed p s → SearchStatus p every allowed (status_of s)
+  search-input-status p allowed (shown.Planned q solved) told = end-status p every allowed solved told.1 (search-end p every allowed solved.certificate.answer told.1.says)
+  search-input-status p allowed (shown.Infeasible q shipment time) told = inr (inr (refl, told.2))
+  search-input-status p allowed _ told = absurd told
 
-  trial-status : (p : Problem) (s : Solution) → IsSearched p every trial_allowance false s → SearchEnd p every trial_allowance s.certificate.answer → TrialStatus p (search_status s.certificate.answer)
+  trial-status : (p : Problem) (s : Solution) → IsSearched p every trial_allowance s → SearchEnd p every trial_allowance s.certificate.answer → TrialStatus p (search_status s.certificate.answer)
   trial-status p s told (optimal cost same plans) = inl (ap search_status same)
   trial-status p s told (unfinished cost bound spent same bounds) = inr (ap search_status same, (spent, bounds.scarce))
 
@@ -89,17 +89,17 @@ module _ (over : Bool) where
   ShowsInput-InputStatus Direct input s told = MatchResult_map (instance_in input) (λ p. ShowsDirect p s) (λ p. PlanStatus p (status_of s)) s (λ p. direct-status p s) told
   ShowsInput-InputStatus (Bound option seconds) input s told = MatchResult_map (instance_in input) (λ p. ShowsBound option p s) (λ p. PlanStatus p (status_of s)) s (λ p. bound-status option p s) told
   ShowsInput-InputStatus (Plan budget scale spans seconds notes) input s told =
-      MatchResult_map (instance_at scale input) (λ p. ShowsSearch (within budget over) spans p s) (λ p. SearchStatus p every (within budget over) (status_of s)) s (λ p. search-input-status p (within budget over) spans s) told
+      MatchResult_map (instance_at scale input) (λ p. ShowsSearch (within budget over spans) p s) (λ p. SearchStatus p every (within budget over spans) (status_of s)) s (λ p. search-input-status p (within budget over spans) s) told
   ShowsInput-InputStatus (Improve budget scale spans seconds notes) input s told =
-      improve-ends (within budget over) spans scale input s told
+      improve-ends (within budget over spans) scale input s told
   ShowsInput-InputStatus (Trial seed terminals shipments) input s told = absurd told
   ShowsInput-InputStatus (Yard seed) input s told = plan-ends input s (λ p wanted c. ShowsYard seed p wanted c s) (λ p wanted c. ToldStatus p wanted c (status_of s)) (yard-status seed s) told
   ShowsInput-InputStatus (Fleet trucks) input s told = plan-ends input s (λ p wanted c. ShowsFleet trucks p wanted c s) (λ p wanted c. ToldStatus p wanted c (status_of s)) (fleet-status trucks s) told
-  ShowsInput-InputStatus (Replan budget spans seconds notes) input s told = tail-status (within budget over) spans input s told
+  ShowsInput-InputStatus (Replan budget spans seconds notes) input s told = tail-status (within budget over spans) input s told
   ShowsInput-InputStatus (Quote budget spans seconds notes None) input s told =
-      MatchResult_map (quoted_in input) (λ p. ShowsQuote (within budget over) spans p s) (λ p. QuoteStatus p (within budget over) (status_of s)) s (λ p. quote-status (within budget over) spans p s) told
+      MatchResult_map (quoted_in input) (λ p. ShowsQuote (within budget over spans) p s) (λ p. QuoteStatus p (within budget over spans) (status_of s)) s (λ p. quote-status (within budget over spans) p s) told
   ShowsInput-InputStatus (Quote budget spans seconds notes (Some name)) input s told =
-      MatchResult_map (named_in name input) (λ p. ShowsNamedQuote (within budget over) spans name p s) (λ p. NamedStatus name p (within budget over) (status_of s)) s (λ p. named-status (within budget over) spans name p s) told
+      MatchResult_map (named_in name input) (λ p. ShowsNamedQuote (within budget over spans) name p s) (λ p. NamedStatus name p (within budget over spans) (status_of s)) s (λ p. named-status (within budget over spans) name p s) told
   ShowsInput-InputStatus Check input s told =
       MatchBool_map (has_tail_in input) (ShowsSaid input s) (OfCertificate input s (λ p c. ShowsCheck (scaled p c) c s)) (SaidStatus input (status_of s))
       (MatchResult (leading_instance_in input) (λ p. MatchResult (certificate_in p input) (λ c. CheckStatus (scaled p c) c (status_of s)) (λ (f : Fault). status_of s ≡ status.BadInput)) (λ (f : Fault). status_of s ≡ status.BadInput))

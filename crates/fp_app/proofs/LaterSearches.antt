@@ -16,9 +16,9 @@ use Rattle.fp_app_words.specs.TimeLimits.{halved}
 use Rattle.fp_app.specs.Searches.{IsEnough, IsSearched, SaysOfPlans, within}
 use Rattle.fp_app.specs.Wanted.{Wanted}
 
-module _ (p : Problem) (wanted : Wanted) (budget : Budget) (over over' : Bool) (more : over ≡ true → over' ≡ true) where
+module _ (p : Problem) (wanted : Wanted) (budget : Budget) (over over' spans : Bool) (more : over ≡ true → over' ≡ true) where
   -- what is enough where more is over was enough before
-  enough-before : (spent : Spent) → IsEnough p wanted (within budget over') spent → IsEnough p wanted (within budget over) spent
+  enough-before : (spent : Spent) → IsEnough p wanted (within budget over' spans) spent → IsEnough p wanted (within budget over spans) spent
   enough-before Rounds is = is
   enough-before Branches is = is
   enough-before Time is =
@@ -27,13 +27,13 @@ module _ (p : Problem) (wanted : Wanted) (budget : Budget) (over over' : Bool) (
         | inr f ↦ f
       ]
 
-  says-over : (a : Answer) → SaysOfPlans p wanted (within budget over) a → SaysOfPlans p wanted (within budget over') a
+  says-over : (a : Answer) → SaysOfPlans p wanted (within budget over spans) a → SaysOfPlans p wanted (within budget over' spans) a
   says-over (Optimal cost) is = is
   says-over (Unfinished cost bound spent) is = record { plans = is.plans; below = is.below; flat = is.flat; scarce = λ enough. is.scarce (enough-before spent enough) }
   says-over _ is = absurd is
 
-  pub IsSearched-over : (spans : Bool) (s : Solution) → IsSearched p wanted (within budget over) spans s → IsSearched p wanted (within budget over') spans s
-  IsSearched-over spans s is = record {
+  pub IsSearched-over : (s : Solution) → IsSearched p wanted (within budget over spans) s → IsSearched p wanted (within budget over' spans) s
+  IsSearched-over s is = record {
     table = is.table;
     windows = is.windows;
     timetable = is.timetable;

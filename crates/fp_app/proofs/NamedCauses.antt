@@ -32,17 +32,17 @@ use Rattle.fp_app.proofs.ReadCauses.{MatchResult_shows}
 use Rattle.fp_app.proofs.SearchEnds.{SearchEnd, both-no_other, optimal, search-end, unfinished}
 
 -- the plan with which the second search began
-abbrev begun : (p : Problem) (k : ℕ) (allowed : Allowance) (spans : Bool) (before after : Solution) (more : ℕ) → IsNamedQuote p k allowed spans before after more → List (List Leg)
-begun p k allowed spans before after more told = start_of (with_last p k) (routes_of (without_last (with_last p k)) before.certificate) told.quote.direct
+abbrev begun : (p : Problem) (k : ℕ) (allowed : Allowance) (before after : Solution) (more : ℕ) → IsNamedQuote p k allowed before after more → List (List Leg)
+begun p k allowed before after more told = start_of (with_last p k) (routes_of (without_last (with_last p k)) before.certificate) told.quote.direct
 
 -- a bound among plans from one on is one among all
 every-below : (p : Problem) (plan : List (List Leg)) (allowed : Allowance) (cost bound : ℕ) (spent : Spent) → IsBoundBelow p (every_from plan) allowed cost bound spent → IsBoundBelow p every allowed cost bound spent
 every-below p plan allowed cost bound spent is = record { plans = is.plans; below = is.below; flat = is.flat; scarce = λ enough. is.scarce (enough-from p every plan allowed spent enough) }
 
 -- where a plan with the shipment is shown there is one of the instance as it was read
-named-exists : (p : Problem) (k : ℕ) (allowed : Allowance) (spans : Bool) (before after : Solution) (more : ℕ) → IsNamedQuote p k allowed spans before after more → PlanExists p
-named-exists p k allowed spans before after more told =
-    let cost = (figures-from (with_last p k) (begun p k allowed spans before after more told) allowed spans after told.quote.with_it).cost_is in
+named-exists : (p : Problem) (k : ℕ) (allowed : Allowance) (before after : Solution) (more : ℕ) → IsNamedQuote p k allowed before after more → PlanExists p
+named-exists p k allowed before after more told =
+    let cost = (figures-from (with_last p k) (begun p k allowed before after more told) allowed after told.quote.with_it).cost_is in
     let other = told.plans.back cost.0 cost.1 cost.3 in
     (cost.0, other.0, cost.2, other.1)
 
@@ -76,8 +76,8 @@ none-done e = cc e
 none-open : status.Infeasible ≡ status.Unfinished → ⊥
 none-open e = cc e
 
-module _ (allowed : Allowance) (spans : Bool) (name input : List ℕ) (p : Problem) (read : named_in name input ≡ Ok p) where
-  shows-named : (q : Problem) (before after : Solution) (more : ℕ) → ShowsNamedQuote allowed spans name p (shown.NamedQuote q before after more) → ShowsNamed allowed spans name input (shown.NamedQuote q before after more)
+module _ (allowed : Allowance) (name input : List ℕ) (p : Problem) (read : named_in name input ≡ Ok p) where
+  shows-named : (q : Problem) (before after : Solution) (more : ℕ) → ShowsNamedQuote allowed name p (shown.NamedQuote q before after more) → ShowsNamed allowed name input (shown.NamedQuote q before after more)
   shows-named q before after more told = record {
     instance = p;
     number = told.0;
@@ -90,35 +90,35 @@ module _ (allowed : Allowance) (spans : Bool) (name input : List ℕ) (p : Probl
     quoted = told.3;
   }
 
-  first-end : (q : Problem) (before after : Solution) (more : ℕ) (told : ShowsNamedQuote allowed spans name p (shown.NamedQuote q before after more)) → SearchEnd (without_last (with_last p told.0)) every allowed before.certificate.answer
+  first-end : (q : Problem) (before after : Solution) (more : ℕ) (told : ShowsNamedQuote allowed name p (shown.NamedQuote q before after more)) → SearchEnd (without_last (with_last p told.0)) every allowed before.certificate.answer
   first-end q before after more told = search-end (without_last (with_last p told.0)) every allowed before.certificate.answer told.3.quote.without.says
 
-  second-end : (q : Problem) (before after : Solution) (more : ℕ) (told : ShowsNamedQuote allowed spans name p (shown.NamedQuote q before after more)) →
-      SearchEnd (with_last p told.0) (every_from (begun p told.0 allowed spans before after more told.3)) allowed after.certificate.answer
-  second-end q before after more told = search-end (with_last p told.0) (every_from (begun p told.0 allowed spans before after more told.3)) allowed after.certificate.answer told.3.quote.with_it.says
+  second-end : (q : Problem) (before after : Solution) (more : ℕ) (told : ShowsNamedQuote allowed name p (shown.NamedQuote q before after more)) →
+      SearchEnd (with_last p told.0) (every_from (begun p told.0 allowed before after more told.3)) allowed after.certificate.answer
+  second-end q before after more told = search-end (with_last p told.0) (every_from (begun p told.0 allowed before after more told.3)) allowed after.certificate.answer told.3.quote.with_it.says
 
-  extra-done : (s : Shown) → ShowsNamedQuote allowed spans name p s → status_of s ≡ status.Done → ShowsNamedExact allowed spans name input s
+  extra-done : (s : Shown) → ShowsNamedQuote allowed name p s → status_of s ≡ status.Done → ShowsNamedExact allowed name input s
   unfolding shows-named
   extra-done (shown.NamedQuote q before after more) told done =
-      both-optimal (without_last (with_last p told.0)) (with_last p told.0) (begun p told.0 allowed spans before after more told.3) allowed before after (ShowsNamedExact allowed spans name input (shown.NamedQuote q before after more))
+      both-optimal (without_last (with_last p told.0)) (with_last p told.0) (begun p told.0 allowed before after more told.3) allowed before after (ShowsNamedExact allowed name input (shown.NamedQuote q before after more))
       (first-end q before after more told) (second-end q before after more told) done
       (λ least most first second. record { extra = shows-named q before after more told; least = least; most = most; without = first; with_it = second; exact = (told.3.exact least most first second).0 })
   extra-done (shown.Infeasible q shipment time) told done = absurd (none-done done)
   extra-done _ told done = absurd told
 
-  extra-open : (s : Shown) → ShowsNamedQuote allowed spans name p s → status_of s ≡ status.Unfinished → ShowsNamedOpen allowed spans name input s
+  extra-open : (s : Shown) → ShowsNamedQuote allowed name p s → status_of s ≡ status.Unfinished → ShowsNamedOpen allowed name input s
   unfolding shows-named
   extra-open (shown.NamedQuote q before after more) told ends =
       record {
         extra = shows-named q before after more told;
-        one_unfinished = one-open (without_last (with_last p told.0)) (with_last p told.0) (begun p told.0 allowed spans before after more told.3) allowed before after
+        one_unfinished = one-open (without_last (with_last p told.0)) (with_last p told.0) (begun p told.0 allowed before after more told.3) allowed before after
             (first-end q before after more told) (second-end q before after more told) ends;
       }
   extra-open (shown.Infeasible q shipment time) told ends = absurd (none-open ends)
   extra-open _ told ends = absurd told
 
-  extra-none : (budget : Budget) (seconds : Option ℕ) (notes : Bool) (s : Shown) → ShowsNamedQuote allowed spans name p s → status_of s ≡ status.Infeasible → ShowsNone (Quote budget spans seconds notes (Some name)) input s
-  extra-none budget seconds notes (shown.Infeasible q shipment time) told none = record {
+  extra-none : (budget : Budget) (spans : Bool) (seconds : Option ℕ) (notes : Bool) (s : Shown) → ShowsNamedQuote allowed name p s → status_of s ≡ status.Infeasible → ShowsNone (Quote budget spans seconds notes (Some name)) input s
+  extra-none budget spans seconds notes (shown.Infeasible q shipment time) told none = record {
     instance = p;
     shipment = shipment;
     time = time;
@@ -127,49 +127,49 @@ module _ (allowed : Allowance) (spans : Bool) (name input : List ℕ) (p : Probl
     blocked = told.1;
     none = told.2;
   }
-  extra-none budget seconds notes (shown.NamedQuote q before after more) told none =
+  extra-none budget spans seconds notes (shown.NamedQuote q before after more) told none =
       absurd (both-no_other before.certificate.answer after.certificate.answer status.Infeasible (λ e. cc e) (λ e. cc e) none)
-  extra-none budget seconds notes _ told none = absurd told
+  extra-none budget spans seconds notes _ told none = absurd told
 
-pub named-done : (allowed : Allowance) (spans : Bool) (name input : List ℕ) (s : Shown) → OfNamed name input s (λ p. ShowsNamedQuote allowed spans name p s) → status_of s ≡ status.Done → ShowsNamedExact allowed spans name input s
-named-done allowed spans name input s told done =
-    MatchResult_shows status.Done (named_in name input) (named_in name input) (λ p. ShowsNamedQuote allowed spans name p s) s (ShowsNamedExact allowed spans name input s) (λ e. cc e) refl done told
-    (λ p is shows. extra-done allowed spans name input p is s shows done)
+pub named-done : (allowed : Allowance) (name input : List ℕ) (s : Shown) → OfNamed name input s (λ p. ShowsNamedQuote allowed name p s) → status_of s ≡ status.Done → ShowsNamedExact allowed name input s
+named-done allowed name input s told done =
+    MatchResult_shows status.Done (named_in name input) (named_in name input) (λ p. ShowsNamedQuote allowed name p s) s (ShowsNamedExact allowed name input s) (λ e. cc e) refl done told
+    (λ p is shows. extra-done allowed name input p is s shows done)
 
-pub named-open : (allowed : Allowance) (spans : Bool) (name input : List ℕ) (s : Shown) → OfNamed name input s (λ p. ShowsNamedQuote allowed spans name p s) → status_of s ≡ status.Unfinished → ShowsNamedOpen allowed spans name input s
-named-open allowed spans name input s told ends =
-    MatchResult_shows status.Unfinished (named_in name input) (named_in name input) (λ p. ShowsNamedQuote allowed spans name p s) s (ShowsNamedOpen allowed spans name input s) (λ e. cc e) refl ends told
-    (λ p is shows. extra-open allowed spans name input p is s shows ends)
+pub named-open : (allowed : Allowance) (name input : List ℕ) (s : Shown) → OfNamed name input s (λ p. ShowsNamedQuote allowed name p s) → status_of s ≡ status.Unfinished → ShowsNamedOpen allowed name input s
+named-open allowed name input s told ends =
+    MatchResult_shows status.Unfinished (named_in name input) (named_in name input) (λ p. ShowsNamedQuote allowed name p s) s (ShowsNamedOpen allowed name input s) (λ e. cc e) refl ends told
+    (λ p is shows. extra-open allowed name input p is s shows ends)
 
-pub named-none : (allowed : Allowance) (budget : Budget) (spans : Bool) (seconds : Option ℕ) (notes : Bool) (name input : List ℕ) (s : Shown) → OfNamed name input s (λ p. ShowsNamedQuote allowed spans name p s) → status_of s ≡ status.Infeasible →
+pub named-none : (allowed : Allowance) (budget : Budget) (spans : Bool) (seconds : Option ℕ) (notes : Bool) (name input : List ℕ) (s : Shown) → OfNamed name input s (λ p. ShowsNamedQuote allowed name p s) → status_of s ≡ status.Infeasible →
     ShowsNone (Quote budget spans seconds notes (Some name)) input s
 named-none allowed budget spans seconds notes name input s told none =
-    MatchResult_shows status.Infeasible (named_in name input) (named_in name input) (λ p. ShowsNamedQuote allowed spans name p s) s (ShowsNone (Quote budget spans seconds notes (Some name)) input s) (λ e. cc e) refl none told
-    (λ p is shows. extra-none allowed spans name input p is budget seconds notes s shows none)
+    MatchResult_shows status.Infeasible (named_in name input) (named_in name input) (λ p. ShowsNamedQuote allowed name p s) s (ShowsNone (Quote budget spans seconds notes (Some name)) input s) (λ e. cc e) refl none told
+    (λ p is shows. extra-none allowed name input p is budget spans seconds notes s shows none)
 
 -- the status of two searches
-module _ (p : Problem) (k : ℕ) (name : List ℕ) (allowed : Allowance) (spans : Bool) (before after : Solution) (more : ℕ) (named : shipment_named p name ≡ Some k) (told : IsNamedQuote p k allowed spans before after more) where
+module _ (p : Problem) (k : ℕ) (name : List ℕ) (allowed : Allowance) (before after : Solution) (more : ℕ) (named : shipment_named p name ≡ Some k) (told : IsNamedQuote p k allowed before after more) where
   abbrev Without : Answer
   Without = before.certificate.answer
 
   abbrev With : Answer
   With = after.certificate.answer
 
-  both-ends : SearchEnd (without_last (with_last p k)) every allowed Without → SearchEnd (with_last p k) (every_from (begun p k allowed spans before after more told)) allowed With → NamedStatus name p allowed (both_status Without With)
+  both-ends : SearchEnd (without_last (with_last p k)) every allowed Without → SearchEnd (with_last p k) (every_from (begun p k allowed before after more told)) allowed With → NamedStatus name p allowed (both_status Without With)
   both-ends (optimal least first none) (optimal most second fewer) =
-      inl (ap (λ (x : Answer). both_status x With) first ∙ ap search_status second, named-exists p k allowed spans before after more told)
+      inl (ap (λ (x : Answer). both_status x With) first ∙ ap search_status second, named-exists p k allowed before after more told)
   both-ends (optimal least first none) (unfinished cost bound spent second bounds) =
       inr (inl (
         ap (λ (x : Answer). both_status x With) first ∙ ap search_status second,
-        named-exists p k allowed spans before after more told,
-        (k, spent, named, λ enough. bounds.scarce (enough-from (with_last p k) every (begun p k allowed spans before after more told) allowed spent enough.1)),
+        named-exists p k allowed before after more told,
+        (k, spent, named, λ enough. bounds.scarce (enough-from (with_last p k) every (begun p k allowed before after more told) allowed spent enough.1)),
       ))
   both-ends (unfinished cost bound spent first bounds) other =
-      inr (inl (ap (λ (x : Answer). both_status x With) first, named-exists p k allowed spans before after more told, (k, spent, named, λ enough. bounds.scarce enough.0)))
+      inr (inl (ap (λ (x : Answer). both_status x With) first, named-exists p k allowed before after more told, (k, spent, named, λ enough. bounds.scarce enough.0)))
 
-pub named-status : (allowed : Allowance) (spans : Bool) (name : List ℕ) (p : Problem) (s : Shown) → ShowsNamedQuote allowed spans name p s → NamedStatus name p allowed (status_of s)
-named-status allowed spans name p (shown.NamedQuote q before after more) told =
-    both-ends p told.0 name allowed spans before after more told.1 told.3 (search-end (without_last (with_last p told.0)) every allowed before.certificate.answer told.3.quote.without.says)
-    (search-end (with_last p told.0) (every_from (begun p told.0 allowed spans before after more told.3)) allowed after.certificate.answer told.3.quote.with_it.says)
-named-status allowed spans name p (shown.Infeasible q shipment time) told = inr (inr (refl, told.2))
-named-status allowed spans name p _ told = absurd told
+pub named-status : (allowed : Allowance) (name : List ℕ) (p : Problem) (s : Shown) → ShowsNamedQuote allowed name p s → NamedStatus name p allowed (status_of s)
+named-status allowed name p (shown.NamedQuote q before after more) told =
+    both-ends p told.0 name allowed before after more told.1 told.3 (search-end (without_last (with_last p told.0)) every allowed before.certificate.answer told.3.quote.without.says)
+    (search-end (with_last p told.0) (every_from (begun p told.0 allowed before after more told.3)) allowed after.certificate.answer told.3.quote.with_it.says)
+named-status allowed name p (shown.Infeasible q shipment time) told = inr (inr (refl, told.2))
+named-status allowed name p _ told = absurd told

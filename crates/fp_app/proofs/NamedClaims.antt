@@ -1,5 +1,5 @@
 -- What two searches tell of a shipment by its name, of which the second began with the first one's plan.
-use Rattle.std.proofs.Common.{◌≡◌, ◌∙◌, ℕ, ◌-◌, ◌<◌, ◌≤◌, Bool, List, length, sym, ap, subst, arith}
+use Rattle.std.proofs.Common.{◌≡◌, ◌∙◌, ℕ, ◌-◌, ◌<◌, ◌≤◌, List, length, sym, ap, subst, arith}
 use Rattle.std.specs.Prelude.{Some}
 use Rattle.fp_model.specs.declared.parts.Leg.{Leg}
 use Rattle.fp_model.specs.Costs.{cost}
@@ -42,11 +42,11 @@ module _ (p : Problem) (plan : List (List Leg)) (allowed : Allowance) where
   bracketed-from a (optimal cost same plans) = subst IsBracketed (sym same) tt
   bracketed-from a (unfinished cost bound spent same bounds) = subst IsBracketed (sym same) tt
 
-  cost-from : (spans : Bool) (s : Solution) → IsSearched p (every_from plan) allowed spans s → IsCostOfPlan p (stated_cost s.certificate.answer)
-  cost-from spans s told = let some : 1 ≤ 1 = omega arith in (1, routes_of p s.certificate, some, told.timetable.plan.plan, sym told.timetable.cost)
+  cost-from : (s : Solution) → IsSearched p (every_from plan) allowed s → IsCostOfPlan p (stated_cost s.certificate.answer)
+  cost-from s told = let some : 1 ≤ 1 = omega arith in (1, routes_of p s.certificate, some, told.timetable.plan.plan, sym told.timetable.cost)
 
-  pub figures-from : (spans : Bool) (s : Solution) → IsSearched p (every_from plan) allowed spans s → AreFigures p (claim_of s.certificate.answer) (stated_cost s.certificate.answer)
-  figures-from spans s told = record { low_is = claim-from s.certificate.answer (search-end p (every_from plan) allowed s.certificate.answer told.says); cost_is = cost-from spans s told }
+  pub figures-from : (s : Solution) → IsSearched p (every_from plan) allowed s → AreFigures p (claim_of s.certificate.answer) (stated_cost s.certificate.answer)
+  figures-from s told = record { low_is = claim-from s.certificate.answer (search-end p (every_from plan) allowed s.certificate.answer told.says); cost_is = cost-from s told }
 
   -- it tells its plan
   says-tells : (a : Answer) → SaysOfPlans p (every_from plan) allowed a → TellsPlan a
@@ -54,29 +54,29 @@ module _ (p : Problem) (plan : List (List Leg)) (allowed : Allowance) where
   says-tells (Unfinished cost bound spent) says = tt
   says-tells _ says = absurd says
 
-  pub tells-from : (spans : Bool) (s : Solution) → IsSearched p (every_from plan) allowed spans s → TellsTimetable p every s.certificate
-  tells-from spans s told = record { table = told.table; windows = told.windows; answer = says-tells s.certificate.answer told.says; timetable = told.timetable }
+  pub tells-from : (s : Solution) → IsSearched p (every_from plan) allowed s → TellsTimetable p every s.certificate
+  tells-from s told = record { table = told.table; windows = told.windows; answer = says-tells s.certificate.answer told.says; timetable = told.timetable }
 
 says-tells_every : (p : Problem) (allowed : Allowance) (a : Answer) → SaysOfPlans p every allowed a → TellsPlan a
 says-tells_every p allowed (Optimal cost) says = tt
 says-tells_every p allowed (Unfinished cost bound spent) says = tt
 says-tells_every p allowed _ says = absurd says
 
-pub tells-every : (p : Problem) (allowed : Allowance) (spans : Bool) (s : Solution) → IsSearched p every allowed spans s → TellsTimetable p every s.certificate
-tells-every p allowed spans s told = record { table = told.table; windows = told.windows; answer = says-tells_every p allowed s.certificate.answer told.says; timetable = told.timetable }
+pub tells-every : (p : Problem) (allowed : Allowance) (s : Solution) → IsSearched p every allowed s → TellsTimetable p every s.certificate
+tells-every p allowed s told = record { table = told.table; windows = told.windows; answer = says-tells_every p allowed s.certificate.answer told.says; timetable = told.timetable }
 
 -- the quote of the last shipment
-module _ (q : Problem) (allowed : Allowance) (spans : Bool) (before after : Solution) (direct : List (List Leg)) (first : IsSearched (without_last q) every allowed spans before)
-    (second : IsSearched q (every_from (start_of q (routes_of (without_last q) before.certificate) direct)) allowed spans after) where
+module _ (q : Problem) (allowed : Allowance) (before after : Solution) (direct : List (List Leg)) (first : IsSearched (without_last q) every allowed before)
+    (second : IsSearched q (every_from (start_of q (routes_of (without_last q) before.certificate) direct)) allowed after) where
   abbrev start : List (List Leg)
   start = start_of q (routes_of (without_last q) before.certificate) direct
 
   pub last-quoted : (more : ℕ) → IsDirectPlan q direct → cost q start ≤ cost q direct → IsAdded q (routes_of (without_last q) before.certificate) (routes_of q after.certificate) more →
       ((low : ℕ) → NoPlanCheaper q low → low - cost (without_last q) (routes_of (without_last q) before.certificate) ≤ more) →
-      ((low : ℕ) → NoPlanCheaper (without_last q) low → more ≤ cost q (routes_of q after.certificate) - low) → IsLastQuote q allowed spans before after more
+      ((low : ℕ) → NoPlanCheaper (without_last q) low → more ≤ cost q (routes_of q after.certificate) - low) → IsLastQuote q allowed before after more
   last-quoted more is_direct cheaper added least most =
-      let one = figures (without_last q) allowed spans before first in
-      let two = figures-from q start allowed spans after second in
+      let one = figures (without_last q) allowed before first in
+      let two = figures-from q start allowed after second in
       let begun : cost q second.first ≡ cost q start = ap (cost q) second.begins in
       let low : claim_of after.certificate.answer - stated_cost before.certificate.answer ≤ more =
       subst (λ (n : ℕ). claim_of after.certificate.answer - n ≤ more) (sym first.timetable.cost) (least (claim_of after.certificate.answer) two.low_is) in
@@ -97,19 +97,19 @@ module _ (q : Problem) (allowed : Allowance) (spans : Bool) (before after : Solu
     shipment = some;
     without = bracketed (without_last q) allowed before.certificate.answer (search-end (without_last q) every allowed before.certificate.answer first.says);
     with_it = bracketed-from q start allowed after.certificate.answer (search-end q (every_from start) allowed after.certificate.answer second.says);
-    ascends = low-le q (claim_of before.certificate.answer) (stated_cost after.certificate.answer) (figures (without_last q) allowed spans before first).low_is (figures-from q start allowed spans after second).cost_is;
+    ascends = low-le q (claim_of before.certificate.answer) (stated_cost after.certificate.answer) (figures (without_last q) allowed before first).low_is (figures-from q start allowed after second).cost_is;
   }
 
 -- is that of the shipment which is the last one there
-pub named-quoted : (p : Problem) (k : ℕ) (allowed : Allowance) (spans : Bool) (before after : Solution) (more : ℕ) → k < length p.shipments → IsLastQuote (with_last p k) allowed spans before after more → IsNamedQuote p k allowed spans before after more
-named-quoted p k allowed spans before after more lt quote =
+pub named-quoted : (p : Problem) (k : ℕ) (allowed : Allowance) (before after : Solution) (more : ℕ) → k < length p.shipments → IsLastQuote (with_last p k) allowed before after more → IsNamedQuote p k allowed before after more
+named-quoted p k allowed before after more lt quote =
     let q : Problem = with_last p k in
     let b : Answer = before.certificate.answer in
     let a : Answer = after.certificate.answer in
     let prices = PricesAsLast-last p k lt in
     let start : List (List Leg) = start_of q (routes_of (without_last q) before.certificate) quote.direct in
-    let one : AreFigures (without_last q) (claim_of b) (stated_cost b) = figures (without_last q) allowed spans before quote.without in
-    let two : AreFigures q (claim_of a) (stated_cost a) = figures-from q start allowed spans after quote.with_it in
+    let one : AreFigures (without_last q) (claim_of b) (stated_cost b) = figures (without_last q) allowed before quote.without in
+    let two : AreFigures q (claim_of a) (stated_cost a) = figures-from q start allowed after quote.with_it in
     record {
       stands = StandsLast-to_last k p.shipments lt;
       plans = PlansCorrespond-last p k;
@@ -122,8 +122,8 @@ named-quoted p k allowed spans before after more lt quote =
     }
 
 -- so what is shown of the one is what is shown of the shipment of the name
-pub shows-named : (p : Problem) (k : ℕ) (q : Problem) (name : List ℕ) (allowed : Allowance) (spans : Bool) (s : Shown) → k < length p.shipments → q ≡ with_last p k → shipment_named p name ≡ Some k → ShowsLastQuote allowed spans q s →
-    ShowsNamedQuote allowed spans name p s
-shows-named p k q name allowed spans (shown.NamedQuote instance before after more) lt is named told =
-    (k, named, told.0 ∙ is, named-quoted p k allowed spans before after more lt (subst (λ (x : Problem). IsLastQuote x allowed spans before after more) is told.1))
-shows-named p k q name allowed spans _ lt is named told = absurd told
+pub shows-named : (p : Problem) (k : ℕ) (q : Problem) (name : List ℕ) (allowed : Allowance) (s : Shown) → k < length p.shipments → q ≡ with_last p k → shipment_named p name ≡ Some k → ShowsLastQuote allowed q s →
+    ShowsNamedQuote allowed name p s
+shows-named p k q name allowed (shown.NamedQuote instance before after more) lt is named told =
+    (k, named, told.0 ∙ is, named-quoted p k allowed before after more lt (subst (λ (x : Problem). IsLastQuote x allowed before after more) is told.1))
+shows-named p k q name allowed _ lt is named told = absurd told

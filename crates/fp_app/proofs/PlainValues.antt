@@ -78,13 +78,13 @@ linear-not_none p windows points sides tables spans kind forced value is none =
       value_is = refl;
     }))
 
--- so a value at least as good as those by linear prices is at least the flat bound
-pub flat-le_leaf : (p : Problem) (windows : ℕ → ℕ → Option Window) (points : ℕ → List ℕ) (sides : List Side) (tables : List (List ClassShare)) (spans : List ClassSpan) (kind : Kind) (forced : Bool) (flat value : ℕ) → IsFlatBound p flat →
-    IsSpanLeafValue p windows points sides tables spans kind forced value → ((f : Bool) (other : ℕ) → IsLeafValue p windows points sides [] Linear f other → other ≤ value) → flat ≤ value
-flat-le_leaf p windows points sides tables spans kind forced flat value is leaf linear =
+-- so where a leaf has a value by spans, one at least as good as those by linear prices is at least the flat bound
+pub flat-le_leaf : (p : Problem) (windows : ℕ → ℕ → Option Window) (points : ℕ → List ℕ) (sides : List Side) (tables : List (List ClassShare)) (spans : List ClassSpan) (kind : Kind) (forced : Bool) (flat before value : ℕ) → IsFlatBound p flat →
+    IsSpanLeafValue p windows points sides tables spans kind forced before → ((f : Bool) (other : ℕ) → IsLeafValue p windows points sides [] Linear f other → other ≤ value) → flat ≤ value
+flat-le_leaf p windows points sides tables spans kind forced flat before value is leaf linear =
     elim (cases_lt value flat) [
       | inl above ↦
-          absurd (linear-not_none p windows points sides tables spans kind forced value leaf (λ plain other.
+          absurd (linear-not_none p windows points sides tables spans kind forced before leaf (λ plain other.
           omega (arith, above, flat-le p windows points sides [] flat plain is other, linear false plain other)))
       | inr no_less ↦ no_less
     ]

@@ -111,7 +111,7 @@ all-windows q (going_on p day) table all windows = absurd all
 all-windows q (going_on_from p day plan) table all windows = absurd all
 
 pub CheckAcceptsPlans_hold : CheckAcceptsPlans
-CheckAcceptsPlans_hold allowed wanted scale spans input longer p s all read searched joined result is =
+CheckAcceptsPlans_hold allowed wanted scale input longer p s all read searched joined result is =
     let source : IsRead scale (instance_in input) p = instance-read scale (instance_in input) p read in
     let q : Problem = source.instance in
     let given : (ordinal : ℕ) → certificate_of q ordinal (records_of (certificate_text p s.certificate)) ≡ Ok s.certificate =

@@ -1,5 +1,5 @@
 -- What two searches tell of the extra cost of the last shipment.
-use Rattle.std.proofs.Common.{◌≡◌, ◌∙◌, ℕ, ◌-◌, ◌≤◌, Bool, length, sym, ap, subst, arith}
+use Rattle.std.proofs.Common.{◌≡◌, ◌∙◌, ℕ, ◌-◌, ◌≤◌, length, sym, ap, subst, arith}
 use Rattle.fp_model.specs.Plans.{NoPlanCheaper}
 use Rattle.fp_model.specs.Problem.{Problem}
 use Rattle.fp_certificate_lines.specs.declared.certificates.Answer.{Answer}
@@ -16,16 +16,16 @@ use Rattle.fp_app.specs.Wanted.{every}
 use Rattle.fp_app.proofs.SearchEnds.{SearchEnd, optimal, search-end, unfinished}
 
 -- what a search shows is the cost of a plan
-cost-of_plan : (p : Problem) (allowed : Allowance) (spans : Bool) (s : Solution) → IsSearched p every allowed spans s → IsCostOfPlan p (stated_cost s.certificate.answer)
-cost-of_plan p allowed spans s told = let some : 1 ≤ 1 = omega arith in (1, routes_of p s.certificate, some, told.timetable.plan.plan, sym told.timetable.cost)
+cost-of_plan : (p : Problem) (allowed : Allowance) (s : Solution) → IsSearched p every allowed s → IsCostOfPlan p (stated_cost s.certificate.answer)
+cost-of_plan p allowed s told = let some : 1 ≤ 1 = omega arith in (1, routes_of p s.certificate, some, told.timetable.plan.plan, sym told.timetable.cost)
 
 -- and no plan costs less than it claims
 claim-least : (p : Problem) (allowed : Allowance) (a : Answer) → SearchEnd p every allowed a → NoPlanCheaper p (claim_of a)
 claim-least p allowed a (optimal cost same plans) = subst (NoPlanCheaper p) (sym (ap claim_of same)) plans
 claim-least p allowed a (unfinished cost bound spent same bounds) = subst (NoPlanCheaper p) (sym (ap claim_of same)) bounds.plans
 
-pub figures : (p : Problem) (allowed : Allowance) (spans : Bool) (s : Solution) → IsSearched p every allowed spans s → AreFigures p (claim_of s.certificate.answer) (stated_cost s.certificate.answer)
-figures p allowed spans s told = record { low_is = claim-least p allowed s.certificate.answer (search-end p every allowed s.certificate.answer told.says); cost_is = cost-of_plan p allowed spans s told }
+pub figures : (p : Problem) (allowed : Allowance) (s : Solution) → IsSearched p every allowed s → AreFigures p (claim_of s.certificate.answer) (stated_cost s.certificate.answer)
+figures p allowed s told = record { low_is = claim-least p allowed s.certificate.answer (search-end p every allowed s.certificate.answer told.says); cost_is = cost-of_plan p allowed s told }
 
 -- the least cost lies between the figures
 least-above : (p : Problem) (low c n : ℕ) → AreFigures p low c → IsLeastCost p n → low ≤ n
@@ -63,10 +63,10 @@ exact-both p b a least most before after first second = (
   ap (λ (x : Answer). extra_of x a) first ∙ ap (λ (x : Answer). extra_of (Optimal least) x) second,
 )
 
-pub searched-quoted : (p : Problem) (allowed : Allowance) (spans : Bool) (before after : Solution) → IsSearched (without_last p) every allowed spans before → IsSearched p every allowed spans after → IsQuoted p allowed spans before after
-searched-quoted p allowed spans before after first second =
-    let one = figures (without_last p) allowed spans before first in
-    let two = figures p allowed spans after second in
+pub searched-quoted : (p : Problem) (allowed : Allowance) (before after : Solution) → IsSearched (without_last p) every allowed before → IsSearched p every allowed after → IsQuoted p allowed before after
+searched-quoted p allowed before after first second =
+    let one = figures (without_last p) allowed before first in
+    let two = figures p allowed after second in
     record {
       without = first;
       with_it = second;
@@ -79,11 +79,11 @@ bracketed p allowed a (optimal cost same plans) = subst IsBracketed (sym same) t
 bracketed p allowed a (unfinished cost bound spent same bounds) = subst IsBracketed (sym same) tt
 
 -- so the two can be printed
-pub searched-can_be_quoted : (p : Problem) (allowed : Allowance) (spans : Bool) (before after : Solution) → 1 ≤ length p.shipments → IsSearched (without_last p) every allowed spans before → IsSearched p every allowed spans after →
+pub searched-can_be_quoted : (p : Problem) (allowed : Allowance) (before after : Solution) → 1 ≤ length p.shipments → IsSearched (without_last p) every allowed before → IsSearched p every allowed after →
     CanBeQuoted p before.certificate.answer after.certificate.answer
-searched-can_be_quoted p allowed spans before after some first second = record {
+searched-can_be_quoted p allowed before after some first second = record {
   shipment = some;
   without = bracketed (without_last p) allowed before.certificate.answer (search-end (without_last p) every allowed before.certificate.answer first.says);
   with_it = bracketed p allowed after.certificate.answer (search-end p every allowed after.certificate.answer second.says);
-  ascends = low-le p (claim_of before.certificate.answer) (stated_cost after.certificate.answer) (figures (without_last p) allowed spans before first).low_is (figures p allowed spans after second).cost_is;
+  ascends = low-le p (claim_of before.certificate.answer) (stated_cost after.certificate.answer) (figures (without_last p) allowed before first).low_is (figures p allowed after second).cost_is;
 }

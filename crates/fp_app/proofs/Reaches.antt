@@ -41,11 +41,11 @@ module _ (over : Bool) where
 
   -- what no command shows answers no order
   module _ (s : Shown) (fault : (f : Fault) → s ≡ shown.BadInput f.ordinal f.code → ⊥) (direct : (p : Problem) → ShowsDirect p s → ⊥)
-      (bound : (option : Bool) (p : Problem) → ShowsBound option p s → ⊥) (search_none : (allowed : Allowance) (spans : Bool) (p : Problem) → ShowsSearch allowed spans p s → ⊥) (check : (p : Problem) (c : Statement) → ShowsCheck p c s → ⊥) (said : (input : List ℕ) → ShowsSaid input s → ⊥)
-      (replan : (allowed : Allowance) (spans : Bool) (input : List ℕ) → ShowsTail allowed spans input s → ⊥) (quote : (allowed : Allowance) (spans : Bool) (p : Problem) → ShowsQuote allowed spans p s → ⊥)
-      (named : (allowed : Allowance) (spans : Bool) (name : List ℕ) (p : Problem) → ShowsNamedQuote allowed spans name p s → ⊥)
+      (bound : (option : Bool) (p : Problem) → ShowsBound option p s → ⊥) (search_none : (allowed : Allowance) (p : Problem) → ShowsSearch allowed p s → ⊥) (check : (p : Problem) (c : Statement) → ShowsCheck p c s → ⊥) (said : (input : List ℕ) → ShowsSaid input s → ⊥)
+      (replan : (allowed : Allowance) (input : List ℕ) → ShowsTail allowed input s → ⊥) (quote : (allowed : Allowance) (p : Problem) → ShowsQuote allowed p s → ⊥)
+      (named : (allowed : Allowance) (name : List ℕ) (p : Problem) → ShowsNamedQuote allowed name p s → ⊥)
       (yard : (seed : ℕ) (input : List ℕ) → ShowsYardOf seed input s → ⊥)
-      (fleet : (trucks : Bool) (input : List ℕ) → ShowsFleetOf trucks input s → ⊥) (improve : (allowed : Allowance) (n : ℕ) (spans : Bool) (input : List ℕ) → ShowsImproveOf allowed n spans input s → ⊥) where
+      (fleet : (trucks : Bool) (input : List ℕ) → ShowsFleetOf trucks input s → ⊥) (improve : (allowed : Allowance) (n : ℕ) (input : List ℕ) → ShowsImproveOf allowed n input s → ⊥) where
     no-certificate : (input : List ℕ) (P : Problem → Statement → Type 0) → ((p : Problem) (c : Statement) → P p c → ⊥) → OfCertificate input s P → ⊥
     no-certificate input P none told =
         MatchResult_neither (leading_instance_in input) (λ p. MatchResult (certificate_in p input) (P p) (λ (f : Fault). s ≡ shown.BadInput f.ordinal f.code)) (λ (f : Fault). s ≡ shown.BadInput f.ordinal f.code)
@@ -55,13 +55,13 @@ module _ (over : Bool) where
     no-input Direct input told = MatchResult_neither (instance_in input) (λ p. ShowsDirect p s) (λ (f : Fault). s ≡ shown.BadInput f.ordinal f.code) direct fault told
     no-input (Bound option seconds) input told = MatchResult_neither (instance_in input) (λ p. ShowsBound option p s) (λ (f : Fault). s ≡ shown.BadInput f.ordinal f.code) (bound option) fault told
     no-input (Plan budget scale spans seconds notes) input told =
-        MatchResult_neither (instance_at scale input) (λ p. ShowsSearch (within budget over) spans p s) (λ (f : Fault). s ≡ shown.BadInput f.ordinal f.code) (search_none (within budget over) spans) fault told
-    no-input (Improve budget scale spans seconds notes) input told = improve (within budget over) scale spans input told
+        MatchResult_neither (instance_at scale input) (λ p. ShowsSearch (within budget over spans) p s) (λ (f : Fault). s ≡ shown.BadInput f.ordinal f.code) (search_none (within budget over spans)) fault told
+    no-input (Improve budget scale spans seconds notes) input told = improve (within budget over spans) scale input told
     no-input (Trial seed terminals shipments) input told = told
-    no-input (Replan budget spans seconds notes) input told = replan (within budget over) spans input told
-    no-input (Quote budget spans seconds notes None) input told = MatchResult_neither (quoted_in input) (λ p. ShowsQuote (within budget over) spans p s) (λ (f : Fault). s ≡ shown.BadInput f.ordinal f.code) (quote (within budget over) spans) fault told
+    no-input (Replan budget spans seconds notes) input told = replan (within budget over spans) input told
+    no-input (Quote budget spans seconds notes None) input told = MatchResult_neither (quoted_in input) (λ p. ShowsQuote (within budget over spans) p s) (λ (f : Fault). s ≡ shown.BadInput f.ordinal f.code) (quote (within budget over spans)) fault told
     no-input (Quote budget spans seconds notes (Some name)) input told =
-        MatchResult_neither (named_in name input) (λ p. ShowsNamedQuote (within budget over) spans name p s) (λ (f : Fault). s ≡ shown.BadInput f.ordinal f.code) (named (within budget over) spans name) fault told
+        MatchResult_neither (named_in name input) (λ p. ShowsNamedQuote (within budget over spans) name p s) (λ (f : Fault). s ≡ shown.BadInput f.ordinal f.code) (named (within budget over spans) name) fault told
     no-input (Yard seed) input told = yard seed input told
     no-input (Fleet trucks) input told = fleet trucks input told
     no-input Check input told =
@@ -83,16 +83,16 @@ module _ (over : Bool) where
 
   nothing-no_order : (o : Order) (old new : Option (List ℕ)) → Answers over (Some o) old new shown.Nothing → ⊥
   nothing-no_order o old new told =
-      no-answer shown.Nothing (λ f e. cc e) (λ p none. none) (λ option p none. none) (λ allowed spans p none. none) (λ p c none. none) (λ input told. said-no_other status.NoMemory input shown.Nothing (λ e. cc e) (λ e. cc e) (λ e. cc e) told refl) (λ allowed spans input told. tail-neither allowed spans input shown.Nothing (λ x none. none) (λ x none. none) (λ f e. cc e) told) (λ allowed spans p none. none) (λ allowed spans name p none. none) (λ seed input told. yard-no_other seed status.NoMemory (λ e. cc e) (λ e. cc e) (λ e. cc e) input shown.Nothing told refl) (λ trucks input told. fleet-no_other trucks status.NoMemory (λ e. cc e) (λ e. cc e) (λ e. cc e) input shown.Nothing told refl) (λ allowed n spans input told. improve-no_other allowed spans n input shown.Nothing status.NoMemory (λ e. cc e) (λ e. cc e) (λ e. cc e) (λ e. cc e) told refl) (λ e. cc e) (alone-shows_trial shown.Nothing (λ seed terminals shipments none. none)) o old new told
+      no-answer shown.Nothing (λ f e. cc e) (λ p none. none) (λ option p none. none) (λ allowed p none. none) (λ p c none. none) (λ input told. said-no_other status.NoMemory input shown.Nothing (λ e. cc e) (λ e. cc e) (λ e. cc e) told refl) (λ allowed input told. tail-neither allowed input shown.Nothing (λ x none. none) (λ x none. none) (λ f e. cc e) told) (λ allowed p none. none) (λ allowed name p none. none) (λ seed input told. yard-no_other seed status.NoMemory (λ e. cc e) (λ e. cc e) (λ e. cc e) input shown.Nothing told refl) (λ trucks input told. fleet-no_other trucks status.NoMemory (λ e. cc e) (λ e. cc e) (λ e. cc e) input shown.Nothing told refl) (λ allowed n input told. improve-no_other allowed n input shown.Nothing status.NoMemory (λ e. cc e) (λ e. cc e) (λ e. cc e) (λ e. cc e) told refl) (λ e. cc e) (alone-shows_trial shown.Nothing (λ seed terminals shipments none. none)) o old new told
 
   words-no_order : (o : Order) (old new : Option (List ℕ)) → Answers over (Some o) old new shown.BadWords → ⊥
   words-no_order o old new told =
-      no-answer shown.BadWords (λ f e. cc e) (λ p none. none) (λ option p none. none) (λ allowed spans p none. none) (λ p c none. none) (λ input told. said-no_other status.BadWords input shown.BadWords (λ e. cc e) (λ e. cc e) (λ e. cc e) told refl) (λ allowed spans input told. tail-neither allowed spans input shown.BadWords (λ x none. none) (λ x none. none) (λ f e. cc e) told) (λ allowed spans p none. none) (λ allowed spans name p none. none) (λ seed input told. yard-no_other seed status.BadWords (λ e. cc e) (λ e. cc e) (λ e. cc e) input shown.BadWords told refl) (λ trucks input told. fleet-no_other trucks status.BadWords (λ e. cc e) (λ e. cc e) (λ e. cc e) input shown.BadWords told refl) (λ allowed n spans input told. improve-no_other allowed spans n input shown.BadWords status.BadWords (λ e. cc e) (λ e. cc e) (λ e. cc e) (λ e. cc e) told refl) (λ e. cc e) (alone-shows_trial shown.BadWords (λ seed terminals shipments none. none)) o old new told
+      no-answer shown.BadWords (λ f e. cc e) (λ p none. none) (λ option p none. none) (λ allowed p none. none) (λ p c none. none) (λ input told. said-no_other status.BadWords input shown.BadWords (λ e. cc e) (λ e. cc e) (λ e. cc e) told refl) (λ allowed input told. tail-neither allowed input shown.BadWords (λ x none. none) (λ x none. none) (λ f e. cc e) told) (λ allowed p none. none) (λ allowed name p none. none) (λ seed input told. yard-no_other seed status.BadWords (λ e. cc e) (λ e. cc e) (λ e. cc e) input shown.BadWords told refl) (λ trucks input told. fleet-no_other trucks status.BadWords (λ e. cc e) (λ e. cc e) (λ e. cc e) input shown.BadWords told refl) (λ allowed n input told. improve-no_other allowed n input shown.BadWords status.BadWords (λ e. cc e) (λ e. cc e) (λ e. cc e) (λ e. cc e) told refl) (λ e. cc e) (alone-shows_trial shown.BadWords (λ seed terminals shipments none. none)) o old new told
 
   -- no order shows of an input that it's too long
   pub long-no_input : (o : Order) (input : List ℕ) → ShowsInput over o input shown.TooLong → ⊥
   long-no_input o input told =
-      no-input shown.TooLong (λ f e. cc e) (λ p none. none) (λ option p none. none) (λ allowed spans p none. none) (λ p c none. none) (λ input told. said-no_other status.TooLong input shown.TooLong (λ e. cc e) (λ e. cc e) (λ e. cc e) told refl) (λ allowed spans input told. tail-neither allowed spans input shown.TooLong (λ x none. none) (λ x none. none) (λ f e. cc e) told) (λ allowed spans p none. none) (λ allowed spans name p none. none) (λ seed input told. yard-no_other seed status.TooLong (λ e. cc e) (λ e. cc e) (λ e. cc e) input shown.TooLong told refl) (λ trucks input told. fleet-no_other trucks status.TooLong (λ e. cc e) (λ e. cc e) (λ e. cc e) input shown.TooLong told refl) (λ allowed n spans input told. improve-no_other allowed spans n input shown.TooLong status.TooLong (λ e. cc e) (λ e. cc e) (λ e. cc e) (λ e. cc e) told refl) o input told
+      no-input shown.TooLong (λ f e. cc e) (λ p none. none) (λ option p none. none) (λ allowed p none. none) (λ p c none. none) (λ input told. said-no_other status.TooLong input shown.TooLong (λ e. cc e) (λ e. cc e) (λ e. cc e) told refl) (λ allowed input told. tail-neither allowed input shown.TooLong (λ x none. none) (λ x none. none) (λ f e. cc e) told) (λ allowed p none. none) (λ allowed name p none. none) (λ seed input told. yard-no_other seed status.TooLong (λ e. cc e) (λ e. cc e) (λ e. cc e) input shown.TooLong told refl) (λ trucks input told. fleet-no_other trucks status.TooLong (λ e. cc e) (λ e. cc e) (λ e. cc e) input shown.TooLong told refl) (λ allowed n input told. improve-no_other allowed n input shown.TooLong status.TooLong (λ e. cc e) (λ e. cc e) (λ e. cc e) (λ e. cc e) told refl) o input told
 
   nothing-no_answer : (o : Option Order) (old new : Option (List ℕ)) → Answers over o old new shown.Nothing → ⊥
   nothing-no_answer None old new told = cc told

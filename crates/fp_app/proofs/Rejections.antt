@@ -56,12 +56,12 @@ module _ (over : Bool) where
   ShowsNo_input Direct input number told = absurd (rejection-unread number (instance_in input) told)
   ShowsNo_input (Bound option seconds) input number told = absurd (rejection-unread number (instance_in input) told)
   ShowsNo_input (Plan budget scale spans seconds notes) input number told = absurd (rejection-unread number (instance_at scale input) told)
-  ShowsNo_input (Improve budget scale spans seconds notes) input number told = improve-rejection (within budget over) spans scale input number told
+  ShowsNo_input (Improve budget scale spans seconds notes) input number told = improve-rejection (within budget over spans) scale input number told
   ShowsNo_input (Trial seed terminals shipments) input number told = absurd told
   ShowsNo_input (Yard seed) input number told = yard-rejection seed input number told
   ShowsNo_input (Fleet trucks) input number told = fleet-rejection trucks input number told
   ShowsNo_input (Replan budget spans seconds notes) input number told =
-      absurd (tail-neither (within budget over) spans input (shown.RejectedPart number) (λ x none. none) (λ x none. none) (rejection-no_fault number) told)
+      absurd (tail-neither (within budget over spans) input (shown.RejectedPart number) (λ x none. none) (λ x none. none) (rejection-no_fault number) told)
   ShowsNo_input (Quote budget spans seconds notes None) input number told = absurd (rejection-unread number (quoted_in input) told)
   ShowsNo_input (Quote budget spans seconds notes (Some name)) input number told = absurd (rejection-unread number (named_in name input) told)
   ShowsNo_input Check input number told =

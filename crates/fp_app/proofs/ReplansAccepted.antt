@@ -179,7 +179,7 @@ looks-one p duty wanted table other looks windows ahead =
     looked (inr from) = subst (λ (w : Wanted). AreWindowsFor (ahead_problem p duty) w other) (sym from.1) (windows-from (ahead_problem p duty) (wanted_by p duty) from.0 other own)
 
 pub CheckAcceptsReplans_hold : CheckAcceptsReplans
-CheckAcceptsReplans_hold allowed wanted scale spans input longer p duty s tells fit looks searched joined result is =
+CheckAcceptsReplans_hold allowed wanted scale input longer p duty s tells fit looks searched joined result is =
     let c : Statement = s.certificate in
     let at : Problem = at_scale scale p in
     let more : Records = records_of (certificate_text (ahead_problem at duty) c) in
@@ -192,7 +192,7 @@ CheckAcceptsReplans_hold allowed wanted scale spans input longer p duty s tells 
     said.ends
     ∙ answer-yes p duty c input longer more read joined back searched.table
     (subst (λ (q : Problem). (other : WindowTable) → AreWindowsAhead q duty other → other ≡ searched.table) same (λ other windows. looks-one at duty wanted searched.table other looks searched.windows windows))
-    (subst (λ (q : Problem). GoesOn q duty) same (looks-goes at duty wanted looks (searched-exists (ahead_problem at duty) wanted allowed spans s searched)))
+    (subst (λ (q : Problem). GoesOn q duty) same (looks-goes at duty wanted looks (searched-exists (ahead_problem at duty) wanted allowed s searched)))
     (subst (λ (q : Problem). IsAccepted (ahead_problem q duty) searched.table c) same searched.accepted)
     (subst (λ (n : ℕ). weight_at n p.arcs p.shipments < 2 ^ 127) (sym own) (named-light p scale read.usual fit))
     said.said

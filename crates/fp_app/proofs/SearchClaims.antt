@@ -1,6 +1,6 @@
 -- What a search says of all plans, from what it has earned.
 use Rattle.std.proofs.Common.{◌≡◌, ◌∙◌, ℕ, ◌+◌, ◌≤◌, ◌^◌, Bool, true, false, List, [], ◌∷◌, length, refl, sym, ap, subst, inl, inr, arith}
-use Rattle.std.specs.Prelude.{◌⊎◌, IfSome, IsSomeAnd, MatchBool, None, Option}
+use Rattle.std.specs.Prelude.{◌⊎◌, IfSome, IsSomeAnd, MatchBool, None, Option, Some}
 use Rattle.std.specs.Int.{div_ceil}
 use Rattle.std.specs.List.{AllByRecursion}
 use Rattle.std.proofs.lemmas.Option.{IfSome_then}
@@ -17,11 +17,12 @@ use Rattle.fp_flatnet.proofs.PlansInWindows.{CoverPlans-from_windows}
 use Rattle.fp_flatnet.specs.Tables.{WindowTable, windows_in}
 use Rattle.fp_tree.specs.declared.sides.Side.{Side}
 use Rattle.fp_tree.specs.Trees.{Leaf}
-use Rattle.fp_allowed.specs.Slack.{slack}
 use Rattle.fp_prices.specs.declared.leaf_prices.LeafPrice.{LeafPrice}
 use Rattle.fp_prices.specs.FlatBounds.{IsFlatBound}
-use Rattle.fp_prices_spans.specs.SpanKinds.{IsPricedValue, spans_beside}
-use Rattle.fp_prices_spans.proofs.OneSpanValue.{span_leaves-have-one-value}
+use Rattle.fp_prices_gifts.specs.GiftKinds.{IsPricedValue, gifts_beside}
+use Rattle.fp_prices_gifts.specs.GiftLeaves.{IsGiftLeafValue}
+use Rattle.fp_prices_gifts.proofs.OneGiftValue.{gift_leaves-have-one-value}
+use Rattle.fp_prices_spans.specs.SpanKinds.{spans_beside}
 use Rattle.fp_certificate_lines.specs.declared.certificates.Answer.{Answer}
 use Rattle.fp_certificate_lines.specs.declared.certificates.Answer.TheVariants.{Optimal, Unfinished}
 use Rattle.fp_certificate_lines.specs.declared.certificates.Node.{Node}
@@ -45,6 +46,7 @@ use Rattle.fp_certificate_lines.specs.Valuations.{first_sides, sides_valued}
 use Rattle.fp_session_history.specs.declared.budgets.Budget.{Budget}
 use Rattle.fp_session_history.specs.declared.endings.Left.{Left}
 use Rattle.fp_session_history.specs.declared.endings.Left.TheVariants.{Nothing, Several, Timing, Unsettled}
+use Rattle.fp_session_history.specs.Divisions.{division_slack}
 use Rattle.fp_session_history.specs.Notes.{History, added_of, points_of}
 use Rattle.fp_session_history.specs.PrintedLeaves.{IsEmptyAt, IsPrintedLeaf, IsWorth, OfLeaf}
 use Rattle.fp_session_history.specs.Solutions.{HasCause, IsEarnedSolution, IsTimely, Solution, branches_shown, history_of, leaves_shown}
@@ -64,7 +66,7 @@ use Rattle.fp_replan_present.specs.Rests.{joined, left_problem}
 use Rattle.fp_replan_present.proofs.RestPlans.{costs-joined}
 use Rattle.fp_app_tails.specs.Verdicts.{NoKeptPlanCheaper}
 use Rattle.fp_app_tails.specs.Windows.{AreDayWindows, AreKeptWindowsOf}
-use Rattle.fp_app.specs.Searches.{Allowance, AreInTime, IsPricedAs, IsSearched, IsShortText, SaysOfPlans}
+use Rattle.fp_app.specs.Searches.{Allowance, AreInTime, IsPricedAs, IsSearched, IsShortText, SaysOfPlans, branch_slack}
 use Rattle.fp_app.specs.Wanted.{AreWindowsFor, GoesOnWith, IsFirstPlan, IsWanted, NoneWantedCheaper, Wanted, WantedExists, every, every_from, going_on, going_on_from, keeping, keeping_from}
 use Rattle.fp_app.proofs.OneKeptTable.{AreDayWindows-unique, AreKeptWindowsOf-unique}
 use Rattle.fp_app.proofs.OneTable.{AreWindowsOf_unique}
@@ -74,16 +76,17 @@ use Rattle.fp_app.proofs.PlainValues.{flat-le_leaf}
 flat-price : (h : History) (sides : List Side) (v : Valuation) (flat value : ℕ) → IsFlatBound h.problem flat → IsEmptyAt h sides v ⊎ IsEarnedAt h sides v → IsValueAt h sides v value → flat ≤ value
 flat-price h sides v flat value least (inl empty) is =
     let price : LeafPrice = v.price in
-    let whole : IsPricedValue h.problem (windows_in h.windows) (points_of h price.round) sides h.tables h.spans price.kind price.forced value =
-    subst (λ (o : Option ℕ). IsPricedValue h.problem (windows_in h.windows) (points_of h price.round) (first_sides o sides) h.tables h.spans price.kind price.forced value) empty.whole is in
-    absurd (span_leaves-have-one-value.some h.problem (windows_in h.windows) (points_of h price.round) sides h.tables (spans_beside h.spans price.kind) price.kind price.forced value whole (empty-by_heads h sides v empty))
+    let whole : IsPricedValue h.problem (windows_in h.windows) (points_of h price.round) sides h.tables h.spans h.gifts price.kind price.forced value =
+    subst (λ (o : Option ℕ). IsPricedValue h.problem (windows_in h.windows) (points_of h price.round) (first_sides o sides) h.tables h.spans h.gifts price.kind price.forced value) empty.whole is in
+    absurd (gift_leaves-have-one-value.some h.problem (windows_in h.windows) (points_of h price.round) sides h.tables (spans_beside h.spans price.kind) (gifts_beside h.gifts price.kind) price.kind price.forced value whole (empty-by_heads h sides v empty))
 flat-price h sides v flat value least (inr earned) is =
     let price : LeafPrice = v.price in
     let under : List Side = sides_valued v sides in
+    let own : IsGiftLeafValue h.problem (windows_in h.windows) (points_of h price.round) under h.tables (spans_beside h.spans price.kind) (gifts_beside h.gifts price.kind) price.kind price.forced earned.value = earned.is in
     let same : earned.value ≡ value =
-    span_leaves-have-one-value.one h.problem (windows_in h.windows) (points_of h price.round) under h.tables (spans_beside h.spans price.kind) price.kind price.forced earned.value value earned.is is in
+    gift_leaves-have-one-value.one h.problem (windows_in h.windows) (points_of h price.round) under h.tables (spans_beside h.spans price.kind) (gifts_beside h.gifts price.kind) price.kind price.forced earned.value value own is in
     let worth : flat ≤ earned.value =
-    flat-le_leaf h.problem (windows_in h.windows) (points_of h price.round) under h.tables (spans_beside h.spans price.kind) price.kind price.forced flat earned.value least earned.is earned.linear_under in
+    flat-le_leaf h.problem (windows_in h.windows) (points_of h price.round) under h.tables (spans_beside h.spans price.kind) price.kind price.forced flat own.before earned.value least own.by_spans earned.linear_under in
     omega (arith, worth, same)
 
 flat-node : (h : History) (n : Node) (sides : List Side) (flat bound : ℕ) → IfSome h.unit (λ u. 1 ≤ u) → IsFlatBound h.problem flat → IsPrintedLeaf h (record { node = n; sides = sides }) →
@@ -134,8 +137,18 @@ wanted-cheaper p (keeping_from kept plan) table c windows within = none-kept_che
 wanted-cheaper q (going_on p day) table c windows within = none-under_way_cheaper q p day table c windows within
 wanted-cheaper q (going_on_from p day plan) table c windows within = none-under_way_cheaper q p day table c windows within
 
+-- where the certificate names a unit, leaves can be divided by trucks too
+unit-division : (p : Problem) (table : WindowTable) (unit : Option ℕ) (P : ℕ → Type 0) → IsSomeAnd unit P → division_slack unit p (windows_in table) [] ≡ branch_slack p table true
+unit-division p table None P some = absurd some
+unit-division p table (Some unit) P some = refl
+
+-- so leaves can be divided as often as the option of spans tells
+priced-division : (p : Problem) (table : WindowTable) (spans : Bool) (c : Statement) → IsPricedAs p spans c → division_slack c.unit p (windows_in table) [] ≡ branch_slack p table spans
+priced-division p table true c priced = unit-division p table c.unit (IsGreatestUnit p) priced
+priced-division p table false c priced = ap (λ (unit : Option ℕ). division_slack unit p (windows_in table) []) priced.unit
+
 -- what the answer of a search says, by what it left
-module _ (p : Problem) (wanted : Wanted) (table : WindowTable) (allowed : Allowance) (started : ℕ) (s : Solution) (windows : AreWindowsFor p wanted table) (range : IsInRange p s.certificate) (earned : IsEarnedSolution p table allowed.budget started s) where
+module _ (p : Problem) (wanted : Wanted) (table : WindowTable) (allowed : Allowance) (started : ℕ) (s : Solution) (windows : AreWindowsFor p wanted table) (range : IsInRange p s.certificate) (priced : IsPricedAs p allowed.spans s.certificate) (earned : IsEarnedSolution p table allowed.budget started s) where
   -- its unit is at least 1
   some-unit : IfSome s.certificate.unit (λ u. 1 ≤ u)
   some-unit = IfSome_then s.certificate.unit range.unit (λ u is. is.least)
@@ -156,7 +169,8 @@ module _ (p : Problem) (wanted : Wanted) (table : WindowTable) (allowed : Allowa
     below = cause.2;
     flat = λ flat least. flat-leaves (history_of p table s) (leaves_shown p s) flat bound some-unit least earned.leaves cause.1.some;
     scarce = λ enough. EnoughBranches_hold p table allowed.budget started s (windows-belong p wanted table windows).valid earned
-        (subst (λ (t : WindowTable). 2 ^ slack p (windows_in t) [] ≤ allowed.budget.branches) (windows-one p wanted enough.0 table enough.1 windows) enough.2) cost bound same;
+        (subst (λ (n : ℕ). 2 ^ n ≤ allowed.budget.branches) (sym (priced-division p table allowed.spans s.certificate priced))
+        (subst (λ (t : WindowTable). 2 ^ branch_slack p t allowed.spans ≤ allowed.budget.branches) (windows-one p wanted enough.0 table enough.1 windows) enough.2)) cost bound same;
   }
   says-by (Unsettled leaf) (Unfinished cost bound Time) same cause timely claims = record {
     plans = wanted-cheaper p wanted table bound windows claims;
@@ -212,15 +226,15 @@ short-text : (p : Problem) (table : WindowTable) (budget : Budget) (started : �
 short-text p table budget started s valid texts solved applies =
     let c : Statement = s.certificate in
     let few : HasFewLines p c = AcceptedAreFew_hold p table c valid solved.range solved.accepted applies in
-    omega (arith, texts c solved.range solved.countable, few-bytes p c few (solved.accepted Part.Tree applies), PriceLinesAreWritten_hold p c solved.range.beside, solved.lines)
+    omega (arith, texts c solved.range solved.countable, few-bytes p c few (solved.accepted Part.Tree applies), PriceLinesAreWritten_hold p c solved.range.beside solved.range.given, solved.lines)
 
 -- what a search shows that began with the first plan
-solved-searched : (p : Problem) (wanted : Wanted) (table : WindowTable) (allowed : Allowance) (spans : Bool) (first : List (List Leg)) (s : Solution) → AreWindowsFor p wanted table → IsFirstPlan p wanted first → WrittenReadsBack p → TextsAreShort p →
-    IsSolved p table allowed.budget (cost p first) s → IsTimely allowed.over s.left → IsPricedAs p spans s.certificate → IsSearched p wanted allowed spans s
-solved-searched p wanted table allowed spans first s windows begins back texts solved timely priced =
+solved-searched : (p : Problem) (wanted : Wanted) (table : WindowTable) (allowed : Allowance) (first : List (List Leg)) (s : Solution) → AreWindowsFor p wanted table → IsFirstPlan p wanted first → WrittenReadsBack p → TextsAreShort p →
+    IsSolved p table allowed.budget (cost p first) s → IsTimely allowed.over s.left → IsPricedAs p allowed.spans s.certificate → IsSearched p wanted allowed s
+solved-searched p wanted table allowed first s windows begins back texts solved timely priced =
     let belongs : BelongsTo p table = windows-belong p wanted table windows in
     let claims : ClaimsWithin p (windows_in table) s.certificate.answer = AcceptedClaims_hold.within p table s.certificate belongs.valid solved.range solved.accepted in
-    let says : SaysOfPlans p wanted allowed s.certificate.answer = says-by p wanted table allowed (cost p first) s windows solved.range solved.earned s.left s.certificate.answer refl solved.earned.cause timely claims in
+    let says : SaysOfPlans p wanted allowed s.certificate.answer = says-by p wanted table allowed (cost p first) s windows solved.range priced solved.earned s.left s.certificate.answer refl solved.earned.cause timely claims in
     let parts = has-timetable p wanted allowed s.certificate.answer says in
     record {
       table = table;
@@ -250,23 +264,23 @@ priced-as p true own c some priced = subst (λ (o : Option ℕ). IsSomeAnd o (Is
 priced-as p false own c none priced = subst (λ (o : Option ℕ). IsPricedBy o c) none priced
 
 -- what a session of the instance shows
-pub session-searched : (p q : Problem) (wanted : Wanted) (table : WindowTable) (allowed : Allowance) (spans : Bool) (first : List (List Leg)) (m : SessionModel) (s : Solution) → AreWindowsFor p wanted table → IsFirstPlan p wanted first →
-    WrittenReadsBack p → TextsAreShort p → q ≡ p → IsChosen q table first allowed.budget spans m → IsSolved m.instance m.windows m.budget m.started s → IsTimely allowed.over s.left → IsPricedBy m.prices.unit s.certificate → IsSearched p wanted allowed spans s
-session-searched p q wanted table allowed spans first m s windows begins back texts same chosen solved timely priced =
+pub session-searched : (p q : Problem) (wanted : Wanted) (table : WindowTable) (allowed : Allowance) (first : List (List Leg)) (m : SessionModel) (s : Solution) → AreWindowsFor p wanted table → IsFirstPlan p wanted first →
+    WrittenReadsBack p → TextsAreShort p → q ≡ p → IsChosen q table first allowed.budget allowed.spans m → IsSolved m.instance m.windows m.budget m.started s → IsTimely allowed.over s.left → IsPricedBy m.prices.unit s.certificate → IsSearched p wanted allowed s
+session-searched p q wanted table allowed first m s windows begins back texts same chosen solved timely priced =
     let of : IsSessionOf q table first allowed.budget m = chosen.of in
     let one : IsSolved p m.windows m.budget m.started s = subst (λ (x : Problem). IsSolved x m.windows m.budget m.started s) (of.instance ∙ same) solved in
     let two : IsSolved p table m.budget m.started s = subst (λ (x : WindowTable). IsSolved p x m.budget m.started s) of.windows one in
     let three : IsSolved p table allowed.budget m.started s = subst (λ (x : Budget). IsSolved p table x m.started s) of.budget two in
     let begun : m.started ≡ cost p first = of.started ∙ ap (λ (x : Problem). cost x first) same in
-    solved-searched p wanted table allowed spans first s windows begins back texts (subst (λ (n : ℕ). IsSolved p table allowed.budget n s) begun three) timely
-    (priced-as p spans m.prices.unit s.certificate
-    (subst (λ (x : Problem). MatchBool spans (IsSomeAnd m.prices.unit (IsGreatestUnit x)) (m.prices.unit ≡ None)) same chosen.unit) priced)
+    solved-searched p wanted table allowed first s windows begins back texts (subst (λ (n : ℕ). IsSolved p table allowed.budget n s) begun three) timely
+    (priced-as p allowed.spans m.prices.unit s.certificate
+    (subst (λ (x : Problem). MatchBool allowed.spans (IsSomeAnd m.prices.unit (IsGreatestUnit x)) (m.prices.unit ≡ None)) same chosen.unit) priced)
 
 -- a wanted plan exists where a search shows one
-pub searched-exists : (p : Problem) (wanted : Wanted) (allowed : Allowance) (spans : Bool) (s : Solution) → IsSearched p wanted allowed spans s → WantedExists p wanted
-searched-exists p every allowed spans s told = let some : 1 ≤ 1 = omega arith in (1, _, some, told.timetable.plan.plan)
-searched-exists p (every_from plan) allowed spans s told = let some : 1 ≤ 1 = omega arith in (1, _, some, told.timetable.plan.plan)
-searched-exists p (keeping kept) allowed spans s told = let some : 1 ≤ 1 = omega arith in (1, _, some, told.timetable.plan.plan, told.is_wanted)
-searched-exists p (keeping_from kept plan) allowed spans s told = let some : 1 ≤ 1 = omega arith in (1, _, some, told.timetable.plan.plan, told.is_wanted)
-searched-exists q (going_on_from p day plan) allowed spans s told = let some : 1 ≤ 1 = omega arith in (1, joined p day 1 (routes_of q s.certificate), some, told.is_wanted.0)
-searched-exists q (going_on p day) allowed spans s told = let some : 1 ≤ 1 = omega arith in (1, joined p day 1 (routes_of q s.certificate), some, told.is_wanted.0)
+pub searched-exists : (p : Problem) (wanted : Wanted) (allowed : Allowance) (s : Solution) → IsSearched p wanted allowed s → WantedExists p wanted
+searched-exists p every allowed s told = let some : 1 ≤ 1 = omega arith in (1, _, some, told.timetable.plan.plan)
+searched-exists p (every_from plan) allowed s told = let some : 1 ≤ 1 = omega arith in (1, _, some, told.timetable.plan.plan)
+searched-exists p (keeping kept) allowed s told = let some : 1 ≤ 1 = omega arith in (1, _, some, told.timetable.plan.plan, told.is_wanted)
+searched-exists p (keeping_from kept plan) allowed s told = let some : 1 ≤ 1 = omega arith in (1, _, some, told.timetable.plan.plan, told.is_wanted)
+searched-exists q (going_on_from p day plan) allowed s told = let some : 1 ≤ 1 = omega arith in (1, joined p day 1 (routes_of q s.certificate), some, told.is_wanted.0)
+searched-exists q (going_on p day) allowed s told = let some : 1 ≤ 1 = omega arith in (1, joined p day 1 (routes_of q s.certificate), some, told.is_wanted.0)

@@ -80,12 +80,12 @@ module _ (over : Bool) where
   ShowsFault_input : (o : Order) (input : List ℕ) (ordinal code : ℕ) → ShowsInput over o input (shown.BadInput ordinal code) → ShowsFault (Some o) input (shown.BadInput ordinal code)
   ShowsFault_input Direct input ordinal code told = ShowsFault_instance Direct input ordinal code (λ p. ShowsDirect p (shown.BadInput ordinal code)) (instance_in input) (λ p none. none) refl (instance_in input) refl told
   ShowsFault_input (Bound option seconds) input ordinal code told = ShowsFault_instance (Bound option seconds) input ordinal code (λ p. ShowsBound option p (shown.BadInput ordinal code)) (instance_in input) (λ p none. none) refl (instance_in input) refl told
-  ShowsFault_input (Plan budget scale spans seconds notes) input ordinal code told = ShowsFault_instance (Plan budget scale spans seconds notes) input ordinal code (λ p. ShowsSearch (within budget over) spans p (shown.BadInput ordinal code)) (instance_at scale input) (λ p none. none) refl (instance_at scale input) refl told
-  ShowsFault_input (Improve budget scale spans seconds notes) input ordinal code told = improve-fault (within budget over) spans scale input budget seconds notes ordinal code told
+  ShowsFault_input (Plan budget scale spans seconds notes) input ordinal code told = ShowsFault_instance (Plan budget scale spans seconds notes) input ordinal code (λ p. ShowsSearch (within budget over spans) p (shown.BadInput ordinal code)) (instance_at scale input) (λ p none. none) refl (instance_at scale input) refl told
+  ShowsFault_input (Improve budget scale spans seconds notes) input ordinal code told = improve-fault (within budget over spans) scale input budget spans seconds notes ordinal code told
   ShowsFault_input (Trial seed terminals shipments) input ordinal code told = absurd told
   ShowsFault_input (Yard seed) input ordinal code told = yard-fault seed input ordinal code told
   ShowsFault_input (Fleet trucks) input ordinal code told = fleet-fault trucks input ordinal code told
-  ShowsFault_input (Replan budget spans seconds notes) input ordinal code told = tail-fault budget (within budget over) spans seconds notes input ordinal code told
+  ShowsFault_input (Replan budget spans seconds notes) input ordinal code told = tail-fault budget (within budget over spans) spans seconds notes input ordinal code told
   ShowsFault_input (Quote budget spans seconds notes name) input ordinal code told = quotes-fault over budget spans seconds notes name input ordinal code told
   ShowsFault_input Check input ordinal code told = both-give (has_tail_in input) (ShowsSaid input (shown.BadInput ordinal code)) (OfCertificate input (shown.BadInput ordinal code) (λ p c. ShowsCheck (scaled p c) c (shown.BadInput ordinal code))) (ShowsFault (Some Check) input (shown.BadInput ordinal code)) (said-fault input ordinal code) (λ alone of. ShowsFault_check input ordinal code (leading_instance_in input) alone refl of) told
 
@@ -183,57 +183,57 @@ module _ (over : Bool) where
   ShowsNumber_bound option input s (Err f) is same done = absurd (fault-not_done s f same done)
 
   -- what a search shows, and how it ended
-  module _ (allowed : Allowance) (spans : Bool) (given : Result Problem Fault) (show : Problem → Solution → Shown) (p : Problem) where
-    solution : (q : Problem) (x : Solution) → given ≡ Ok p → q ≡ p → IsSearched p every allowed spans x → ShowsSolution allowed spans given show (show q x)
+  module _ (allowed : Allowance) (given : Result Problem Fault) (show : Problem → Solution → Shown) (p : Problem) where
+    solution : (q : Problem) (x : Solution) → given ≡ Ok p → q ≡ p → IsSearched p every allowed x → ShowsSolution allowed given show (show q x)
     solution q x is same told = record { instance = p; solved = x; read = is; shows = ap (λ (y : Problem). show y x) same; searched = told }
 
-    optimal-end : (q : Problem) (x : Solution) → given ≡ Ok p → q ≡ p → IsSearched p every allowed spans x → SearchEnd p every allowed x.certificate.answer → search_status x.certificate.answer ≡ status.Done →
-        ShowsOptimal allowed spans given show (show q x)
+    optimal-end : (q : Problem) (x : Solution) → given ≡ Ok p → q ≡ p → IsSearched p every allowed x → SearchEnd p every allowed x.certificate.answer → search_status x.certificate.answer ≡ status.Done →
+        ShowsOptimal allowed given show (show q x)
     unfolding solution
     optimal-end q x is same told (optimal cost answer plans) done = record { solution = solution q x is same told; cost = cost; answer = answer; plans = plans }
     optimal-end q x is same told (unfinished cost bound spent answer bounds) done = let e : status.Unfinished ≡ status.Done = sym (ap search_status answer) ∙ done in cc e
 
-    unfinished-end : (q : Problem) (x : Solution) → given ≡ Ok p → q ≡ p → IsSearched p every allowed spans x → SearchEnd p every allowed x.certificate.answer → search_status x.certificate.answer ≡ status.Unfinished →
-        ShowsUnfinished allowed spans given show (show q x)
+    unfinished-end : (q : Problem) (x : Solution) → given ≡ Ok p → q ≡ p → IsSearched p every allowed x → SearchEnd p every allowed x.certificate.answer → search_status x.certificate.answer ≡ status.Unfinished →
+        ShowsUnfinished allowed given show (show q x)
     unfolding solution
     unfinished-end q x is same told (optimal cost answer plans) ends = let e : status.Done ≡ status.Unfinished = sym (ap search_status answer) ∙ ends in cc e
     unfinished-end q x is same told (unfinished cost bound spent answer bounds) ends =
         record { solution = solution q x is same told; cost = cost; bound = bound; spent = spent; answer = answer; bounds = bounds }
 
-  module _ (allowed : Allowance) (spans : Bool) (given : Result Problem Fault) (p : Problem) where
-    done-search : (s : Shown) → given ≡ Ok p → ShowsSearch allowed spans p s → status_of s ≡ status.Done → ShowsOptimal allowed spans given shown.Planned s
-    done-search (shown.Planned q x) is told done = optimal-end allowed spans given shown.Planned p q x is told.0 told.1 (search-end p every allowed x.certificate.answer told.1.says) done
+  module _ (allowed : Allowance) (given : Result Problem Fault) (p : Problem) where
+    done-search : (s : Shown) → given ≡ Ok p → ShowsSearch allowed p s → status_of s ≡ status.Done → ShowsOptimal allowed given shown.Planned s
+    done-search (shown.Planned q x) is told done = optimal-end allowed given shown.Planned p q x is told.0 told.1 (search-end p every allowed x.certificate.answer told.1.says) done
     done-search (shown.Infeasible q shipment time) is told done = let g = done in cc
     done-search _ is told done = absurd told
 
-    open-search : (s : Shown) → given ≡ Ok p → ShowsSearch allowed spans p s → status_of s ≡ status.Unfinished → ShowsUnfinished allowed spans given shown.Planned s
-    open-search (shown.Planned q x) is told ends = unfinished-end allowed spans given shown.Planned p q x is told.0 told.1 (search-end p every allowed x.certificate.answer told.1.says) ends
+    open-search : (s : Shown) → given ≡ Ok p → ShowsSearch allowed p s → status_of s ≡ status.Unfinished → ShowsUnfinished allowed given shown.Planned s
+    open-search (shown.Planned q x) is told ends = unfinished-end allowed given shown.Planned p q x is told.0 told.1 (search-end p every allowed x.certificate.answer told.1.says) ends
     open-search (shown.Infeasible q shipment time) is told ends = let g = ends in cc
     open-search _ is told ends = absurd told
 
-  ShowsOptimal_search : (allowed : Allowance) (spans : Bool) (given : Result Problem Fault) (s : Shown) (r : Result Problem Fault) → given ≡ r →
-      MatchResult r (λ p. ShowsSearch allowed spans p s) (λ (f : Fault). s ≡ shown.BadInput f.ordinal f.code) → status_of s ≡ status.Done → ShowsOptimal allowed spans given shown.Planned s
-  ShowsOptimal_search allowed spans given s (Ok p) is told done = done-search allowed spans given p s is told done
-  ShowsOptimal_search allowed spans given s (Err f) is same done = absurd (fault-not_done s f same done)
+  ShowsOptimal_search : (allowed : Allowance) (given : Result Problem Fault) (s : Shown) (r : Result Problem Fault) → given ≡ r →
+      MatchResult r (λ p. ShowsSearch allowed p s) (λ (f : Fault). s ≡ shown.BadInput f.ordinal f.code) → status_of s ≡ status.Done → ShowsOptimal allowed given shown.Planned s
+  ShowsOptimal_search allowed given s (Ok p) is told done = done-search allowed given p s is told done
+  ShowsOptimal_search allowed given s (Err f) is same done = absurd (fault-not_done s f same done)
 
   -- what an order shows that is done
   ShowsDone_input : (o : Order) (input : List ℕ) (s : Shown) → ShowsInput over o input s → status_of s ≡ status.Done → ShowsDone over (Some o) input s
   ShowsDone_input Direct input s told done = ShowsPlan_direct input s (instance_in input) refl told done
   ShowsDone_input (Bound option seconds) input s told done = ShowsNumber_bound option input s (instance_in input) refl told done
-  ShowsDone_input (Plan budget scale spans seconds notes) input s told done = ShowsOptimal_search (within budget over) spans (instance_at scale input) s (instance_at scale input) refl told done
-  ShowsDone_input (Improve budget scale spans seconds notes) input s told done = improve-done (within budget over) spans scale input s told done
+  ShowsDone_input (Plan budget scale spans seconds notes) input s told done = ShowsOptimal_search (within budget over spans) (instance_at scale input) s (instance_at scale input) refl told done
+  ShowsDone_input (Improve budget scale spans seconds notes) input s told done = improve-done (within budget over spans) scale input s told done
   ShowsDone_input (Trial seed terminals shipments) input s told done = absurd told
   ShowsDone_input (Yard seed) input s told done = yard-done seed input s told done
   ShowsDone_input (Fleet trucks) input s told done = fleet-done trucks input s told done
-  ShowsDone_input (Replan budget spans seconds notes) input s told done = tail-done (within budget over) spans input s told done
+  ShowsDone_input (Replan budget spans seconds notes) input s told done = tail-done (within budget over spans) input s told done
   ShowsDone_input (Quote budget spans seconds notes name) input s told done = quotes-done over budget spans seconds notes name input s told done
   ShowsDone_input Check input s told done = each-of (has_tail_in input) (ShowsSaid input s) (OfCertificate input s (λ p c. ShowsCheck (scaled p c) c s)) (ShowsSaidYes input s) (ShowsYes input s) (λ of. said-done input s of done) (λ of. ShowsYes_check input s (leading_instance_in input) refl of done) told
 
   -- what an order shows that is done without an input
   ShowsDone_alone : (o : Order) (input : List ℕ) (s : Shown) → ShowsAlone o s → status_of s ≡ status.Done → ShowsDone over (Some o) input s
   ShowsDone_alone (Trial seed terminals shipments) input (shown.Trial shown_seed None q x) told done =
-      subst (λ (n : ℕ). ShowsOptimal trial_allowance false (Ok (generated seed terminals shipments)) (shown.Trial seed None) (shown.Trial n None q x)) (sym told.0)
-      (optimal-end trial_allowance false (Ok (generated seed terminals shipments)) (shown.Trial seed None) (generated seed terminals shipments) q x refl told.1 told.2
+      subst (λ (n : ℕ). ShowsOptimal trial_allowance (Ok (generated seed terminals shipments)) (shown.Trial seed None) (shown.Trial n None q x)) (sym told.0)
+      (optimal-end trial_allowance (Ok (generated seed terminals shipments)) (shown.Trial seed None) (generated seed terminals shipments) q x refl told.1 told.2
       (search-end (generated seed terminals shipments) every trial_allowance x.certificate.answer told.2.says) done)
   ShowsDone_alone (Trial seed terminals shipments) input _ told done = absurd told
   ShowsDone_alone _ input s told done = absurd told
@@ -280,7 +280,7 @@ module _ (over : Bool) where
   none-bound option seconds input p (shown.Bound q price tables spans value) is told same = let g = same in cc
   none-bound option seconds input p _ is told same = absurd told
 
-  none-search : (allowed : Allowance) (budget : Budget) (scale : ℕ) (spans : Bool) (seconds : Option ℕ) (notes : Bool) (input : List ℕ) (p : Problem) (s : Shown) → instance_at scale input ≡ Ok p → ShowsSearch allowed spans p s → status_of s ≡ status.Infeasible → ShowsNone (Plan budget scale spans seconds notes) input s
+  none-search : (allowed : Allowance) (budget : Budget) (scale : ℕ) (spans : Bool) (seconds : Option ℕ) (notes : Bool) (input : List ℕ) (p : Problem) (s : Shown) → instance_at scale input ≡ Ok p → ShowsSearch allowed p s → status_of s ≡ status.Infeasible → ShowsNone (Plan budget scale spans seconds notes) input s
   none-search allowed budget scale spans seconds notes input p (shown.Infeasible q shipment time) is told same = record {
     instance = p;
     shipment = shipment;
@@ -303,12 +303,12 @@ module _ (over : Bool) where
   ShowsNone_input Direct input s told none = MatchResult_shows status.Infeasible (instance_in input) (instance_in input) (λ p. ShowsDirect p s) s (ShowsNone Direct input s) (λ e. cc e) refl none told (λ p is shows. none-direct input p s is shows none)
   ShowsNone_input (Bound option seconds) input s told none = MatchResult_shows status.Infeasible (instance_in input) (instance_in input) (λ p. ShowsBound option p s) s (ShowsNone (Bound option seconds) input s) (λ e. cc e) refl none told (λ p is shows. none-bound option seconds input p s is shows none)
   ShowsNone_input (Plan budget scale spans seconds notes) input s told none =
-      MatchResult_shows status.Infeasible (instance_at scale input) (instance_at scale input) (λ p. ShowsSearch (within budget over) spans p s) s (ShowsNone (Plan budget scale spans seconds notes) input s) (λ e. cc e) refl none told (λ p is shows. none-search (within budget over) budget scale spans seconds notes input p s is shows none)
-  ShowsNone_input (Improve budget scale spans seconds notes) input s told none = improve-no_other (within budget over) spans scale input s status.Infeasible (λ e. cc e) (λ e. cc e) (λ e. cc e) (λ e. cc e) told none
+      MatchResult_shows status.Infeasible (instance_at scale input) (instance_at scale input) (λ p. ShowsSearch (within budget over spans) p s) s (ShowsNone (Plan budget scale spans seconds notes) input s) (λ e. cc e) refl none told (λ p is shows. none-search (within budget over spans) budget scale spans seconds notes input p s is shows none)
+  ShowsNone_input (Improve budget scale spans seconds notes) input s told none = improve-no_other (within budget over spans) scale input s status.Infeasible (λ e. cc e) (λ e. cc e) (λ e. cc e) (λ e. cc e) told none
   ShowsNone_input (Trial seed terminals shipments) input s told none = absurd told
   ShowsNone_input (Yard seed) input s told none = absurd (yard-no_other seed status.Infeasible (λ e. cc e) (λ e. cc e) (λ e. cc e) input s told none)
   ShowsNone_input (Fleet trucks) input s told none = absurd (fleet-no_other trucks status.Infeasible (λ e. cc e) (λ e. cc e) (λ e. cc e) input s told none)
-  ShowsNone_input (Replan budget spans seconds notes) input s told none = tail-stuck (within budget over) spans input s told none
+  ShowsNone_input (Replan budget spans seconds notes) input s told none = tail-stuck (within budget over spans) input s told none
   ShowsNone_input (Quote budget spans seconds notes name) input s told none = quotes-none over budget spans seconds notes name input s told none
   ShowsNone_input Check input s told none =
       both-give (has_tail_in input) (ShowsSaid input s) (OfCertificate input s (λ p c. ShowsCheck (scaled p c) c s)) (ShowsNone Check input s) (λ tail of. absurd (said-no_other status.Infeasible input s (λ e. cc e) (λ e. cc e) (λ e. cc e) of none)) (λ alone of. MatchResult_shows status.Infeasible (leading_instance_in input) (leading_instance_in input)
@@ -357,12 +357,12 @@ module _ (over : Bool) where
   ShowsOpen_input Direct input s told ends = MatchResult_shows status.Unfinished (instance_in input) (instance_in input) (λ p. ShowsDirect p s) s ⊥ (λ e. cc e) refl ends told (λ p is shows. direct-not_open p s shows ends)
   ShowsOpen_input (Bound option seconds) input s told ends = MatchResult_shows status.Unfinished (instance_in input) (instance_in input) (λ p. ShowsBound option p s) s ⊥ (λ e. cc e) refl ends told (λ p is shows. bound-not_open option p s shows ends)
   ShowsOpen_input (Plan budget scale spans seconds notes) input s told ends =
-      MatchResult_shows status.Unfinished (instance_at scale input) (instance_at scale input) (λ p. ShowsSearch (within budget over) spans p s) s (ShowsUnfinished (within budget over) spans (instance_at scale input) shown.Planned s) (λ e. cc e) refl ends told (λ p is shows. open-search (within budget over) spans (instance_at scale input) p s is shows ends)
-  ShowsOpen_input (Improve budget scale spans seconds notes) input s told ends = improve-open (within budget over) spans scale input s told ends
+      MatchResult_shows status.Unfinished (instance_at scale input) (instance_at scale input) (λ p. ShowsSearch (within budget over spans) p s) s (ShowsUnfinished (within budget over spans) (instance_at scale input) shown.Planned s) (λ e. cc e) refl ends told (λ p is shows. open-search (within budget over spans) (instance_at scale input) p s is shows ends)
+  ShowsOpen_input (Improve budget scale spans seconds notes) input s told ends = improve-open (within budget over spans) scale input s told ends
   ShowsOpen_input (Trial seed terminals shipments) input s told ends = absurd told
   ShowsOpen_input (Yard seed) input s told ends = absurd (yard-no_other seed status.Unfinished (λ e. cc e) (λ e. cc e) (λ e. cc e) input s told ends)
   ShowsOpen_input (Fleet trucks) input s told ends = absurd (fleet-no_other trucks status.Unfinished (λ e. cc e) (λ e. cc e) (λ e. cc e) input s told ends)
-  ShowsOpen_input (Replan budget spans seconds notes) input s told ends = tail-open (within budget over) spans input s told ends
+  ShowsOpen_input (Replan budget spans seconds notes) input s told ends = tail-open (within budget over spans) input s told ends
   ShowsOpen_input (Quote budget spans seconds notes name) input s told ends = quotes-open over budget spans seconds notes name input s told ends
   ShowsOpen_input Check input s told ends =
       both-give (has_tail_in input) (ShowsSaid input s) (OfCertificate input s (λ p c. ShowsCheck (scaled p c) c s)) ⊥ (λ tail of. said-no_other status.Unfinished input s (λ e. cc e) (λ e. cc e) (λ e. cc e) of ends) (λ alone of. MatchResult_shows status.Unfinished (leading_instance_in input) (leading_instance_in input)
@@ -372,8 +372,8 @@ module _ (over : Bool) where
 
   ShowsOpen_alone : (o : Order) (input : List ℕ) (s : Shown) → ShowsAlone o s → status_of s ≡ status.Unfinished → ShowsOpen over (Some o) input s
   ShowsOpen_alone (Trial seed terminals shipments) input (shown.Trial shown_seed None q x) told ends =
-      subst (λ (n : ℕ). ShowsUnfinished trial_allowance false (Ok (generated seed terminals shipments)) (shown.Trial seed None) (shown.Trial n None q x)) (sym told.0)
-      (unfinished-end trial_allowance false (Ok (generated seed terminals shipments)) (shown.Trial seed None) (generated seed terminals shipments) q x refl told.1 told.2
+      subst (λ (n : ℕ). ShowsUnfinished trial_allowance (Ok (generated seed terminals shipments)) (shown.Trial seed None) (shown.Trial n None q x)) (sym told.0)
+      (unfinished-end trial_allowance (Ok (generated seed terminals shipments)) (shown.Trial seed None) (generated seed terminals shipments) q x refl told.1 told.2
       (search-end (generated seed terminals shipments) every trial_allowance x.certificate.answer told.2.says) ends)
   ShowsOpen_alone (Trial seed terminals shipments) input _ told ends = absurd told
   ShowsOpen_alone _ input s told ends = absurd told

@@ -47,25 +47,25 @@ pub read-fault : {A : Type 0} (r : Result A Fault) (P : A → Type 0) (s : Shown
 read-fault (Ok x) P s none told = absurd (none x told)
 read-fault (Err f) P s none same = (f, refl, same)
 
-module _ (allowed : Allowance) (spans : Bool) (input : List ℕ) where
+module _ (allowed : Allowance) (input : List ℕ) where
   module _ (s : Shown) where
     abbrev DayTold : Type 0
-    DayTold = OfDay input s (λ (x : DayInstance). ShowsDay allowed spans x s)
+    DayTold = OfDay input s (λ (x : DayInstance). ShowsDay allowed x s)
 
     abbrev KeptTold : Type 0
-    KeptTold = OfKept input s (λ (x : KeptInstance). ShowsReplan allowed spans x s)
+    KeptTold = OfKept input s (λ (x : KeptInstance). ShowsReplan allowed x s)
 
-    pub tail-done : ShowsTail allowed spans input s → status_of s ≡ status.Done → MatchBool (tells_day_in input) (ShowsDayOptimal allowed spans input s) (ShowsKeptOptimal allowed spans input s)
+    pub tail-done : ShowsTail allowed input s → status_of s ≡ status.Done → MatchBool (tells_day_in input) (ShowsDayOptimal allowed input s) (ShowsKeptOptimal allowed input s)
     tail-done told done =
-        each-of (tells_day_in input) DayTold KeptTold (ShowsDayOptimal allowed spans input s) (ShowsKeptOptimal allowed spans input s) (λ of. day-done allowed spans input s of done) (λ of. replan-done allowed spans input s of done) told
+        each-of (tells_day_in input) DayTold KeptTold (ShowsDayOptimal allowed input s) (ShowsKeptOptimal allowed input s) (λ of. day-done allowed input s of done) (λ of. replan-done allowed input s of done) told
 
-    pub tail-open : ShowsTail allowed spans input s → status_of s ≡ status.Unfinished → MatchBool (tells_day_in input) (ShowsDayUnfinished allowed spans input s) (ShowsKeptUnfinished allowed spans input s)
+    pub tail-open : ShowsTail allowed input s → status_of s ≡ status.Unfinished → MatchBool (tells_day_in input) (ShowsDayUnfinished allowed input s) (ShowsKeptUnfinished allowed input s)
     tail-open told ends =
-        each-of (tells_day_in input) DayTold KeptTold (ShowsDayUnfinished allowed spans input s) (ShowsKeptUnfinished allowed spans input s) (λ of. day-open allowed spans input s of ends) (λ of. replan-open allowed spans input s of ends) told
+        each-of (tells_day_in input) DayTold KeptTold (ShowsDayUnfinished allowed input s) (ShowsKeptUnfinished allowed input s) (λ of. day-open allowed input s of ends) (λ of. replan-open allowed input s of ends) told
 
-    pub tail-stuck : ShowsTail allowed spans input s → status_of s ≡ status.Infeasible → MatchBool (tells_day_in input) (ShowsDayStuck input s) (ShowsStuck input s)
+    pub tail-stuck : ShowsTail allowed input s → status_of s ≡ status.Infeasible → MatchBool (tells_day_in input) (ShowsDayStuck input s) (ShowsStuck input s)
     tail-stuck told none =
-        each-of (tells_day_in input) DayTold KeptTold (ShowsDayStuck input s) (ShowsStuck input s) (λ of. day-stuck allowed spans input s of none) (λ of. replan-stuck allowed spans input s of none) told
+        each-of (tells_day_in input) DayTold KeptTold (ShowsDayStuck input s) (ShowsStuck input s) (λ of. day-stuck allowed input s of none) (λ of. replan-stuck allowed input s of none) told
 
     abbrev DayStatus : Type 0
     DayStatus = MatchResult (day_in input) (λ (x : DayInstance). SearchStatus (left_problem x.instance x.day) (going_on x.instance x.day) allowed (status_of s)) (λ (f : Fault). status_of s ≡ status.BadInput)
@@ -73,24 +73,24 @@ module _ (allowed : Allowance) (spans : Bool) (input : List ℕ) where
     abbrev KeptStatus : Type 0
     KeptStatus = MatchResult (kept_in input) (λ (x : KeptInstance). SearchStatus x.instance (keeping x.kept) allowed (status_of s)) (λ (f : Fault). status_of s ≡ status.BadInput)
 
-    pub tail-status : ShowsTail allowed spans input s → MatchBool (tells_day_in input) DayStatus KeptStatus
+    pub tail-status : ShowsTail allowed input s → MatchBool (tells_day_in input) DayStatus KeptStatus
     tail-status told =
         each-of (tells_day_in input) DayTold KeptTold DayStatus KeptStatus
-        (read-gives (day_in input) (λ (x : DayInstance). ShowsDay allowed spans x s) (λ (x : DayInstance). SearchStatus (left_problem x.instance x.day) (going_on x.instance x.day) allowed (status_of s)) s (λ (x : DayInstance). day-status allowed spans x s))
-        (read-gives (kept_in input) (λ (x : KeptInstance). ShowsReplan allowed spans x s) (λ (x : KeptInstance). SearchStatus x.instance (keeping x.kept) allowed (status_of s)) s (λ (x : KeptInstance). replan-status allowed spans x s)) told
+        (read-gives (day_in input) (λ (x : DayInstance). ShowsDay allowed x s) (λ (x : DayInstance). SearchStatus (left_problem x.instance x.day) (going_on x.instance x.day) allowed (status_of s)) s (λ (x : DayInstance). day-status allowed x s))
+        (read-gives (kept_in input) (λ (x : KeptInstance). ShowsReplan allowed x s) (λ (x : KeptInstance). SearchStatus x.instance (keeping x.kept) allowed (status_of s)) s (λ (x : KeptInstance). replan-status allowed x s)) told
 
     -- what neither a day nor kept legs show isn't shown
-    pub tail-neither : ((x : DayInstance) → ShowsDay allowed spans x s → ⊥) → ((x : KeptInstance) → ShowsReplan allowed spans x s → ⊥) → ((f : Fault) → s ≡ shown.BadInput f.ordinal f.code → ⊥) → ShowsTail allowed spans input s → ⊥
+    pub tail-neither : ((x : DayInstance) → ShowsDay allowed x s → ⊥) → ((x : KeptInstance) → ShowsReplan allowed x s → ⊥) → ((f : Fault) → s ≡ shown.BadInput f.ordinal f.code → ⊥) → ShowsTail allowed input s → ⊥
     tail-neither day kept fault told =
-        both-give (tells_day_in input) DayTold KeptTold ⊥ (λ is of. read-neither (day_in input) (λ (x : DayInstance). ShowsDay allowed spans x s) s day fault of)
-        (λ is of. read-neither (kept_in input) (λ (x : KeptInstance). ShowsReplan allowed spans x s) s kept fault of) told
+        both-give (tells_day_in input) DayTold KeptTold ⊥ (λ is of. read-neither (day_in input) (λ (x : DayInstance). ShowsDay allowed x s) s day fault of)
+        (λ is of. read-neither (kept_in input) (λ (x : KeptInstance). ShowsReplan allowed x s) s kept fault of) told
 
 -- a refusal by the first fault of the input
-pub tail-fault : (budget : Budget) (allowed : Allowance) (spans : Bool) (seconds : Option ℕ) (notes : Bool) (input : List ℕ) (ordinal code : ℕ) → ShowsTail allowed spans input (shown.BadInput ordinal code) →
+pub tail-fault : (budget : Budget) (allowed : Allowance) (spans : Bool) (seconds : Option ℕ) (notes : Bool) (input : List ℕ) (ordinal code : ℕ) → ShowsTail allowed input (shown.BadInput ordinal code) →
     ShowsFault (Some (Replan budget spans seconds notes)) input (shown.BadInput ordinal code)
 tail-fault budget allowed spans seconds notes input ordinal code told =
-    both-give (tells_day_in input) (DayTold allowed spans input (shown.BadInput ordinal code)) (KeptTold allowed spans input (shown.BadInput ordinal code)) (ShowsFault (Some (Replan budget spans seconds notes)) input (shown.BadInput ordinal code))
-    (λ is of. let x = read-fault (day_in input) (λ (x : DayInstance). ShowsDay allowed spans x (shown.BadInput ordinal code)) (shown.BadInput ordinal code) (λ x none. none) of in
+    both-give (tells_day_in input) (DayTold allowed input (shown.BadInput ordinal code)) (KeptTold allowed input (shown.BadInput ordinal code)) (ShowsFault (Some (Replan budget spans seconds notes)) input (shown.BadInput ordinal code))
+    (λ is of. let x = read-fault (day_in input) (λ (x : DayInstance). ShowsDay allowed x (shown.BadInput ordinal code)) (shown.BadInput ordinal code) (λ x none. none) of in
     record { fault = x.0; first = rw is x.1; shows = x.2 })
-    (λ is of. let x = read-fault (kept_in input) (λ (x : KeptInstance). ShowsReplan allowed spans x (shown.BadInput ordinal code)) (shown.BadInput ordinal code) (λ x none. none) of in
+    (λ is of. let x = read-fault (kept_in input) (λ (x : KeptInstance). ShowsReplan allowed x (shown.BadInput ordinal code)) (shown.BadInput ordinal code) (λ x none. none) of in
     record { fault = x.0; first = rw is x.1; shows = x.2 }) told

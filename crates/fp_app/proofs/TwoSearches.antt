@@ -17,13 +17,13 @@ module _ (options : SearchOptions) (m1 m2 b0 n1 n2 : ℕ) where
 
   -- the first search, of half of the seconds
   pub first-over : (half : SearchOptions) → half ≡ record options { seconds = halved options.seconds } → m1 ≤ m2 → n1 ≤ n2 → (p : Problem) (wanted : Wanted) (s : Solution) →
-      IsSearched p wanted (within half.budget (has_shown half.seconds m1 b0 n1)) half.spans s → IsSearched p wanted (within options.budget over) options.spans s
+      IsSearched p wanted (within half.budget (has_shown half.seconds m1 b0 n1) half.spans) s → IsSearched p wanted (within options.budget over options.spans) s
   first-over half same later failed p wanted s is =
-      IsSearched-over p wanted options.budget (has_shown (halved options.seconds) m1 b0 n1) over (has_shown-later (halved options.seconds) m1 b0 n1 m2 b0 n2 later (omega arith) failed) options.spans s
-      (subst (λ (o : SearchOptions). IsSearched p wanted (within o.budget (has_shown o.seconds m1 b0 n1)) o.spans s) same is)
+      IsSearched-over p wanted options.budget (has_shown (halved options.seconds) m1 b0 n1) over options.spans (has_shown-later (halved options.seconds) m1 b0 n1 m2 b0 n2 later (omega arith) failed) s
+      (subst (λ (o : SearchOptions). IsSearched p wanted (within o.budget (has_shown o.seconds m1 b0 n1) o.spans) s) same is)
 
   -- the second search, of all
-  pub second-over : b0 ≤ n1 → (p : Problem) (wanted : Wanted) (s : Solution) → IsSearched p wanted (within options.budget (has_shown options.seconds m2 n1 n2)) options.spans s → IsSearched p wanted (within options.budget over) options.spans s
+  pub second-over : b0 ≤ n1 → (p : Problem) (wanted : Wanted) (s : Solution) → IsSearched p wanted (within options.budget (has_shown options.seconds m2 n1 n2) options.spans) s → IsSearched p wanted (within options.budget over options.spans) s
   second-over failed p wanted s is =
-      IsSearched-over p wanted options.budget (has_shown options.seconds m2 n1 n2) over
-      (λ shown. has_shown-later (halved options.seconds) m2 n1 n2 m2 b0 n2 (omega arith) failed (omega arith) (has_shown-halved options.seconds m2 n1 n2 shown)) options.spans s is
+      IsSearched-over p wanted options.budget (has_shown options.seconds m2 n1 n2) over options.spans
+      (λ shown. has_shown-later (halved options.seconds) m2 n1 n2 m2 b0 n2 (omega arith) failed (omega arith) (has_shown-halved options.seconds m2 n1 n2 shown)) s is

@@ -36,7 +36,7 @@ pub record IsRootValue (p : Problem) (price : LeafPrice) (tables : List (List Cl
   pub table : WindowTable
   pub windows : AreWindowsOf p table
   pub prices : AreTables p tables
-  pub sound : AreSoundSpans p table spans
+  pub sound : AreSoundSpans p table spans []
   pub kind : HasKind tables price.kind
   pub round : price.round ≡ 0
   pub earned : IsEarnedValue p (windows_in table) (initial_points p []) price tables spans value

@@ -71,24 +71,24 @@ pub record ShowsNumber (option : Bool) (input : List ℕ) (result : Shown) : Typ
 
 -- There is an instance, of which a plan exists, and what is shown is what a search with a budget, and
 -- with the option of spans or without it, shows of it.
-pub record ShowsSolution (allowed : Allowance) (spans : Bool) (given : Result Problem Fault) (show : Problem → Solution → Shown) (result : Shown) : Type 0 where
+pub record ShowsSolution (allowed : Allowance) (given : Result Problem Fault) (show : Problem → Solution → Shown) (result : Shown) : Type 0 where
   pub instance : Problem
   pub solved : Solution
   pub read : given ≡ Ok instance
   pub shows : result ≡ show instance solved
-  pub searched : IsSearched instance every allowed spans solved
+  pub searched : IsSearched instance every allowed solved
 
 -- What is shown is optimal: no plan is cheaper, over any denominator.
-pub record ShowsOptimal (allowed : Allowance) (spans : Bool) (given : Result Problem Fault) (show : Problem → Solution → Shown) (result : Shown) : Type 0 where
-  pub solution : ShowsSolution allowed spans given show result
+pub record ShowsOptimal (allowed : Allowance) (given : Result Problem Fault) (show : Problem → Solution → Shown) (result : Shown) : Type 0 where
+  pub solution : ShowsSolution allowed given show result
   pub cost : ℕ
   pub answer : solution.solved.certificate.answer ≡ answer.Optimal cost
   pub plans : NoPlanCheaper solution.instance cost
 
 -- What is shown is unfinished: no plan costs less than its bound, over any denominator, and it tells
 -- what was spent.
-pub record ShowsUnfinished (allowed : Allowance) (spans : Bool) (given : Result Problem Fault) (show : Problem → Solution → Shown) (result : Shown) : Type 0 where
-  pub solution : ShowsSolution allowed spans given show result
+pub record ShowsUnfinished (allowed : Allowance) (given : Result Problem Fault) (show : Problem → Solution → Shown) (result : Shown) : Type 0 where
+  pub solution : ShowsSolution allowed given show result
   pub cost : ℕ
   pub bound : ℕ
   pub spent : Spent
@@ -104,25 +104,25 @@ pub record GivesCertified (scale : ℕ) (input : List ℕ) (P : Problem → Want
 
 -- The input gives an instance and legs that are kept, which some plan keeps, and what is shown is what
 -- such a search shows among the plans that keep them.
-pub record ShowsKept (allowed : Allowance) (spans : Bool) (input : List ℕ) (result : Shown) : Type 0 where
+pub record ShowsKept (allowed : Allowance) (input : List ℕ) (result : Shown) : Type 0 where
   pub instance : Problem
   pub kept : Vec Kept Global
   pub solved : Solution
   pub read : kept_in input ≡ Ok (record { instance = instance; kept = kept.items })
   pub shows : result ≡ shown.Replanned instance kept solved
-  pub searched : IsSearched instance (keeping kept.items) allowed spans solved
+  pub searched : IsSearched instance (keeping kept.items) allowed solved
 
 -- What is shown is optimal: no plan that keeps the legs is cheaper, over any denominator.
-pub record ShowsKeptOptimal (allowed : Allowance) (spans : Bool) (input : List ℕ) (result : Shown) : Type 0 where
-  pub solution : ShowsKept allowed spans input result
+pub record ShowsKeptOptimal (allowed : Allowance) (input : List ℕ) (result : Shown) : Type 0 where
+  pub solution : ShowsKept allowed input result
   pub cost : ℕ
   pub answer : solution.solved.certificate.answer ≡ answer.Optimal cost
   pub plans : NoKeptPlanCheaper solution.instance solution.kept.items cost
 
 -- What is shown is unfinished: no plan that keeps the legs costs less than its bound, over any
 -- denominator, and it tells what was spent.
-pub record ShowsKeptUnfinished (allowed : Allowance) (spans : Bool) (input : List ℕ) (result : Shown) : Type 0 where
-  pub solution : ShowsKept allowed spans input result
+pub record ShowsKeptUnfinished (allowed : Allowance) (input : List ℕ) (result : Shown) : Type 0 where
+  pub solution : ShowsKept allowed input result
   pub cost : ℕ
   pub bound : ℕ
   pub spent : Spent
@@ -142,17 +142,17 @@ pub record ShowsStuck (input : List ℕ) (result : Shown) : Type 0 where
 
 -- The input gives an instance with a shipment, of which a plan exists, and what is shown is what its
 -- last shipment adds to the cost, by such a search without it and one with it.
-pub record ShowsExtra (allowed : Allowance) (spans : Bool) (input : List ℕ) (result : Shown) : Type 0 where
+pub record ShowsExtra (allowed : Allowance) (input : List ℕ) (result : Shown) : Type 0 where
   pub instance : Problem
   pub before : Solution
   pub after : Solution
   pub read : quoted_in input ≡ Ok instance
   pub shows : result ≡ shown.Quoted instance before after
-  pub quoted : IsQuoted instance allowed spans before after
+  pub quoted : IsQuoted instance allowed before after
 
 -- Both searches are optimal, and what the shipment adds is exact.
-pub record ShowsExactExtra (allowed : Allowance) (spans : Bool) (input : List ℕ) (result : Shown) : Type 0 where
-  pub extra : ShowsExtra allowed spans input result
+pub record ShowsExactExtra (allowed : Allowance) (input : List ℕ) (result : Shown) : Type 0 where
+  pub extra : ShowsExtra allowed input result
   pub least : ℕ
   pub most : ℕ
   pub without : extra.before.certificate.answer ≡ answer.Optimal least
@@ -160,8 +160,8 @@ pub record ShowsExactExtra (allowed : Allowance) (spans : Bool) (input : List �
   pub exact : IsExtraCost extra.instance (most - least)
 
 -- One of the two searches is unfinished.
-pub record ShowsOpenExtra (allowed : Allowance) (spans : Bool) (input : List ℕ) (result : Shown) : Type 0 where
-  pub extra : ShowsExtra allowed spans input result
+pub record ShowsOpenExtra (allowed : Allowance) (input : List ℕ) (result : Shown) : Type 0 where
+  pub extra : ShowsExtra allowed input result
   pub one_unfinished : IsUnfinished (without_last extra.instance) allowed extra.before ⊎ IsUnfinished extra.instance allowed extra.after
 
 -- The input gives an instance of which no plan exists over any denominator, and what is shown is
@@ -219,29 +219,29 @@ ShowsDone over None input result = ⊥
 ShowsDone over (Some order.Direct) input result = ShowsPlan input result
 ShowsDone over (Some order.Check) input result = MatchBool (has_tail_in input) (ShowsSaidYes input result) (ShowsYes input result)
 ShowsDone over (Some (order.Bound option seconds)) input result = ShowsNumber option input result
-ShowsDone over (Some (order.Plan budget scale spans seconds notes)) input result = ShowsOptimal (within budget over) spans (instance_at scale input) shown.Planned result
+ShowsDone over (Some (order.Plan budget scale spans seconds notes)) input result = ShowsOptimal (within budget over spans) (instance_at scale input) shown.Planned result
 ShowsDone over (Some (order.Improve budget n spans seconds notes)) input result =
-    MatchBool (has_tail_in input) (GivesOfTail (asked.Of n) input (λ p wanted c. IsOptimalImprovement (within budget over) spans p wanted c result)) (GivesCertified n input (λ p wanted c. IsOptimalImprovement (within budget over) spans p wanted c result))
-ShowsDone over (Some (order.Trial seed terminals shipments)) input result = ShowsOptimal trial_allowance false (Ok (generated seed terminals shipments)) (shown.Trial seed None) result
+    MatchBool (has_tail_in input) (GivesOfTail (asked.Of n) input (λ p wanted c. IsOptimalImprovement (within budget over spans) p wanted c result)) (GivesCertified n input (λ p wanted c. IsOptimalImprovement (within budget over spans) p wanted c result))
+ShowsDone over (Some (order.Trial seed terminals shipments)) input result = ShowsOptimal trial_allowance (Ok (generated seed terminals shipments)) (shown.Trial seed None) result
 ShowsDone over (Some (order.Yard seed)) input result =
     MatchBool (has_tail_in input) (GivesOfTail asked.Usual input (λ p wanted c. IsShownRun seed p wanted c result)) (GivesPlan input (λ p wanted c. IsShownRun seed p wanted c result))
 ShowsDone over (Some (order.Fleet trucks)) input result =
     MatchBool (has_tail_in input) (GivesOfTail asked.Usual input (λ p wanted c. IsShownRoster trucks p wanted c result)) (GivesPlan input (λ p wanted c. IsShownRoster trucks p wanted c result))
 ShowsDone over (Some (order.Replan budget spans seconds notes)) input result =
-    MatchBool (tells_day_in input) (ShowsDayOptimal (within budget over) spans input result) (ShowsKeptOptimal (within budget over) spans input result)
-ShowsDone over (Some (order.Quote budget spans seconds notes None)) input result = ShowsExactExtra (within budget over) spans input result
-ShowsDone over (Some (order.Quote budget spans seconds notes (Some name))) input result = ShowsNamedExact (within budget over) spans name input result
+    MatchBool (tells_day_in input) (ShowsDayOptimal (within budget over spans) input result) (ShowsKeptOptimal (within budget over spans) input result)
+ShowsDone over (Some (order.Quote budget spans seconds notes None)) input result = ShowsExactExtra (within budget over spans) input result
+ShowsDone over (Some (order.Quote budget spans seconds notes (Some name))) input result = ShowsNamedExact (within budget over spans) name input result
 
 -- what is shown where an order is unfinished
 abbrev pub ShowsOpen : (over : Bool) → Option Order → List ℕ → Shown → Type 0
-ShowsOpen over (Some (order.Plan budget scale spans seconds notes)) input result = ShowsUnfinished (within budget over) spans (instance_at scale input) shown.Planned result
+ShowsOpen over (Some (order.Plan budget scale spans seconds notes)) input result = ShowsUnfinished (within budget over spans) (instance_at scale input) shown.Planned result
 ShowsOpen over (Some (order.Improve budget n spans seconds notes)) input result =
-    MatchBool (has_tail_in input) (GivesOfTail (asked.Of n) input (λ p wanted c. IsOpenImprovement (within budget over) spans p wanted c result)) (GivesCertified n input (λ p wanted c. IsOpenImprovement (within budget over) spans p wanted c result))
-ShowsOpen over (Some (order.Trial seed terminals shipments)) input result = ShowsUnfinished trial_allowance false (Ok (generated seed terminals shipments)) (shown.Trial seed None) result
+    MatchBool (has_tail_in input) (GivesOfTail (asked.Of n) input (λ p wanted c. IsOpenImprovement (within budget over spans) p wanted c result)) (GivesCertified n input (λ p wanted c. IsOpenImprovement (within budget over spans) p wanted c result))
+ShowsOpen over (Some (order.Trial seed terminals shipments)) input result = ShowsUnfinished trial_allowance (Ok (generated seed terminals shipments)) (shown.Trial seed None) result
 ShowsOpen over (Some (order.Replan budget spans seconds notes)) input result =
-    MatchBool (tells_day_in input) (ShowsDayUnfinished (within budget over) spans input result) (ShowsKeptUnfinished (within budget over) spans input result)
-ShowsOpen over (Some (order.Quote budget spans seconds notes None)) input result = ShowsOpenExtra (within budget over) spans input result
-ShowsOpen over (Some (order.Quote budget spans seconds notes (Some name))) input result = ShowsNamedOpen (within budget over) spans name input result
+    MatchBool (tells_day_in input) (ShowsDayUnfinished (within budget over spans) input result) (ShowsKeptUnfinished (within budget over spans) input result)
+ShowsOpen over (Some (order.Quote budget spans seconds notes None)) input result = ShowsOpenExtra (within budget over spans) input result
+ShowsOpen over (Some (order.Quote budget spans seconds notes (Some name))) input result = ShowsNamedOpen (within budget over spans) name input result
 ShowsOpen over _ input result = ⊥
 
 -- what is shown where no plan exists, or none that keeps the legs
@@ -317,10 +317,10 @@ InputStatus over order.Check input result =
     (λ p. MatchResult (certificate_in p input) (λ c. CheckStatus (scaled p c) c result) (λ f. result ≡ status.BadInput))
     (λ f. result ≡ status.BadInput))
 InputStatus over (order.Bound option seconds) input result = MatchResult (instance_in input) (λ p. PlanStatus p result) (λ f. result ≡ status.BadInput)
-InputStatus over (order.Plan budget scale spans seconds notes) input result = MatchResult (instance_at scale input) (λ p. SearchStatus p every (within budget over) result) (λ f. result ≡ status.BadInput)
+InputStatus over (order.Plan budget scale spans seconds notes) input result = MatchResult (instance_at scale input) (λ p. SearchStatus p every (within budget over spans) result) (λ f. result ≡ status.BadInput)
 InputStatus over (order.Improve budget n spans seconds notes) input result =
-    MatchBool (has_tail_in input) (EndsOfTail (asked.Of n) input result (λ p wanted c. ImproveStatus (within budget over) p wanted c result))
-    (MatchResult (certified_at n input) (λ (x : CertifiedInstance). ImproveStatus (within budget over) x.instance every x.certificate result) (λ f. result ≡ status.BadInput))
+    MatchBool (has_tail_in input) (EndsOfTail (asked.Of n) input result (λ p wanted c. ImproveStatus (within budget over spans) p wanted c result))
+    (MatchResult (certified_at n input) (λ (x : CertifiedInstance). ImproveStatus (within budget over spans) x.instance every x.certificate result) (λ f. result ≡ status.BadInput))
 InputStatus over (order.Trial seed terminals shipments) input result = ⊥
 InputStatus over (order.Yard seed) input result =
     MatchBool (has_tail_in input) (EndsOfTail asked.Usual input result (λ p wanted c. ToldStatus p wanted c result))
@@ -334,10 +334,10 @@ InputStatus over (order.Fleet trucks) input result =
     (λ f. result ≡ status.BadInput))
 InputStatus over (order.Replan budget spans seconds notes) input result =
     MatchBool (tells_day_in input)
-    (MatchResult (day_in input) (λ (x : DayInstance). SearchStatus (left_problem x.instance x.day) (going_on x.instance x.day) (within budget over) result) (λ f. result ≡ status.BadInput))
-    (MatchResult (kept_in input) (λ (x : KeptInstance). SearchStatus x.instance (keeping x.kept) (within budget over) result) (λ f. result ≡ status.BadInput))
-InputStatus over (order.Quote budget spans seconds notes None) input result = MatchResult (quoted_in input) (λ p. QuoteStatus p (within budget over) result) (λ f. result ≡ status.BadInput)
-InputStatus over (order.Quote budget spans seconds notes (Some name)) input result = MatchResult (named_in name input) (λ p. NamedStatus name p (within budget over) result) (λ f. result ≡ status.BadInput)
+    (MatchResult (day_in input) (λ (x : DayInstance). SearchStatus (left_problem x.instance x.day) (going_on x.instance x.day) (within budget over spans) result) (λ f. result ≡ status.BadInput))
+    (MatchResult (kept_in input) (λ (x : KeptInstance). SearchStatus x.instance (keeping x.kept) (within budget over spans) result) (λ f. result ≡ status.BadInput))
+InputStatus over (order.Quote budget spans seconds notes None) input result = MatchResult (quoted_in input) (λ p. QuoteStatus p (within budget over spans) result) (λ f. result ≡ status.BadInput)
+InputStatus over (order.Quote budget spans seconds notes (Some name)) input result = MatchResult (named_in name input) (λ p. NamedStatus name p (within budget over spans) result) (λ f. result ≡ status.BadInput)
 
 -- the one status of an order that reads no input
 abbrev pub AloneStatus : Order → Status → Type 0

@@ -1,5 +1,5 @@
 -- When each status comes of a `replan` of a day that is under way.
-use Rattle.std.specs.Prelude.{◌≡◌, ◌+◌, ℕ, Bool, List, Ok}
+use Rattle.std.specs.Prelude.{◌≡◌, ◌+◌, ℕ, List, Ok}
 use Rattle.fp_model.specs.Problem.{Problem}
 use Rattle.fp_certificate_lines.specs.declared.certificates.Answer.TheVariants as answer
 use Rattle.fp_certificate_lines.specs.declared.certificates.Spent.{Spent}
@@ -17,7 +17,7 @@ use Rattle.fp_app.specs.Wanted.{going_on}
 -- The input gives an instance and a day that is under way, with which some plan goes on, and what is shown
 -- is what is left of it, and what such a search shows of that. With the settled legs its plan is one under
 -- way, which costs as much more as these do (`is_wanted` of the search).
-pub record ShowsUnderway (allowed : Allowance) (spans : Bool) (input : List ℕ) (result : Shown) : Type 0 where
+pub record ShowsUnderway (allowed : Allowance) (input : List ℕ) (result : Shown) : Type 0 where
   pub instance : Problem
   pub day : Day
   pub rest : Rest
@@ -26,19 +26,19 @@ pub record ShowsUnderway (allowed : Allowance) (spans : Bool) (input : List ℕ)
   pub shows : result ≡ shown.Underway instance day rest solved
   pub goes_on : IsOpen instance day
   pub left : IsRest instance day rest
-  pub searched : IsSearched rest.instance (going_on instance day) allowed spans solved
+  pub searched : IsSearched rest.instance (going_on instance day) allowed solved
 
 -- What is shown is optimal: no plan under way is cheaper than it and the settled legs, over any denominator.
-pub record ShowsDayOptimal (allowed : Allowance) (spans : Bool) (input : List ℕ) (result : Shown) : Type 0 where
-  pub solution : ShowsUnderway allowed spans input result
+pub record ShowsDayOptimal (allowed : Allowance) (input : List ℕ) (result : Shown) : Type 0 where
+  pub solution : ShowsUnderway allowed input result
   pub cost : ℕ
   pub answer : solution.solved.certificate.answer ≡ answer.Optimal cost
   pub plans : NoneUnderwayCheaper solution.instance solution.day (sunk_cost solution.instance solution.day + cost)
 
 -- What is shown is unfinished: no plan under way costs less than its bound and the settled legs, over any
 -- denominator, and it tells what was spent.
-pub record ShowsDayUnfinished (allowed : Allowance) (spans : Bool) (input : List ℕ) (result : Shown) : Type 0 where
-  pub solution : ShowsUnderway allowed spans input result
+pub record ShowsDayUnfinished (allowed : Allowance) (input : List ℕ) (result : Shown) : Type 0 where
+  pub solution : ShowsUnderway allowed input result
   pub cost : ℕ
   pub bound : ℕ
   pub spent : Spent

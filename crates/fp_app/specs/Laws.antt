@@ -1,5 +1,5 @@
 -- What one run answers to the text of another.
-use Rattle.std.specs.Prelude.{ℕ, ◌≡◌, ◌⊎◌, Bool, true, false, List, ◌++◌, Ok, Option}
+use Rattle.std.specs.Prelude.{ℕ, ◌≡◌, ◌⊎◌, true, false, List, ◌++◌, Ok, Option}
 use Rattle.fp_model.specs.declared.parts.Leg.{Leg}
 use Rattle.fp_model.specs.Problem.{Problem}
 use Rattle.fp_records.specs.Fields.{records_of}
@@ -23,7 +23,7 @@ use Rattle.fp_app.specs.Wanted.{LooksForAll, Wanted, from_plan, wanted_by}
 -- the longer input is that of an accepted one
 abbrev pub CheckAcceptsPlans : Type 0
 CheckAcceptsPlans =
-    (allowed : Allowance) (wanted : Wanted) (scale : ℕ) (spans : Bool) (input longer : List ℕ) (p : Problem) (s : Solution) → LooksForAll wanted → instance_at scale input ≡ Ok p → IsSearched p wanted allowed spans s →
+    (allowed : Allowance) (wanted : Wanted) (scale : ℕ) (input longer : List ℕ) (p : Problem) (s : Solution) → LooksForAll wanted → instance_at scale input ≡ Ok p → IsSearched p wanted allowed s →
     records_of longer ≡ records_of input ++ records_of (certificate_text p s.certificate) → (result : Status) → InputStatus false Check longer result → result ≡ Done
 
 -- the records of an input tell kept legs of an instance, at least one, or a day of it that is under way
@@ -42,6 +42,6 @@ LooksForTold p duty wanted = (wanted ≡ wanted_by p duty) ⊎ ((plan : List (Li
 -- of `check` for the longer input is that of an accepted one
 abbrev pub CheckAcceptsReplans : Type 0
 CheckAcceptsReplans =
-    (allowed : Allowance) (wanted : Wanted) (scale : Option ℕ) (spans : Bool) (input longer : List ℕ) (p : Problem) (duty : Duty) (s : Solution) → IsTold input p duty → fits scale p ≡ true → LooksForTold (at_scale scale p) duty wanted →
-    IsSearched (ahead_problem (at_scale scale p) duty) wanted allowed spans s → records_of longer ≡ records_of input ++ records_of (certificate_text (ahead_problem (at_scale scale p) duty) s.certificate) →
+    (allowed : Allowance) (wanted : Wanted) (scale : Option ℕ) (input longer : List ℕ) (p : Problem) (duty : Duty) (s : Solution) → IsTold input p duty → fits scale p ≡ true → LooksForTold (at_scale scale p) duty wanted →
+    IsSearched (ahead_problem (at_scale scale p) duty) wanted allowed s → records_of longer ≡ records_of input ++ records_of (certificate_text (ahead_problem (at_scale scale p) duty) s.certificate) →
     (result : Status) → InputStatus false Check longer result → result ≡ Done

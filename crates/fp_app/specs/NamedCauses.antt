@@ -1,5 +1,5 @@
 -- When each status of `quote NAME` comes, by the name and the whole input.
-use Rattle.std.specs.Prelude.{ℕ, ◌-◌, ◌≡◌, ◌⊎◌, Bool, List, Some, Ok}
+use Rattle.std.specs.Prelude.{ℕ, ◌-◌, ◌≡◌, ◌⊎◌, List, Some, Ok}
 use Rattle.fp_model.specs.Plans.{PlanExists}
 use Rattle.fp_model.specs.Problem.{Problem}
 use Rattle.fp_records_fields.specs.NamedParts.{shipment_named}
@@ -21,7 +21,7 @@ use Rattle.fp_app.specs.Wanted.{every}
 
 -- The input gives an instance with a shipment of the name, of which a plan exists, and what is shown is what
 -- that shipment adds to the cost, by a search without it and one with it, which has it as the last one.
-pub record ShowsNamed (allowed : Allowance) (spans : Bool) (name input : List ℕ) (result : Shown) : Type 0 where
+pub record ShowsNamed (allowed : Allowance) (name input : List ℕ) (result : Shown) : Type 0 where
   pub instance : Problem
   pub number : ℕ
   pub before : Solution
@@ -30,11 +30,11 @@ pub record ShowsNamed (allowed : Allowance) (spans : Bool) (name input : List �
   pub read : named_in name input ≡ Ok instance
   pub named : shipment_named instance name ≡ Some number
   pub shows : result ≡ shown.NamedQuote (with_last instance number) before after more
-  pub quoted : IsNamedQuote instance number allowed spans before after more
+  pub quoted : IsNamedQuote instance number allowed before after more
 
 -- Both searches are optimal, and what the shipment adds is exact.
-pub record ShowsNamedExact (allowed : Allowance) (spans : Bool) (name input : List ℕ) (result : Shown) : Type 0 where
-  pub extra : ShowsNamed allowed spans name input result
+pub record ShowsNamedExact (allowed : Allowance) (name input : List ℕ) (result : Shown) : Type 0 where
+  pub extra : ShowsNamed allowed name input result
   pub least : ℕ
   pub most : ℕ
   pub without : extra.before.certificate.answer ≡ answer.Optimal least
@@ -42,8 +42,8 @@ pub record ShowsNamedExact (allowed : Allowance) (spans : Bool) (name input : Li
   pub exact : IsExtraCostOf extra.instance extra.number (most - least)
 
 -- One of the two searches is unfinished.
-pub record ShowsNamedOpen (allowed : Allowance) (spans : Bool) (name input : List ℕ) (result : Shown) : Type 0 where
-  pub extra : ShowsNamed allowed spans name input result
+pub record ShowsNamedOpen (allowed : Allowance) (name input : List ℕ) (result : Shown) : Type 0 where
+  pub extra : ShowsNamed allowed name input result
   pub one_unfinished : IsUnfinished (without_last (with_last extra.instance extra.number)) allowed extra.before ⊎ IsUnfinished (with_last extra.instance extra.number) allowed extra.after
 
 -- the status of `quote` of a named shipment: done or unfinished where a plan exists, and infeasible where

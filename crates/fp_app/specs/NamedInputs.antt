@@ -1,5 +1,5 @@
 -- What an input gives for a name, and the parts of what `quote NAME` shows.
-use Rattle.std.specs.Prelude.{ℕ, ◌≡◌, ◌<◌, Bool, List, length, Some, Ok, Err}
+use Rattle.std.specs.Prelude.{ℕ, ◌≡◌, ◌<◌, List, length, Some, Ok, Err}
 use Rattle.fp_model.specs.Problem.{Problem}
 use Rattle.fp_records_fields.specs.NamedParts.{shipment_named}
 use Rattle.fp_app.specs.declared.commands.named_quotes.NamedInput.{NamedInput}
@@ -25,6 +25,6 @@ IsNamedInput name input (given.Read p k) = (named_in name input ≡ Ok p) × IsN
 IsNamedInput name input (given.Fault ordinal code) = named_in name input ≡ Err (record { ordinal = ordinal; code = code })
 
 -- what is shown is a quote of the last shipment of an instance
-abbrev pub ShowsLastQuote : Allowance → (spans : Bool) → Problem → Shown → Type 0
-ShowsLastQuote allowed spans q (shown.NamedQuote instance before after more) = (instance ≡ q) × IsLastQuote q allowed spans before after more
-ShowsLastQuote allowed spans q _ = ⊥
+abbrev pub ShowsLastQuote : Allowance → Problem → Shown → Type 0
+ShowsLastQuote allowed q (shown.NamedQuote instance before after more) = (instance ≡ q) × IsLastQuote q allowed before after more
+ShowsLastQuote allowed q _ = ⊥

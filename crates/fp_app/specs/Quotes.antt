@@ -1,5 +1,5 @@
 -- What `quote` shows: what the last shipment of an instance adds to the cost.
-use Rattle.std.specs.Prelude.{ℕ, ◌-◌, ◌≡◌, Bool}
+use Rattle.std.specs.Prelude.{ℕ, ◌-◌, ◌≡◌}
 use Rattle.fp_model.specs.Problem.{Problem}
 use Rattle.fp_certificate_lines.specs.declared.certificates.Answer.{Answer}
 use Rattle.fp_certificate_lines.specs.declared.certificates.Answer.TheVariants.{Optimal, Unfinished}
@@ -20,9 +20,9 @@ extra_of before after = record { low = claim_of after - stated_cost before; high
 -- two searches without the last shipment and with it, each with the whole budget and both with the option
 -- of spans or both without it. The extra cost of
 -- the shipment lies between their two figures, and where both answers are optimal it is both of them.
-pub record IsQuoted (p : Problem) (allowed : Allowance) (spans : Bool) (before after : Solution) : Type 0 where
-  pub without : IsSearched (without_last p) every allowed spans before
-  pub with_it : IsSearched p every allowed spans after
+pub record IsQuoted (p : Problem) (allowed : Allowance) (before after : Solution) : Type 0 where
+  pub without : IsSearched (without_last p) every allowed before
+  pub with_it : IsSearched p every allowed after
   pub between : (extra : ℕ) → IsExtraCost p extra → IsBetween (extra_of before.certificate.answer after.certificate.answer) extra
   pub exact : (least most : ℕ) → before.certificate.answer ≡ Optimal least → after.certificate.answer ≡ Optimal most →
       IsExtraCost p (most - least) × (extra_of before.certificate.answer after.certificate.answer ≡ record { low = most - least; high = most - least })

@@ -56,49 +56,49 @@ ShowsBound option p _ = ⊥
 
 -- `plan`: where a plan exists, what a search with the budget shows, with the option of spans or without
 -- it, and otherwise the first shipment that can't be carried in time, with its fastest time.
-abbrev pub ShowsSearch : Allowance → (spans : Bool) → Problem → Shown → Type 0
-ShowsSearch allowed spans p (shown.Planned instance solved) = (instance ≡ p) × IsSearched p every allowed spans solved
-ShowsSearch allowed spans p (shown.Infeasible instance shipment time) = (instance ≡ p) × IsBlocked p shipment time × (PlanExists p → ⊥)
-ShowsSearch allowed spans p _ = ⊥
+abbrev pub ShowsSearch : Allowance → Problem → Shown → Type 0
+ShowsSearch allowed p (shown.Planned instance solved) = (instance ≡ p) × IsSearched p every allowed solved
+ShowsSearch allowed p (shown.Infeasible instance shipment time) = (instance ≡ p) × IsBlocked p shipment time × (PlanExists p → ⊥)
+ShowsSearch allowed p _ = ⊥
 
 -- `trial`: what a search of the drawn instance shows, with a small budget and without spans, and that
 -- its certificate is accepted by the check that `check` makes.
 abbrev pub ShowsTrial : (seed terminals shipments : ℕ) → Shown → Type 0
 ShowsTrial seed terminals shipments (shown.Trial shown_seed None instance solved) =
-    (shown_seed ≡ seed) × (instance ≡ generated seed terminals shipments) × IsSearched (generated seed terminals shipments) every trial_allowance false solved
+    (shown_seed ≡ seed) × (instance ≡ generated seed terminals shipments) × IsSearched (generated seed terminals shipments) every trial_allowance solved
     × IsCheckOutcome (generated seed terminals shipments) solved.certificate None
 ShowsTrial seed terminals shipments _ = ⊥
 
 -- `replan`: where a plan keeps the legs, what a search with the budget among those plans shows, with the
 -- option of spans or without it, and otherwise the first shipment that no legs carry that begin with its
 -- kept legs.
-abbrev pub ShowsReplan : Allowance → (spans : Bool) → KeptInstance → Shown → Type 0
-ShowsReplan allowed spans x (shown.Replanned instance kept solved) =
-    (x ≡ record { instance = instance; kept = kept.items }) × IsSearched instance (keeping kept.items) allowed spans solved
-ShowsReplan allowed spans x (shown.Stuck instance shipment) = (instance ≡ x.instance) × IsStuck x.instance x.kept shipment × (CanBeKept x.instance x.kept → ⊥)
-ShowsReplan allowed spans x _ = ⊥
+abbrev pub ShowsReplan : Allowance → KeptInstance → Shown → Type 0
+ShowsReplan allowed x (shown.Replanned instance kept solved) =
+    (x ≡ record { instance = instance; kept = kept.items }) × IsSearched instance (keeping kept.items) allowed solved
+ShowsReplan allowed x (shown.Stuck instance shipment) = (instance ≡ x.instance) × IsStuck x.instance x.kept shipment × (CanBeKept x.instance x.kept → ⊥)
+ShowsReplan allowed x _ = ⊥
 
 -- `replan` of a day that is under way: where a plan goes on with it, what is left of it, and what a search
 -- with the budget shows of that, with the option of spans or without it; and otherwise the first shipment
 -- that no legs under way carry.
-abbrev pub ShowsDay : Allowance → (spans : Bool) → DayInstance → Shown → Type 0
-ShowsDay allowed spans x (shown.Underway instance day rest solved) =
-    (x ≡ record { instance = instance; day = day }) × IsOpen instance day × IsRest instance day rest × IsSearched rest.instance (going_on instance day) allowed spans solved
-ShowsDay allowed spans x (shown.Stuck instance shipment) = (instance ≡ x.instance) × IsStuckUnderway x.instance x.day shipment × (UnderwayExists x.instance x.day → ⊥)
-ShowsDay allowed spans x _ = ⊥
+abbrev pub ShowsDay : Allowance → DayInstance → Shown → Type 0
+ShowsDay allowed x (shown.Underway instance day rest solved) =
+    (x ≡ record { instance = instance; day = day }) × IsOpen instance day × IsRest instance day rest × IsSearched rest.instance (going_on instance day) allowed solved
+ShowsDay allowed x (shown.Stuck instance shipment) = (instance ≡ x.instance) × IsStuckUnderway x.instance x.day shipment × (UnderwayExists x.instance x.day → ⊥)
+ShowsDay allowed x _ = ⊥
 
 -- the one or the other, by whether the records after the instance tell a day
-abbrev pub ShowsTail : Allowance → (spans : Bool) → List ℕ → Shown → Type 0
-ShowsTail allowed spans input result =
-    MatchBool (tells_day_in input) (OfDay input result (λ x. ShowsDay allowed spans x result)) (OfKept input result (λ x. ShowsReplan allowed spans x result))
+abbrev pub ShowsTail : Allowance → List ℕ → Shown → Type 0
+ShowsTail allowed input result =
+    MatchBool (tells_day_in input) (OfDay input result (λ x. ShowsDay allowed x result)) (OfKept input result (λ x. ShowsReplan allowed x result))
 
 -- `quote`: where a plan exists, what searches without the last shipment and with it show, both with the
 -- option of spans or both without it, and otherwise the first shipment that can't be carried in time,
 -- with its fastest time.
-abbrev pub ShowsQuote : Allowance → (spans : Bool) → Problem → Shown → Type 0
-ShowsQuote allowed spans p (shown.Quoted instance before after) = (instance ≡ p) × IsQuoted p allowed spans before after
-ShowsQuote allowed spans p (shown.Infeasible instance shipment time) = (instance ≡ p) × IsBlocked p shipment time × (PlanExists p → ⊥)
-ShowsQuote allowed spans p _ = ⊥
+abbrev pub ShowsQuote : Allowance → Problem → Shown → Type 0
+ShowsQuote allowed p (shown.Quoted instance before after) = (instance ≡ p) × IsQuoted p allowed before after
+ShowsQuote allowed p (shown.Infeasible instance shipment time) = (instance ≡ p) × IsBlocked p shipment time × (PlanExists p → ⊥)
+ShowsQuote allowed p _ = ⊥
 
 -- `yard`, `fleet` and `improve`: of the plan that a certificate tells of an instance alone, or that an answer tells after
 -- kept legs or a day that is under way.
@@ -110,10 +110,10 @@ abbrev pub ShowsFleetOf : (trucks : Bool) → List ℕ → Shown → Type 0
 ShowsFleetOf trucks input result =
     MatchBool (has_tail_in input) (ShowsOfTail asked.Usual input result (λ p wanted c. ShowsFleet trucks p wanted c result)) (OfCertificate input result (λ p c. ShowsFleet trucks p every c result))
 
-abbrev pub ShowsImproveOf : Allowance → ℕ → (spans : Bool) → List ℕ → Shown → Type 0
-ShowsImproveOf allowed n spans input result =
-    MatchBool (has_tail_in input) (ShowsOfTail (asked.Of n) input result (λ p wanted c. ShowsImprove allowed spans p wanted c result))
-    (OfCertified n input result (λ x. ShowsImprove allowed spans x.instance every x.certificate result))
+abbrev pub ShowsImproveOf : Allowance → ℕ → List ℕ → Shown → Type 0
+ShowsImproveOf allowed n input result =
+    MatchBool (has_tail_in input) (ShowsOfTail (asked.Of n) input result (λ p wanted c. ShowsImprove allowed p wanted c result))
+    (OfCertified n input result (λ x. ShowsImprove allowed x.instance every x.certificate result))
 
 -- The whole input was read and P holds of it, or more than the limit came.
 abbrev pub OfInput : ℕ → Option (List ℕ) → Option (List ℕ) → Shown → (List ℕ → Type 0) → Type 0
@@ -140,14 +140,14 @@ abbrev pub ShowsInput : (over : Bool) → Order → List ℕ → Shown → Type 
 ShowsInput over order.Direct input result = OfInstance input result (λ p. ShowsDirect p result)
 ShowsInput over order.Check input result = ShowsAnswer input result
 ShowsInput over (order.Bound option seconds) input result = OfInstance input result (λ p. ShowsBound option p result)
-ShowsInput over (order.Plan budget scale spans seconds notes) input result = OfScaled scale input result (λ p. ShowsSearch (within budget over) spans p result)
-ShowsInput over (order.Improve budget n spans seconds notes) input result = ShowsImproveOf (within budget over) n spans input result
+ShowsInput over (order.Plan budget scale spans seconds notes) input result = OfScaled scale input result (λ p. ShowsSearch (within budget over spans) p result)
+ShowsInput over (order.Improve budget n spans seconds notes) input result = ShowsImproveOf (within budget over spans) n input result
 ShowsInput over (order.Trial seed terminals shipments) input result = ⊥
 ShowsInput over (order.Yard seed) input result = ShowsYardOf seed input result
 ShowsInput over (order.Fleet trucks) input result = ShowsFleetOf trucks input result
-ShowsInput over (order.Replan budget spans seconds notes) input result = ShowsTail (within budget over) spans input result
-ShowsInput over (order.Quote budget spans seconds notes None) input result = OfQuoted input result (λ p. ShowsQuote (within budget over) spans p result)
-ShowsInput over (order.Quote budget spans seconds notes (Some name)) input result = OfNamed name input result (λ p. ShowsNamedQuote (within budget over) spans name p result)
+ShowsInput over (order.Replan budget spans seconds notes) input result = ShowsTail (within budget over spans) input result
+ShowsInput over (order.Quote budget spans seconds notes None) input result = OfQuoted input result (λ p. ShowsQuote (within budget over spans) p result)
+ShowsInput over (order.Quote budget spans seconds notes (Some name)) input result = OfNamed name input result (λ p. ShowsNamedQuote (within budget over spans) name p result)
 
 -- What an order shows that reads no input.
 abbrev pub ShowsAlone : Order → Shown → Type 0

@@ -21,30 +21,39 @@ use Rattle.fp_certificate_rules.specs.Plans.{HasTimetable, routes_of}
 use Rattle.fp_certificate_rules.specs.Units.{IsGreatestUnit}
 use Rattle.fp_certificate.specs.Readable.{ReadsBack}
 use Rattle.fp_session_history.specs.declared.budgets.Budget.{Budget}
+use Rattle.fp_session_history.specs.Divisions.{truck_slack}
 use Rattle.fp_session_history.specs.Solutions.{IsEarnedSolution, Solution}
 use Rattle.fp_session.specs.Certificates.{IsPricedBy, named_scale}
 use Rattle.fp_app.specs.Bounds.{whole_units}
 use Rattle.fp_app.specs.declared.limits.TheConstants.{CHECK_LIMIT, INSTANCE_LIMIT}
 use Rattle.fp_app.specs.Wanted.{AreWindowsFor, IsFirstPlan, IsWanted, NoneWantedCheaper, Wanted}
 
--- what a search may spend: its budget, and whether its time is known to be over
+-- what a search may spend: its budget, and whether its time is known to be over; and whether it seeks spans
 pub record Allowance : Type 0 where
   pub budget : Budget
   pub over : Bool
+  pub spans : Bool
 
-abbrev pub within : Budget → Bool → Allowance
-within budget over = record { budget = budget; over = over }
+abbrev pub within : Budget → (over spans : Bool) → Allowance
+within budget over spans = record { budget = budget; over = over; spans = spans }
+
+-- how often the leaves of a search can be divided: the slack and, where spans are sought, the slack of trucks
+-- besides, which counts on each arc the trucks of the shipments that each go there alone
+abbrev pub branch_slack : Problem → WindowTable → (spans : Bool) → ℕ
+branch_slack p table false = slack p (windows_in table) []
+branch_slack p table true = slack p (windows_in table) [] + truck_slack p []
 
 -- what a search of the instance can't use up: as many rounds as the terminals times one more than the
--- latest due time, as many branches as 2 to the power of the slack, or a time that is not known to be over
+-- latest due time, as many branches as 2 to the power of how often leaves can be divided, or a time that is
+-- not known to be over
 abbrev pub IsEnough : Problem → Wanted → Allowance → Spent → Type 0
 IsEnough p wanted allowed Rounds = length p.terminals * (horizon p.shipments + 1) ≤ allowed.budget.rounds
-IsEnough p wanted allowed Branches = (table : WindowTable) × AreWindowsFor p wanted table × (2 ^ slack p (windows_in table) [] ≤ allowed.budget.branches)
+IsEnough p wanted allowed Branches = (table : WindowTable) × AreWindowsFor p wanted table × (2 ^ branch_slack p table allowed.spans ≤ allowed.budget.branches)
 IsEnough p wanted allowed Time = allowed.over ≡ false
 
--- what a trial may spend: 40 rounds and 100 branches, in any time
+-- what a trial may spend: 40 rounds and 100 branches, in any time; it seeks no spans
 abbrev pub trial_allowance : Allowance
-trial_allowance = within (record { rounds = 40; branches = 100 }) false
+trial_allowance = within (record { rounds = 40; branches = 100 }) false false
 
 -- A number under which no wanted plan costs, over any denominator. It is below the cost of the plan that is
 -- shown, and at least the flat bound in whole units; what was spent was not enough.
@@ -68,7 +77,7 @@ pub record AreInTime (p : Problem) (points : List AddedPoint) : Type 0 where
   pub few : length points ≤ length p.terminals * horizon p.shipments
 
 -- how the certificate of a search is priced: with the option of spans it names the greatest unit, and
--- without it, it names no unit, has no spans, and values each leaf under all its sides
+-- without it, it names no unit, has no spans and no gifts, and values each leaf under all its sides
 abbrev pub IsPricedAs : Problem → (spans : Bool) → Statement → Type 0
 IsPricedAs p true c = IsSomeAnd c.unit (IsGreatestUnit p)
 IsPricedAs p false c = IsPricedBy None c
@@ -84,7 +93,7 @@ IsShortText p c = INSTANCE_LIMIT + 1 + length (lines_of (rows_of p c)) ≤ CHECK
 -- of spans says.
 -- The search began with the first plan, and has earned what it shows; its points are in time. What its
 -- answer says of the wanted plans is true.
-pub record IsSearched (p : Problem) (wanted : Wanted) (allowed : Allowance) (spans : Bool) (s : Solution) : Type 0 where
+pub record IsSearched (p : Problem) (wanted : Wanted) (allowed : Allowance) (s : Solution) : Type 0 where
   pub table : WindowTable
   pub windows : AreWindowsFor p wanted table
   pub timetable : HasTimetable p (windows_in table) s.certificate
@@ -93,7 +102,7 @@ pub record IsSearched (p : Problem) (wanted : Wanted) (allowed : Allowance) (spa
   pub back : ReadsBack p s.certificate
   pub short : IsShortText p s.certificate
   pub scale : s.certificate.scale ≡ named_scale p.scale
-  pub priced : IsPricedAs p spans s.certificate
+  pub priced : IsPricedAs p allowed.spans s.certificate
   pub first : List (List Leg)
   pub begins : IsFirstPlan p wanted first
   pub earned : IsEarnedSolution p table allowed.budget (cost p first) s

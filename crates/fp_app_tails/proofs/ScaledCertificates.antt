@@ -9,14 +9,15 @@ use Rattle.fp_prices.specs.declared.tables.Weight.{Weight}
 use Rattle.fp_prices.specs.Shares.{ClassShare}
 use Rattle.fp_prices.specs.Tables.{AreCountable}
 use Rattle.fp_prices_spans.specs.Spans.{ClassSpan}
+use Rattle.fp_prices_gifts.specs.declared.gifts.Gift.{Gift}
 use Rattle.fp_timetable.specs.declared.lines.LegLine.{LegLine}
 use Rattle.fp_timetable.specs.declared.lines.TruckLine.{TruckLine}
-use Rattle.fp_tree.specs.declared.sides.Split.TheVariants.{ByArc, ByTime}
+use Rattle.fp_tree.specs.declared.sides.Split.TheVariants.{ByArc, ByTime, ByTrucks, ByWay}
 use Rattle.fp_certificate_lines.specs.declared.certificates.Answer.{Answer}
 use Rattle.fp_certificate_lines.specs.declared.certificates.Answer.TheVariants.{Direct, Infeasible, Optimal, Unfinished}
 use Rattle.fp_certificate_lines.specs.declared.certificates.Node.{Node}
 use Rattle.fp_certificate_lines.specs.declared.certificates.Node.TheVariants.{Branch, Leaf}
-use Rattle.fp_certificate_lines.specs.Ranges.{IsAnswerInRange, IsInRange, IsLegInRange, IsNodeInRange, IsPointInRange, IsScaleInRange, IsShareInRange, IsSpanInRange, IsTruckInRange, IsWeightInRange}
+use Rattle.fp_certificate_lines.specs.Ranges.{IsAnswerInRange, IsGiftInRange, IsInRange, IsLegInRange, IsNodeInRange, IsPointInRange, IsScaleInRange, IsShareInRange, IsSpanInRange, IsTruckInRange, IsTruckSplitInRange, IsWeightInRange}
 use Rattle.fp_certificate_lines.specs.Statements.{Statement}
 use Rattle.fp_app_tails.specs.Verdicts.{CanBeTested}
 
@@ -63,9 +64,17 @@ module _ (p : Problem) (scale : ℕ) where
     groups = is.groups;
   }
 
+  gift-in_range : (g : Gift) → IsGiftInRange p g → IsGiftInRange rescaled g
+  gift-in_range g is = record { arc = is.arc; point = is.point; some = is.some; until = is.until; amount = is.amount }
+
+  split-in_range : (arc point until most : ℕ) → IsTruckSplitInRange p arc point until most → IsTruckSplitInRange rescaled arc point until most
+  split-in_range arc point until most is = record { arc = is.arc; point = is.point; some = is.some; until = is.until; most = is.most }
+
   node-in_range : (tables : List (List ClassShare)) (n : Node) → IsNodeInRange p tables n → IsNodeInRange rescaled tables n
   node-in_range tables (Branch (ByArc shipment arc)) is = is
   node-in_range tables (Branch (ByTime shipment terminal time)) is = is
+  node-in_range tables (Branch (ByTrucks arc point until most)) is = split-in_range arc point until most is
+  node-in_range tables (Branch (ByWay shipment arc)) is = is
   node-in_range tables (Leaf valuation) is = is
 
   all-in_range : (c : Statement) → IsInRange p c → IsInRange rescaled c
@@ -81,6 +90,9 @@ module _ (p : Problem) (scale : ℕ) where
     spans = All-weaker (λ (t : List ClassSpan). All (IsSpanInRange p) t) (λ (t : List ClassSpan). All (IsSpanInRange rescaled) t)
         (λ t are. All-weaker (IsSpanInRange p) (IsSpanInRange rescaled) span-in_range t are) c.spans is.spans;
     beside = is.beside;
+    gifts = All-weaker (λ (t : List Gift). All (IsGiftInRange p) t) (λ (t : List Gift). All (IsGiftInRange rescaled) t)
+        (λ t are. All-weaker (IsGiftInRange p) (IsGiftInRange rescaled) gift-in_range t are) c.gifts is.gifts;
+    given = is.given;
     tree = All-weaker (IsNodeInRange p c.tables) (IsNodeInRange rescaled c.tables) (node-in_range c.tables) c.tree is.tree;
   }
 

@@ -1,10 +1,11 @@
 -- What reading says of a worked certificate and of altered ones.
-use Rattle.std.proofs.Common.{◌≡◌, ℕ, true, List, [], ◌∷◌, ◌++◌, refl}
+use Rattle.std.proofs.Common.{◌≡◌, ℕ, false, true, List, [], ◌∷◌, ◌++◌, refl}
 use Rattle.std.specs.Prelude.{Result, Ok, Err, Some, codes}
 use Rattle.fp_prices.specs.declared.leaf_prices.Kind.TheVariants.{Linear}
 use Rattle.fp_records_fields.specs.Faults.{Fault}
+use Rattle.fp_tree.specs.declared.sides.Split.TheVariants.{ByTrucks}
 use Rattle.fp_certificate.specs.Reading.{certificate_of}
-use Rattle.fp_certificate_lines.specs.declared.certificates.Node.TheVariants.{Leaf}
+use Rattle.fp_certificate_lines.specs.declared.certificates.Node.TheVariants.{Branch, Leaf}
 use Rattle.fp_certificate_lines.specs.Statements.{Statement}
 use Rattle.fp_certificate_lines.proofs.Examples.{answer, best, last, leaf, leg, records, small, truck, whole}
 
@@ -148,6 +149,7 @@ reads-span : read (answer ∷ table ∷ share ∷ weight (codes "3") ∷ span (c
       trucks = [];
       tables = ((record { arc = 0; point = 7; v = 20; weights = (record { shipment = 0; w = 3 }) ∷ [] }) ∷ []) ∷ [];
       spans = ((record { arc = 0; point = 7; until = 9; money = 100; charge = 5; weights = (record { shipment = 0; w = 4 }) ∷ []; groups = [] }) ∷ []) ∷ [];
+      gifts = [] ∷ [];
       tree = [];
     })
 reads-span = refl
@@ -185,6 +187,7 @@ reads-groups : read (answer ∷ table ∷ span (codes "9") (codes "5") ∷ group
       tables = [] ∷ [];
       spans = ((record { arc = 0; point = 7; until = 9; money = 100; charge = 5; weights = []; groups = 8 ∷ [] })
           ∷ (record { arc = 0; point = 7; until = 11; money = 100; charge = 5; weights = (record { shipment = 0; w = 4 }) ∷ []; groups = 8 ∷ 10 ∷ [] }) ∷ []) ∷ [];
+      gifts = [] ∷ [];
       tree = [];
     })
 reads-groups = refl
@@ -206,6 +209,90 @@ group-of-share = refl
 
 group-of-table : read (answer ∷ table ∷ span (codes "9") (codes "5") ∷ (codes "table" ∷ codes "2" ∷ []) ∷ group (codes "8") ∷ []) ≡ bad 9 24
 group-of-table = refl
+
+abbrev gift : List ℕ → List ℕ → List ℕ → List (List ℕ)
+gift until side amount = codes "gift" ∷ codes "A" ∷ codes "B" ∷ codes "0" ∷ until ∷ side ∷ amount ∷ []
+
+-- gifts are those of their table, after its spans
+reads-gifts : read (answer ∷ table ∷ span (codes "9") (codes "5") ∷ weight (codes "4") ∷ group (codes "8") ∷ gift (codes "11") (codes "least") (codes "60") ∷ gift (codes "8") (codes "most") (codes "7")
+    ∷ (codes "table" ∷ codes "2" ∷ []) ∷ gift (codes "100001") (codes "most") (codes "170141183460469231731687303715884105727") ∷ last ∷ [])
+    ≡ Ok (record best {
+      legs = [];
+      trucks = [];
+      tables = [] ∷ ([] ∷ []);
+      spans = ((record { arc = 0; point = 7; until = 9; money = 100; charge = 5; weights = (record { shipment = 0; w = 4 }) ∷ []; groups = 8 ∷ [] }) ∷ []) ∷ ([] ∷ []);
+      gifts = ((record { arc = 0; point = 0; until = 11; least = true; amount = 60 }) ∷ (record { arc = 0; point = 0; until = 8; least = false; amount = 7 }) ∷ [])
+          ∷ (((record { arc = 0; point = 0; until = 100001; least = false; amount = 170141183460469231731687303715884105727 }) ∷ []) ∷ []);
+      tree = [];
+    })
+reads-gifts = refl
+
+abbrev given : List (List ℕ)
+given = gift (codes "11") (codes "least") (codes "60")
+
+-- a gift stands in a table, and no other line of the table after it
+gift-alone : read (answer ∷ given ∷ []) ≡ bad 6 24
+gift-alone = refl
+
+gift-late : read (answer ∷ table ∷ leaf (codes "linear") (codes "forced") ∷ given ∷ []) ≡ bad 8 24
+gift-late = refl
+
+share-after-gift : read (answer ∷ table ∷ given ∷ share ∷ []) ≡ bad 8 24
+share-after-gift = refl
+
+span-after-gift : read (answer ∷ table ∷ given ∷ span (codes "9") (codes "5") ∷ []) ≡ bad 8 24
+span-after-gift = refl
+
+weight-after-gift : read (answer ∷ table ∷ share ∷ given ∷ weight (codes "1") ∷ []) ≡ bad 9 24
+weight-after-gift = refl
+
+span-weight-after-gift : read (answer ∷ table ∷ span (codes "9") (codes "5") ∷ given ∷ weight (codes "1") ∷ []) ≡ bad 9 24
+span-weight-after-gift = refl
+
+group-after-gift : read (answer ∷ table ∷ span (codes "9") (codes "5") ∷ given ∷ group (codes "8") ∷ []) ≡ bad 9 24
+group-after-gift = refl
+
+-- its side is one of two words
+gift-side : read (answer ∷ table ∷ gift (codes "11") (codes "both") (codes "60") ∷ []) ≡ bad 7 23
+gift-side = refl
+
+-- it ends after its point, and at most at 100,001
+gift-empty : read (answer ∷ table ∷ gift (codes "0") (codes "least") (codes "60") ∷ []) ≡ bad 7 28
+gift-empty = refl
+
+gift-past : read (answer ∷ table ∷ gift (codes "100002") (codes "least") (codes "60") ∷ []) ≡ bad 7 28
+gift-past = refl
+
+gift-above : read (answer ∷ table ∷ gift (codes "11") (codes "least") (codes "170141183460469231731687303715884105728") ∷ []) ≡ bad 7 28
+gift-above = refl
+
+gift-fields : read (answer ∷ table ∷ (codes "gift" ∷ codes "A" ∷ codes "B" ∷ codes "0" ∷ codes "11" ∷ codes "least" ∷ []) ∷ []) ≡ bad 7 22
+gift-fields = refl
+
+gift-ends : read (answer ∷ table ∷ (codes "gift" ∷ codes "B" ∷ codes "A" ∷ codes "0" ∷ codes "11" ∷ codes "least" ∷ codes "60" ∷ []) ∷ []) ≡ bad 7 25
+gift-ends = refl
+
+abbrev by_trucks : List ℕ → List ℕ → List (List ℕ)
+by_trucks until most = codes "split" ∷ codes "trucks" ∷ codes "A" ∷ codes "B" ∷ codes "3" ∷ until ∷ most ∷ []
+
+-- a split by trucks, of the trucks that leave by an arc in a run of times
+reads-by-trucks : read (records answer (leg (codes "0")) truck (by_trucks (codes "9") (codes "4294967295"))) ≡ Ok (record best { tree = Branch (ByTrucks 0 3 9 4294967295) ∷ [] })
+reads-by-trucks = refl
+
+by-trucks-above : read (answer ∷ by_trucks (codes "9") (codes "4294967296") ∷ []) ≡ bad 6 28
+by-trucks-above = refl
+
+by-trucks-empty : read (answer ∷ by_trucks (codes "3") (codes "1") ∷ []) ≡ bad 6 28
+by-trucks-empty = refl
+
+by-trucks-past : read (answer ∷ by_trucks (codes "100002") (codes "1") ∷ []) ≡ bad 6 28
+by-trucks-past = refl
+
+by-trucks-number : read (answer ∷ by_trucks (codes "9") (codes "x") ∷ []) ≡ bad 6 23
+by-trucks-number = refl
+
+by-truck : read (answer ∷ (codes "split" ∷ codes "truck" ∷ codes "A" ∷ codes "B" ∷ codes "3" ∷ codes "9" ∷ codes "1" ∷ []) ∷ []) ≡ bad 6 21
+by-truck = refl
 
 -- a leaf that is valued under its first sides alone
 abbrev sides : List ℕ → List (List ℕ)

@@ -1,6 +1,8 @@
+mod AnswersBack
 mod LastElements
 mod LineRanges
 mod LinesBack
+mod LinesOn
 mod ListsBack
 pub mod NamesBack
 pub mod NumbersBack

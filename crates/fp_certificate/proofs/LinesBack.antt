@@ -1,9 +1,9 @@
 -- Each written line has no fault where it can stand, and gives what it was written for.
-use Rattle.std.proofs.Common.{◌≡◌, ℕ, ◌+◌, ◌^◌, ◌<◌, ◌≤◌, Bool, true, false, List, [], length, refl, arith}
-use Rattle.std.specs.Prelude.{Option, Some, None, ◌||◌, codes, IfSome, if◌then◌else◌, is_some}
+use Rattle.std.proofs.Common.{◌≡◌, ℕ, ◌+◌, ◌^◌, ◌<◌, Bool, true, false, List, [], length, refl, arith}
+use Rattle.std.specs.Prelude.{Option, Some, None, ◌||◌, codes, if◌then◌else◌, is_some}
 use Rattle.std.specs.Str.{bytes_eq}
 use Rattle.std.proofs.lemmas.Bool.{eq-eqb, lt-ltb}
-use Rattle.fp_model.specs.declared.limits.TheConstants.{GREATEST_SCALE, LAST_ROUND, LATEST, LONGEST_FASTEST}
+use Rattle.fp_model.specs.declared.limits.TheConstants.{GREATEST_SCALE, LAST_ROUND, LATEST}
 use Rattle.fp_model.specs.Problem.{IsValid, Problem, weight_at}
 use Rattle.fp_prices.specs.declared.leaf_prices.Kind.{Kind}
 use Rattle.fp_prices.specs.declared.leaf_prices.Kind.TheVariants as price
@@ -11,6 +11,7 @@ use Rattle.fp_prices.specs.declared.leaf_prices.LeafPrice.{LeafPrice}
 use Rattle.fp_prices.specs.declared.tables.Weight.{Weight}
 use Rattle.fp_prices.specs.Shares.{ClassShare}
 use Rattle.fp_prices.specs.Tables.{HasKind}
+use Rattle.fp_prices_gifts.specs.declared.gifts.Gift.{Gift}
 use Rattle.fp_prices_spans.specs.Spans.{ClassSpan}
 use Rattle.fp_records_fields.specs.Fields.{is_number, is_within, number}
 use Rattle.fp_records.specs.Fields.{is_empty}
@@ -20,22 +21,19 @@ use Rattle.fp_timetable.specs.declared.lines.TruckLine.{TruckLine}
 use Rattle.fp_tree.specs.declared.layout.TheConstants.{MOST_SPLITS}
 use Rattle.fp_tree.specs.declared.sides.Split.{Split}
 use Rattle.fp_tree.specs.declared.sides.Split.TheVariants as split
-use Rattle.fp_certificate_lines.specs.declared.certificates.Answer.{Answer}
-use Rattle.fp_certificate_lines.specs.declared.certificates.Answer.TheVariants as answer
 use Rattle.fp_certificate_lines.specs.declared.certificates.Node.{Node}
 use Rattle.fp_certificate_lines.specs.declared.certificates.Node.TheVariants as node
-use Rattle.fp_certificate_lines.specs.declared.certificates.Spent.{Spent}
-use Rattle.fp_certificate_lines.specs.declared.certificates.Spent.TheVariants as spent
 use Rattle.fp_certificate_lines.specs.declared.certificates.Valuation.{Valuation}
 use Rattle.fp_certificate.specs.declared.drafts.Draft.{Draft}
 use Rattle.fp_certificate.specs.declared.lines.sections.Section.TheVariants as section
-use Rattle.fp_certificate.specs.Answers.{with_answer, with_scale, with_unit}
+use Rattle.fp_certificate.specs.Answers.{with_scale, with_unit}
+use Rattle.fp_certificate.specs.Gifts.{with_gift}
 use Rattle.fp_certificate.specs.Sections.{has_ended, is_misplaced}
 use Rattle.fp_certificate.specs.Points.{with_point}
-use Rattle.fp_certificate_lines.specs.Ranges.{IsAnswerInRange, IsGroupInRange, IsLeafInRange, IsLegInRange, IsNodeInRange, IsPointInRange, IsScaleInRange, IsShareInRange, IsSpanInRange, IsSplitInRange, IsTruckInRange, IsUnitInRange, IsWeightInRange, largest_figure}
-use Rattle.fp_certificate.specs.Reading.{line_code, nothing_read, with_line}
-use Rattle.fp_certificate_lines.specs.Rows.{answer_fields, end_fields, group_fields, kind_text, leaf_fields, leg_fields, mode_text, node_fields, point_fields, scale_fields, share_fields, span_fields, split_fields, table_fields, truck_fields, unit_fields, weight_fields}
-use Rattle.fp_certificate.specs.Tables.{and_last_share_weight, and_last_span_weight, has_group, has_span, lacks_share, with_group, with_lists, with_share, with_span, with_table}
+use Rattle.fp_certificate_lines.specs.Ranges.{IsGiftInRange, IsGroupInRange, IsLeafInRange, IsLegInRange, IsNodeInRange, IsPointInRange, IsScaleInRange, IsShareInRange, IsSpanInRange, IsSplitInRange, IsTruckInRange, IsUnitInRange, IsWeightInRange, largest_count, largest_figure}
+use Rattle.fp_certificate.specs.Reading.{line_code, with_line}
+use Rattle.fp_certificate_lines.specs.Rows.{end_fields, gift_fields, group_fields, kind_text, leaf_fields, leg_fields, mode_text, node_fields, point_fields, scale_fields, share_fields, side_text, span_fields, split_fields, table_fields, truck_fields, unit_fields, weight_fields}
+use Rattle.fp_certificate.specs.Tables.{and_last_share_weight, and_last_span_weight, has_gift, has_group, has_span, lacks_share, with_group, with_lists, with_share, with_span, with_table}
 use Rattle.fp_certificate.specs.Timetables.{with_leg, with_truck}
 use Rattle.fp_certificate.specs.Trees.{with_end, with_node}
 use Rattle.fp_certificate.proofs.NamesBack.{arc-back, shipment-back, terminal-back}
@@ -131,11 +129,11 @@ table-step p before id next small open_still placed =
       gives = refl;
     }
 
--- a share, without its weights, in a table that has no span yet
+-- a share, without its weights, in a table that has no span and no gift yet
 pub share-step : (p : Problem) (before : Draft) (s : ClassShare) → IsValid p → IsShareInRange p s → has_ended before ≡ false
-    → is_misplaced before section.Tables ≡ false → is_empty before.certificate.tables ≡ false → has_span before.certificate.spans ≡ false
+    → is_misplaced before section.Tables ≡ false → is_empty before.certificate.tables ≡ false → has_span before.certificate.spans ≡ false → has_gift before.certificate.gifts ≡ false
     → IsStep p before (share_fields p s) (with_share before (record s { weights = [] }))
-share-step p before s v r open_still placed some bare =
+share-step p before s v r open_still placed some bare ungiven =
     let arc = arc-back p s.arc v r.arc in
     let point = time-back s.point r.point in
     let v-back = large-back s.v r.price in
@@ -146,6 +144,7 @@ share-step p before s v r open_still placed some bare =
             placed,
             some,
             bare,
+            ungiven,
             point.is,
             v-back.is,
             arc,
@@ -155,11 +154,11 @@ share-step p before s v r open_still placed some bare =
       gives = rw (arc, point.value, v-back.value) refl;
     }
 
--- a span, without its weights and groups
+-- a span, without its weights and groups, in a table that has no gift yet
 pub span-step : (p : Problem) (before : Draft) (s : ClassSpan) → IsValid p → IsSpanInRange p s → has_ended before ≡ false
-    → is_misplaced before section.Tables ≡ false → is_empty before.certificate.spans ≡ false
+    → is_misplaced before section.Tables ≡ false → is_empty before.certificate.spans ≡ false → has_gift before.certificate.gifts ≡ false
     → IsStep p before (span_fields p s) (with_span before (record s { weights = []; groups = [] }))
-span-step p before s v r open_still placed some =
+span-step p before s v r open_still placed some ungiven =
     let arc = arc-back p s.arc v r.arc in
     let point = time-back s.point r.point in
     let until = number-back s.until (omega (arith, r.until)) in
@@ -171,6 +170,7 @@ span-step p before s v r open_still placed some =
             open_still,
             placed,
             some,
+            ungiven,
             point.is,
             until.is,
             money.is,
@@ -185,39 +185,75 @@ span-step p before s v r open_still placed some =
       gives = rw (arc, point.value, until.value, money.value, charge.value) refl;
     }
 
--- a weight in the last share of a table that has no span
+-- a weight in the last share of a table that has no span and no gift
 pub weight-step : (p : Problem) (before : Draft) (w : Weight) → IsValid p → IsWeightInRange p w → has_ended before ≡ false
-    → is_misplaced before section.Tables ≡ false → lacks_share before.certificate.tables ≡ false → has_span before.certificate.spans ≡ false
+    → is_misplaced before section.Tables ≡ false → lacks_share before.certificate.tables ≡ false → has_span before.certificate.spans ≡ false → has_gift before.certificate.gifts ≡ false
     → IsStep p before (weight_fields p w) (with_lists before (and_last_share_weight w before.certificate.tables) before.certificate.spans)
-weight-step p before w v r open_still placed some bare =
+weight-step p before w v r open_still placed some bare ungiven =
     let shipment = shipment-back p w.shipment v r.shipment in
     let back = large-back w.w r.small in
     record {
-      clean = rw (open_still, placed, bare, some, back.is, shipment, within-back 0 largest_figure w.w (omega arith) r.small back) refl;
+      clean = rw (open_still, placed, ungiven, bare, some, back.is, shipment, within-back 0 largest_figure w.w (omega arith) r.small back) refl;
       gives = rw (bare, shipment, back.value) refl;
     }
 
--- a weight in the last span of a table, which has no group yet
+-- a weight in the last span of a table, which has no group yet, where the table has no gift
 pub span-weight-step : (p : Problem) (before : Draft) (w : Weight) → IsValid p → IsWeightInRange p w → has_ended before ≡ false
-    → is_misplaced before section.Tables ≡ false → has_span before.certificate.spans ≡ true → has_group before.certificate.spans ≡ false
+    → is_misplaced before section.Tables ≡ false → has_span before.certificate.spans ≡ true → has_group before.certificate.spans ≡ false → has_gift before.certificate.gifts ≡ false
     → IsStep p before (weight_fields p w) (with_lists before before.certificate.tables (and_last_span_weight w before.certificate.spans))
-span-weight-step p before w v r open_still placed some weighing =
+span-weight-step p before w v r open_still placed some weighing ungiven =
     let shipment = shipment-back p w.shipment v r.shipment in
     let back = large-back w.w r.small in
     record {
-      clean = rw (open_still, placed, some, weighing, back.is, shipment, within-back 0 largest_figure w.w (omega arith) r.small back) refl;
+      clean = rw (open_still, placed, ungiven, some, weighing, back.is, shipment, within-back 0 largest_figure w.w (omega arith) r.small back) refl;
       gives = rw (some, shipment, back.value) refl;
     }
 
--- a group of the last span of a table
+-- a group of the last span of a table that has no gift
 pub group-step : (p : Problem) (before : Draft) (m : ℕ) → IsGroupInRange m → has_ended before ≡ false
-    → is_misplaced before section.Tables ≡ false → has_span before.certificate.spans ≡ true
+    → is_misplaced before section.Tables ≡ false → has_span before.certificate.spans ≡ true → has_gift before.certificate.gifts ≡ false
     → IsStep p before (group_fields m) (with_group before m)
-group-step p before m r open_still placed some =
+group-step p before m r open_still placed some ungiven =
     let back = time-back m r in
     record {
-      clean = rw (open_still, placed, some, back.is, within-back 0 LATEST m (omega arith) r back) refl;
+      clean = rw (open_still, placed, some, ungiven, back.is, within-back 0 LATEST m (omega arith) r back) refl;
       gives = rw back.value refl;
+    }
+
+-- the side of a gift is a word, and the word tells it
+side-is : (least : Bool) → (bytes_eq (side_text least) (codes "least") || bytes_eq (side_text least) (codes "most")) ≡ true
+side-is true = refl
+side-is false = refl
+
+side-same : (least : Bool) → bytes_eq (side_text least) (codes "least") ≡ least
+side-same true = refl
+side-same false = refl
+
+-- a gift
+pub gift-step : (p : Problem) (before : Draft) (g : Gift) → IsValid p → IsGiftInRange p g → has_ended before ≡ false
+    → is_misplaced before section.Tables ≡ false → is_empty before.certificate.gifts ≡ false → IsStep p before (gift_fields p g) (with_gift before g)
+gift-step p before g v r open_still placed some =
+    let arc = arc-back p g.arc v r.arc in
+    let point = time-back g.point r.point in
+    let until = number-back g.until (omega (arith, r.until)) in
+    let amount = large-back g.amount r.amount in
+    record {
+      clean =
+          rw (
+            open_still,
+            placed,
+            some,
+            point.is,
+            until.is,
+            side-is g.least,
+            amount.is,
+            arc,
+            within-back 0 LATEST g.point (omega arith) r.point point,
+            point.value,
+            within-back (g.point + 1) (LATEST + 1) g.until (omega (arith, r.some)) r.until until,
+            within-back 0 largest_figure g.amount (omega arith) r.amount amount,
+          ) refl;
+      gives = rw (arc, point.value, until.value, side-same g.least, amount.value) refl;
     }
 
 -- a split
@@ -235,6 +271,31 @@ split-step p before (split.ByTime shipment terminal at) v r open_still placed =
       clean = rw (open_still, placed, back.is, shipment-is, terminal-is, within-back 0 LATEST at (omega arith) r.2 back) refl;
       gives = rw (shipment-is, terminal-is, back.value) refl;
     }
+split-step p before (split.ByTrucks arc point until most) v r open_still placed =
+    let arc-is = arc-back p arc v r.arc in
+    let first = time-back point r.point in
+    let past = number-back until (omega (arith, r.until)) in
+    let count = number-back most (omega (arith, r.most)) in
+    record {
+      clean =
+          rw (
+            open_still,
+            placed,
+            first.is,
+            past.is,
+            count.is,
+            arc-is,
+            within-back 0 LATEST point (omega arith) r.point first,
+            first.value,
+            within-back (point + 1) (LATEST + 1) until (omega (arith, r.some)) r.until past,
+            within-back 0 largest_count most (omega arith) r.most count,
+          ) refl;
+      gives = rw (arc-is, first.value, past.value, count.value) refl;
+    }
+split-step p before (split.ByWay shipment arc) v r open_still placed =
+    let shipment-is = shipment-back p shipment v r.0 in
+    let arc-is = arc-back p arc v r.1 in
+    record { clean = rw (open_still, placed, shipment-is, arc-is) refl; gives = rw (shipment-is, arc-is) refl }
 
 -- the kind of a leaf's prices as it is read
 abbrev kind_read : List ℕ → Kind
@@ -313,52 +374,3 @@ node-step p before (node.Leaf l) v few r open_still placed = leaf-step p before 
 -- the end
 pub end-step : (p : Problem) (before : Draft) → has_ended before ≡ false → is_misplaced before section.End ≡ false → IsStep p before end_fields (with_end before)
 end-step p before open_still placed = record { clean = rw (open_still, placed) refl; gives = refl }
-
--- the answer, which stands first
-unfinished-step : (p : Problem) (cost bound : ℕ) (s : Spent) → cost ≤ largest_figure → bound ≤ largest_figure
-    → IsStep p nothing_read (answer_fields p (answer.Unfinished cost bound s)) (with_answer nothing_read (answer.Unfinished cost bound s))
-unfinished-step p cost bound spent.Rounds costs bounds =
-    let cost-is = large-back cost costs in
-    let bound-is = large-back bound bounds in
-    record {
-      clean = rw (cost-is.is, bound-is.is, within-back 0 largest_figure cost (omega arith) costs cost-is, within-back 0 largest_figure bound (omega arith) bounds bound-is) refl;
-      gives = rw (cost-is.value, bound-is.value) refl;
-    }
-unfinished-step p cost bound spent.Branches costs bounds =
-    let cost-is = large-back cost costs in
-    let bound-is = large-back bound bounds in
-    record {
-      clean = rw (cost-is.is, bound-is.is, within-back 0 largest_figure cost (omega arith) costs cost-is, within-back 0 largest_figure bound (omega arith) bounds bound-is) refl;
-      gives = rw (cost-is.value, bound-is.value) refl;
-    }
-unfinished-step p cost bound spent.Time costs bounds =
-    let cost-is = large-back cost costs in
-    let bound-is = large-back bound bounds in
-    record {
-      clean = rw (cost-is.is, bound-is.is, within-back 0 largest_figure cost (omega arith) costs cost-is, within-back 0 largest_figure bound (omega arith) bounds bound-is) refl;
-      gives = rw (cost-is.value, bound-is.value) refl;
-    }
-
-infeasible-step : (p : Problem) (shipment : ℕ) (time : Option ℕ) → IsValid p → shipment < length p.shipments → IfSome time (λ t. t ≤ LONGEST_FASTEST)
-    → IsStep p nothing_read (answer_fields p (answer.Infeasible shipment time)) (with_answer nothing_read (answer.Infeasible shipment time))
-infeasible-step p shipment None v there fast =
-    let shipment-is = shipment-back p shipment v there in
-    record { clean = rw shipment-is refl; gives = rw shipment-is refl }
-infeasible-step p shipment (Some time) v there fast =
-    let shipment-is = shipment-back p shipment v there in
-    let back = number-back time (omega (arith, fast)) in
-    let some = no-word time (codes "none") back refl in
-    record {
-      clean = rw (some, back.is, shipment-is, within-back 0 LONGEST_FASTEST time (omega arith) fast back) refl;
-      gives = rw (shipment-is, some, back.value) refl;
-    }
-
-pub answer-step : (p : Problem) (a : Answer) → IsValid p → IsAnswerInRange p a → IsStep p nothing_read (answer_fields p a) (with_answer nothing_read a)
-answer-step p (answer.Direct cost) v r =
-    let back = large-back cost r in
-    record { clean = rw (back.is, within-back 0 largest_figure cost (omega arith) r back) refl; gives = rw back.value refl }
-answer-step p (answer.Optimal cost) v r =
-    let back = large-back cost r in
-    record { clean = rw (back.is, within-back 0 largest_figure cost (omega arith) r back) refl; gives = rw back.value refl }
-answer-step p (answer.Unfinished cost bound s) v r = unfinished-step p cost bound s r.0 r.1
-answer-step p (answer.Infeasible shipment time) v r = infeasible-step p shipment time v r.0 r.1

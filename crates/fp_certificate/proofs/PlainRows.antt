@@ -1,6 +1,6 @@
 -- The written lines have plain fields alone.
 use Rattle.std.proofs.Common.{◌≡◌, ◌∙◌, ℕ, ◌+◌, ◌^◌, ◌-◌, ◌<◌, ◌≤◌, Bool, true, false, leb, List, [], ◌∷◌, ◌++◌, length, map, refl, arith}
-use Rattle.std.specs.Prelude.{Option, Some, None, All, ◌&&◌, ◌==◌, not, IfSome}
+use Rattle.std.specs.Prelude.{Option, Some, None, All, ◌&&◌, ◌==◌, not, IfSome, slice_index_or}
 use Rattle.std.specs.List.{AllByRecursion, flat_map, list_all}
 use Rattle.std.proofs.lemmas.Bool.{and_from, and_parts, ne_eqb}
 use Rattle.std.proofs.lemmas.List.Elements.{All-head, All-nil, All-tail, recursion_from_All}
@@ -15,6 +15,8 @@ use Rattle.fp_prices.specs.declared.leaf_prices.LeafPrice.{LeafPrice}
 use Rattle.fp_prices.specs.declared.tables.Weight.{Weight}
 use Rattle.fp_prices.specs.Shares.{ClassShare}
 use Rattle.fp_prices.specs.Tables.{HasKind}
+use Rattle.fp_prices_gifts.specs.declared.gifts.Gift.{Gift}
+use Rattle.fp_prices_gifts.specs.GiftKinds.{gifts_of_table}
 use Rattle.fp_prices_spans.specs.SpanKinds.{spans_of_table}
 use Rattle.fp_prices_spans.specs.Spans.{ClassSpan}
 use Rattle.fp_records_fields.proofs.NameForm.{name-test}
@@ -31,8 +33,8 @@ use Rattle.fp_certificate_lines.specs.declared.certificates.Answer.TheVariants a
 use Rattle.fp_certificate_lines.specs.declared.certificates.Node.{Node}
 use Rattle.fp_certificate_lines.specs.declared.certificates.Node.TheVariants as node
 use Rattle.fp_certificate_lines.specs.declared.certificates.Spent.TheVariants as spent
-use Rattle.fp_certificate_lines.specs.Ranges.{HaveNames, IsAnswerInRange, IsGroupInRange, IsInRange, IsLegInRange, IsNodeInRange, IsPointInRange, IsScaleInRange, IsShareInRange, IsSpanInRange, IsTruckInRange, IsUnitInRange, IsWeightInRange}
-use Rattle.fp_certificate_lines.specs.Rows.{answer_fields, group_fields, head_name, kind_text, leg_fields, mode_text, leaf_fields, node_fields, point_fields, rows_of, scale_rows, share_fields, share_rows, shipment_name, span_fields, span_rows, table_fields, table_rows, tables_rows, tail_name, terminal_name, truck_fields, unit_rows, weight_fields}
+use Rattle.fp_certificate_lines.specs.Ranges.{HaveNames, IsAnswerInRange, IsGiftInRange, IsGroupInRange, IsInRange, IsLegInRange, IsNodeInRange, IsPointInRange, IsScaleInRange, IsShareInRange, IsSpanInRange, IsTruckInRange, IsUnitInRange, IsWeightInRange}
+use Rattle.fp_certificate_lines.specs.Rows.{answer_fields, beside_rows, gift_fields, group_fields, head_name, kind_text, leg_fields, mode_text, leaf_fields, node_fields, point_fields, rows_of, scale_rows, share_fields, share_rows, shipment_name, side_text, span_fields, span_rows, table_fields, table_rows, tables_rows, tail_name, terminal_name, truck_fields, unit_rows, weight_fields}
 use Rattle.fp_certificate_lines.specs.Statements.{Statement}
 use Rattle.fp_model.proofs.Validity.{IsArc-valid}
 use Rattle.fp_certificate.proofs.NumbersBack.{large-back, number-back, time-back}
@@ -174,23 +176,45 @@ spans-plain p (s ∷ spans) v named all =
     both-plain (span_rows p s) (flat_map (span_rows p) spans) (span-plain p s v named (All-head (IsSpanInRange p) s spans all))
     (spans-plain p spans v named (All-tail (IsSpanInRange p) s spans all))
 
--- the spans beside the table with a number are in range, also where there is no list for it
-beside-range : (p : Problem) (spans : List (List ClassSpan)) (id : ℕ) → All (All (IsSpanInRange p)) spans → All (IsSpanInRange p) (spans_of_table spans id)
-beside-range p spans id all =
-    AllByRecursion-get_or_default (All (IsSpanInRange p)) spans (id - 1) [] (recursion_from_All (All (IsSpanInRange p)) spans all) (All-nil (IsSpanInRange p))
+side-plain : (least : Bool) → is_plain_field (side_text least) ≡ true
+side-plain true = refl
+side-plain false = refl
 
-tables-plain : (p : Problem) (spans : List (List ClassSpan)) (id : ℕ) (tables : List (List ClassShare)) → IsValid p → HaveNames p → id + length tables < 10 ^ 64
-    → All (All (IsShareInRange p)) tables → All (All (IsSpanInRange p)) spans → list_all is_plain_record (tables_rows p spans id tables) ≡ true
-tables-plain p spans id [] v named few all beside = refl
-tables-plain p spans id (table ∷ tables) v named few all beside =
+gift-plain : (p : Problem) (g : Gift) → IsValid p → IsGiftInRange p g → is_plain_record (gift_fields p g) ≡ true
+gift-plain p g v r =
+    rw (
+      tail-plain p g.arc v r.arc,
+      head-plain p g.arc v r.arc,
+      (time-back g.point r.point).plain,
+      (number-back g.until (omega (arith, r.until))).plain,
+      side-plain g.least,
+      (large-back g.amount r.amount).plain,
+    ) refl
+
+besides-plain : (p : Problem) (spans : List ClassSpan) (gifts : List Gift) → IsValid p → HaveNames p → All (IsSpanInRange p) spans → All (IsGiftInRange p) gifts
+    → list_all is_plain_record (beside_rows p spans gifts) ≡ true
+besides-plain p spans gifts v named held given =
+    both-plain (flat_map (span_rows p) spans) (map (gift_fields p) gifts) (spans-plain p spans v named held)
+    (each-plain (gift_fields p) (IsGiftInRange p) (λ g. gift-plain p g v) gifts (recursion_from_All (IsGiftInRange p) gifts given))
+
+-- what stands beside the table with a number is in range, also where there is no list for it
+beside-range : {X : Type 0} (P : X → Type 0) (lists : List (List X)) (id : ℕ) → All (All P) lists → All P (slice_index_or lists (id - 1) [])
+beside-range P lists id all = AllByRecursion-get_or_default (All P) lists (id - 1) [] (recursion_from_All (All P) lists all) (All-nil P)
+
+tables-plain : (p : Problem) (spans : List (List ClassSpan)) (gifts : List (List Gift)) (id : ℕ) (tables : List (List ClassShare)) → IsValid p → HaveNames p → id + length tables < 10 ^ 64
+    → All (All (IsShareInRange p)) tables → All (All (IsSpanInRange p)) spans → All (All (IsGiftInRange p)) gifts → list_all is_plain_record (tables_rows p spans gifts id tables) ≡ true
+tables-plain p spans gifts id [] v named few all held given = refl
+tables-plain p spans gifts id (table ∷ tables) v named few all held given =
     let line : is_plain_record (table_fields id) ≡ true = rw (number-back id (omega arith)).plain refl in
-    let mine = spans_of_table spans id in
+    let runs = spans_of_table spans id in
+    let gives = gifts_of_table gifts id in
     let shares = flat_map (share_rows p) table in
-    let runs = flat_map (span_rows p) mine in
-    both-plain (table_rows p id table mine) (tables_rows p spans (id + 1) tables)
-    (and_from (is_plain_record (table_fields id)) (list_all is_plain_record (shares ++ runs)) line
-    (both-plain shares runs (shares-plain p table v named (All-head (All (IsShareInRange p)) table tables all)) (spans-plain p mine v named (beside-range p spans id beside))))
-    (tables-plain p spans (id + 1) tables v named (omega arith) (All-tail (All (IsShareInRange p)) table tables all) beside)
+    let beside = beside_rows p runs gives in
+    both-plain (table_rows p id table runs gives) (tables_rows p spans gifts (id + 1) tables)
+    (and_from (is_plain_record (table_fields id)) (list_all is_plain_record (shares ++ beside)) line
+    (both-plain shares beside (shares-plain p table v named (All-head (All (IsShareInRange p)) table tables all))
+    (besides-plain p runs gives v named (beside-range (IsSpanInRange p) spans id held) (beside-range (IsGiftInRange p) gifts id given))))
+    (tables-plain p spans gifts (id + 1) tables v named (omega arith) (All-tail (All (IsShareInRange p)) table tables all) held given)
 
 kind-plain : (tables : List (List ClassShare)) (kind : Kind) → length tables < 10 ^ 64 → HasKind tables kind → is_plain_field (kind_text kind) ≡ true
 kind-plain tables price.Linear few r = refl
@@ -214,6 +238,16 @@ node-plain p tables (node.Branch (split.ByArc shipment arc)) v named few r =
     rw (shipment-plain p shipment named r.0, tail-plain p arc v r.1, head-plain p arc v r.1) refl
 node-plain p tables (node.Branch (split.ByTime shipment terminal at)) v named few r =
     rw (shipment-plain p shipment named r.0, terminal-plain p terminal v r.1, (time-back at r.2).plain) refl
+node-plain p tables (node.Branch (split.ByTrucks arc point until most)) v named few r =
+    rw (
+      tail-plain p arc v r.arc,
+      head-plain p arc v r.arc,
+      (time-back point r.point).plain,
+      (number-back until (omega (arith, r.until))).plain,
+      (number-back most (omega (arith, r.most))).plain,
+    ) refl
+node-plain p tables (node.Branch (split.ByWay shipment arc)) v named few r =
+    rw (shipment-plain p shipment named r.0, tail-plain p arc v r.1, head-plain p arc v r.1) refl
 node-plain p tables (node.Leaf l) v named few r = leaf-plain tables l.price l.sides few r.kind r.round r.sides
 
 -- all lines of a certificate
@@ -225,7 +259,7 @@ rows-plain p c v named r few =
     (both-plain (map (leg_fields p) c.legs) _ (each-plain (leg_fields p) (IsLegInRange p) (λ l. leg-plain p l v named) c.legs (recursion_from_All (IsLegInRange p) c.legs r.legs))
     (both-plain (map (truck_fields p) c.trucks) _ (each-plain (truck_fields p) (IsTruckInRange p) (λ t. truck-plain p t v) c.trucks (recursion_from_All (IsTruckInRange p) c.trucks r.trucks))
     (both-plain (map (point_fields p) c.points) _ (each-plain (point_fields p) (IsPointInRange p) (λ x. point-plain p x v) c.points (recursion_from_All (IsPointInRange p) c.points r.points))
-    (both-plain (tables_rows p c.spans 1 c.tables) _ (tables-plain p c.spans 1 c.tables v named (omega (arith, few)) r.tables r.spans)
+    (both-plain (tables_rows p c.spans c.gifts 1 c.tables) _ (tables-plain p c.spans c.gifts 1 c.tables v named (omega (arith, few)) r.tables r.spans r.gifts)
     (both-plain (map (node_fields p) c.tree) _
     (each-plain (node_fields p) (IsNodeInRange p c.tables) (λ n. node-plain p c.tables n v named (omega (arith, few))) c.tree (recursion_from_All (IsNodeInRange p c.tables) c.tree r.tree))
     refl)))))))

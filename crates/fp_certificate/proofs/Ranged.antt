@@ -1,8 +1,8 @@
 -- What is read is in range.
-use Rattle.std.proofs.Common.{◌≡◌, ◌∙◌, ℕ, ◌+◌, ◌^◌, ◌-◌, ◌<◌, List, [], ◌∷◌, ◌++◌, length, get_or, drop, refl, sym, ap, subst, arith, lit≤, inl, inr}
-use Rattle.std.specs.Prelude.{Option, Some, None, Result, Ok, All, ◌&&◌, ◌||◌, not, ◌==◌}
-use Rattle.std.proofs.lemmas.Bool.{and_parts, cases_Bool, not-false, or_parts}
-use Rattle.std.proofs.lemmas.List.{drop_more, length_push}
+use Rattle.std.proofs.Common.{◌≡◌, ℕ, ◌+◌, ◌^◌, ◌-◌, ◌<◌, List, [], ◌∷◌, ◌++◌, length, refl, subst, arith, lit≤}
+use Rattle.std.specs.Prelude.{Option, Some, None, Ok, All, ◌&&◌, ◌||◌, not, ◌==◌}
+use Rattle.std.proofs.lemmas.Bool.{and_parts, not-false, or_parts}
+use Rattle.std.proofs.lemmas.List.{length_push}
 use Rattle.std.proofs.lemmas.List.Elements.{All-nil, All-push, All-weaker}
 use Rattle.fp_model.specs.declared.limits.TheConstants.{LAST_ROUND}
 use Rattle.fp_model.specs.Problem.{Problem}
@@ -11,29 +11,30 @@ use Rattle.fp_prices_spans.specs.Spans.{ClassSpan}
 use Rattle.fp_prices.specs.Tables.{AreCountable}
 use Rattle.fp_records_fields.specs.Findings.{first_code}
 use Rattle.fp_records_fields.specs.Fields.{has_number, is_between, number_at}
-use Rattle.fp_records_fields.specs.Faults.{first_fault, Fault}
 use Rattle.fp_records_fields.proofs.Numerals.{is_between-limits}
 use Rattle.fp_records_fields.proofs.FaultTables.{IsClear-from_none}
 use Rattle.fp_certificate.specs.declared.drafts.Draft.{Draft}
 use Rattle.fp_certificate.specs.declared.lines.sections.Section.TheVariants as section
 use Rattle.fp_certificate.specs.declared.lines.kinds.LineKind.{LineKind}
-use Rattle.fp_certificate.specs.declared.lines.kinds.LineKind.TheVariants.{Direct, Optimal, Unfinished, Infeasible, Scale, Leg, Truck, Point, Table, Share, Span, ByArc, ByTime, Leaf, End}
+use Rattle.fp_certificate.specs.declared.lines.kinds.LineKind.TheVariants.{Direct, Optimal, Unfinished, Infeasible, Scale, Leg, Truck, Point, Table, Share, Span, ByArc, ByTime, ByTrucks, ByWay, Leaf, End}
 use Rattle.fp_certificate.specs.declared.lines.kinds.LineKind.TheVariants as kind
 use Rattle.fp_certificate.specs.Answers.{has_bad_scale, has_time, has_time_in_range, has_unfinished_digits, is_figure}
+use Rattle.fp_certificate.specs.Gifts.{and_gift, gift_in, has_gift_digits}
 use Rattle.fp_certificate.specs.Sections.{has_ended, is_misplaced}
 use Rattle.fp_certificate.specs.Kinds.{kind_of}
 use Rattle.fp_records_fields.specs.NamedParts.{lacks_arc, lacks_shipment, lacks_terminal}
 use Rattle.fp_certificate.specs.Points.{point_in}
-use Rattle.fp_certificate_lines.specs.Ranges.{IsGroupInRange, IsInRange, IsLegInRange, IsNodeInRange, IsPointInRange, IsShareInRange, IsSpanInRange, IsTruckInRange, IsWeightInRange, largest_figure}
-use Rattle.fp_certificate.specs.Reading.{certificate_from, faults_of, finished, kind_code, line_code, nothing_read, with_kind, with_kind_of, with_line}
+use Rattle.fp_certificate_lines.specs.Ranges.{IsGiftInRange, IsGroupInRange, IsInRange, IsLegInRange, IsNodeInRange, IsPointInRange, IsShareInRange, IsSpanInRange, IsTruckInRange, IsWeightInRange, largest_count, largest_figure}
+use Rattle.fp_certificate.specs.Reading.{certificate_from, faults_of, kind_code, line_code, nothing_read, with_kind, with_kind_of, with_line}
 use Rattle.fp_certificate_lines.specs.Statements.{Statement}
-use Rattle.fp_certificate.specs.Tables.{and_share, and_span, has_end_in_range, share_in, span_in, weight_in}
-use Rattle.fp_certificate.specs.Timetables.{is_time, leg_in, truck_in}
-use Rattle.fp_certificate.specs.Trees.{has_kind_word, has_leaf_digits, has_leaf_ranges, has_sides_range, lacks_sides, leaf_in}
+use Rattle.fp_certificate.specs.Tables.{and_share, and_span, share_in, span_in, weight_in}
+use Rattle.fp_certificate.specs.Timetables.{ends_in_range, is_time, leg_in, truck_in}
+use Rattle.fp_certificate.specs.Trees.{by_trucks_in, has_kind_word, has_leaf_digits, has_leaf_ranges, has_sides_range, lacks_sides, leaf_in}
 use Rattle.fp_certificate.proofs.LineRanges.{in-time, small}
+use Rattle.fp_certificate.proofs.LinesOn.{at-end, first_fault-ok}
 use Rattle.fp_certificate.proofs.TableCounts.{AreCounted, counted-more, line-fewer}
 use Rattle.fp_records_fields.proofs.NamedParts.{arc_in-lt, shipment_in-lt, terminal_in-lt}
-use Rattle.fp_certificate.proofs.RangedFields.{IsInRange-with_lists, IsInRange-with_node, end-range, group-ranged, kind-range, scale-range, sides-range, time-range, weight-ranged, with-answer, with-last-spans, with-last-table}
+use Rattle.fp_certificate.proofs.RangedFields.{IsInRange-with_lists, IsInRange-with_node, end-range, group-ranged, kind-range, scale-range, sides-range, time-range, weight-ranged, with-answer, with-last-gifts, with-last-spans, with-last-table}
 
 -- a line of a kind without a fault gives what is in range
 kind-ranged : (p : Problem) (before : Draft) (kind : LineKind) (fields : List (List ℕ)) → first_code (faults_of p before kind fields) ≡ None
@@ -79,6 +80,8 @@ kind-ranged p before Scale fields h r =
       tables = r.tables;
       spans = r.spans;
       beside = r.beside;
+      gifts = r.gifts;
+      given = r.given;
       tree = r.tree;
     }
 kind-ranged p before kind.Unit fields h r =
@@ -97,6 +100,8 @@ kind-ranged p before kind.Unit fields h r =
       tables = r.tables;
       spans = r.spans;
       beside = r.beside;
+      gifts = r.gifts;
+      given = r.given;
       tree = r.tree;
     }
 kind-ranged p before Leg fields h r =
@@ -122,6 +127,8 @@ kind-ranged p before Leg fields h r =
       tables = r.tables;
       spans = r.spans;
       beside = r.beside;
+      gifts = r.gifts;
+      given = r.given;
       tree = r.tree;
     }
 kind-ranged p before Truck fields h r =
@@ -148,6 +155,8 @@ kind-ranged p before Truck fields h r =
       tables = r.tables;
       spans = r.spans;
       beside = r.beside;
+      gifts = r.gifts;
+      given = r.given;
       tree = r.tree;
     }
 kind-ranged p before Point fields h r =
@@ -172,15 +181,20 @@ kind-ranged p before Point fields h r =
       tables = r.tables;
       spans = r.spans;
       beside = r.beside;
+      gifts = r.gifts;
+      given = r.given;
       tree = r.tree;
     }
 kind-ranged p before Table fields h r =
     let tables = before.certificate.tables in
     let spans = before.certificate.spans in
-    IsInRange-with_lists p before.certificate (tables ++ ([] ∷ [])) (spans ++ ([] ∷ [])) (omega (arith, length_push tables []))
+    let gifts = before.certificate.gifts in
+    IsInRange-with_lists p before.certificate (tables ++ ([] ∷ [])) (spans ++ ([] ∷ [])) (gifts ++ ([] ∷ [])) (omega (arith, length_push tables []))
     (omega (arith, r.beside, length_push tables [], length_push spans []))
+    (omega (arith, r.given, length_push tables [], length_push gifts []))
     (All-push (All (IsShareInRange p)) tables [] r.tables (All-nil (IsShareInRange p)))
-    (All-push (All (IsSpanInRange p)) spans [] r.spans (All-nil (IsSpanInRange p))) r
+    (All-push (All (IsSpanInRange p)) spans [] r.spans (All-nil (IsSpanInRange p)))
+    (All-push (All (IsGiftInRange p)) gifts [] r.gifts (All-nil (IsGiftInRange p))) r
 kind-ranged p before Share fields h r =
     let share = share_in p fields in
     let count = IsClear-from_none 22 (not (length fields == 5)) h in
@@ -199,16 +213,16 @@ kind-ranged p before Share fields h r =
 kind-ranged p before Span fields h r =
     let span = span_in p fields in
     let has_digits = has_number fields 3 && has_number fields 4 && (has_number fields 5 && has_number fields 6) in
-    let in_range = is_time fields 3 && has_end_in_range fields && is_figure fields 5 && is_figure fields 6 in
+    let in_range = is_time fields 3 && ends_in_range fields 3 4 && is_figure fields 5 && is_figure fields 6 in
     let count = IsClear-from_none 22 (not (length fields == 7)) h in
     let digits = IsClear-from_none 23 (not has_digits) count.later in
     let order = IsClear-from_none 24 _ digits.later in
     let name = IsClear-from_none 25 (lacks_arc p fields 1 2) order.later in
     let range = IsClear-from_none 28 (not in_range) name.later in
-    let four = and_parts (is_time fields 3 && has_end_in_range fields && is_figure fields 5) (is_figure fields 6) (not-false in_range range.here) in
-    let three = and_parts (is_time fields 3 && has_end_in_range fields) (is_figure fields 5) four.0 in
-    let two = and_parts (is_time fields 3) (has_end_in_range fields) three.0 in
-    let limits = end-range fields two.1 in
+    let four = and_parts (is_time fields 3 && ends_in_range fields 3 4 && is_figure fields 5) (is_figure fields 6) (not-false in_range range.here) in
+    let three = and_parts (is_time fields 3 && ends_in_range fields 3 4) (is_figure fields 5) four.0 in
+    let two = and_parts (is_time fields 3) (ends_in_range fields 3 4) three.0 in
+    let limits = end-range fields 3 4 two.1 in
     let fits : IsSpanInRange p span = record {
       arc = arc_in-lt p fields 1 2 name.here;
       point = in-time fields 3 two.0;
@@ -238,6 +252,25 @@ kind-ranged p before kind.Group fields h r =
     let order = IsClear-from_none 24 _ digits.later in
     let range = IsClear-from_none 28 (not (is_time fields 1)) order.later in
     group-ranged p before.certificate (number_at fields 1) (in-time fields 1 (not-false (is_time fields 1) range.here)) r
+kind-ranged p before kind.Gift fields h r =
+    let gift = gift_in p fields in
+    let in_range = is_time fields 3 && ends_in_range fields 3 4 && is_figure fields 6 in
+    let count = IsClear-from_none 22 (not (length fields == 7)) h in
+    let digits = IsClear-from_none 23 (not (has_gift_digits fields)) count.later in
+    let order = IsClear-from_none 24 _ digits.later in
+    let name = IsClear-from_none 25 (lacks_arc p fields 1 2) order.later in
+    let range = IsClear-from_none 28 (not in_range) name.later in
+    let three = and_parts (is_time fields 3 && ends_in_range fields 3 4) (is_figure fields 6) (not-false in_range range.here) in
+    let two = and_parts (is_time fields 3) (ends_in_range fields 3 4) three.0 in
+    let limits = end-range fields 3 4 two.1 in
+    let fits : IsGiftInRange p gift = record {
+      arc = arc_in-lt p fields 1 2 name.here;
+      point = in-time fields 3 two.0;
+      some = limits.0;
+      until = limits.1;
+      amount = small fields 6 three.1;
+    } in
+    with-last-gifts p before.certificate (and_gift gift) (λ list all. All-push (IsGiftInRange p) list gift all fits) r
 kind-ranged p before ByArc fields h r =
     let count = IsClear-from_none 22 (not (length fields == 5)) h in
     let order = IsClear-from_none 24 (is_misplaced before section.Tree) count.later in
@@ -252,6 +285,30 @@ kind-ranged p before ByTime fields h r =
     let range = IsClear-from_none 28 (not (is_time fields 4)) name.later in
     let names = or_parts (lacks_shipment p fields 2) (lacks_terminal p fields 3) name.here in
     IsInRange-with_node p before.certificate _ (shipment_in-lt p fields 2 names.0, terminal_in-lt p fields 3 names.1, in-time fields 4 (not-false (is_time fields 4) range.here)) r
+kind-ranged p before ByTrucks fields h r =
+    let in_range = is_time fields 4 && ends_in_range fields 4 5 && is_between 0 largest_count fields 6 in
+    let count = IsClear-from_none 22 (not (length fields == 7)) h in
+    let digits = IsClear-from_none 23 (not (has_number fields 4 && has_number fields 5 && has_number fields 6)) count.later in
+    let order = IsClear-from_none 24 (is_misplaced before section.Tree) digits.later in
+    let name = IsClear-from_none 25 (lacks_arc p fields 2 3) order.later in
+    let range = IsClear-from_none 28 (not in_range) name.later in
+    let three = and_parts (is_time fields 4 && ends_in_range fields 4 5) (is_between 0 largest_count fields 6) (not-false in_range range.here) in
+    let two = and_parts (is_time fields 4) (ends_in_range fields 4 5) three.0 in
+    let limits = end-range fields 4 5 two.1 in
+    let fits : IsNodeInRange p before.certificate.tables (by_trucks_in p fields) = record {
+      arc = arc_in-lt p fields 2 3 name.here;
+      point = in-time fields 4 two.0;
+      some = limits.0;
+      until = limits.1;
+      most = (is_between-limits 0 largest_count fields 6 three.1).1;
+    } in
+    IsInRange-with_node p before.certificate (by_trucks_in p fields) fits r
+kind-ranged p before ByWay fields h r =
+    let count = IsClear-from_none 22 (not (length fields == 5)) h in
+    let order = IsClear-from_none 24 (is_misplaced before section.Tree) count.later in
+    let name = IsClear-from_none 25 (lacks_shipment p fields 2 || lacks_arc p fields 3 4) order.later in
+    let names = or_parts (lacks_shipment p fields 2) (lacks_arc p fields 3 4) name.here in
+    IsInRange-with_node p before.certificate _ (shipment_in-lt p fields 2 names.0, arc_in-lt p fields 3 4 names.1) r
 kind-ranged p before Leaf fields h r =
     let tables = before.certificate.tables in
     let count = IsClear-from_none 22 (not (lacks_sides fields || length fields == 5)) h in
@@ -281,30 +338,6 @@ line-ranged p before fields h r =
     let open_still = IsClear-from_none 27 (has_ended before) h in
     maybe-ranged p before (kind_of fields) fields open_still.later r
 
--- the lines from a place on
-lines-from : (lines : List (List (List ℕ))) (place : ℕ) (fields : List (List ℕ)) → place < length lines → fields ≡ get_or lines place fields
-    → drop place lines ≡ fields ∷ drop (place + 1) lines
-lines-from lines place fields within there =
-    drop_more lines place fields within ∙ ap (λ (f : List (List ℕ)). f ∷ drop (place + 1) lines) (sym there)
-
--- where a line has no fault, those after it decide
-pub read-on : (p : Problem) (before : Draft) (ordinal : ℕ) (lines : List (List (List ℕ))) (place : ℕ) (fields : List (List ℕ)) → place < length lines
-    → fields ≡ get_or lines place fields → line_code p before fields ≡ None
-    → certificate_from p before ordinal (drop place lines) ≡ certificate_from p (with_line p before fields) (ordinal + 1) (drop (place + 1) lines)
-read-on p before ordinal lines place fields within there clean = rw (lines-from lines place fields within there, clean) refl
-
--- a line that was first_fault-ok has no fault
-first_fault-ok : (ordinal : ℕ) (code : Option ℕ) (rest : Result Statement Fault) (c : Statement) → first_fault ordinal code rest ≡ Ok c → (code ≡ None) × (rest ≡ Ok c)
-first_fault-ok ordinal None rest c h = (refl, h)
-first_fault-ok ordinal (Some code) rest c h = cc h
-
--- at the end there is the certificate of the draft
-pub at-end : (before : Draft) (ordinal : ℕ) (c : Statement) → finished before ordinal ≡ Ok c → before.certificate ≡ c
-at-end before ordinal c h = elim (cases_Bool (has_ended before)) [
-  | inl ended ↦ cc (rw ended at h)
-  | inr going ↦ cc (rw going at h)
-]
-
 -- the counts of tables, shares and spans grow by at most one a line
 from-ranged : (p : Problem) (before : Draft) (n ordinal : ℕ) (records : List (List (List ℕ))) (c : Statement) → IsInRange p before.certificate
     → AreCounted n before.certificate.tables before.certificate.spans → certificate_from p before ordinal records ≡ Ok c
@@ -331,6 +364,8 @@ nothing-ranged p = record {
   tables = All-nil (All (IsShareInRange p));
   spans = All-nil (All (IsSpanInRange p));
   beside = refl;
+  gifts = All-nil (All (IsGiftInRange p));
+  given = refl;
   tree = All-nil (IsNodeInRange p []);
 }
 

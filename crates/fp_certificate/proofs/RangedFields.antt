@@ -9,6 +9,7 @@ use Rattle.fp_prices.specs.declared.leaf_prices.Kind.{Kind}
 use Rattle.fp_prices.specs.declared.leaf_prices.Kind.TheVariants as price
 use Rattle.fp_prices.specs.declared.tables.Weight.{Weight}
 use Rattle.fp_prices.specs.Shares.{ClassShare}
+use Rattle.fp_prices_gifts.specs.declared.gifts.Gift.{Gift}
 use Rattle.fp_prices_spans.specs.Spans.{ClassSpan}
 use Rattle.fp_prices.specs.Tables.{HasKind}
 use Rattle.fp_records_fields.specs.Fields.{is_between, number_at, has_word}
@@ -20,9 +21,10 @@ use Rattle.fp_certificate_lines.specs.declared.certificates.Node.TheVariants.{Br
 use Rattle.fp_certificate_lines.specs.declared.certificates.Node.TheVariants as node
 use Rattle.fp_certificate.specs.declared.drafts.Draft.{Draft}
 use Rattle.fp_certificate.specs.Answers.{has_bad_scale, has_time_in_range, time_in}
-use Rattle.fp_certificate_lines.specs.Ranges.{IsAnswerInRange, IsGroupInRange, IsInRange, IsNodeInRange, IsScaleInRange, IsShareInRange, IsSpanInRange, IsWeightInRange}
+use Rattle.fp_certificate_lines.specs.Ranges.{IsAnswerInRange, IsGiftInRange, IsGroupInRange, IsInRange, IsNodeInRange, IsScaleInRange, IsShareInRange, IsSpanInRange, IsWeightInRange}
 use Rattle.fp_certificate_lines.specs.Statements.{Statement}
-use Rattle.fp_certificate.specs.Tables.{and_group, and_last_group, and_span_weight, and_weight, has_end_in_range, has_span, with_last, with_weight}
+use Rattle.fp_certificate.specs.Tables.{and_group, and_last_group, and_span_weight, and_weight, has_span, with_last, with_weight}
+use Rattle.fp_certificate.specs.Timetables.{ends_in_range}
 use Rattle.fp_certificate.specs.Trees.{has_kind_word, has_sides_range, kind_in, lacks_sides, sides_in}
 use Rattle.fp_certificate.proofs.LineRanges.{All-with_last}
 use Rattle.fp_certificate.proofs.TableCounts.{length-with_last}
@@ -39,6 +41,8 @@ with-answer p c a h r = record {
   tables = r.tables;
   spans = r.spans;
   beside = r.beside;
+  gifts = r.gifts;
+  given = r.given;
   tree = r.tree;
 }
 
@@ -54,6 +58,8 @@ IsInRange-with_node p c n h r = record {
   tables = r.tables;
   spans = r.spans;
   beside = r.beside;
+  gifts = r.gifts;
+  given = r.given;
   tree = All-push (IsNodeInRange p c.tables) c.tree n r.tree h;
 }
 
@@ -67,10 +73,12 @@ pub node-grows : (p : Problem) (few many : List (List ClassShare)) (n : Node) �
 node-grows p few many (Branch split) le h = h
 node-grows p few many (node.Leaf v) le h = record { kind = kind-grows few many v.price.kind le h.kind; round = h.round; sides = h.sides }
 
--- with other tables and other spans beside them, no fewer than before
-pub IsInRange-with_lists : (p : Problem) (c : Statement) (tables : List (List ClassShare)) (spans : List (List ClassSpan)) → length c.tables ≤ length tables → length spans ≡ length tables
-    → All (All (IsShareInRange p)) tables → All (All (IsSpanInRange p)) spans → IsInRange p c → IsInRange p (record c { tables = tables; spans = spans })
-IsInRange-with_lists p c tables spans le beside h t r = record {
+-- with other tables, and other spans and gifts beside them, no fewer than before
+pub IsInRange-with_lists : (p : Problem) (c : Statement) (tables : List (List ClassShare)) (spans : List (List ClassSpan)) (gifts : List (List Gift))
+    → length c.tables ≤ length tables → length spans ≡ length tables → length gifts ≡ length tables
+    → All (All (IsShareInRange p)) tables → All (All (IsSpanInRange p)) spans → All (All (IsGiftInRange p)) gifts → IsInRange p c
+    → IsInRange p (record c { tables = tables; spans = spans; gifts = gifts })
+IsInRange-with_lists p c tables spans gifts le beside given h t g r = record {
   answer = r.answer;
   scale = r.scale;
   unit = r.unit;
@@ -80,6 +88,8 @@ IsInRange-with_lists p c tables spans le beside h t r = record {
   tables = h;
   spans = t;
   beside = beside;
+  gifts = g;
+  given = given;
   tree = All-weaker (IsNodeInRange p c.tables) (IsNodeInRange p tables) (λ n. node-grows p c.tables tables n le) c.tree r.tree;
 }
 
@@ -88,16 +98,24 @@ pub with-last-table : (p : Problem) (c : Statement) (f : List ClassShare → Lis
     → IsInRange p c → IsInRange p (record c { tables = with_last f c.tables })
 with-last-table p c f changes r =
     let stays : length (with_last f c.tables) ≡ length c.tables = length-with_last f c.tables in
-    IsInRange-with_lists p c (with_last f c.tables) c.spans (omega arith) (omega (arith, r.beside))
-    (All-with_last (All (IsShareInRange p)) (All (IsShareInRange p)) f c.tables (λ table all. all) changes r.tables) r.spans r
+    IsInRange-with_lists p c (with_last f c.tables) c.spans c.gifts (omega arith) (omega (arith, r.beside)) (omega (arith, r.given))
+    (All-with_last (All (IsShareInRange p)) (All (IsShareInRange p)) f c.tables (λ table all. all) changes r.tables) r.spans r.gifts r
 
 -- with a changed last list of spans, which are in range again
 pub with-last-spans : (p : Problem) (c : Statement) (f : List ClassSpan → List ClassSpan) → ((list : List ClassSpan) → All (IsSpanInRange p) list → All (IsSpanInRange p) (f list))
     → IsInRange p c → IsInRange p (record c { spans = with_last f c.spans })
 with-last-spans p c f changes r =
     let stays : length (with_last f c.spans) ≡ length c.spans = length-with_last f c.spans in
-    IsInRange-with_lists p c c.tables (with_last f c.spans) (omega arith) (omega (arith, r.beside)) r.tables
-    (All-with_last (All (IsSpanInRange p)) (All (IsSpanInRange p)) f c.spans (λ list all. all) changes r.spans) r
+    IsInRange-with_lists p c c.tables (with_last f c.spans) c.gifts (omega arith) (omega (arith, r.beside)) r.given r.tables
+    (All-with_last (All (IsSpanInRange p)) (All (IsSpanInRange p)) f c.spans (λ list all. all) changes r.spans) r.gifts r
+
+-- with a changed last list of gifts, which are in range again
+pub with-last-gifts : (p : Problem) (c : Statement) (f : List Gift → List Gift) → ((list : List Gift) → All (IsGiftInRange p) list → All (IsGiftInRange p) (f list))
+    → IsInRange p c → IsInRange p (record c { gifts = with_last f c.gifts })
+with-last-gifts p c f changes r =
+    let stays : length (with_last f c.gifts) ≡ length c.gifts = length-with_last f c.gifts in
+    IsInRange-with_lists p c c.tables c.spans (with_last f c.gifts) (omega arith) r.beside (omega (arith, r.given)) r.tables r.spans
+    (All-with_last (All (IsGiftInRange p)) (All (IsGiftInRange p)) f c.gifts (λ list all. all) changes r.gifts) r
 
 -- with one more weight
 pub weight-ranged : (p : Problem) (before : Draft) (w : Weight) → IsWeightInRange p w → IsInRange p before.certificate → IsInRange p (with_weight before w).certificate
@@ -158,10 +176,10 @@ scale-range p fields h =
     let range = is_between-limits 1 GREATEST_SCALE fields 1 parts.0 in
     record { least = range.0; most = range.1; fits = ltb-true weight (2 ^ 127) parts.1 }
 
--- the end of a span
-pub end-range : (fields : List (List ℕ)) → has_end_in_range fields ≡ true → (number_at fields 3 < number_at fields 4) × (number_at fields 4 ≤ LATEST + 1)
-end-range fields h =
-    let limits = is_between-limits (number_at fields 3 + 1) (LATEST + 1) fields 4 h in
+-- the end of a run
+pub end-range : (fields : List (List ℕ)) (start place : ℕ) → ends_in_range fields start place ≡ true → (number_at fields start < number_at fields place) × (number_at fields place ≤ LATEST + 1)
+end-range fields start place h =
+    let limits = is_between-limits (number_at fields start + 1) (LATEST + 1) fields place h in
     (omega (arith, limits.0), limits.1)
 
 -- the kind of a leaf's prices

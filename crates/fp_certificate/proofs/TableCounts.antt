@@ -11,7 +11,7 @@ use Rattle.fp_prices_spans.specs.Spans.{ClassSpan}
 use Rattle.fp_records_fields.specs.Fields.{number_at}
 use Rattle.fp_certificate.specs.declared.drafts.Draft.{Draft}
 use Rattle.fp_certificate.specs.declared.lines.kinds.LineKind.{LineKind}
-use Rattle.fp_certificate.specs.declared.lines.kinds.LineKind.TheVariants.{Direct, Optimal, Unfinished, Infeasible, Scale, Leg, Truck, Point, Table, Share, Span, ByArc, ByTime, Leaf, End}
+use Rattle.fp_certificate.specs.declared.lines.kinds.LineKind.TheVariants.{Direct, Optimal, Unfinished, Infeasible, Scale, Leg, Truck, Point, Table, Share, Span, ByArc, ByTime, ByTrucks, ByWay, Leaf, End}
 use Rattle.fp_certificate.specs.declared.lines.kinds.LineKind.TheVariants as kind
 use Rattle.fp_certificate.specs.Kinds.{kind_of}
 use Rattle.fp_certificate.specs.Reading.{with_kind, with_kind_of, with_line}
@@ -50,8 +50,11 @@ kind-count p before Share fields = omega (arith, length-with_last (and_share (sh
 kind-count p before Span fields = omega arith
 kind-count p before kind.Weight fields = omega (arith, weight-count before (weight_in p fields))
 kind-count p before kind.Group fields = omega arith
+kind-count p before kind.Gift fields = omega arith
 kind-count p before ByArc fields = omega arith
 kind-count p before ByTime fields = omega arith
+kind-count p before ByTrucks fields = omega arith
+kind-count p before ByWay fields = omega arith
 kind-count p before Leaf fields = omega arith
 kind-count p before End fields = omega arith
 
@@ -149,8 +152,11 @@ kind-fewer p before n kind.Group fields few = record {
   few_shares = (kept before n few).few_shares;
   few_spans = last-fewer n (with_last (and_group (number_at fields 1))) before.certificate.spans (λ list. omega (arith, length-with_last (and_group (number_at fields 1)) list)) few.few_spans;
 }
+kind-fewer p before n kind.Gift fields few = kept before n few
 kind-fewer p before n ByArc fields few = kept before n few
 kind-fewer p before n ByTime fields few = kept before n few
+kind-fewer p before n ByTrucks fields few = kept before n few
+kind-fewer p before n ByWay fields few = kept before n few
 kind-fewer p before n Leaf fields few = kept before n few
 kind-fewer p before n End fields few = kept before n few
 

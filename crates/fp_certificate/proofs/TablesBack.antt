@@ -1,4 +1,4 @@
--- The tables of a certificate are read back from their lines, each with the spans beside it.
+-- The tables of a certificate are read back from their lines, each with the spans and the gifts beside it.
 use Rattle.std.proofs.Common.{◌≡◌, ◌∙◌, ℕ, ◌+◌, ◌^◌, ◌-◌, ◌<◌, ◌≤◌, Bool, false, List, [], ◌∷◌, ◌++◌, length, map, refl, sym, ap, subst, append_assoc, arith, lit≤, inl, inr}
 use Rattle.std.specs.Prelude.{◌⊎◌, All, not}
 use Rattle.std.specs.List.{AllByRecursion, flat_map, fold}
@@ -9,17 +9,20 @@ use Rattle.std.proofs.lemmas.List.Elements.{All-head, All-tail, recursion_from_A
 use Rattle.fp_model.specs.Problem.{IsValid, Problem}
 use Rattle.fp_prices.specs.declared.tables.Weight.{Weight}
 use Rattle.fp_prices.specs.Shares.{ClassShare}
+use Rattle.fp_prices_gifts.specs.declared.gifts.Gift.{Gift}
+use Rattle.fp_prices_gifts.specs.GiftKinds.{gifts_of_table}
 use Rattle.fp_prices_spans.specs.SpanKinds.{spans_of_table}
 use Rattle.fp_prices_spans.specs.Spans.{ClassSpan}
 use Rattle.fp_records.specs.Fields.{is_empty}
 use Rattle.fp_certificate.specs.declared.lines.sections.Section.{Section}
 use Rattle.fp_certificate.specs.declared.lines.sections.Section.TheVariants as section
 use Rattle.fp_certificate.specs.Sections.{is_forbidden, place_of}
-use Rattle.fp_certificate_lines.specs.Ranges.{IsGroupInRange, IsShareInRange, IsSpanInRange, IsWeightInRange}
-use Rattle.fp_certificate_lines.specs.Rows.{group_fields, share_fields, share_rows, span_fields, span_rows, table_fields, tables_rows, weight_fields}
+use Rattle.fp_certificate_lines.specs.Ranges.{IsGiftInRange, IsGroupInRange, IsShareInRange, IsSpanInRange, IsWeightInRange}
+use Rattle.fp_certificate_lines.specs.Rows.{beside_rows, gift_fields, group_fields, share_fields, share_rows, span_fields, span_rows, table_fields, tables_rows, weight_fields}
 use Rattle.fp_certificate_lines.specs.Statements.{Statement}
-use Rattle.fp_certificate.specs.Tables.{and_group, and_share, and_span, and_span_weight, and_weight, has_group, has_span, is_grouped, lacks_last, last_is, with_last}
-use Rattle.fp_certificate.proofs.LinesBack.{IsStep, group-step, share-step, span-step, span-weight-step, table-step, weight-step}
+use Rattle.fp_certificate.specs.Gifts.{and_gift}
+use Rattle.fp_certificate.specs.Tables.{and_group, and_share, and_span, and_span_weight, and_weight, has_gift, has_group, has_span, is_grouped, lacks_last, last_is, with_last}
+use Rattle.fp_certificate.proofs.LinesBack.{IsStep, gift-step, group-step, share-step, span-step, span-weight-step, table-step, weight-step}
 use Rattle.fp_certificate.proofs.SegmentsBack.{ReadsTo, at, one-line, has_ended_at-before_end, is_misplaced_after-later}
 
 -- lists of which the last is this one
@@ -148,14 +151,14 @@ share-parts p x = map (weight_fields p) x.weights
 abbrev span-parts : Problem → ClassSpan → List (List (List ℕ))
 span-parts p x = map (weight_fields p) x.weights ++ map group_fields x.groups
 
--- shares, in a table that has no span yet
-shares-read : (p : Problem) (s c : Statement) → IsValid p → is_forbidden s.answer section.Tables ≡ false → has_span s.spans ≡ false
+-- shares, in a table that has no span and no gift yet
+shares-read : (p : Problem) (s c : Statement) → IsValid p → is_forbidden s.answer section.Tables ≡ false → has_span s.spans ≡ false → has_gift s.gifts ≡ false
     → AreRead p ClassShare (with-tables s) (share_fields p) bare-share (share-parts p) (IsShareInRange p) c
-shares-read p s c v free none = record {
+shares-read p s c v free none ungiven = record {
   begins = λ lists list x fits g le. subst (λ (ts : List (List ClassShare)). IsStep p (at (with-tables s (ending lists list)) g) (share_fields p x) (at (with-tables s ts) section.Tables))
       (with_last-push (and_share (bare-share x)) lists list)
       (share-step p (at (with-tables s (ending lists list)) g) x v fits (has_ended_at-before_end g (omega arith)) (is_misplaced_after-later g section.Tables s.answer refl le free)
-      (some-pushed lists list) none);
+      (some-pushed lists list) none ungiven);
   fills = λ rest lists list x fits after.
       parts-back p (with-tables s) (weight_fields p) share-weighed (λ y. Unit {0}) (IsWeightInRange p) weighed (λ y w open_still. tt) c rest lists list x.weights (bare-share x) tt
       (recursion_from_All (IsWeightInRange p) x.weights fits.weights)
@@ -168,16 +171,16 @@ shares-read p s c v free none = record {
         subst (λ (ts : List (List ClassShare)). IsStep p (at (with-tables s (ending lists (list ++ (x ∷ [])))) g) (weight_fields p w) (at (with-tables s ts) section.Tables))
         (last-changed (and_weight w) lists list x)
         (weight-step p (at (with-tables s (ending lists (list ++ (x ∷ [])))) g) w v r (has_ended_at-before_end g (omega arith)) (is_misplaced_after-later g section.Tables s.answer refl le free)
-        (lacks_last-pushed lists list x) none)
+        (lacks_last-pushed lists list x) none ungiven)
 
--- spans
-spans-read : (p : Problem) (s c : Statement) → IsValid p → is_forbidden s.answer section.Tables ≡ false
+-- spans, in a table that has no gift yet
+spans-read : (p : Problem) (s c : Statement) → IsValid p → is_forbidden s.answer section.Tables ≡ false → has_gift s.gifts ≡ false
     → AreRead p ClassSpan (with-spans s) (span_fields p) bare-span (span-parts p) (IsSpanInRange p) c
-spans-read p s c v free = record {
+spans-read p s c v free ungiven = record {
   begins = λ lists list x fits g le. subst (λ (ls : List (List ClassSpan)). IsStep p (at (with-spans s (ending lists list)) g) (span_fields p x) (at (with-spans s ls) section.Tables))
       (with_last-push (and_span (bare-span x)) lists list)
       (span-step p (at (with-spans s (ending lists list)) g) x v fits (has_ended_at-before_end g (omega arith)) (is_misplaced_after-later g section.Tables s.answer refl le free)
-      (some-pushed lists list));
+      (some-pushed lists list) ungiven);
   fills = λ rest lists list x fits after.
       let weights = map (weight_fields p) x.weights in
       let groups = map group_fields x.groups in
@@ -198,7 +201,7 @@ spans-read p s c v free = record {
         subst (λ (ls : List (List ClassSpan)). IsStep p (at (with-spans s (ending lists (list ++ (x ∷ [])))) g) (weight_fields p w) (at (with-spans s ls) section.Tables))
         (last-changed (and_span_weight w) lists list x)
         (span-weight-step p (at (with-spans s (ending lists (list ++ (x ∷ [])))) g) w v r (has_ended_at-before_end g (omega arith)) (is_misplaced_after-later g section.Tables s.answer refl le free)
-        (ap (λ (b : Bool). not b) (lacks_last-pushed lists list x)) (has_group-ending lists list x open_still))
+        (ap (λ (b : Bool). not b) (lacks_last-pushed lists list x)) (has_group-ending lists list x open_still) ungiven)
 
     grouped : (lists : List (List ClassSpan)) (list : List ClassSpan) (x : ClassSpan) (m : ℕ) → Unit {0} → IsGroupInRange m → (g : Section) → place_of g ≤ 6
         → IsStep p (at (with-spans s (ending lists (list ++ (x ∷ [])))) g) (group_fields m) (at (with-spans s (ending lists (list ++ (span-grouped x m ∷ [])))) section.Tables)
@@ -206,78 +209,123 @@ spans-read p s c v free = record {
         subst (λ (ls : List (List ClassSpan)). IsStep p (at (with-spans s (ending lists (list ++ (x ∷ [])))) g) (group_fields m) (at (with-spans s ls) section.Tables))
         (last-changed (and_group m) lists list x)
         (group-step p (at (with-spans s (ending lists (list ++ (x ∷ [])))) g) m r (has_ended_at-before_end g (omega arith)) (is_misplaced_after-later g section.Tables s.answer refl le free)
-        (ap (λ (b : Bool). not b) (lacks_last-pushed lists list x)))
+        (ap (λ (b : Bool). not b) (lacks_last-pushed lists list x)) ungiven)
 
--- with other tables and other spans
-abbrev with : Statement → List (List ClassShare) → List (List ClassSpan) → Statement
-with s tables spans = record s { tables = tables; spans = spans }
+-- a statement with other gifts
+abbrev with-gifts : Statement → List (List Gift) → Statement
+with-gifts s gifts = record s { gifts = gifts }
 
--- the same tables and spans
-moved : (p : Problem) (rest : List (List (List ℕ))) (s c : Statement) (ts us : List (List ClassShare)) (ls ms : List (List ClassSpan)) → ts ≡ us → ls ≡ ms
-    → ReadsTo p 6 rest (with s us ms) c → ReadsTo p 6 rest (with s ts ls) c
-moved p rest s c ts us ls ms tables spans after =
-    subst (λ (t : List (List ClassShare)). ReadsTo p 6 rest (with s t ls) c) (sym tables)
-    (subst (λ (l : List (List ClassSpan)). ReadsTo p 6 rest (with s us l) c) (sym spans) after)
+-- the gifts of the last list, each of one line
+gifts-back : (p : Problem) (s c : Statement) → IsValid p → is_forbidden s.answer section.Tables ≡ false → (rest : List (List (List ℕ))) (lists : List (List Gift)) (gifts list : List Gift)
+    → All (IsGiftInRange p) gifts → ReadsTo p 6 rest (with-gifts s (ending lists (list ++ gifts))) c
+    → ReadsTo p 6 (map (gift_fields p) gifts ++ rest) (with-gifts s (ending lists list)) c
+gifts-back p s c v free rest lists [] list all after = subst (λ (ys : List Gift). ReadsTo p 6 rest (with-gifts s (ending lists ys)) c) (append-nil list) after
+gifts-back p s c v free rest lists (x ∷ gifts) list all after =
+    let next = gifts-back p s c v free rest lists gifts (list ++ (x ∷ [])) (All-tail (IsGiftInRange p) x gifts all)
+    (subst (λ (ys : List Gift). ReadsTo p 6 rest (with-gifts s (ending lists ys)) c) (sym (append_assoc list (x ∷ []) gifts)) after) in
+    one-line p 6 section.Tables (gift_fields p x) (with-gifts s (ending lists list)) (with-gifts s (ending lists (list ++ (x ∷ [])))) c (map (gift_fields p) gifts ++ rest) (lit≤ tt)
+    (λ g le. subst (λ (ls : List (List Gift)). IsStep p (at (with-gifts s (ending lists list)) g) (gift_fields p x) (at (with-gifts s ls) section.Tables))
+    (with_last-push (and_gift x) lists list)
+    (gift-step p (at (with-gifts s (ending lists list)) g) x v (All-head (IsGiftInRange p) x gifts all) (has_ended_at-before_end g (omega arith)) (is_misplaced_after-later g section.Tables s.answer refl le free)
+    (some-pushed lists list)))
+    next
 
--- the shares of a table and the spans beside it, after the line of the table
-table-back : (p : Problem) (s c : Statement) (table : List ClassShare) (spans : List ClassSpan) (rest : List (List (List ℕ))) → IsValid p
-    → is_forbidden s.answer section.Tables ≡ false → All (IsShareInRange p) table → All (IsSpanInRange p) spans
-    → ReadsTo p 6 rest (with s (ending s.tables table) (ending s.spans spans)) c
-    → ReadsTo p 6 (flat_map (share_rows p) table ++ (flat_map (span_rows p) spans ++ rest)) (with s (ending s.tables []) (ending s.spans [])) c
-table-back p s c table spans rest v free shares-fit spans-fit after =
-    let full = with-tables s (ending s.tables table) in
-    let fresh = with-spans s (ending s.spans []) in
+-- with other tables, and other spans and gifts
+abbrev with : Statement → List (List ClassShare) → List (List ClassSpan) → List (List Gift) → Statement
+with s tables spans gifts = record s { tables = tables; spans = spans; gifts = gifts }
+
+-- the same tables, spans and gifts
+moved : (p : Problem) (rest : List (List (List ℕ))) (s c : Statement) (ts us : List (List ClassShare)) (ls ms : List (List ClassSpan)) (gs hs : List (List Gift)) → ts ≡ us → ls ≡ ms → gs ≡ hs
+    → ReadsTo p 6 rest (with s us ms hs) c → ReadsTo p 6 rest (with s ts ls gs) c
+moved p rest s c ts us ls ms gs hs tables spans gifts after =
+    subst (λ (t : List (List ClassShare)). ReadsTo p 6 rest (with s t ls gs) c) (sym tables)
+    (subst (λ (l : List (List ClassSpan)). ReadsTo p 6 rest (with s us l gs) c) (sym spans)
+    (subst (λ (g : List (List Gift)). ReadsTo p 6 rest (with s us ms g) c) (sym gifts) after))
+
+-- the shares of a table, and the spans and the gifts beside it, after the line of the table
+table-back : (p : Problem) (s c : Statement) (table : List ClassShare) (spans : List ClassSpan) (gifts : List Gift) (rest : List (List (List ℕ))) → IsValid p
+    → is_forbidden s.answer section.Tables ≡ false → All (IsShareInRange p) table → All (IsSpanInRange p) spans → All (IsGiftInRange p) gifts
+    → ReadsTo p 6 rest (with s (ending s.tables table) (ending s.spans spans) (ending s.gifts gifts)) c
+    → ReadsTo p 6 (flat_map (share_rows p) table ++ (flat_map (span_rows p) spans ++ (map (gift_fields p) gifts ++ rest))) (with s (ending s.tables []) (ending s.spans []) (ending s.gifts [])) c
+table-back p s c table spans gifts rest v free shares-fit spans-fit gifts-fit after =
+    let given = map (gift_fields p) gifts ++ rest in
+    let priced = with s (ending s.tables table) (ending s.spans spans) s.gifts in
+    let full = with s (ending s.tables table) s.spans (ending s.gifts []) in
+    let fresh = with s s.tables (ending s.spans []) (ending s.gifts []) in
     let none : has_span fresh.spans ≡ false = ap (λ (b : Bool). not b) (lacks_last-ending s.spans []) in
-    let beside : ReadsTo p 6 (flat_map (span_rows p) spans ++ rest) (with s (ending s.tables table) (ending s.spans [])) c =
-    elements-back p (with-spans full) (span_fields p) bare-span (span-parts p) (IsSpanInRange p) c (spans-read p full c v free) rest s.spans spans [] spans-fit after in
-    elements-back p (with-tables fresh) (share_fields p) bare-share (share-parts p) (IsShareInRange p) c (shares-read p fresh c v free none)
-    (flat_map (span_rows p) spans ++ rest) s.tables table [] shares-fit beside
+    let ungiven : has_gift fresh.gifts ≡ false = ap (λ (b : Bool). not b) (lacks_last-ending s.gifts []) in
+    let last : ReadsTo p 6 given (with s (ending s.tables table) (ending s.spans spans) (ending s.gifts [])) c = gifts-back p priced c v free rest s.gifts gifts [] gifts-fit after in
+    let beside : ReadsTo p 6 (flat_map (span_rows p) spans ++ given) (with s (ending s.tables table) (ending s.spans []) (ending s.gifts [])) c =
+    elements-back p (with-spans full) (span_fields p) bare-span (span-parts p) (IsSpanInRange p) c (spans-read p full c v free ungiven) given s.spans spans [] spans-fit last in
+    elements-back p (with-tables fresh) (share_fields p) bare-share (share-parts p) (IsShareInRange p) c (shares-read p fresh c v free none ungiven)
+    (flat_map (span_rows p) spans ++ given) s.tables table [] shares-fit beside
 
--- tables that are numbered from the next on, with the lists of spans that are left
-numbered-back : (p : Problem) (c : Statement) (rest : List (List (List ℕ))) (every : List (List ClassSpan)) → IsValid p
-    → (tables : List (List ClassShare)) (spans : List (List ClassSpan)) (s : Statement) (id : ℕ)
-    → id ≡ length s.tables + 1 → length s.spans ≡ length s.tables → s.spans ++ spans ≡ every → length spans ≡ length tables → id + length tables < 10 ^ 64
-    → All (All (IsShareInRange p)) tables → All (All (IsSpanInRange p)) spans → is_forbidden s.answer section.Tables ≡ false
-    → ReadsTo p 6 rest (with s (s.tables ++ tables) (s.spans ++ spans)) c → ReadsTo p 6 (tables_rows p every id tables ++ rest) s c
-numbered-back p c rest every v [] [] s id next level together beside few shares-fit spans-fit free after =
-    moved p rest s c s.tables (s.tables ++ []) s.spans (s.spans ++ []) (sym (append-nil s.tables)) (sym (append-nil s.spans)) after
-numbered-back p c rest every v [] (list ∷ spans) s id next level together beside few shares-fit spans-fit free after = absurd (omega arith)
-numbered-back p c rest every v (table ∷ tables) [] s id next level together beside few shares-fit spans-fit free after = absurd (omega arith)
-numbered-back p c rest every v (table ∷ tables) (list ∷ spans) s id next level together beside few shares-fit spans-fit free after =
+-- there are as many lists of spans and of gifts as tables
+abbrev pub AreLevel : List (List ClassShare) → List (List ClassSpan) → List (List Gift) → Type 0
+AreLevel tables spans gifts = (length spans ≡ length tables) × (length gifts ≡ length tables)
+
+-- tables, spans and gifts are in range
+abbrev pub AreFit : Problem → List (List ClassShare) → List (List ClassSpan) → List (List Gift) → Type 0
+AreFit p tables spans gifts = All (All (IsShareInRange p)) tables × All (All (IsSpanInRange p)) spans × All (All (IsGiftInRange p)) gifts
+
+-- tables that are numbered from the next on, with the lists of spans and of gifts that are left
+numbered-back : (p : Problem) (c : Statement) (rest : List (List (List ℕ))) (every : List (List ClassSpan)) (whole : List (List Gift)) → IsValid p
+    → (tables : List (List ClassShare)) (spans : List (List ClassSpan)) (gifts : List (List Gift)) (s : Statement) (id : ℕ)
+    → id ≡ length s.tables + 1 → AreLevel s.tables s.spans s.gifts → s.spans ++ spans ≡ every → s.gifts ++ gifts ≡ whole → AreLevel tables spans gifts → id + length tables < 10 ^ 64
+    → AreFit p tables spans gifts → is_forbidden s.answer section.Tables ≡ false
+    → ReadsTo p 6 rest (with s (s.tables ++ tables) (s.spans ++ spans) (s.gifts ++ gifts)) c → ReadsTo p 6 (tables_rows p every whole id tables ++ rest) s c
+numbered-back p c rest every whole v [] [] [] s id next level together given beside few fit free after =
+    moved p rest s c s.tables (s.tables ++ []) s.spans (s.spans ++ []) s.gifts (s.gifts ++ []) (sym (append-nil s.tables)) (sym (append-nil s.spans)) (sym (append-nil s.gifts)) after
+numbered-back p c rest every whole v [] [] (others ∷ gifts) s id next level together given beside few fit free after = absurd (omega (arith, beside.1))
+numbered-back p c rest every whole v [] (list ∷ spans) gifts s id next level together given beside few fit free after = absurd (omega (arith, beside.0))
+numbered-back p c rest every whole v (table ∷ tables) [] gifts s id next level together given beside few fit free after = absurd (omega (arith, beside.0))
+numbered-back p c rest every whole v (table ∷ tables) (list ∷ spans) [] s id next level together given beside few fit free after = absurd (omega (arith, beside.1))
+numbered-back p c rest every whole v (table ∷ tables) (list ∷ spans) (own ∷ gifts) s id next level together given beside few fit free after =
     let shares = flat_map (share_rows p) table in
     let runs = flat_map (span_rows p) list in
-    let others = tables_rows p every (id + 1) tables in
-    let more = with s (ending s.tables table) (ending s.spans list) in
-    let fresh = with s (ending s.tables []) (ending s.spans []) in
-    let place : id - 1 ≡ length s.spans = omega arith in
-    let mine : spans_of_table every id ≡ list = rw (← together, place) (get_or-append_seam s.spans list spans []) in
+    let gives = map (gift_fields p) own in
+    let others = tables_rows p every whole (id + 1) tables in
+    let more = with s (ending s.tables table) (ending s.spans list) (ending s.gifts own) in
+    let fresh = with s (ending s.tables []) (ending s.spans []) (ending s.gifts []) in
+    let place : id - 1 ≡ length s.spans = omega (arith, level.0) in
+    let spot : id - 1 ≡ length s.gifts = omega (arith, level.1) in
+    let held : spans_of_table every id ≡ list = rw (← together, place) (get_or-append_seam s.spans list spans []) in
+    let mine : gifts_of_table whole id ≡ own = rw (← given, spot) (get_or-append_seam s.gifts own gifts []) in
+    let still : AreLevel (ending s.tables table) (ending s.spans list) (ending s.gifts own) = (
+      omega (arith, level.0, length_push s.tables table, length_push s.spans list),
+      omega (arith, level.1, length_push s.tables table, length_push s.gifts own),
+    ) in
     let later : ReadsTo p 6 (others ++ rest) more c =
-    numbered-back p c rest every v tables spans more (id + 1) (omega (arith, length_push s.tables table)) (omega (arith, length_push s.tables table, length_push s.spans list))
-    (append_assoc s.spans (list ∷ []) spans ∙ together) (omega arith) (omega arith)
-    (All-tail (All (IsShareInRange p)) table tables shares-fit) (All-tail (All (IsSpanInRange p)) list spans spans-fit) free
-    (moved p rest s c (ending s.tables table ++ tables) (s.tables ++ (table ∷ tables)) (ending s.spans list ++ spans) (s.spans ++ (list ∷ spans))
-    (append_assoc s.tables (table ∷ []) tables) (append_assoc s.spans (list ∷ []) spans) after) in
-    let inside = table-back p s c table list (others ++ rest) v free (All-head (All (IsShareInRange p)) table tables shares-fit)
-    (All-head (All (IsSpanInRange p)) list spans spans-fit) later in
-    let lines : ((shares ++ runs) ++ others) ++ rest ≡ shares ++ (runs ++ (others ++ rest)) =
-    append_assoc (shares ++ runs) others rest ∙ append_assoc shares runs (others ++ rest) in
-    subst (λ (ls : List ClassSpan). ReadsTo p 6 (table_fields id ∷ (((shares ++ flat_map (span_rows p) ls) ++ others) ++ rest)) s c) (sym mine)
-    (one-line p 6 section.Tables (table_fields id) s fresh c (((shares ++ runs) ++ others) ++ rest) (lit≤ tt)
+    numbered-back p c rest every whole v tables spans gifts more (id + 1) (omega (arith, length_push s.tables table)) still
+    (append_assoc s.spans (list ∷ []) spans ∙ together) (append_assoc s.gifts (own ∷ []) gifts ∙ given) (omega (arith, beside.0), omega (arith, beside.1)) (omega arith)
+    (All-tail (All (IsShareInRange p)) table tables fit.0, All-tail (All (IsSpanInRange p)) list spans fit.1, All-tail (All (IsGiftInRange p)) own gifts fit.2) free
+    (moved p rest s c (ending s.tables table ++ tables) (s.tables ++ (table ∷ tables)) (ending s.spans list ++ spans) (s.spans ++ (list ∷ spans)) (ending s.gifts own ++ gifts) (s.gifts ++ (own ∷ gifts))
+    (append_assoc s.tables (table ∷ []) tables) (append_assoc s.spans (list ∷ []) spans) (append_assoc s.gifts (own ∷ []) gifts) after) in
+    let inside = table-back p s c table list own (others ++ rest) v free (All-head (All (IsShareInRange p)) table tables fit.0)
+    (All-head (All (IsSpanInRange p)) list spans fit.1) (All-head (All (IsGiftInRange p)) own gifts fit.2) later in
+    let lines : ((shares ++ (runs ++ gives)) ++ others) ++ rest ≡ shares ++ (runs ++ (gives ++ (others ++ rest))) =
+    append_assoc (shares ++ (runs ++ gives)) others rest
+    ∙ append_assoc shares (runs ++ gives) (others ++ rest)
+    ∙ ap (λ (l : List (List (List ℕ))). shares ++ l) (append_assoc runs gives (others ++ rest)) in
+    subst (λ (ls : List ClassSpan). ReadsTo p 6 (table_fields id ∷ (((shares ++ beside_rows p ls (gifts_of_table whole id)) ++ others) ++ rest)) s c) (sym held)
+    (subst (λ (gs : List Gift). ReadsTo p 6 (table_fields id ∷ (((shares ++ beside_rows p list gs) ++ others) ++ rest)) s c) (sym mine)
+    (one-line p 6 section.Tables (table_fields id) s fresh c (((shares ++ (runs ++ gives)) ++ others) ++ rest) (lit≤ tt)
     (λ g le. table-step p (at s g) id next (omega arith) (has_ended_at-before_end g (omega arith)) (is_misplaced_after-later g section.Tables s.answer refl le free))
-    (subst (λ (ls : List (List (List ℕ))). ReadsTo p 6 ls fresh c) (sym lines) inside))
+    (subst (λ (ls : List (List (List ℕ))). ReadsTo p 6 ls fresh c) (sym lines) inside)))
 
 -- all tables
-pub tables-back : (p : Problem) (s c : Statement) (tables : List (List ClassShare)) (spans : List (List ClassSpan)) (rest : List (List (List ℕ))) → IsValid p
-    → s.tables ≡ [] → s.spans ≡ [] → length spans ≡ length tables → length tables < 2 ^ 32 - 1 → All (All (IsShareInRange p)) tables → All (All (IsSpanInRange p)) spans
-    → (is_forbidden s.answer section.Tables ≡ false) ⊎ ((tables ≡ []) × (spans ≡ []))
-    → ReadsTo p 6 rest (record s { tables = tables; spans = spans }) c → ReadsTo p 6 (tables_rows p spans 1 tables ++ rest) s c
-tables-back p s c tables spans rest v none bare beside few shares-fit spans-fit (inl free) after =
-    let start : 1 ≡ length s.tables + 1 = rw none refl in
-    let level : length s.spans ≡ length s.tables = rw (none, bare) refl in
-    let no-tables : s.tables ++ tables ≡ tables = rw none refl in
-    let no-spans : s.spans ++ spans ≡ spans = rw bare refl in
-    numbered-back p c rest spans v tables spans s 1 start level no-spans beside (omega arith) shares-fit spans-fit free
-    (moved p rest s c (s.tables ++ tables) tables (s.spans ++ spans) spans no-tables no-spans after)
-tables-back p s c tables spans rest v none bare beside few shares-fit spans-fit (inr empty) after =
-    subst (λ (ts : List (List ClassShare)). ReadsTo p 6 (tables_rows p spans 1 ts ++ rest) s c) (sym empty.0)
-    (moved p rest s c s.tables tables s.spans spans (none ∙ sym empty.0) (bare ∙ sym empty.1) after)
+pub tables-back : (p : Problem) (s c : Statement) (tables : List (List ClassShare)) (spans : List (List ClassSpan)) (gifts : List (List Gift)) (rest : List (List (List ℕ))) → IsValid p
+    → (s.tables ≡ []) × (s.spans ≡ []) × (s.gifts ≡ []) → AreLevel tables spans gifts → length tables < 2 ^ 32 - 1 → AreFit p tables spans gifts
+    → (is_forbidden s.answer section.Tables ≡ false) ⊎ ((tables ≡ []) × (spans ≡ []) × (gifts ≡ []))
+    → ReadsTo p 6 rest (record s { tables = tables; spans = spans; gifts = gifts }) c → ReadsTo p 6 (tables_rows p spans gifts 1 tables ++ rest) s c
+tables-back p s c tables spans gifts rest v none beside few fit (inl free) after =
+    let start : 1 ≡ length s.tables + 1 = rw none.0 refl in
+    let level : AreLevel s.tables s.spans s.gifts = (rw (none.0, none.1) refl, rw (none.0, none.2) refl) in
+    let no-tables : s.tables ++ tables ≡ tables = rw none.0 refl in
+    let no-spans : s.spans ++ spans ≡ spans = rw none.1 refl in
+    let no-gifts : s.gifts ++ gifts ≡ gifts = rw none.2 refl in
+    numbered-back p c rest spans gifts v tables spans gifts s 1 start level no-spans no-gifts beside (omega arith) fit free
+    (moved p rest s c (s.tables ++ tables) tables (s.spans ++ spans) spans (s.gifts ++ gifts) gifts no-tables no-spans no-gifts after)
+tables-back p s c tables spans gifts rest v none beside few fit (inr empty) after =
+    subst (λ (ts : List (List ClassShare)). ReadsTo p 6 (tables_rows p spans gifts 1 ts ++ rest) s c) (sym empty.0)
+    (moved p rest s c s.tables tables s.spans spans s.gifts gifts (none.0 ∙ sym empty.0) (none.1 ∙ sym empty.1) (none.2 ∙ sym empty.2) after)

@@ -19,6 +19,8 @@ abbrev pub split_kind : List ℕ → Option LineKind
 split_kind word =
     if bytes_eq word (codes "arc") then Some kind.ByArc
     else if bytes_eq word (codes "time") then Some kind.ByTime
+    else if bytes_eq word (codes "trucks") then Some kind.ByTrucks
+    else if bytes_eq word (codes "way") then Some kind.ByWay
     else None
 
 -- the kind of a line, if it has one
@@ -35,6 +37,7 @@ kind_of fields =
     else if is_kind (codes "span") fields then Some kind.Span
     else if is_kind (codes "weight") fields then Some kind.Weight
     else if is_kind (codes "group") fields then Some kind.Group
+    else if is_kind (codes "gift") fields then Some kind.Gift
     else if is_kind (codes "split") fields then split_kind (field fields 1)
     else if is_kind (codes "leaf") fields then Some kind.Leaf
     else if is_kind (codes "end") fields then Some kind.End

@@ -18,6 +18,7 @@ pub record HasTimetableAlone (c : Statement) : Type 0 where
   pub points : c.points ≡ []
   pub tables : c.tables ≡ []
   pub spans : c.spans ≡ []
+  pub gifts : c.gifts ≡ []
   pub tree : c.tree ≡ []
 
 -- there is nothing beside an answer

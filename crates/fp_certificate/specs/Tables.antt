@@ -1,21 +1,21 @@
 -- The lines of tables, shares, spans, weights and groups: their faults in the order in which they are
 -- looked for, and what they give.
 use Rattle.std.specs.Prelude.{ℕ, ◌+◌, List, [], ◌∷◌, ◌++◌, length, Bool, true, false, ◌&&◌, ◌||◌, not, ◌==◌, if◌then◌else◌, Some}
-use Rattle.fp_model.specs.declared.limits.TheConstants.{LATEST}
 use Rattle.fp_model.specs.Problem.{Problem}
 use Rattle.fp_prices.specs.declared.tables.Weight.{Weight}
 use Rattle.fp_prices.specs.Shares.{ClassShare}
+use Rattle.fp_prices_gifts.specs.declared.gifts.Gift.{Gift}
 use Rattle.fp_prices_spans.specs.Spans.{ClassSpan}
 use Rattle.fp_records_fields.specs.Findings.{finding}
 use Rattle.fp_records_fields.specs.Findings.{Finding}
-use Rattle.fp_records_fields.specs.Fields.{has_number, is_between, number_at}
+use Rattle.fp_records_fields.specs.Fields.{has_number, number_at}
 use Rattle.fp_records.specs.Fields.{is_empty}
 use Rattle.fp_certificate.specs.declared.drafts.Draft.{Draft}
 use Rattle.fp_certificate.specs.declared.lines.sections.Section.TheVariants as section
 use Rattle.fp_certificate.specs.Answers.{is_figure}
 use Rattle.fp_certificate.specs.Sections.{is_misplaced}
 use Rattle.fp_records_fields.specs.NamedParts.{arc_in, lacks_arc, lacks_shipment, shipment_in}
-use Rattle.fp_certificate.specs.Timetables.{is_time}
+use Rattle.fp_certificate.specs.Timetables.{ends_in_range, is_time}
 
 -- a list with what a function makes of its last element
 abbrev pub with_last : {A : Type 0} → (A → A) → List A → List A
@@ -51,10 +51,18 @@ is_grouped span = not (is_empty span.groups)
 abbrev pub has_group : List (List ClassSpan) → Bool
 has_group spans = last_is (λ (list : List ClassSpan). last_is is_grouped list) spans
 
--- whether a weight can't stand in the last table: the last of its spans has a group already, or it has
--- neither a span nor a share
+-- whether a gift stands in the last table
+abbrev pub has_gift : List (List Gift) → Bool
+has_gift gifts = not (lacks_last gifts)
+
+-- whether the last table has nothing that a weight can be of: the last of its spans has a group already,
+-- or it has neither a span nor a share
 abbrev pub lacks_weighed : List (List ClassShare) → List (List ClassSpan) → Bool
 lacks_weighed tables spans = if has_span spans then has_group spans else lacks_share tables
+
+-- whether a weight can't stand in the last table: it has a gift already, or nothing that a weight can be of
+abbrev pub bars_weight : List (List ClassShare) → List (List ClassSpan) → List (List Gift) → Bool
+bars_weight tables spans gifts = has_gift gifts || lacks_weighed tables spans
 
 -- the faults of `table,ID`. An ID has to be the next number, so none that passes is out of range
 abbrev pub table_faults : Draft → List (List ℕ) → List Finding
@@ -69,16 +77,23 @@ abbrev pub with_lists : Draft → List (List ClassShare) → List (List ClassSpa
 with_lists before tables spans =
     record { certificate = record before.certificate { tables = tables; spans = spans }; latest = Some section.Tables }
 
--- a draft with one more table, which has neither shares nor spans yet
+-- a draft with one more table, which has no shares, no spans and no gifts yet
 abbrev pub with_table : Draft → Draft
-with_table before = with_lists before (before.certificate.tables ++ ([] ∷ [])) (before.certificate.spans ++ ([] ∷ []))
+with_table before = record {
+  certificate = record before.certificate {
+    tables = before.certificate.tables ++ ([] ∷ []);
+    spans = before.certificate.spans ++ ([] ∷ []);
+    gifts = before.certificate.gifts ++ ([] ∷ []);
+  };
+  latest = Some section.Tables;
+}
 
--- the faults of `share,FROM,TO,POINT,V`. The shares of a table stand before its spans
+-- the faults of `share,FROM,TO,POINT,V`. The shares of a table stand before its spans and its gifts
 abbrev pub share_faults : Problem → Draft → List (List ℕ) → List Finding
 share_faults p before fields =
     finding 22 (not (length fields == 5))
     ∷ finding 23 (not (has_number fields 3 && has_number fields 4))
-    ∷ finding 24 (is_misplaced before section.Tables || is_empty before.certificate.tables || has_span before.certificate.spans)
+    ∷ finding 24 (is_misplaced before section.Tables || is_empty before.certificate.tables || has_span before.certificate.spans || has_gift before.certificate.gifts)
     ∷ finding 25 (lacks_arc p fields 1 2)
     ∷ finding 28 (not (is_time fields 3 && is_figure fields 4))
     ∷ []
@@ -95,19 +110,15 @@ and_share share table = table ++ (share ∷ [])
 abbrev pub with_share : Draft → ClassShare → Draft
 with_share before share = with_lists before (with_last (and_share share) before.certificate.tables) before.certificate.spans
 
--- whether the end of a span is after its point, and at most 100,001
-abbrev pub has_end_in_range : List (List ℕ) → Bool
-has_end_in_range fields = is_between (number_at fields 3 + 1) (LATEST + 1) fields 4
-
 -- the faults of `span,FROM,TO,POINT,UNTIL,MONEY,CHARGE`. Each table brings a list of spans, so there
--- is none where there is no table
+-- is none where there is no table. The spans of a table stand before its gifts
 abbrev pub span_faults : Problem → Draft → List (List ℕ) → List Finding
 span_faults p before fields =
     finding 22 (not (length fields == 7))
     ∷ finding 23 (not (has_number fields 3 && has_number fields 4 && (has_number fields 5 && has_number fields 6)))
-    ∷ finding 24 (is_misplaced before section.Tables || is_empty before.certificate.spans)
+    ∷ finding 24 (is_misplaced before section.Tables || is_empty before.certificate.spans || has_gift before.certificate.gifts)
     ∷ finding 25 (lacks_arc p fields 1 2)
-    ∷ finding 28 (not (is_time fields 3 && has_end_in_range fields && is_figure fields 5 && is_figure fields 6))
+    ∷ finding 28 (not (is_time fields 3 && ends_in_range fields 3 4 && is_figure fields 5 && is_figure fields 6))
     ∷ []
 
 -- the span of a line, which has neither weights nor groups yet
@@ -131,12 +142,12 @@ abbrev pub with_span : Draft → ClassSpan → Draft
 with_span before span = with_lists before before.certificate.tables (with_last (and_span span) before.certificate.spans)
 
 -- the faults of `weight,SHIPMENT,W`. It stands in a share or in a span of the last table, before the
--- groups of the span
+-- groups of the span and the gifts of the table
 abbrev pub weight_faults : Problem → Draft → List (List ℕ) → List Finding
 weight_faults p before fields =
     finding 22 (not (length fields == 3))
     ∷ finding 23 (not (has_number fields 2))
-    ∷ finding 24 (is_misplaced before section.Tables || lacks_weighed before.certificate.tables before.certificate.spans)
+    ∷ finding 24 (is_misplaced before section.Tables || bars_weight before.certificate.tables before.certificate.spans before.certificate.gifts)
     ∷ finding 25 (lacks_shipment p fields 1)
     ∷ finding 28 (not (is_figure fields 2))
     ∷ []
@@ -168,12 +179,12 @@ with_weight before weight =
     if has_span before.certificate.spans then with_lists before before.certificate.tables (and_last_span_weight weight before.certificate.spans)
     else with_lists before (and_last_share_weight weight before.certificate.tables) before.certificate.spans
 
--- the faults of `group,MOMENT`. It stands in a span of the last table
+-- the faults of `group,MOMENT`. It stands in a span of the last table, before the gifts of the table
 abbrev pub group_faults : Draft → List (List ℕ) → List Finding
 group_faults before fields =
     finding 22 (not (length fields == 2))
     ∷ finding 23 (not (has_number fields 1))
-    ∷ finding 24 (is_misplaced before section.Tables || not (has_span before.certificate.spans))
+    ∷ finding 24 (is_misplaced before section.Tables || not (has_span before.certificate.spans) || has_gift before.certificate.gifts)
     ∷ finding 28 (not (is_time fields 1))
     ∷ []
 

@@ -1,6 +1,6 @@
 -- The lines of legs and of trucks: their faults in the order in which they are looked for, and what
 -- they give.
-use Rattle.std.specs.Prelude.{ℕ, List, [], ◌∷◌, ◌++◌, length, Bool, ◌&&◌, ◌||◌, not, ◌==◌, Some}
+use Rattle.std.specs.Prelude.{ℕ, ◌+◌, List, [], ◌∷◌, ◌++◌, length, Bool, ◌&&◌, ◌||◌, not, ◌==◌, Some}
 use Rattle.fp_model.specs.declared.limits.TheConstants.{LATEST}
 use Rattle.fp_model.specs.Problem.{Problem}
 use Rattle.fp_records_fields.specs.Findings.{finding}
@@ -17,6 +17,10 @@ use Rattle.fp_records_fields.specs.NamedParts.{arc_in, lacks_arc, lacks_shipment
 -- whether the field at a place is a time in range
 abbrev pub is_time : List (List ℕ) → ℕ → Bool
 is_time fields place = is_between 0 LATEST fields place
+
+-- whether the end of a run, told at `place`, is after the run's point, told at `start`, and at most 100,001
+abbrev pub ends_in_range : List (List ℕ) → (start place : ℕ) → Bool
+ends_in_range fields start place = is_between (number_at fields start + 1) (LATEST + 1) fields place
 
 -- the faults of the arc and the time that a line names by its fields 1 to 3
 abbrev pub departure_faults : Problem → List (List ℕ) → List Finding

@@ -9,14 +9,15 @@ use Rattle.fp_records_fields.specs.Findings.{finding}
 use Rattle.fp_records_fields.specs.Findings.{Finding}
 use Rattle.fp_records_fields.specs.Fields.{has_number, is_between, number_at, has_word}
 use Rattle.fp_tree.specs.declared.layout.TheConstants.{MOST_SPLITS}
-use Rattle.fp_tree.specs.declared.sides.Split.TheVariants.{ByArc, ByTime}
+use Rattle.fp_tree.specs.declared.sides.Split.TheVariants.{ByArc, ByTime, ByTrucks, ByWay}
+use Rattle.fp_certificate_lines.specs.Ranges.{largest_count}
 use Rattle.fp_certificate_lines.specs.declared.certificates.Node.{Node}
 use Rattle.fp_certificate_lines.specs.declared.certificates.Node.TheVariants.{Branch, Leaf}
 use Rattle.fp_certificate.specs.declared.drafts.Draft.{Draft}
 use Rattle.fp_certificate.specs.declared.lines.sections.Section.TheVariants as section
 use Rattle.fp_certificate.specs.Sections.{is_misplaced}
 use Rattle.fp_records_fields.specs.NamedParts.{arc_in, lacks_arc, lacks_shipment, lacks_terminal, shipment_in, terminal_in}
-use Rattle.fp_certificate.specs.Timetables.{is_time}
+use Rattle.fp_certificate.specs.Timetables.{ends_in_range, is_time}
 
 -- the faults of `split,arc,SHIPMENT,FROM,TO`
 abbrev pub by_arc_faults : Problem → Draft → List (List ℕ) → List Finding
@@ -43,6 +44,28 @@ by_time_faults p before fields =
 -- the node of such a line
 abbrev pub by_time_in : Problem → List (List ℕ) → Node
 by_time_in p fields = Branch (ByTime (shipment_in p fields 2) (terminal_in p fields 3) (number_at fields 4))
+
+-- the faults of `split,trucks,FROM,TO,POINT,UNTIL,N`
+abbrev pub by_trucks_faults : Problem → Draft → List (List ℕ) → List Finding
+by_trucks_faults p before fields =
+    finding 22 (not (length fields == 7))
+    ∷ finding 23 (not (has_number fields 4 && has_number fields 5 && has_number fields 6))
+    ∷ finding 24 (is_misplaced before section.Tree)
+    ∷ finding 25 (lacks_arc p fields 2 3)
+    ∷ finding 28 (not (is_time fields 4 && ends_in_range fields 4 5 && is_between 0 largest_count fields 6))
+    ∷ []
+
+-- the node of such a line
+abbrev pub by_trucks_in : Problem → List (List ℕ) → Node
+by_trucks_in p fields = Branch (ByTrucks (arc_in p fields 2 3) (number_at fields 4) (number_at fields 5) (number_at fields 6))
+
+-- the faults of `split,way,SHIPMENT,FROM,TO`: those of a split by an arc
+abbrev pub by_way_faults : Problem → Draft → List (List ℕ) → List Finding
+by_way_faults p before fields = by_arc_faults p before fields
+
+-- the node of such a line
+abbrev pub by_way_in : Problem → List (List ℕ) → Node
+by_way_in p fields = Branch (ByWay (shipment_in p fields 2) (arc_in p fields 3 4))
 
 -- whether the kind of a leaf's prices is a word
 abbrev pub has_kind_word : List (List ℕ) → Bool

@@ -1,22 +1,25 @@
 //! What the lines of a certificate have given so far.
 ghost use Rattle.std.specs.Prelude.{◌≡◌, ◌<◌, false, length, MatchResult, Ok, OnOk, true};
 ghost use Rattle.fp_certificate.specs.Answers.{with_answer, with_scale, with_unit};
+ghost use Rattle.fp_certificate.specs.Gifts.{with_gift};
 ghost use Rattle.fp_certificate.specs.Sections.{has_ended, is_misplaced};
 ghost use Rattle.fp_certificate.specs.Points.{with_point};
 ghost use Rattle.fp_certificate.specs.Outcomes.{IsFirst};
 ghost use Rattle.fp_certificate.specs.Reading.{finished, nothing_read};
-ghost use Rattle.fp_certificate.specs.Tables.{has_span, lacks_weighed, with_group, with_share, with_span, with_table, with_weight};
+ghost use Rattle.fp_certificate.specs.Tables.{bars_weight, has_span, with_group, with_share, with_span, with_table, with_weight};
 ghost use Rattle.fp_certificate.specs.Timetables.{with_leg, with_truck};
 ghost use Rattle.fp_certificate.specs.Trees.{with_end, with_node};
 
 use crate::NoMemory;
 use crate::faults::CertFault;
 use crate::lines::sections::Section;
+use crate::open_gifts::{has_gift, push_gift};
 use crate::open_groups::{has_group, push_group};
 use crate::open_spans::{has_span, push_span, push_span_weight};
 use crate::open_tables::{lacks_share, push_share, push_weight};
 use fp_certificate_lines::{Answer, Certificate, Node};
 use fp_prices::{Share, Table, Weight};
+use fp_prices_gifts::{Gift, TableGifts};
 use fp_prices_spans::{Span, TableSpans};
 use fp_timenodes::AddedPoint;
 use fp_timetable::{LegLine, TruckLine};
@@ -46,6 +49,7 @@ impl Draft {
                 points: Vec::new(alloc),
                 tables: Vec::new(alloc),
                 spans: Vec::new(alloc),
+                gifts: Vec::new(alloc),
                 tree: Vec::new(alloc),
             },
             latest: None,
@@ -71,11 +75,14 @@ impl Draft {
         matches!(self.latest, Some(Section::End))
     }
 
-    /// Whether a weight can't stand in the last table: the last of its spans has a group already,
-    /// or it has neither a span nor a share.
-    pub fn lacks_weighed(&self) -> bool
-        ensures { result ≡ lacks_weighed self.now.certificate.tables self.now.certificate.spans }
+    /// Whether a weight can't stand in the last table: it has a gift already, or the last of its
+    /// spans has a group, or it has neither a span nor a share.
+    pub fn bars_weight(&self) -> bool
+        ensures { result ≡ bars_weight self.now.certificate.tables self.now.certificate.spans self.now.certificate.gifts }
     {
+        if has_gift(&self.certificate.gifts) {
+            return true;
+        }
         if has_span(&self.certificate.spans) {
             has_group(&self.certificate.spans)
         } else {
@@ -137,7 +144,7 @@ impl Draft {
         Ok(())
     }
 
-    /// Adds a table with neither shares nor spans. The only error is `NoMemory`.
+    /// Adds a table with no shares, no spans and no gifts. The only error is `NoMemory`.
     pub fn add_table(&mut self) -> Result<(), NoMemory>
         ensures { OnOk result (self.new ≡ with_table self.old) }
     {
@@ -148,6 +155,9 @@ impl Draft {
         })?;
         certificate.spans.push(TableSpans {
             spans: Vec::new(alloc),
+        })?;
+        certificate.gifts.push(TableGifts {
+            gifts: Vec::new(alloc),
         })?;
         self.latest = Some(Section::Tables);
         Ok(())
@@ -178,7 +188,7 @@ impl Draft {
     /// Adds a weight to the last span of the last table, or to its last share where it has no span.
     /// The only error is `NoMemory`.
     pub fn add_weight(&mut self, weight: Weight) -> Result<(), NoMemory>
-        requires { lacks_weighed self.old.certificate.tables self.old.certificate.spans ≡ false }
+        requires { bars_weight self.old.certificate.tables self.old.certificate.spans self.old.certificate.gifts ≡ false }
         ensures { OnOk result (self.new ≡ with_weight self.old weight) }
     {
         let certificate = &mut self.certificate;
@@ -199,6 +209,17 @@ impl Draft {
     {
         let certificate = &mut self.certificate;
         push_group(&mut certificate.spans, moment)?;
+        self.latest = Some(Section::Tables);
+        Ok(())
+    }
+
+    /// Adds a gift to the last list of gifts. The only error is `NoMemory`.
+    pub fn add_gift(&mut self, gift: Gift) -> Result<(), NoMemory>
+        requires { 0 < length self.old.certificate.gifts }
+        ensures { OnOk result (self.new ≡ with_gift self.old gift) }
+    {
+        let certificate = &mut self.certificate;
+        push_gift(&mut certificate.gifts, gift)?;
         self.latest = Some(Section::Tables);
         Ok(())
     }

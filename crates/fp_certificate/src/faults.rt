@@ -11,15 +11,15 @@ pub enum CertFault {
     ///
     /// - 21: its first field is no kind of a certificate's line, or the second field of an `answer`
     ///   is none of `direct`, `optimal`, `unfinished` and `infeasible`, or that of a `split` is
-    ///   neither `arc` nor `time`.
+    ///   none of `arc`, `time` and `trucks`.
     /// - 22: the number of fields isn't that of the line.
     /// - 23: a field is neither a number nor a word where its place takes one.
     /// - 24: the line can't stand here. An `answer` stands first and nothing else does; no line
     ///   stands after one of a later section (answer, scale, unit, legs, trucks, points, tables
-    ///   with their shares, spans, weights and groups, tree, end); there is one scale and one unit;
+    ///   with their shares, spans, weights, groups and gifts, tree, end); there is one scale and one unit;
     ///   a table has the next number; a share stands in a table before its spans, a span in a
-    ///   table, a weight in a share or a span of the last table and before the span's groups, and a
-    ///   group in a span of the last table; under a direct answer there are legs and trucks alone,
+    ///   table, a weight in a share or a span of the last table and before the span's groups, a
+    ///   group in a span of the last table, and a gift in a table after all of these; under a direct answer there are legs and trucks alone,
     ///   and under an infeasible one nothing but `end`.
     /// - 25: no shipment or no terminal has the name, or no arc joins the ends.
     /// - 26: the records end without `end`. The ordinal is one past that of the last record.

@@ -6,6 +6,7 @@ mod drafts;
 mod faults;
 mod laws;
 mod lines;
+mod open_gifts;
 mod open_groups;
 mod open_spans;
 mod open_tables;

@@ -3,6 +3,7 @@ pub(crate) mod answers;
 pub(crate) mod ends;
 pub(crate) mod faults;
 pub(crate) mod fields;
+pub(crate) mod gifts;
 pub(crate) mod groups;
 pub(crate) mod kinds;
 pub(crate) mod leaves;

@@ -14,6 +14,7 @@ use crate::faults::CertFault;
 use crate::lines::answers::{read_direct, read_infeasible, read_optimal, read_unfinished};
 use crate::lines::ends::read_end;
 use crate::lines::faults::LineFault;
+use crate::lines::gifts::read_gift;
 use crate::lines::groups::read_group;
 use crate::lines::kinds::{LineKind, kind_of};
 use crate::lines::leaves::read_leaf;
@@ -22,7 +23,7 @@ use crate::lines::points::read_point;
 use crate::lines::scales::read_scale;
 use crate::lines::shares::read_share;
 use crate::lines::spans::read_span;
-use crate::lines::splits::{read_by_arc, read_by_time};
+use crate::lines::splits::{read_by_arc, read_by_time, read_by_trucks, read_by_way};
 use crate::lines::tables::read_table;
 use crate::lines::trucks::read_truck;
 use crate::lines::units::read_unit;
@@ -60,8 +61,11 @@ fn read_kind(
         LineKind::Span => read_span(lookup, draft, line),
         LineKind::Weight => read_weight(lookup, draft, line),
         LineKind::Group => read_group(draft, line),
+        LineKind::Gift => read_gift(lookup, draft, line),
         LineKind::ByArc => read_by_arc(lookup, draft, line),
         LineKind::ByTime => read_by_time(lookup, draft, line),
+        LineKind::ByTrucks => read_by_trucks(lookup, draft, line),
+        LineKind::ByWay => read_by_way(lookup, draft, line),
         LineKind::Leaf => read_leaf(draft, line),
         LineKind::End => read_end(draft, line),
     }
@@ -119,9 +123,11 @@ fn draft_of(
 ///
 /// There are fewer than `2^32 - 1` records, and `from` is at most their number. Ordinals count from
 /// 1 over all records. The records are the lines that [`fp_certificate_lines::write`] tells of, in
-/// that order; legs, trucks, shares, spans, weights and groups may stand in any order among
-/// themselves. A number is one or more ASCII digits, leading zeros allowed. A certificate that was
-/// read is in range: times are at most 100,000, a span ends after its point and at most at 100,001,
+/// that order; legs, trucks, shares, spans, weights, groups and gifts may stand in any order
+/// among themselves. A number is one or more ASCII digits, leading zeros allowed. A certificate that was
+/// read is in range: times are at most 100,000, a span, a gift and the run
+/// of a split by trucks end after their point and at most at 100,001, the number of such a split is at
+/// most 4,294,967,295,
 /// rounds are at most 4,000, a point's round at least 1, a fastest time at most 10,000,000, a scale
 /// is 1 to 1,000,000,000 and fits the instance, a unit is at least 1, all other numbers are at most
 /// `2^127 - 1`, and the tables that leaves name exist. Its tables, and the shares and the spans of

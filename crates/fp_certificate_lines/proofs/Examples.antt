@@ -1,14 +1,15 @@
 -- A worked certificate and its lines.
 use Rattle.std.proofs.Common.{◌≡◌, ℕ, List, [], ◌∷◌, refl}
 use Rattle.std.specs.Fmt.{digits}
-use Rattle.std.specs.Prelude.{Option, None, Some, codes, true}
+use Rattle.std.specs.Prelude.{Option, None, Some, codes, false, true}
 use Rattle.fp_model.specs.Problem.{Problem}
 use Rattle.fp_prices.specs.declared.leaf_prices.Kind.TheVariants.{Linear, Table}
+use Rattle.fp_tree.specs.declared.sides.Split.TheVariants.{ByTrucks, ByWay}
 use Rattle.fp_tree.specs.declared.sides.Side.{Side}
 use Rattle.fp_tree.specs.declared.sides.Side.TheVariants.{Only, Without}
 use Rattle.fp_certificate_lines.specs.declared.certificates.Answer.TheVariants.{Optimal}
 use Rattle.fp_certificate_lines.specs.declared.certificates.Node.TheVariants.{Leaf}
-use Rattle.fp_certificate_lines.specs.Rows.{kind_text, leaf_fields, rows_of, tables_rows}
+use Rattle.fp_certificate_lines.specs.Rows.{kind_text, leaf_fields, rows_of, split_fields, tables_rows}
 use Rattle.fp_certificate_lines.specs.Statements.{Statement}
 use Rattle.fp_certificate_lines.specs.Valuations.{sides_valued}
 
@@ -33,6 +34,7 @@ best = record {
   points = [];
   tables = [];
   spans = [];
+  gifts = [];
   tree = Leaf (record { price = record { kind = Linear; round = 0; forced = true }; sides = None }) ∷ [];
 }
 
@@ -63,14 +65,14 @@ unfolding digits
 writes = refl
 
 -- tables are numbered from 1, and weights follow their shares
-numbered : tables_rows small [] 1 ([] ∷ ((record { arc = 0; point = 7; v = 20; weights = (record { shipment = 0; w = 3 }) ∷ [] }) ∷ []) ∷ [])
+numbered : tables_rows small [] [] 1 ([] ∷ ((record { arc = 0; point = 7; v = 20; weights = (record { shipment = 0; w = 3 }) ∷ [] }) ∷ []) ∷ [])
     ≡ (codes "table" ∷ codes "1" ∷ []) ∷ (codes "table" ∷ codes "2" ∷ []) ∷ (codes "share" ∷ codes "A" ∷ codes "B" ∷ codes "7" ∷ codes "20" ∷ [])
     ∷ (codes "weight" ∷ codes "S1" ∷ codes "3" ∷ []) ∷ []
 unfolding digits
 numbered = refl
 
 -- spans follow the shares of their table
-beside : tables_rows small ([] ∷ (record { arc = 0; point = 7; until = 9; money = 100; charge = 5; weights = (record { shipment = 0; w = 3 }) ∷ []; groups = [] } ∷ []) ∷ []) 1
+beside : tables_rows small ([] ∷ (record { arc = 0; point = 7; until = 9; money = 100; charge = 5; weights = (record { shipment = 0; w = 3 }) ∷ []; groups = [] } ∷ []) ∷ []) [] 1
     ([] ∷ ((record { arc = 0; point = 7; v = 20; weights = [] }) ∷ []) ∷ [])
     ≡ (codes "table" ∷ codes "1" ∷ []) ∷ (codes "table" ∷ codes "2" ∷ []) ∷ (codes "share" ∷ codes "A" ∷ codes "B" ∷ codes "7" ∷ codes "20" ∷ [])
     ∷ (codes "span" ∷ codes "A" ∷ codes "B" ∷ codes "7" ∷ codes "9" ∷ codes "100" ∷ codes "5" ∷ []) ∷ (codes "weight" ∷ codes "S1" ∷ codes "3" ∷ []) ∷ []
@@ -78,11 +80,29 @@ unfolding digits
 beside = refl
 
 -- groups follow the weights of their span
-grouped : tables_rows small ((record { arc = 0; point = 0; until = 9; money = 100; charge = 0; weights = (record { shipment = 0; w = 3 }) ∷ []; groups = 4 ∷ 6 ∷ [] } ∷ []) ∷ []) 1 ([] ∷ [])
+grouped : tables_rows small ((record { arc = 0; point = 0; until = 9; money = 100; charge = 0; weights = (record { shipment = 0; w = 3 }) ∷ []; groups = 4 ∷ 6 ∷ [] } ∷ []) ∷ []) [] 1 ([] ∷ [])
     ≡ (codes "table" ∷ codes "1" ∷ []) ∷ (codes "span" ∷ codes "A" ∷ codes "B" ∷ codes "0" ∷ codes "9" ∷ codes "100" ∷ codes "0" ∷ [])
     ∷ (codes "weight" ∷ codes "S1" ∷ codes "3" ∷ []) ∷ (codes "group" ∷ codes "4" ∷ []) ∷ (codes "group" ∷ codes "6" ∷ []) ∷ []
 unfolding digits
 grouped = refl
+
+-- gifts follow the spans of their table, whether it has spans or none
+given : tables_rows small ((record { arc = 0; point = 0; until = 9; money = 40; charge = 0; weights = []; groups = 4 ∷ [] } ∷ []) ∷ ([] ∷ []))
+    ((record { arc = 0; point = 0; until = 11; least = true; amount = 60 } ∷ []) ∷ ((record { arc = 0; point = 3; until = 8; least = false; amount = 5 } ∷ []) ∷ [])) 1 ([] ∷ ([] ∷ []))
+    ≡ (codes "table" ∷ codes "1" ∷ []) ∷ (codes "span" ∷ codes "A" ∷ codes "B" ∷ codes "0" ∷ codes "9" ∷ codes "40" ∷ codes "0" ∷ []) ∷ (codes "group" ∷ codes "4" ∷ [])
+    ∷ (codes "gift" ∷ codes "A" ∷ codes "B" ∷ codes "0" ∷ codes "11" ∷ codes "least" ∷ codes "60" ∷ []) ∷ (codes "table" ∷ codes "2" ∷ [])
+    ∷ (codes "gift" ∷ codes "A" ∷ codes "B" ∷ codes "3" ∷ codes "8" ∷ codes "most" ∷ codes "5" ∷ []) ∷ []
+unfolding digits
+given = refl
+
+-- a split by trucks names no shipment
+by-trucks : split_fields small (ByTrucks 0 2 9 1) ≡ codes "split" ∷ codes "trucks" ∷ codes "A" ∷ codes "B" ∷ codes "2" ∷ codes "9" ∷ codes "1" ∷ []
+unfolding digits
+by-trucks = refl
+
+-- one by a way does
+by-way : split_fields small (ByWay 0 0) ≡ codes "split" ∷ codes "way" ∷ codes "S1" ∷ codes "A" ∷ codes "B" ∷ []
+by-way = refl
 
 -- a leaf that is valued under its first sides alone tells how many these are
 valued-first : leaf_fields (record { price = record { kind = Linear; round = 0; forced = true }; sides = Some 2 })

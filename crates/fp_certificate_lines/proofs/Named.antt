@@ -7,12 +7,12 @@ use Rattle.fp_prices.specs.Shares.{ClassShare}
 use Rattle.fp_prices_spans.specs.Spans.{ClassSpan}
 use Rattle.fp_timetable.specs.Lines.{LegExists, TruckExists}
 use Rattle.fp_tree.specs.declared.sides.Split.{Split}
-use Rattle.fp_tree.specs.declared.sides.Split.TheVariants.{ByArc, ByTime}
+use Rattle.fp_tree.specs.declared.sides.Split.TheVariants.{ByArc, ByTime, ByTrucks, ByWay}
 use Rattle.fp_certificate_lines.specs.declared.certificates.Answer.{Answer}
 use Rattle.fp_certificate_lines.specs.declared.certificates.Answer.TheVariants.{Direct, Optimal, Unfinished, Infeasible}
 use Rattle.fp_certificate_lines.specs.declared.certificates.Node.{Node}
 use Rattle.fp_certificate_lines.specs.declared.certificates.Node.TheVariants.{Branch, Leaf}
-use Rattle.fp_certificate_lines.specs.Ranges.{AnswerExists, IsAnswerInRange, IsInRange, IsLegInRange, IsNamed, IsNodeInRange, IsPointInRange, IsShareInRange, IsSpanInRange, IsSplitInRange, IsTruckInRange, IsWeightInRange, NodeExists, PointExists, ShareExists, SpanExists, SplitExists, WeightExists}
+use Rattle.fp_certificate_lines.specs.Ranges.{AnswerExists, GiftExists, IsGiftInRange, IsAnswerInRange, IsInRange, IsLegInRange, IsNamed, IsNodeInRange, IsPointInRange, IsShareInRange, IsSpanInRange, IsSplitInRange, IsTruckInRange, IsWeightInRange, NodeExists, PointExists, ShareExists, SpanExists, SplitExists, WeightExists}
 use Rattle.fp_certificate_lines.specs.Statements.{Statement}
 
 answer-exists : (p : Problem) (a : Answer) → IsAnswerInRange p a → AnswerExists p a
@@ -30,6 +30,8 @@ span-exists p s r = record { arc = r.arc; weights = All-weaker (IsWeightInRange 
 split-exists : (p : Problem) (s : Split) → IsSplitInRange p s → SplitExists p s
 split-exists p (ByArc shipment arc) r = r
 split-exists p (ByTime shipment terminal at) r = (r.0, r.1)
+split-exists p (ByTrucks arc point until most) r = r.arc
+split-exists p (ByWay shipment arc) r = r
 
 node-exists : (p : Problem) (tables : List (List ClassShare)) (n : Node) → IsNodeInRange p tables n → NodeExists p n
 node-exists p tables (Branch split) r = split-exists p split r
@@ -44,5 +46,6 @@ in-range-named p c r = record {
   points = All-weaker (IsPointInRange p) (PointExists p) (λ x h. h.terminal) c.points r.points;
   tables = All-weaker (All (IsShareInRange p)) (All (ShareExists p)) (λ t h. All-weaker (IsShareInRange p) (ShareExists p) (share-exists p) t h) c.tables r.tables;
   spans = All-weaker (All (IsSpanInRange p)) (All (SpanExists p)) (λ t h. All-weaker (IsSpanInRange p) (SpanExists p) (span-exists p) t h) c.spans r.spans;
+  gifts = All-weaker (All (IsGiftInRange p)) (All (GiftExists p)) (λ t h. All-weaker (IsGiftInRange p) (GiftExists p) (λ g r. r.arc) t h) c.gifts r.gifts;
   tree = All-weaker (IsNodeInRange p c.tables) (NodeExists p) (node-exists p c.tables) c.tree r.tree;
 }

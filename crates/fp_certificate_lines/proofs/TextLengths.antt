@@ -15,6 +15,8 @@ use Rattle.fp_prices.specs.declared.leaf_prices.Kind.TheVariants.{Even, Linear, 
 use Rattle.fp_prices.specs.declared.tables.Weight.{Weight}
 use Rattle.fp_prices.specs.Shares.{ClassShare}
 use Rattle.fp_prices.specs.Tables.{AreCountable, HasKind}
+use Rattle.fp_prices_gifts.specs.declared.gifts.Gift.{Gift}
+use Rattle.fp_prices_gifts.specs.GiftKinds.{gifts_of_table}
 use Rattle.fp_prices_spans.specs.SpanKinds.{spans_of_table}
 use Rattle.fp_prices_spans.specs.Spans.{ClassSpan}
 use Rattle.fp_records.specs.Text.{line_of, lines_of}
@@ -23,7 +25,7 @@ use Rattle.fp_timetable.specs.declared.lines.LegLine.{LegLine}
 use Rattle.fp_timetable.specs.declared.lines.TruckLine.{TruckLine}
 use Rattle.fp_tree.specs.declared.layout.TheConstants.{MOST_SPLITS}
 use Rattle.fp_tree.specs.declared.sides.Split.{Split}
-use Rattle.fp_tree.specs.declared.sides.Split.TheVariants.{ByArc, ByTime}
+use Rattle.fp_tree.specs.declared.sides.Split.TheVariants.{ByArc, ByTime, ByTrucks, ByWay}
 use Rattle.fp_certificate_lines.specs.declared.certificates.Answer.{Answer}
 use Rattle.fp_certificate_lines.specs.declared.certificates.Answer.TheVariants.{Direct, Optimal, Unfinished, Infeasible}
 use Rattle.fp_certificate_lines.specs.declared.certificates.Node.{Node}
@@ -31,8 +33,8 @@ use Rattle.fp_certificate_lines.specs.declared.certificates.Node.TheVariants.{Br
 use Rattle.fp_certificate_lines.specs.declared.certificates.Spent.{Spent}
 use Rattle.fp_certificate_lines.specs.declared.certificates.Spent.TheVariants.{Rounds, Branches, Time}
 use Rattle.fp_certificate_lines.specs.Lengths.{most_bytes, node_bytes, price_rows}
-use Rattle.fp_certificate_lines.specs.Ranges.{HaveNames, IsAnswerInRange, IsGroupInRange, IsInRange, IsLegInRange, IsNodeInRange, IsPointInRange, IsScaleInRange, IsShareInRange, IsSpanInRange, IsSplitInRange, IsTruckInRange, IsUnitInRange, IsWeightInRange, largest_figure}
-use Rattle.fp_certificate_lines.specs.Rows.{answer_fields, end_fields, group_fields, head_name, kind_text, leg_fields, mode_text, node_fields, point_fields, rows_of, scale_rows, share_fields, share_rows, shipment_name, sides_fields, span_fields, span_rows, spent_text, split_fields, table_fields, table_rows, tables_rows, tail_name, terminal_name, time_text, truck_fields, unit_rows, weight_fields}
+use Rattle.fp_certificate_lines.specs.Ranges.{HaveNames, IsAnswerInRange, IsGiftInRange, IsGroupInRange, IsInRange, IsLegInRange, IsNodeInRange, IsPointInRange, IsScaleInRange, IsShareInRange, IsSpanInRange, IsSplitInRange, IsTruckInRange, IsUnitInRange, IsWeightInRange, largest_figure}
+use Rattle.fp_certificate_lines.specs.Rows.{answer_fields, beside_rows, end_fields, gift_fields, group_fields, head_name, kind_text, leg_fields, mode_text, node_fields, point_fields, rows_of, scale_rows, share_fields, share_rows, shipment_name, side_text, sides_fields, span_fields, span_rows, spent_text, split_fields, table_fields, table_rows, tables_rows, tail_name, terminal_name, time_text, truck_fields, unit_rows, weight_fields}
 use Rattle.fp_certificate_lines.specs.Statements.{Statement}
 use Rattle.fp_certificate_lines.proofs.LineLengths.{All-flat_map, All-made, IsShortRow, digits-le, field_bytes, line-bytes, lines-append, lines-cons, rows-bytes}
 
@@ -63,6 +65,12 @@ own-short (s ∷ shipments) (suc k) all = own-short shipments k all.1
 -- a length with a word's own
 word : (w : List ℕ) (n : ℕ) → length w ≡ n → length w ≤ n
 word w n is = omega (arith, is)
+
+-- what stands beside a table is in range, where all such lists are
+beside-range : {X : Type 0} (P : X → Type 0) (lists : List (List X)) (id : ℕ) → AllByRecursion (All P) lists → All P (slice_index_or lists id [])
+beside-range P [] id all = All-nil P
+beside-range P (xs ∷ lists) zero all = all.0
+beside-range P (xs ∷ lists) (suc id) all = beside-range P lists id all.1
 
 module _ (p : Problem) (valid : IsValid p) (names : HaveNames p) where
   terminal-short : (k : ℕ) → length (terminal_name p k) ≤ 32
@@ -169,28 +177,49 @@ module _ (p : Problem) (valid : IsValid p) (names : HaveNames p) where
       (All-append (IsShortRow 165) (map (weight_fields p) s.weights) (map group_fields s.groups) (weights-bytes s.weights r.weights)
       (All-made IsGroupInRange (IsShortRow 165) group_fields group-bytes s.groups r.groups))
 
-  -- a table's own line, and with it those of its shares and spans
+  -- the line of a gift, and the lines beside a table
+  side-short : (least : Bool) → length (side_text least) ≤ 5
+  side-short true = omega (arith, word (codes "least") 5 refl)
+  side-short false = omega (arith, word (codes "most") 4 refl)
+
+  gift-bytes : (g : Gift) → IsGiftInRange p g → IsShortRow 165 (gift_fields p g)
+  gift-bytes g r =
+      omega (
+        arith,
+        line-bytes (codes "gift") (tail_name p g.arc ∷ head_name p g.arc ∷ decimal g.point ∷ decimal g.until ∷ side_text g.least ∷ decimal g.amount ∷ []),
+        word (codes "gift") 4 refl,
+        tail-short g.arc,
+        head-short g.arc,
+        time-digits g.point (omega (arith, r.point)),
+        time-digits g.until r.until,
+        side-short g.least,
+        figure-digits g.amount r.amount,
+      )
+
+  besides-bytes : (spans : List ClassSpan) (gifts : List Gift) → All (IsSpanInRange p) spans → All (IsGiftInRange p) gifts → All (IsShortRow 165) (beside_rows p spans gifts)
+  besides-bytes spans gifts held given =
+      All-append (IsShortRow 165) (flat_map (span_rows p) spans) (map (gift_fields p) gifts) (All-flat_map (IsSpanInRange p) (IsShortRow 165) (span_rows p) spans-bytes spans held)
+      (All-made (IsGiftInRange p) (IsShortRow 165) (gift_fields p) gift-bytes gifts given)
+
+  -- a table's own line, and with it those of its shares and of what stands beside it
   table-bytes : (id : ℕ) → id < 2 ^ 32 → IsShortRow 165 (table_fields id)
   table-bytes id lt = omega (arith, line-bytes (codes "table") (decimal id ∷ []), word (codes "table") 5 refl, short-digits id lt)
 
-  one-table : (id : ℕ) (table : List ClassShare) (spans : List ClassSpan) → id < 2 ^ 32 → All (IsShareInRange p) table → All (IsSpanInRange p) spans → All (IsShortRow 165) (table_rows p id table spans)
-  one-table id table spans lt shares held =
-      All-cons (IsShortRow 165) (table_fields id) (flat_map (share_rows p) table ++ flat_map (span_rows p) spans) (table-bytes id lt)
-      (All-append (IsShortRow 165) (flat_map (share_rows p) table) (flat_map (span_rows p) spans) (All-flat_map (IsShareInRange p) (IsShortRow 165) (share_rows p) shares-bytes table shares)
-      (All-flat_map (IsSpanInRange p) (IsShortRow 165) (span_rows p) spans-bytes spans held))
+  one-table : (id : ℕ) (table : List ClassShare) (spans : List ClassSpan) (gifts : List Gift) → id < 2 ^ 32 → All (IsShareInRange p) table → All (IsSpanInRange p) spans → All (IsGiftInRange p) gifts →
+      All (IsShortRow 165) (table_rows p id table spans gifts)
+  one-table id table spans gifts lt shares held given =
+      All-cons (IsShortRow 165) (table_fields id) (flat_map (share_rows p) table ++ beside_rows p spans gifts) (table-bytes id lt)
+      (All-append (IsShortRow 165) (flat_map (share_rows p) table) (beside_rows p spans gifts) (All-flat_map (IsShareInRange p) (IsShortRow 165) (share_rows p) shares-bytes table shares)
+      (besides-bytes spans gifts held given))
 
-  -- the spans beside a table are in range, where all are
-  beside-range : (spans : List (List ClassSpan)) (id : ℕ) → AllByRecursion (All (IsSpanInRange p)) spans → All (IsSpanInRange p) (slice_index_or spans id [])
-  beside-range [] id all = All-nil (IsSpanInRange p)
-  beside-range (ss ∷ spans) zero all = all.0
-  beside-range (ss ∷ spans) (suc id) all = beside-range spans id all.1
-
-  tables-each : (spans : List (List ClassSpan)) → AllByRecursion (All (IsSpanInRange p)) spans → (id : ℕ) (tables : List (List ClassShare)) → id + length tables < 2 ^ 32 →
-      AllByRecursion (All (IsShareInRange p)) tables → All (IsShortRow 165) (tables_rows p spans id tables)
-  tables-each spans held id [] few all = All-nil (IsShortRow 165)
-  tables-each spans held id (table ∷ tables) few all =
-      All-append (IsShortRow 165) (table_rows p id table (spans_of_table spans id)) (tables_rows p spans (id + 1) tables)
-      (one-table id table (spans_of_table spans id) (omega (arith, few)) all.0 (beside-range spans (id - 1) held)) (tables-each spans held (id + 1) tables (omega (arith, few)) all.1)
+  -- the lines of tables, where the spans and the gifts of each list are in range
+  tables-each : (spans : List (List ClassSpan)) (gifts : List (List Gift)) → AllByRecursion (All (IsSpanInRange p)) spans → AllByRecursion (All (IsGiftInRange p)) gifts → (id : ℕ) (tables : List (List ClassShare)) →
+      id + length tables < 2 ^ 32 → AllByRecursion (All (IsShareInRange p)) tables → All (IsShortRow 165) (tables_rows p spans gifts id tables)
+  tables-each spans gifts held given id [] few all = All-nil (IsShortRow 165)
+  tables-each spans gifts held given id (table ∷ tables) few all =
+      All-append (IsShortRow 165) (table_rows p id table (spans_of_table spans id) (gifts_of_table gifts id)) (tables_rows p spans gifts (id + 1) tables)
+      (one-table id table (spans_of_table spans id) (gifts_of_table gifts id) (omega (arith, few)) all.0 (beside-range (IsSpanInRange p) spans (id - 1) held) (beside-range (IsGiftInRange p) gifts (id - 1) given))
+      (tables-each spans gifts held given (id + 1) tables (omega (arith, few)) all.1)
 
   -- a split's line, and a leaf's
   split-bytes : (s : Split) → IsSplitInRange p s → IsShortRow 109 (split_fields p s)
@@ -213,6 +242,28 @@ module _ (p : Problem) (valid : IsValid p) (names : HaveNames p) where
         shipment-short shipment,
         terminal-short terminal,
         time-digits at (omega (arith, r.2)),
+      )
+  split-bytes (ByTrucks arc point until most) r =
+      omega (
+        arith,
+        line-bytes (codes "split") (codes "trucks" ∷ tail_name p arc ∷ head_name p arc ∷ decimal point ∷ decimal until ∷ decimal most ∷ []),
+        word (codes "split") 5 refl,
+        word (codes "trucks") 6 refl,
+        tail-short arc,
+        head-short arc,
+        time-digits point (omega (arith, r.point)),
+        time-digits until r.until,
+        short-digits most (omega (arith, r.most)),
+      )
+  split-bytes (ByWay shipment arc) r =
+      omega (
+        arith,
+        line-bytes (codes "split") (codes "way" ∷ shipment_name p shipment ∷ tail_name p arc ∷ head_name p arc ∷ []),
+        word (codes "split") 5 refl,
+        word (codes "way") 3 refl,
+        shipment-short shipment,
+        tail-short arc,
+        head-short arc,
       )
 
   kind-short : (tables : List (List ClassShare)) (kind : Kind) → length tables < 2 ^ 32 → HasKind tables kind → length (kind_text kind) ≤ 10
@@ -321,7 +372,7 @@ module _ (p : Problem) (valid : IsValid p) (names : HaveNames p) where
       let last = end_fields ∷ [] in
       let prices : length (lines_of tables) ≤ length tables * 165 =
       rows-bytes 165 tables
-      (tables-each c.spans (recursion_from_All (All (IsSpanInRange p)) c.spans r.spans) 1 c.tables (omega (arith, countable.few_tables)) (recursion_from_All (All (IsShareInRange p)) c.tables r.tables)) in
+      (tables-each c.spans c.gifts (recursion_from_All (All (IsSpanInRange p)) c.spans r.spans) (recursion_from_All (All (IsGiftInRange p)) c.gifts r.gifts) 1 c.tables (omega (arith, countable.few_tables)) (recursion_from_All (All (IsShareInRange p)) c.tables r.tables)) in
       omega (
         arith,
         lines-cons (answer_fields p c.answer) (scale ++ (unit ++ (legs ++ (trucks ++ (points ++ (tables ++ (tree ++ last))))))),

@@ -7,6 +7,7 @@ use Rattle.fp_model.specs.Problem.{Problem, weight_at}
 use Rattle.fp_prices.specs.declared.tables.Weight.{Weight}
 use Rattle.fp_prices.specs.Shares.{ClassShare}
 use Rattle.fp_prices.specs.Tables.{HasKind}
+use Rattle.fp_prices_gifts.specs.declared.gifts.Gift.{Gift}
 use Rattle.fp_prices_spans.specs.Spans.{ClassSpan}
 use Rattle.fp_timenodes.specs.declared.places.AddedPoint.{AddedPoint}
 use Rattle.fp_timetable.specs.declared.lines.LegLine.{LegLine}
@@ -14,7 +15,7 @@ use Rattle.fp_timetable.specs.declared.lines.TruckLine.{TruckLine}
 use Rattle.fp_timetable.specs.Lines.{LegExists, TruckExists}
 use Rattle.fp_tree.specs.declared.layout.TheConstants.{MOST_SPLITS}
 use Rattle.fp_tree.specs.declared.sides.Split.{Split}
-use Rattle.fp_tree.specs.declared.sides.Split.TheVariants.{ByArc, ByTime}
+use Rattle.fp_tree.specs.declared.sides.Split.TheVariants.{ByArc, ByTime, ByTrucks, ByWay}
 use Rattle.fp_certificate_lines.specs.declared.certificates.Answer.{Answer}
 use Rattle.fp_certificate_lines.specs.declared.certificates.Answer.TheVariants.{Direct, Optimal, Unfinished, Infeasible}
 use Rattle.fp_certificate_lines.specs.declared.certificates.Node.{Node}
@@ -25,6 +26,10 @@ use Rattle.fp_certificate_lines.specs.Statements.{Statement}
 -- the largest number that a field may have where no other limit is named
 abbrev pub largest_figure : ℕ
 largest_figure = 2 ^ 127 - 1
+
+-- the largest number of trucks by which a split divides
+abbrev pub largest_count : ℕ
+largest_count = 2 ^ 32 - 1
 
 -- costs and bounds are no larger than a field may be, a shipment exists, and a fastest time is at
 -- most 10,000,000
@@ -94,10 +99,31 @@ pub record IsSpanInRange (p : Problem) (span : ClassSpan) : Type 0 where
   pub weights : All (IsWeightInRange p) span.weights
   pub groups : All IsGroupInRange span.groups
 
--- a split's shipment, arc and terminal exist, and its time is at most 100,000
+-- a gift's arc exists, its point is at most 100,000 and before its end, which is at most 100,001, and its
+-- amount is no larger than a field may be
+pub record IsGiftInRange (p : Problem) (gift : Gift) : Type 0 where
+  pub arc : gift.arc < length p.arcs
+  pub point : gift.point ≤ LATEST
+  pub some : gift.point < gift.until
+  pub until : gift.until ≤ LATEST + 1
+  pub amount : gift.amount ≤ largest_figure
+
+-- a split by trucks: its arc exists, its point is at most 100,000 and before its end, which is at most
+-- 100,001, and its number is at most 4,294,967,295
+pub record IsTruckSplitInRange (p : Problem) (by first past count : ℕ) : Type 0 where
+  pub arc : by < length p.arcs
+  pub point : first ≤ LATEST
+  pub some : first < past
+  pub until : past ≤ LATEST + 1
+  pub most : count ≤ largest_count
+
+-- a split's shipment, arc and terminal exist, and its time is at most 100,000; and those of a split by
+-- trucks are as above
 abbrev pub IsSplitInRange : Problem → Split → Type 0
 IsSplitInRange p (ByArc shipment arc) = (shipment < length p.shipments) × (arc < length p.arcs)
 IsSplitInRange p (ByTime shipment terminal at) = (shipment < length p.shipments) × (terminal < length p.terminals) × (at ≤ LATEST)
+IsSplitInRange p (ByTrucks arc point until most) = IsTruckSplitInRange p arc point until most
+IsSplitInRange p (ByWay shipment arc) = (shipment < length p.shipments) × (arc < length p.arcs)
 
 -- a leaf's table exists, where it is priced by one, its round is at most 4,000, and it is valued under
 -- at most 100,000 sides, where that isn't under all
@@ -112,7 +138,7 @@ IsNodeInRange p tables (Branch split) = IsSplitInRange p split
 IsNodeInRange p tables (Leaf valuation) = IsLeafInRange tables valuation
 
 -- all numbers are in range, all terminals, arcs, shipments and tables exist, and there is a list of
--- spans for each table
+-- spans and one of gifts for each table
 pub record IsInRange (p : Problem) (c : Statement) : Type 0 where
   pub answer : IsAnswerInRange p c.answer
   pub scale : IfSome c.scale (IsScaleInRange p)
@@ -123,6 +149,8 @@ pub record IsInRange (p : Problem) (c : Statement) : Type 0 where
   pub tables : All (All (IsShareInRange p)) c.tables
   pub spans : All (All (IsSpanInRange p)) c.spans
   pub beside : length c.spans ≡ length c.tables
+  pub gifts : All (All (IsGiftInRange p)) c.gifts
+  pub given : length c.gifts ≡ length c.tables
   pub tree : All (IsNodeInRange p c.tables) c.tree
 
 -- the names of the shipments are names, as they are in each instance
@@ -152,10 +180,16 @@ pub record SpanExists (p : Problem) (span : ClassSpan) : Type 0 where
   pub arc : span.arc < length p.arcs
   pub weights : All (WeightExists p) span.weights
 
+-- the arc of a gift exists
+abbrev pub GiftExists : Problem → Gift → Type 0
+GiftExists p gift = gift.arc < length p.arcs
+
 -- the shipment, the arc and the terminal of a split exist
 abbrev pub SplitExists : Problem → Split → Type 0
 SplitExists p (ByArc shipment arc) = (shipment < length p.shipments) × (arc < length p.arcs)
 SplitExists p (ByTime shipment terminal at) = (shipment < length p.shipments) × (terminal < length p.terminals)
+SplitExists p (ByTrucks arc point until most) = arc < length p.arcs
+SplitExists p (ByWay shipment arc) = (shipment < length p.shipments) × (arc < length p.arcs)
 
 -- the same of a node
 abbrev pub NodeExists : Problem → Node → Type 0
@@ -170,4 +204,5 @@ pub record IsNamed (p : Problem) (c : Statement) : Type 0 where
   pub points : All (PointExists p) c.points
   pub tables : All (All (ShareExists p)) c.tables
   pub spans : All (All (SpanExists p)) c.spans
+  pub gifts : All (All (GiftExists p)) c.gifts
   pub tree : All (NodeExists p) c.tree

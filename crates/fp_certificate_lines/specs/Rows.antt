@@ -9,13 +9,15 @@ use Rattle.fp_prices.specs.declared.leaf_prices.Kind.{Kind}
 use Rattle.fp_prices.specs.declared.leaf_prices.Kind.TheVariants.{Linear, Even, Table}
 use Rattle.fp_prices.specs.declared.tables.Weight.{Weight}
 use Rattle.fp_prices.specs.Shares.{ClassShare}
+use Rattle.fp_prices_gifts.specs.declared.gifts.Gift.{Gift}
+use Rattle.fp_prices_gifts.specs.GiftKinds.{gifts_of_table}
 use Rattle.fp_prices_spans.specs.SpanKinds.{spans_of_table}
 use Rattle.fp_prices_spans.specs.Spans.{ClassSpan}
 use Rattle.fp_timenodes.specs.declared.places.AddedPoint.{AddedPoint}
 use Rattle.fp_timetable.specs.declared.lines.LegLine.{LegLine}
 use Rattle.fp_timetable.specs.declared.lines.TruckLine.{TruckLine}
 use Rattle.fp_tree.specs.declared.sides.Split.{Split}
-use Rattle.fp_tree.specs.declared.sides.Split.TheVariants.{ByArc, ByTime}
+use Rattle.fp_tree.specs.declared.sides.Split.TheVariants.{ByArc, ByTime, ByTrucks, ByWay}
 use Rattle.fp_certificate_lines.specs.declared.certificates.Answer.{Answer}
 use Rattle.fp_certificate_lines.specs.declared.certificates.Answer.TheVariants.{Direct, Optimal, Unfinished, Infeasible}
 use Rattle.fp_certificate_lines.specs.declared.certificates.Node.{Node}
@@ -140,20 +142,38 @@ group_fields moment = codes "group" ∷ decimal moment ∷ []
 abbrev pub span_rows : Problem → ClassSpan → List (List (List ℕ))
 span_rows p s = span_fields p s ∷ (map (weight_fields p) s.weights ++ map group_fields s.groups)
 
--- the line of a table with a number, followed by its shares and by the spans beside it
-abbrev pub table_rows : Problem → ℕ → List ClassShare → List ClassSpan → List (List (List ℕ))
-table_rows p id table spans = table_fields id ∷ (flat_map (share_rows p) table ++ flat_map (span_rows p) spans)
+-- whether a gift is given because at least so many trucks leave, or because at most so many do
+abbrev pub side_text : Bool → List ℕ
+side_text least = if least then codes "least" else codes "most"
 
--- the lines of tables that are numbered from a number on, beside which these spans are
-abbrev pub tables_rows : Problem → List (List ClassSpan) → ℕ → List (List ClassShare) → List (List (List ℕ))
-tables_rows p spans id [] = []
-tables_rows p spans id (table ∷ tables) = table_rows p id table (spans_of_table spans id) ++ tables_rows p spans (id + 1) tables
+-- `gift,FROM,TO,POINT,UNTIL,SIDE,AMOUNT`
+abbrev pub gift_fields : Problem → Gift → List (List ℕ)
+gift_fields p g =
+    codes "gift" ∷ tail_name p g.arc ∷ head_name p g.arc ∷ decimal g.point ∷ decimal g.until ∷ side_text g.least ∷ decimal g.amount ∷ []
 
--- `split,arc,SHIPMENT,FROM,TO` or `split,time,SHIPMENT,TERMINAL,AT`
+-- the lines of the spans and of the gifts beside a table
+abbrev pub beside_rows : Problem → List ClassSpan → List Gift → List (List (List ℕ))
+beside_rows p spans gifts = flat_map (span_rows p) spans ++ map (gift_fields p) gifts
+
+-- the line of a table with a number, followed by its shares, by the spans beside it and by the gifts beside it
+abbrev pub table_rows : Problem → ℕ → List ClassShare → List ClassSpan → List Gift → List (List (List ℕ))
+table_rows p id table spans gifts = table_fields id ∷ (flat_map (share_rows p) table ++ beside_rows p spans gifts)
+
+-- the lines of tables that are numbered from a number on, beside which these spans and gifts are
+abbrev pub tables_rows : Problem → List (List ClassSpan) → List (List Gift) → ℕ → List (List ClassShare) → List (List (List ℕ))
+tables_rows p spans gifts id [] = []
+tables_rows p spans gifts id (table ∷ tables) =
+    table_rows p id table (spans_of_table spans id) (gifts_of_table gifts id) ++ tables_rows p spans gifts (id + 1) tables
+
+-- `split,arc,SHIPMENT,FROM,TO`, `split,time,SHIPMENT,TERMINAL,AT`, `split,trucks,FROM,TO,POINT,UNTIL,N` or
+-- `split,way,SHIPMENT,FROM,TO`
 abbrev pub split_fields : Problem → Split → List (List ℕ)
 split_fields p (ByArc shipment arc) = codes "split" ∷ codes "arc" ∷ shipment_name p shipment ∷ tail_name p arc ∷ head_name p arc ∷ []
 split_fields p (ByTime shipment terminal at) =
     codes "split" ∷ codes "time" ∷ shipment_name p shipment ∷ terminal_name p terminal ∷ decimal at ∷ []
+split_fields p (ByTrucks arc point until most) =
+    codes "split" ∷ codes "trucks" ∷ tail_name p arc ∷ head_name p arc ∷ decimal point ∷ decimal until ∷ decimal most ∷ []
+split_fields p (ByWay shipment arc) = codes "split" ∷ codes "way" ∷ shipment_name p shipment ∷ tail_name p arc ∷ head_name p arc ∷ []
 
 -- the kind of a leaf's prices: `linear`, `even` or the number of a table
 abbrev pub kind_text : Kind → List ℕ
@@ -197,6 +217,6 @@ rows_of p c =
     ++ (map (leg_fields p) c.legs
     ++ (map (truck_fields p) c.trucks
     ++ (map (point_fields p) c.points
-    ++ (tables_rows p c.spans 1 c.tables
+    ++ (tables_rows p c.spans c.gifts 1 c.tables
     ++ (map (node_fields p) c.tree
     ++ (end_fields ∷ []))))))))

@@ -2,6 +2,7 @@
 use Rattle.std.specs.Prelude.{ℕ, List, Option}
 use Rattle.fp_prices.specs.Shares.{ClassShare}
 use Rattle.fp_prices_spans.specs.Spans.{ClassSpan}
+use Rattle.fp_prices_gifts.specs.declared.gifts.Gift.{Gift}
 use Rattle.fp_timenodes.specs.declared.places.AddedPoint.{AddedPoint}
 use Rattle.fp_timetable.specs.declared.lines.LegLine.{LegLine}
 use Rattle.fp_timetable.specs.declared.lines.TruckLine.{TruckLine}
@@ -9,8 +10,8 @@ use Rattle.fp_certificate_lines.specs.declared.certificates.Answer.{Answer}
 use Rattle.fp_certificate_lines.specs.declared.certificates.Node.{Node}
 
 -- what is claimed, the scale of prices and the unit of costs if they are named, the plan's legs and
--- departures, the added points, the tables of prices with the spans beside each, and the tree of the
--- search in preorder
+-- departures, the added points, the tables of prices with the spans and the gifts beside each,
+-- and the tree of the search in preorder
 pub record Statement : Type 0 where
   pub answer : Answer
   pub scale : Option ℕ
@@ -20,4 +21,5 @@ pub record Statement : Type 0 where
   pub points : List AddedPoint
   pub tables : List (List ClassShare)
   pub spans : List (List ClassSpan)
+  pub gifts : List (List Gift)
   pub tree : List Node

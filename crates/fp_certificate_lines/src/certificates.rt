@@ -1,5 +1,6 @@
 //! What a certificate is made of.
 use fp_prices::{LeafPrice, Table};
+use fp_prices_gifts::TableGifts;
 use fp_prices_spans::TableSpans;
 use fp_timenodes::AddedPoint;
 use fp_timetable::{LegLine, TruckLine};
@@ -88,6 +89,8 @@ pub struct Certificate {
     pub tables: Vec<Table>,
     /// The spans beside each table, in the order of the tables.
     pub spans: Vec<TableSpans>,
+    /// The gifts beside each table, in the order of the tables.
+    pub gifts: Vec<TableGifts>,
     /// The tree of the search in preorder.
     pub tree: Vec<Node>,
 }
@@ -106,6 +109,7 @@ impl Model for Certificate {
       points = c.points.items;
       tables = c.tables.items;
       spans = c.spans.items;
+      gifts = c.gifts.items;
       tree = c.tree.items;
     } };
 }

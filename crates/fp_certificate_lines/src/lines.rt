@@ -1,5 +1,6 @@
 //! The lines of a certificate, one kind a file.
 pub(crate) mod answers;
+pub(crate) mod gifts;
 pub(crate) mod groups;
 pub(crate) mod leaves;
 pub(crate) mod legs;

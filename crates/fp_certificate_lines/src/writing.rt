@@ -40,9 +40,10 @@ fn write_end(line: &mut Line) -> Result<(), NoMemory>
 /// - `table,ID` for each table, followed by `share,FROM,TO,POINT,V` for each of its shares, each
 ///   followed by `weight,SHIPMENT,W` for each of its weights; and then by
 ///   `span,FROM,TO,POINT,UNTIL,MONEY,CHARGE` for each span beside it, each followed by its weights
-///   and then by `group,MOMENT` for each moment at which a further group begins.
-/// - For each node of the tree `split,arc,SHIPMENT,FROM,TO`, `split,time,SHIPMENT,TERMINAL,AT` or
-///   `leaf,KIND,ROUND,MODE`, with `linear`, `even` or a table's ID for the kind, and `plain` or
+///   and then by `group,MOMENT` for each moment at which a further group begins; and then by
+///   `gift,FROM,TO,POINT,UNTIL,SIDE,AMOUNT` for each gift beside it, with `least` or `most`.
+/// - For each node of the tree `split,arc,SHIPMENT,FROM,TO`, `split,time,SHIPMENT,TERMINAL,AT`,
+///   `split,trucks,FROM,TO,POINT,UNTIL,N` or `leaf,KIND,ROUND,MODE`, with `linear`, `even` or a table's ID for the kind, and `plain` or
 ///   `forced` for the mode.
 /// - `end`.
 ///
@@ -63,7 +64,13 @@ pub fn write(
     write_legs(&mut line, instance, &certificate.legs)?;
     write_trucks(&mut line, instance, &certificate.trucks)?;
     write_points(&mut line, instance, &certificate.points)?;
-    write_tables(&mut line, instance, &certificate.tables, &certificate.spans)?;
+    write_tables(
+        &mut line,
+        instance,
+        &certificate.tables,
+        &certificate.spans,
+        &certificate.gifts,
+    )?;
     write_tree(&mut line, instance, &certificate.tree)?;
     write_end(&mut line)?;
     Ok(line.into_bytes())

@@ -12,6 +12,7 @@ use Rattle.fp_model.specs.Numbered.{no_shipment, shipment_at}
 use Rattle.fp_model.specs.Plans.{PlanExists}
 use Rattle.fp_model.specs.Problem.{Problem, IsValid, arc_at}
 use Rattle.fp_model.specs.Routes.{Carries, arcs_of}
+use Rattle.fp_model.specs.TruckCounts.{trucks_between}
 use Rattle.fp_base_lists.proofs.Ceilings.{div_ceil-least}
 use Rattle.fp_base_lists.proofs.Numbered.{AllZip-get_or}
 use Rattle.fp_flatnet.specs.declared.window_tables.Window.{Window}
@@ -23,17 +24,18 @@ use Rattle.fp_flatnet.proofs.PlansInWindows.{CoverPlans-from_windows}
 use Rattle.fp_allowed.specs.Allowed.{exit_of}
 use Rattle.fp_tree.specs.declared.sides.Side.{Side}
 use Rattle.fp_tree.specs.declared.sides.Split.{Split}
-use Rattle.fp_tree.specs.declared.sides.Split.TheVariants.{ByArc, ByTime}
-use Rattle.fp_tree.specs.Sides.{Exit, IsTailOfSplit, Meets, MeetsAll}
+use Rattle.fp_tree.specs.declared.sides.Split.TheVariants.{ByArc, ByTime, ByTrucks, ByWay}
+use Rattle.fp_tree.specs.Sides.{Counts, Exit, HasCount, HasCounts, IsTailOfSplit, Meets, MeetsAll}
 use Rattle.fp_tree.specs.Trees.{HaveTails, Leaf, tree_leaves}
 use Rattle.fp_prices.specs.declared.leaf_prices.LeafPrice.{LeafPrice}
 use Rattle.fp_prices.specs.Leaves.{IsPlanOfLeaf}
 use Rattle.fp_prices.proofs.PlanLeaves.{plan-obeys-leaf}
-use Rattle.fp_prices_spans.specs.SpanKinds.{IsPricedValue, spans_beside}
+use Rattle.fp_prices_gifts.specs.GiftKinds.{IsPricedValue, gifts_beside}
+use Rattle.fp_prices_gifts.proofs.GiftBounds.{gift_leaf-bounds}
+use Rattle.fp_prices_spans.specs.SpanKinds.{spans_beside}
 use Rattle.fp_prices_spans.specs.SpanLeaves.{IsSpanLeafEmpty}
 use Rattle.fp_prices_spans.specs.Spans.{ClassSpan}
 use Rattle.fp_prices_spans.proofs.LeafHeads.{leaf_route-walk}
-use Rattle.fp_prices_spans.proofs.SpanBounds.{span_leaf-bounds}
 use Rattle.fp_certificate_lines.specs.declared.certificates.Answer.{Answer}
 use Rattle.fp_certificate_lines.specs.declared.certificates.Answer.TheVariants.{Direct, Optimal, Unfinished, Infeasible}
 use Rattle.fp_certificate_lines.specs.declared.certificates.Node.{Node}
@@ -72,6 +74,11 @@ obey-first p d k count sides (r ∷ routes) obey = (
   obey-first p d (k + 1) count sides routes obey.1,
 )
 
+-- and whatever number of trucks all ask for, the first ones do
+count-first : (counts : Counts) (count : Option ℕ) (sides : List Side) → HasCounts counts sides → HasCounts counts (first_sides count sides)
+count-first counts None sides has = has
+count-first counts (Some count) sides has = all-first (HasCount counts) count sides has
+
 -- so a plan of a leaf is one of the leaf of those sides under which it is valued
 of-first-sides : (p : Problem) (windows : ℕ → ℕ → Option Window) (d : ℕ) (plan : List (List Leg)) (v : Valuation) (sides : List Side) → IsPlanOfLeaf p windows sides d plan →
     IsPlanOfLeaf p windows (sides_valued v sides) d plan
@@ -79,7 +86,7 @@ of-first-sides p windows d plan v sides of_leaf = record {
   denominator = of_leaf.denominator;
   plan = of_leaf.plan;
   within = of_leaf.within;
-  obeys = obey-first p d 0 v.sides sides plan of_leaf.obeys;
+  obeys = record { legs = obey-first p d 0 v.sides sides plan of_leaf.obeys.legs; trucks = count-first (trucks_between p d plan) v.sides sides of_leaf.obeys.trucks };
 }
 
 -- a leaf that is empty by its heads has no plan: the classes of a plan's route are a walk by them
@@ -98,8 +105,8 @@ IsLeafWorth-cost p table c claim d plan (node.Leaf v) sides valid keep of_leaf w
     ⊎_elim
     (λ (empty : IsSpanLeafEmpty p (windows_in table) points sides (spans_beside c.spans price.kind)).
     absurd (span_leaf-empty p (windows_in table) points sides (spans_beside c.spans price.kind) empty d plan of_leaf))
-    (λ (leaf : (value : ℕ) × IsPricedValue p (windows_in table) points (sides_valued v sides) c.tables c.spans price.kind price.forced value × (claim ≤ rounded_up c.unit (div_ceil value p.scale))).
-    let le : leaf.0 ≤ p.scale * cost p plan = span_leaf-bounds p (windows_in table) (initial_points p table.anchors) points (sides_valued v sides) c.tables (spans_beside c.spans price.kind) price.kind price.forced leaf.0 valid
+    (λ (leaf : (value : ℕ) × IsPricedValue p (windows_in table) points (sides_valued v sides) c.tables c.spans c.gifts price.kind price.forced value × (claim ≤ rounded_up c.unit (div_ceil value p.scale))).
+    let le : leaf.0 ≤ p.scale * cost p plan = gift_leaf-bounds p (windows_in table) (initial_points p table.anchors) points (sides_valued v sides) c.tables (spans_beside c.spans price.kind) (gifts_beside c.gifts price.kind) price.kind price.forced leaf.0 valid
     (initial-among p table.anchors c.points price.round) keep.tables (keep.spans price.kind) leaf.1 d plan (of-first-sides p (windows_in table) d plan v sides of_leaf) in
     let few : div_ceil leaf.0 p.scale ≤ cost p plan = div_ceil-least leaf.0 p.scale (cost p plan) (omega (arith, valid.scale.0)) (omega (arith, le)) in
     let rounded : rounded_up c.unit (div_ceil leaf.0 p.scale) ≤ cost p plan = rounded_up-cost p c.unit (div_ceil leaf.0 p.scale) plan keep.range keep.unit few in
@@ -114,6 +121,8 @@ tails p a = (arc_at p a).from
 IsTailOfSplit-split_tail : (p : Problem) (split : Split) → IsTailOfSplit (tails p) split (split_tail p split)
 IsTailOfSplit-split_tail p (ByArc shipment arc) = refl
 IsTailOfSplit-split_tail p (ByTime shipment terminal at) = tt
+IsTailOfSplit-split_tail p (ByTrucks arc point until most) = tt
+IsTailOfSplit-split_tail p (ByWay shipment arc) = tt
 
 HaveTails-fork_of : (p : Problem) (nodes : List Node) → HaveTails (tails p) (fork_of p) nodes
 HaveTails-fork_of p [] = tt
@@ -127,7 +136,7 @@ AreLeavesWorth-NoPlanWithinCheaper p table c claim valid keep tree worth d plan 
     AnyByRecursion-all _ (λ (l : Leaf Node). IsLeafWorth p table c claim l.node l.sides) (claim ≤ cost p plan)
     (λ l obeys here. IsLeafWorth-cost p table c claim d plan l.node l.sides valid keep (record { denominator = some; plan = is; within = within; obeys = obeys }) here)
     (tree_leaves (fork_of p) c.tree)
-    (plan-obeys-leaf p (fork_of p) c.tree d plan (HaveTails-fork_of p c.tree) tree.tree is)
+    (plan-obeys-leaf p (fork_of p) c.tree d plan (HaveTails-fork_of p c.tree) tree.tree valid is)
     worth
 
 -- a shipment that is too late isn't carried by any plan

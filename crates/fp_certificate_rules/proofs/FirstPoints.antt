@@ -1,27 +1,34 @@
 -- The initial points are the first ones: they are among a certificate's points as of each round, and they are its points as of the
 -- round 0.
-use Rattle.std.proofs.Common.{◌≡◌, ◌∙◌, ℕ, ◌<◌, false, ◌&&◌, List, [], ◌∷◌, ◌++◌, length, refl, sym, ap, arith}
+use Rattle.std.proofs.Common.{◌≡◌, ◌∙◌, ℕ, ◌<◌, false, ◌&&◌, List, [], ◌∷◌, ◌++◌, length, get_or, refl, sym, ap, subst, arith}
 use Rattle.std.specs.Prelude.{All, Option, nat_eq, nat_le}
-use Rattle.std.specs.List.{AllByRecursion}
+use Rattle.std.specs.List.{AllByRecursion, AllZip}
 use Rattle.std.proofs.lemmas.Bool.{and_right, lt-leb, or_left}
 use Rattle.std.proofs.lemmas.List.{append-nil}
-use Rattle.std.proofs.lemmas.List.Elements.{recursion_from_All}
+use Rattle.std.proofs.lemmas.List.Elements.{All-get_or, recursion_from_All}
 use Rattle.fp_base_lists.specs.Membership.{list_has}
 use Rattle.fp_base_lists.proofs.Membership.{list_has-append}
-use Rattle.fp_model.specs.Problem.{IsValid, Problem}
+use Rattle.fp_model.specs.Problem.{IsArc, IsValid, Problem, arc_at, no_arc}
 use Rattle.fp_timenodes.specs.declared.places.AddedPoint.{AddedPoint}
 use Rattle.fp_timenodes.specs.declared.places.Place.{Place}
 use Rattle.fp_timenodes.specs.Floor.{HaveSamePoints}
 use Rattle.fp_timenodes.specs.Points.{TimePoints, added_at}
 use Rattle.fp_flatnet.specs.declared.window_tables.Window.{Window}
 use Rattle.fp_flatnet.specs.Initial.{initial_points}
-use Rattle.fp_prices_spans.specs.MomentRuns.{AreAmong, first_points}
-use Rattle.fp_prices_spans.specs.SpanCharges.{ArePaidSpans}
+use Rattle.fp_allowed.specs.SamePoints.{AgreeOnPoints}
+use Rattle.fp_prices_gifts.specs.declared.gifts.Gift.{Gift}
+use Rattle.fp_prices_gifts.specs.GiftKinds.{gifts_of_table}
+use Rattle.fp_prices_knapsack.specs.Charges.{Pays}
+use Rattle.fp_prices_spans.specs.MomentRuns.{AreAmong, end_of, first_points, group_weights, runs_from}
+use Rattle.fp_prices_spans.specs.SpanCharges.{ChargePays, items_of}
+use Rattle.fp_prices_spans.specs.SpanKinds.{spans_of_table}
 use Rattle.fp_prices_spans.specs.SpanLists.{IsSpanOf}
 use Rattle.fp_prices_spans.specs.Spans.{ClassSpan}
-use Rattle.fp_prices_spans.proofs.SameFirst.{paid-same}
-use Rattle.fp_certificate_lines.specs.Ranges.{IsPointInRange}
+use Rattle.fp_prices_spans.proofs.SameFirst.{first_from-same}
+use Rattle.fp_certificate_lines.specs.Ranges.{IsPointInRange, IsSpanInRange}
 use Rattle.fp_certificate_rules.specs.Points.{ArePointsOf, points_with_added}
+use Rattle.fp_certificate_rules.specs.Prices.{ArePaid, ArePaidBeside}
+use Rattle.fp_certificate_rules.proofs.KeptPrices.{beside-of}
 
 -- the initial points are among the points as of each round
 pub initial-among : (p : Problem) (anchors : List Place) (added : List AddedPoint) (round : ℕ) → AreAmong p (initial_points p anchors) (points_with_added p anchors added round)
@@ -44,13 +51,41 @@ first-initial p anchors added v range are terminal lt q =
     ∙ ap (λ (later : List ℕ). list_has (initial_points p anchors terminal ++ later) q) (none-early p added terminal (recursion_from_All (IsPointInRange p) added range))
     ∙ ap (λ (qs : List ℕ). list_has qs q) (append-nil (initial_points p anchors terminal))
 
--- and spans are paid by them exactly where they are paid by the initial ones
-pub first-paid : (p : Problem) (windows : ℕ → ℕ → Option Window) (anchors : List Place) (added : List AddedPoint) (v : TimePoints) (spans : List ClassSpan) → IsValid p →
-    All (IsPointInRange p) added → ArePointsOf p anchors added v → All (IsSpanOf p) spans → ArePaidSpans p windows (first_points v) spans → ArePaidSpans p windows (initial_points p anchors) spans
-first-paid p windows anchors added v spans valid range are exist =
-    paid-same p windows (first_points v) (initial_points p anchors) spans valid (first-initial p anchors added v range are) exist
+-- charges that pay by first points pay by others that are the same at each terminal
+pays-same : (p : Problem) (windows : ℕ → ℕ → Option Window) (first other : ℕ → List ℕ) (spans : List ClassSpan) → IsValid p → AgreeOnPoints p first other → All (IsSpanOf p) spans → All (ChargePays p windows first) spans →
+    All (ChargePays p windows other) spans
+pays-same p windows first other spans valid agree exist pay k d lt =
+    let span : ClassSpan = get_or spans k d in
+    let tail : (arc_at p span.arc).from < length p.terminals = (All-get_or (IsArc (length p.terminals)) p.arcs span.arc no_arc (exist k d lt).arc valid.parts.arcs).from in
+    let alike : end_of p first span ≡ end_of p other span = first_from-same (first (arc_at p span.arc).from) (other (arc_at p span.arc).from) span.until (agree (arc_at p span.arc).from tail) in
+    let here : ChargePays p windows first span = pay k d lt in
+    record {
+      parts = here.parts;
+      enough = here.enough;
+      pay = subst
+          (λ (end : Option ℕ). AllZip (λ run part. Pays (items_of p (group_weights windows span run)) (arc_at p span.arc).capacity span.money part) (runs_from span.point span.groups end) here.parts)
+          alike here.pay;
+    }
 
-pub initial-paid : (p : Problem) (windows : ℕ → ℕ → Option Window) (anchors : List Place) (added : List AddedPoint) (v : TimePoints) (spans : List ClassSpan) → IsValid p →
-    All (IsPointInRange p) added → ArePointsOf p anchors added v → All (IsSpanOf p) spans → ArePaidSpans p windows (initial_points p anchors) spans → ArePaidSpans p windows (first_points v) spans
-initial-paid p windows anchors added v spans valid range are exist =
-    paid-same p windows (initial_points p anchors) (first_points v) spans valid (λ terminal lt q. sym (first-initial p anchors added v range are terminal lt q)) exist
+-- so are spans and gifts that are paid
+beside-same : (p : Problem) (windows : ℕ → ℕ → Option Window) (first other : ℕ → List ℕ) (spans : List ClassSpan) (gifts : List Gift) → IsValid p → AgreeOnPoints p first other → All (IsSpanOf p) spans →
+    ArePaidBeside p windows first spans gifts → ArePaidBeside p windows other spans gifts
+beside-same p windows first other spans [] valid agree exist are = record { list = are.list; paid = pays-same p windows first other spans valid agree exist are.paid }
+beside-same p windows first other spans (gift ∷ gifts) valid agree exist are = record {
+  ordered = are.ordered;
+  light = are.light;
+  given = are.given;
+  paid = pays-same p windows first other spans valid agree exist are.paid;
+}
+
+-- and spans and gifts are paid by them exactly where they are paid by the initial ones
+pub first-paid : (p : Problem) (windows : ℕ → ℕ → Option Window) (anchors : List Place) (added : List AddedPoint) (v : TimePoints) (spans : List (List ClassSpan)) (gifts : List (List Gift)) → IsValid p →
+    All (IsPointInRange p) added → ArePointsOf p anchors added v → All (All (IsSpanInRange p)) spans → ArePaid p windows (first_points v) spans gifts → ArePaid p windows (initial_points p anchors) spans gifts
+first-paid p windows anchors added v spans gifts valid range are exist paid id =
+    beside-same p windows (first_points v) (initial_points p anchors) (spans_of_table spans id) (gifts_of_table gifts id) valid (first-initial p anchors added v range are) (beside-of p spans exist id) (paid id)
+
+pub initial-paid : (p : Problem) (windows : ℕ → ℕ → Option Window) (anchors : List Place) (added : List AddedPoint) (v : TimePoints) (spans : List (List ClassSpan)) (gifts : List (List Gift)) → IsValid p →
+    All (IsPointInRange p) added → ArePointsOf p anchors added v → All (All (IsSpanInRange p)) spans → ArePaid p windows (initial_points p anchors) spans gifts → ArePaid p windows (first_points v) spans gifts
+initial-paid p windows anchors added v spans gifts valid range are exist paid id =
+    beside-same p windows (initial_points p anchors) (first_points v) (spans_of_table spans id) (gifts_of_table gifts id) valid (λ terminal lt q. sym (first-initial p anchors added v range are terminal lt q))
+    (beside-of p spans exist id) (paid id)

@@ -7,10 +7,11 @@ use Rattle.fp_flatnet.specs.Tables.{WindowTable, windows_in}
 use Rattle.fp_tree.specs.declared.layout.TheConstants.{MOST_SPLITS}
 use Rattle.fp_tree.specs.declared.sides.Side.{Side}
 use Rattle.fp_tree.specs.declared.sides.Split.{Split}
-use Rattle.fp_tree.specs.declared.sides.Split.TheVariants.{ByArc, ByTime}
+use Rattle.fp_tree.specs.declared.sides.Split.TheVariants.{ByArc, ByTime, ByTrucks, ByWay}
 use Rattle.fp_tree.specs.Sides.{Fork}
 use Rattle.fp_tree.specs.Trees.{Leaf, IsTree, tree_leaves, tree_splits}
-use Rattle.fp_prices_spans.specs.SpanKinds.{IsPricedValue, spans_beside}
+use Rattle.fp_prices_gifts.specs.GiftKinds.{IsPricedValue}
+use Rattle.fp_prices_spans.specs.SpanKinds.{spans_beside}
 use Rattle.fp_prices_spans.specs.SpanLeaves.{IsSpanLeafEmpty}
 use Rattle.fp_certificate_lines.specs.declared.certificates.Node.{Node}
 use Rattle.fp_certificate_lines.specs.declared.certificates.Node.TheVariants as node
@@ -19,10 +20,12 @@ use Rattle.fp_certificate_lines.specs.Valuations.{sides_valued}
 use Rattle.fp_certificate_rules.specs.Points.{points_as_of}
 use Rattle.fp_certificate_rules.specs.Units.{rounded_up}
 
--- the terminal that the arc of a split leaves, and 0 for a split by time
+-- the terminal that the arc of a split leaves, and 0 for a split by a time, by trucks or by a way, whose sides don't read it
 abbrev pub split_tail : Problem → Split → ℕ
 split_tail p (ByArc shipment arc) = (arc_at p arc).from
 split_tail p (ByTime shipment terminal at) = 0
+split_tail p (ByTrucks arc point until most) = 0
+split_tail p (ByWay shipment arc) = 0
 
 -- at what a node of a certificate splits, and nothing at a leaf
 abbrev pub fork_of : Problem → Node → Option Fork
@@ -34,13 +37,14 @@ pub record HasTree (p : Problem) (c : Statement) : Type 0 where
   pub tree : IsTree (fork_of p) c.tree
   pub few : length (tree_splits (fork_of p) c.tree) ≤ MOST_SPLITS
 
--- a leaf is empty by its heads under all its sides, or its bound under those by which it is valued, in whole units of
--- money, rounded up to a multiple of the certificate's unit, is at least the claim
+-- a leaf is empty by its heads under all its sides, or its value under those by which it is valued, by the prices, the spans and the
+-- gifts that it names, in whole units of money, rounded up to a multiple of the certificate's unit, is at least the claim; without a
+-- side for each of these gifts it has no value
 abbrev pub IsLeafWorth : Problem → WindowTable → Statement → (claim : ℕ) → Node → List Side → Type 0
 IsLeafWorth p table c claim (node.Branch split) sides = ⊥
 IsLeafWorth p table c claim (node.Leaf v) sides =
     IsSpanLeafEmpty p (windows_in table) (points_as_of p table.anchors c v.price.round) sides (spans_beside c.spans v.price.kind)
-    ⊎ ((value : ℕ) × IsPricedValue p (windows_in table) (points_as_of p table.anchors c v.price.round) (sides_valued v sides) c.tables c.spans v.price.kind v.price.forced value
+    ⊎ ((value : ℕ) × IsPricedValue p (windows_in table) (points_as_of p table.anchors c v.price.round) (sides_valued v sides) c.tables c.spans c.gifts v.price.kind v.price.forced value
     × (claim ≤ rounded_up c.unit (div_ceil value p.scale)))
 
 -- each leaf of the tree is worth the claim under the sides on its way from the root

@@ -5,7 +5,10 @@ pub mod TreeNodes
 pub mod SharesInOrder
 pub mod LeavesPassed
 pub mod FirstParts
+pub mod GiftFaults
+pub mod GiftBounds
 pub mod Spanned
+pub mod TruckNumbers
 pub mod NarrowSides
 pub mod LeafWays
 pub mod SameSides

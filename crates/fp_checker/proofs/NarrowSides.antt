@@ -1,13 +1,17 @@
 -- Sides that come to others, and what they ask together.
-use Rattle.std.proofs.Common.{◌≡◌, ℕ, zero, suc, ◌<◌, Bool, true, false, List, [], ◌∷◌, length, get_or, set, refl, ap, ◌∙◌, subst, arith}
+use Rattle.std.proofs.Common.{◌≡◌, ℕ, zero, suc, ◌-◌, ◌<◌, Bool, true, false, List, [], ◌∷◌, ◌++◌, length, get_or, set, take, refl, ap, ◌∙◌, subst, arith}
 use Rattle.std.specs.Prelude.{◌&&◌}
 use Rattle.std.specs.List.{list_all}
 use Rattle.std.proofs.lemmas.Bool.{false≢true}
-use Rattle.std.proofs.lemmas.List.{length-set, set-get_or}
+use Rattle.std.proofs.Math.Bool.{and-true}
+use Rattle.std.proofs.lemmas.List.{length-append, length-set, set-get_or, take-append-le, take_all}
+use Rattle.std.proofs.lemmas.List.Folds.{list_all-append}
 use Rattle.fp_tree.specs.declared.sides.Side.{Side}
 use Rattle.fp_allowed.specs.Allowed.{meets}
-use Rattle.fp_checker.specs.declared.rules.narrow_sides.Change.TheVariants.{Replaced}
+use Rattle.fp_prices_gifts.specs.GiftNumbers.{better, number_by}
+use Rattle.fp_checker.specs.declared.rules.narrow_sides.Change.TheVariants.{Added, Replaced}
 use Rattle.fp_checker.specs.LeafWays.{Implies, IsAdded}
+use Rattle.fp_checker.proofs.TruckNumbers.{number-implied, number-more, number-set}
 
 -- three tests, joined either way
 pub and-last : (x l y : Bool) → (x && (l && y)) ≡ ((x && l) && y)
@@ -38,5 +42,41 @@ pub added-replaced : (old : List Side) (place : ℕ) (side before : Side) → pl
 added-replaced old place side before lt is implied = record {
   inside = omega (arith, lt, length-set old place side);
   back = set-twice old place side before ∙ ap (λ (s : Side). set old place s) is ∙ set-get_or old place before;
-  alike = λ k e. list_all-set (meets k e) old place side before lt (subst (λ (s : Side). (meets k e side && meets k e s) ≡ meets k e side) is (implied k e));
+  legs = λ k e. list_all-set (meets k e) old place side before lt (subst (λ (s : Side). (meets k e side && meets k e s) ≡ meets k e side) is (implied.legs k e));
+  numbers = λ gift.
+      number-set old place side before gift lt (subst (λ (s : Side). better gift.least (number_by gift side) (number_by gift s) ≡ number_by gift side) is (implied.numbers gift));
 }
+
+-- a test that is implied by another is met where that is
+implied-here : (x y l : Bool) → (x && y) ≡ x → (x && l) ≡ ((x && l) && y)
+implied-here true true true h = refl
+implied-here true true false h = refl
+implied-here true false l h = absurd (false≢true h)
+implied-here false y l h = refl
+
+list_all-implied : (p : Side → Bool) (sides : List Side) (i : ℕ) (side d : Side) → i < length sides → (p (get_or sides i d) && p side) ≡ p (get_or sides i d) → list_all p sides ≡ (list_all p sides && p side)
+list_all-implied p [] i side d lt h = absurd (omega (arith, lt))
+list_all-implied p (x ∷ xs) zero side d lt h = implied-here (p x) (p side) (list_all p xs) h
+list_all-implied p (x ∷ xs) (suc i) side d lt h = ap (λ (b : Bool). p x && b) (list_all-implied p xs i side d (omega (arith, lt)) h) ∙ and-last (p x) (list_all p xs) (p side)
+
+-- one that is implied by another, which stays
+pub added-implied : (old : List Side) (place : ℕ) (side before : Side) → place < length old → before ≡ get_or old place before → Implies before side → IsAdded old side old (Replaced place before)
+added-implied old place side before lt is implied = record {
+  inside = lt;
+  back = ap (λ (s : Side). set old place s) is ∙ set-get_or old place before;
+  legs = λ k e. list_all-implied (meets k e) old place side before lt (subst (λ (s : Side). (meets k e s && meets k e side) ≡ meets k e s) is (implied.legs k e));
+  numbers = λ gift.
+      number-implied old place side before gift lt (subst (λ (s : Side). better gift.least (number_by gift s) (number_by gift side) ≡ number_by gift s) is (implied.numbers gift));
+}
+
+-- one behind the others
+pub added-last : (old : List Side) (side : Side) → IsAdded old side (old ++ side ∷ []) Added
+added-last old side = record {
+  inside = tt;
+  back = ap (λ (n : ℕ). take n (old ++ side ∷ [])) long ∙ take-append-le (length old) old (side ∷ []) (omega arith) ∙ take_all (length old) old (omega arith);
+  legs = λ k e. list_all-append (meets k e) old (side ∷ []) ∙ ap (λ (b : Bool). list_all (meets k e) old && b) (and-true (meets k e side));
+  numbers = λ gift. number-more old side gift;
+}
+  where
+    long : length (old ++ side ∷ []) - 1 ≡ length old
+    long = omega (arith, length-append old (side ∷ []))

@@ -1,7 +1,7 @@
 -- What the results of tests tell.
-use Rattle.std.proofs.Common.{◌≡◌, ℕ, Bool, true, false, ap, sym, ◌∙◌}
-use Rattle.std.specs.Prelude.{Result, Ok, Err}
-use Rattle.std.proofs.lemmas.Bool.{false≢true}
+use Rattle.std.proofs.Common.{◌≡◌, ℕ, Bool, true, false, List, [], ◌∷◌, length, refl, ap, sym, ◌∙◌, arith}
+use Rattle.std.specs.Prelude.{◌==◌, Result, Ok, Err}
+use Rattle.std.proofs.lemmas.Bool.{eqb-true, false≢true}
 use Rattle.fp_timenodes.specs.declared.places.Added.{Added}
 use Rattle.fp_timenodes.specs.declared.places.Added.TheVariants as added
 use Rattle.fp_checker.specs.declared.rejections.Rejected.{Rejected}
@@ -28,3 +28,8 @@ New-not_There r a is new there = new-or-there (cc)
   where
     new-or-there : added.New ≡ added.There → ⊥
     new-or-there e = cc
+
+-- a list of no length has nothing
+pub nothing-in : {X : Type 0} (xs : List X) → (length xs == 0) ≡ true → xs ≡ []
+nothing-in [] h = refl
+nothing-in (x ∷ xs) h = absurd (omega (arith, eqb-true (length (x ∷ xs)) 0 h))

@@ -1,5 +1,5 @@
--- Under sides that ask alike the same classes are allowed, so a leaf is worth the same.
-use Rattle.std.proofs.Common.{◌≡◌, ℕ, ◌+◌, Bool, List, length, refl, sym, ap, subst}
+-- Under sides that ask alike the same classes are allowed, and gifts are for as many trucks, so a leaf is worth the same.
+use Rattle.std.proofs.Common.{◌≡◌, ◌∙◌, ℕ, ◌+◌, Bool, List, [], ◌∷◌, length, refl, sym, ap, subst}
 use Rattle.std.specs.Prelude.{Option, Some, None, ◌&&◌, nat_eq, nat_le, nat_lt}
 use Rattle.std.specs.List.{AllZip}
 use Rattle.fp_base_lists.specs.Numbered.{AllZipFrom}
@@ -15,6 +15,9 @@ use Rattle.fp_allowed.specs.Allowed.{exit_of, has_moment, is_allowed, is_moment,
 use Rattle.fp_prices.specs.declared.leaf_prices.Kind.{Kind}
 use Rattle.fp_prices.specs.Leaves.{HasNoWalkBy, IsChain, IsLeastCostBy}
 use Rattle.fp_prices.specs.Shares.{ClassShare}
+use Rattle.fp_prices_gifts.specs.declared.gifts.Gift.{Gift}
+use Rattle.fp_prices_gifts.specs.GiftLeaves.{IsGiftLeafValue}
+use Rattle.fp_prices_gifts.specs.GiftNumbers.{gift_number}
 use Rattle.fp_prices_spans.specs.SpanLeaves.{IsChargeOf, IsSpanLeafEmpty, IsSpanLeafValue, leaf_heads}
 use Rattle.fp_prices_spans.specs.SpanPrices.{leaf_span_price}
 use Rattle.fp_prices_spans.specs.Spans.{ClassSpan}
@@ -22,14 +25,14 @@ use Rattle.fp_checker.specs.LeafWays.{AskAlike}
 
 -- sides ask alike both ways
 pub AskAlike-sym : (sides others : List Side) → AskAlike sides others → AskAlike others sides
-AskAlike-sym sides others alike = λ k e. sym (alike k e)
+AskAlike-sym sides others alike = record { legs = λ k e. sym (alike.legs k e); numbers = λ gift. sym (alike.numbers gift) }
 
 module _ (p : Problem) (windows : ℕ → ℕ → Option Window) (points : ℕ → List ℕ) (sides others : List Side) (alike : AskAlike sides others) where
   moment-alike : (k : ℕ) (c : Leg) (o : Option Window) → has_moment p points sides k c o ≡ has_moment p points others k c o
   moment-alike k c None = refl
   moment-alike k c (Some w) =
       some_below-same (w.hi + 1) (is_moment p points sides k c w) (is_moment p points others k c w)
-      (λ m. ap (λ (b : Bool). nat_eq (floor_point (points (tails_of p c.arc)) 1 m) c.depart && nat_le w.lo m && nat_le m w.hi && b) (alike k (exit_of p (record { arc = c.arc; depart = m }))))
+      (λ m. ap (λ (b : Bool). nat_eq (floor_point (points (tails_of p c.arc)) 1 m) c.depart && nat_le w.lo m && nat_le m w.hi && b) (alike.legs k (exit_of p (record { arc = c.arc; depart = m }))))
 
   one-alike : (k : ℕ) (c : Leg) → is_allowed p windows points sides k c ≡ is_allowed p windows points others k c
   one-alike k c = ap (λ (b : Bool). nat_lt c.arc (length p.arcs) && b) (moment-alike k c (windows k c.arc))
@@ -46,10 +49,10 @@ module _ (p : Problem) (windows : ℕ → ℕ → Option Window) (points : ℕ �
     none = subst (λ (allowed : ℕ → Leg → Bool). HasNoWalkBy p (leaf_heads p windows points spans empty.shipment) (allowed empty.shipment) (shipment_at p empty.shipment)) allowed-alike empty.none;
   }
 
-  -- and has the same value
-  pub value-alike : (tables : List (List ClassShare)) (spans : List ClassSpan) (kind : Kind) (forced : Bool) (value : ℕ) →
+  -- and has the same value by spans
+  pub span_value-alike : (tables : List (List ClassShare)) (spans : List ClassSpan) (kind : Kind) (forced : Bool) (value : ℕ) →
       IsSpanLeafValue p windows points sides tables spans kind forced value → IsSpanLeafValue p windows points others tables spans kind forced value
-  value-alike tables spans kind forced value is = record {
+  span_value-alike tables spans kind forced value is = record {
     chains = is.chains;
     costs = is.costs;
     charges = is.charges;
@@ -58,4 +61,26 @@ module _ (p : Problem) (windows : ℕ → ℕ → Option Window) (points : ℕ �
         is.are_least;
     are_charges = subst (λ (allowed : ℕ → Leg → Bool). AllZip (IsChargeOf p allowed is.chains) spans is.charges) allowed-alike is.are_charges;
     value_is = is.value_is;
+  }
+
+  -- the gifts are for as many trucks
+  numbers-alike : (gifts : List Gift) (numbers : List ℕ) → AllZip (λ gift n. gift_number sides gift ≡ Some n) gifts numbers → AllZip (λ gift n. gift_number others gift ≡ Some n) gifts numbers
+  numbers-alike [] [] are = tt
+  numbers-alike [] (n ∷ numbers) are = absurd are
+  numbers-alike (gift ∷ gifts) [] are = absurd are
+  numbers-alike (gift ∷ gifts) (n ∷ numbers) are = (sym (alike.numbers gift) ∙ are.0, numbers-alike gifts numbers are.1)
+
+  -- so it has the same value with gifts
+  pub value-alike : (tables : List (List ClassShare)) (spans : List ClassSpan) (gifts : List Gift) (kind : Kind) (forced : Bool) (value : ℕ) →
+      IsGiftLeafValue p windows points sides tables spans gifts kind forced value → IsGiftLeafValue p windows points others tables spans gifts kind forced value
+  value-alike tables spans gifts kind forced value is = record {
+    before = is.before;
+    plain = is.plain;
+    by_spans = span_value-alike tables spans kind forced is.before is.by_spans;
+    given = record {
+      numbers = is.given.numbers;
+      ends = is.given.ends;
+      are_numbers = numbers-alike gifts is.given.numbers is.given.are_numbers;
+      value_is = is.given.value_is;
+    };
   }

@@ -1,92 +1,114 @@
--- The bounds of leaves with spans beside their tables, or without.
-use Rattle.std.proofs.Common.{◌≡◌, ℕ, ◌-◌, Bool, List, [], sym, subst, rules}
+-- The spans and the gifts beside the tables of a certificate.
+use Rattle.std.proofs.Common.{◌≡◌, ℕ, ◌-◌, ◌<◌, ◌≤◌, Bool, List, [], ◌∷◌, length, ⊎_elim, sym, subst, arith, rules}
 use Rattle.std.specs.declared.alloc.AllocError.{AllocError}
-use Rattle.std.specs.Prelude.{◌↔◌, All, IfOk, IsTrue, Option, Result}
-use Rattle.std.proofs.lemmas.List.Elements.{All-weaker}
+use Rattle.std.specs.Prelude.{◌↔◌, All, IfOk, IsTrue, Option, Result, slice_index_or}
+use Rattle.std.proofs.lemmas.Bool.{cases_lt}
+use Rattle.std.proofs.lemmas.List.{get_or_past}
+use Rattle.std.proofs.lemmas.List.Elements.{All-weaker, recursion_from_All}
 use Rattle.std.proofs.lemmas.Result.{IfOk-weaker}
-use Rattle.fp_model.specs.Problem.{Problem}
-use Rattle.fp_timenodes.specs.Points.{TimePoints}
+use Rattle.fp_model.specs.Problem.{IsValid, Problem}
+use Rattle.fp_timenodes.specs.Points.{TimePoints, points_at}
 use Rattle.fp_flatnet.specs.declared.window_tables.Window.{Window}
 use Rattle.fp_flatnet.specs.Belonging.{BelongsTo}
 use Rattle.fp_flatnet.specs.Initial.{initial_points}
 use Rattle.fp_flatnet.specs.Tables.{WindowTable, windows_in}
 use Rattle.fp_tree.specs.declared.sides.Side.{Side}
+use Rattle.fp_prices.specs.declared.leaf_prices.LeafPrice.{LeafPrice}
 use Rattle.fp_prices.specs.declared.values.bounds.LeafBound.{LeafBound}
-use Rattle.fp_prices.specs.declared.values.bounds.LeafBound.TheVariants.{Empty, Value}
 use Rattle.fp_prices.specs.declared.leaf_prices.Kind.{Kind}
 use Rattle.fp_prices.specs.declared.leaf_prices.Kind.TheVariants.{Linear, Even, Table}
-use Rattle.fp_prices.specs.Leaves.{IsBoundOf}
-use Rattle.fp_prices.specs.Shares.{ClassShare}
-use Rattle.fp_prices_spans.specs.SpanKinds.{spans_beside}
+use Rattle.fp_prices_gifts.specs.declared.gifts.Gift.{Gift}
+use Rattle.fp_prices_gifts.specs.GiftKinds.{gifts_beside, gifts_of_table}
+use Rattle.fp_prices_gifts.specs.GiftLeaves.{IsGiftBound}
+use Rattle.fp_prices_gifts.specs.Gifts.{AreGifts}
+use Rattle.fp_prices_spans.specs.SpanKinds.{spans_beside, spans_of_table}
 use Rattle.fp_prices_spans.specs.MomentRuns.{first_points}
 use Rattle.fp_prices_spans.specs.SpanCharges.{ArePaidSpans}
-use Rattle.fp_prices_spans.specs.SpanLeaves.{IsSpanBoundOf}
 use Rattle.fp_prices_spans.specs.SpanLists.{AreSpans, IsSpanOf}
 use Rattle.fp_prices_spans.specs.Spans.{ClassSpan}
-use Rattle.fp_prices_spans.proofs.SpanlessValues.{spanless-values}
-use Rattle.fp_certificate_lines.specs.Ranges.{IsInRange, IsSpanInRange}
+use Rattle.fp_certificate_lines.specs.Ranges.{IsGiftInRange, IsInRange}
 use Rattle.fp_certificate_lines.specs.Statements.{Statement}
-use Rattle.fp_certificate_rules.specs.Points.{ArePointsOf}
-use Rattle.fp_certificate_rules.specs.Prices.{HasPrices}
-use Rattle.fp_certificate_lines.proofs.SpanRanges.{IsSpanInRange-of}
+use Rattle.fp_certificate_rules.specs.Points.{ArePointsOf, points_as_of}
+use Rattle.fp_certificate_rules.specs.Prices.{ArePaid, ArePaidBeside, HasPrices}
 use Rattle.fp_certificate_rules.proofs.FirstPoints.{first-paid, initial-paid}
-use Rattle.fp_certificate_rules.proofs.KeptPrices.{All-both}
+use Rattle.fp_certificate_rules.proofs.KeptPrices.{beside-of}
 use Rattle.fp_certificate_rules.proofs.UnitCosts.{at-all}
+use Rattle.fp_checker.proofs.GiftBounds.{gift_bound-same}
 
--- without spans, the bound is that by the tables
-spanless-bound : (p : Problem) (windows : ℕ → ℕ → Option Window) (points : ℕ → List ℕ) (sides : List Side) (tables : List (List ClassShare)) (kind : Kind) (forced : Bool) (bound : LeafBound) →
-    IsBoundOf p windows points sides tables kind forced bound → IsSpanBoundOf p windows points sides tables [] kind forced bound
-spanless-bound p windows points sides tables kind forced (Empty shipment) is = is
-spanless-bound p windows points sides tables kind forced (Value value) is = (spanless-values p windows points sides tables kind forced value).1 is
+-- gifts in range are of arcs that exist
+abbrev pub AreOfArcs : Problem → List Gift → Type 0
+AreOfArcs p gifts = All (λ (gift : Gift). gift.arc < length p.arcs) gifts
 
--- so it is where the list of spans is found to be empty
-pub unspanned-bound : (p : Problem) (windows : ℕ → ℕ → Option Window) (points : ℕ → List ℕ) (sides : List Side) (tables : List (List ClassShare)) (spans : List ClassSpan) (kind : Kind) (forced : Bool) (bound : LeafBound) → spans ≡ [] →
-    IsBoundOf p windows points sides tables kind forced bound → IsSpanBoundOf p windows points sides tables spans kind forced bound
-unspanned-bound p windows points sides tables spans kind forced bound none is =
-    subst (λ (s : List ClassSpan). IsSpanBoundOf p windows points sides tables s kind forced bound) (sym none) (spanless-bound p windows points sides tables kind forced bound is)
+pub of-arcs : (p : Problem) (gifts : List Gift) → All (IsGiftInRange p) gifts → AreOfArcs p gifts
+of-arcs p gifts range = All-weaker (IsGiftInRange p) (λ (gift : Gift). gift.arc < length p.arcs) (λ gift is. is.arc) gifts range
 
--- paid spans in range can price leaves
-paid-spans : (p : Problem) (windows : ℕ → ℕ → Option Window) (first : ℕ → List ℕ) (spans : List ClassSpan) → All (IsSpanInRange p) spans → ArePaidSpans p windows first spans → AreSpans p spans
-paid-spans p windows first spans range are = record { ordered = are.list.ordered; exist = All-weaker (IsSpanInRange p) (IsSpanOf p) (IsSpanInRange-of p) spans range; light = are.list.light }
+module _ (p : Problem) (windows : ℕ → ℕ → Option Window) (first : ℕ → List ℕ) where
+  -- paid spans and gifts can price leaves
+  paid-spans : (spans : List ClassSpan) (gifts : List Gift) → All (IsSpanOf p) spans → ArePaidBeside p windows first spans gifts → AreSpans p spans
+  paid-spans spans [] of are = record { ordered = are.list.ordered; exist = of; light = are.list.light }
+  paid-spans spans (gift ∷ gifts) of are = record { ordered = are.ordered; exist = of; light = are.light }
 
--- no spans can
+  paid-gifts : (spans : List ClassSpan) (gifts : List Gift) → AreOfArcs p gifts → ArePaidBeside p windows first spans gifts → AreGifts p gifts
+  paid-gifts spans [] of are = record { exist = of; light = search rules }
+  paid-gifts spans (gift ∷ gifts) of are = record { exist = of; light = are.given.light }
+
+  -- none are paid
+  pub none-paid : ArePaidSpans p windows first []
+  none-paid = record { list = record { ordered = record { ascend = search rules; weights = search rules; moments = search rules }; light = search rules; money = tt }; paid = search rules }
+
+  -- so where those at each place are paid, all are, and the other way round
+  pub paid-by_places : (spans : List (List ClassSpan)) (gifts : List (List Gift)) → length gifts ≡ length spans →
+      ((k : ℕ) → k < length spans → ArePaidBeside p windows first (slice_index_or spans k []) (slice_index_or gifts k [])) → ArePaid p windows first spans gifts
+  paid-by_places spans gifts same each id =
+      ⊎_elim (λ (there : id - 1 < length spans). each (id - 1) there)
+      (λ (past : length spans ≤ id - 1).
+      subst (λ (s : List ClassSpan). ArePaidBeside p windows first s (gifts_of_table gifts id)) (sym (get_or_past spans (id - 1) [] past))
+      (subst (λ (g : List Gift). ArePaidBeside p windows first [] g) (sym (get_or_past gifts (id - 1) [] (omega (arith, past, same)))) none-paid))
+      (cases_lt (id - 1) (length spans))
+
+-- no spans and no gifts can price leaves
 no-spans : (p : Problem) → AreSpans p []
 no-spans p = record { ordered = record { ascend = search rules; weights = search rules; moments = search rules }; exist = search rules; light = search rules }
 
--- so can those beside each table of a certificate whose prices hold
-pub beside-spans : (p : Problem) (table : WindowTable) (c : Statement) → IsInRange p c → HasPrices p table c → (kind : Kind) → AreSpans p (spans_beside c.spans kind)
-beside-spans p table c range has Linear = no-spans p
-beside-spans p table c range has Even = no-spans p
-beside-spans p table c range has (Table id) =
-    at-all (AreSpans p) c.spans (id - 1) [] (no-spans p)
-    (All-both (All (IsSpanInRange p)) (ArePaidSpans p (windows_in table) (initial_points p table.anchors)) (AreSpans p) []
-    (λ s r h. paid-spans p (windows_in table) (initial_points p table.anchors) s r h) c.spans range.spans has.spans)
+no-gifts : (p : Problem) → AreGifts p []
+no-gifts p = record { exist = search rules; light = search rules }
 
--- the spans of a certificate are found to be paid by the first of its points exactly where they are paid by the initial ones
+module _ (p : Problem) (table : WindowTable) (c : Statement) (range : IsInRange p c) (has : HasPrices p table c) where
+  -- the spans beside each table of a certificate whose prices hold can
+  pub beside-spans : (kind : Kind) → AreSpans p (spans_beside c.spans kind)
+  beside-spans Linear = no-spans p
+  beside-spans Even = no-spans p
+  beside-spans (Table id) =
+      paid-spans p (windows_in table) (initial_points p table.anchors) (spans_of_table c.spans id) (gifts_of_table c.gifts id) (beside-of p c.spans range.spans id) (has.spans id)
+
+  -- and so can the gifts
+  pub beside-gifts : (kind : Kind) → AreGifts p (gifts_beside c.gifts kind)
+  beside-gifts Linear = no-gifts p
+  beside-gifts Even = no-gifts p
+  beside-gifts (Table id) =
+      paid-gifts p (windows_in table) (initial_points p table.anchors) (spans_of_table c.spans id) (gifts_of_table c.gifts id)
+      (of-arcs p (gifts_of_table c.gifts id) (at-all (All (IsGiftInRange p)) c.gifts (id - 1) [] (search rules) range.gifts)) (has.spans id)
+
+-- the spans and the gifts of a certificate are found to be paid by the first of its points exactly where they are paid by the initial ones
 module _ (p : Problem) (table : WindowTable) (c : Statement) (v : TimePoints) (r : Result Bool AllocError) (belongs : BelongsTo p table) (range : IsInRange p c) (are : ArePointsOf p table.anchors c.points v) where
-  abbrev first : List ClassSpan → Type 0
-  first = ArePaidSpans p (windows_in table) (first_points v)
-
-  abbrev initial : List ClassSpan → Type 0
-  initial = ArePaidSpans p (windows_in table) (initial_points p table.anchors)
-
-  exist : (spans : List ClassSpan) → All (IsSpanInRange p) spans → All (IsSpanOf p) spans
-  exist spans in_range = All-weaker (IsSpanInRange p) (IsSpanOf p) (IsSpanInRange-of p) spans in_range
-
-  by-initial : All first c.spans → All initial c.spans
-  by-initial =
-      All-both (All (IsSpanInRange p)) first initial []
-      (λ s in_range h. first-paid p (windows_in table) table.anchors c.points v s belongs.valid range.points are (exist s in_range) h) c.spans range.spans
-
-  by-first : All initial c.spans → All first c.spans
-  by-first =
-      All-both (All (IsSpanInRange p)) initial first []
-      (λ s in_range h. initial-paid p (windows_in table) table.anchors c.points v s belongs.valid range.points are (exist s in_range) h) c.spans range.spans
-
-  pub told-paid : (spans : List (List ClassSpan)) → spans ≡ c.spans → IfOk r (λ paid. IsTrue paid ↔ All first spans) → IfOk r (λ paid. IsTrue paid ↔ All initial c.spans)
-  told-paid spans same found =
+  pub told-paid : (spans : List (List ClassSpan)) (gifts : List (List Gift)) → spans ≡ c.spans → gifts ≡ c.gifts → IfOk r (λ paid. IsTrue paid ↔ ArePaid p (windows_in table) (first_points v) spans gifts) →
+      IfOk r (λ paid. IsTrue paid ↔ ArePaid p (windows_in table) (initial_points p table.anchors) c.spans c.gifts)
+  told-paid spans gifts same given found =
       IfOk-weaker r _ _
       (λ paid h.
-      let told : IsTrue paid ↔ All first c.spans = subst (λ (ss : List (List ClassSpan)). IsTrue paid ↔ All first ss) same h in
-      (λ yes. by-initial (told.0 yes), λ all. told.1 (by-first all)))
+      let told : IsTrue paid ↔ ArePaid p (windows_in table) (first_points v) c.spans c.gifts =
+      subst (λ (ss : List (List ClassSpan)). IsTrue paid ↔ ArePaid p (windows_in table) (first_points v) ss c.gifts) same
+      (subst (λ (gs : List (List Gift)). IsTrue paid ↔ ArePaid p (windows_in table) (first_points v) spans gs) given h) in (
+        λ yes. first-paid p (windows_in table) table.anchors c.points v c.spans c.gifts belongs.valid range.points are range.spans (told.0 yes),
+        λ all. told.1 (initial-paid p (windows_in table) table.anchors c.points v c.spans c.gifts belongs.valid range.points are range.spans all),
+      ))
       found
+
+-- a bound over the points that were made is one over the certificate's
+pub told-bound : (p : Problem) (table : WindowTable) (c : Statement) (v : TimePoints) (sides : List Side) (price : LeafPrice) (found : Option LeafBound) → IsValid p → IsInRange p c → HasPrices p table c → ArePointsOf p table.anchors c.points v →
+    IsGiftBound p (windows_in table) (λ terminal. points_at v terminal price.round) sides c.tables (spans_beside c.spans price.kind) (gifts_beside c.gifts price.kind) price.kind price.forced found →
+    IsGiftBound p (windows_in table) (points_as_of p table.anchors c price.round) sides c.tables (spans_beside c.spans price.kind) (gifts_beside c.gifts price.kind) price.kind price.forced found
+told-bound p table c v sides price found valid range has are is =
+    gift_bound-same p (windows_in table) sides c.tables price.kind price.forced valid (spans_beside c.spans price.kind) (gifts_beside c.gifts price.kind)
+    (recursion_from_All (λ (gift : Gift). gift.arc < length p.arcs) (gifts_beside c.gifts price.kind) (beside-gifts p table c range has price.kind).exist) (λ terminal. points_at v terminal price.round) (points_as_of p table.anchors c price.round)
+    (λ terminal lt. are.same terminal price.round lt) found is

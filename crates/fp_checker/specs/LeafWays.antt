@@ -7,19 +7,23 @@ use Rattle.fp_tree.specs.declared.ways.Step.{Step}
 use Rattle.fp_tree.specs.Sides.{Exit}
 use Rattle.fp_tree.specs.Ways.{side_of, way_sides}
 use Rattle.fp_allowed.specs.Allowed.{meets, meets_all}
+use Rattle.fp_prices_gifts.specs.declared.gifts.Gift.{Gift}
+use Rattle.fp_prices_gifts.specs.GiftNumbers.{better, gift_number, number_by}
 use Rattle.fp_checker.specs.declared.rules.leaf_ways.Entry.{Entry}
 use Rattle.fp_checker.specs.declared.rules.leaf_ways.LeafWay.{LeafWay}
 use Rattle.fp_checker.specs.declared.rules.leaf_ways.TheConstants.{SPACING}
 use Rattle.fp_checker.specs.declared.rules.narrow_sides.Change.{Change}
 use Rattle.fp_checker.specs.declared.rules.narrow_sides.Change.TheVariants.{Added, Replaced}
 
--- what meets one side meets another
-abbrev pub Implies : Side → Side → Type 0
-Implies first second = (k : ℕ) (e : Exit) → (meets k e first && meets k e second) ≡ meets k e first
+-- what meets one side meets another, and the other tells no gift a better number of trucks
+pub record Implies (one other : Side) : Type 0 where
+  pub legs : (k : ℕ) (e : Exit) → (meets k e one && meets k e other) ≡ meets k e one
+  pub numbers : (gift : Gift) → better gift.least (number_by gift one) (number_by gift other) ≡ number_by gift one
 
--- the same legs meet all of some sides as of others
-abbrev pub AskAlike : List Side → List Side → Type 0
-AskAlike sides others = (k : ℕ) (e : Exit) → meets_all k sides e ≡ meets_all k others e
+-- the same legs meet all of some sides as of others, and both tell each gift the same number of trucks
+pub record AskAlike (sides others : List Side) : Type 0 where
+  pub legs : (k : ℕ) (e : Exit) → meets_all k sides e ≡ meets_all k others e
+  pub numbers : (gift : Gift) → gift_number sides gift ≡ gift_number others gift
 
 -- the place of a change is one of the sides
 abbrev pub IsInside : Change → List Side → Type 0
@@ -35,7 +39,8 @@ undone (Replaced place side) sides = slice_set sides place side
 pub record IsAdded (old : List Side) (side : Side) (new : List Side) (change : Change) : Type 0 where
   pub inside : IsInside change new
   pub back : undone change new ≡ old
-  pub alike : (k : ℕ) (e : Exit) → meets_all k new e ≡ (meets_all k old e && meets k e side)
+  pub legs : (k : ℕ) (e : Exit) → meets_all k new e ≡ (meets_all k old e && meets k e side)
+  pub numbers : (gift : Gift) → gift_number new gift ≡ better gift.least (gift_number old gift) (number_by gift side)
 
 -- sides that come of others as the entries tell
 abbrev pub ComesBy : List Side → List Entry → List Side → Type 0

@@ -7,6 +7,7 @@ pub(crate) mod leaves;
 pub(crate) mod narrow_sides;
 pub(crate) mod orders;
 pub(crate) mod plans;
+pub(crate) mod price_gifts;
 pub(crate) mod price_spans;
 pub(crate) mod price_tables;
 pub(crate) mod prices;

@@ -14,6 +14,7 @@ use Rattle.fp_model.specs.Numbered.{no_shipment, shipment_at}
 use Rattle.fp_model.specs.Problem.{Problem, IsValid, IsArc, IsShipment, arc_at, no_arc}
 use Rattle.fp_model.specs.Routes.{Leads, arcs_of}
 use Rattle.fp_model.specs.Costs.{all_legs, cost, departures_cost, flow_total, has_leg, same_leg}
+use Rattle.fp_model.proofs.TruckCounts.{sizes-some}
 use Rattle.fp_flatnet.specs.declared.window_tables.Window.{Window}
 use Rattle.fp_flatnet.specs.Belonging.{BelongsTo}
 use Rattle.fp_flatnet.specs.Tables.{WindowTable, windows_in}
@@ -31,7 +32,7 @@ use Rattle.fp_prices.proofs.TakenByClasses.{NoneTwice, NoneTwiceInAny, paid}
 use Rattle.fp_prices.proofs.Users.{AgreesFrom, users-few}
 use Rattle.fp_prices.proofs.ClassPrices.{AreWalks}
 use Rattle.fp_prices.proofs.LeafSums.{bases-and-paid, costs-le}
-use Rattle.fp_prices.proofs.PlanBounds.{size_at, sizes-agree, sizes-some}
+use Rattle.fp_prices.proofs.PlanBounds.{size_at, sizes-agree}
 use Rattle.fp_prices.proofs.ForcedValues.{IsReached, value-reached}
 use Rattle.fp_prices.proofs.WalkClasses.{AreTimedWalks, used-allowed, used-exist, chains-among}
 use Rattle.fp_duals.specs.Improvements.{IsReachedChain}

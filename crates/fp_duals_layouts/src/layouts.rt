@@ -2,6 +2,7 @@
 ghost use Rattle.std.specs.Prelude.{◌≡◌, OnErr};
 
 use crate::NoMemory;
+use crate::gifts::LaidGift;
 use crate::groups::{Groups, Member};
 use crate::payers::{ALWAYS, Payer, divisor_of, most_of};
 use fp_duals_nets::{ClassNodes, ClassPool, ClassPools, LeafNets, PoolPart, part_mut};
@@ -52,6 +53,12 @@ pub struct Layout {
     pub covers: Groups,
     /// The payers of joined spans over each edge of all nets.
     pub links: Groups,
+    /// The gifts for trucks.
+    pub gifts: Vec<LaidGift>,
+    /// The gifts over each span of a single class: those because at least so many trucks leave, and
+    /// those because at most so many do.
+    pub least_over: Groups,
+    pub most_over: Groups,
 }
 
 /// The part of a list by payers that a span's payers have.
@@ -168,6 +175,9 @@ impl Layout {
             own: Groups::new(alloc),
             covers: Groups::new(alloc),
             links: Groups::new(alloc),
+            gifts: Vec::new(alloc),
+            least_over: Groups::new(alloc),
+            most_over: Groups::new(alloc),
         }
     }
 

@@ -6,12 +6,17 @@
 //! trucks by at most; or, where shipments are told apart by the moments at which they can leave,
 //! the sum of this over all greatest sets of shipments that can leave together.
 //!
+//! A gift is a part of what each truck costs that leaves in a run. That at least so many leave is worth
+//! its amount for each of them, and the spans there have so much less money; that at most so many leave
+//! costs it, and the spans there have so much more.
+//!
 //! It's made for heuristics, whose results are tested afterwards: nothing is promised of it but
 //! that it's safe and ends. All look-ups with a number that isn't there give nothing.
 #![tactic(auto)]
 
 mod arcs;
 mod charges;
+mod gifts;
 mod group_charges;
 mod groups;
 mod joins;
@@ -21,6 +26,7 @@ mod payers;
 mod prices;
 
 pub use charges::Charges;
+pub use gifts::{LaidGift, RunGift};
 pub use groups::Groups;
 pub use layouts::{LaidSpan, Layout, Run, of_span};
 pub use moment_groups::MomentGroups;

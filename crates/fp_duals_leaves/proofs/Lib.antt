@@ -1,6 +1,9 @@
+pub mod PairedLists
 pub mod SoundSpans
+pub mod SpansBeside
+pub mod GiftlessBounds
 pub mod GrownPrices
 pub mod Worths
 pub mod ImprovedPrices
-pub mod SpansBeside
+pub mod SidelessGifts
 pub mod WrittenLines

@@ -1,4 +1,4 @@
--- What leaves are worth by tables, and by spans.
+-- What leaves are worth by tables, and by spans and gifts.
 use Rattle.std.proofs.Common.{◌≡◌, ℕ, ◌+◌, ◌-◌, ◌<◌, ◌≤◌, ⊎_elim, inl, inr, Bool, false, List, [], ◌∷◌, ◌++◌, length, refl, sym, ap, ◌∙◌, subst, arith}
 use Rattle.std.specs.Prelude.{IfOk, Result, Ok, Err, if◌then◌else◌, slice_index_or}
 use Rattle.std.specs.declared.alloc.AllocError.{AllocError}
@@ -22,16 +22,21 @@ use Rattle.fp_prices.specs.LeastWalks.{IsLeastWalk}
 use Rattle.fp_prices.specs.Prices.{share_for, table_at, table_price}
 use Rattle.fp_prices.specs.Shares.{ClassShare}
 use Rattle.fp_prices.proofs.TableAppends.{HasKind-append, IsLeafValue-append}
+use Rattle.fp_prices_gifts.specs.declared.gifts.Gift.{Gift}
+use Rattle.fp_prices_gifts.specs.GiftKinds.{gifts_beside}
+use Rattle.fp_prices_gifts.specs.GiftLeaves.{IsGiftLeafValue}
+use Rattle.fp_prices_gifts.proofs.GiftAppends.{gift_values-append}
+use Rattle.fp_prices_gifts.proofs.OneGiftValue.{values-without-gifts}
 use Rattle.fp_prices_spans.specs.SpanKinds.{spans_beside}
 use Rattle.fp_prices_spans.specs.SpanLeaves.{IsSpanLeafValue, leaf_heads}
 use Rattle.fp_prices_spans.specs.SpanPrices.{is_held, leaf_span_price, span_price}
 use Rattle.fp_prices_spans.specs.Spans.{ClassSpan}
-use Rattle.fp_prices_spans.proofs.SpanAppends.{IsPricedValue-tables, beside-append}
 use Rattle.fp_prices_spans.proofs.SpanlessValues.{spanless-values}
 use Rattle.fp_duals.specs.Improvements.{IsPriced}
 use Rattle.fp_duals_leaves.specs.declared.pricing.Worth.{Worth}
-use Rattle.fp_duals_leaves.specs.Prices.{HaveGrown, PriceLists, with_more}
+use Rattle.fp_duals_leaves.specs.Prices.{ArePrices, HaveGrown, PriceLists, with_more}
 use Rattle.fp_duals_leaves.specs.Pricing.{IsNoLess, IsPriceFound, IsWorthBy}
+use Rattle.fp_duals_leaves.proofs.SpansBeside.{given-length}
 
 -- the price of a class by an empty table with spans beside it is that by linear prices with them
 empty-price : (p : Problem) (tables : List (List ClassShare)) (spans : List ClassSpan) (allowed : ℕ → Leg → Bool) (id : ℕ) (chains : List (List Leg)) → table_at tables id ≡ [] →
@@ -56,17 +61,28 @@ module _ (p : Problem) (table : WindowTable) (points : ℕ → List ℕ) (sides 
     value_is = is.value_is;
   }
 
-  -- by a table that was added without shares, with spans beside it
-  pub worth-added : (before after : PriceLists) (spans : List ClassSpan) (round id value : ℕ) → length before.spans ≡ length before.tables → after ≡ with_more before ([] ∷ []) (spans ∷ []) → id ≡ length before.tables + 1 →
-      IsSpanLeafValue p (windows_in table) points sides [] spans Linear false value →
+  -- also with gifts
+  empty-given : (tables : List (List ClassShare)) (spans : List ClassSpan) (gifts : List Gift) (id value : ℕ) → table_at tables id ≡ [] → IsGiftLeafValue p (windows_in table) points sides [] spans gifts Linear false value →
+      IsGiftLeafValue p (windows_in table) points sides tables spans gifts (Table id) false value
+  empty-given tables spans gifts id value empty is = record {
+    before = is.before;
+    plain = is.plain;
+    by_spans = empty-value tables spans id is.before empty is.by_spans;
+    given = is.given;
+  }
+
+  -- by a table that was added without shares, with spans and gifts beside it
+  pub worth-added : (before after : PriceLists) (spans : List ClassSpan) (gifts : List Gift) (round id value : ℕ) → ArePrices p table before → after ≡ with_more before ([] ∷ []) (spans ∷ []) (gifts ∷ []) → id ≡ length before.tables + 1 →
+      IsGiftLeafValue p (windows_in table) points sides [] spans gifts Linear false value →
       IsWorthBy p (windows_in table) points sides after round (record { price = record { kind = Table id; round = round; forced = false }; value = value })
-  worth-added before after spans round id value beside added is_id is =
+  worth-added before after spans gifts round id value are added is_id is =
       subst (λ (x : PriceLists). IsWorthBy p (windows_in table) points sides x round (record { price = record { kind = Table id; round = round; forced = false }; value = value })) (sym added)
       (record {
         of_round = refl;
         kind = (omega (arith, is_id), omega (arith, is_id, length-append before.tables ([] ∷ [])));
-        is = subst (λ (ss : List ClassSpan). IsSpanLeafValue p (windows_in table) points sides (before.tables ++ ([] ∷ [])) ss (Table id) false value) (sym own)
-            (empty-value (before.tables ++ ([] ∷ [])) spans id value last is);
+        is = subst (λ (ss : List ClassSpan). IsGiftLeafValue p (windows_in table) points sides (before.tables ++ ([] ∷ [])) ss (gifts_beside (before.gifts ++ (gifts ∷ [])) (Table id)) (Table id) false value) (sym own)
+            (subst (λ (gs : List Gift). IsGiftLeafValue p (windows_in table) points sides (before.tables ++ ([] ∷ [])) spans gs (Table id) false value) (sym own-gifts)
+            (empty-given (before.tables ++ ([] ∷ [])) spans gifts id value last is));
       })
     where
       here : id - 1 ≡ length before.tables
@@ -76,18 +92,19 @@ module _ (p : Problem) (table : WindowTable) (points : ℕ → List ℕ) (sides 
       last = ap (λ (i : ℕ). slice_index_or (before.tables ++ ([] ∷ [])) i []) here ∙ get_or-append_seam before.tables [] [] []
 
       own : spans_beside (before.spans ++ (spans ∷ [])) (Table id) ≡ spans
-      own = ap (λ (i : ℕ). slice_index_or (before.spans ++ (spans ∷ [])) i []) (here ∙ sym beside) ∙ get_or-append_seam before.spans spans [] []
+      own = ap (λ (i : ℕ). slice_index_or (before.spans ++ (spans ∷ [])) i []) (here ∙ sym are.beside) ∙ get_or-append_seam before.spans spans [] []
+
+      own-gifts : gifts_beside (before.gifts ++ (gifts ∷ [])) (Table id) ≡ gifts
+      own-gifts = ap (λ (i : ℕ). slice_index_or (before.gifts ++ (gifts ∷ [])) i []) (here ∙ sym (given-length p table before are)) ∙ get_or-append_seam before.gifts gifts [] []
 
   -- what a leaf is worth stays when the prices grow
-  pub worth-stays : (before after : PriceLists) (round : ℕ) (w : Worth) → length before.spans ≡ length before.tables → HaveGrown p table before after → IsWorthBy p (windows_in table) points sides before round w → IsWorthBy p (windows_in table) points sides after round w
-  worth-stays before after round w beside grown is =
+  pub worth-stays : (before after : PriceLists) (round : ℕ) (w : Worth) → ArePrices p table before → HaveGrown p table before after → IsWorthBy p (windows_in table) points sides before round w → IsWorthBy p (windows_in table) points sides after round w
+  worth-stays before after round w are grown is =
       subst (λ (x : PriceLists). IsWorthBy p (windows_in table) points sides x round w) (sym grown.is)
       (record {
         of_round = is.of_round;
         kind = HasKind-append before.tables grown.tables w.price.kind is.kind;
-        is = subst (λ (ss : List ClassSpan). IsSpanLeafValue p (windows_in table) points sides (before.tables ++ grown.tables) ss w.price.kind w.price.forced w.value)
-            (sym (beside-append before.tables before.spans grown.spans w.price.kind beside is.kind))
-            (IsPricedValue-tables p (windows_in table) points sides before.tables w.price.kind w.price.forced w.value is.kind grown.tables before.spans is.is);
+        is = gift_values-append p (windows_in table) points sides before.tables grown.tables before.spans grown.spans before.gifts grown.gifts w.price.kind w.price.forced w.value are.beside (given-length p table before are) is.kind is.is;
       })
 
   -- the price that was found for a leaf, where another is no less
@@ -108,10 +125,10 @@ module _ (p : Problem) (table : WindowTable) (points : ℕ → List ℕ) (sides 
       no_less
 
   -- it stays when the prices grow
-  pub found-stays : (before after : PriceLists) (round : ℕ) (w : Worth) (walks : List (List Leg)) → length before.spans ≡ length before.tables → HaveGrown p table before after → IsPriceFound p (windows_in table) points sides before round w walks →
+  pub found-stays : (before after : PriceLists) (round : ℕ) (w : Worth) (walks : List (List Leg)) → ArePrices p table before → HaveGrown p table before after → IsPriceFound p (windows_in table) points sides before round w walks →
       IsPriceFound p (windows_in table) points sides after round w walks
-  found-stays before after round w walks beside grown found = record {
-    worth = worth-stays before after round w beside grown found.worth;
+  found-stays before after round w walks are grown found = record {
+    worth = worth-stays before after round w are grown found.worth;
     linear = found.linear;
     even = found.even;
     walks = found.walks;
@@ -124,16 +141,16 @@ module _ (p : Problem) (table : WindowTable) (points : ℕ → List ℕ) (sides 
       ⊎_elim (λ (same : w ≡ first). ap (λ (v : Worth). v.price.round) same) (λ (more : IsWorthBy p (windows_in table) points sides x first.price.round w × (first.value < w.value)). more.0.of_round) no_less
 
   -- of three prices, each no less than the one before, the last is no less than the first
-  pub no-less-twice : (before after : PriceLists) (round : ℕ) (first second third : Worth) → length before.spans ≡ length before.tables → HaveGrown p table before after → IsNoLess p (windows_in table) points sides before round first second →
+  pub no-less-twice : (before after : PriceLists) (round : ℕ) (first second third : Worth) → ArePrices p table before → HaveGrown p table before after → IsNoLess p (windows_in table) points sides before round first second →
       IsNoLess p (windows_in table) points sides after round second third → IsNoLess p (windows_in table) points sides after round first third
-  no-less-twice before after round first second third beside grown one two =
+  no-less-twice before after round first second third are grown one two =
       ⊎_elim
       (λ (same : third ≡ second).
       ⊎_elim
       (λ (still : second ≡ first). let it : IsNoLess p (windows_in table) points sides after round first third = inl (same ∙ still) in it)
       (λ (more : IsWorthBy p (windows_in table) points sides before round second × (first.value < second.value)).
       let it : IsNoLess p (windows_in table) points sides after round first third =
-      inr (subst (λ (w : Worth). IsWorthBy p (windows_in table) points sides after round w × (first.value < w.value)) (sym same) (worth-stays before after round second beside grown more.0, more.1)) in
+      inr (subst (λ (w : Worth). IsWorthBy p (windows_in table) points sides after round w × (first.value < w.value)) (sym same) (worth-stays before after round second are grown more.0, more.1)) in
       it)
       one)
       (λ (most : IsWorthBy p (windows_in table) points sides after round third × (second.value < third.value)).
@@ -144,20 +161,22 @@ module _ (p : Problem) (table : WindowTable) (points : ℕ → List ℕ) (sides 
       two
 
   -- the same of what a call gives
-  pub no-less_told : (before after : PriceLists) (round : ℕ) (first second : Worth) (r : Result Worth AllocError) → length before.spans ≡ length before.tables → HaveGrown p table before after →
+  pub no-less_told : (before after : PriceLists) (round : ℕ) (first second : Worth) (r : Result Worth AllocError) → ArePrices p table before → HaveGrown p table before after →
       IsNoLess p (windows_in table) points sides before round first second → IfOk r (IsNoLess p (windows_in table) points sides after round second) → IfOk r (IsNoLess p (windows_in table) points sides after round first)
-  no-less_told before after round first second (Err e) beside grown one two = tt
-  no-less_told before after round first second (Ok third) beside grown one two = no-less-twice before after round first second third beside grown one two
+  no-less_told before after round first second (Err e) are grown one two = tt
+  no-less_told before after round first second (Ok third) are grown one two = no-less-twice before after round first second third are grown one two
 
-  -- a price by tables alone: no spans stand beside its table
-  pub found-by_tables : (before after : PriceLists) (inherited : Kind) (round : ℕ) (price : LeafPrice) (value : ℕ) (walks : List (List Leg)) → spans_beside after.spans price.kind ≡ [] →
+  -- a price by tables alone: neither spans nor gifts stand beside its table
+  pub found-by_tables : (before after : PriceLists) (inherited : Kind) (round : ℕ) (price : LeafPrice) (value : ℕ) (walks : List (List Leg)) → spans_beside after.spans price.kind ≡ [] → gifts_beside after.gifts price.kind ≡ [] →
       IsPriced p (windows_in table) points sides before.tables after.tables inherited round price value walks → IsPriceFound p (windows_in table) points sides after round (record { price = price; value = value }) walks
-  found-by_tables before after inherited round price value walks none is = record {
+  found-by_tables before after inherited round price value walks none ungiven is = record {
     worth = record {
       of_round = is.of_round;
       kind = is.kind;
-      is = subst (λ (ss : List ClassSpan). IsSpanLeafValue p (windows_in table) points sides after.tables ss price.kind price.forced value) (sym none)
-          ((spanless-values p (windows_in table) points sides after.tables price.kind price.forced value).1 is.is_value);
+      is = subst (λ (ss : List ClassSpan). IsGiftLeafValue p (windows_in table) points sides after.tables ss (gifts_beside after.gifts price.kind) price.kind price.forced value) (sym none)
+          (subst (λ (gs : List Gift). IsGiftLeafValue p (windows_in table) points sides after.tables [] gs price.kind price.forced value) (sym ungiven)
+          ((values-without-gifts p (windows_in table) points sides after.tables [] price.kind price.forced value).1
+          ((spanless-values p (windows_in table) points sides after.tables price.kind price.forced value).1 is.is_value)));
     };
     linear = λ f other v. is.best.linear f other (IsLeafValue-append p (windows_in table) points sides [] Linear f other tt before.tables v);
     even = λ f other v. is.best.even f other (IsLeafValue-append p (windows_in table) points sides [] Even f other tt before.tables v);

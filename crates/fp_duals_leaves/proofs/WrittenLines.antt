@@ -1,4 +1,4 @@
--- The lines of tables, and of the spans beside them, when they are written.
+-- The lines of tables, and of the spans and the gifts beside them, when they are written.
 use Rattle.std.proofs.Common.{◌≡◌, ℕ, ◌+◌, ◌-◌, ◌≤◌, List, [], ◌∷◌, length, drop, refl, ap, arith}
 use Rattle.std.specs.Prelude.{map, sum_by}
 use Rattle.std.specs.List.{flat_map}
@@ -7,11 +7,13 @@ use Rattle.std.proofs.lemmas.List.Concat.{flat_map-cons}
 use Rattle.std.proofs.lemmas.List.Sums.{sum_by-cons, sum_by-drop_more}
 use Rattle.fp_model.specs.Problem.{Problem}
 use Rattle.fp_prices.specs.Shares.{ClassShare}
+use Rattle.fp_prices_gifts.specs.declared.gifts.Gift.{Gift}
+use Rattle.fp_prices_gifts.specs.GiftKinds.{gifts_of_table}
 use Rattle.fp_prices_spans.specs.SpanKinds.{spans_of_table}
 use Rattle.fp_prices_spans.specs.Spans.{ClassSpan}
-use Rattle.fp_certificate_lines.specs.Rows.{group_fields, share_rows, span_rows, table_rows, tables_rows, weight_fields}
+use Rattle.fp_certificate_lines.specs.Rows.{beside_rows, gift_fields, group_fields, share_rows, span_rows, table_rows, tables_rows, weight_fields}
 use Rattle.fp_duals.specs.PriceLines.{line_count, line_total}
-use Rattle.fp_duals_leaves.specs.PriceLines.{PriceLinesAreWritten, span_lines}
+use Rattle.fp_duals_leaves.specs.PriceLines.{PriceLinesAreWritten, gift_lines, span_lines}
 
 module _ (p : Problem) where
   -- shares and their weights
@@ -42,25 +44,38 @@ module _ (p : Problem) where
         sum_by-cons (λ (t : ClassSpan). 1 + length t.weights + length t.groups) s spans,
       )
 
-  -- a table and the spans beside it
-  table-long : (id : ℕ) (table : List ClassShare) (spans : List ClassSpan) → length (table_rows p id table spans) ≡ line_count table + span_lines spans
-  table-long id table spans = omega (arith, length-append (flat_map (share_rows p) table) (flat_map (span_rows p) spans), shares-long table, spans-long spans)
+  -- spans and gifts beside a table
+  beside-long : (spans : List ClassSpan) (gifts : List Gift) → length (beside_rows p spans gifts) ≡ span_lines spans + gift_lines gifts
+  beside-long spans gifts = omega (arith, length-append (flat_map (span_rows p) spans) (map (gift_fields p) gifts), spans-long spans, length-map gifts (gift_fields p))
 
-  -- tables from a number on, with the spans that are left for them
-  tables-long : (spans : List (List ClassSpan)) (id : ℕ) (tables : List (List ClassShare)) → 1 ≤ id → id - 1 + length tables ≡ length spans →
-      length (tables_rows p spans id tables) ≡ line_total tables + sum_by span_lines (drop (id - 1) spans)
-  tables-long spans id [] some beside = omega (arith, ap (sum_by span_lines) (drop_all (id - 1) spans (omega (arith, beside))))
-  tables-long spans id (table ∷ tables) some beside =
+  -- a table with what stands beside it
+  table-long : (id : ℕ) (table : List ClassShare) (spans : List ClassSpan) (gifts : List Gift) → length (table_rows p id table spans gifts) ≡ line_count table + span_lines spans + gift_lines gifts
+  table-long id table spans gifts = omega (arith, length-append (flat_map (share_rows p) table) (beside_rows p spans gifts), shares-long table, beside-long spans gifts)
+
+  -- tables from a number on, with the spans and the gifts that are left for them
+  tables-long : (spans : List (List ClassSpan)) (gifts : List (List Gift)) (id : ℕ) (tables : List (List ClassShare)) → 1 ≤ id → id - 1 + length tables ≡ length spans →
+      id - 1 + length tables ≡ length gifts →
+      length (tables_rows p spans gifts id tables) ≡ line_total tables + sum_by span_lines (drop (id - 1) spans) + sum_by gift_lines (drop (id - 1) gifts)
+  tables-long spans gifts id [] some beside given =
+      omega (
+        arith,
+        ap (sum_by span_lines) (drop_all (id - 1) spans (omega (arith, beside))),
+        ap (sum_by gift_lines) (drop_all (id - 1) gifts (omega (arith, given))),
+      )
+  tables-long spans gifts id (table ∷ tables) some beside given =
       let next : id - 1 + 1 ≡ id + 1 - 1 = omega (arith, some) in
       omega (
         arith,
-        length-append (table_rows p id table (spans_of_table spans id)) (tables_rows p spans (id + 1) tables),
-        table-long id table (spans_of_table spans id),
-        tables-long spans (id + 1) tables (omega arith) (omega (arith, some, beside)),
+        length-append (table_rows p id table (spans_of_table spans id) (gifts_of_table gifts id)) (tables_rows p spans gifts (id + 1) tables),
+        table-long id table (spans_of_table spans id) (gifts_of_table gifts id),
+        tables-long spans gifts (id + 1) tables (omega arith) (omega (arith, some, beside)) (omega (arith, some, given)),
         sum_by-cons line_count table tables,
         sum_by-drop_more span_lines spans (id - 1) [] (omega (arith, beside)),
         ap (λ (n : ℕ). sum_by span_lines (drop n spans)) next,
+        sum_by-drop_more gift_lines gifts (id - 1) [] (omega (arith, given)),
+        ap (λ (n : ℕ). sum_by gift_lines (drop n gifts)) next,
       )
 
 pub PriceLinesAreWritten_hold : PriceLinesAreWritten
-PriceLinesAreWritten_hold p c beside = let some : 1 ≤ 1 = omega arith in tables-long p c.spans 1 c.tables some (omega (arith, beside))
+PriceLinesAreWritten_hold p c beside given =
+    let some : 1 ≤ 1 = omega arith in tables-long p c.spans c.gifts 1 c.tables some (omega (arith, beside)) (omega (arith, given))

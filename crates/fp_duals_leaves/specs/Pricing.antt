@@ -13,8 +13,9 @@ use Rattle.fp_prices.specs.Leaves.{IsFirstWithout}
 use Rattle.fp_prices.specs.Tables.{HasKind}
 use Rattle.fp_prices.specs.declared.leaf_prices.LeafPrice.{LeafPrice}
 use Rattle.fp_prices.specs.declared.values.bounds.LeafBound.{LeafBound}
-use Rattle.fp_prices_spans.specs.SpanKinds.{IsPricedValue, spans_beside}
-use Rattle.fp_prices_spans.specs.SpanLeaves.{IsSpanBoundOf}
+use Rattle.fp_prices_gifts.specs.GiftKinds.{IsPricedValue, gifts_beside}
+use Rattle.fp_prices_gifts.specs.GiftLeaves.{IsGiftBound}
+use Rattle.fp_prices_spans.specs.SpanKinds.{spans_beside}
 use Rattle.fp_duals.specs.declared.improvements.Improved.{Improved}
 use Rattle.fp_duals.specs.declared.improvements.Improved.TheVariants.{Empty, Priced}
 use Rattle.fp_duals.specs.Improvements.{IsReachedChain}
@@ -27,11 +28,11 @@ module _ (p : Problem) (windows : ℕ → ℕ → Option Window) (points : ℕ �
   pub record IsWorthBy (w : Worth) : Type 0 where
     pub of_round : w.price.round ≡ round
     pub kind : HasKind x.tables w.price.kind
-    pub is : IsPricedValue p windows points sides x.tables x.spans w.price.kind w.price.forced w.value
+    pub is : IsPricedValue p windows points sides x.tables x.spans x.gifts w.price.kind w.price.forced w.value
 
-  -- the bound of the leaf by a price, with the spans beside its table
-  abbrev pub IsPricedBound : LeafPrice → LeafBound → Type 0
-  IsPricedBound price bound = IsSpanBoundOf p windows points sides x.tables (spans_beside x.spans price.kind) price.kind price.forced bound
+  -- the bound of the leaf by a price, with the spans and the gifts beside its table, if the leaf is priced by these
+  abbrev pub IsPricedBound : LeafPrice → Option LeafBound → Type 0
+  IsPricedBound price found = IsGiftBound p windows points sides x.tables (spans_beside x.spans price.kind) (gifts_beside x.gifts price.kind) price.kind price.forced found
 
   -- the same price, or one by which the leaf is worth more
   abbrev pub IsNoLess : Worth → Worth → Type 0

@@ -2,6 +2,10 @@
 use fp_duals::Effort;
 use fp_duals_spans::SpanEffort;
 
+// Among more shipments the two sides of a split by trucks or by a way get fewer turns: a turn takes longer
+// there.
+const MANY_SHIPMENTS: usize = 40;
+
 /// How much work it may take to improve the price of a leaf: by tables; and by spans, where these
 /// are sought.
 #[derive(Clone, Copy, Debug, PartialEq, Eq)]
@@ -65,4 +69,37 @@ impl PriceEffort {
         },
         spans: None,
     };
+
+    // No tables, and spans and gifts by at most so many turns, on from the spans that a leaf inherits.
+    fn spans_alone(turns: u32, patience: u32) -> PriceEffort {
+        PriceEffort {
+            tables: PriceEffort::NONE.tables,
+            spans: Some(SpanEffort {
+                turns,
+                patience,
+                joins: 0,
+                arc_turns: turns,
+                arc_patience: patience,
+                merged_turns: 0,
+                alone: true,
+                ..SpanEffort::ROOT
+            }),
+        }
+    }
+
+    /// For the trial of a split by trucks or by a way: no tables, and few turns for spans and gifts. By the
+    /// spans alone that they inherit, the two sides are worth little more than the leaf, or no more.
+    pub fn span_trial() -> PriceEffort {
+        PriceEffort::spans_alone(20, 60)
+    }
+
+    /// For the two sides of such a split among so many shipments: as much as they get until their next
+    /// split, and less where there are many.
+    pub fn by_spans(shipments: usize) -> PriceEffort {
+        if shipments > MANY_SHIPMENTS {
+            PriceEffort::spans_alone(300, 20)
+        } else {
+            PriceEffort::spans_alone(2000, 60)
+        }
+    }
 }

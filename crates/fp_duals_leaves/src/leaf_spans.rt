@@ -1,4 +1,4 @@
-//! Spans by which a leaf is worth more.
+//! Spans and gifts by which a leaf is worth more.
 ghost use Rattle.std.specs.Prelude.{IfOk, IfSome};
 ghost use Rattle.fp_longestarcs.specs.Networks.{points_in};
 ghost use Rattle.fp_prices.specs.Tables.{AreTables, HasKind};
@@ -9,43 +9,45 @@ use crate::span_prices::SpanPrice;
 use crate::span_tests::are_sound;
 use fp_duals_clashes::ClashVotes;
 use fp_duals_nets::LentNets;
-use fp_duals_spans::{SpanEffort, StartPrices, proposed_spans};
+use fp_duals_spans::{Proposed, SpanEffort, StartPrices, proposed_spans};
 use fp_ends::{Deadline, Resources};
 use fp_prices::{Kind, Leaf, LeafBound};
-use fp_prices_spans::{Span, span_bound};
+use fp_prices_gifts::gift_bound;
 use std::alloc::Global;
 
-// What the leaf is worth by spans, where they are sound and it's above a value.
+// What the leaf is worth by spans and gifts, where they are sound, the leaf is priced by them and it's
+// above a value.
 fn price_by(
     alloc: Global,
     leaf: &Leaf,
-    spans: Vec<Span>,
+    proposed: Proposed,
     value: u128,
 ) -> Result<Option<SpanPrice>, NoMemory>
     ensures { IfOk result (λ found. IfSome found
         (IsBetterPrice leaf.now.setting.problem leaf.now.setting.windows
         (points_in leaf.now.setting.network) leaf.now.sides value)) }
 {
-    if !are_sound(alloc, leaf.round().instance(), leaf.windows(), &spans)? {
+    let Proposed { spans, gifts } = proposed;
+    let instance = leaf.round().instance();
+    if !are_sound(alloc, instance, leaf.windows(), &spans, &gifts)? {
         return Ok(None);
     }
-    match span_bound(alloc, leaf, &[], &spans, Kind::Linear, false)? {
-        LeafBound::Value { value: worth } if worth > value => {
-            Ok(Some(SpanPrice {
-                spans,
-                value: worth,
-            }))
-        }
+    match gift_bound(alloc, leaf, &[], &spans, &gifts, Kind::Linear, false)? {
+        Some(LeafBound::Value { value: worth }) if worth > value => Ok(Some(SpanPrice {
+            spans,
+            gifts,
+            value: worth,
+        })),
         _ => Ok(None),
     }
 }
 
-/// Spans by which a leaf is worth more than a value, where such are found.
+/// Spans and gifts by which a leaf is worth more than a value, where such are found.
 ///
-/// They are sought from some prices, over the nets of the leaf. What is found keeps both rules of
-/// spans, by the leaf's windows and the initial points, so no plan of the leaf costs less than it's
-/// worth by them, where the initial points are among those of its network. On the way least walks vote for
-/// points.
+/// They are sought from some prices, over the nets of the leaf. What is found keeps the rules of spans
+/// and gifts, by the leaf's windows and the initial points, so no plan of the leaf costs less than it's
+/// worth by them, where the initial points are among those of its network. Gifts are found beside spans
+/// alone, and only where the leaf has sides by trucks. On the way least walks vote for points.
 /// Nothing is promised of when spans are found. `NoMemory` only where no memory is found.
 pub(crate) fn better_spans<D: Deadline>(
     resources: &Resources<D>,
@@ -63,9 +65,9 @@ pub(crate) fn better_spans<D: Deadline>(
         (points_in leaf.now.setting.network) leaf.now.sides value)) }
 {
     let model = nets.within(resources.alloc, leaf)?;
-    let spans = proposed_spans(resources, leaf, model, start, effort, votes)?;
-    if spans.is_empty() {
+    let proposed = proposed_spans(resources, leaf, model, start, effort, votes)?;
+    if proposed.spans.is_empty() {
         return Ok(None);
     }
-    price_by(resources.alloc, leaf, spans, value)
+    price_by(resources.alloc, leaf, proposed, value)
 }

@@ -1,5 +1,5 @@
-//! The prices of a search: tables, the spans beside each, and a unit; and how the price of a leaf
-//! is improved by both.
+//! The prices of a search: tables, the spans and the gifts beside each, and a unit; and how the price
+//! of a leaf is improved by all of these.
 //!
 //! Prices are multipliers in the sense of Lagrangian relaxation (A. M. Geoffrion, "Lagrangean
 //! relaxation for integer programming", Mathematical Programming Study 2, 1974). Those by spans
@@ -18,6 +18,7 @@ mod span_prices;
 mod span_tests;
 mod steady_prices;
 mod steady_tables;
+mod uses;
 mod walks;
 
 pub use efforts::PriceEffort;
@@ -27,6 +28,7 @@ pub use pricing::{Worth, bound_by, improve};
 pub use roots::improve_root;
 pub use span_prices::SpanPrice;
 pub use steady_prices::steady_price;
+pub use uses::{LeafUses, leaf_uses};
 pub use walks::walks_by_spans;
 
 /// The error of a call that finds no memory.

@@ -1,13 +1,14 @@
 //! The prices of a search.
-ghost use Rattle.std.specs.Prelude.{◌≡◌, ◌+◌, ◌<◌, ◌≤◌, MatchBool, MatchOption, IfOk, OnErr, false, [], ◌∷◌, length};
+ghost use Rattle.std.specs.Prelude.{◌≡◌, ◌+◌, ◌++◌, ◌<◌, ◌≤◌, MatchBool, MatchOption, IfOk, OnErr, false, [], ◌∷◌, length};
 ghost use Rattle.fp_flatnet.specs.Tables.{windows_in};
 ghost use Rattle.fp_longestarcs.specs.Networks.{points_in};
 ghost use Rattle.fp_prices.specs.Tables.{HasKind};
 ghost use Rattle.fp_duals.specs.declared.limits.TheConstants.{MOST_PRICE_LINES};
 ghost use Rattle.fp_duals.specs.PriceLines.{AreWithinLimits};
 ghost use Rattle.fp_duals.specs.PriceTables.{ArePriceTables};
+ghost use Rattle.fp_prices_gifts.specs.GiftKinds.{gifts_beside as gifts_beside_kind};
 ghost use Rattle.fp_prices_spans.specs.SpanKinds.{spans_beside as spans_beside_kind};
-ghost use Rattle.fp_duals_leaves.specs.PriceLines.{AreFewLines, price_lines, span_lines};
+ghost use Rattle.fp_duals_leaves.specs.PriceLines.{AreFewLines, gift_lines, price_lines, span_lines};
 ghost use Rattle.fp_duals_leaves.specs.Prices.{ArePrices, HaveGrown, empty_prices, first_prices, with_more};
 ghost use Rattle.fp_duals_leaves.specs.Pricing.{IsImprovedBy};
 
@@ -17,23 +18,25 @@ use fp_duals_nets::LentNets;
 use fp_ends::{Deadline, Resources};
 use fp_model::Instance;
 use fp_prices::{Kind, Leaf, LeafPrice, Table};
+use fp_prices_gifts::{Gift, TableGifts, gifts_beside};
 use fp_prices_spans::{Span, TableSpans, spans_beside};
 use fp_timenodes::Place;
 use std::alloc::Global;
 use std::marker::Model;
 
-/// Tables of prices, the spans beside each, and the unit by which what leaves are worth is rounded
-/// up. A search that seeks spans has a unit.
+/// Tables of prices, the spans and the gifts beside each, and the unit by which what leaves are worth
+/// is rounded up. A search that seeks spans has a unit.
 ///
 /// They have at most 500,000 price lines in all, so that the certificate of a run can be handled:
-/// the tables, their shares, the spans, the weights of shares and of spans, and the groups of
-/// spans.
+/// the tables, their shares, the spans, the weights of shares and of spans, the groups of spans, and
+/// the gifts.
 #[derive(Drop)]
 pub struct Prices {
     tables: Tables,
     spans: Vec<TableSpans>,
-    // How many lines the spans have in all, with their weights and groups.
-    span_lines: u32,
+    gifts: Vec<TableGifts>,
+    // How many lines the spans have in all, with their weights and groups, and the gifts.
+    beside_lines: u32,
     unit: Option<u128>,
     // Where least walks clashed in the last search for spans: heuristics alone read them.
     clashes: Vec<Place>,
@@ -45,9 +48,9 @@ impl Model for Prices {
 
     ghost Value = { PriceLists };
 
-    ghost view = { λ x. record { tables = x.tables; spans = x.spans.items; unit = x.unit } };
+    ghost view = { λ x. record { tables = x.tables; spans = x.spans.items; gifts = x.gifts.items; unit = x.unit } };
 
-    ghost invariant = { λ x. AreCountedPrices x.tables x.spans.items x.span_lines };
+    ghost invariant = { λ x. AreCountedPrices x.tables x.spans.items x.gifts.items x.beside_lines };
 }
 
 // The lines of spans that have few enough.
@@ -78,6 +81,43 @@ fn lines_within(spans: &[Span], most: u32) -> Option<u32>
     Some(most - left as u32)
 }
 
+// The lines of spans and gifts, where they are at most so many.
+fn beside_within(spans: &[Span], gifts: &[Gift], most: u32) -> Option<u32>
+    ensures { MatchOption result (most < span_lines spans.now + gift_lines gifts.now)
+        (λ lines. (lines ≡ span_lines spans.now + gift_lines gifts.now) × (lines ≤ most)) }
+{
+    if gifts.len() > most as usize {
+        return None;
+    }
+    let given = gifts.len() as u32;
+    match lines_within(spans, most - given) {
+        Some(lines) => Some(lines + given),
+        None => None,
+    }
+}
+
+// Adds spans and gifts that stand beside one table; without memory the lists are as before.
+fn push_beside(
+    all_spans: &mut Vec<TableSpans>,
+    all_gifts: &mut Vec<TableGifts>,
+    spans: Vec<Span>,
+    gifts: Vec<Gift>,
+) -> Result<(), NoMemory>
+    ensures spans { IfOk result
+        (λ done. all_spans.new.items ≡ all_spans.old.items ++ (spans.items ∷ [])) }
+    ensures gifts { IfOk result
+        (λ done. all_gifts.new.items ≡ all_gifts.old.items ++ (gifts.items ∷ [])) }
+    ensures spans_err { OnErr result (all_spans.new.items ≡ all_spans.old.items) }
+    ensures gifts_err { OnErr result (all_gifts.new.items ≡ all_gifts.old.items) }
+{
+    all_spans.push(TableSpans { spans })?;
+    if let Err(error) = all_gifts.push(TableGifts { gifts }) {
+        let _beside = all_spans.pop();
+        return Err(error.into());
+    }
+    Ok(())
+}
+
 impl Prices {
     /// Prices without tables.
     pub fn new(alloc: Global, unit: Option<u128>) -> Prices
@@ -86,7 +126,8 @@ impl Prices {
         Prices {
             tables: Tables::new(alloc),
             spans: Vec::new(alloc),
-            span_lines: 0,
+            gifts: Vec::new(alloc),
+            beside_lines: 0,
             unit,
             clashes: Vec::new(alloc),
         }
@@ -102,7 +143,7 @@ impl Prices {
     pub fn tables(&self) -> &[Table]
         ensures same { result.now ≡ self.now.tables }
         ensures within { AreWithinLimits self.now.tables }
-        ensures few { AreFewLines self.now.tables self.now.spans }
+        ensures few { AreFewLines self.now.tables self.now.spans self.now.gifts }
     {
         self.tables.list()
     }
@@ -114,6 +155,13 @@ impl Prices {
         spans_beside(&self.spans, kind)
     }
 
+    /// The gifts beside the table that a kind names.
+    pub(crate) fn gifts_beside(&self, kind: Kind) -> &[Gift]
+        ensures { result.now ≡ gifts_beside_kind self.now.gifts kind }
+    {
+        gifts_beside(&self.gifts, kind)
+    }
+
     /// The unit, if there is one.
     pub fn unit(&self) -> Option<u128>
         ensures { result ≡ self.now.unit }
@@ -123,9 +171,9 @@ impl Prices {
 
     /// How many price lines may still be added.
     fn left(&self) -> u32
-        ensures { result + price_lines self.now.tables self.now.spans ≡ MOST_PRICE_LINES }
+        ensures { result + price_lines self.now.tables self.now.spans self.now.gifts ≡ MOST_PRICE_LINES }
     {
-        self.tables.left() - self.span_lines
+        self.tables.left() - self.beside_lines
     }
 
     /// How many tables there are.
@@ -135,19 +183,20 @@ impl Prices {
         self.tables.list().len() as u32
     }
 
-    /// The tables, the spans beside each and the unit, handed out.
-    pub fn into_parts(self) -> (Vec<Table>, Vec<TableSpans>, Option<u128>)
+    /// The tables, the spans and the gifts beside each and the unit, handed out.
+    pub fn into_parts(self) -> (Vec<Table>, Vec<TableSpans>, Vec<TableGifts>, Option<u128>)
         ensures tables { result.0.items ≡ self.tables }
         ensures spans { result.1.items ≡ self.spans }
-        ensures unit { result.2 ≡ self.unit }
+        ensures gifts { result.2.items ≡ self.gifts }
+        ensures unit { result.3 ≡ self.unit }
         ensures within { AreWithinLimits self.tables }
-        ensures few { AreFewLines self.tables self.spans }
+        ensures few { AreFewLines self.tables self.spans self.gifts }
     {
         let _within = self.tables.list();
-        (self.tables.into_list(), self.spans, self.unit)
+        (self.tables.into_list(), self.spans, self.gifts, self.unit)
     }
 
-    /// Keeps exactly the first so many tables, with the spans beside them.
+    /// Keeps exactly the first so many tables, with the spans and the gifts beside them.
     pub fn cut(&mut self, count: u32)
         requires { count ≤ length self.old.tables }
         ensures { self.new ≡ first_prices count self.old }
@@ -155,17 +204,21 @@ impl Prices {
         self.tables.cut(count);
         while self.spans.len() > count as usize {
             let beside = self.spans.pop().unwrap();
-            self.span_lines -= lines_of(&beside.spans);
+            let given = self.gifts.pop().unwrap();
+            self.beside_lines -= lines_of(&beside.spans);
+            self.beside_lines -= given.gifts.len() as u32;
         }
     }
 
-    // The prices that a leaf inherits, where no spans stand beside their table, and linear ones
-    // elsewhere: spans say nothing to tables.
+    // The prices that a leaf inherits, where neither spans nor gifts stand beside their table, and
+    // linear ones elsewhere: spans and gifts say nothing to tables.
     fn without_spans(&self, inherited: LeafPrice) -> LeafPrice
         ensures kind { spans_beside_kind self.now.spans result.kind ≡ [] }
+        ensures ungiven { gifts_beside_kind self.now.gifts result.kind ≡ [] }
         ensures has { HasKind self.now.tables inherited.kind → HasKind self.now.tables result.kind }
     {
-        if self.spans_beside(inherited.kind).is_empty() {
+        let kind = inherited.kind;
+        if self.spans_beside(kind).is_empty() && self.gifts_beside(kind).is_empty() {
             inherited
         } else {
             LeafPrice {
@@ -175,8 +228,8 @@ impl Prices {
         }
     }
 
-    /// Improves a leaf's price by tables alone. A table that comes has no spans beside it, and no
-    /// more price lines than are left.
+    /// Improves a leaf's price by tables alone. A table that comes has neither spans nor gifts beside
+    /// it, and no more price lines than are left.
     pub(crate) fn improve<D: Deadline>(
         &mut self,
         resources: &Resources<D>,
@@ -203,15 +256,17 @@ impl Prices {
             return Ok(improved);
         }
         let spans = Vec::new(resources.alloc);
-        if let Err(error) = self.spans.push(TableSpans { spans }) {
+        let gifts = Vec::new(resources.alloc);
+        if let Err(error) = push_beside(&mut self.spans, &mut self.gifts, spans, gifts) {
             self.tables.cut(count);
-            return Err(error.into());
+            return Err(error);
         }
         Ok(improved)
     }
 
-    /// Adds a table of the instance without spans beside it, and tells whether it did: not where it isn't one
-    /// by which leaves may be priced, nor where it would be more price lines than are left.
+    /// Adds a table of the instance with neither spans nor gifts beside it, and tells whether it did: not
+    /// where it isn't one by which leaves may be priced, nor where it would be more price lines than are
+    /// left.
     pub(crate) fn push_table(
         &mut self,
         alloc: Global,
@@ -221,7 +276,7 @@ impl Prices {
         requires tables { ArePriceTables instance.now self.old.tables }
         requires beside { length self.old.spans ≡ length self.old.tables }
         ensures added { IfOk result (λ added. MatchBool added
-            (self.new ≡ with_more self.old (table ∷ []) ([] ∷ [])) (self.new ≡ self.old)) }
+            (self.new ≡ with_more self.old (table ∷ []) ([] ∷ []) ([] ∷ [])) (self.new ≡ self.old)) }
         ensures tables { ArePriceTables instance.now self.new.tables }
         ensures err { OnErr result (self.new ≡ self.old) }
     {
@@ -231,44 +286,47 @@ impl Prices {
             return Ok(false);
         }
         let spans = Vec::new(alloc);
-        if let Err(error) = self.spans.push(TableSpans { spans }) {
+        let gifts = Vec::new(alloc);
+        if let Err(error) = push_beside(&mut self.spans, &mut self.gifts, spans, gifts) {
             self.tables.cut(count);
-            return Err(error.into());
+            return Err(error);
         }
         Ok(true)
     }
 
-    /// Adds a table without shares and spans beside it, and tells whether it did: not where they
-    /// would be more price lines than are left.
+    /// Adds a table without shares, with spans and gifts beside it, and tells whether it did: not where
+    /// they would be more price lines than are left.
     pub(crate) fn push_spans(
         &mut self,
         alloc: Global,
         spans: Vec<Span>,
+        gifts: Vec<Gift>,
         clashes: Vec<Place>,
     ) -> Result<bool, NoMemory>
         ensures added { IfOk result (λ added. MatchBool added
-            (self.new ≡ with_more self.old ([] ∷ []) (spans.items ∷ [])) (self.new ≡ self.old)) }
+            (self.new ≡ with_more self.old ([] ∷ []) (spans.items ∷ []) (gifts.items ∷ []))
+            (self.new ≡ self.old)) }
         ensures full { IfOk result (λ added. added ≡ false
-            → MOST_PRICE_LINES
-            < price_lines self.old.tables self.old.spans + 1 + span_lines spans.items) }
+            → MOST_PRICE_LINES < price_lines self.old.tables self.old.spans self.old.gifts
+            + 1 + span_lines spans.items + gift_lines gifts.items) }
         ensures err { OnErr result (self.new ≡ self.old) }
     {
         let left = self.left();
         if left == 0 {
             return Ok(false);
         }
-        let Some(lines) = lines_within(&spans, left - 1) else {
+        let Some(lines) = beside_within(&spans, &gifts, left - 1) else {
             return Ok(false);
         };
         let count = self.count();
         if !self.tables.push_empty(alloc)? {
             return Ok(false);
         }
-        if let Err(error) = self.spans.push(TableSpans { spans }) {
+        if let Err(error) = push_beside(&mut self.spans, &mut self.gifts, spans, gifts) {
             self.tables.cut(count);
-            return Err(error.into());
+            return Err(error);
         }
-        self.span_lines += lines;
+        self.beside_lines += lines;
         self.clashes = clashes;
         Ok(true)
     }

@@ -1,8 +1,12 @@
 //! The price of a leaf is improved, by tables and by spans.
-ghost use Rattle.std.specs.Prelude.{◌≡◌, ◌≢◌, None, IfOk, OnErr};
+ghost use Rattle.std.specs.Prelude.{◌≡◌, ◌≢◌, None, [], IfOk, IsSomeAnd, OnErr, ⊤};
 ghost use Rattle.fp_flatnet.specs.Tables.{windows_in};
 ghost use Rattle.fp_longestarcs.specs.Networks.{points_in};
-ghost use Rattle.fp_prices.specs.Tables.{HasKind};
+ghost use Rattle.fp_prices.specs.Tables.{AreTables, HasKind};
+ghost use Rattle.fp_prices_gifts.specs.GiftKinds.{gifts_beside};
+ghost use Rattle.fp_prices_gifts.specs.GiftLeaves.{IsGiftBound};
+ghost use Rattle.fp_prices_gifts.specs.Gifts.{AreGifts};
+ghost use Rattle.fp_prices_spans.specs.SpanLists.{AreSpans};
 ghost use Rattle.fp_duals_leaves.specs.Prices.{ArePrices, HaveGrown};
 ghost use Rattle.fp_duals_leaves.specs.Pricing.{IsImprovedBy, IsNoLess, IsPricedBound};
 
@@ -15,8 +19,9 @@ use fp_duals_clashes::ClashVotes;
 use fp_duals_nets::LentNets;
 use fp_duals_spans::{SpanEffort, StartPrices};
 use fp_ends::{Deadline, Resources};
-use fp_prices::{Kind, Leaf, LeafBound, LeafPrice};
-use fp_prices_spans::span_bound;
+use fp_prices::{Kind, Leaf, LeafBound, LeafPrice, Table};
+use fp_prices_gifts::{Gift, gift_bound};
+use fp_prices_spans::{Span, span_bound};
 use std::alloc::Global;
 
 // At least, and at most, so many places are kept at which least walks clash: what a series of rounds adds.
@@ -41,30 +46,61 @@ pub struct Worth {
     pub value: u128,
 }
 
+// The bound of a leaf with gifts, which is that by spans where there are none.
+fn bound_beside(
+    alloc: Global,
+    leaf: &Leaf,
+    tables: &[Table],
+    spans: &[Span],
+    gifts: &[Gift],
+    kind: Kind,
+    forced: bool,
+) -> Result<Option<LeafBound>, NoMemory>
+    requires tables { AreTables leaf.now.setting.problem tables.now }
+    requires kind { HasKind tables.now kind }
+    requires spans { AreSpans leaf.now.setting.problem spans.now }
+    requires gifts { AreGifts leaf.now.setting.problem gifts.now }
+    ensures exact { IfOk result
+        (IsGiftBound leaf.now.setting.problem (windows_in leaf.now.setting.windows)
+        (points_in leaf.now.setting.network) leaf.now.sides tables.now spans.now gifts.now kind forced) }
+    ensures priced { gifts.now ≡ [] → IfOk result (λ found. IsSomeAnd found (λ bound. ⊤)) }
+{
+    if gifts.is_empty() {
+        let bound = span_bound(alloc, leaf, tables, spans, kind, forced)?;
+        return Ok(Some(bound));
+    }
+    gift_bound(alloc, leaf, tables, spans, gifts, kind, forced)
+}
+
 /// The bound of a leaf by a price of a search, whatever its round: that the leaf is empty by the heads of
-/// that price, or what it is worth with the spans beside the table that the price names.
+/// that price, or what it is worth with the spans and the gifts beside the table that the price names;
+/// `None` exactly where it isn't empty by these heads and isn't priced by these gifts.
 ///
-/// It is what [`span_bound`] finds. `NoMemory` only where no memory is found.
+/// It is what [`gift_bound`] finds, and where there are no gifts there what [`span_bound`] does, so it is
+/// there then. `NoMemory` only where no memory is found.
 pub fn bound_by(
     alloc: Global,
     leaf: &Leaf,
     price: LeafPrice,
     prices: &Prices,
-) -> Result<LeafBound, NoMemory>
+) -> Result<Option<LeafBound>, NoMemory>
     requires prices { ArePrices leaf.now.setting.problem leaf.now.setting.windows prices.now }
     requires kind { HasKind prices.now.tables price.kind }
-    ensures { IfOk result
+    ensures exact { IfOk result
         (IsPricedBound leaf.now.setting.problem (windows_in leaf.now.setting.windows)
         (points_in leaf.now.setting.network) leaf.now.sides prices.now price.round price) }
+    ensures priced { gifts_beside prices.now.gifts price.kind ≡ []
+        → IfOk result (λ found. IsSomeAnd found (λ bound. ⊤)) }
 {
     let LeafPrice { kind, forced, .. } = price;
     let spans = prices.spans_beside(kind);
-    span_bound(alloc, leaf, prices.tables(), spans, kind, forced)
+    let gifts = prices.gifts_beside(kind);
+    bound_beside(alloc, leaf, prices.tables(), spans, gifts, kind, forced)
 }
 
-// What a leaf is worth, as of the same round, by the prices that it inherits, with the spans beside
-// their table, where it has some and that is more. Where no walk goes by the heads of these prices it
-// keeps its first price.
+// What a leaf is worth, as of the same round, by the prices that it inherits, with the spans and the
+// gifts beside their table, where it has spans and that is more. Where no walk goes by the heads of
+// these prices, or the leaf isn't priced by these gifts, it keeps its first price.
 fn by_inherited(
     alloc: Global,
     leaf: &Leaf,
@@ -84,8 +120,9 @@ fn by_inherited(
     if spans.is_empty() {
         return Ok(first);
     }
-    match span_bound(alloc, leaf, prices.tables(), spans, kind, forced)? {
-        LeafBound::Value { value } if value > first.value => Ok(Worth {
+    let gifts = prices.gifts_beside(kind);
+    match gift_bound(alloc, leaf, prices.tables(), spans, gifts, kind, forced)? {
+        Some(LeafBound::Value { value }) if value > first.value => Ok(Worth {
             price: LeafPrice {
                 kind,
                 round: first.price.round,
@@ -97,8 +134,8 @@ fn by_inherited(
     }
 }
 
-// What a leaf is worth, as of the same round, by spans that are sought from a price, where such are
-// found and there is room for them.
+// What a leaf is worth, as of the same round, by spans and gifts that are sought from a price, where
+// such are found and there is room for them.
 #[tactic(auto, using(crate::proofs::GrownPrices::HaveGrown_none))]
 fn by_spans<D: Deadline>(
     resources: &Resources<D>,
@@ -123,6 +160,7 @@ fn by_spans<D: Deadline>(
         kind,
         forced,
         spans: prices.spans_beside(kind),
+        gifts: prices.gifts_beside(kind),
     };
     let mut votes = ClashVotes::of(resources.alloc, leaf.round().instance())?;
     let value = first.value;
@@ -132,7 +170,7 @@ fn by_spans<D: Deadline>(
     };
     let id = prices.count() + 1;
     let clashes = votes.places(resources.alloc, leaf.round(), most_clashes(leaf))?;
-    if !prices.push_spans(resources.alloc, found.spans, clashes)? {
+    if !prices.push_spans(resources.alloc, found.spans, found.gifts, clashes)? {
         return Ok(first);
     }
     Ok(Worth {
@@ -215,8 +253,8 @@ fn improve_further<D: Deadline>(
 /// Improves the price of a leaf as of a round, from a price that it inherits: by tables, and where
 /// the prices have a unit by spans too.
 ///
-/// The leaf lies over the network of the round, and the nets are those of the leaf. The spans among
-/// the prices are sound by the leaf's windows, and so are those that come. What is found is the
+/// The leaf lies over the network of the round, and the nets are those of the leaf. The spans and the
+/// gifts among the prices are sound by the leaf's windows, and so are those that come. What is found is the
 /// leaf's first shipment without an allowed walk; or a price as of the round, what the leaf is
 /// worth by it in parts of a unit of money, and an allowed walk of each shipment. The prices grow
 /// by at most two tables. `NoMemory` only where no memory is found; then they are as before.

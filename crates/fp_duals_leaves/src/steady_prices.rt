@@ -22,8 +22,8 @@ fn is_worth(
     requires kind { HasKind prices.now.tables price.kind }
 {
     match bound_by(alloc, leaf, price, prices)? {
-        LeafBound::Value { value } => Ok(value >= least),
-        LeafBound::Empty { .. } => Ok(false),
+        Some(LeafBound::Value { value }) => Ok(value >= least),
+        Some(LeafBound::Empty { .. }) | None => Ok(false),
     }
 }
 

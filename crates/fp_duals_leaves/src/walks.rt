@@ -38,6 +38,7 @@ pub fn walks_by_spans(
         kind,
         forced,
         spans,
+        gifts: prices.gifts_beside(kind),
     };
     let walks = proposed_walks(alloc, leaf, nets.within(alloc, leaf)?, start)?;
     if are_allowed_walks(leaf, &walks) {

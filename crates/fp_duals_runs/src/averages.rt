@@ -49,6 +49,11 @@ impl Averages {
         })
     }
 
+    /// How much of a payer's walks uses what it pays for, in a span of a single class, in parts of `ONE`.
+    pub(crate) fn use_of(&self, payer: usize) -> u64 {
+        self.used.get(payer).copied().unwrap_or(0)
+    }
+
     /// Adds the walks of a turn, whose number is counted from 0, and its charged sets.
     pub fn turn(&mut self, nets: &Nets, walks: &[usize], charges: &Charges, turn: u32) {
         let part = (ONE / u64::from(turn).wrapping_add(1).max(1)).max(self.fresh);

@@ -1,5 +1,4 @@
 //! The ascent over the prices of spans: by an averaged direction, and by passes over the shipments.
-pub(crate) mod directions;
 pub(crate) mod exact_ascent;
+pub(crate) mod gift_lines;
 pub(crate) mod subgradients;
-pub(crate) mod ties;

@@ -33,6 +33,8 @@ pub struct SpanEffort {
     pub merged_turns: u32,
     /// How far above the best value its first target lies, as `level`.
     pub merged_level: u32,
+    /// Whether the search that goes on from spans over whole arcs is made alone, where such are handed in.
+    pub alone: bool,
 }
 
 impl SpanEffort {
@@ -51,5 +53,6 @@ impl SpanEffort {
         arc_patience: 60,
         merged_turns: 2000,
         merged_level: 4 << 10,
+        alone: false,
     };
 }

@@ -53,7 +53,7 @@ fn add_weights(
     };
     for (weight, payer) in weights.iter_mut().zip(payers.iter()) {
         let more = unit.inner(weight_of(&span.weights, payer.shipment));
-        *weight = weight.saturating_add(more).min(payer.most);
+        *weight = weight.saturating_add(more).min(layout.most_weight(payer));
     }
 }
 

@@ -28,14 +28,25 @@ impl Kept<'_> {
         self.list.get(number).copied().unwrap_or(false)
     }
 
-    // Whether some kept span is joined over a span of a single class.
+    // Whether some gift takes money off a span of a single class: then a span holds for all classes of
+    // the gift's run.
+    fn is_taken_off(&self, number: usize) -> bool {
+        for gift in self.layout.least_over.group(number) {
+            if self.prices.amount_of(*gift) > 0 {
+                return true;
+            }
+        }
+        false
+    }
+
+    // Whether a kept span holds for a single class beside its own.
     fn is_covered(&self, number: usize) -> bool {
         for joined in self.layout.covers.group(number) {
             if self.has(*joined) {
                 return true;
             }
         }
-        false
+        self.is_taken_off(number)
     }
 
     // Whether some payer pays more by a span than it does where the span is left out: nothing where

@@ -10,15 +10,21 @@
 //! and then by passes over the shipments in which the value doesn't fall. The sets that are charged
 //! are found by loads (R. E. Bellman, "Dynamic Programming", Princeton University Press, 1957).
 //!
+//! At a leaf with sides by trucks gifts stand beside the spans: parts of what each truck costs in the
+//! runs of these sides, which count for as many trucks as the sides tell. Their amounts are moved with
+//! the money of spans.
+//!
 //! What is found is a proposal: nothing is promised of it but that it is found safely and that the
-//! search ends. The layer above tests spans, values them exactly, and takes them only where they're
-//! better.
+//! search ends. The layer above tests spans and gifts, values them exactly, and takes them only where
+//! they're better.
 #![tactic(auto)]
 
 mod ascent;
+mod averages;
 mod efforts;
 mod inherited_spans;
 mod keeping;
+mod laid_spans;
 mod leaf_searches;
 mod moments;
 mod proposals;
@@ -26,8 +32,12 @@ mod searches;
 mod starts;
 mod whole_arcs;
 
+pub use averages::{AveragedUses, averaged_uses};
 pub use efforts::SpanEffort;
-pub use leaf_searches::{StartPrices, proposed_spans, proposed_walks};
+pub use fp_duals_runs::{PaidTrucks, TRUCK_PARTS};
+pub use laid_spans::StartPrices;
+pub use leaf_searches::{proposed_spans, proposed_walks};
+pub use proposals::Proposed;
 
 /// The error of a call that finds no memory.
 pub type NoMemory = std::alloc::AllocError;

@@ -1,13 +1,24 @@
-//! The spans of some prices, with the least charges that pay.
+//! The spans of some prices, with the least charges that pay, and the gifts.
 
 use crate::NoMemory;
 use crate::keeping::Kept;
+use fp_duals_gifts::{cut_gifts, hold_runs, proposed_gifts};
 use fp_duals_layouts::{LaidSpan, Layout, MomentGroups, Payer, SpanPrices, of_span};
 use fp_duals_nets::{ArcMoney, MoneyUnit};
 use fp_prices::Weight;
+use fp_prices_gifts::Gift;
 use fp_prices_knapsack::{Item, Knapsack};
 use fp_prices_spans::Span;
 use std::alloc::Global;
+
+/// Spans and gifts that are proposed for a leaf.
+#[derive(Drop)]
+pub struct Proposed {
+    /// In order, each with the least charge that pays.
+    pub spans: Vec<Span>,
+    /// Each with an amount above 0.
+    pub gifts: Vec<Gift>,
+}
 
 /// Prices by the spans of a layout, as they are proposed.
 #[derive(Clone, Copy)]
@@ -75,13 +86,24 @@ fn weights_of(
 }
 
 impl Proposal<'_> {
-    // The money of a span: of a single class what the kept ones that are joined over it leave of
-    // the cost of a truck.
+    // What the gifts with these numbers come to.
+    fn given(&self, gifts: &[usize]) -> u128 {
+        let mut sum = 0u128;
+        for gift in gifts {
+            sum = sum.saturating_add(self.unit.outer(self.prices.amount_of(*gift)));
+        }
+        sum
+    }
+
+    // The money of a span: of a single class what the kept ones that are joined over it, and gifts,
+    // leave of the cost of a truck.
     fn money(&self, number: usize, arc: &ArcMoney) -> u128 {
         if number >= self.layout.singles {
             return self.unit.outer(self.prices.money_of(number));
         }
-        let mut left = arc.truck_parts;
+        let more = self.given(self.layout.most_over.group(number));
+        let taken = self.given(self.layout.least_over.group(number));
+        let mut left = arc.truck_parts.saturating_add(more).saturating_sub(taken);
         for joined in self.layout.covers.group(number) {
             if self.kept.has(*joined) {
                 left = left.saturating_sub(self.unit.outer(self.prices.money_of(*joined)));
@@ -188,8 +210,18 @@ impl Proposal<'_> {
         }))
     }
 
-    /// The kept spans in order, with the least charges that pay.
-    pub(crate) fn spans(&self, alloc: Global) -> Result<Vec<Span>, NoMemory> {
+    /// The kept spans in order, with the least charges that pay, and the gifts.
+    pub(crate) fn proposed(&self, alloc: Global) -> Result<Proposed, NoMemory> {
+        let mut spans = self.spans(alloc)?;
+        let mut gifts = proposed_gifts(alloc, self.layout, self.prices, self.unit)?;
+        hold_runs(alloc, &gifts, &mut spans)?;
+        spans.sort_by_key(|span: &Span| (span.arc, span.point, span.until))?;
+        cut_gifts(self.arcs, &spans, &mut gifts);
+        Ok(Proposed { spans, gifts })
+    }
+
+    // The kept spans with the least charges that pay.
+    fn spans(&self, alloc: Global) -> Result<Vec<Span>, NoMemory> {
         let mut tools = Tools {
             knapsack: Knapsack::new(alloc),
             groups: MomentGroups::new(alloc),
@@ -209,7 +241,6 @@ impl Proposal<'_> {
                 }
             }
         }
-        spans.sort_by_key(|span: &Span| (span.arc, span.point, span.until))?;
         Ok(spans)
     }
 }

@@ -6,13 +6,12 @@ use crate::ascent::exact_ascent::settle;
 use crate::ascent::subgradients::ascend;
 use crate::efforts::SpanEffort;
 use crate::keeping::kept_spans;
-use crate::proposals::Proposal;
+use crate::proposals::{Proposal, Proposed};
 use fp_duals_clashes::{ClashVotes, Ground};
 use fp_duals_layouts::{Layout, Run, SpanPrices};
 use fp_duals_nets::{LeafNets, Nets};
 use fp_duals_runs::{Averages, separate};
 use fp_ends::{Deadline, Resources};
-use fp_prices_spans::Span;
 use std::alloc::Global;
 
 /// The search over the nets of a leaf.
@@ -29,7 +28,7 @@ pub(crate) struct Search<'a> {
 #[derive(Drop)]
 pub(crate) struct Found {
     pub value: u64,
-    pub spans: Vec<Span>,
+    pub proposed: Proposed,
 }
 
 // Whether a value is above another by no more than a part in 4096.
@@ -37,13 +36,13 @@ fn is_little_more(value: u64, before: u64) -> bool {
     value.saturating_sub(before) < before / 4096
 }
 
-// The spans that are worth their lines at prices that are settled.
+// The spans and gifts that are worth their lines at prices that are settled.
 fn proposed(
     alloc: Global,
     model: &mut LeafNets,
     layout: &Layout,
     prices: &SpanPrices,
-) -> Result<Vec<Span>, NoMemory> {
+) -> Result<Proposed, NoMemory> {
     let kept = kept_spans(alloc, layout, model, prices)?;
     let proposal = Proposal {
         layout,
@@ -52,7 +51,7 @@ fn proposed(
         arcs: &model.arcs,
         unit: model.unit,
     };
-    proposal.spans(alloc)
+    proposal.proposed(alloc)
 }
 
 impl<'a> Search<'a> {
@@ -72,8 +71,8 @@ impl<'a> Search<'a> {
             passes,
             self.merges,
         )?;
-        let spans = proposed(resources.alloc, model, &self.layout, &prices)?;
-        Ok(Found { value, spans })
+        let proposed = proposed(resources.alloc, model, &self.layout, &prices)?;
+        Ok(Found { value, proposed })
     }
 
     /// The ascent; what it came to over all turns.

@@ -43,7 +43,7 @@ pub(crate) fn are_over_arcs(spans: &[Span]) -> bool {
 
 // What a payer pays at the costs that are set, in the class where it's least.
 fn least_price(layout: &Layout, nets: &Nets, payer: &Payer) -> u64 {
-    let mut least = payer.most;
+    let mut least = layout.most_weight(payer);
     for number in layout.edges_of(payer) {
         if let Some(edge) = nets.edges.get(*number)
             && let Some(edge_use) = nets.uses.get(*number)

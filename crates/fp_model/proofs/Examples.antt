@@ -7,6 +7,7 @@ use Rattle.fp_model.specs.declared.parts.Leg.{Leg}
 use Rattle.fp_model.specs.declared.parts.Shipment.{Shipment}
 use Rattle.fp_model.specs.Problem.{Problem, horizon, weight}
 use Rattle.fp_model.specs.Costs.{cost, load}
+use Rattle.fp_model.specs.TruckCounts.{trucks_between}
 use Rattle.fp_model.specs.Faults.{HasFault}
 use Rattle.fp_model.specs.Plans.{IsPlan}
 use Rattle.fp_model.specs.Routes.{Carries, walk_time}
@@ -56,6 +57,28 @@ together_cost = refl
 
 together_load : load two.shipments (over 3 ∷ over 3 ∷ []) (leaving 0 3) ≡ 9
 together_load = refl
+
+-- two legs of one departure that one truck carries count once; apart they count twice, and only where
+-- they leave in the run: from its beginning on, and before its end
+together_count : trucks_between two 1 (over 3 ∷ over 3 ∷ []) 0 0 10 ≡ 1
+together_count = refl
+
+apart_count : trucks_between two 1 (over 0 ∷ over 3 ∷ []) 0 0 4 ≡ 2
+apart_count = refl
+
+run_count : trucks_between two 1 (over 0 ∷ over 3 ∷ []) 0 0 3 ≡ 1
+run_count = refl
+
+later_count : trucks_between two 1 (over 0 ∷ over 3 ∷ []) 0 1 3 ≡ 0
+later_count = refl
+
+-- by another arc none leaves
+elsewhere_count : trucks_between two 1 (over 0 ∷ over 3 ∷ []) 1 0 10 ≡ 0
+elsewhere_count = refl
+
+-- over the denominator 2 a leg at 7 leaves at 3.5
+half_count : trucks_between two 2 (over 7 ∷ over 8 ∷ []) 0 3 4 ≡ 1
+half_count = refl
 
 -- sizes 6 and 5 need two trucks together
 two_trucks_cost : cost (one_arc (shipment_to 49 1 6 0 10 ∷ shipment_to 50 1 5 0 10 ∷ [])) (over 5 ∷ over 5 ∷ []) ≡ 211

@@ -7,5 +7,6 @@ pub mod LastArrivals
 pub mod LegByLeg
 pub mod Faultless
 pub mod Validity
+pub mod TruckCounts
 pub mod FirstFaults
 pub mod Examples

@@ -2,6 +2,7 @@ pub mod Names
 pub mod Problem
 pub mod Routes
 pub mod Costs
+pub mod TruckCounts
 pub mod Plans
 pub mod Numbered
 pub mod Times

@@ -11,6 +11,7 @@ use Rattle.fp_model.specs.Problem.{Problem, arc_at, truck_cost}
 use Rattle.fp_base_lists.specs.Distinct.{AreDistinct}
 use Rattle.fp_model.specs.Costs.{has_leg, all_legs, load}
 use Rattle.fp_model.proofs.Bounds.{departure_of, departure-outside}
+use Rattle.fp_model.proofs.TruckCounts.{load-some}
 use Rattle.fp_base_lists.proofs.Sums.{sum_by-same, sum_by-const}
 use Rattle.fp_prices.specs.declared.leaf_prices.Kind.{Kind}
 use Rattle.fp_prices.specs.declared.leaf_prices.Kind.TheVariants.{Linear, Even, Table}
@@ -19,7 +20,7 @@ use Rattle.fp_prices.specs.Prices.{KeepsRule, AllKeepRule, share_for, table_at, 
 use Rattle.fp_prices.specs.Leaves.{leaf_price}
 use Rattle.fp_prices.proofs.SetPrices.{linear-fits, even-fits, share-fits}
 use Rattle.fp_prices.proofs.TakenByClasses.{users}
-use Rattle.fp_prices.proofs.Users.{AgreesFrom, users-size, users-apart, users-none, load-some}
+use Rattle.fp_prices.proofs.Users.{AgreesFrom, users-size, users-apart, users-none}
 use Rattle.fp_prices.proofs.ForcedClasses.{AreAmong, base-le}
 
 -- each share of a table keeps the price rule of its arc

@@ -1,16 +1,16 @@
 -- No plan of a leaf costs less than the leaf is worth, and an empty leaf has no plan.
 use Rattle.std.proofs.Common.{◌≡◌, ℕ, suc, ◌+◌, ◌*◌, ◌≤◌, Bool, List, [], ◌∷◌, length, map, refl, ap, ◌∙◌, subst, arith}
-use Rattle.std.specs.Prelude.{sum_by, slice_index_or, All, Option}
-use Rattle.std.specs.List.{AllByRecursion}
+use Rattle.std.specs.Prelude.{sum_by, slice_index_or, Option}
 use Rattle.std.proofs.Math.Nat.{mul-le-mul_left}
-use Rattle.std.proofs.lemmas.List.Elements.{All-get_or, All-head, All-tail}
+use Rattle.std.proofs.lemmas.List.Elements.{All-get_or}
 use Rattle.std.proofs.lemmas.Slice.Zip.{AllZip-long}
 use Rattle.fp_model.specs.declared.parts.Leg.{Leg}
 use Rattle.fp_model.specs.declared.parts.Shipment.{Shipment}
 use Rattle.fp_model.specs.Numbered.{no_shipment, route_at, shipment_at}
-use Rattle.fp_model.specs.Problem.{Problem, IsValid, IsArc, IsShipment, no_arc}
+use Rattle.fp_model.specs.Problem.{Problem, IsValid, IsArc, no_arc}
 use Rattle.fp_model.specs.Routes.{Carries}
 use Rattle.fp_model.specs.Costs.{all_legs, departures_cost, flow_total, cost}
+use Rattle.fp_model.proofs.TruckCounts.{sizes-some}
 use Rattle.fp_flatnet.specs.declared.window_tables.Window.{Window}
 use Rattle.fp_longestarcs.specs.Classes.{class_of}
 use Rattle.fp_longestarcs.proofs.ClassCosts.{cost-classes}
@@ -46,11 +46,6 @@ agrees-on size i (s ∷ shipments) h =
 -- the sizes of the shipments are those at their numbers
 pub sizes-agree : (p : Problem) → AgreesFrom (size_at p) 0 p.shipments
 sizes-agree p = agrees-on (size_at p) 0 p.shipments (λ k. ap (size_at p) (let e : 0 + k ≡ k = omega arith in e))
-
--- and each is at least 1
-pub sizes-some : (n : ℕ) (shipments : List Shipment) → All (IsShipment n) shipments → AllByRecursion (λ (s : Shipment). 1 ≤ s.size) shipments
-sizes-some n [] all = tt
-sizes-some n (s ∷ shipments) all = ((All-head (IsShipment n) s shipments all).within.size.0, sizes-some n shipments (All-tail (IsShipment n) s shipments all))
 
 same-length : {X : Type 0} (f : X → X) (xs : List (List X)) → length (map (map f) xs) ≡ length xs
 same-length f [] = refl

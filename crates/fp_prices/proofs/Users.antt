@@ -2,7 +2,7 @@
 use Rattle.std.proofs.Common.{◌≡◌, ◌≢◌, ℕ, ◌+◌, ◌≤◌, Bool, true, false, cond, List, [], ◌∷◌, length, ⊎_elim, refl, sym, ap, ◌∙◌, arith, le_refl}
 use Rattle.std.specs.Prelude.{sum_by}
 use Rattle.std.specs.List.{AllByRecursion}
-use Rattle.std.proofs.lemmas.Bool.{cases_Bool, cond-true, cond-false, or_parts, or_cases, false≢true}
+use Rattle.std.proofs.lemmas.Bool.{cases_Bool, cond-true, cond-false, or_parts}
 use Rattle.std.proofs.lemmas.List.Folds.{list_any-append}
 use Rattle.std.proofs.lemmas.List.Sums.{sum_by-cons}
 use Rattle.fp_base_lists.proofs.Distinct.{AreDistinct-cons, AreDistinct-nil}
@@ -64,20 +64,6 @@ users-none i [] c h = refl
 users-none i (walk ∷ walks) c h =
     let parts = or_parts (has_leg c walk) (has_leg c (all_legs walks)) (sym (list_any-append (same_leg c) walk (all_legs walks)) ∙ h) in
     cond-false (has_leg c walk) (i ∷ users (i + 1) walks c) (users (i + 1) walks c) parts.0 ∙ users-none (i + 1) walks c parts.1
-
--- one that a walk has is loaded
-pub load-some : (shipments : List Shipment) (walks : List (List Leg)) (c : Leg) → length walks ≡ length shipments → AllByRecursion (λ (s : Shipment). 1 ≤ s.size) shipments →
-    has_leg c (all_legs walks) ≡ true → 1 ≤ load shipments walks c
-load-some [] [] c long sized h = absurd (false≢true h)
-load-some [] (walk ∷ walks) c long sized h = omega arith
-load-some (s ∷ shipments) [] c long sized h = omega arith
-load-some (s ∷ shipments) (walk ∷ walks) c long sized h =
-    ⊎_elim
-    (λ (here : has_leg c walk ≡ true). omega (arith, sized.0, cond-true (has_leg c walk) s.size 0 here))
-    (λ (later : has_leg c (all_legs walks) ≡ true).
-    let short : length walks ≡ length shipments = omega arith in
-    omega (arith, load-some shipments walks c short sized.1 later))
-    (or_cases (has_leg c walk) (has_leg c (all_legs walks)) (sym (list_any-append (same_leg c) walk (all_legs walks)) ∙ h))
 
 -- there are no more users than shipments for which the class is allowed
 pub users-few : (allowed : ℕ → Bool) (i : ℕ) (shipments : List Shipment) (walks : List (List Leg)) (c : Leg) → length walks ≡ length shipments →

@@ -6,9 +6,10 @@ use Rattle.std.proofs.lemmas.Bool.{and_from, and_parts, cases_Bool, cases_lt, co
 use Rattle.std.proofs.lemmas.List.Sums.{sum_by-cons}
 use Rattle.fp_base_lists.proofs.Elements.{AllByRecursion-weaker}
 use Rattle.fp_model.specs.declared.parts.Leg.{Leg}
+use Rattle.fp_model.specs.Costs.{all_legs, has_leg}
 use Rattle.fp_model.specs.Problem.{Problem, arc_at}
 use Rattle.fp_prices_spans.specs.Spans.{ClassSpan}
-use Rattle.fp_prices_spans.specs.SpanPrices.{holds, is_held, money_at}
+use Rattle.fp_prices_spans.specs.SpanPrices.{holds, is_held, money_at, most_paid}
 use Rattle.fp_prices_spans.specs.SpanRules.{KeepsMoneyRule}
 
 -- what it says that a span holds for a class
@@ -120,3 +121,14 @@ money-fits p spans c rule =
     omega (arith, at.known, money-le spans c (record { arc = c.arc; depart = at.point }) refl at.before at.last))
     (λ (none : is_held spans c ≡ false). omega (arith, held-none (λ (span : ClassSpan). span.money) spans c none))
     (cases_Bool (is_held spans c))
+
+-- so no more is paid for a truck of any class than it costs
+pub most_paid-fits : (p : Problem) (spans : List ClassSpan) (chains : List (List Leg)) (c : Leg) → AllByRecursion (KeepsMoneyRule p spans) spans →
+    most_paid p spans chains c ≤ p.scale * (arc_at p c.arc).truck
+most_paid-fits p spans chains c rule = by_tests (has_leg c (all_legs chains)) (is_held spans c)
+  where
+    by_tests : (free held : Bool) →
+        (if free then p.scale * (arc_at p c.arc).truck else (if held then money_at spans c else p.scale * (arc_at p c.arc).truck)) ≤ p.scale * (arc_at p c.arc).truck
+    by_tests true held = omega arith
+    by_tests false true = money-fits p spans c rule
+    by_tests false false = omega arith

@@ -19,7 +19,7 @@ use Rattle.fp_prices.specs.declared.tables.Weight.{Weight}
 use Rattle.fp_prices_spans.specs.declared.rules.moment_runs.MomentRun.{MomentRun}
 use Rattle.fp_prices_spans.specs.MomentRuns.{can_leave, group_weights, runs_of}
 use Rattle.fp_prices_spans.specs.Spans.{ClassSpan}
-use Rattle.fp_prices_spans.specs.SpanCharges.{ChargePays, SoundSpansKeepRules, item_of, items_of}
+use Rattle.fp_prices_spans.specs.SpanCharges.{ChargePays, ChargesKeepSetRule, SoundSpansKeepRules, item_of, items_of}
 use Rattle.fp_prices_spans.specs.SpanLists.{IsSpanOf}
 use Rattle.fp_prices_spans.specs.SpanRules.{KeepWithin, KeepsSetRule, WeightsAscend}
 use Rattle.fp_prices_spans.proofs.PlaceSets.{KeepPlaceRule, no_weight, set_rule-by_places, weight_at}
@@ -84,8 +84,9 @@ charge-keeps p windows first span valid of ascend pays = record { parts = pays.p
           by_runs runs parts pay.1,
         )
 
+pub charges-keep_set_rule : ChargesKeepSetRule
+charges-keep_set_rule p windows first spans valid of ordered pay =
+    recursion_from_All (KeepsSetRule p windows first) spans (λ k d lt. charge-keeps p windows first _ valid (of k d lt) (ordered.weights k d lt) (pay k d lt))
+
 pub sound_spans-keep_rules : SoundSpansKeepRules
-sound_spans-keep_rules p windows first spans valid of sound pay = record {
-  money = sound.money;
-  sets = recursion_from_All (KeepsSetRule p windows first) spans (λ k d lt. charge-keeps p windows first _ valid (of k d lt) (sound.ordered.weights k d lt) (pay k d lt));
-}
+sound_spans-keep_rules p windows first spans valid of sound pay = record { money = sound.money; sets = charges-keep_set_rule p windows first spans valid of sound.ordered pay }

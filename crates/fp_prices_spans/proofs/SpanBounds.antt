@@ -1,6 +1,6 @@
--- No plan of a leaf costs less than the leaf is worth under prices by spans.
+-- No plan of a leaf costs less than the leaf is worth under prices by spans, whatever may be paid for a truck of each class.
 use Rattle.std.proofs.Common.{◌≡◌, ℕ, ◌+◌, ◌*◌, ◌≤◌, Bool, true, refl, List, [], ◌∷◌, length, map, ap, ◌∙◌, arith}
-use Rattle.std.specs.Prelude.{sum_by}
+use Rattle.std.specs.Prelude.{Option, sum_by}
 use Rattle.std.specs.List.{AllByRecursion, AllZip}
 use Rattle.std.proofs.lemmas.List.{length-map}
 use Rattle.std.proofs.lemmas.List.Elements.{All-get_or, recursion_from_All}
@@ -9,27 +9,39 @@ use Rattle.fp_base_lists.specs.Distinct.{AreDistinct}
 use Rattle.fp_base_lists.specs.Numbered.{AllFrom}
 use Rattle.fp_base_lists.proofs.Distinct.{AreDistinct-from_map, AreDistinct-tail}
 use Rattle.fp_base_lists.proofs.Elements.{AllByRecursion-from_map}
+use Rattle.fp_base_lists.proofs.Sums.{sum_by-same, sum_by-scaled}
 use Rattle.fp_model.specs.declared.parts.Leg.{Leg}
 use Rattle.fp_model.specs.declared.parts.Shipment.{Shipment}
-use Rattle.fp_model.specs.Costs.{all_legs, departures_cost, flow_total}
-use Rattle.fp_model.specs.Problem.{Problem, IsArc, arc_at, no_arc}
+use Rattle.fp_model.specs.Costs.{all_legs, departure_cost, departures_cost, distinct, flow_total, trucks}
+use Rattle.fp_model.specs.Problem.{Problem, IsArc, IsValid, arc_at, no_arc}
 use Rattle.fp_model.specs.Routes.{Carries, arcs_of, ends_of}
+use Rattle.fp_model.proofs.Distinct.{distinct_sum}
 use Rattle.fp_model.proofs.Joins.{flow_joins}
+use Rattle.fp_flatnet.specs.declared.window_tables.Window.{Window}
 use Rattle.fp_longestarcs.specs.Classes.{class_of}
+use Rattle.fp_tree.specs.declared.sides.Side.{Side}
 use Rattle.fp_allowed.specs.Allowed.{is_allowed}
 use Rattle.fp_allowed.proofs.AllowedClasses.{is_allowed_parts}
 use Rattle.fp_allowed.proofs.PlanClasses.{plan_timed}
+use Rattle.fp_prices.specs.declared.leaf_prices.Kind.{Kind}
+use Rattle.fp_prices.specs.Leaves.{IsPlanOfLeaf}
+use Rattle.fp_prices.specs.Prices.{AllKeepRule}
+use Rattle.fp_prices.specs.Shares.{ClassShare}
 use Rattle.fp_prices.proofs.ClassPrices.{AreWalks}
 use Rattle.fp_prices.proofs.LeafSums.{costs-le_by}
 use Rattle.fp_prices.proofs.PlanBounds.{size_at, sizes-agree}
 use Rattle.fp_prices.proofs.TakenByClasses.{NoneTwiceInAny, paid}
 use Rattle.fp_prices.proofs.Users.{users-few}
 use Rattle.fp_prices.proofs.WalkClasses.{AreTimedWalks, chains-among, classes-once, none-twice, used-allowed, used-exist}
-use Rattle.fp_prices_spans.specs.SpanLeaves.{SpanValuesBoundPlans, leaf_heads}
-use Rattle.fp_prices_spans.specs.SpanPrices.{leaf_span_price}
+use Rattle.fp_prices_spans.specs.MomentRuns.{AreAmong}
+use Rattle.fp_prices_spans.specs.Spans.{ClassSpan}
+use Rattle.fp_prices_spans.specs.SpanLeaves.{IsSpanLeafValue, SpanValuesBoundPlans, leaf_heads}
+use Rattle.fp_prices_spans.specs.SpanPrices.{leaf_span_price, most_paid}
+use Rattle.fp_prices_spans.specs.SpanRules.{KeepsSetRule}
 use Rattle.fp_prices_spans.proofs.ClassSums.{bases-and-span_prices}
 use Rattle.fp_prices_spans.proofs.DepartureTrucks.{ArePlanRoutes}
 use Rattle.fp_prices_spans.proofs.LeafHeads.{leaf_plan-walks}
+use Rattle.fp_prices_spans.proofs.MoneySums.{most_paid-fits}
 
 -- a plan has no arc twice in a route, since a route enters no terminal twice
 arcs-once : (p : Problem) (d : ℕ) (shipments : List Shipment) (plan : List (List Leg)) → AllZip (Carries p d) shipments plan → AllByRecursion (λ legs. AreDistinct (arcs_of legs)) plan
@@ -53,9 +65,17 @@ classes-allowed p points d allowed i (s ∷ shipments) [] timed = absurd timed
 classes-allowed p points d allowed i (s ∷ shipments) (r ∷ plan) timed =
     (AllByRecursion-from_map (λ c. allowed i c ≡ true) (class_of p points d) r timed.0.allowed_all, classes-allowed p points d allowed (i + 1) shipments plan timed.1)
 
--- the value of a leaf is at most the scaled cost of each of its plans
-pub span_leaf-bounds : SpanValuesBoundPlans
-span_leaf-bounds p windows first points sides tables spans kind forced value valid among keep rules leaf d plan of_leaf =
+-- so much for each truck of a plan's departures, each by its class
+abbrev pub limits_for : Problem → (Leg → ℕ) → (Leg → Leg) → List (List Leg) → ℕ
+limits_for p limit of plan = distinct_sum (λ l. limit (of l) * trucks p plan l) (all_legs plan)
+
+-- where shipments pay no more for a truck of a class than a limit, the value of a leaf is at most the limits for the trucks of each of
+-- its plans, and the flow
+pub span_leaf-within : (p : Problem) (windows : ℕ → ℕ → Option Window) (first points : ℕ → List ℕ) (sides : List Side) (tables : List (List ClassShare)) (spans : List ClassSpan) (kind : Kind) (forced : Bool) (value : ℕ) (limit : Leg → ℕ) →
+    IsValid p → AreAmong p first points → AllKeepRule p tables → AllByRecursion (KeepsSetRule p windows first) spans → (leaf : IsSpanLeafValue p windows points sides tables spans kind forced value) →
+    ((c : Leg) → most_paid p spans leaf.chains c ≤ limit c) → (d : ℕ) (plan : List (List Leg)) → IsPlanOfLeaf p windows sides d plan →
+    value ≤ limits_for p limit (class_of p points d) plan + p.scale * flow_total p p.shipments plan
+span_leaf-within p windows first points sides tables spans kind forced value limit valid among keep sets leaf within_limits d plan of_leaf =
     let of : Leg → Leg = class_of p points d in
     let walks : List (List Leg) = map (map of) plan in
     let allowed : ℕ → Leg → Bool = is_allowed p windows points sides in
@@ -80,12 +100,29 @@ span_leaf-bounds p windows first points sides tables spans kind forced value val
       allows = classes-allowed p points d allowed 0 p.shipments plan timed;
     } in
     let bases : p.scale * departures_cost p leaf.chains (all_legs leaf.chains) + paid (λ c k. price k (size_at p k) c) 0 walks
-    ≤ p.scale * departures_cost p plan (all_legs plan) + sum_by (λ (n : ℕ). n) leaf.charges =
-    bases-and-span_prices p windows first points d tables spans allowed kind leaf.chains plan leaf.charges valid (omega (arith, of_leaf.denominator)) among
-    (λ k c allows. (is_allowed_parts p windows points sides k c allows).0) keep rules are
+    ≤ limits_for p limit of plan + sum_by (λ (n : ℕ). n) leaf.charges =
+    bases-and-span_prices p windows first points d tables spans allowed kind leaf.chains plan leaf.charges limit valid (omega (arith, of_leaf.denominator)) among
+    (λ k c allows. (is_allowed_parts p windows points sides k c allows).0) keep sets within_limits are
     (classes-once p points d p.shipments plan of_leaf.plan) routes of_leaf.within leaf.are_charges in
     let least : sum_by (λ (n : ℕ). n) leaf.costs ≤ paid (λ c k. price k (size_at p k) c) 0 walks + p.scale * flow_total p p.shipments walks =
     costs-le_by p (leaf_heads p windows points spans) allowed price (size_at p) 0 p.shipments leaf.costs walks (sizes-agree p) leaf.are_least
     (leaf_plan-walks p windows points sides spans d plan of_leaf) in
     let flow : p.scale * flow_total p p.shipments walks ≡ p.scale * flow_total p p.shipments plan = ap (λ (n : ℕ). p.scale * n) (flow_joins p of (λ l. refl) p.shipments plan) in
     omega (arith, leaf.value_is, bases, least, flow)
+
+-- what the trucks of a plan cost, at the scale
+scaled-trucks : (p : Problem) (of : Leg → Leg) (plan : List (List Leg)) → ((l : Leg) → (of l).arc ≡ l.arc) → limits_for p (λ c. p.scale * (arc_at p c.arc).truck) of plan ≡ p.scale * departures_cost p plan (all_legs plan)
+scaled-trucks p of plan keeps =
+    sum_by-same (λ l. p.scale * (arc_at p (of l).arc).truck * trucks p plan l) (λ l. p.scale * departure_cost p plan l)
+    (λ l. ap (λ (a : ℕ). p.scale * (arc_at p a).truck * trucks p plan l) (keeps l) ∙ (let e : p.scale * (arc_at p l.arc).truck * trucks p plan l ≡ p.scale * departure_cost p plan l = omega arith in e)) (distinct (all_legs plan))
+    ∙ sum_by-scaled p.scale (departure_cost p plan) (distinct (all_legs plan))
+
+-- so by spans that keep both rules it is at most the scaled cost of each of its plans
+pub span_leaf-bounds : SpanValuesBoundPlans
+span_leaf-bounds p windows first points sides tables spans kind forced value valid among keep rules leaf d plan of_leaf =
+    omega (
+      arith,
+      span_leaf-within p windows first points sides tables spans kind forced value (λ c. p.scale * (arc_at p c.arc).truck) valid among keep rules.sets leaf
+          (λ c. most_paid-fits p spans leaf.chains c rules.money) d plan of_leaf,
+      scaled-trucks p (class_of p points d) plan (λ l. refl),
+    )

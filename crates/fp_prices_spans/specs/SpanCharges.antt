@@ -1,6 +1,6 @@
 -- Whether the charge of a span pays for its weights, as the knapsack of fp_prices_knapsack tells it.
 use Rattle.std.specs.Prelude.{ℕ, ◌<◌, ◌≤◌, List, length, map, sum_by, take, All, Option}
-use Rattle.std.specs.List.{AllZip}
+use Rattle.std.specs.List.{AllByRecursion, AllZip}
 use Rattle.fp_prices_knapsack.specs.declared.items.Item.{Item}
 use Rattle.fp_prices_knapsack.specs.Charges.{Pays}
 use Rattle.fp_model.specs.Numbered.{shipment_at}
@@ -9,8 +9,8 @@ use Rattle.fp_flatnet.specs.declared.window_tables.Window.{Window}
 use Rattle.fp_prices.specs.declared.tables.Weight.{Weight}
 use Rattle.fp_prices_spans.specs.MomentRuns.{group_weights, runs_of}
 use Rattle.fp_prices_spans.specs.Spans.{ClassSpan}
-use Rattle.fp_prices_spans.specs.SpanRules.{KeepSpanRules}
-use Rattle.fp_prices_spans.specs.SpanLists.{IsSpanList, IsSpanOf, span_at}
+use Rattle.fp_prices_spans.specs.SpanRules.{KeepSpanRules, KeepsSetRule}
+use Rattle.fp_prices_spans.specs.SpanLists.{AreSpansInOrder, IsSpanList, IsSpanOf, span_at}
 
 -- a weight as an item: it has the size of its shipment
 abbrev pub item_of : Problem → Weight → Item
@@ -32,6 +32,12 @@ pub record IsFirstUnpaid (p : Problem) (windows : ℕ → ℕ → Option Window)
   pub exists : n < length spans
   pub unpaid : ChargePays p windows first (span_at spans n) → ⊥
   pub before : All (ChargePays p windows first) (take n spans)
+
+-- spans in order whose charges pay keep the set rule, whatever their money
+abbrev pub ChargesKeepSetRule : Type 0
+ChargesKeepSetRule =
+    (p : Problem) (windows : ℕ → ℕ → Option Window) (first : ℕ → List ℕ) (spans : List ClassSpan) → IsValid p → All (IsSpanOf p) spans → AreSpansInOrder spans →
+    All (ChargePays p windows first) spans → AllByRecursion (KeepsSetRule p windows first) spans
 
 -- spans in order keep both rules, where they keep the money rule and their charges pay
 abbrev pub SoundSpansKeepRules : Type 0

@@ -1,9 +1,9 @@
 -- For which classes a span holds, and what shipments pay by spans, in parts of a unit of money, of which the scale makes one.
-use Rattle.std.specs.Prelude.{ℕ, List, Bool, ◌&&◌, nat_eq, nat_le, nat_lt, sum_by, if◌then◌else◌}
+use Rattle.std.specs.Prelude.{ℕ, ◌*◌, List, Bool, ◌&&◌, nat_eq, nat_le, nat_lt, sum_by, if◌then◌else◌}
 use Rattle.std.specs.List.{list_any}
 use Rattle.fp_model.specs.declared.parts.Leg.{Leg}
 use Rattle.fp_model.specs.Costs.{all_legs, has_leg}
-use Rattle.fp_model.specs.Problem.{Problem}
+use Rattle.fp_model.specs.Problem.{Problem, arc_at}
 use Rattle.fp_prices.specs.declared.leaf_prices.Kind.{Kind}
 use Rattle.fp_prices.specs.Prices.{truck_price, weight_in}
 use Rattle.fp_prices.specs.Shares.{ClassShare}
@@ -30,3 +30,10 @@ span_price spans k c = sum_by (λ (span : ClassSpan). if holds span c then weigh
 abbrev pub leaf_span_price : Problem → List (List ClassShare) → List ClassSpan → (ℕ → Leg → Bool) → Kind → (chains : List (List Leg)) → (k size : ℕ) → Leg → ℕ
 leaf_span_price p tables spans allowed kind chains k size c =
     if has_leg c (all_legs chains) then 0 else (if is_held spans c then span_price spans k c else truck_price p tables allowed kind c k size)
+
+-- the most that shipments pay for a truck of a class: the money of the spans that hold for it where they price it, and otherwise what
+-- the truck costs
+abbrev pub most_paid : Problem → List ClassSpan → (chains : List (List Leg)) → Leg → ℕ
+most_paid p spans chains c =
+    if has_leg c (all_legs chains) then p.scale * (arc_at p c.arc).truck
+    else (if is_held spans c then money_at spans c else p.scale * (arc_at p c.arc).truck)

@@ -1,6 +1,6 @@
 //! The theory of leaves under prices by spans, as contracts without a body.
 ghost use Rattle.std.specs.Prelude.{◌≡◌, ◌^◌};
-ghost use Rattle.fp_prices_spans.specs.SpanCharges.{SoundSpansKeepRules};
+ghost use Rattle.fp_prices_spans.specs.SpanCharges.{ChargesKeepSetRule, SoundSpansKeepRules};
 ghost use Rattle.fp_prices_spans.specs.SpanLeaves.{SpanLeavesHaveOneValue, SpanValuesBoundPlans, ValuesWithoutSpans};
 
 use crate::spans::MOST_SPAN_WEIGHT;
@@ -43,6 +43,15 @@ pub fn values_without_spans()
 /// rule asks for the true size of the set.
 pub fn sound_spans_keep_rules()
     ensures { SoundSpansKeepRules }
+{}
+
+/// Spans that are in order with their weights and groups, and whose charges pay, keep the set rule, by
+/// the same windows and first points, whatever these are and whatever money the spans have.
+///
+/// So it is known too of spans that keep another money rule, as they do beside gifts. The instance is
+/// valid, and the spans are of arcs, and their weights of shipments, that exist.
+pub fn charges_keep_set_rule()
+    ensures { ChargesKeepSetRule }
 {}
 
 /// The limit of the weights of all spans together is this number.

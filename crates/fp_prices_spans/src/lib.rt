@@ -15,8 +15,8 @@ mod table_spans;
 mod values;
 
 pub use laws::{
-    sound_spans_keep_rules, span_leaves_have_one_value, span_values_bound_plans,
-    span_weight_limit_is_a_number, values_without_spans,
+    charges_keep_set_rule, sound_spans_keep_rules, span_leaves_have_one_value,
+    span_values_bound_plans, span_weight_limit_is_a_number, values_without_spans,
 };
 pub use rules::charge_rule::check_charges;
 pub use rules::money_rule::check_spans;

@@ -9,7 +9,7 @@ use Rattle.fp_allowed.specs.Settings.{Setting}
 use Rattle.fp_prices.specs.declared.leaf_prices.LeafPrice.{LeafPrice}
 use Rattle.fp_duals.specs.declared.improvements.Improved.{Improved}
 use Rattle.fp_duals.specs.declared.improvements.Improved.TheVariants as improved
-use Rattle.fp_duals_leaves.specs.Prices.{PriceLists, no_prices}
+use Rattle.fp_duals_leaves.specs.Prices.{ArePrices, PriceLists, no_prices}
 use Rattle.fp_session_history.specs.Notes.{points_of}
 use Rattle.fp_session.specs.Nodes.{IsKept}
 use Rattle.fp_session.specs.Outcomes.{empty_kept, priced_kept}
@@ -29,8 +29,8 @@ module _ (p : Problem) (table : WindowTable) (net : TimedNetwork) (valid : IsVal
       (subst (λ (q : Improved). ImprovedIn (record { problem = p; windows = table; network = net }) [] after 0 q) was own)
 
   -- and where it has a price
-  pub root-priced : (price : LeafPrice) (value : ℕ) (walks : Rattle.std.specs.declared.vec.Vec.Vec (List Leg) Rattle.std.specs.declared.alloc.Global.Global) → r ≡ improved.Priced price value walks →
+  pub root-priced : ArePrices p table after → (price : LeafPrice) (value : ℕ) (walks : Rattle.std.specs.declared.vec.Vec.Vec (List Leg) Rattle.std.specs.declared.alloc.Global.Global) → r ≡ improved.Priced price value walks →
       IsKept (start_of p table after) [] (priced_kept price value).payload (priced_kept price value).value
-  root-priced price value walks was =
+  root-priced are price value walks was =
       kept-priced (start_of p table after) net [] valid same price value walks.items
-      (subst (λ (q : Improved). ImprovedIn (record { problem = p; windows = table; network = net }) [] after 0 q) was own) 0
+      (subst (λ (q : Improved). ImprovedIn (record { problem = p; windows = table; network = net }) [] after 0 q) was own) are 0

@@ -38,6 +38,7 @@ module _ (s : Search) (prices : PriceLists) (search : IsSearch s prices) (whole 
     points = added_of s.trace.items;
     tables = prices.tables;
     spans = prices.spans;
+    gifts = prices.gifts;
     tree = lines_of s.tree;
   }
 

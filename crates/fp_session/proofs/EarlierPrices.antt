@@ -1,6 +1,6 @@
 -- The price of a leaf as of a round that a search had before.
-use Rattle.std.proofs.Common.{◌≡◌, ℕ, ◌<◌, ◌≤◌, ⊎_elim, inr, List, [], length, refl, sym, ap, ◌∙◌, subst, arith}
-use Rattle.std.specs.Prelude.{None}
+use Rattle.std.proofs.Common.{◌≡◌, ℕ, ◌<◌, ◌≤◌, ◌⊎◌, ⊎_elim, inr, List, [], length, refl, sym, ap, ◌∙◌, subst, arith}
+use Rattle.std.specs.Prelude.{◌≢◌, None}
 use Rattle.std.specs.declared.alloc.Global.{Global}
 use Rattle.std.specs.declared.vec.Vec.{Vec}
 use Rattle.fp_model.specs.declared.parts.Leg.{Leg}
@@ -18,16 +18,17 @@ use Rattle.fp_prices.specs.declared.leaf_prices.LeafPrice.{LeafPrice}
 use Rattle.fp_prices.specs.Rounds.{RoundModel}
 use Rattle.fp_prices.specs.Tables.{HasKind}
 use Rattle.fp_prices.proofs.TableAppends.{HasKind-append}
-use Rattle.fp_prices_spans.specs.SpanKinds.{IsPricedValue, spans_beside}
-use Rattle.fp_prices_spans.specs.SpanLeaves.{IsSpanLeafEmpty, IsSpanLeafValue}
+use Rattle.fp_prices_gifts.specs.GiftKinds.{IsPricedValue, gifts_beside}
+use Rattle.fp_prices_gifts.specs.GiftLeaves.{IsGiftLeafValue}
+use Rattle.fp_prices_gifts.proofs.OneGiftValue.{gift_leaves-have-one-value}
+use Rattle.fp_prices_spans.specs.SpanKinds.{spans_beside}
+use Rattle.fp_prices_spans.specs.SpanLeaves.{IsSpanLeafEmpty}
 use Rattle.fp_prices_spans.specs.Spans.{ClassSpan}
-use Rattle.fp_prices_spans.proofs.OneSpanValue.{span_leaves-have-one-value}
-use Rattle.fp_prices_spans.proofs.SameSpanValues.{span_value-same}
 use Rattle.fp_duals.specs.declared.improvements.Improved.{Improved}
 use Rattle.fp_duals.specs.declared.improvements.Improved.TheVariants as improved
 use Rattle.fp_duals_leaves.specs.Prices.{HaveGrown, PriceLists}
 use Rattle.fp_duals_leaves.specs.Pricing.{IsPriceFound}
-use Rattle.fp_duals_leaves.proofs.SpansBeside.{beside-none}
+use Rattle.fp_duals_leaves.proofs.SpansBeside.{beside-none, ungiven-none}
 use Rattle.fp_duals_leaves.proofs.Worths.{found-no-less}
 use Rattle.fp_session_history.specs.Notes.{points_of}
 use Rattle.fp_session_history.proofs.HistoryPoints.{AgreeOnPoints-history}
@@ -39,6 +40,7 @@ use Rattle.fp_session.specs.Outcomes.{IsBestBy, IsGreater, IsNoLessBy, empty_kep
 use Rattle.fp_session.specs.Searches.{IsSearch, history, setting_of}
 use Rattle.fp_session.proofs.ImprovedLeaves.{empty-as-of, kept-as-of}
 use Rattle.fp_session.proofs.Improvements.{ImprovedIn}
+use Rattle.fp_session.proofs.SameValues.{priced_value-same}
 use Rattle.fp_session.proofs.TakenValuations.{AreAtMost}
 
 -- the setting of a search over another network
@@ -49,16 +51,6 @@ setting_with s net = record { problem = s.instance; windows = s.windows; network
 pub leaf-setting_with : (s : Search) (net : TimedNetwork) (r : RoundModel) (x : Setting) → r ≡ record { problem = s.instance; network = net } →
     x ≡ record { problem = r.problem; windows = s.windows; network = r.network } → x ≡ setting_with s net
 leaf-setting_with s net r x is of = of ∙ ap (λ (q : RoundModel). let y : Setting = record { problem = q.problem; windows = s.windows; network = q.network } in y) is
-
--- what is kept of a leaf whose price was improved over the network of such a round
-pub priced-then : (s : Search) (before after : PriceLists) → IsSearch s before → (sides : List Side) (net : TimedNetwork) (round : ℕ) → round ≤ length s.trace.items →
-    IsNetworkOf s.instance s.points round net → (x : Setting) → x ≡ setting_with s net → (r : Improved) → ImprovedIn x sides after round r →
-    (price : LeafPrice) (value : ℕ) (walks : Vec (List Leg) Global) → r ≡ improved.Priced price value walks →
-    IsKept (history s after) sides (priced_kept price value).payload (priced_kept price value).value
-priced-then s before after is sides net round had of x setting r here price value walks was =
-    kept-as-of (history s after) net sides is.belongs.valid round had
-    (AgreeOnPoints-history (history s before) s.started s.cost is.belongs is.trace (omega (arith, is.rounds, is.budget.rounds)) s.points round net is.points is.added of) price value walks.items
-    (subst (λ (q : Improved). ImprovedIn (setting_with s net) sides after round q) was (subst (λ (y : Setting). ImprovedIn y sides after round r) setting here)) 0
 
 module _ (s : Search) (before after : PriceLists) (is : IsSearch s before) (sides : List Side) (net : TimedNetwork) (round : ℕ) (had : round ≤ length s.trace.items) (of : IsNetworkOf s.instance s.points round net)
     (x : Setting) (setting : x ≡ setting_with s net) (r : Improved) (here : ImprovedIn x sides after round r) where
@@ -90,38 +82,52 @@ module _ (s : Search) (before after : PriceLists) (is : IsSearch s before) (side
       pub of_round : now.payload.valuation.price.round ≡ price.round
       pub inherited : before.unit ≡ None → IsNoLessBy (history s after) sides price now
 
-    value-then : (v : ℕ) → IsPricedValue s.instance (windows_in s.windows) (points_in net) sides after.tables after.spans price.kind price.forced v →
-        IsPricedValue s.instance (windows_in s.windows) (points_of (history s after) price.round) sides after.tables after.spans price.kind price.forced v
+    value-then : (v : ℕ) → IsPricedValue s.instance (windows_in s.windows) (points_in net) sides after.tables after.spans after.gifts price.kind price.forced v →
+        IsPricedValue s.instance (windows_in s.windows) (points_of (history s after) price.round) sides after.tables after.spans after.gifts price.kind price.forced v
     value-then v value =
-        subst (λ (n : ℕ). IsPricedValue s.instance (windows_in s.windows) (points_of (history s after) n) sides after.tables after.spans price.kind price.forced v) (sym at)
-        (span_value-same s.instance is.belongs.valid (windows_in s.windows) (points_in net) (points_of (history s after) round) agree-then sides after.tables (spans_beside after.spans price.kind) price.kind price.forced v value)
+        subst (λ (n : ℕ). IsPricedValue s.instance (windows_in s.windows) (points_of (history s after) n) sides after.tables after.spans after.gifts price.kind price.forced v) (sym at)
+        (priced_value-same s.instance is.belongs.valid (points_in net) (points_of (history s after) round) agree-then s.windows sides after grown.prices price.kind price.forced v value)
 
-    -- where no spans are sought, none stand beside a table
+    -- where no spans are sought, neither spans nor gifts stand beside a table
+    no-unit-then : before.unit ≡ None → after.unit ≡ None
+    no-unit-then without = ap (λ (x : PriceLists). x.unit) grown.is ∙ without
+
     unspanned-then : (k : Kind) → before.unit ≡ None → spans_beside after.spans k ≡ []
-    unspanned-then k without = beside-none s.instance s.windows after k grown.prices (ap (λ (x : PriceLists). x.unit) grown.is ∙ without)
+    unspanned-then k without = beside-none s.instance s.windows after k grown.prices (no-unit-then without)
+
+    ungiven-then : before.unit ≡ None → gifts_beside after.gifts price.kind ≡ []
+    ungiven-then without = ungiven-none s.instance s.windows after price.kind grown.prices (no-unit-then without)
 
     module _ (first : LeafPrice) (value : ℕ) (walks : Vec (List Leg) Global) (was : r ≡ improved.Priced first value walks) where
       found-then : IsPriceFound s.instance (windows_in s.windows) (points_in net) sides after round (record { price = first; value = value }) walks.items
       found-then = own-then (improved.Priced first value walks) was
 
-      -- where no walk goes by the heads of that price, what was found is kept; without spans there are such walks, since the leaf has a value
-      none-then : IsSpanLeafEmpty s.instance (windows_in s.windows) (points_in net) sides (spans_beside after.spans price.kind) → IsKeptThen (priced_kept first value)
-      none-then empty = record {
-        kept = kept-as-of (history s after) net sides is.belongs.valid round had agree-then first value walks.items found-then 0;
+      -- a leaf with a value isn't empty by heads without spans
+      some-then : before.unit ≡ None → IsSpanLeafEmpty s.instance (windows_in s.windows) (points_in net) sides (spans_beside after.spans price.kind) → ⊥
+      some-then without empty =
+          gift_leaves-have-one-value.some s.instance (windows_in s.windows) (points_in net) sides after.tables [] (gifts_beside after.gifts first.kind) first.kind first.forced value
+          (subst (λ (ss : List ClassSpan). IsGiftLeafValue s.instance (windows_in s.windows) (points_in net) sides after.tables ss (gifts_beside after.gifts first.kind) first.kind first.forced value) (unspanned-then first.kind without)
+          found-then.worth.is)
+          (subst (IsSpanLeafEmpty s.instance (windows_in s.windows) (points_in net) sides) (unspanned-then price.kind without) empty)
+
+      -- where no walk goes by the heads of that price, or the leaf isn't priced by its gifts, what was found is kept; without spans there are such walks,
+      -- and no gifts
+      none-then : IsSpanLeafEmpty s.instance (windows_in s.windows) (points_in net) sides (spans_beside after.spans price.kind) ⊎ (gifts_beside after.gifts price.kind ≢ []) → IsKeptThen (priced_kept first value)
+      none-then why = record {
+        kept = kept-as-of (history s after) net sides is.belongs.valid grown.prices round had agree-then first value walks.items found-then 0;
         of_round = found-then.worth.of_round ∙ sym at;
         inherited = λ without.
-            absurd (span_leaves-have-one-value.some s.instance (windows_in s.windows) (points_in net) sides after.tables [] first.kind first.forced value
-            (subst (λ (ss : List ClassSpan). IsSpanLeafValue s.instance (windows_in s.windows) (points_in net) sides after.tables ss first.kind first.forced value) (unspanned-then first.kind without) found-then.worth.is)
-            (subst (IsSpanLeafEmpty s.instance (windows_in s.windows) (points_in net) sides) (unspanned-then price.kind without) empty));
+            ⊎_elim (λ (empty : IsSpanLeafEmpty s.instance (windows_in s.windows) (points_in net) sides (spans_beside after.spans price.kind)). absurd (some-then without empty))
+            (λ (given : gifts_beside after.gifts price.kind ≢ []). absurd (given (ungiven-then without))) why;
       }
 
-      greater-then : (v : ℕ) → IsPricedValue s.instance (windows_in s.windows) (points_in net) sides after.tables after.spans price.kind price.forced v → (kept : Kept) → IsGreater (priced_kept first value) price v kept → IsKeptThen kept
+      greater-then : (v : ℕ) → IsPricedValue s.instance (windows_in s.windows) (points_in net) sides after.tables after.spans after.gifts price.kind price.forced v → (kept : Kept) → IsGreater (priced_kept first value) price v kept → IsKeptThen kept
       greater-then v worth kept greater =
           ⊎_elim
           (λ (new : (kept ≡ priced_kept price v) × (value < v)).
           subst IsKeptThen (sym new.0)
           (record {
-            kept = kept-as-of (history s after) net sides is.belongs.valid round had agree-then price v walks.items
+            kept = kept-as-of (history s after) net sides is.belongs.valid grown.prices round had agree-then price v walks.items
                 (found-no-less s.instance s.windows (points_in net) sides after round (record { price = first; value = value }) (record { price = price; value = v }) walks.items found-then
                 (inr (record { of_round = at; kind = kind; is = worth }, new.1)))
                 0;
@@ -131,7 +137,7 @@ module _ (s : Search) (before after : PriceLists) (is : IsSearch s before) (side
           (λ (same : (kept ≡ priced_kept first value) × (v ≤ value)).
           subst IsKeptThen (sym same.0)
           (record {
-            kept = kept-as-of (history s after) net sides is.belongs.valid round had agree-then first value walks.items found-then 0;
+            kept = kept-as-of (history s after) net sides is.belongs.valid grown.prices round had agree-then first value walks.items found-then 0;
             of_round = found-then.worth.of_round ∙ sym at;
             inherited = λ _. inr (v, value-then v worth, same.1);
           }))
@@ -140,9 +146,9 @@ module _ (s : Search) (before after : PriceLists) (is : IsSearch s before) (side
       pub best-then : (kept : Kept) → IsBestBy (record { setting = x; sides = sides }) after (priced_kept first value) price kept → IsKeptThen kept
       best-then kept best =
           ⊎_elim
-          (λ (none : (kept ≡ priced_kept first value) × IsSpanLeafEmpty s.instance (windows_in s.windows) (points_in net) sides (spans_beside after.spans price.kind)).
+          (λ (none : (kept ≡ priced_kept first value) × (IsSpanLeafEmpty s.instance (windows_in s.windows) (points_in net) sides (spans_beside after.spans price.kind) ⊎ (gifts_beside after.gifts price.kind ≢ []))).
           subst IsKeptThen (sym none.0) (none-then none.1))
-          (λ (some : (v : ℕ) × IsPricedValue s.instance (windows_in s.windows) (points_in net) sides after.tables after.spans price.kind price.forced v × IsGreater (priced_kept first value) price v kept).
+          (λ (some : (v : ℕ) × IsPricedValue s.instance (windows_in s.windows) (points_in net) sides after.tables after.spans after.gifts price.kind price.forced v × IsGreater (priced_kept first value) price v kept).
           greater-then some.0 some.1 kept some.2)
           (subst (λ (y : Setting). IsBestBy (record { setting = y; sides = sides }) after (priced_kept first value) price kept) setting best)
 

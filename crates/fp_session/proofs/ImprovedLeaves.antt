@@ -19,9 +19,9 @@ use Rattle.fp_prices.specs.declared.leaf_prices.LeafPrice.{LeafPrice}
 use Rattle.fp_prices.specs.Leaves.{IsFirstWithout, IsLeafValue}
 use Rattle.fp_prices.specs.Shares.{ClassShare}
 use Rattle.fp_prices.proofs.TableAppends.{HasKind-append}
-use Rattle.fp_prices_spans.specs.SpanKinds.{IsPricedValue, spans_beside}
+use Rattle.fp_prices_gifts.specs.declared.gifts.Gift.{Gift}
+use Rattle.fp_prices_gifts.specs.GiftKinds.{IsPricedValue}
 use Rattle.fp_prices_spans.specs.Spans.{ClassSpan}
-use Rattle.fp_prices_spans.proofs.SameSpanValues.{span_value-same}
 use Rattle.fp_duals.specs.Improvements.{IsReachedChain}
 use Rattle.fp_session_history.specs.Notes.{History, last_round, points_of, with_tables}
 use Rattle.fp_session_history.specs.PrintedLeaves.{IsEmptyAt}
@@ -32,20 +32,27 @@ use Rattle.fp_session.specs.declared.payloads.Payload.{Payload}
 use Rattle.fp_certificate_lines.specs.declared.certificates.Valuation.{Valuation}
 use Rattle.fp_session.specs.Nodes.{IsEarnedAs, IsKept, IsValuedUnder}
 use Rattle.fp_session.specs.Outcomes.{IsAtLeastStarts, IsFound}
+use Rattle.fp_duals_leaves.specs.Prices.{ArePrices, PriceLists}
 use Rattle.fp_duals_leaves.specs.Pricing.{IsPriceFound}
+use Rattle.fp_session.proofs.SameValues.{priced_value-same}
 
 -- what is kept of a leaf stays true with more prices
-pub IsKept-with_tables : (h : History) (more : List (List ClassShare)) (spans : List (List ClassSpan)) (sides : List Side) (payload : Payload) (value : ℕ) → length h.spans ≡ length h.tables → IsKept h sides payload value → IsKept (with_tables h more spans) sides payload value
-IsKept-with_tables h more spans sides payload value beside kept = record {
+pub IsKept-with_tables : (h : History) (more : List (List ClassShare)) (spans : List (List ClassSpan)) (gifts : List (List Gift)) (sides : List Side) (payload : Payload) (value : ℕ) → length h.spans ≡ length h.tables → length h.gifts ≡ length h.tables →
+    IsKept h sides payload value → IsKept (with_tables h more spans gifts) sides payload value
+IsKept-with_tables h more spans gifts sides payload value beside given kept = record {
   price = record { round = kept.price.round; kind = HasKind-append h.tables more payload.valuation.price.kind kept.price.kind };
   under = record { few = kept.under.few; whole = kept.under.whole };
   worth = by_mark payload.empty kept.worth;
 }
   where
     by_mark : (b : Bool) → MatchBool b (IsEmptyAt h sides payload.valuation) (IsEarnedAs h sides payload.valuation value) →
-        MatchBool b (IsEmptyAt (with_tables h more spans) sides payload.valuation) (IsEarnedAs (with_tables h more spans) sides payload.valuation value)
+        MatchBool b (IsEmptyAt (with_tables h more spans gifts) sides payload.valuation) (IsEarnedAs (with_tables h more spans gifts) sides payload.valuation value)
     by_mark true is = record { empty = is.empty; linear = is.linear; plain = is.plain; whole = is.whole }
-    by_mark false is = record { earned = IsEarnedAt-with_tables h more spans sides payload.valuation beside kept.price.kind is.earned; is = is.is }
+    by_mark false is = record { earned = IsEarnedAt-with_tables h more spans gifts sides payload.valuation beside given kept.price.kind is.earned; is = is.is }
+
+-- the prices of a search
+abbrev pub prices_of : History → PriceLists
+prices_of h = record { tables = h.tables; spans = h.spans; gifts = h.gifts; unit = h.unit }
 
 -- a price, under all sides of a leaf
 abbrev pub whole_price : LeafPrice → Valuation
@@ -55,18 +62,18 @@ under-all : (h : History) (sides : List Side) (price : LeafPrice) → IsValuedUn
 under-all h sides price = record { few = tt; whole = λ none. refl }
 
 -- a leaf whose price was improved as of a round that there was is earned by the price
-pub kept-as-of : (h : History) (net : TimedNetwork) (sides : List Side) (valid : IsValid h.problem) (round : ℕ) → round ≤ last_round h → AgreeOnPoints h.problem (points_in net) (points_of h round) →
+pub kept-as-of : (h : History) (net : TimedNetwork) (sides : List Side) (valid : IsValid h.problem) → ArePrices h.problem h.windows (prices_of h) → (round : ℕ) → round ≤ last_round h → AgreeOnPoints h.problem (points_in net) (points_of h round) →
     (price : LeafPrice) (value : ℕ) (walks : List (List Leg)) →
-    IsPriceFound h.problem (windows_in h.windows) (points_in net) sides (record { tables = h.tables; spans = h.spans; unit = h.unit }) round (record { price = price; value = value }) walks → (incumbent : ℕ) →
+    IsPriceFound h.problem (windows_in h.windows) (points_in net) sides (prices_of h) round (record { price = price; value = value }) walks → (incumbent : ℕ) →
     IsKept h sides (record { valuation = whole_price price; empty = false; incumbent = incumbent; improved = None }) value
-kept-as-of h net sides valid round had same price value walks is incumbent = record {
+kept-as-of h net sides valid are round had same price value walks is incumbent = record {
   price = record { round = omega (arith, had, is.worth.of_round); kind = is.worth.kind };
   under = under-all h sides price;
   worth = record {
     earned = record {
       value = value;
-      is = at (λ points. IsPricedValue h.problem (windows_in h.windows) points sides h.tables h.spans price.kind price.forced value)
-          (span_value-same h.problem valid (windows_in h.windows) (points_in net) (points_of h round) same sides h.tables (spans_beside h.spans price.kind) price.kind price.forced value is.worth.is);
+      is = at (λ points. IsPricedValue h.problem (windows_in h.windows) points sides h.tables h.spans h.gifts price.kind price.forced value)
+          (priced_value-same h.problem valid (points_in net) (points_of h round) same h.windows sides (prices_of h) are price.kind price.forced value is.worth.is);
       linear = linear;
       even = even;
       linear_under = linear;
@@ -111,7 +118,7 @@ module _ (h : History) (net : TimedNetwork) (sides : List Side) (valid : IsValid
   kept-empty shipment incumbent value first = empty-as-of h net sides valid (last_round h) (omega arith) same shipment incumbent value first
 
   module _ (price : LeafPrice) (value : ℕ) (walks : List (List Leg))
-      (is : IsPriceFound h.problem (windows_in h.windows) (points_in net) sides (record { tables = h.tables; spans = h.spans; unit = h.unit }) (last_round h) (record { price = price; value = value }) walks) where
+      (is : IsPriceFound h.problem (windows_in h.windows) (points_in net) sides (prices_of h) (last_round h) (record { price = price; value = value }) walks) where
     -- the value is at least those by linear and by even prices
     pub starts-priced : IsAtLeastStarts h sides value
     starts-priced = record {
@@ -120,8 +127,8 @@ module _ (h : History) (net : TimedNetwork) (sides : List Side) (valid : IsValid
     }
 
     -- the leaf is earned by the price
-    pub kept-priced : (incumbent : ℕ) → IsKept h sides (record { valuation = whole_price price; empty = false; incumbent = incumbent; improved = None }) value
-    kept-priced incumbent = kept-as-of h net sides valid (last_round h) (omega arith) same price value walks is incumbent
+    pub kept-priced : ArePrices h.problem h.windows (prices_of h) → (incumbent : ℕ) → IsKept h sides (record { valuation = whole_price price; empty = false; incumbent = incumbent; improved = None }) value
+    kept-priced are incumbent = kept-as-of h net sides valid are (last_round h) (omega arith) same price value walks is incumbent
 
     -- and this is found of it, whichever price is kept that has no less value
     pub found-priced : (kept : Kept) → IsKept h sides kept.payload kept.value → kept.payload.empty ≡ false → value ≤ kept.value → IsFound h sides kept walks

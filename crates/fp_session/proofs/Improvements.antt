@@ -1,5 +1,5 @@
 -- What comes of improving an open leaf.
-use Rattle.std.proofs.Common.{◌≡◌, ℕ, ◌<◌, ◌≤◌, ⊎_elim, false, List, ◌++◌, refl, sym, ap, ap₂, ◌∙◌, subst, append_assoc, arith}
+use Rattle.std.proofs.Common.{◌≡◌, ℕ, ◌<◌, ◌≤◌, ⊎_elim, false, List, ◌++◌, refl, sym, ap, ◌∙◌, subst, append_assoc, arith}
 use Rattle.std.specs.declared.alloc.Global.{Global}
 use Rattle.std.specs.declared.vec.Vec.{Vec}
 use Rattle.fp_model.specs.declared.parts.Leg.{Leg}
@@ -10,6 +10,7 @@ use Rattle.fp_tree.specs.declared.sides.Side.{Side}
 use Rattle.fp_allowed.specs.Settings.{Setting}
 use Rattle.fp_prices.specs.declared.leaf_prices.LeafPrice.{LeafPrice}
 use Rattle.fp_prices.specs.Shares.{ClassShare}
+use Rattle.fp_prices_gifts.specs.declared.gifts.Gift.{Gift}
 use Rattle.fp_prices_spans.specs.Spans.{ClassSpan}
 use Rattle.fp_duals.specs.declared.improvements.Improved.{Improved}
 use Rattle.fp_duals.specs.declared.improvements.Improved.TheVariants as improved
@@ -20,6 +21,7 @@ use Rattle.fp_session.specs.Nodes.{IsKept}
 use Rattle.fp_session.specs.Outcomes.{IsFound, IsGreater, empty_kept, priced_kept}
 use Rattle.fp_duals_leaves.specs.Prices.{ArePrices, HaveGrown, PriceLists, with_more}
 use Rattle.fp_duals_leaves.specs.Pricing.{IsImprovedBy, IsPriceFound}
+use Rattle.fp_duals_leaves.proofs.SpansBeside.{given-length}
 use Rattle.fp_session.specs.Searches.{IsSearch, history, setting_of}
 use Rattle.fp_session.proofs.ImprovedLeaves.{IsKept-with_tables, found-priced, kept-empty, kept-priced}
 use Rattle.fp_session.proofs.NextRounds.{agree-now}
@@ -29,9 +31,13 @@ pub HaveGrown-twice : (p : Problem) (table : WindowTable) (before between after 
 HaveGrown-twice p table before between after one two = record {
   tables = one.tables ++ two.tables;
   spans = one.spans ++ two.spans;
+  gifts = one.gifts ++ two.gifts;
   is =
-      let lists : List (List ClassShare) → List (List ClassSpan) → PriceLists = λ ts ss. record before { tables = ts; spans = ss } in
-      two.is ∙ ap (λ (x : PriceLists). with_more x two.tables two.spans) one.is ∙ ap₂ lists (append_assoc before.tables one.tables two.tables) (append_assoc before.spans one.spans two.spans);
+      two.is
+      ∙ ap (λ (x : PriceLists). with_more x two.tables two.spans two.gifts) one.is
+      ∙ ap (λ (ts : List (List ClassShare)). record before { tables = ts; spans = (before.spans ++ one.spans) ++ two.spans; gifts = (before.gifts ++ one.gifts) ++ two.gifts }) (append_assoc before.tables one.tables two.tables)
+      ∙ ap (λ (ss : List (List ClassSpan)). record before { tables = before.tables ++ (one.tables ++ two.tables); spans = ss; gifts = (before.gifts ++ one.gifts) ++ two.gifts }) (append_assoc before.spans one.spans two.spans)
+      ∙ ap (λ (gs : List (List Gift)). record before { tables = before.tables ++ (one.tables ++ two.tables); spans = before.spans ++ (one.spans ++ two.spans); gifts = gs }) (append_assoc before.gifts one.gifts two.gifts);
   prices = two.prices;
 }
 
@@ -39,7 +45,7 @@ HaveGrown-twice p table before between after one two = record {
 pub IsKept-grown : (s : Search) (before after : PriceLists) (sides : List Side) (kept : Kept) → ArePrices s.instance s.windows before → HaveGrown s.instance s.windows before after → IsKept (history s before) sides kept.payload kept.value →
     IsKept (history s after) sides kept.payload kept.value
 IsKept-grown s before after sides kept are grown is =
-    subst (λ (x : PriceLists). IsKept (history s x) sides kept.payload kept.value) (sym grown.is) (IsKept-with_tables (history s before) grown.tables grown.spans sides kept.payload kept.value are.beside is)
+    subst (λ (x : PriceLists). IsKept (history s x) sides kept.payload kept.value) (sym grown.is) (IsKept-with_tables (history s before) grown.tables grown.spans grown.gifts sides kept.payload kept.value are.beside (given-length s.instance s.windows before are) is)
 
 -- what comes of improving a leaf in a setting
 abbrev pub ImprovedIn : Setting → List Side → PriceLists → ℕ → Improved → Type 0
@@ -65,8 +71,8 @@ module _ (s : Search) (before after : PriceLists) (is : IsSearch s before) (side
         (subst (λ (q : Improved). ImprovedIn (setting_of s) sides after round q) was own)
 
     -- what is kept of it
-    pub priced-here : IsKept (history s after) sides (priced_kept price value).payload (priced_kept price value).value
-    priced-here = kept-priced (history s after) s.network sides is.belongs.valid (agree-now s before is) price value walks.items priced-own 0
+    pub priced-here : ArePrices s.instance s.windows after → IsKept (history s after) sides (priced_kept price value).payload (priced_kept price value).value
+    priced-here are = kept-priced (history s after) s.network sides is.belongs.valid (agree-now s before is) price value walks.items priced-own are 0
 
     -- what is found of it, where no less is kept
     found-kept : (kept : Kept) → IsKept (history s after) sides kept.payload kept.value → kept.payload.empty ≡ false → value ≤ kept.value → IsFound (history s after) sides kept walks.items
@@ -79,7 +85,7 @@ module _ (s : Search) (before after : PriceLists) (is : IsSearch s before) (side
         ⊎_elim
         (λ (new : (kept ≡ priced_kept price value) × (old.value < value)).
         let both : Kept → Type 0 = λ (k : Kept). IsFound (history s after) sides k walks.items × (old.value ≤ k.value) in
-        subst both (sym new.0) (found-kept (priced_kept price value) priced-here refl (omega arith), omega (arith, new.1)))
+        subst both (sym new.0) (found-kept (priced_kept price value) (priced-here grown.prices) refl (omega arith), omega (arith, new.1)))
         (λ (same : (kept ≡ old) × (value ≤ old.value)).
         let both : Kept → Type 0 = λ (k : Kept). IsFound (history s after) sides k walks.items × (old.value ≤ k.value) in
         subst both (sym same.0) (found-kept old (IsKept-grown s before after sides old is.prices grown was_kept) some same.1, omega arith))

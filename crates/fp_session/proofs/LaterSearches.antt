@@ -1,14 +1,20 @@
 -- A search goes on by steps, and what it shows in the end goes on from what it had in hand.
 use Rattle.std.proofs.Common.{◌≡◌, ◌≤◌, List, [], ◌∷◌, ◌++◌, refl, sym, ap, ◌∙◌, arith}
-use Rattle.std.specs.Prelude.{IfSome, None, Option, Some}
+use Rattle.std.specs.Prelude.{ℕ, IfOk, IfSome, None, Option, Some, Result, Ok, Err}
+use Rattle.std.specs.declared.alloc.AllocError.{AllocError}
 use Rattle.std.proofs.lemmas.List.{append-nil, append_assoc}
 use Rattle.std.proofs.lemmas.Option.{none-some}
 use Rattle.fp_session_history.specs.declared.endings.Left.{Left}
 use Rattle.fp_session_history.specs.Notes.{Refinement}
+use Rattle.fp_session_history.specs.Solutions.{Solution}
+use Rattle.fp_session.specs.declared.searches.Search.{Search}
 use Rattle.fp_session.specs.declared.steps.Step.{Step}
 use Rattle.fp_session.specs.declared.steps.Step.TheVariants as step
-use Rattle.fp_session.specs.Searches.{InHand}
+use Rattle.fp_session.specs.Certificates.{IsShown}
+use Rattle.fp_session.specs.Searches.{InHand, in_hand}
+use Rattle.fp_session.specs.Solved.{GoesOnFrom, ShowsInHand}
 use Rattle.fp_session.specs.Steps.{HasGoneOn, IsStep}
+use Rattle.fp_session.specs.TreeLines.{notes_of}
 
 -- what holds of a search that had ended, where it follows from another fact of it and its end
 if-some : (o : Option Left) (A : Type 0) (P : Left → Type 0) → IfSome o (λ left. A) → ((left : Left) → o ≡ Some left → A → P left) → IfSome o P
@@ -51,3 +57,31 @@ gone-twice s t u one going two = record {
   trace = two.trace ∙ ap (λ (ns : List Refinement). ns ++ two.more) one.trace ∙ append_assoc s.trace one.more two.more;
   ended = if-some s.left (t ≡ s) (λ left. u ≡ s) one.ended (λ left own same. absurd (none-some left (sym going ∙ ap (λ (h : InHand). h.left) same ∙ own)));
 }
+
+-- what was left, or else another
+abbrev left_or : Option Left → Left → Left
+left_or None other = other
+left_or (Some left) other = left
+
+module _ (s : InHand) (t : Search) (unit : Option ℕ) (kept : Left) (after : Option Left) (gone : HasGoneOn s (in_hand t)) (ended : t.left ≡ Some kept) where
+  -- what is shown of a search that has ended is what it had in hand, if it had ended before
+  shows-in_hand : (x : Solution) → IsShown (record t { left = after }) unit kept x → (left : Left) → s.left ≡ Some left → in_hand t ≡ s → ShowsInHand s left x
+  shows-in_hand x shown left own same = record {
+    cost = shown.cost ∙ ap (λ (h : InHand). h.cost) same;
+    trace = shown.trace ∙ ap (λ (h : InHand). h.trace) same;
+    splits = shown.splits ∙ ap (λ (h : InHand). notes_of h.tree) same;
+    left = shown.left ∙ ap (λ (o : Option Left). left_or o left) (sym ended ∙ ap (λ (h : InHand). h.left) same ∙ own);
+  }
+
+  -- so it goes on from what the search had in hand before it went on
+  shows-onward : (x : Solution) → IsShown (record t { left = after }) unit kept x → GoesOnFrom s x
+  shows-onward x shown = record {
+    cost = omega (arith, shown.cost, gone.cost);
+    more = gone.more;
+    trace = shown.trace ∙ gone.trace;
+    ended = if-some s.left (in_hand t ≡ s) (λ left. ShowsInHand s left x) gone.ended (shows-in_hand x shown);
+  }
+
+  pub shown-onward : (r : Result Solution AllocError) → IfOk r (IsShown (record t { left = after }) unit kept) → IfOk r (GoesOnFrom s)
+  shown-onward (Err e) is = tt
+  shown-onward (Ok x) is = shows-onward x is

@@ -9,9 +9,10 @@ use Rattle.fp_tree.specs.Nodes.{Node, fork_of as fork_at, leaf_at, leaf_count, v
 use Rattle.fp_tree.specs.Trees.{HaveTails, IsTree, Leaf, tree_leaves}
 use Rattle.fp_allowed.specs.Allowed.{tails_of}
 use Rattle.fp_prices.specs.declared.leaf_prices.LeafPrice.{LeafPrice}
-use Rattle.fp_prices_spans.specs.SpanKinds.{IsPricedValue, spans_beside}
+use Rattle.fp_prices_spans.specs.SpanKinds.{spans_beside}
 use Rattle.fp_prices_spans.specs.SpanLeaves.{IsSpanLeafEmpty}
-use Rattle.fp_prices_spans.proofs.OneSpanValue.{span_leaves-have-one-value}
+use Rattle.fp_prices_gifts.specs.GiftKinds.{IsPricedValue, gifts_beside}
+use Rattle.fp_prices_gifts.proofs.OneGiftValue.{gift_leaves-have-one-value}
 use Rattle.fp_certificate_lines.specs.declared.certificates.Node.{Node as Line}
 use Rattle.fp_certificate_lines.specs.declared.certificates.Valuation.{Valuation}
 use Rattle.fp_certificate_lines.specs.Valuations.{first_sides, sides_valued}
@@ -44,12 +45,16 @@ module _ (h : History) where
       by_mark ((payload.empty ≡ false) × (value ≡ v)) sides payload value kept
       (λ mark empty.
       let own : LeafPrice = payload.valuation.price in
-      let whole : IsPricedValue h.problem (windows_in h.windows) (points_of h own.round) sides h.tables h.spans own.kind own.forced v =
-      subst (λ (o : Option ℕ). IsPricedValue h.problem (windows_in h.windows) (points_of h own.round) (first_sides o sides) h.tables h.spans own.kind own.forced v) empty.whole is in
-      absurd (span_leaves-have-one-value.some h.problem (windows_in h.windows) (points_of h own.round) sides h.tables (spans_beside h.spans own.kind) own.kind own.forced v whole (empty-by_heads h sides payload.valuation empty)))
+      let whole : IsPricedValue h.problem (windows_in h.windows) (points_of h own.round) sides h.tables h.spans h.gifts own.kind own.forced v =
+      subst (λ (o : Option ℕ). IsPricedValue h.problem (windows_in h.windows) (points_of h own.round) (first_sides o sides) h.tables h.spans h.gifts own.kind own.forced v) empty.whole is in
+      absurd (gift_leaves-have-one-value.some h.problem (windows_in h.windows) (points_of h own.round) sides h.tables (spans_beside h.spans own.kind) (gifts_beside h.gifts own.kind) own.kind own.forced v whole (empty-by_heads h sides payload.valuation empty)))
       (λ mark earned.
-      let own : LeafPrice = payload.valuation.price in
-      (mark, earned.is ∙ span_leaves-have-one-value.one h.problem (windows_in h.windows) (points_of h own.round) (sides_valued payload.valuation sides) h.tables (spans_beside h.spans own.kind) own.kind own.forced earned.earned.value v earned.earned.is is))
+      let own : LeafPrice = payload.valuation.price in (
+        mark,
+        earned.is
+            ∙ gift_leaves-have-one-value.one h.problem (windows_in h.windows) (points_of h own.round) (sides_valued payload.valuation sides) h.tables (spans_beside h.spans own.kind) (gifts_beside h.gifts own.kind) own.kind own.forced earned.earned.value v
+            earned.earned.is is,
+      ))
 
   -- a leaf is printed as it is kept
   pub printed-kept : (sides : List Side) (payload : Payload) (value : ℕ) → IsKept h sides payload value → IsEmptyAt h sides payload.valuation ⊎ IsEarnedAt h sides payload.valuation
@@ -59,13 +64,14 @@ module _ (h : History) where
   -- a leaf is empty by its heads, or worth a claim
   abbrev pub IsWorthClaim : (claim : ℕ) → List Side → Valuation → Type 0
   IsWorthClaim claim sides v =
-      IsSpanLeafEmpty h.problem (windows_in h.windows) (points_of h v.price.round) sides (spans_beside h.spans v.price.kind)
-      ⊎ ((value : ℕ) × IsValueAt h sides v value × (claim ≤ worth_of h value))
+      IsSpanLeafEmpty h.problem (windows_in h.windows) (points_of h v.price.round) sides (spans_beside h.spans v.price.kind) ⊎ ((value : ℕ) × IsValueAt h sides v value × (claim ≤ worth_of h value))
 
+  -- it is worth what it keeps
   pub worth-kept : (claim : ℕ) (sides : List Side) (payload : Payload) (value : ℕ) → IsKept h sides payload value → (payload.empty ≡ false → claim ≤ worth_of h value) → IsWorthClaim claim sides payload.valuation
   worth-kept claim sides payload value kept unmarked =
-      by_mark (IsWorthClaim claim sides payload.valuation) sides payload value kept (λ mark empty. inl (empty-by_heads h sides payload.valuation empty))
-      (λ mark earned. inr (earned.earned.value, earned.earned.is, subst (λ (v : ℕ). claim ≤ worth_of h v) earned.is (unmarked mark)))
+      let v : Valuation = payload.valuation in
+      by_mark (IsWorthClaim claim sides v) sides payload value kept (λ mark empty. inl (empty-by_heads h sides v empty))
+      (λ mark earned. inr (earned.earned.value, earned.earned.is, subst (λ (n : ℕ). claim ≤ worth_of h n) earned.is (unmarked mark)))
 
   -- a leaf that is settled and isn't empty is worth the cost
   pub settled-worth : (cost : ℕ) (payload : Payload) (value : ℕ) → IsSettled h cost payload value → payload.empty ≡ false → cost ≤ worth_of h value

@@ -1,4 +1,5 @@
 pub mod GrownWorths
+pub mod SameValues
 pub mod ImprovedLeaves
 pub mod TreeChanges
 pub mod SearchChanges

@@ -1,5 +1,5 @@
 -- One more round is earned by a relaxed plan that calls for it.
-use Rattle.std.proofs.Common.{◌≡◌, ℕ, ◌+◌, ◌<◌, ◌≤◌, inl, inr, Bool, true, false, List, length, refl, sym, ap, ◌∙◌, subst, arith}
+use Rattle.std.proofs.Common.{◌≡◌, ℕ, ◌+◌, ◌≤◌, inl, inr, Bool, true, false, List, length, refl, sym, ap, ◌∙◌, subst, arith}
 use Rattle.std.specs.Prelude.{All, ◌⊎◌, Option, None, Some, is_some}
 use Rattle.std.proofs.lemmas.Bool.{false≢true, or_left}
 use Rattle.std.proofs.lemmas.List.Elements.{All-contains, All-weaker}
@@ -7,7 +7,7 @@ use Rattle.fp_base_lists.specs.Distinct.{AreDistinct}
 use Rattle.fp_base_lists.specs.Membership.{list_has}
 use Rattle.fp_base_lists.proofs.Membership.{list_has-append}
 use Rattle.fp_model.specs.declared.parts.Leg.{Leg}
-use Rattle.fp_model.specs.Problem.{Problem, horizon}
+use Rattle.fp_model.specs.Problem.{Problem}
 use Rattle.fp_timenodes.specs.declared.places.Place.{Place}
 use Rattle.fp_timenodes.specs.Points.{added_at, greatest_round}
 use Rattle.fp_timenodes.proofs.Rounds.{points_at_from_greatest}
@@ -27,14 +27,14 @@ use Rattle.fp_relaxmodel.proofs.RelaxedWalks.{IsRelaxedPlan_same}
 use Rattle.fp_duals_leaves.specs.Prices.{PriceLists}
 use Rattle.fp_shortarcs.specs.declared.shorts.Short.{Short}
 use Rattle.fp_shortarcs.specs.TooShort.{AreTooShort, CanBePoint, IsShort}
-use Rattle.fp_shortarcs.proofs.SamePoints.{AreTooShort_same, CanBePoint_same}
+use Rattle.fp_shortarcs.proofs.SamePoints.{AreTooShort_same}
 use Rattle.fp_session_history.specs.Clashes.{ClashesBelow, IsShortPlace}
 use Rattle.fp_session_history.specs.Notes.{Refinement, added_of, last_round}
 use Rattle.fp_session_history.specs.Traces.{IsEarnedRound, IsPlaceInTime, IsRoundPlace}
 use Rattle.fp_session_history.proofs.HistoryPoints.{AgreeOnPoints-history, greatest_round-history, horizon-in_time}
 use Rattle.fp_session.specs.declared.searches.Search.{Search}
 use Rattle.fp_session.specs.Moves.{points_now}
-use Rattle.fp_session_clashes.specs.Places.{ArePlacesFound, ArePlacesOf, AreFreePlaces, IsFreePlace, IsPlaceAmong, place_of}
+use Rattle.fp_session_clashes.specs.Places.{ArePlacesFound, ArePlacesOf, IsFreePlace, IsPlaceAmong}
 use Rattle.fp_session_clashes.specs.Refining.{CanAdd}
 use Rattle.fp_session.specs.Searches.{IsSearch, history}
 

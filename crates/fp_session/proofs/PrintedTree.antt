@@ -1,6 +1,6 @@
 -- The leaves and the splits of a tree as its lines show them.
-use Rattle.std.proofs.Common.{◌≡◌, ℕ, zero, suc, List, [], ◌∷◌, inl, inr, length, map, refl, sym, ap, ◌∙◌, subst}
-use Rattle.std.specs.Prelude.{All, IfSome, Option, Some, None, is_some, option_map, slice_get}
+use Rattle.std.proofs.Common.{◌≡◌, ℕ, zero, suc, List, [], ◌∷◌, ⊎_elim, inl, inr, length, map, refl, sym, ap, ◌∙◌, subst}
+use Rattle.std.specs.Prelude.{⊤, All, IfSome, IsSomeAnd, Option, Some, None, is_some, option_map, slice_get}
 use Rattle.std.specs.List.{AllByRecursion, AllZip}
 use Rattle.std.proofs.lemmas.List.{length-map}
 use Rattle.std.proofs.lemmas.List.Elements.{All-filter, All-from_recursion, All-head, All-tail, recursion_from_All}
@@ -11,17 +11,18 @@ use Rattle.fp_model.specs.Problem.{Problem}
 use Rattle.fp_flatnet.specs.declared.window_tables.Window.{Window}
 use Rattle.fp_tree.specs.declared.sides.Side.{Side}
 use Rattle.fp_tree.specs.declared.sides.Split.{Split}
-use Rattle.fp_tree.specs.declared.sides.Split.TheVariants.{ByArc, ByTime}
+use Rattle.fp_tree.specs.declared.sides.Split.TheVariants.{ByArc, ByTime, ByTrucks, ByWay}
 use Rattle.fp_tree.specs.Nodes.{Divided, Node, Role, Undivided, fork_of as fork_at, leaf_at, split_count}
 use Rattle.fp_tree.specs.Sides.{Fork, IsTailOfSplit}
 use Rattle.fp_tree.specs.Trees.{Branch, HaveTails, IsTree, Leaf, SplitAlike, tree_branches, tree_leaves, tree_splits}
 use Rattle.fp_tree.proofs.Branches.{fork_of-leaf, length-branches_of, map-branches_of}
 use Rattle.fp_tree.proofs.NodeMaps.{AreAlike, AreAlike_tails, AreTrees-map, branches_of-map, leaves_of-map, tree_splits-map}
 use Rattle.fp_allowed.specs.Allowed.{tails_of}
-use Rattle.fp_allowed.specs.Slack.{AllDivide, DividesSome}
+use Rattle.fp_allowed.specs.Slack.{DividesSome}
 use Rattle.fp_certificate_lines.specs.declared.certificates.Node.{Node as Line}
 use Rattle.fp_certificate_lines.specs.declared.certificates.Node.TheVariants as line
 use Rattle.fp_certificate_rules.specs.Leaves.{fork_of, split_tail}
+use Rattle.fp_session_history.specs.Divisions.{AllDivide, Divides, DividesTrucks}
 use Rattle.fp_session.specs.declared.payloads.Payload.{Payload}
 use Rattle.fp_session.specs.TreeLines.{line_of, lines_of}
 
@@ -46,6 +47,8 @@ AllZip-maps R f h g (x ∷ xs) all =
 IsTailOfSplit-line : (p : Problem) (split : Split) → IsTailOfSplit (tails_of p) split (split_tail p split)
 IsTailOfSplit-line p (ByArc shipment arc) = refl
 IsTailOfSplit-line p (ByTime shipment terminal at) = tt
+IsTailOfSplit-line p (ByTrucks arc point until most) = tt
+IsTailOfSplit-line p (ByWay shipment arc) = tt
 
 HaveTails-lines : (p : Problem) (lines : List Line) → HaveTails (tails_of p) (fork_of p) lines
 HaveTails-lines p [] = tt
@@ -75,11 +78,17 @@ abbrev pub valuation_line : Node Payload → Line
 valuation_line n = line.Leaf n.payload.valuation
 
 -- a fork that splits with the same sides divides what the other does
-DividesSome-alike : (p : Problem) (windows : ℕ → ℕ → Option Window) (sides : List Side) (payload : Payload) (role : Role) → let n : Node Payload = record { payload = payload; role = role } in
-    SplitAlike (fork_at n) (fork_of p (line_of n)) → IfSome (fork_at n) (DividesSome p windows sides) → IfSome (fork_of p (line_of n)) (DividesSome p windows sides)
-DividesSome-alike p windows sides payload (Divided f) alike is =
-    record { shipment = is.shipment; terminal = is.terminal; exists = is.exists; tail = sym alike.1 ∙ is.tail; divides = is.divides }
-DividesSome-alike p windows sides payload (Undivided value closed) alike is = tt
+Divides-alike : (unit : Option ℕ) (p : Problem) (windows : ℕ → ℕ → Option Window) (sides : List Side) (payload : Payload) (role : Role) → let n : Node Payload = record { payload = payload; role = role } in
+    SplitAlike (fork_at n) (fork_of p (line_of n)) → IfSome (fork_at n) (Divides unit p windows sides) → IfSome (fork_of p (line_of n)) (Divides unit p windows sides)
+Divides-alike unit p windows sides payload (Divided f) alike is = (
+  is.0,
+  ⊎_elim
+      (λ (some : DividesSome p windows sides f). inl (record { shipment = some.shipment; terminal = some.terminal; exists = some.exists; tail = sym alike.1 ∙ some.tail; divides = some.divides }))
+      (λ (by : IsSomeAnd unit (λ (u : ℕ). ⊤) × DividesTrucks p sides f).
+      inr (by.0, record { arc = by.1.arc; trucks = by.1.trucks; exists = by.1.exists; split = by.1.split; fewest = by.1.fewest; most = by.1.most }))
+      is.1,
+)
+Divides-alike unit p windows sides payload (Undivided value closed) alike is = tt
 
 module _ (p : Problem) (nodes : List (Node Payload)) (tails : HaveTails (tails_of p) fork_at nodes) (whole : IsTree fork_at nodes) where
   -- each node splits as its line does
@@ -138,9 +147,9 @@ module _ (p : Problem) (nodes : List (Node Payload)) (tails : HaveTails (tails_o
       (AllZip-maps (λ (b : Branch Line) n. R b.sides n) branch_image (λ (b : Branch (Node Payload)). b.node) note (tree_branches fork_at nodes) all))
 
   -- the splits of the lines divide what the tree's do
-  pub AllDivide-lines : (windows : ℕ → ℕ → Option Window) → All (λ (b : Branch (Node Payload)). IfSome (fork_at b.node) (DividesSome p windows b.sides)) (tree_branches fork_at nodes) →
-      AllDivide p windows (fork_of p) (tree_branches (fork_of p) (lines_of nodes))
-  AllDivide-lines windows all =
+  pub AllDivide-lines : (unit : Option ℕ) (windows : ℕ → ℕ → Option Window) → All (λ (b : Branch (Node Payload)). IfSome (fork_at b.node) (Divides unit p windows b.sides)) (tree_branches fork_at nodes) →
+      AllDivide unit p windows (fork_of p) (tree_branches (fork_of p) (lines_of nodes))
+  AllDivide-lines unit windows all =
       let each : AllByRecursion (λ (n : Node Payload). SplitAlike (fork_at n) (fork_of p (line_of n))) (tree_splits fork_at nodes) =
       recursion_from_All (λ (n : Node Payload). SplitAlike (fork_at n) (fork_of p (line_of n))) (tree_splits fork_at nodes)
       (All-filter (λ (n : Node Payload). is_some (fork_at n)) (λ (n : Node Payload). SplitAlike (fork_at n) (fork_of p (line_of n))) nodes
@@ -148,12 +157,12 @@ module _ (p : Problem) (nodes : List (Node Payload)) (tails : HaveTails (tails_o
       let of_branches : AllByRecursion (λ (b : Branch (Node Payload)). SplitAlike (fork_at b.node) (fork_of p (line_of b.node))) (tree_branches fork_at nodes) =
       AllByRecursion-from_map (λ (n : Node Payload). SplitAlike (fork_at n) (fork_of p (line_of n))) (λ (b : Branch (Node Payload)). b.node) (tree_branches fork_at nodes)
       (subst (AllByRecursion (λ (n : Node Payload). SplitAlike (fork_at n) (fork_of p (line_of n)))) (sym (map-branches_of fork_at nodes ([] ∷ []) whole)) each) in
-      subst (AllByRecursion (λ (b : Branch Line). IfSome (fork_of p b.node) (DividesSome p windows b.sides))) (sym branches-lines)
-      (AllByRecursion-map (λ (b : Branch Line). IfSome (fork_of p b.node) (DividesSome p windows b.sides)) branch_image (tree_branches fork_at nodes)
+      subst (AllByRecursion (λ (b : Branch Line). IfSome (fork_of p b.node) (Divides unit p windows b.sides))) (sym branches-lines)
+      (AllByRecursion-map (λ (b : Branch Line). IfSome (fork_of p b.node) (Divides unit p windows b.sides)) branch_image (tree_branches fork_at nodes)
       (AllByRecursion-weaker
-      (λ (b : Branch (Node Payload)). SplitAlike (fork_at b.node) (fork_of p (line_of b.node)) × IfSome (fork_at b.node) (DividesSome p windows b.sides))
-      (λ (b : Branch (Node Payload)). IfSome (fork_of p (line_of b.node)) (DividesSome p windows b.sides))
-      (λ b both. DividesSome-alike p windows b.sides b.node.payload b.node.role both.0 both.1) (tree_branches fork_at nodes)
-      (AllByRecursion-both (λ (b : Branch (Node Payload)). SplitAlike (fork_at b.node) (fork_of p (line_of b.node))) (λ (b : Branch (Node Payload)). IfSome (fork_at b.node) (DividesSome p windows b.sides))
+      (λ (b : Branch (Node Payload)). SplitAlike (fork_at b.node) (fork_of p (line_of b.node)) × IfSome (fork_at b.node) (Divides unit p windows b.sides))
+      (λ (b : Branch (Node Payload)). IfSome (fork_of p (line_of b.node)) (Divides unit p windows b.sides))
+      (λ b both. Divides-alike unit p windows b.sides b.node.payload b.node.role both.0 both.1) (tree_branches fork_at nodes)
+      (AllByRecursion-both (λ (b : Branch (Node Payload)). SplitAlike (fork_at b.node) (fork_of p (line_of b.node))) (λ (b : Branch (Node Payload)). IfSome (fork_at b.node) (Divides unit p windows b.sides))
       (tree_branches fork_at nodes) of_branches
-      (recursion_from_All (λ (b : Branch (Node Payload)). IfSome (fork_at b.node) (DividesSome p windows b.sides)) (tree_branches fork_at nodes) all))))
+      (recursion_from_All (λ (b : Branch (Node Payload)). IfSome (fork_at b.node) (Divides unit p windows b.sides)) (tree_branches fork_at nodes) all))))

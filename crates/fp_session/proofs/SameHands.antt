@@ -24,7 +24,7 @@ module _ (s : Search) (prices : PriceLists) where
   module _ (trace : Vec Refinement Global) (same : trace.items ≡ s.trace.items) where
     -- the history with the same notes
     at : (P : History → Type 0) → P (history s prices) → P (history (record s { trace = trace }) prices)
-    at P = subst (λ (ns : List Refinement). P (record { problem = s.instance; windows = s.windows; trace = ns; tables = prices.tables; spans = prices.spans; unit = prices.unit })) (sym same)
+    at P = subst (λ (ns : List Refinement). P (record { problem = s.instance; windows = s.windows; trace = ns; tables = prices.tables; spans = prices.spans; gifts = prices.gifts; unit = prices.unit })) (sym same)
 
     -- what it left is so
     left-trace : (o : Option Left) → IfSome o (IsLeft s prices) → IfSome o (IsLeft (record s { trace = trace }) prices)
@@ -116,7 +116,7 @@ IsSearch-hand s t prices same is =
 -- a search with prices that have grown
 pub IsSearch-grown : (s : Search) (before after : PriceLists) → HaveGrown s.instance s.windows before after → s.left ≡ None → IsSearch s before → IsSearch s after
 IsSearch-grown s before after grown going is =
-    subst (IsSearch s) (sym grown.is) (IsSearch-with_more s before is going grown.tables grown.spans (subst (ArePrices s.instance s.windows) grown.is grown.prices))
+    subst (IsSearch s) (sym grown.is) (IsSearch-with_more s before is going grown.tables grown.spans grown.gifts (subst (ArePrices s.instance s.windows) grown.is grown.prices))
 
 -- prices that have grown, cut to as many as they were
 pub cut-back : (p : Rattle.fp_model.specs.Problem.Problem) (table : WindowTable) (before after cut : PriceLists) (count : ℕ) → ArePrices p table before → HaveGrown p table before after → count ≡ length before.tables → cut ≡ first_prices count after → cut ≡ before

@@ -19,6 +19,7 @@ use Rattle.fp_tree.specs.Nodes.{Node, close_leaf, closed_of, divide_leaf, fork_o
 use Rattle.fp_tree.specs.Trees.{Branch, Leaf, tree_branches, tree_leaves, with_leaf}
 use Rattle.fp_allowed.specs.Allowed.{tails_of}
 use Rattle.fp_prices.specs.Shares.{ClassShare}
+use Rattle.fp_prices_gifts.specs.declared.gifts.Gift.{Gift}
 use Rattle.fp_prices_spans.specs.Spans.{ClassSpan}
 use Rattle.fp_session_history.specs.declared.endings.Left.{Left}
 use Rattle.fp_session_history.specs.declared.endings.Left.TheVariants.{Nothing, Several, Timing, Unsettled}
@@ -38,6 +39,7 @@ use Rattle.fp_session.specs.declared.searches.Search.{Search}
 use Rattle.fp_session.specs.Moves.{IsDivision, IsNextRound, fork_in}
 use Rattle.fp_session.specs.Nodes.{IsEarnedAs, IsKept, IsLeafOf, IsPriceOf, IsSettled, IsSplitOf, split_note}
 use Rattle.fp_duals_leaves.specs.Prices.{ArePrices, PriceLists, with_more}
+use Rattle.fp_duals_leaves.proofs.SpansBeside.{given-length}
 use Rattle.fp_session.specs.Searches.{IsCheaper, IsLeft, IsSearch, history}
 use Rattle.fp_session.specs.StepCauses.{with_incumbent, with_reserve}
 use Rattle.fp_session.proofs.ImprovedLeaves.{IsKept-with_tables}
@@ -52,14 +54,14 @@ nothing-left s prices none = none-left s.left (IsLeft s prices) none
 
 module _ (h : History) (started cost : ℕ) where
   -- a leaf and a split with more prices
-  module _ (more : List (List ClassShare)) (spans : List (List ClassSpan)) (beside : length h.spans ≡ length h.tables) where
-    pub IsLeafOf-with_tables : (l : Leaf (Node Payload)) → IsLeafOf h cost l → IsLeafOf (with_tables h more spans) cost l
-    IsLeafOf-with_tables l is = record { kept = IsKept-with_tables h more spans l.sides l.node.payload (value_of l.node) beside is.kept; closed = is.closed }
+  module _ (more : List (List ClassShare)) (spans : List (List ClassSpan)) (gifts : List (List Gift)) (beside : length h.spans ≡ length h.tables) (given : length h.gifts ≡ length h.tables) where
+    pub IsLeafOf-with_tables : (l : Leaf (Node Payload)) → IsLeafOf h cost l → IsLeafOf (with_tables h more spans gifts) cost l
+    IsLeafOf-with_tables l is = record { kept = IsKept-with_tables h more spans gifts l.sides l.node.payload (value_of l.node) beside given is.kept; closed = is.closed }
 
-    pub IsSplitOf-with_tables : (b : Branch (Node Payload)) → IsSplitOf h started cost b → IsSplitOf (with_tables h more spans) started cost b
+    pub IsSplitOf-with_tables : (b : Branch (Node Payload)) → IsSplitOf h started cost b → IsSplitOf (with_tables h more spans gifts) started cost b
     IsSplitOf-with_tables b is = record {
       price = record { round = is.price.round; kind = HasKind-append h.tables more b.node.payload.valuation.price.kind is.price.kind };
-      earned = IsEarnedSplit-with_tables h started cost b.sides (split_note b.node.payload) is.earned more spans beside is.price.kind;
+      earned = IsEarnedSplit-with_tables h started cost b.sides (split_note b.node.payload) is.earned more spans gifts beside given is.price.kind;
       range = is.range;
       divides = is.divides;
     }
@@ -112,14 +114,14 @@ module _ (h : History) (started cost : ℕ) where
 
 module _ (s : Search) (prices : PriceLists) (is : IsSearch s prices) (going : s.left ≡ None) where
   -- more prices
-  pub IsSearch-with_more : (more : List (List ClassShare)) (spans : List (List ClassSpan)) → ArePrices s.instance s.windows (with_more prices more spans) → IsSearch s (with_more prices more spans)
-  IsSearch-with_more more spans grown = record {
+  pub IsSearch-with_more : (more : List (List ClassShare)) (spans : List (List ClassSpan)) (gifts : List (List Gift)) → ArePrices s.instance s.windows (with_more prices more spans gifts) → IsSearch s (with_more prices more spans gifts)
+  IsSearch-with_more more spans gifts grown = record {
     belongs = is.belongs;
     budget = is.budget;
     incumbent = is.incumbent;
     cheaper = is.cheaper;
     reserve = is.reserve;
-    trace = IsEarnedTrace-with_tables (history s prices) s.started s.cost is.trace more spans;
+    trace = IsEarnedTrace-with_tables (history s prices) s.started s.cost is.trace more spans gifts;
     rounds = is.rounds;
     points = is.points;
     added = is.added;
@@ -127,11 +129,11 @@ module _ (s : Search) (prices : PriceLists) (is : IsSearch s prices) (going : s.
     prices = grown;
     tails = is.tails;
     few = is.few;
-    splits = All-weaker (IsSplitOf (history s prices) s.started s.cost) (IsSplitOf (history s (with_more prices more spans)) s.started s.cost)
-        (IsSplitOf-with_tables (history s prices) s.started s.cost more spans is.prices.beside) (tree_branches fork_of s.tree) is.splits;
-    leaves = All-weaker (IsLeafOf (history s prices) s.cost) (IsLeafOf (history s (with_more prices more spans)) s.cost)
-        (IsLeafOf-with_tables (history s prices) s.started s.cost more spans is.prices.beside) (tree_leaves fork_of s.tree) is.leaves;
-    left = nothing-left s (with_more prices more spans) going;
+    splits = All-weaker (IsSplitOf (history s prices) s.started s.cost) (IsSplitOf (history s (with_more prices more spans gifts)) s.started s.cost)
+        (IsSplitOf-with_tables (history s prices) s.started s.cost more spans gifts is.prices.beside (given-length s.instance s.windows prices is.prices)) (tree_branches fork_of s.tree) is.splits;
+    leaves = All-weaker (IsLeafOf (history s prices) s.cost) (IsLeafOf (history s (with_more prices more spans gifts)) s.cost)
+        (IsLeafOf-with_tables (history s prices) s.started s.cost more spans gifts is.prices.beside (given-length s.instance s.windows prices is.prices)) (tree_leaves fork_of s.tree) is.leaves;
+    left = nothing-left s (with_more prices more spans gifts) going;
     ended = none-left s.left (λ left. s.reserve ≡ None) going;
   }
 
@@ -273,8 +275,8 @@ module _ (s : Search) (prices : PriceLists) (is : IsSearch s prices) (going : s.
       long : length trace.items ≡ length s.trace.items + 1
       long = omega (arith, ap (λ (ns : List Refinement). length ns) grown, length-append s.trace.items (note ∷ []))
 
-      at : (P : History → Type 0) → P (with_note (history s prices) note) → P (record { problem = s.instance; windows = s.windows; trace = trace.items; tables = prices.tables; spans = prices.spans; unit = prices.unit })
-      at P = subst (λ (ns : List Refinement). P (record { problem = s.instance; windows = s.windows; trace = ns; tables = prices.tables; spans = prices.spans; unit = prices.unit })) (sym grown)
+      at : (P : History → Type 0) → P (with_note (history s prices) note) → P (record { problem = s.instance; windows = s.windows; trace = trace.items; tables = prices.tables; spans = prices.spans; gifts = prices.gifts; unit = prices.unit })
+      at P = subst (λ (ns : List Refinement). P (record { problem = s.instance; windows = s.windows; trace = ns; tables = prices.tables; spans = prices.spans; gifts = prices.gifts; unit = prices.unit })) (sym grown)
 
   -- and its end
   pub IsSearch-stop : (left : Left) → IsLeft s prices left → s.reserve ≡ None → IsSearch (record s { left = Some left }) prices

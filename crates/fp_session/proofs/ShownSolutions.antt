@@ -16,12 +16,12 @@ use Rattle.fp_tree.specs.declared.layout.TheConstants.{MOST_SPLITS}
 use Rattle.fp_tree.specs.Nodes.{Node, fork_of as fork_at, leaf_at, value_of}
 use Rattle.fp_tree.specs.Sides.{Fork}
 use Rattle.fp_tree.specs.Trees.{Branch, IsTree, Leaf, tree_branches, tree_leaves}
-use Rattle.fp_allowed.specs.Slack.{DividesSome}
 use Rattle.fp_timetable.specs.declared.lines.LegLine.{LegLine}
 use Rattle.fp_timetable.specs.declared.lines.TruckLine.{TruckLine}
 use Rattle.fp_timetable.specs.Lines.{AreLegLines, AreTruckLines, LegExists, TruckExists, routes_from}
 use Rattle.fp_prices.specs.Shares.{ClassShare}
 use Rattle.fp_prices_spans.specs.Spans.{ClassSpan}
+use Rattle.fp_prices_gifts.specs.declared.gifts.Gift.{Gift}
 use Rattle.fp_certificate_lines.specs.declared.certificates.Answer.{Answer}
 use Rattle.fp_certificate_lines.specs.declared.certificates.Answer.TheVariants.{Direct, Infeasible, Optimal, Unfinished}
 use Rattle.fp_certificate_lines.specs.declared.certificates.Node.{Node as Line}
@@ -36,6 +36,7 @@ use Rattle.fp_duals.specs.PriceLines.{AreWithinLimits}
 use Rattle.fp_session_history.specs.declared.endings.Left.{Left}
 use Rattle.fp_session_history.specs.declared.endings.Left.TheVariants.{Nothing, Several, Timing, Unsettled}
 use Rattle.fp_session_history.specs.declared.notes.SplitNote.{SplitNote}
+use Rattle.fp_session_history.specs.Divisions.{Divides}
 use Rattle.fp_session_history.specs.Notes.{History, added_of, last_round, points_of, worth_of}
 use Rattle.fp_session_history.specs.PrintedLeaves.{IsOpenBelow}
 use Rattle.fp_session_history.specs.Solutions.{AreWalksUnder, HasCause, HasSeveral, IsEarnedSolution, Solution, branches_shown, leaves_shown}
@@ -48,6 +49,7 @@ use Rattle.fp_session.specs.Certificates.{IsAnswer, IsCertificate, IsShown, IsWh
 use Rattle.fp_session.specs.Nodes.{IsLeafOf, IsSplitOf, split_note}
 use Rattle.fp_duals_leaves.specs.PriceLines.{AreFewLines}
 use Rattle.fp_duals_leaves.specs.Prices.{PriceLists}
+use Rattle.fp_duals_leaves.proofs.SpansBeside.{given-length}
 use Rattle.fp_session.specs.Searches.{IsLeft, IsSearch, history}
 use Rattle.fp_session.specs.TreeLines.{lines_of, notes_of}
 use Rattle.fp_session.proofs.DeepLeaves.{IsNear, near-tree}
@@ -56,7 +58,7 @@ use Rattle.fp_session.proofs.LineRanges.{legs-in_range, trucks-in_range}
 use Rattle.fp_session.proofs.PlanCosts.{cost-in_range}
 use Rattle.fp_session.proofs.PointRanges.{points-in_range}
 use Rattle.fp_session.proofs.PrintedTree.{AllDivide-lines, IsTree-lines, branches-noted, leaves-printed, length-branches, splits-lines}
-use Rattle.fp_session.proofs.PriceRanges.{prices-hold, spans-few, spans-in_range, unit-in_range}
+use Rattle.fp_session.proofs.PriceRanges.{gifts-in_range, prices-hold, spans-few, spans-in_range, unit-in_range}
 use Rattle.fp_session.proofs.TableRanges.{tables-countable, tables-in_range}
 use Rattle.fp_session.proofs.WholeTrees.{all-at, tree-fits}
 
@@ -65,7 +67,7 @@ scale-in_range : (p : Problem) → IsValid p → (b : Bool) → IfSome (cond b N
 scale-in_range p valid true = tt
 scale-in_range p valid false = record { least = valid.scale.0; most = valid.scale.1; fits = valid.fits }
 
-module _ (s : Search) (prices : PriceLists) (search : IsSearch s prices) (whole : IsTree fork_at s.tree) (within : AreWithinLimits prices.tables) (lines : AreFewLines prices.tables prices.spans)
+module _ (s : Search) (prices : PriceLists) (search : IsSearch s prices) (whole : IsTree fork_at s.tree) (within : AreWithinLimits prices.tables) (lines : AreFewLines prices.tables prices.spans prices.gifts)
     (legs : List LegLine) (trucks : List TruckLine) (are_legs : AreLegLines s.instance s.incumbent legs) (routes : routes_from legs 0 s.instance.shipments ≡ s.incumbent)
     (legs_exist : All (LegExists s.instance) legs) (are_trucks : AreTruckLines s.instance s.incumbent trucks) (trucks_exist : All (TruckExists s.instance) trucks) where
   -- the history of the search
@@ -83,6 +85,7 @@ module _ (s : Search) (prices : PriceLists) (search : IsSearch s prices) (whole 
     points = added_of s.trace.items;
     tables = prices.tables;
     spans = prices.spans;
+    gifts = prices.gifts;
     tree = lines_of s.tree;
   }
 
@@ -102,7 +105,9 @@ module _ (s : Search) (prices : PriceLists) (search : IsSearch s prices) (whole 
   part-holds stated costs worth carried Part.Cost applies = costs ∙ search.incumbent.costs ∙ ap (cost s.instance) (sym routes)
   part-holds stated costs worth carried Part.Trucks applies = subst (λ (R : List (List Leg)). AreTruckLines s.instance R trucks) (sym routes) are_trucks
   part-holds stated costs worth carried Part.Points applies = AreAddedPoints-IsEarnedTrace h s.started s.cost search.trace
-  part-holds stated costs worth carried Part.Prices applies = let held = prices-hold s.instance s.windows prices search.prices in record { tables = held.tables; spans = held.spans; unit = held.unit }
+  part-holds stated costs worth carried Part.Prices applies =
+      let held = prices-hold s.instance s.windows prices search.prices in
+      record { tables = held.tables; spans = held.spans; unit = held.unit }
   part-holds stated costs worth carried Part.Tree applies = record {
     tree = IsTree-lines s.instance s.tree search.tails whole;
     few = omega (arith, splits-lines s.instance s.tree search.tails whole, search.few, search.budget.branches);
@@ -130,6 +135,8 @@ module _ (s : Search) (prices : PriceLists) (search : IsSearch s prices) (whole 
     tables = tables-in_range s.instance prices.tables search.belongs.valid search.prices.tables within;
     spans = spans-in_range s.instance s.windows prices search.prices;
     beside = search.prices.beside;
+    gifts = gifts-in_range s.instance s.windows prices search.prices;
+    given = given-length s.instance s.windows prices search.prices;
     tree = tree-fits (IsNodeInRange s.instance prices.tables) s.tree whole
         (All-weaker (IsSplitOf h s.started s.cost) (λ (b : Branch (Node Payload)). IfSome (fork_at b.node) (λ (f : Fork). IsSplitInRange s.instance f.split)) (λ b split. split.range) (tree_branches fork_at s.tree) search.splits)
         (All-from_recursion (λ (l : Leaf (Node Payload)). IsLeafInRange prices.tables l.node.payload.valuation) (tree_leaves fork_at s.tree)
@@ -162,8 +169,8 @@ module _ (s : Search) (prices : PriceLists) (search : IsSearch s prices) (whole 
     splits = branches-noted s.instance s.tree search.tails whole (λ (n : Node Payload). split_note n.payload) (λ sides n. IsEarnedSplit h s.started (stated_cost stated) sides n)
         (All-weaker (IsSplitOf h s.started s.cost) (λ (b : Branch (Node Payload)). IsEarnedSplit h s.started (stated_cost stated) b.sides (split_note b.node.payload))
         (λ b split. subst (λ (n : ℕ). IsEarnedSplit h s.started n b.sides (split_note b.node.payload)) (sym costs) split.earned) (tree_branches fork_at s.tree) search.splits);
-    divide = AllDivide-lines s.instance s.tree search.tails whole (windows_in s.windows)
-        (All-weaker (IsSplitOf h s.started s.cost) (λ (b : Branch (Node Payload)). IfSome (fork_at b.node) (DividesSome s.instance (windows_in s.windows) b.sides)) (λ b split. split.divides) (tree_branches fork_at s.tree) search.splits);
+    divide = AllDivide-lines s.instance s.tree search.tails whole prices.unit (windows_in s.windows)
+        (All-weaker (IsSplitOf h s.started s.cost) (λ (b : Branch (Node Payload)). IfSome (fork_at b.node) (Divides prices.unit s.instance (windows_in s.windows) b.sides)) (λ b split. split.divides) (tree_branches fork_at s.tree) search.splits);
     leaves = leaves-shown h s.cost s.tree search.tails whole search.leaves;
     cause = cause;
     cheaper = subst (λ (n : ℕ). n ≤ s.started) (sym costs) search.cheaper;
@@ -189,7 +196,7 @@ module _ (s : Search) (prices : PriceLists) (search : IsSearch s prices) (whole 
     countable = tables-countable s.instance prices.tables search.prices.tables within;
     few = spans-few s.instance s.windows prices search.prices;
     lines = lines;
-    priced = record { unit = refl; without = search.prices.without; whole = leaves-whole };
+    priced = record { unit = refl; without = search.prices.without; given = search.prices.ungiven; whole = leaves-whole };
     scale = refl;
     plan = routes;
     cost = costs;
@@ -277,12 +284,13 @@ pub IsShown-certificate : (s : Search) (prices : PriceLists) (kept : Left) (stat
     IsShown s prices.unit kept (record { certificate = c; trace = s.trace.items; splits = splits; left = kept })
 IsShown-certificate s prices kept stated c splits search left whole answered is noted =
     let made : Answer → Option ℕ → List AddedPoint → PriceLists → List Line → Statement =
-    λ a n points x tree. record { answer = a; scale = n; unit = x.unit; legs = c.legs; trucks = c.trucks; points = points; tables = x.tables; spans = x.spans; tree = tree } in
-    let shown : PriceLists = record { tables = c.tables; spans = c.spans; unit = c.unit } in
+    λ a n points x tree. record { answer = a; scale = n; unit = x.unit; legs = c.legs; trucks = c.trucks; points = points; tables = x.tables; spans = x.spans; gifts = x.gifts; tree = tree } in
+    let shown : PriceLists = record { tables = c.tables; spans = c.spans; gifts = c.gifts; unit = c.unit } in
     let priced : shown ≡ prices =
-    ap (λ (ts : List (List ClassShare)). record { tables = ts; spans = c.spans; unit = c.unit }) is.tables
-    ∙ ap (λ (ss : List (List ClassSpan)). record { tables = prices.tables; spans = ss; unit = c.unit }) is.spans
-    ∙ ap (λ (u : Option ℕ). record { tables = prices.tables; spans = prices.spans; unit = u }) is.unit in
+    ap (λ (ts : List (List ClassShare)). record { tables = ts; spans = c.spans; gifts = c.gifts; unit = c.unit }) is.tables
+    ∙ ap (λ (ss : List (List ClassSpan)). record { tables = prices.tables; spans = ss; gifts = c.gifts; unit = c.unit }) is.spans
+    ∙ ap (λ (gs : List (List Gift)). record { tables = prices.tables; spans = prices.spans; gifts = gs; unit = c.unit }) is.gifts
+    ∙ ap (λ (u : Option ℕ). record { tables = prices.tables; spans = prices.spans; gifts = prices.gifts; unit = u }) is.unit in
     let same : c ≡ made stated (named_scale s.instance.scale) (added_of s.trace.items) prices (lines_of s.tree) =
     ap (λ (a : Answer). made a c.scale c.points shown c.tree) is.answer
     ∙ ap (λ (n : Option ℕ). made stated n c.points shown c.tree) is.scale

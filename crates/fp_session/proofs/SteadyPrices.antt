@@ -22,7 +22,11 @@ use Rattle.fp_prices.specs.Leaves.{IsLeastCostBy}
 use Rattle.fp_prices.specs.Prices.{truck_price}
 use Rattle.fp_prices.specs.Shares.{ClassShare}
 use Rattle.fp_prices.proofs.PlainChains.{all_legs-plain}
-use Rattle.fp_prices_spans.specs.SpanKinds.{IsPricedValue, spans_beside}
+use Rattle.fp_prices_gifts.specs.declared.gifts.Gift.{Gift}
+use Rattle.fp_prices_gifts.specs.GiftKinds.{IsPricedValue, gifts_beside}
+use Rattle.fp_prices_gifts.specs.GiftLeaves.{IsGiftLeafValue}
+use Rattle.fp_prices_gifts.proofs.OneGiftValue.{values-without-gifts}
+use Rattle.fp_prices_spans.specs.SpanKinds.{spans_beside}
 use Rattle.fp_prices_spans.specs.SpanLeaves.{IsCharged, IsChargeOf, IsSpanLeafValue, leaf_heads}
 use Rattle.fp_certificate_lines.specs.Valuations.{first_sides, sides_valued}
 use Rattle.fp_prices_spans.specs.SpanPrices.{is_held, span_price}
@@ -127,14 +131,14 @@ module _ (p : Problem) (windows : ℕ → ℕ → Option Window) (points : ℕ �
         charges-less more.chains few.chains none spans few.charges more.charges few.are_charges more.are_charges,
       )
 
--- a leaf below one of which that is kept, whose price is steady, is worth no less, where it is worth no less than by that price as of its round, and
--- that one is valued under all its sides
-pub steady-no_less : (h : History) (sides more : List Side) (above kept : Kept) → IsSteady above.payload.valuation.price → h.unit ≡ None → IsKept h sides above.payload above.value → above.payload.empty ≡ false →
-    IsNoLessBy h (sides ++ more) above.payload.valuation.price kept → IsNoLess above.value kept
-steady-no_less h sides more above kept steady without is some by =
+-- a leaf below one of which that is kept, whose price is steady, is worth no less, where it is worth no less than by that price as of its round, no
+-- gifts stand beside it, and that one is valued under all its sides
+pub steady-no_less : (h : History) (sides more : List Side) (above kept : Kept) → IsSteady above.payload.valuation.price → h.unit ≡ None → gifts_beside h.gifts above.payload.valuation.price.kind ≡ [] → IsKept h sides above.payload above.value →
+    above.payload.empty ≡ false → IsNoLessBy h (sides ++ more) above.payload.valuation.price kept → IsNoLess above.value kept
+steady-no_less h sides more above kept steady without ungiven is some by =
     ⊎_elim
     (λ (empty : kept.payload.empty ≡ true). inl empty)
-    (λ (worth : (value : ℕ) × IsPricedValue h.problem (windows_in h.windows) (points_of h price.round) (sides ++ more) h.tables h.spans price.kind price.forced value × (value ≤ kept.value)).
+    (λ (worth : (value : ℕ) × IsPricedValue h.problem (windows_in h.windows) (points_of h price.round) (sides ++ more) h.tables h.spans h.gifts price.kind price.forced value × (value ≤ kept.value)).
     inr (omega (
       arith,
       own.is,
@@ -150,14 +154,17 @@ steady-no_less h sides more above kept steady without is some by =
     own : IsEarnedAs h sides above.payload.valuation above.value
     own = IsEarnedAs-kept h sides above.payload above.value is some
 
-    -- the price is plain
-    plain : (under : List Side) (value : ℕ) → IsPricedValue h.problem (windows_in h.windows) (points_of h price.round) under h.tables h.spans price.kind price.forced value →
+    -- the price is plain, and without gifts
+    plain : (under : List Side) (value : ℕ) → IsPricedValue h.problem (windows_in h.windows) (points_of h price.round) under h.tables h.spans h.gifts price.kind price.forced value →
         IsSpanLeafValue h.problem (windows_in h.windows) (points_of h price.round) under h.tables (spans_beside h.spans price.kind) price.kind false value
-    plain under value = subst (λ (f : Bool). IsPricedValue h.problem (windows_in h.windows) (points_of h price.round) under h.tables h.spans price.kind f value) steady.plain
+    plain under value v =
+        (values-without-gifts h.problem (windows_in h.windows) (points_of h price.round) under h.tables (spans_beside h.spans price.kind) price.kind false value).0
+        (subst (λ (gs : List Gift). IsGiftLeafValue h.problem (windows_in h.windows) (points_of h price.round) under h.tables (spans_beside h.spans price.kind) gs price.kind false value) ungiven
+        (subst (λ (f : Bool). IsPricedValue h.problem (windows_in h.windows) (points_of h price.round) under h.tables h.spans h.gifts price.kind f value) steady.plain v))
 
     -- the leaf above is valued under all its sides
-    here : IsPricedValue h.problem (windows_in h.windows) (points_of h price.round) (sides_valued above.payload.valuation sides) h.tables h.spans price.kind price.forced own.earned.value →
+    here : IsPricedValue h.problem (windows_in h.windows) (points_of h price.round) (sides_valued above.payload.valuation sides) h.tables h.spans h.gifts price.kind price.forced own.earned.value →
         IsSpanLeafValue h.problem (windows_in h.windows) (points_of h price.round) sides h.tables (spans_beside h.spans price.kind) price.kind false own.earned.value
     here v =
         plain sides own.earned.value
-        (subst (λ (o : Option ℕ). IsPricedValue h.problem (windows_in h.windows) (points_of h price.round) (first_sides o sides) h.tables h.spans price.kind price.forced own.earned.value) (is.under.whole without) v)
+        (subst (λ (o : Option ℕ). IsPricedValue h.problem (windows_in h.windows) (points_of h price.round) (first_sides o sides) h.tables h.spans h.gifts price.kind price.forced own.earned.value) (is.under.whole without) v)

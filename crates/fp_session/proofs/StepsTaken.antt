@@ -106,7 +106,7 @@ module _ (s t : Search) (prices : PriceLists) (note : Refinement) (r : RefinedNe
   pub round-kept : (k : ℕ) (kept : Kept) → AtOpenLeaf s.tree k (λ l. IsKept (history s prices) l.sides kept.payload kept.value) →
       AtOpenLeaf t.tree k (λ l. IsKept (history t prices) l.sides kept.payload kept.value)
   round-kept k kept at =
-      subst (λ (h : InHand). AtOpenLeaf h.tree k (λ l. IsKept (record { problem = h.instance; windows = h.windows; trace = h.trace; tables = prices.tables; spans = prices.spans; unit = prices.unit }) l.sides kept.payload kept.value)) (sym with)
+      subst (λ (h : InHand). AtOpenLeaf h.tree k (λ l. IsKept (record { problem = h.instance; windows = h.windows; trace = h.trace; tables = prices.tables; spans = prices.spans; gifts = prices.gifts; unit = prices.unit }) l.sides kept.payload kept.value)) (sym with)
       (AtOpenLeaf-map s.tree k (λ l. IsKept (history s prices) l.sides kept.payload kept.value) (λ l. IsKept (with_note (history s prices) note) l.sides kept.payload kept.value)
       (λ l own. IsKept-with_note (history s prices) s.started s.cost note l.sides kept.payload kept.value next.round own) at)
 

@@ -10,7 +10,7 @@ use Rattle.fp_tree.specs.declared.sides.Side.{Side}
 use Rattle.fp_prices.specs.declared.leaf_prices.Kind.TheVariants.{Even, Linear}
 use Rattle.fp_prices.specs.declared.leaf_prices.LeafPrice.{LeafPrice}
 use Rattle.fp_prices.specs.Leaves.{IsLeafValue}
-use Rattle.fp_prices_spans.specs.SpanKinds.{IsPricedValue}
+use Rattle.fp_prices_gifts.specs.GiftKinds.{IsPricedValue}
 use Rattle.fp_certificate_lines.specs.declared.certificates.Valuation.{Valuation}
 use Rattle.fp_certificate_lines.specs.Valuations.{first_sides, sides_valued}
 use Rattle.fp_session_history.specs.Notes.{History, points_of}
@@ -64,7 +64,7 @@ kept-taken h above more kept is some spans are =
       worth = record {
         earned = record {
           value = own.earned.value;
-          is = taken (λ sides. IsPricedValue h.problem (windows_in h.windows) (points_of h price.round) sides h.tables h.spans price.kind price.forced own.earned.value) own.earned.is;
+          is = taken (λ sides. IsPricedValue h.problem (windows_in h.windows) (points_of h price.round) sides h.tables h.spans h.gifts price.kind price.forced own.earned.value) own.earned.is;
           linear = λ f other x. omega (arith, own.is, are.linear f other x);
           even = λ f other x. omega (arith, own.is, are.even f other x);
           linear_under = taken (λ sides. (f : Bool) (other : ℕ) → IsLeafValue h.problem (windows_in h.windows) (points_of h price.round) sides [] Linear f other → other ≤ own.earned.value) own.earned.linear_under;

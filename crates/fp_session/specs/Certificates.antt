@@ -4,6 +4,7 @@ use Rattle.fp_model.specs.declared.limits.TheConstants.{SCALE}
 use Rattle.fp_tree.specs.Nodes.{leaf_count}
 use Rattle.fp_timetable.specs.Lines.{AreLegLines, AreTruckLines, LegExists, TruckExists, routes_from}
 use Rattle.fp_prices.specs.Tables.{AreCountable}
+use Rattle.fp_prices_gifts.specs.declared.gifts.Gift.{Gift}
 use Rattle.fp_prices_spans.specs.Spans.{ClassSpan}
 use Rattle.fp_certificate_lines.specs.declared.certificates.Answer.{Answer}
 use Rattle.fp_certificate_lines.specs.declared.certificates.Answer.TheVariants.{Optimal, Unfinished}
@@ -53,9 +54,10 @@ pub record IsCertificate (s : Search) (prices : PriceLists) (stated : Answer) (c
   pub points : c.points ≡ s.points.added
   pub tables : c.tables ≡ prices.tables
   pub spans : c.spans ≡ prices.spans
+  pub gifts : c.gifts ≡ prices.gifts
   pub unit : c.unit ≡ prices.unit
   pub within : AreWithinLimits prices.tables
-  pub few : AreFewLines prices.tables prices.spans
+  pub few : AreFewLines prices.tables prices.spans prices.gifts
   pub tree : c.tree ≡ lines_of s.tree
 
 -- a leaf is valued under all its sides
@@ -63,11 +65,12 @@ abbrev pub IsWhole : Node → Type 0
 IsWhole (node.Branch split) = Unit {0}
 IsWhole (node.Leaf valuation) = valuation.sides ≡ None
 
--- the certificate names this unit; without one there are no spans, and each leaf is valued under all its
--- sides, so it means what it did before there were any
+-- the certificate names this unit; without one there are no spans and no gifts, and each leaf is valued
+-- under all its sides, so it means what it did before there were any
 pub record IsPricedBy (own : Option ℕ) (c : Statement) : Type 0 where
   pub unit : c.unit ≡ own
   pub without : own ≡ None → All (λ (spans : List ClassSpan). spans ≡ []) c.spans
+  pub given : own ≡ None → All (λ (gifts : List Gift). gifts ≡ []) c.gifts
   pub whole : own ≡ None → All IsWhole c.tree
 
 -- all that is shown of a search that has ended: its certificate is accepted, and in range and
@@ -78,7 +81,7 @@ pub record IsShown (s : Search) (unit : Option ℕ) (kept : Left) (x : Solution)
   pub range : IsInRange s.instance x.certificate
   pub countable : AreCountable s.instance x.certificate.tables
   pub few : All (λ (spans : List ClassSpan). length spans < 2 ^ 32 - 1) x.certificate.spans
-  pub lines : AreFewLines x.certificate.tables x.certificate.spans
+  pub lines : AreFewLines x.certificate.tables x.certificate.spans x.certificate.gifts
   pub priced : IsPricedBy unit x.certificate
   pub scale : x.certificate.scale ≡ named_scale s.instance.scale
   pub plan : routes_of s.instance x.certificate ≡ s.incumbent

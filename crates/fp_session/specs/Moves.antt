@@ -7,12 +7,12 @@ use Rattle.fp_tree.specs.Nodes.{Node, closed_of, leaf_at, split_count}
 use Rattle.fp_tree.specs.Sides.{Fork, HasTail, first, second}
 use Rattle.fp_tree.specs.Trees.{Leaf}
 use Rattle.fp_allowed.specs.Allowed.{tails_of}
-use Rattle.fp_allowed.specs.Slack.{DividesSome}
 use Rattle.fp_certificate_lines.specs.Ranges.{IsSplitInRange}
 use Rattle.fp_duals_leaves.specs.Prices.{PriceLists, no_prices}
 use Rattle.fp_session_history.specs.declared.endings.Left.{Left}
 use Rattle.fp_session_history.specs.declared.endings.Left.TheVariants.{Nothing, Several, Timing, Unsettled}
 use Rattle.fp_session_history.specs.Clashes.{ClashesBelow}
+use Rattle.fp_session_history.specs.Divisions.{Divides}
 use Rattle.fp_session_history.specs.Notes.{History, Refinement, last_round, points_of, worth_of}
 use Rattle.fp_session_history.specs.Solutions.{AreWalksUnder, HasSeveral, IsTimely}
 use Rattle.fp_session_history.specs.Traces.{IsEarnedRound}
@@ -49,11 +49,11 @@ pub record IsNextRound (s : Search) (unit : Option ℕ) (note : Refinement) (r :
 abbrev pub fork_in : Division → Fork
 fork_in d = record { split = d.split; tail = d.tail }
 
--- a leaf is divided: there is a branch left, the split is in range and divides departures, and this
--- is known of the two leaves below
+-- a leaf is divided: the split is in range and divides the departures of a shipment or the trucks of an
+-- arc, and this is known of the two leaves below
 pub record IsDivision (h : History) (sides : List Side) (d : Division) : Type 0 where
   pub range : IsSplitInRange h.problem d.split
-  pub divides : DividesSome h.problem (windows_in h.windows) sides (fork_in d)
+  pub divides : Divides h.unit h.problem (windows_in h.windows) sides (fork_in d)
   pub tail : HasTail (tails_of h.problem) (fork_in d)
   pub first : IsKept h (sides ++ (first (fork_in d) ∷ [])) d.first.payload d.first.value
   pub second : IsKept h (sides ++ (second (fork_in d) ∷ [])) d.second.payload d.second.value

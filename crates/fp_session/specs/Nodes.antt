@@ -5,13 +5,13 @@ use Rattle.fp_tree.specs.declared.sides.Side.{Side}
 use Rattle.fp_tree.specs.Nodes.{Node, closed_of, fork_of, value_of}
 use Rattle.fp_tree.specs.Sides.{Fork}
 use Rattle.fp_tree.specs.Trees.{Branch, Leaf}
-use Rattle.fp_allowed.specs.Slack.{DividesSome}
 use Rattle.fp_prices.specs.declared.leaf_prices.Kind.TheVariants.{Even}
 use Rattle.fp_prices.specs.declared.leaf_prices.LeafPrice.{LeafPrice}
 use Rattle.fp_prices.specs.Tables.{HasKind}
 use Rattle.fp_certificate_lines.specs.declared.certificates.Valuation.{Valuation}
 use Rattle.fp_certificate_lines.specs.Ranges.{IsSplitInRange}
 use Rattle.fp_session_history.specs.declared.notes.SplitNote.{SplitNote}
+use Rattle.fp_session_history.specs.Divisions.{Divides}
 use Rattle.fp_session_history.specs.Notes.{History, last_round, worth_of}
 use Rattle.fp_session_history.specs.PrintedLeaves.{IsEmptyAt}
 use Rattle.fp_session_history.specs.Splits.{IsEarnedAt, IsEarnedSplit}
@@ -77,9 +77,10 @@ pub record IsLeafOf (h : History) (cost : ℕ) (l : Leaf (Node Payload)) : Type 
 abbrev pub split_note : Payload → SplitNote
 split_note payload = record { incumbent = payload.incumbent; valuation = payload.valuation }
 
--- a split of the tree: it is earned by its note, it is in range, and it divides departures
+-- a split of the tree: it is earned by its note, it is in range, and it divides the departures of a
+-- shipment or the trucks of an arc
 pub record IsSplitOf (h : History) (started cost : ℕ) (b : Branch (Node Payload)) : Type 0 where
   pub price : IsPriceOf h b.node.payload.valuation.price
   pub earned : IsEarnedSplit h started cost b.sides (split_note b.node.payload)
   pub range : IfSome (fork_of b.node) (λ (f : Fork). IsSplitInRange h.problem f.split)
-  pub divides : IfSome (fork_of b.node) (DividesSome h.problem (windows_in h.windows) b.sides)
+  pub divides : IfSome (fork_of b.node) (Divides h.unit h.problem (windows_in h.windows) b.sides)

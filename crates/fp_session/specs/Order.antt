@@ -22,7 +22,7 @@ use Rattle.fp_session.specs.Searches.{InHand}
 
 -- the points of each terminal as of the last round
 abbrev pub points_had : InHand → ℕ → List ℕ
-points_had h = points_of (record { problem = h.instance; windows = h.windows; trace = h.trace; tables = []; spans = []; unit = None }) (length h.trace)
+points_had h = points_of (record { problem = h.instance; windows = h.windows; trace = h.trace; tables = []; spans = []; gifts = []; unit = None }) (length h.trace)
 
 -- a walk of each shipment under the sides of a leaf, over these points
 abbrev pub AreWalksHad : InHand → List Side → List (List Leg) → Type 0

@@ -1,5 +1,5 @@
 -- What comes of improving a leaf that is open.
-use Rattle.std.specs.Prelude.{ℕ, ◌*◌, ◌<◌, ◌≤◌, ◌≡◌, List, [], Bool, true, false, None, Option, Some, ◌⊎◌}
+use Rattle.std.specs.Prelude.{ℕ, ◌*◌, ◌<◌, ◌≤◌, ◌≡◌, ◌≢◌, List, [], Bool, true, false, None, Option, Some, ◌⊎◌}
 use Rattle.fp_base_lists.specs.Numbered.{AllZipFrom}
 use Rattle.fp_model.specs.declared.parts.Leg.{Leg}
 use Rattle.fp_model.specs.Costs.{cost}
@@ -11,7 +11,8 @@ use Rattle.fp_prices.specs.declared.leaf_prices.Kind.TheVariants.{Even, Linear}
 use Rattle.fp_prices.specs.declared.leaf_prices.LeafPrice.{LeafPrice}
 use Rattle.fp_prices.specs.Leaves.{IsLeafValue}
 use Rattle.fp_prices.specs.Rounds.{LeafModel}
-use Rattle.fp_prices_spans.specs.SpanKinds.{IsPricedValue, spans_beside}
+use Rattle.fp_prices_gifts.specs.GiftKinds.{IsPricedValue, gifts_beside}
+use Rattle.fp_prices_spans.specs.SpanKinds.{spans_beside}
 use Rattle.fp_prices_spans.specs.SpanLeaves.{IsSpanLeafEmpty}
 use Rattle.fp_duals_leaves.specs.Prices.{PriceLists}
 use Rattle.fp_duals.specs.Improvements.{IsReachedChain}
@@ -82,14 +83,15 @@ IsOutcome h sides old (Empty kept) = IsKept h sides kept.payload kept.value × (
 IsOutcome h sides old (Open kept walks) = IsFound h sides kept walks.items × (old.value ≤ kept.value)
 
 -- of a leaf of which this was found, and that is improved by a price as of the same round: where it is empty by the heads of that price,
--- what was found is kept, and else the greater of both
+-- or isn't priced by the gifts beside its table, what was found is kept, and else the greater of both
 abbrev pub IsBestBy : LeafModel → PriceLists → (found : Kept) → LeafPrice → Kept → Type 0
 IsBestBy l x found price kept =
-    ((kept ≡ found) × IsSpanLeafEmpty l.setting.problem (windows_in l.setting.windows) (points_in l.setting.network) l.sides (spans_beside x.spans price.kind))
-    ⊎ ((value : ℕ) × IsPricedValue l.setting.problem (windows_in l.setting.windows) (points_in l.setting.network) l.sides x.tables x.spans price.kind price.forced value × IsGreater found price value kept)
+    ((kept ≡ found)
+    × (IsSpanLeafEmpty l.setting.problem (windows_in l.setting.windows) (points_in l.setting.network) l.sides (spans_beside x.spans price.kind) ⊎ (gifts_beside x.gifts price.kind ≢ [])))
+    ⊎ ((value : ℕ) × IsPricedValue l.setting.problem (windows_in l.setting.windows) (points_in l.setting.network) l.sides x.tables x.spans x.gifts price.kind price.forced value × IsGreater found price value kept)
 
 -- a leaf of which this is kept is empty, or worth no less than by a price, as of the price's round
 abbrev pub IsNoLessBy : History → List Side → LeafPrice → Kept → Type 0
 IsNoLessBy h sides price kept =
     (kept.payload.empty ≡ true)
-    ⊎ ((value : ℕ) × IsPricedValue h.problem (windows_in h.windows) (points_of h price.round) sides h.tables h.spans price.kind price.forced value × (value ≤ kept.value))
+    ⊎ ((value : ℕ) × IsPricedValue h.problem (windows_in h.windows) (points_of h price.round) sides h.tables h.spans h.gifts price.kind price.forced value × (value ≤ kept.value))

@@ -50,7 +50,7 @@ cheapest_plan s = record { plan = cheapest s.incumbent s.reserve; cost = cheapes
 
 -- the history of a search with these prices
 abbrev pub history : Search → PriceLists → History
-history s prices = record { problem = s.instance; windows = s.windows; trace = s.trace.items; tables = prices.tables; spans = prices.spans; unit = prices.unit }
+history s prices = record { problem = s.instance; windows = s.windows; trace = s.trace.items; tables = prices.tables; spans = prices.spans; gifts = prices.gifts; unit = prices.unit }
 
 -- the setting of a leaf over the network of the last round
 abbrev pub setting_of : Search → Setting

@@ -23,7 +23,7 @@ pub record IsSolved (p : Problem) (table : WindowTable) (budget : Budget) (start
   pub range : IsInRange p x.certificate
   pub countable : AreCountable p x.certificate.tables
   pub few : All (λ (spans : List ClassSpan). length spans < 2 ^ 32 - 1) x.certificate.spans
-  pub lines : AreFewLines x.certificate.tables x.certificate.spans
+  pub lines : AreFewLines x.certificate.tables x.certificate.spans x.certificate.gifts
   pub scale : x.certificate.scale ≡ named_scale p.scale
   pub earned : IsEarnedSolution p table budget started x
 

@@ -14,7 +14,7 @@ use Rattle.fp_session.specs.StepCauses.{open_count}
 
 -- the history of a search before its first round
 abbrev pub start_of : Problem → WindowTable → PriceLists → History
-start_of p table prices = record { problem = p; windows = table; trace = []; tables = prices.tables; spans = prices.spans; unit = prices.unit }
+start_of p table prices = record { problem = p; windows = table; trace = []; tables = prices.tables; spans = prices.spans; gifts = prices.gifts; unit = prices.unit }
 
 -- a search that has made no step: its incumbent is the plan that it starts with, none waits in reserve, its
 -- tree is one open leaf, there was no round, and it hasn't ended

@@ -39,7 +39,7 @@ pub(crate) fn certificate(
     let trucks = trucks(alloc, &search.instance, &search.incumbent)?;
     let points = search.points.added().to_vec(alloc)?;
     let tree = tree_lines(alloc, &search.tree)?;
-    let (tables, spans, unit) = prices.into_parts();
+    let (tables, spans, gifts, unit) = prices.into_parts();
     Ok(Certificate {
         answer,
         scale: named_scale(&search.instance),
@@ -49,6 +49,7 @@ pub(crate) fn certificate(
         points,
         tables,
         spans,
+        gifts,
         tree,
     })
 }

@@ -8,7 +8,7 @@ ghost use Rattle.fp_duals_leaves.specs.Prices.{ArePrices, HaveGrown};
 ghost use Rattle.fp_session.specs.Searches.{IsSearch, history, setting_of};
 
 use crate::NoMemory;
-use crate::improving::{emptied, greater, improved, priced};
+use crate::improving::{emptied, greater, improved, noted, priced};
 use crate::kept::Kept;
 use crate::outcomes::Outcome;
 use crate::payloads::Payload;
@@ -20,7 +20,7 @@ use fp_duals_nets::LentNets;
 use fp_ends::{Deadline, Resources};
 use fp_longestarcs::Network;
 use fp_prices::{Kind, Leaf, LeafBound, LeafPrice, RoundNetwork};
-use fp_tree::Side;
+use fp_tree::{Side, Split};
 use std::alloc::Global;
 
 // The sides of the leaf on one side of a split of a leaf.
@@ -32,8 +32,32 @@ fn sides_below(alloc: Global, leaf: &Leaf, side: Side) -> Result<Vec<Side>, NoMe
     Ok(sides)
 }
 
-// What is kept of the leaf on one side of a split of a leaf, improved with little effort from a price
-// of the leaf above.
+// Whether the sides of a split are priced by spans and gifts at once: those by trucks, of which tables read
+// nothing, and those by ways.
+pub(crate) fn is_by_spans(split: Split) -> bool {
+    matches!(split, Split::ByTrucks { .. } | Split::ByWay { .. })
+}
+
+// The effort at a leaf below a split while it's tried, where it has no price of its own yet.
+pub(crate) fn trial_effort(split: Split) -> PriceEffort {
+    if is_by_spans(split) {
+        PriceEffort::span_trial()
+    } else {
+        PriceEffort::CHILD
+    }
+}
+
+// The effort there once the leaf is split.
+fn child_effort(search: &Search, split: Split) -> PriceEffort {
+    if is_by_spans(split) {
+        PriceEffort::by_spans(search.instance.shipments().len())
+    } else {
+        PriceEffort::CHILD
+    }
+}
+
+// What is kept of the leaf on one side of a split of a leaf, improved with an effort from a price of the
+// leaf above.
 #[tactic(auto, using(fp_duals_leaves::proofs::GrownPrices::HaveGrown_none))]
 pub(crate) fn new_child<D: Deadline>(
     resources: &Resources<D>,
@@ -41,6 +65,7 @@ pub(crate) fn new_child<D: Deadline>(
     leaf: &Leaf,
     side: Side,
     inherited: LeafPrice,
+    effort: &PriceEffort,
     prices: &mut Prices,
 ) -> Result<Kept, NoMemory>
     requires setting { leaf.now.setting ≡ setting_of search.now }
@@ -54,7 +79,6 @@ pub(crate) fn new_child<D: Deadline>(
     let below = Leaf::of(resources.alloc, leaf.round(), leaf.windows(), &sides)?;
     let number = search.trace.len() as u32;
     let mut nets = LentNets::new();
-    let effort = &PriceEffort::CHILD;
     match improve(
         resources, &below, &mut nets, number, inherited, effort, prices,
     )? {
@@ -134,7 +158,7 @@ fn taken(above: Kept, sides: u32) -> Kept
 
 // What is kept of a leaf of which this was found by other prices, and of which a price is as of the same
 // round: the price where the leaf is worth more by it, and else what was found, also where no walk goes by
-// the heads of that price.
+// the heads of that price, or where the leaf isn't priced by the gifts beside its table.
 fn or_by(
     alloc: Global,
     leaf: &Leaf,
@@ -146,7 +170,10 @@ fn or_by(
     requires kind { HasKind prices.now.tables price.kind }
     ensures { IfOk result (IsBestBy leaf.now prices.now found price) }
 {
-    match bound_by(alloc, leaf, price, prices)? {
+    let Some(bound) = bound_by(alloc, leaf, price, prices)? else {
+        return Ok(found);
+    };
+    match bound {
         LeafBound::Empty { .. } => Ok(found),
         LeafBound::Value { value } => Ok(greater(found, price, value)),
     }
@@ -365,11 +392,22 @@ pub(crate) fn raised<D: Deadline>(
     }
 }
 
+// As of which round a leaf below a split counts as improved: where it was priced by spans, with as much
+// effort as a chosen leaf gets.
+fn improved_below(kept: Kept, split: Split) -> Option<u32> {
+    if is_by_spans(split) {
+        Some(kept.payload.valuation.price.round)
+    } else {
+        None
+    }
+}
+
 // What is kept of the leaf on one side of a split, below a leaf of which this is kept.
 pub(crate) fn child<D: Deadline>(
     resources: &Resources<D>,
     search: &Search,
     leaf: &Leaf,
+    split: Split,
     side: Side,
     above: Kept,
     prices: &mut Prices,
@@ -386,6 +424,8 @@ pub(crate) fn child<D: Deadline>(
     ensures no_less { IfOk result (IsRaisedTo prices.old.unit above) }
 {
     let price = above.payload.valuation.price;
-    let kept = new_child(resources, search, leaf, side, price, prices)?;
+    let effort = &child_effort(search, split);
+    let kept = new_child(resources, search, leaf, side, price, effort, prices)?;
+    let kept = noted(kept, improved_below(kept, split));
     raised(resources, search, leaf, side, kept, above, prices)
 }

@@ -1,32 +1,30 @@
-//! By which shipment a leaf is split: of the first candidates the one whose sides promise most.
-ghost use Rattle.std.specs.Prelude.{◌≡◌, ◌≤◌, All, IfOk, IfSome, None, length, true};
+//! By which branching a leaf is split: of the first ones the one whose sides promise most.
+ghost use Rattle.std.specs.Prelude.{[], ◌∷◌, ◌++◌, ◌≡◌, ◌≤◌, All, IfOk, IfSome, None, length, true};
 ghost use Rattle.fp_prices.specs.Tables.{HasKind};
-ghost use Rattle.fp_session_branching.specs.Candidates.{IsCandidate};
-ghost use Rattle.fp_session.specs.Choices.{AreKeptBelow, IsChosen, fork_by};
+ghost use Rattle.fp_session.specs.Choices.{AreKeptBelow, IsBranching, IsChosen, fork_by};
 ghost use Rattle.fp_session.specs.Dividing.{IsSeveral};
+ghost use Rattle.fp_session.specs.Nodes.{IsKept};
 ghost use Rattle.fp_duals_leaves.specs.Prices.{HaveGrown};
 ghost use Rattle.fp_session.specs.Searches.{IsSearch, history, setting_of};
 
 use crate::NoMemory;
-use crate::children::new_child;
+use crate::branchings::{Branching, branchings};
+use crate::children::{is_by_spans, new_child, trial_effort};
 use crate::dividing::Several;
 use crate::kept::{Below, Kept};
 use crate::searches::Search;
 use fp_duals_leaves::Prices;
+use fp_duals_nets::LentNets;
 use fp_ends::{Deadline, Resources};
 use fp_prices::{Leaf, LeafPrice};
 use fp_relaxmodel::TimedWalk;
-use fp_session_branching::{Candidate, candidates};
+use fp_tree::{Side, Split};
 
-// So many candidates are tried. More of them cost time and were measured to gain nothing on lines
-// and hubs.
-const MOST_TRIED: usize = 4;
-
-// A candidate by which a leaf is split, and what is kept of the two leaves below where a trial told
+// A branching by which a leaf is split, and what is kept of the two leaves below where a trial told
 // it without a further table.
 #[derive(Clone, Copy)]
 pub(crate) struct Chosen {
-    pub candidate: Candidate,
+    pub branching: Branching,
     pub below: Option<Below>,
 }
 
@@ -37,15 +35,27 @@ struct Promise {
     better: u128,
 }
 
-// A candidate that was tried, and what its sides promise.
+// A branching that was tried, and what its sides promise.
 #[derive(Clone, Copy)]
 struct Trial {
     chosen: Chosen,
     promise: Promise,
 }
 
-// Whether a promise is more than another.
-fn is_more(promise: Promise, other: Promise) -> bool {
+// What the sides of a split promise together: the worse one counts five times.
+fn sum_of(promise: Promise) -> u128 {
+    promise
+        .worse
+        .saturating_mul(5)
+        .saturating_add(promise.better)
+}
+
+// Whether a promise is more than another: by both sides where splits by trucks or by ways are among those
+// that are tried, and else by the worse side first.
+fn is_more(promise: Promise, other: Promise, by_both: bool) -> bool {
+    if by_both {
+        return sum_of(promise) > sum_of(other);
+    }
     promise.worse > other.worse || (promise.worse == other.worse && promise.better > other.better)
 }
 
@@ -69,12 +79,33 @@ fn promise_of(search: &Search, below: Below) -> Promise {
     }
 }
 
-// What is kept of the sides of a candidate's split after little effort.
+// What is kept of the leaf on one side of a split that is tried, after little effort.
+fn trial_child<D: Deadline>(
+    resources: &Resources<D>,
+    search: &Search,
+    leaf: &Leaf,
+    split: Split,
+    side: Side,
+    inherited: LeafPrice,
+    prices: &mut Prices,
+) -> Result<Kept, NoMemory>
+    requires setting { leaf.now.setting ≡ setting_of search.now }
+    requires search { IsSearch search.now prices.old }
+    requires kind { HasKind prices.old.tables inherited.kind }
+    ensures grown { HaveGrown search.now.instance search.now.windows prices.old prices.new }
+    ensures kept { IfOk result (λ kept.
+        IsKept (history search.now prices.new) (leaf.now.sides ++ (side ∷ [])) kept.payload kept.value) }
+{
+    let effort = &trial_effort(split);
+    new_child(resources, search, leaf, side, inherited, effort, prices)
+}
+
+// What is kept of the sides of a branching after little effort.
 fn both_sides<D: Deadline>(
     resources: &Resources<D>,
     search: &Search,
     leaf: &Leaf,
-    candidate: Candidate,
+    branching: Branching,
     inherited: LeafPrice,
     prices: &mut Prices,
 ) -> Result<Below, NoMemory>
@@ -83,57 +114,53 @@ fn both_sides<D: Deadline>(
     requires going { search.now.left ≡ None }
     requires kind { HasKind prices.old.tables inherited.kind }
     ensures grown { HaveGrown search.now.instance search.now.windows prices.old prices.new }
-    ensures kept { IfOk result (AreKeptBelow (history search.now prices.new) leaf.now.sides (fork_by candidate)) }
+    ensures kept { IfOk result (AreKeptBelow (history search.now prices.new) leaf.now.sides (fork_by branching)) }
 {
-    let split = candidate.split;
-    let tail = candidate.terminal;
-    let first = new_child(resources, search, leaf, split.first(), inherited, prices)?;
-    let second = new_child(
-        resources,
-        search,
-        leaf,
-        split.second(tail),
-        inherited,
-        prices,
-    )?;
+    let Branching { split, tail } = branching;
+    let one = split.first();
+    let other = split.second(tail);
+    let first = trial_child(resources, search, leaf, split, one, inherited, prices)?;
+    let second = trial_child(resources, search, leaf, split, other, inherited, prices)?;
     Ok(Below { first, second })
 }
 
-// What came of the trial of a candidate, with so many tables before it and after it: what is kept of
+// What came of the trial of a branching, with so many tables before it and after it: what is kept of
 // its sides only where that takes no further table.
-fn trial_of(search: &Search, candidate: Candidate, below: Below, before: u32, after: u32) -> Trial
-    ensures candidate { result.chosen.candidate ≡ candidate }
+fn trial_of(search: &Search, branching: Branching, below: Below, before: u32, after: u32) -> Trial
+    ensures branching { result.chosen.branching ≡ branching }
     ensures below { IfSome result.chosen.below (λ told. (after ≤ before) × (told ≡ below)) }
 {
     let promise = promise_of(search, below);
-    let below = if after <= before { Some(below) } else { None };
-    let chosen = Chosen { candidate, below };
+    // A split by spans is priced again with more effort than its trial has.
+    let told = after <= before && !is_by_spans(branching.split);
+    let below = if told { Some(below) } else { None };
+    let chosen = Chosen { branching, below };
     Trial { chosen, promise }
 }
 
-// A trial of a candidate. The prices are as before: further tables serve the trial alone.
+// A trial of a branching. The prices are as before: further tables serve the trial alone.
 fn tried<D: Deadline>(
     resources: &Resources<D>,
     search: &Search,
     leaf: &Leaf,
-    candidate: Candidate,
+    branching: Branching,
     inherited: LeafPrice,
     prices: &mut Prices,
 ) -> Result<Trial, NoMemory>
     requires setting { leaf.now.setting ≡ setting_of search.now }
     requires search { IsSearch search.now prices.old }
     requires going { search.now.left ≡ None }
-    requires candidate { IsCandidate leaf.now candidate }
+    requires branching { IsBranching (history search.now prices.old) leaf.now.sides branching }
     requires kind { HasKind prices.old.tables inherited.kind }
     ensures same { prices.new ≡ prices.old }
-    ensures chosen { IfOk result (λ trial. IsChosen (history search.now prices.old) leaf.now trial.chosen) }
+    ensures chosen { IfOk result (λ trial. IsChosen (history search.now prices.old) leaf.now.sides trial.chosen) }
 {
     let count = prices.count();
-    match both_sides(resources, search, leaf, candidate, inherited, prices) {
+    match both_sides(resources, search, leaf, branching, inherited, prices) {
         Ok(below) => {
             let after = prices.count();
             prices.cut(count);
-            Ok(trial_of(search, candidate, below, count, after))
+            Ok(trial_of(search, branching, below, count, after))
         }
         Err(error) => {
             prices.cut(count);
@@ -142,46 +169,47 @@ fn tried<D: Deadline>(
     }
 }
 
-// The candidate whose sides promise most, the first of these, of those that are tried in time. The
+// The branching whose sides promise most, the first of these, of those that are tried in time. The
 // prices are as before.
 fn best<D: Deadline>(
     resources: &Resources<D>,
     search: &Search,
     leaf: &Leaf,
-    list: &[Candidate],
+    list: &[Branching],
     inherited: LeafPrice,
     prices: &mut Prices,
 ) -> Result<Chosen, NoMemory>
     requires setting { leaf.now.setting ≡ setting_of search.now }
     requires search { IsSearch search.now prices.old }
     requires going { search.now.left ≡ None }
-    requires each { All (IsCandidate leaf.now) list.now }
+    requires each { All (IsBranching (history search.now prices.old) leaf.now.sides) list.now }
     requires some { 1 ≤ length list.now }
     requires kind { HasKind prices.old.tables inherited.kind }
     ensures same { prices.new ≡ prices.old }
-    ensures chosen { IfOk result (IsChosen (history search.now prices.old) leaf.now) }
+    ensures chosen { IfOk result (IsChosen (history search.now prices.old) leaf.now.sides) }
 {
+    let by_both = is_by_spans(list[0].split);
     let mut best = tried(resources, search, leaf, list[0], inherited, prices)?;
     for place in 1..list.len() {
         if resources.is_over() {
             break;
         }
         let next = tried(resources, search, leaf, list[place], inherited, prices)?;
-        if is_more(next.promise, best.promise) {
+        if is_more(next.promise, best.promise, by_both) {
             best = next;
         }
     }
     Ok(best.chosen)
 }
 
-// By which candidate a leaf is split in which a shipment has several ways to go: of the first few,
-// by the leaf's price and by walks of least cost under it, the one whose sides promise most. One
-// alone isn't tried, and none where the time is over. The prices are as before.
+// By which branching a leaf is split in which a shipment has several ways to go: of the first few by the
+// trucks of arcs, by ways and by shipments, the one whose sides promise most. One alone isn't tried, and none
+// where the time is over. The prices are as before.
 pub(crate) fn choice<D: Deadline>(
     resources: &Resources<D>,
     search: &Search,
     leaf: &Leaf,
-    several: Several,
+    nets: &mut LentNets,
     price: LeafPrice,
     walks: &[TimedWalk],
     prices: &mut Prices,
@@ -189,23 +217,15 @@ pub(crate) fn choice<D: Deadline>(
     requires setting { leaf.now.setting ≡ setting_of search.now }
     requires search { IsSearch search.now prices.old }
     requires going { search.now.left ≡ None }
-    requires several { IsSeveral leaf.now several }
+    requires several { (several : Several) × IsSeveral leaf.now several }
     requires kind { HasKind prices.old.tables price.kind }
     ensures same { prices.new ≡ prices.old }
-    ensures chosen { IfOk result (IsChosen (history search.now prices.old) leaf.now) }
+    ensures chosen { IfOk result (IsChosen (history search.now prices.old) leaf.now.sides) }
 {
-    let list = candidates(
-        resources.alloc,
-        leaf,
-        prices.tables(),
-        price.kind,
-        price.forced,
-        walks,
-        MOST_TRIED,
-    )?;
+    let list = branchings(resources, search, leaf, nets, price, walks, prices)?;
     if list.len() == 1 || resources.is_over() {
         return Ok(Chosen {
-            candidate: list[0],
+            branching: list[0],
             below: None,
         });
     }

@@ -1,4 +1,4 @@
-//! A leaf is divided where a shipment has several ways to go.
+//! A leaf is divided where a shipment has several ways to go, by this, by a way or by the trucks of an arc.
 ghost use Rattle.std.specs.Prelude.{None, ◌≡◌, ◌≤◌, IfOk, MatchOption, false, length};
 ghost use Rattle.fp_tree.specs.declared.layout.TheConstants.{MOST_SPLITS};
 ghost use Rattle.fp_session.specs.Choices.{AreKeptBelow, IsChosen, fork_by};
@@ -9,6 +9,7 @@ ghost use Rattle.fp_duals_leaves.specs.Prices.{HaveGrown};
 ghost use Rattle.fp_session.specs.Searches.{IsSearch, history, setting_of};
 
 use crate::NoMemory;
+use crate::branchings::Branching;
 use crate::children::{child, raised};
 use crate::choices::Chosen;
 use crate::kept::{Below, Kept};
@@ -58,7 +59,7 @@ pub(crate) fn first_several(
     Ok(None)
 }
 
-// What is kept of the two leaves below a leaf of which that is kept and that is split by a candidate.
+// What is kept of the two leaves below a leaf of which that is kept and that is split by a branching.
 // Where a trial told what is kept of them, they aren't priced again with little effort.
 fn leaves_below<D: Deadline>(
     resources: &Resources<D>,
@@ -71,17 +72,18 @@ fn leaves_below<D: Deadline>(
     requires setting { leaf.now.setting ≡ setting_of search.now }
     requires search { IsSearch search.now prices.old }
     requires going { search.now.left ≡ None }
-    requires chosen { IsChosen (history search.now prices.old) leaf.now chosen }
+    requires chosen { IsChosen (history search.now prices.old) leaf.now.sides chosen }
     requires deep { length leaf.now.sides ≤ MOST_SPLITS }
     requires above { IsKept (history search.now prices.old) leaf.now.sides above.payload above.value }
     requires some { above.payload.empty ≡ false }
     ensures grown { HaveGrown search.now.instance search.now.windows prices.old prices.new }
-    ensures kept { IfOk result (AreKeptBelow (history search.now prices.new) leaf.now.sides (fork_by chosen.candidate)) }
+    ensures kept { IfOk result (AreKeptBelow (history search.now prices.new) leaf.now.sides (fork_by chosen.branching)) }
     ensures no_less { IfOk result (λ below. IsRaisedTo prices.old.unit above below.first
         × IsRaisedTo prices.old.unit above below.second) }
 {
-    let one = chosen.candidate.split.first();
-    let other = chosen.candidate.split.second(chosen.candidate.terminal);
+    let Branching { split, tail } = chosen.branching;
+    let one = split.first();
+    let other = split.second(tail);
     match chosen.below {
         Some(tried) => {
             let first = raised(resources, search, leaf, one, tried.first, above, prices)?;
@@ -89,14 +91,14 @@ fn leaves_below<D: Deadline>(
             Ok(Below { first, second })
         }
         None => {
-            let first = child(resources, search, leaf, one, above, prices)?;
-            let second = child(resources, search, leaf, other, above, prices)?;
+            let first = child(resources, search, leaf, split, one, above, prices)?;
+            let second = child(resources, search, leaf, split, other, above, prices)?;
             Ok(Below { first, second })
         }
     }
 }
 
-// The division of a leaf of which this is kept, by a candidate that was chosen.
+// The division of a leaf of which this is kept, by a branching that was chosen.
 pub(crate) fn division<D: Deadline>(
     resources: &Resources<D>,
     search: &Search,
@@ -108,7 +110,7 @@ pub(crate) fn division<D: Deadline>(
     requires setting { leaf.now.setting ≡ setting_of search.now }
     requires search { IsSearch search.now prices.old }
     requires going { search.now.left ≡ None }
-    requires chosen { IsChosen (history search.now prices.old) leaf.now chosen }
+    requires chosen { IsChosen (history search.now prices.old) leaf.now.sides chosen }
     requires deep { length leaf.now.sides ≤ MOST_SPLITS }
     requires above { IsKept (history search.now prices.old) leaf.now.sides above.payload above.value }
     requires some { above.payload.empty ≡ false }
@@ -118,8 +120,8 @@ pub(crate) fn division<D: Deadline>(
 {
     let below = leaves_below(resources, search, leaf, chosen, above, prices)?;
     Ok(Division {
-        split: chosen.candidate.split,
-        tail: chosen.candidate.terminal,
+        split: chosen.branching.split,
+        tail: chosen.branching.tail,
         first: below.first,
         second: below.second,
     })

@@ -9,6 +9,7 @@
 mod advances;
 mod answers;
 mod applying;
+mod branchings;
 mod certificates;
 mod children;
 mod choices;

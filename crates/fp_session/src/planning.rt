@@ -101,7 +101,7 @@ fn several_move<D: Deadline>(
     resources: &Resources<D>,
     search: &Search,
     leaf: &Leaf,
-    several: Several,
+    nets: &mut LentNets,
     kept: Kept,
     walks: &[TimedWalk],
     prices: &mut Prices,
@@ -109,7 +109,7 @@ fn several_move<D: Deadline>(
     requires search { IsSearch search.now prices.old }
     requires going { search.now.left ≡ None }
     requires setting { leaf.now.setting ≡ setting_of search.now }
-    requires several { IsSeveral leaf.now several }
+    requires several { (several : Several) × IsSeveral leaf.now several }
     requires deep { length leaf.now.sides ≤ MOST_SPLITS }
     requires kept { IsKept (history search.now prices.old) leaf.now.sides kept.payload kept.value }
     requires some { kept.payload.empty ≡ false }
@@ -118,7 +118,7 @@ fn several_move<D: Deadline>(
     ensures no_less { IfOk result (AreNoLess prices.old.unit kept) }
 {
     let price = kept.payload.valuation.price;
-    let chosen = choice(resources, search, leaf, several, price, walks, prices)?;
+    let chosen = choice(resources, search, leaf, nets, price, walks, prices)?;
     division(resources, search, leaf, chosen, kept, prices)
 }
 
@@ -188,7 +188,7 @@ fn move_by<D: Deadline>(
                 });
             }
             let walks = walks_to_split_by(&search.instance, &relaxed, by_tables.as_deref());
-            let division = several_move(resources, search, leaf, several, kept, walks, prices)?;
+            let division = several_move(resources, search, leaf, nets, kept, walks, prices)?;
             Ok(Move::Divide { division })
         }
     }

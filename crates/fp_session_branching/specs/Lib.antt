@@ -1,2 +1,4 @@
 pub mod Candidates
 pub mod Best
+pub mod Trucks
+pub mod Ways

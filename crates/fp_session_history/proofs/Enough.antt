@@ -9,7 +9,6 @@ use Rattle.fp_model.specs.Members.{arc_lists}
 use Rattle.fp_model.specs.Problem.{IsShipment, IsValid, Problem, horizon}
 use Rattle.fp_flatnet.specs.Tables.{WindowTable, windows_in}
 use Rattle.fp_tree.specs.Trees.{Branch, Leaf}
-use Rattle.fp_allowed.proofs.BranchLimit.{tree_branches-slack}
 use Rattle.fp_relaxmodel.specs.Groups.{AreGroups}
 use Rattle.fp_relaxmodel.specs.Relaxed.{IsRelaxedWalk}
 use Rattle.fp_dispatch.specs.Times.{HaveTimes}
@@ -26,6 +25,7 @@ use Rattle.fp_session_history.specs.Enough.{EnoughBranches, EnoughRounds}
 use Rattle.fp_session_history.specs.Notes.{History}
 use Rattle.fp_session_history.specs.Solutions.{HasCause, HasUsedRounds, branches_shown, history_of, leaves_shown}
 use Rattle.fp_session_history.proofs.AddedPoints.{length-IsEarnedTrace}
+use Rattle.fp_session_history.proofs.BranchLimits.{tree_branches-divisions}
 
 -- where rounds were used up, they were as many as the budget has, and a relaxed plan clashes
 rounds-used : (h : History) (budget : Budget) (leaves : List (Leaf Node)) (branches : List (Branch Node)) (left : Left) (cost bound : ℕ) → HasCause h budget leaves branches left (Unfinished cost bound Rounds) →
@@ -91,4 +91,4 @@ pub EnoughBranches_hold : EnoughBranches
 EnoughBranches_hold p table budget started s valid earned enough cost bound is =
     let used : length (branches_shown p s) ≡ budget.branches = branches-used (history_of p table s) budget (leaves_shown p s) (branches_shown p s) s.left cost bound
     (subst (HasCause (history_of p table s) budget (leaves_shown p s) (branches_shown p s) s.left) is earned.cause) in
-    omega (arith, enough, used, tree_branches-slack p (windows_in table) valid (fork_of p) s.certificate.tree earned.divide)
+    omega (arith, enough, used, tree_branches-divisions p (windows_in table) valid s.certificate.unit (fork_of p) s.certificate.tree earned.divide)

@@ -58,7 +58,7 @@ abbrev round : Refinement
 round = record { round = 1; incumbent = 300; relaxed = together; added = (record { terminal = 1; at = 4 }) ∷ [] }
 
 abbrev history : History
-history = record { problem = crossing; windows = table; trace = round ∷ []; tables = []; spans = []; unit = None }
+history = record { problem = crossing; windows = table; trace = round ∷ []; tables = []; spans = []; gifts = []; unit = None }
 
 -- the points of B as of the round 0, and as of the round 1
 points_before : points_of history 0 1 ≡ 0 ∷ 0 ∷ []

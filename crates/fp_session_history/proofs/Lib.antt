@@ -3,6 +3,7 @@ pub mod PointsKept
 pub mod Stays
 pub mod EmptyLeaves
 pub mod AddedPoints
+pub mod BranchLimits
 pub mod Enough
 pub mod SamePoints
 pub mod HistoryPoints

@@ -14,10 +14,10 @@ use Rattle.fp_prices.specs.declared.leaf_prices.Kind.TheVariants.{Even, Linear}
 use Rattle.fp_prices.specs.Leaves.{IsLeafEmpty, IsLeafValue}
 use Rattle.fp_prices.specs.Shares.{ClassShare}
 use Rattle.fp_prices.specs.Tables.{HasKind}
-use Rattle.fp_prices_spans.specs.SpanKinds.{IsPricedValue, spans_beside}
-use Rattle.fp_prices_spans.specs.SpanLeaves.{IsSpanLeafValue}
 use Rattle.fp_prices_spans.specs.Spans.{ClassSpan}
-use Rattle.fp_prices_spans.proofs.SpanAppends.{IsPricedValue-tables, beside-append}
+use Rattle.fp_prices_gifts.specs.declared.gifts.Gift.{Gift}
+use Rattle.fp_prices_gifts.specs.GiftKinds.{IsPricedValue}
+use Rattle.fp_prices_gifts.proofs.GiftAppends.{gift_values-append}
 use Rattle.fp_certificate_lines.specs.declared.certificates.Valuation.{Valuation}
 use Rattle.fp_certificate_lines.specs.Valuations.{sides_valued}
 use Rattle.fp_session_history.specs.declared.notes.SplitNote.{SplitNote}
@@ -36,7 +36,7 @@ module _ (h : History) (n : Refinement) (sides : List Side) (v : Valuation) (les
       let same : points_of h v.price.round ≡ points_of (with_note h n) v.price.round = sym (points_of-with_note h n v.price.round less) in
       record {
         value = leaf.value;
-        is = subst (λ (qs : ℕ → List ℕ). IsPricedValue p windows qs (sides_valued v sides) h.tables h.spans v.price.kind v.price.forced leaf.value) same leaf.is;
+        is = subst (λ (qs : ℕ → List ℕ). IsPricedValue p windows qs (sides_valued v sides) h.tables h.spans h.gifts v.price.kind v.price.forced leaf.value) same leaf.is;
         linear = subst (λ (qs : ℕ → List ℕ). (f : Bool) (other : ℕ) → IsLeafValue p windows qs sides [] Linear f other → other ≤ leaf.value) same leaf.linear;
         even = subst (λ (qs : ℕ → List ℕ). (f : Bool) (other : ℕ) → IsLeafValue p windows qs sides [] Even f other → other ≤ leaf.value) same leaf.even;
         linear_under = subst (λ (qs : ℕ → List ℕ). (f : Bool) (other : ℕ) → IsLeafValue p windows qs (sides_valued v sides) [] Linear f other → other ≤ leaf.value) same leaf.linear_under;
@@ -52,14 +52,12 @@ module _ (h : History) (n : Refinement) (sides : List Side) (v : Valuation) (les
     whole = leaf.whole;
   }
 
--- a leaf that was earned stays so when tables are added, with spans beside them
-abbrev pub IsEarnedAt-with_tables : (h : History) (more : List (List ClassShare)) (spans : List (List ClassSpan)) (sides : List Side) (v : Valuation) → length h.spans ≡ length h.tables → HasKind h.tables v.price.kind → IsEarnedAt h sides v →
-    IsEarnedAt (with_tables h more spans) sides v
-IsEarnedAt-with_tables h more spans sides v beside has leaf = record {
+-- a leaf that was earned stays so when tables are added, with spans and gifts beside them
+abbrev pub IsEarnedAt-with_tables : (h : History) (more : List (List ClassShare)) (spans : List (List ClassSpan)) (gifts : List (List Gift)) (sides : List Side) (v : Valuation) → length h.spans ≡ length h.tables →
+    length h.gifts ≡ length h.tables → HasKind h.tables v.price.kind → IsEarnedAt h sides v → IsEarnedAt (with_tables h more spans gifts) sides v
+IsEarnedAt-with_tables h more spans gifts sides v beside given has leaf = record {
   value = leaf.value;
-  is = subst (λ (s : List ClassSpan). IsSpanLeafValue h.problem (windows_in h.windows) (points_of h v.price.round) (sides_valued v sides) (h.tables ++ more) s v.price.kind v.price.forced leaf.value)
-      (sym (beside-append h.tables h.spans spans v.price.kind beside has))
-      (IsPricedValue-tables h.problem (windows_in h.windows) (points_of h v.price.round) (sides_valued v sides) h.tables v.price.kind v.price.forced leaf.value has more h.spans leaf.is);
+  is = gift_values-append h.problem (windows_in h.windows) (points_of h v.price.round) (sides_valued v sides) h.tables more h.spans spans h.gifts gifts v.price.kind v.price.forced leaf.value beside given has leaf.is;
   linear = leaf.linear;
   even = leaf.even;
   linear_under = leaf.linear_under;
@@ -72,9 +70,10 @@ module _ (h : History) (started ended : ℕ) (sides : List Side) (note : SplitNo
   IsEarnedSplit-with_note n less = record { leaf = IsEarnedAt-with_note h n sides note.valuation less split.leaf; below = split.below; first = split.first; last = split.last }
 
   -- when tables are
-  pub IsEarnedSplit-with_tables : (more : List (List ClassShare)) (spans : List (List ClassSpan)) → length h.spans ≡ length h.tables → HasKind h.tables note.valuation.price.kind → IsEarnedSplit (with_tables h more spans) started ended sides note
-  IsEarnedSplit-with_tables more spans beside has = record {
-    leaf = IsEarnedAt-with_tables h more spans sides note.valuation beside has split.leaf;
+  pub IsEarnedSplit-with_tables : (more : List (List ClassShare)) (spans : List (List ClassSpan)) (gifts : List (List Gift)) → length h.spans ≡ length h.tables → length h.gifts ≡ length h.tables → HasKind h.tables note.valuation.price.kind →
+      IsEarnedSplit (with_tables h more spans gifts) started ended sides note
+  IsEarnedSplit-with_tables more spans gifts beside given has = record {
+    leaf = IsEarnedAt-with_tables h more spans gifts sides note.valuation beside given has split.leaf;
     below = split.below;
     first = split.first;
     last = split.last;
@@ -118,8 +117,8 @@ module _ (h : History) (started ended : ℕ) (trace : IsEarnedTrace h started en
       kept k m less round_of = subst (λ (points : ℕ → List ℕ). IsEarnedRound h.problem h.windows h.unit points m) (sym (points_of-with_note h n k less)) round_of
 
   -- tables have no say in it
-  pub IsEarnedTrace-with_tables : (more : List (List ClassShare)) (spans : List (List ClassSpan)) → IsEarnedTrace (with_tables h more spans) started ended
-  IsEarnedTrace-with_tables more spans = record { rounds = trace.rounds; earned = trace.earned; falling = trace.falling; first = trace.first; last = trace.last }
+  pub IsEarnedTrace-with_tables : (more : List (List ClassShare)) (spans : List (List ClassSpan)) (gifts : List (List Gift)) → IsEarnedTrace (with_tables h more spans gifts) started ended
+  IsEarnedTrace-with_tables more spans gifts = record { rounds = trace.rounds; earned = trace.earned; falling = trace.falling; first = trace.first; last = trace.last }
 
   -- and it stays earned when the incumbent becomes cheaper
   pub IsEarnedTrace-cheaper : (cheaper : ℕ) → cheaper ≤ ended → IsEarnedTrace h started cheaper

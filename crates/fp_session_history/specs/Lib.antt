@@ -2,6 +2,7 @@ pub mod Budgets
 pub mod Notes
 pub mod Points
 pub mod Clashes
+pub mod Divisions
 pub mod Traces
 pub mod Splits
 pub mod PrintedLeaves

@@ -7,6 +7,7 @@ use Rattle.fp_timenodes.specs.declared.places.AddedPoint.{AddedPoint}
 use Rattle.fp_timenodes.specs.declared.places.Place.{Place}
 use Rattle.fp_flatnet.specs.Tables.{WindowTable}
 use Rattle.fp_prices.specs.Shares.{ClassShare}
+use Rattle.fp_prices_gifts.specs.declared.gifts.Gift.{Gift}
 use Rattle.fp_prices_spans.specs.Spans.{ClassSpan}
 use Rattle.fp_certificate_rules.specs.Points.{points_with_added}
 use Rattle.fp_certificate_rules.specs.Units.{rounded_up}
@@ -29,13 +30,15 @@ added_of [] = []
 added_of (n ∷ notes) = points_added n.round n.added ++ added_of notes
 
 -- the history of a search: the instance and its windows, its notes on rounds, its tables of prices
--- with the spans beside each, and the unit by which it rounds up what leaves are worth, if it does
+-- with the spans and the gifts beside each, and the unit by which it rounds up what leaves are worth, if
+-- it does
 pub record History : Type 0 where
   pub problem : Problem
   pub windows : WindowTable
   pub trace : List Refinement
   pub tables : List (List ClassShare)
   pub spans : List (List ClassSpan)
+  pub gifts : List (List Gift)
   pub unit : Option ℕ
 
 -- the points of each terminal as of a round
@@ -50,9 +53,9 @@ last_round h = length h.trace
 abbrev pub with_note : History → Refinement → History
 with_note h n = record h { trace = h.trace ++ n ∷ [] }
 
--- a history with more tables, and the spans beside them
-abbrev pub with_tables : History → List (List ClassShare) → List (List ClassSpan) → History
-with_tables h more spans = record h { tables = h.tables ++ more; spans = h.spans ++ spans }
+-- a history with more tables, and the spans and the gifts beside them
+abbrev pub with_tables : History → List (List ClassShare) → List (List ClassSpan) → List (List Gift) → History
+with_tables h more spans gifts = record h { tables = h.tables ++ more; spans = h.spans ++ spans; gifts = h.gifts ++ gifts }
 
 -- a value in whole units of money, rounded up to a multiple of the unit
 abbrev pub worth_of : History → ℕ → ℕ

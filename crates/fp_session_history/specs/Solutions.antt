@@ -12,7 +12,6 @@ use Rattle.fp_tree.specs.Trees.{Branch, Leaf, tree_branches, tree_leaves}
 use Rattle.fp_allowed.specs.declared.chain_ends.ChainEnd.TheVariants as end
 use Rattle.fp_allowed.specs.Allowed.{IsForcedChain, is_allowed}
 use Rattle.fp_allowed.specs.Chains.{EndsAs}
-use Rattle.fp_allowed.specs.Slack.{AllDivide}
 use Rattle.fp_allowed.specs.Walks.{IsTimedWalk}
 use Rattle.fp_certificate_lines.specs.declared.certificates.Answer.{Answer}
 use Rattle.fp_certificate_lines.specs.declared.certificates.Answer.TheVariants.{Optimal, Unfinished}
@@ -27,6 +26,7 @@ use Rattle.fp_session_history.specs.declared.endings.Left.{Left}
 use Rattle.fp_session_history.specs.declared.endings.Left.TheVariants.{Nothing, Several, Timing, Unsettled}
 use Rattle.fp_session_history.specs.declared.notes.SplitNote.{SplitNote}
 use Rattle.fp_session_history.specs.Clashes.{ClashesBelow}
+use Rattle.fp_session_history.specs.Divisions.{AllDivide}
 use Rattle.fp_session_history.specs.Notes.{History, Refinement, added_of, last_round, points_of}
 use Rattle.fp_session_history.specs.PrintedLeaves.{IsLeastWorth, IsOpenBelow, IsPrintedLeaf, OfLeaf}
 use Rattle.fp_session_history.specs.Splits.{AreEarnedSplits}
@@ -41,7 +41,7 @@ pub record Solution : Type 0 where
 
 -- the history that it shows
 abbrev pub history_of : Problem → WindowTable → Solution → History
-history_of p table s = record { problem = p; windows = table; trace = s.trace; tables = s.certificate.tables; spans = s.certificate.spans; unit = s.certificate.unit }
+history_of p table s = record { problem = p; windows = table; trace = s.trace; tables = s.certificate.tables; spans = s.certificate.spans; gifts = s.certificate.gifts; unit = s.certificate.unit }
 
 -- the leaves of its tree, and its splits, with the sides on their ways
 abbrev pub leaves_shown : Problem → Solution → List (Leaf Node)
@@ -106,13 +106,13 @@ IsTimely over (Several leaf shipment) = ⊤
 IsTimely over (Unsettled leaf) = over ≡ true
 
 -- a search has earned what it shows, from a plan of this cost on: its points are those that its
--- rounds added, its rounds, its splits and its leaves are earned, each split divides departures, and
--- its answer has its cause
+-- rounds added, its rounds, its splits and its leaves are earned, each split divides the departures of a
+-- shipment or, where the search has a unit, the numbers of trucks of an arc, and its answer has its cause
 pub record IsEarnedSolution (p : Problem) (table : WindowTable) (budget : Budget) (started : ℕ) (s : Solution) : Type 0 where
   pub points : s.certificate.points ≡ added_of s.trace
   pub trace : IsEarnedTrace (history_of p table s) started (stated_cost s.certificate.answer)
   pub splits : AreEarnedSplits (history_of p table s) started (stated_cost s.certificate.answer) (branches_shown p s) s.splits
-  pub divide : AllDivide p (windows_in table) (fork_of p) (branches_shown p s)
+  pub divide : AllDivide s.certificate.unit p (windows_in table) (fork_of p) (branches_shown p s)
   pub leaves : AllByRecursion (IsPrintedLeaf (history_of p table s)) (leaves_shown p s)
   pub cause : HasCause (history_of p table s) budget (leaves_shown p s) (branches_shown p s) s.left s.certificate.answer
   pub cheaper : stated_cost s.certificate.answer ≤ started

@@ -6,17 +6,17 @@ use Rattle.fp_tree.specs.declared.sides.Side.{Side}
 use Rattle.fp_tree.specs.Trees.{Branch}
 use Rattle.fp_prices.specs.declared.leaf_prices.Kind.TheVariants.{Even, Linear}
 use Rattle.fp_prices.specs.Leaves.{IsLeafValue}
-use Rattle.fp_prices_spans.specs.SpanKinds.{IsPricedValue}
+use Rattle.fp_prices_gifts.specs.GiftKinds.{IsPricedValue}
 use Rattle.fp_certificate_lines.specs.declared.certificates.Valuation.{Valuation}
 use Rattle.fp_certificate_lines.specs.Valuations.{sides_valued}
 use Rattle.fp_session_history.specs.declared.notes.SplitNote.{SplitNote}
 use Rattle.fp_session_history.specs.Notes.{History, points_of, worth_of}
 
--- the value of a leaf as it is valued: under its price and those of its sides, over the points as of the
--- price's round
+-- the value of a leaf as it is valued: under its price, with the spans and the gifts beside its table, and
+-- those of its sides, over the points as of the price's round
 abbrev pub IsValueAt : History → List Side → Valuation → ℕ → Type 0
 IsValueAt h sides v value =
-    IsPricedValue h.problem (windows_in h.windows) (points_of h v.price.round) (sides_valued v sides) h.tables h.spans v.price.kind v.price.forced value
+    IsPricedValue h.problem (windows_in h.windows) (points_of h v.price.round) (sides_valued v sides) h.tables h.spans h.gifts v.price.kind v.price.forced value
 
 -- a leaf is earned as it is valued, over the points as of the price's round: it has a value so, which is
 -- at least its values by linear and by even prices, under all its sides and under those by which it is

@@ -10,9 +10,11 @@ pub fn enough_rounds()
 {}
 
 /// A search that has earned what it shows hasn't used up its branches where it may use 2 to the
-/// power of its instance's slack.
+/// power of how often leaves can be divided: of its instance's slack, and where it has a unit, of that
+/// and the slack of the trucks together.
 ///
-/// Each split divides the departures that a shipment has left at a terminal.
+/// Each split divides the departures that a shipment has left at a terminal or, where the search has a
+/// unit, the numbers of trucks that an arc may have.
 pub fn enough_branches()
     ensures { EnoughBranches }
 {}

@@ -3,6 +3,7 @@
 mod clashes;
 mod dispatch;
 mod duals;
+mod gift_spans;
 mod local;
 mod repair;
 mod session;

@@ -21,4 +21,6 @@ mod sizes;
 mod span_certificates;
 mod tail_plans;
 mod trials;
+mod truck_certificates;
+mod way_certificates;
 mod words;

@@ -1,10 +1,10 @@
 -- What the definitions say of small trees and ways.
-use Rattle.std.proofs.Common.{◌≡◌, ℕ, Bool, true, false, List, [], ◌∷◌, length, map, refl, lit≤, lit<}
-use Rattle.std.specs.Prelude.{Option, Some, None}
-use Rattle.fp_tree.specs.declared.sides.Split.TheVariants.{ByArc, ByTime}
-use Rattle.fp_tree.specs.declared.sides.Side.TheVariants.{Without, Only, Before, From}
+use Rattle.std.proofs.Common.{◌≡◌, ℕ, ◌≤◌, Bool, true, false, List, [], ◌∷◌, length, map, refl, lit≤, lit<, arith}
+use Rattle.std.specs.Prelude.{nat_eq, Option, Some, None}
+use Rattle.fp_tree.specs.declared.sides.Split.TheVariants.{ByArc, ByTime, ByTrucks, ByWay}
+use Rattle.fp_tree.specs.declared.sides.Side.TheVariants.{Without, Only, Before, From, AtMost, MoreThan, Through}
 use Rattle.fp_tree.specs.declared.ways.Step.{Step}
-use Rattle.fp_tree.specs.Sides.{Exit, Fork, Meets}
+use Rattle.fp_tree.specs.Sides.{Exit, Fork, HasCount, Meets}
 use Rattle.fp_tree.specs.Trees.{Leaf, IsTree, splits_before, tree_branches, tree_leaves, tree_splits, with_leaf}
 use Rattle.fp_tree.specs.Ways.{way_sides, pending_on}
 
@@ -40,7 +40,17 @@ by_time : tree_leaves itself (with_leaf itself (λ x. Some (record { split = ByT
     ≡ (record { node = None; sides = Without 0 4 ∷ [] }) ∷ (record { node = None; sides = Only 0 4 9 ∷ Before 1 7 30 ∷ [] }) ∷ (record { node = None; sides = Only 0 4 9 ∷ From 1 7 30 ∷ [] }) ∷ []
 by_time = refl
 
--- The two splits of the tree after that: the first at the root, the new one below its second side.
+-- A split by trucks has the sides of at most so many trucks, and of more.
+by_trucks : tree_leaves itself (Some (record { split = ByTrucks 4 10 20 2; tail = 0 }) ∷ None ∷ None ∷ [])
+    ≡ (record { node = None; sides = AtMost 4 10 20 2 ∷ [] }) ∷ (record { node = None; sides = MoreThan 4 10 20 2 ∷ [] }) ∷ []
+by_trucks = refl
+
+-- A split by a way has the sides without the arc, and by no rival of it.
+by_way : tree_leaves itself (Some (record { split = ByWay 1 4; tail = 9 }) ∷ None ∷ None ∷ [])
+    ≡ (record { node = None; sides = Without 1 4 ∷ [] }) ∷ (record { node = None; sides = Through 1 4 ∷ [] }) ∷ []
+by_way = refl
+
+-- The two splits of the tree with the split by a time: the first at the root, the new one below its second side.
 by_time_splits : tree_branches itself (with_leaf itself (λ x. Some (record { split = ByTime 1 7 30; tail = 0 }) ∷ None ∷ None ∷ []) 1 (by_arc 0 ∷ None ∷ None ∷ []))
     ≡ (record { node = by_arc 0; sides = [] }) ∷ (record { node = Some (record { split = ByTime 1 7 30; tail = 0 }); sides = Only 0 4 9 ∷ [] }) ∷ []
 by_time_splits = refl
@@ -69,7 +79,7 @@ all_later = refl
 
 -- A leg of the shipment 0 that leaves the terminal 7 at 9 / 2 by the arc 4.
 abbrev leg : Exit
-leg = record { arc = 4; tail = 7; moment = 9 }
+leg = record { arc = 4; tail = 7; moment = 9; is_rival = λ a. nat_eq a 5 }
 
 -- `Only` asks nothing of a leg that leaves another terminal.
 elsewhere : Meets 2 0 leg (Only 0 5 8)
@@ -86,3 +96,40 @@ before_the_time = λ own left. lit< tt
 -- The sides of one shipment ask nothing of another.
 another : Meets 2 1 leg (Without 0 4)
 another = λ own. cc own
+
+-- At most 0 trucks from 3 until 5 forbid the leg at 9 / 2, whosever it is; until 4 they don't, nor
+-- by another arc, and at most 1 forbids no leg.
+in_the_run : Meets 2 0 leg (AtMost 4 3 5 0) → ⊥
+in_the_run is = let late : 10 ≤ 9 = is refl refl (lit≤ tt) in absurd (omega (arith, late))
+
+after_the_run : Meets 2 0 leg (AtMost 4 3 4 0)
+after_the_run = λ none own begun. lit≤ tt
+
+by_another_arc : Meets 2 0 leg (AtMost 5 3 5 0)
+by_another_arc = λ none own. cc own
+
+one_is_left : Meets 2 0 leg (AtMost 4 3 5 1)
+one_is_left = λ none. cc none
+
+-- By a way the shipment goes by no rival of its arc, and another shipment as it likes.
+by_a_rival : Meets 2 0 leg (Through 0 5) → ⊥
+by_a_rival meets = let rival : true ≡ false = meets refl in cc rival
+
+by_no_rival : Meets 2 0 leg (Through 0 6)
+by_no_rival = λ own. refl
+
+by_another : Meets 2 1 leg (Through 0 5)
+by_another = λ own. cc own
+
+-- Of two trucks at most 2 and more than 1 leave, and not more than 2.
+abbrev two_trucks : ℕ → ℕ → ℕ → ℕ
+two_trucks arc point until = 2
+
+two_at_most : HasCount two_trucks (AtMost 4 3 5 2)
+two_at_most = lit≤ tt
+
+more_than_one : HasCount two_trucks (MoreThan 4 3 5 1)
+more_than_one = lit< tt
+
+not_more_than_two : HasCount two_trucks (MoreThan 4 3 5 2) → ⊥
+not_more_than_two is = absurd (omega (arith, is))

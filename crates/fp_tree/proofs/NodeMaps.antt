@@ -7,17 +7,19 @@ use Rattle.std.proofs.lemmas.Option.{none-some, same_Some}
 use Rattle.fp_tree.specs.declared.sides.Side.{Side}
 use Rattle.fp_tree.specs.declared.sides.Side.TheVariants.{Only}
 use Rattle.fp_tree.specs.declared.sides.Split.{Split}
-use Rattle.fp_tree.specs.declared.sides.Split.TheVariants.{ByArc, ByTime}
+use Rattle.fp_tree.specs.declared.sides.Split.TheVariants.{ByArc, ByTime, ByTrucks, ByWay}
 use Rattle.fp_tree.specs.Sides.{Fork, HasTail, IsTailOfSplit, first, first_of_split, second, second_of_split}
 use Rattle.fp_tree.specs.Trees.{AreTrees, Branch, HaveTails, Leaf, SplitAlike, branches_of, leaves_of, tree_splits}
 use Rattle.fp_tree.proofs.Branches.{branches_at, pending_below, trees_at}
 use Rattle.fp_tree.proofs.Walks.{leaves_at}
 
--- the tail of a split by an arc is the arc's, and that of a split by a time does not count: the
--- second side is the same
+-- the tail of a split by an arc is the arc's, and that of another split does not count: the second
+-- side is the same
 second_of_split_tails : (tails : ℕ → ℕ) (split : Split) (tail other : ℕ) → IsTailOfSplit tails split tail → IsTailOfSplit tails split other → second_of_split split tail ≡ second_of_split split other
 second_of_split_tails tails (ByArc shipment arc) tail other own its = ap (λ (n : ℕ). Only shipment arc n) (own ∙ sym its)
 second_of_split_tails tails (ByTime shipment terminal at) tail other own its = refl
+second_of_split_tails tails (ByTrucks arc point until most) tail other own its = refl
+second_of_split_tails tails (ByWay shipment arc) tail other own its = refl
 
 -- nodes that split by the same, each with its arc's tail, have the same sides
 pub SplitAlike_tails : (tails : ℕ → ℕ) (o q : Option Fork) → option_map (λ (f : Fork). f.split) o ≡ option_map (λ (f : Fork). f.split) q → IfSome o (HasTail tails) → IfSome q (HasTail tails) → SplitAlike o q

@@ -1,14 +1,14 @@
 -- How many splits a tree can have, where a measure of the sides falls at both children of each
 -- split.
-use Rattle.std.proofs.Common.{◌≡◌, ℕ, ◌+◌, ◌*◌, ◌^◌, ◌<◌, ◌≤◌, List, [], ◌∷◌, ◌++◌, ◌⊎◌, ⊎_elim, length, All, ap, subst, arith}
+use Rattle.std.proofs.Common.{◌≡◌, ℕ, ◌+◌, ◌*◌, ◌^◌, ◌<◌, ◌≤◌, List, [], ◌∷◌, ◌++◌, ⊎_elim, length, All, ap, subst, arith}
 use Rattle.std.specs.Prelude.{Option, Some, None, IfSome}
 use Rattle.std.proofs.lemmas.Bool.{cases_lt}
 use Rattle.std.proofs.lemmas.List.Elements.{All-head, All-tail}
 use Rattle.std.proofs.lemmas.Nat.{pow-add, pow_below, pow_pos}
 use Rattle.fp_tree.specs.declared.sides.Side.{Side}
 use Rattle.fp_tree.specs.Sides.{Fork, first, second}
-use Rattle.fp_tree.specs.Trees.{AreTrees, Branch, FallsBelow, IsTree, branches_of, tree_branches, tree_splits}
-use Rattle.fp_tree.proofs.Branches.{branches_of-leaf, branches_of-split, fork_cases, length-branches_of, pending_below, trees_at}
+use Rattle.fp_tree.specs.Trees.{Branch, FallsBelow, branches_of, tree_branches}
+use Rattle.fp_tree.proofs.Branches.{branches_of-leaf, branches_of-split, fork_cases, pending_below}
 
 -- twice a power of two is at most each greater one
 double_pow : (a m : ℕ) → a < m → 2 * 2 ^ a ≤ 2 ^ m
@@ -28,17 +28,17 @@ module _ {X : Type 0} (fork_of : X → Option Fork) (measure : List Side → ℕ
   powers (sides ∷ pending) = 2 ^ measure sides + powers pending
 
   -- the splits and trees to come are at most as many
-  length-branches_of_le : (nodes : List X) (pending : List (List Side)) → AreTrees fork_of (length pending) nodes → All (FallsBelow fork_of measure) (branches_of fork_of pending nodes) →
+  length-branches_of_le : (nodes : List X) (pending : List (List Side)) → All (FallsBelow fork_of measure) (branches_of fork_of pending nodes) →
       length (branches_of fork_of pending nodes) + length pending ≤ powers pending
-  length-branches_of_le [] [] trees falls = omega arith
-  length-branches_of_le [] (sides ∷ pending) trees falls = absurd (cc trees)
-  length-branches_of_le (x ∷ nodes) [] trees falls = absurd trees
-  length-branches_of_le (x ∷ nodes) (sides ∷ pending) trees falls =
+  length-branches_of_le [] [] falls = omega arith
+  length-branches_of_le [] (sides ∷ pending) falls = omega (arith, length-branches_of_le [] pending falls, pow_pos (measure sides))
+  length-branches_of_le (x ∷ nodes) [] falls = omega arith
+  length-branches_of_le (x ∷ nodes) (sides ∷ pending) falls =
       ⊎_elim
       (λ (is : fork_of x ≡ None).
       let here : branches_of fork_of (sides ∷ pending) (x ∷ nodes) ≡ branches_of fork_of pending nodes = branches_of-leaf fork_of sides pending x nodes is in
       let rest : length (branches_of fork_of pending nodes) + length pending ≤ powers pending =
-      length-branches_of_le nodes pending (subst (trees_at fork_of (length pending) nodes) is trees) (subst (λ (bs : List (Branch X)). All (FallsBelow fork_of measure) bs) here falls) in
+      length-branches_of_le nodes pending (subst (λ (bs : List (Branch X)). All (FallsBelow fork_of measure) bs) here falls) in
       omega (arith, rest, ap (λ (bs : List (Branch X)). length bs) here, pow_pos (measure sides)))
       (λ (s : (f : Fork) × (fork_of x ≡ Some f)).
       let one : Branch X = record { node = x; sides = sides } in
@@ -49,7 +49,7 @@ module _ {X : Type 0} (fork_of : X → Option Fork) (measure : List Side → ℕ
       subst (λ (o : Option Fork). IfSome o (λ f. (measure (sides ++ (first f ∷ [])) < measure sides) × (measure (sides ++ (second f ∷ [])) < measure sides))) s.1
       (All-head (FallsBelow fork_of measure) one (branches_of fork_of deeper nodes) all) in
       let rest : length (branches_of fork_of deeper nodes) + length deeper ≤ powers deeper =
-      length-branches_of_le nodes deeper (subst (trees_at fork_of (length pending) nodes) s.1 trees) (All-tail (FallsBelow fork_of measure) one (branches_of fork_of deeper nodes) all) in
+      length-branches_of_le nodes deeper (All-tail (FallsBelow fork_of measure) one (branches_of fork_of deeper nodes) all) in
       omega (
         arith,
         rest,
@@ -60,7 +60,7 @@ module _ {X : Type 0} (fork_of : X → Option Fork) (measure : List Side → ℕ
       (fork_cases (fork_of x))
 
   -- so a tree has fewer splits than two to the measure of no sides
-  pub length-tree_splits_lt : (nodes : List X) → IsTree fork_of nodes → All (FallsBelow fork_of measure) (tree_branches fork_of nodes) → length (tree_splits fork_of nodes) < 2 ^ measure []
-  length-tree_splits_lt nodes tree falls =
-      let le : length (tree_branches fork_of nodes) + length {A = List Side} ([] ∷ []) ≤ powers ([] ∷ []) = length-branches_of_le nodes ([] ∷ []) tree falls in
-      omega (arith, le, length-branches_of fork_of nodes ([] ∷ []) tree)
+  pub length-tree_branches_lt : (nodes : List X) → All (FallsBelow fork_of measure) (tree_branches fork_of nodes) → length (tree_branches fork_of nodes) < 2 ^ measure []
+  length-tree_branches_lt nodes falls =
+      let le : length (tree_branches fork_of nodes) + length {A = List Side} ([] ∷ []) ≤ powers ([] ∷ []) = length-branches_of_le nodes ([] ∷ []) falls in
+      omega (arith, le)

@@ -1,11 +1,11 @@
 -- Trees of splits as lists of nodes in preorder: a split, the nodes below its first side, the nodes
 -- below its second. X is any type of nodes. `fork_of` tells at what a node splits, and None at a
 -- leaf.
-use Rattle.std.specs.Prelude.{ℕ, zero, suc, ◌≡◌, ◌≢◌, ◌<◌, List, [], ◌∷◌, ◌++◌, filter, is_some, Option, Some, None, IfSome, slice_index_or}
+use Rattle.std.specs.Prelude.{ℕ, zero, suc, ◌≡◌, ◌≢◌, ◌<◌, List, [], ◌∷◌, ◌++◌, filter, is_some, Option, Some, None, IfSome, slice_index_or, false}
 use Rattle.std.specs.List.{AllByRecursion}
 use Rattle.fp_base_lists.specs.Elements.{AnyByRecursion}
 use Rattle.fp_tree.specs.declared.sides.Side.{Side}
-use Rattle.fp_tree.specs.Sides.{Exit, Fork, HasTail, Obeys, first, second}
+use Rattle.fp_tree.specs.Sides.{AreCounts, Counts, Exit, Fork, HasCounts, HasTail, Obeys, first, second}
 
 -- A node that is a leaf, with the sides on its way from the root.
 pub record Leaf (X : Type 0) : Type 0 where
@@ -90,17 +90,25 @@ with_leaf {X} fork_of change zero (x ∷ nodes) =
 with_leaf {X} fork_of change (suc k) (x ∷ nodes) =
     elim (fork_of x) as (λ o. List X) [ None ↦ x ∷ with_leaf fork_of change k nodes | Some f ↦ x ∷ with_leaf fork_of change (suc k) nodes ]
 
--- The legs of one shipment go by arcs whose tails are as told, and no two of them leave the same
--- terminal.
+-- The arc of neither of two legs is a rival of the other's.
+pub record AreNoRivals (e f : Exit) : Type 0 where
+  pub one : e.is_rival f.arc ≡ false
+  pub other : f.is_rival e.arc ≡ false
+
+-- The legs of one shipment go by arcs whose tails are as told, no two of them leave the same terminal,
+-- and none of their arcs is a rival of one of them.
 abbrev pub LeaveApart : (ℕ → ℕ) → List Exit → Type 0
 LeaveApart tails [] = Unit {0}
-LeaveApart tails (e ∷ exits) = (e.tail ≡ tails e.arc) × AllByRecursion (λ (f : Exit). f.tail ≢ e.tail) exits × LeaveApart tails exits
+LeaveApart tails (e ∷ exits) =
+    (e.tail ≡ tails e.arc) × AllByRecursion (λ (f : Exit). f.tail ≢ e.tail) exits × LeaveApart tails exits × (e.is_rival e.arc ≡ false) × AllByRecursion (AreNoRivals e) exits
 
 -- Each split by an arc has the tail of its arc.
 abbrev pub HaveTails : {X : Type 0} → (ℕ → ℕ) → (X → Option Fork) → List X → Type 0
 HaveTails tails fork_of nodes = AllByRecursion (λ x. IfSome (fork_of x) (HasTail tails)) nodes
 
--- Each way of sending shipments, over any denominator, obeys all sides of some leaf.
+-- Each way of sending shipments, over any denominator and with trucks that are counted in any way,
+-- obeys all sides of some leaf, and has so many trucks as they ask.
 abbrev pub CoversAll : {X : Type 0} → (ℕ → ℕ) → List (Leaf X) → Type 0
 CoversAll tails leaves =
-    (d : ℕ) (routes : List (List Exit)) → ((k : ℕ) → LeaveApart tails (slice_index_or routes k [])) → AnyByRecursion (λ l. Obeys d routes l.sides) leaves
+    (d : ℕ) (routes : List (List Exit)) (counts : Counts) → ((k : ℕ) → LeaveApart tails (slice_index_or routes k [])) → AreCounts d routes counts →
+    AnyByRecursion (λ l. Obeys d routes l.sides × HasCounts counts l.sides) leaves

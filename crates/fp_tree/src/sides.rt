@@ -4,7 +4,9 @@ ghost use Rattle.fp_tree.specs.Sides.{first_of_split, second_of_split};
 
 /// What divides the plans of a search in two. Shipments, arcs and terminals go by their numbers.
 ///
-/// Since a route leaves a terminal at most once, each plan meets one of the two sides of a split.
+/// Since a route leaves a terminal at most once, each plan meets one of the two sides of a split by
+/// an arc or by a time; and since it enters one at most once, of one by a way. It has so many trucks by
+/// an arc in a run of times, or more.
 #[derive(Clone, Copy, PartialEq, Eq, Debug)]
 pub enum Split {
     /// By whether the shipment uses the arc.
@@ -18,9 +20,23 @@ pub enum Split {
         terminal: u32,
         at: u32,
     },
+    /// By whether at most so many trucks leave by the arc at `point` or later and before `until`.
+    ByTrucks {
+        arc: u32,
+        point: u32,
+        until: u32,
+        most: u32,
+    },
+    /// By whether the shipment goes by the arc, like `ByArc`; where it does, it goes by no other one that
+    /// leaves the same terminal or enters the same one.
+    ByWay {
+        shipment: u32,
+        arc: u32,
+    },
 }
 
-/// What one side of a split asks of the legs of a shipment. The other shipments are free.
+/// What one side of a split asks of the legs of a shipment, where the other shipments are free, or
+/// of the trucks that leave by an arc.
 #[derive(Clone, Copy, PartialEq, Eq, Debug)]
 pub enum Side {
     /// No leg goes by the arc.
@@ -46,10 +62,33 @@ pub enum Side {
         terminal: u32,
         at: u32,
     },
+    /// At most so many trucks leave by the arc at `point` or later and before `until`. At most 0
+    /// forbids each shipment to leave so.
+    AtMost {
+        arc: u32,
+        point: u32,
+        until: u32,
+        trucks: u32,
+    },
+    /// More than so many trucks leave by the arc at `point` or later and before `until`. It asks
+    /// nothing of a single leg.
+    MoreThan {
+        arc: u32,
+        point: u32,
+        until: u32,
+        trucks: u32,
+    },
+    /// No leg goes by a rival of the arc: by another arc that leaves the same terminal, or enters the same
+    /// one.
+    Through {
+        shipment: u32,
+        arc: u32,
+    },
 }
 
 impl Split {
-    /// The first side: `Without` of a split by an arc, `Before` of one by a time.
+    /// The first side: `Without` of a split by an arc or by a way, `Before` of one by a time, `AtMost` of
+    /// one by trucks.
     pub fn first(self) -> Side
         ensures { result ≡ first_of_split self }
     {
@@ -64,12 +103,25 @@ impl Split {
                 terminal,
                 at,
             },
+            Split::ByTrucks {
+                arc,
+                point,
+                until,
+                most,
+            } => Side::AtMost {
+                arc,
+                point,
+                until,
+                trucks: most,
+            },
+            Split::ByWay { shipment, arc } => Side::Without { shipment, arc },
         }
     }
 
-    /// The second side: `Only` of a split by an arc, `From` of one by a time.
+    /// The second side: `Only` of a split by an arc, `From` of one by a time, `MoreThan` of one by
+    /// trucks, `Through` of one by a way.
     ///
-    /// `tail` is the terminal that the arc leaves. A split by a time does not read it.
+    /// `tail` is the terminal that the arc leaves. Only a split by an arc reads it.
     pub fn second(self, tail: u32) -> Side
         ensures { result ≡ second_of_split self tail }
     {
@@ -88,6 +140,18 @@ impl Split {
                 terminal,
                 at,
             },
+            Split::ByTrucks {
+                arc,
+                point,
+                until,
+                most,
+            } => Side::MoreThan {
+                arc,
+                point,
+                until,
+                trucks: most,
+            },
+            Split::ByWay { shipment, arc } => Side::Through { shipment, arc },
         }
     }
 }

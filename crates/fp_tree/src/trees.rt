@@ -197,7 +197,9 @@ impl<T: Drop> Tree<T> {
 /// That the nodes are one tree, and that its leaves cover all plans.
 ///
 /// Where each tail handed in is that of its arc, each list of legs, over any denominator, in which
-/// a shipment leaves no terminal twice obeys all sides of some leaf. The call does nothing.
+/// a shipment leaves no terminal twice, and goes by no two arcs that are rivals, obeys all sides of some
+/// leaf. However the trucks are counted, if only some are where a leg leaves, there are so many of them as
+/// the sides of that leaf ask. The call does nothing.
 pub fn leaves_cover_all<T>(tree: &Tree<T>)
     ensures tree { IsTree fork_of tree.now }
     ensures covers { (tails : ℕ → ℕ) → HaveTails tails fork_of tree.now

@@ -8,9 +8,10 @@ from .line_fields import count_fault, digit_faults, is_number, is_within, name_f
 from .near_names import near_kind
 
 ANSWERS = ("optimal", "unfinished", "infeasible", "direct")
-GREATEST = 2**127 - 1
+GREATEST, GREATEST_NUMBER = 2**127 - 1, 2**32 - 1
 LATEST_TIME, LATEST_ROUND, FASTEST, GREATEST_SCALE, MOST_SPLITS = LATEST, 4000, 10_000_000, 10**9, 100_000
 TIME, FIGURE = (0, LATEST_TIME), (0, GREATEST)
+RUN = (("POINT", TIME), ("UNTIL", (0, LATEST_TIME + 1)))
 ENDS = (("FROM", "arc"), ("TO", "arc"))
 
 # The fields of each line after its words.
@@ -26,11 +27,14 @@ LINES = {
     "point": (("TERMINAL", "terminal"), ("TIME", TIME), ("ROUND", (1, LATEST_ROUND))),
     "table": (("ID", FIGURE),),
     "share": (*ENDS, ("POINT", TIME), ("V", FIGURE)),
-    "span": (*ENDS, ("POINT", TIME), ("UNTIL", (0, LATEST_TIME + 1)), ("MONEY", FIGURE), ("CHARGE", FIGURE)),
+    "span": (*ENDS, *RUN, ("MONEY", FIGURE), ("CHARGE", FIGURE)),
     "weight": (("SHIPMENT", "shipment"), ("W", FIGURE)),
     "group": (("MOMENT", TIME),),
+    "gift": (*ENDS, *RUN, ("SIDE", ("least", "most")), ("AMOUNT", FIGURE)),
     "split,arc": (("SHIPMENT", "shipment"), *ENDS),
     "split,time": (("SHIPMENT", "shipment"), ("TERMINAL", "terminal"), ("AT", TIME)),
+    "split,trucks": (*ENDS, *RUN, ("N", (0, GREATEST_NUMBER))),
+    "split,way": (("SHIPMENT", "shipment"), *ENDS),
     "leaf": (("KIND", (1, GREATEST, "linear", "even")), ("ROUND", (0, LATEST_ROUND)), ("MODE", ("plain", "forced"))),
     "end": (),
 }  # fmt: skip
@@ -38,7 +42,7 @@ LINES = {
 FURTHER = {"leaf": (("SIDES", (0, MOST_SPLITS)),)}
 UNDER_DIRECT = ("leg", "truck", "end")
 # The lines with a number whose limit is another number, or hangs on the instance.
-LIMITED = ("scale", "span", "leaf")
+LIMITED = ("scale", "span", "gift", "split", "leaf")
 
 
 def words_of_line(record):
@@ -54,7 +58,12 @@ class CertificateReading:
         """The draft is what the instance's records gave, and the total what its shipments cost alone, None where it has faults."""
         self.draft, self.total = draft, total or 0
         self.answer, self.seen, self.firsts = None, set(), {}
-        self.tables, self.has_share, self.has_span, self.has_group = 0, False, False, False
+        self.tables = 0
+        self.begin_table()
+
+    def begin_table(self):
+        """Goes on with a table in which nothing stands."""
+        self.has_share, self.has_span, self.has_group, self.has_gift = False, False, False, False
 
     def has_ended(self):
         return "end" in self.seen
@@ -82,7 +91,7 @@ class CertificateReading:
         yield from (Fault(25, *it) for it in name_faults(self.draft, fields, f"no instance stands before the answer: {ORDER}"))
         yield from (Fault(28, words) for words in range_faults(fields))
         if record.kind in LIMITED:
-            yield from self.limit_faults(fields)
+            yield from self.limit_faults(record.kind, fields)
 
     def take(self, record):
         """Goes on with what a line gives or seems to mean."""
@@ -94,18 +103,21 @@ class CertificateReading:
         self.seen.add(kind)
         self.firsts.setdefault(GROUPS[kind], record)
         if kind == "table":
-            self.tables, self.has_share, self.has_span, self.has_group = self.tables + 1, False, False, False
+            self.tables += 1
+            self.begin_table()
         elif kind in ("share", "span"):
             self.tables, self.has_share, self.has_span, self.has_group = max(self.tables, 1), True, kind == "span", False
         elif kind == "group":
             self.has_group = True
+        elif kind == "gift":
+            self.tables, self.has_gift = max(self.tables, 1), True
 
     def kind_fault(self, record):
         hint = certificate_kind_hint(record)
         words = f"the first field is {shown(record.fields[0])}: no line of a certificate begins with it"
         if record.kind in ("answer", "split"):
             second = shown(record.fields[1]) if len(record.fields) > 1 else "missing"
-            names = f"none of {', '.join(ANSWERS)}" if record.kind == "answer" else "neither arc nor time"
+            names = f"none of {', '.join(ANSWERS)}" if record.kind == "answer" else "none of arc, time, trucks, way"
             words = f"the second field is {second}: {names}"
         return Fault(21, words, hint, hint or None)
 
@@ -135,8 +147,10 @@ class CertificateReading:
         """Why a line of a table can't stand here; empty where it can."""
         if record.kind == "table" and is_number(record.fields[1]) and number_of(record.fields[1]) != self.tables + 1:
             return f"tables are numbered 1, 2, 3: this has to be table {self.tables + 1}"
-        if record.kind in ("share", "span") and not self.tables:
+        if record.kind in ("share", "span", "gift") and not self.tables:
             return f"a {record.kind} stands in a table, and there is none before it"
+        if record.kind in ("share", "span", "weight", "group") and self.has_gift:
+            return f"the {record.kind}s of a table stand before its gifts"
         if record.kind == "share" and self.has_span:
             return "the shares of a table stand before its spans"
         if record.kind == "weight" and not self.has_share:
@@ -147,14 +161,14 @@ class CertificateReading:
             return "a group stands in a span of its table, and there is none before it"
         return ""
 
-    def limit_faults(self, fields):
+    def limit_faults(self, kind, fields):
         """The faults of numbers that are above or below another number, or too large for the instance."""
         numbers = {name: number_of(text) for name, what, text in fields if takes_number(what) and is_number(text) and is_within(what, text)}
         if {"POINT", "UNTIL"} <= numbers.keys() and numbers["UNTIL"] <= numbers["POINT"]:
             yield Fault(28, "UNTIL isn't after POINT")
         if numbers.get("KIND", 0) > self.tables:
             yield Fault(28, f"there is no table {numbers['KIND']}", cause=("table", numbers["KIND"]))
-        if is_too_large(self.total, numbers.get("N", 0)):
+        if kind == "scale" and is_too_large(self.total, numbers.get("N", 0)):
             yield Fault(28, "the scale doesn't fit: the weight of the instance at it is above 2^127 - 1")
 
 

@@ -106,7 +106,7 @@ fn bound_root<D: Deadline>(
     let effort = &PriceEffort::ROOT;
     match improve_root(resources, &instance, &windows, network, effort, &mut prices)? {
         Improved::Priced { price, value, .. } => {
-            let (tables, lists, _) = prices.into_parts();
+            let (tables, lists, _, _) = prices.into_parts();
             let spans = taken_beside(alloc, lists, price.kind);
             Ok(Shown::Bound {
                 instance,

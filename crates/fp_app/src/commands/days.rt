@@ -32,7 +32,7 @@ pub fn search_day<C: Clock, N: Sink>(
     requires tracked { AreTracked instance present }
     requires few { length present.legs ≤ MOST_KEPT }
     requires budget { IsBudget options.budget }
-    ensures shown { IfOk result (ShowsDay (within options.budget (has_shown options.seconds (C.moment clock.new) (C.faults clock.old) (C.faults clock.new))) options.spans (record { instance = instance; day = present })) }
+    ensures shown { IfOk result (ShowsDay (within options.budget (has_shown options.seconds (C.moment clock.new) (C.faults clock.old) (C.faults clock.new)) options.spans) (record { instance = instance; day = present })) }
     ensures printable { IfOk result IsPrintable }
     ensures noted { MayNote options.notes (IsNotedFor (left_problem instance present) (going_on instance present) (N.taken notes.old) (N.taken notes.new)) (N.taken notes.old) (N.taken notes.new) }
 {

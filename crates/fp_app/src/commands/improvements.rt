@@ -49,7 +49,7 @@ pub fn improve_shown<C: Clock, N: Sink>(
     requires length { length bytes.items ≤ CHECK_LIMIT }
     requires budget { IsBudget options.budget }
     requires scale { (1 ≤ scale) × (scale ≤ GREATEST_SCALE) }
-    ensures shown { IfOk result (ShowsImproveOf (within options.budget (has_shown options.seconds (C.moment clock.new) (C.faults clock.old) (C.faults clock.new))) scale options.spans bytes.items) }
+    ensures shown { IfOk result (ShowsImproveOf (within options.budget (has_shown options.seconds (C.moment clock.new) (C.faults clock.old) (C.faults clock.new)) options.spans) scale bytes.items) }
     ensures printable { IfOk result IsPrintable }
     ensures noted { MayNote options.notes (AreImproveNotes scale bytes.items (N.taken notes.old) (N.taken notes.new)) (N.taken notes.old) (N.taken notes.new) }
 {
@@ -81,7 +81,7 @@ fn improve_after<C: Clock, N: Sink>(
     requires few { length lines.now < 2 ^ 32 - 1 }
     requires budget { IsBudget options.budget }
     requires scale { (1 ≤ scale) × (scale ≤ GREATEST_SCALE) }
-    ensures shown { IfOk result (λ shown. ShowsOfAnswer (Of scale) place lines.now shown (λ p wanted c. ShowsImprove (within options.budget (has_shown options.seconds (C.moment clock.new) (C.faults clock.old) (C.faults clock.new))) options.spans p wanted c shown)) }
+    ensures shown { IfOk result (λ shown. ShowsOfAnswer (Of scale) place lines.now shown (λ p wanted c. ShowsImprove (within options.budget (has_shown options.seconds (C.moment clock.new) (C.faults clock.old) (C.faults clock.new)) options.spans) p wanted c shown)) }
     ensures printable { IfOk result IsPrintable }
     ensures noted { MayNote options.notes (GivesOfAnswer (Of scale) place lines.now (λ p wanted c. IsNotedFor p wanted (N.taken notes.old) (N.taken notes.new))) (N.taken notes.old) (N.taken notes.new) }
 {
@@ -120,7 +120,7 @@ fn improve_alone<C: Clock, N: Sink>(
     requires budget { IsBudget options.budget }
     requires scale { (1 ≤ scale) × (scale ≤ GREATEST_SCALE) }
     ensures shown { IfOk result (λ shown. (input : List ℕ) → records_of input ≡ lines.now →
-        OfCertified scale input shown (λ x. ShowsImprove (within options.budget (has_shown options.seconds (C.moment clock.new) (C.faults clock.old) (C.faults clock.new))) options.spans x.instance every x.certificate shown)) }
+        OfCertified scale input shown (λ x. ShowsImprove (within options.budget (has_shown options.seconds (C.moment clock.new) (C.faults clock.old) (C.faults clock.new)) options.spans) x.instance every x.certificate shown)) }
     ensures printable { IfOk result IsPrintable }
     ensures noted { (input : List ℕ) → records_of input ≡ lines.now →
         MayNote options.notes ((x : CertifiedInstance) × (certified_at scale input ≡ Ok x) × IsNotedFor x.instance every (N.taken notes.old) (N.taken notes.new)) (N.taken notes.old) (N.taken notes.new) }
@@ -195,7 +195,7 @@ fn search_told<C: Clock, N: Sink>(
     requires checkable { CanBeChecked instance certificate.now }
     requires budget { IsBudget options.budget }
     ensures shown { (wanted : Wanted) → AreWindowsFor instance wanted windows →
-        IfOk result (ShowsImprove (within options.budget (has_shown options.seconds (C.moment clock.new) (C.faults clock.old) (C.faults clock.new))) options.spans instance wanted certificate.now) }
+        IfOk result (ShowsImprove (within options.budget (has_shown options.seconds (C.moment clock.new) (C.faults clock.old) (C.faults clock.new)) options.spans) instance wanted certificate.now) }
     ensures printable { IfOk result IsPrintable }
     ensures noted { MayNote options.notes (TookNotes instance windows (N.taken notes.old) (N.taken notes.new)) (N.taken notes.old) (N.taken notes.new) }
 {
@@ -220,7 +220,7 @@ pub fn solve_from<C: Clock, N: Sink>(
 ) -> Result<Solved, NoMemory>
     requires plan { IsPlan instance.now 1 plan }
     requires budget { IsBudget options.budget }
-    ensures searched { IfOk result (IsSearched instance.now (every_from plan) (within options.budget (has_shown options.seconds (C.moment clock.new) (C.faults clock.old) (C.faults clock.new))) options.spans) }
+    ensures searched { IfOk result (IsSearched instance.now (every_from plan) (within options.budget (has_shown options.seconds (C.moment clock.new) (C.faults clock.old) (C.faults clock.new)) options.spans)) }
     ensures later { IsLater (C.moment clock.old) (C.moment clock.new) (C.faults clock.old) (C.faults clock.new) }
     ensures checkable { IfOk result (λ solved. CanBeChecked instance.now solved.certificate) }
     ensures noted { MayNote options.notes (IsNotedFor instance.now every (N.taken notes.old) (N.taken notes.new)) (N.taken notes.old) (N.taken notes.new) }

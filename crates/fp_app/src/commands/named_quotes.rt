@@ -58,7 +58,7 @@ pub fn named_quote_shown<C: Clock, N: Sink>(
 ) -> Result<Shown, NoMemory>
     requires length { length bytes.items ≤ INSTANCE_LIMIT }
     requires budget { IsBudget options.budget }
-    ensures shown { IfOk result (λ shown. OfNamed name.now bytes.items shown (λ p. ShowsNamedQuote (within options.budget (has_shown (halved options.seconds) (C.moment clock.new) (C.faults clock.old) (C.faults clock.new))) options.spans name.now p shown)) }
+    ensures shown { IfOk result (λ shown. OfNamed name.now bytes.items shown (λ p. ShowsNamedQuote (within options.budget (has_shown (halved options.seconds) (C.moment clock.new) (C.faults clock.old) (C.faults clock.new)) options.spans) name.now p shown)) }
     ensures printable { IfOk result IsPrintable }
     ensures noted { MayNote options.notes ((p : Problem) × (k : ℕ) × (named_in name.now bytes.items ≡ Ok p) × (shipment_named p name.now ≡ Some k) × AreQuoteNotes (with_last_of p k) (N.taken notes.old) (N.taken notes.new)) (N.taken notes.old) (N.taken notes.new) }
 {
@@ -106,7 +106,7 @@ fn quote_number<C: Clock, N: Sink>(
 ) -> Result<Shown, NoMemory>
     requires number { number < length instance.shipments }
     requires budget { IsBudget options.budget }
-    ensures shown { IfOk result (λ shown. (name : List ℕ) → shipment_named instance name ≡ Some number → ShowsNamedQuote (within options.budget (has_shown (halved options.seconds) (C.moment clock.new) (C.faults clock.old) (C.faults clock.new))) options.spans name instance shown) }
+    ensures shown { IfOk result (λ shown. (name : List ℕ) → shipment_named instance name ≡ Some number → ShowsNamedQuote (within options.budget (has_shown (halved options.seconds) (C.moment clock.new) (C.faults clock.old) (C.faults clock.new)) options.spans) name instance shown) }
     ensures printable { IfOk result IsPrintable }
     ensures noted { MayNote options.notes (AreQuoteNotes (with_last_of instance number) (N.taken notes.old) (N.taken notes.new)) (N.taken notes.old) (N.taken notes.new) }
 {
@@ -135,7 +135,7 @@ fn quote_moved<C: Clock, N: Sink>(
     requires shipment { 1 ≤ length instance.shipments }
     requires exists { PlanExists instance }
     requires budget { IsBudget options.budget }
-    ensures shown { IfOk result (ShowsLastQuote (within options.budget (has_shown (halved options.seconds) (C.moment clock.new) (C.faults clock.old) (C.faults clock.new))) options.spans instance) }
+    ensures shown { IfOk result (ShowsLastQuote (within options.budget (has_shown (halved options.seconds) (C.moment clock.new) (C.faults clock.old) (C.faults clock.new)) options.spans) instance) }
     ensures printable { IfOk result IsPrintable }
     ensures noted { MayNote options.notes (AreQuoteNotes instance (N.taken notes.old) (N.taken notes.new)) (N.taken notes.old) (N.taken notes.new) }
 {

@@ -37,7 +37,7 @@ pub fn quote_shown<C: Clock, N: Sink>(
 ) -> Result<Shown, NoMemory>
     requires length { length bytes.items ≤ INSTANCE_LIMIT }
     requires budget { IsBudget options.budget }
-    ensures shown { IfOk result (λ shown. OfQuoted bytes.items shown (λ p. ShowsQuote (within options.budget (has_shown (halved options.seconds) (C.moment clock.new) (C.faults clock.old) (C.faults clock.new))) options.spans p shown)) }
+    ensures shown { IfOk result (λ shown. OfQuoted bytes.items shown (λ p. ShowsQuote (within options.budget (has_shown (halved options.seconds) (C.moment clock.new) (C.faults clock.old) (C.faults clock.new)) options.spans) p shown)) }
     ensures printable { IfOk result IsPrintable }
     ensures noted { MayNote options.notes ((p : Problem) × (quoted_in bytes.items ≡ Ok p) × AreQuoteNotes p (N.taken notes.old) (N.taken notes.new)) (N.taken notes.old) (N.taken notes.new) }
 {
@@ -70,7 +70,7 @@ fn quote_last<C: Clock, N: Sink>(
 ) -> Result<Shown, NoMemory>
     requires shipment { 1 ≤ length instance.shipments }
     requires budget { IsBudget options.budget }
-    ensures shown { IfOk result (ShowsQuote (within options.budget (has_shown (halved options.seconds) (C.moment clock.new) (C.faults clock.old) (C.faults clock.new))) options.spans instance) }
+    ensures shown { IfOk result (ShowsQuote (within options.budget (has_shown (halved options.seconds) (C.moment clock.new) (C.faults clock.old) (C.faults clock.new)) options.spans) instance) }
     ensures printable { IfOk result IsPrintable }
     ensures noted { MayNote options.notes (AreQuoteNotes instance (N.taken notes.old) (N.taken notes.new)) (N.taken notes.old) (N.taken notes.new) }
 {
@@ -103,7 +103,7 @@ pub fn solve_without_last<C: Clock, N: Sink>(
     requires shipment { 1 ≤ length instance.now.shipments }
     requires exists { PlanExists instance.now }
     requires budget { IsBudget options.budget }
-    ensures searched { IfOk result (IsSearched (without_last_of instance.now) every (within options.budget (has_shown options.seconds (C.moment clock.new) (C.faults clock.old) (C.faults clock.new))) options.spans) }
+    ensures searched { IfOk result (IsSearched (without_last_of instance.now) every (within options.budget (has_shown options.seconds (C.moment clock.new) (C.faults clock.old) (C.faults clock.new)) options.spans)) }
     ensures later { IsLater (C.moment clock.old) (C.moment clock.new) (C.faults clock.old) (C.faults clock.new) }
     ensures checkable { IfOk result (λ solved. CanBeChecked (without_last_of instance.now) solved.certificate) }
     ensures noted { MayNote options.notes (IsNotedFor (without_last_of instance.now) every (N.taken notes.old) (N.taken notes.new)) (N.taken notes.old) (N.taken notes.new) }

@@ -35,7 +35,7 @@ pub fn replan_shown<C: Clock, N: Sink>(
 ) -> Result<Shown, NoMemory>
     requires length { length bytes.items ≤ INSTANCE_LIMIT }
     requires budget { IsBudget options.budget }
-    ensures shown { IfOk result (ShowsTail (within options.budget (has_shown options.seconds (C.moment clock.new) (C.faults clock.old) (C.faults clock.new))) options.spans bytes.items) }
+    ensures shown { IfOk result (ShowsTail (within options.budget (has_shown options.seconds (C.moment clock.new) (C.faults clock.old) (C.faults clock.new)) options.spans) bytes.items) }
     ensures printable { IfOk result IsPrintable }
     ensures noted { MayNote options.notes (AreTailNotes bytes.items (N.taken notes.old) (N.taken notes.new)) (N.taken notes.old) (N.taken notes.new) }
 {
@@ -66,7 +66,7 @@ fn search_keeping<C: Clock, N: Sink>(
     requires kept { AreKept instance kept.items }
     requires few { length kept.items ≤ MOST_KEPT }
     requires budget { IsBudget options.budget }
-    ensures shown { IfOk result (ShowsReplan (within options.budget (has_shown options.seconds (C.moment clock.new) (C.faults clock.old) (C.faults clock.new))) options.spans (record { instance = instance; kept = kept.items })) }
+    ensures shown { IfOk result (ShowsReplan (within options.budget (has_shown options.seconds (C.moment clock.new) (C.faults clock.old) (C.faults clock.new)) options.spans) (record { instance = instance; kept = kept.items })) }
     ensures printable { IfOk result IsPrintable }
     ensures noted { MayNote options.notes (IsNotedFor instance (keeping kept.items) (N.taken notes.old) (N.taken notes.new)) (N.taken notes.old) (N.taken notes.new) }
 {
@@ -97,7 +97,7 @@ fn solve_keeping<C: Clock, N: Sink>(
     requires few { length kept.now ≤ MOST_KEPT }
     requires first { IsFirstPlan instance.now (keeping kept.now) first }
     requires budget { IsBudget options.budget }
-    ensures searched { IfOk result (IsSearched instance.now (keeping kept.now) (within options.budget (has_shown options.seconds (C.moment clock.new) (C.faults clock.old) (C.faults clock.new))) options.spans) }
+    ensures searched { IfOk result (IsSearched instance.now (keeping kept.now) (within options.budget (has_shown options.seconds (C.moment clock.new) (C.faults clock.old) (C.faults clock.new)) options.spans)) }
     ensures checkable { IfOk result (λ solved. CanBeChecked instance.now solved.certificate) }
     ensures noted { MayNote options.notes (IsNotedFor instance.now (keeping kept.now) (N.taken notes.old) (N.taken notes.new)) (N.taken notes.old) (N.taken notes.new) }
 {

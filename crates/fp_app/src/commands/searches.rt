@@ -46,7 +46,7 @@ pub fn plan_shown<C: Clock, N: Sink>(
     requires length { length bytes.items ≤ INSTANCE_LIMIT }
     requires budget { IsBudget options.budget }
     requires scale { (1 ≤ scale) × (scale ≤ GREATEST_SCALE) }
-    ensures shown { IfOk result (λ shown. OfScaled scale bytes.items shown (λ p. ShowsSearch (within options.budget (has_shown options.seconds (C.moment clock.new) (C.faults clock.old) (C.faults clock.new))) options.spans p shown)) }
+    ensures shown { IfOk result (λ shown. OfScaled scale bytes.items shown (λ p. ShowsSearch (within options.budget (has_shown options.seconds (C.moment clock.new) (C.faults clock.old) (C.faults clock.new)) options.spans) p shown)) }
     ensures printable { IfOk result IsPrintable }
     ensures noted { MayNote options.notes ((p : Problem) × (instance_at scale bytes.items ≡ Ok p) × IsNotedFor p every (N.taken notes.old) (N.taken notes.new)) (N.taken notes.old) (N.taken notes.new) }
 {
@@ -65,7 +65,7 @@ fn search_plans<C: Clock, N: Sink>(
     instance: Instance,
 ) -> Result<Shown, NoMemory>
     requires { IsBudget options.budget }
-    ensures shown { IfOk result (ShowsSearch (within options.budget (has_shown options.seconds (C.moment clock.new) (C.faults clock.old) (C.faults clock.new))) options.spans instance) }
+    ensures shown { IfOk result (ShowsSearch (within options.budget (has_shown options.seconds (C.moment clock.new) (C.faults clock.old) (C.faults clock.new)) options.spans) instance) }
     ensures printable { IfOk result IsPrintable }
     ensures noted { MayNote options.notes (IsNotedFor instance every (N.taken notes.old) (N.taken notes.new)) (N.taken notes.old) (N.taken notes.new) }
 {
@@ -93,7 +93,7 @@ pub fn solve<C: Clock, N: Sink>(
 ) -> Result<Solved, NoMemory>
     requires time { AllInTime instance.now }
     requires budget { IsBudget options.budget }
-    ensures searched { IfOk result (IsSearched instance.now every (within options.budget (has_shown options.seconds (C.moment clock.new) (C.faults clock.old) (C.faults clock.new))) options.spans) }
+    ensures searched { IfOk result (IsSearched instance.now every (within options.budget (has_shown options.seconds (C.moment clock.new) (C.faults clock.old) (C.faults clock.new)) options.spans)) }
     ensures later { IsLater (C.moment clock.old) (C.moment clock.new) (C.faults clock.old) (C.faults clock.new) }
     ensures checkable { IfOk result (λ solved. CanBeChecked instance.now solved.certificate) }
     ensures noted { MayNote options.notes (IsNotedFor instance.now every (N.taken notes.old) (N.taken notes.new)) (N.taken notes.old) (N.taken notes.new) }
@@ -119,7 +119,7 @@ pub fn search_from<C: Clock, N: Sink>(
     requires within { PlanLiesWithin (windows_in windows) 1 start }
     requires budget { IsBudget options.budget }
     ensures searched { (wanted : Wanted) → AreWindowsFor instance.now wanted windows → IsFirstPlan instance.now wanted start →
-        IfOk result (IsSearched instance.now wanted (within options.budget (has_shown options.seconds (C.moment clock.new) (C.faults clock.old) (C.faults clock.new))) options.spans) }
+        IfOk result (IsSearched instance.now wanted (within options.budget (has_shown options.seconds (C.moment clock.new) (C.faults clock.old) (C.faults clock.new)) options.spans)) }
     ensures later { IsLater (C.moment clock.old) (C.moment clock.new) (C.faults clock.old) (C.faults clock.new) }
     ensures checkable { IfOk result (λ solved. CanBeChecked instance.now solved.certificate) }
     ensures noted { MayNote options.notes (TookNotes instance.now windows (N.taken notes.old) (N.taken notes.new)) (N.taken notes.old) (N.taken notes.new) }

@@ -61,7 +61,7 @@ pub fn trial_shown(
 #[tactic(auto, using(crate::proofs::Verdicts::IsCheckOutcome_accepted))]
 fn solve_and_check(alloc: Global, instance: &Instance) -> Result<(Solved, CheckOutcome), NoMemory>
     requires { AllInTime instance.now }
-    ensures searched { IfOk result (λ tried. IsSearched instance.now every trial_allowance false tried.0) }
+    ensures searched { IfOk result (λ tried. IsSearched instance.now every trial_allowance tried.0) }
     ensures named { IfOk result (λ tried. AnswerExists instance.now tried.0.certificate.answer) }
     ensures outcome { IfOk result (λ tried. IsCheckOutcome instance.now tried.0.certificate tried.1) }
     ensures accepted { IfOk result (λ tried. tried.1 ≡ None) }

@@ -29,6 +29,7 @@ fn timetable_of(
         points: Vec::new(alloc),
         tables: Vec::new(alloc),
         spans: Vec::new(alloc),
+        gifts: Vec::new(alloc),
         tree: Vec::new(alloc),
     }
 }

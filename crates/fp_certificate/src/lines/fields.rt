@@ -1,12 +1,12 @@
 //! The numbers in the fields of a line that is read.
-ghost use Rattle.std.specs.Prelude.{◌≡◌, ◌&&◌, true, false, Some, None, MatchOption, MatchResult};
+ghost use Rattle.std.specs.Prelude.{◌≡◌, ◌≤◌, ◌&&◌, true, false, Some, None, MatchOption, MatchResult};
 ghost use Rattle.fp_records_fields.specs.Fields.{has_number, is_between, number_at};
 ghost use Rattle.fp_records_fields.specs.Findings.{first_code};
 ghost use Rattle.fp_records_fields.specs.NamedParts.{arc_in};
-ghost use Rattle.fp_model.specs.declared.limits.TheConstants.{LAST_ROUND};
+ghost use Rattle.fp_model.specs.declared.limits.TheConstants.{LAST_ROUND, LATEST};
 ghost use Rattle.fp_certificate.specs.Answers.{is_figure};
 ghost use Rattle.fp_certificate.specs.Codes.{code_of};
-ghost use Rattle.fp_certificate.specs.Timetables.{departure_faults, is_time};
+ghost use Rattle.fp_certificate.specs.Timetables.{departure_faults, ends_in_range, is_time};
 
 use crate::lines::faults::LineFault;
 use fp_certificate_lines::LARGEST_FIGURE;
@@ -37,6 +37,17 @@ pub fn time_at(line: &Record, place: usize) -> Option<u32>
     ensures { MatchOption result (is_time line.now place ≡ false) (λ n. (is_time line.now place ≡ true) × (n ≡ number_at line.now place)) }
 {
     short_between(field_at(line, place), 0, LATEST)
+}
+
+/// The end of a run in the field at a place, where the run's point is in range and stands in the field
+/// at `start`; `None` exactly where the end isn't after the point, or is above 100,001.
+pub fn end_at(line: &Record, start: usize, place: usize, point: u32) -> Option<u32>
+    requires digits { has_number line.now place ≡ true }
+    requires point { (point ≡ number_at line.now start) × (point ≤ LATEST) }
+    ensures { MatchOption result (ends_in_range line.now start place ≡ false)
+        (λ n. (ends_in_range line.now start place ≡ true) × (n ≡ number_at line.now place)) }
+{
+    short_between(field_at(line, place), point + 1, LATEST + 1)
 }
 
 /// The arc whose ends the fields at places 1 and 2 name, and the time in the field at 3, or the first

@@ -9,6 +9,7 @@ use crate::drafts::Draft;
 use crate::lines::faults::LineFault;
 use crate::lines::fields::time_at;
 use crate::lines::sections::Section;
+use crate::open_gifts::has_gift;
 use crate::open_spans::has_span;
 use fp_records::Record;
 use fp_records_fields::RecordError;
@@ -28,7 +29,10 @@ fn moment_of(draft: &Draft, line: &Record) -> Result<u32, LineFault>
     if !has_number(line, 1) {
         return Err(LineFault::Digits);
     }
-    if draft.is_misplaced(Section::Tables) || !has_span(&draft.certificate.spans) {
+    if draft.is_misplaced(Section::Tables)
+        || !has_span(&draft.certificate.spans)
+        || has_gift(&draft.certificate.gifts)
+    {
         return Err(LineFault::Order);
     }
     let Some(moment) = time_at(line, 1) else {

@@ -36,10 +36,16 @@ pub enum LineKind {
     Weight,
     /// `group,MOMENT`
     Group,
+    /// `gift,FROM,TO,POINT,UNTIL,SIDE,AMOUNT`
+    Gift,
     /// `split,arc,SHIPMENT,FROM,TO`
     ByArc,
     /// `split,time,SHIPMENT,TERMINAL,AT`
     ByTime,
+    /// `split,trucks,FROM,TO,POINT,UNTIL,N`
+    ByTrucks,
+    /// `split,way,SHIPMENT,FROM,TO`
+    ByWay,
     /// `leaf,KIND,ROUND,MODE` or `leaf,KIND,ROUND,MODE,SIDES`
     Leaf,
     /// `end`
@@ -71,6 +77,10 @@ fn split_kind(word: &[u8]) -> Option<LineKind>
         Some(LineKind::ByArc)
     } else if word == b"time".as_slice() {
         Some(LineKind::ByTime)
+    } else if word == b"trucks".as_slice() {
+        Some(LineKind::ByTrucks)
+    } else if word == b"way".as_slice() {
+        Some(LineKind::ByWay)
     } else {
         None
     }
@@ -102,6 +112,8 @@ pub fn kind_of(line: &Record) -> Option<LineKind>
         Some(LineKind::Weight)
     } else if is_of_kind(line, b"group") {
         Some(LineKind::Group)
+    } else if is_of_kind(line, b"gift") {
+        Some(LineKind::Gift)
     } else if is_of_kind(line, b"split") {
         split_kind(field_at(line, 1))
     } else if is_of_kind(line, b"leaf") {

@@ -8,6 +8,7 @@ use crate::drafts::Draft;
 use crate::lines::faults::LineFault;
 use crate::lines::fields::{departure_at, figure_at, have_numbers};
 use crate::lines::sections::Section;
+use crate::open_gifts::has_gift;
 use crate::open_spans::has_span;
 use fp_prices::Share;
 use fp_records::Record;
@@ -30,6 +31,7 @@ fn share_of(lookup: &Lookup<'_>, draft: &Draft, line: &Record) -> Result<Share, 
     if draft.is_misplaced(Section::Tables)
         || draft.certificate.tables.is_empty()
         || has_span(&draft.certificate.spans)
+        || has_gift(&draft.certificate.gifts)
     {
         return Err(LineFault::Order);
     }

@@ -1,32 +1,18 @@
 //! Lines `span,FROM,TO,POINT,UNTIL,MONEY,CHARGE`, each followed by its weights and then its groups.
-ghost use Rattle.std.specs.Prelude.{◌≡◌, ◌≤◌, ◌<◌, true, false, length, OnOk, Some, None, MatchOption, MatchResult};
-ghost use Rattle.fp_model.specs.declared.limits.TheConstants.{LATEST};
+ghost use Rattle.std.specs.Prelude.{◌≡◌, ◌<◌, length, OnOk, Some, None, MatchResult};
 ghost use Rattle.fp_records_fields.specs.Findings.{IsFirstFault, first_code};
-ghost use Rattle.fp_records_fields.specs.Fields.{has_number, number_at};
 ghost use Rattle.fp_certificate.specs.Codes.{code_of};
-ghost use Rattle.fp_certificate.specs.Tables.{has_end_in_range, span_faults, span_in, with_span};
+ghost use Rattle.fp_certificate.specs.Tables.{span_faults, span_in, with_span};
 
 use crate::drafts::Draft;
 use crate::lines::faults::LineFault;
-use crate::lines::fields::{departure_at, figure_at, have_numbers};
+use crate::lines::fields::{departure_at, end_at, figure_at, have_numbers};
 use crate::lines::sections::Section;
-use fp_model::limits::LATEST;
+use crate::open_gifts::has_gift;
 use fp_prices_spans::Span;
 use fp_records::Record;
-use fp_records_fields::digits::short_between;
-use fp_records_fields::fields::{field_at, has_fields};
+use fp_records_fields::fields::has_fields;
 use fp_records_fields::{Lookup, RecordError};
-
-// The end of a span whose point is in range; `None` exactly where it isn't after the point, or is
-// above 100,001.
-fn end_of(line: &Record, point: u32) -> Option<u32>
-    requires digits { has_number line.now 4 ≡ true }
-    requires point { (point ≡ number_at line.now 3) × (point ≤ LATEST) }
-    ensures { MatchOption result (has_end_in_range line.now ≡ false)
-        (λ n. (has_end_in_range line.now ≡ true) × (n ≡ number_at line.now 4)) }
-{
-    short_between(field_at(line, 4), point + 1, LATEST + 1)
-}
 
 // The span of a line, which has neither weights nor groups yet, or the first of the line's faults.
 fn span_of(lookup: &Lookup<'_>, draft: &Draft, line: &Record) -> Result<Span, LineFault>
@@ -41,11 +27,14 @@ fn span_of(lookup: &Lookup<'_>, draft: &Draft, line: &Record) -> Result<Span, Li
     if !have_numbers(line, 3, 4) || !have_numbers(line, 5, 6) {
         return Err(LineFault::Digits);
     }
-    if draft.is_misplaced(Section::Tables) || draft.certificate.spans.is_empty() {
+    if draft.is_misplaced(Section::Tables)
+        || draft.certificate.spans.is_empty()
+        || has_gift(&draft.certificate.gifts)
+    {
         return Err(LineFault::Order);
     }
     let (arc, point) = departure_at(lookup, line)?;
-    let Some(until) = end_of(line, point) else {
+    let Some(until) = end_at(line, 3, 4, point) else {
         return Err(LineFault::Range);
     };
     let Some(money) = figure_at(line, 5) else {

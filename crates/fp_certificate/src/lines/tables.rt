@@ -1,4 +1,4 @@
-//! Lines `table,ID`, each followed by its shares and then by its spans.
+//! Lines `table,ID`, each followed by its shares, then by its spans and then by its gifts.
 ghost use Rattle.std.specs.Prelude.{◌≡◌, ◌+◌, ◌==◌, Some, None, true, length, MatchResult};
 ghost use Rattle.fp_records_fields.specs.Findings.{IsFirstFault, first_code};
 ghost use Rattle.fp_records_fields.specs.Fields.{has_number, number_at};
@@ -40,7 +40,7 @@ fn test_table(draft: &Draft, line: &Record) -> Result<(), LineFault>
     Ok(())
 }
 
-/// Adds a table with neither shares nor spans, or tells the first of the line's faults.
+/// Adds a table with no shares, no spans and no gifts, or tells the first of the line's faults.
 pub fn read_table(draft: &mut Draft, line: &Record) -> Result<(), RecordError<LineFault>>
     ensures { MatchResult result
         (λ _. (first_code (table_faults draft.old line.now) ≡ None) × (draft.new ≡ with_table draft.old))

@@ -3,7 +3,7 @@ ghost use Rattle.std.specs.Prelude.{◌≡◌, false, OnOk, Some, None, MatchRes
 ghost use Rattle.fp_records_fields.specs.Findings.{IsFirstFault, first_code};
 ghost use Rattle.fp_records_fields.specs.Fields.{has_number};
 ghost use Rattle.fp_certificate.specs.Codes.{code_of};
-ghost use Rattle.fp_certificate.specs.Tables.{lacks_weighed, weight_faults, weight_in, with_weight};
+ghost use Rattle.fp_certificate.specs.Tables.{bars_weight, weight_faults, weight_in, with_weight};
 
 use crate::drafts::Draft;
 use crate::lines::faults::LineFault;
@@ -20,7 +20,7 @@ fn weight_of(lookup: &Lookup<'_>, draft: &Draft, line: &Record) -> Result<Weight
         (λ weight. (first_code (weight_faults lookup.now draft.now line.now) ≡ None) × (weight ≡ weight_in lookup.now line.now))
         (λ fault. first_code (weight_faults lookup.now draft.now line.now) ≡ Some (code_of fault)) }
     ensures some { OnOk result
-        (lacks_weighed draft.now.certificate.tables draft.now.certificate.spans ≡ false) }
+        (bars_weight draft.now.certificate.tables draft.now.certificate.spans draft.now.certificate.gifts ≡ false) }
 {
     if !has_fields(line, 3) {
         return Err(LineFault::Fields);
@@ -28,7 +28,7 @@ fn weight_of(lookup: &Lookup<'_>, draft: &Draft, line: &Record) -> Result<Weight
     if !has_number(line, 2) {
         return Err(LineFault::Digits);
     }
-    if draft.is_misplaced(Section::Tables) || draft.lacks_weighed() {
+    if draft.is_misplaced(Section::Tables) || draft.bars_weight() {
         return Err(LineFault::Order);
     }
     let Some(shipment) = lookup.shipment_at(line, 1) else {

@@ -1,14 +1,16 @@
-//! Lines `table,ID`, each followed by its shares and by the spans beside it.
+//! Lines `table,ID`, each followed by its shares, and by the spans and the gifts beside it.
 ghost use Rattle.std.specs.Prelude.{◌≡◌, ◌++◌, [], All, false, slice_index_or, OnOk};
 ghost use Rattle.fp_records.specs.Text.{line_of, lines_of};
-ghost use Rattle.fp_certificate_lines.specs.Ranges.{ShareExists, SpanExists};
+ghost use Rattle.fp_certificate_lines.specs.Ranges.{GiftExists, ShareExists, SpanExists};
 ghost use Rattle.fp_certificate_lines.specs.Rows.{table_fields, table_rows, tables_rows};
 
 use crate::NoMemory;
+use crate::lines::gifts::write_gifts;
 use crate::lines::shares::write_shares;
 use crate::lines::spans::write_spans;
 use fp_model::Instance;
 use fp_prices::Table;
+use fp_prices_gifts::{Gift, TableGifts};
 use fp_prices_spans::{Span, TableSpans};
 use fp_records::Line;
 
@@ -23,23 +25,26 @@ fn write_id(line: &mut Line, id: u128) -> Result<(), NoMemory>
     line.end()
 }
 
-// Adds the line of a table, followed by its shares and by the spans beside it.
+// Adds the line of a table, followed by its shares, and by the spans and the gifts beside it.
 fn write_table(
     line: &mut Line,
     instance: &Instance,
     id: u128,
     table: &Table,
     spans: &[Span],
+    gifts: &[Gift],
 ) -> Result<(), NoMemory>
     requires begun { line.old.begun ≡ false }
     requires shares { All (ShareExists instance.now) table.now }
     requires spans { All (SpanExists instance.now) spans.now }
-    ensures text { OnOk result (line.new.text ≡ line.old.text ++ lines_of (table_rows instance.now id table.now spans.now)) }
+    requires gifts { All (GiftExists instance.now) gifts.now }
+    ensures text { OnOk result (line.new.text ≡ line.old.text ++ lines_of (table_rows instance.now id table.now spans.now gifts.now)) }
     ensures ended { OnOk result (line.new.begun ≡ false) }
 {
     write_id(line, id)?;
     write_shares(line, instance, &table.shares)?;
-    write_spans(line, instance, spans)
+    write_spans(line, instance, spans)?;
+    write_gifts(line, instance, gifts)
 }
 
 // The spans beside the table at a place, where there is a list for it.
@@ -52,23 +57,36 @@ fn spans_at(spans: &[TableSpans], place: usize) -> &[Span]
     }
 }
 
-/// Adds the lines of tables, numbered from 1, each followed by its shares and by the spans beside
-/// it.
+// The gifts beside the table at a place, where there is a list for it.
+fn gifts_at(gifts: &[TableGifts], place: usize) -> &[Gift]
+    ensures { result.now ≡ slice_index_or gifts.now place [] }
+{
+    match gifts.get(place) {
+        Some(beside) => &beside.gifts,
+        None => &[],
+    }
+}
+
+/// Adds the lines of tables, numbered from 1, each followed by its shares, and by the spans and the
+/// gifts beside it.
 pub fn write_tables(
     line: &mut Line,
     instance: &Instance,
     tables: &[Table],
     spans: &[TableSpans],
+    gifts: &[TableGifts],
 ) -> Result<(), NoMemory>
     requires begun { line.old.begun ≡ false }
     requires shares { All (All (ShareExists instance.now)) tables.now }
     requires spans { All (All (SpanExists instance.now)) spans.now }
-    ensures text { OnOk result (line.new.text ≡ line.old.text ++ lines_of (tables_rows instance.now spans.now 1 tables.now)) }
+    requires gifts { All (All (GiftExists instance.now)) gifts.now }
+    ensures text { OnOk result (line.new.text ≡ line.old.text ++ lines_of (tables_rows instance.now spans.now gifts.now 1 tables.now)) }
     ensures ended { OnOk result (line.new.begun ≡ false) }
 {
     for (place, table) in tables.iter().enumerate() {
-        let beside = spans_at(spans, place);
-        write_table(line, instance, place as u128 + 1, table, beside)?;
+        let held = spans_at(spans, place);
+        let given = gifts_at(gifts, place);
+        write_table(line, instance, place as u128 + 1, table, held, given)?;
     }
     Ok(())
 }

@@ -1,12 +1,11 @@
 //! What the leaves of a certificate's tree are worth.
 ghost use Rattle.std.specs.Prelude.{◌≡◌, ◌↔◌, IfOk, IsTrue, None, Some};
-ghost use Rattle.fp_model.specs.Problem.{IsValid};
 ghost use Rattle.fp_prices.specs.RoundBounds.{AreRoundBounds};
 ghost use Rattle.fp_prices.specs.Tables.{HasKind};
 ghost use Rattle.fp_prices_spans.specs.SpanKinds.{spans_beside as spans_beside_table};
-ghost use Rattle.fp_prices_spans.specs.SpanLeaves.{IsSpanBoundOf};
+ghost use Rattle.fp_prices_gifts.specs.GiftKinds.{gifts_beside as gifts_beside_table};
+ghost use Rattle.fp_prices_gifts.specs.GiftLeaves.{IsGiftBound};
 ghost use Rattle.fp_flatnet.specs.Tables.{windows_in};
-ghost use Rattle.fp_timenodes.specs.Points.{points_at};
 ghost use Rattle.fp_tree.specs.Ways.{way_sides};
 ghost use Rattle.fp_certificate_lines.specs.declared.certificates.Node.TheVariants.{Leaf};
 ghost use Rattle.fp_certificate_lines.specs.Ranges.{IsSplitInRange};
@@ -14,7 +13,7 @@ ghost use Rattle.fp_certificate_rules.specs.Accepted.{claim_of as claim_of_answe
 ghost use Rattle.fp_certificate_rules.specs.Leaves.{AreLeavesWorth, IsLeafWorth, split_tail as tail_of_split};
 ghost use Rattle.fp_checker.specs.Bounds.{IsBoundWorth, IsEmptyBound};
 ghost use Rattle.fp_checker.specs.LeafWays.{IsKept, steps_of};
-ghost use Rattle.fp_certificate_rules.specs.Points.{ArePointsOf};
+ghost use Rattle.fp_certificate_rules.specs.Points.{ArePointsOf, points_as_of};
 ghost use Rattle.fp_certificate_rules.specs.Prices.{HasPrices};
 
 use crate::NoMemory;
@@ -24,19 +23,20 @@ use fp_certificate_lines::{Answer, Node, Valuation};
 use fp_certificate_rules::reaches;
 use fp_model::Instance;
 use fp_prices::{Kind, LeafBound, LeafPrice, RoundBounds};
-use fp_prices_spans::{span_bound_of, spans_beside};
+use fp_prices_gifts::{gift_bound_of, gifts_beside};
+use fp_prices_spans::spans_beside;
 use fp_timenodes::Points;
 use fp_tree::{Side, Split};
 use std::alloc::Global;
 
-// The terminal that the arc of a split leaves, and 0 for a split by time.
+// The terminal that the arc of a split leaves, and 0 for a split by a time, by trucks or by a way.
 fn split_tail(instance: &Instance, split: Split) -> u32
     requires { IsSplitInRange instance.now split }
     ensures { result ≡ tail_of_split instance.now split }
 {
     match split {
         Split::ByArc { arc, .. } => instance.arc(arc).from,
-        Split::ByTime { .. } => 0,
+        Split::ByTime { .. } | Split::ByTrucks { .. } | Split::ByWay { .. } => 0,
     }
 }
 
@@ -53,9 +53,9 @@ fn claim_of(answer: Answer) -> u128
 
 // Whether a leaf of this bound has a value, and is worth what the certificate claims in whole units of
 // money, rounded up to a multiple of its unit.
-fn is_bound_worth(case: &Case<'_>, bound: LeafBound) -> bool
+fn is_worth(case: &Case<'_>, bound: LeafBound) -> bool
     ensures { IsTrue result
-        ↔ IsBoundWorth case.now.told.unit case.now.problem.scale (claim_of_answer case.now.told.answer) bound }
+        ↔ IsBoundWorth case.now.told.unit case.now.problem.scale (claim_of_answer case.now.told.answer) (Some bound) }
 {
     let certificate = case.certificate;
     let claim = claim_of(certificate.answer);
@@ -68,8 +68,19 @@ fn is_bound_worth(case: &Case<'_>, bound: LeafBound) -> bool
     }
 }
 
-// The bound of a leaf under sides by the certificate's prices, with what is kept for the leaves after
-// it.
+// The same of a leaf that may have no bound: then it isn't.
+fn is_bound_worth(case: &Case<'_>, bound: Option<LeafBound>) -> bool
+    ensures { IsTrue result
+        ↔ IsBoundWorth case.now.told.unit case.now.problem.scale (claim_of_answer case.now.told.answer) bound }
+{
+    match bound {
+        Some(bound) => is_worth(case, bound),
+        None => false,
+    }
+}
+
+// The bound of a leaf under sides by the certificate's prices, if it has one, with what is kept for the
+// leaves after it. A leaf that isn't empty has none where it isn't priced by the gifts beside its table.
 fn leaf_bound<'a>(
     alloc: Global,
     case: &Case<'a>,
@@ -77,15 +88,15 @@ fn leaf_bound<'a>(
     sides: &[Side],
     price: LeafPrice,
     kept: RoundBounds<'a>,
-) -> Result<(LeafBound, RoundBounds<'a>), NoMemory>
+) -> Result<(Option<LeafBound>, RoundBounds<'a>), NoMemory>
     requires points { ArePointsOf case.now.problem case.now.windows.anchors case.now.told.points
         points.now }
     requires prices { HasPrices case.now.problem case.now.windows case.now.told }
     requires kind { HasKind case.now.told.tables price.kind }
     requires kept { AreRoundBounds case.now.problem points.now case.now.told.tables kept }
-    ensures valid { IfOk result (λ _. IsValid case.now.problem) }
-    ensures exact { IfOk result (λ found. IsSpanBoundOf case.now.problem (windows_in case.now.windows) (λ terminal. points_at points.now terminal price.round)
-        sides.now case.now.told.tables (spans_beside_table case.now.told.spans price.kind) price.kind price.forced found.0) }
+    ensures exact { IfOk result (λ found. IsGiftBound case.now.problem (windows_in case.now.windows)
+        (points_as_of case.now.problem case.now.windows.anchors case.now.told price.round) sides.now case.now.told.tables
+        (spans_beside_table case.now.told.spans price.kind) (gifts_beside_table case.now.told.gifts price.kind) price.kind price.forced found.0) }
     ensures kept { IfOk result (λ found. AreRoundBounds case.now.problem points.now case.now.told.tables found.1) }
 {
     let instance = case.instance;
@@ -93,20 +104,22 @@ fn leaf_bound<'a>(
     let certificate = case.certificate;
     let tables = certificate.tables.as_slice();
     let spans = spans_beside(&certificate.spans, price.kind);
-    if spans.is_empty() {
-        return kept.bound(alloc, instance, windows, points, tables, sides, price);
+    let gifts = gifts_beside(&certificate.gifts, price.kind);
+    if spans.is_empty() && gifts.is_empty() {
+        let found = kept.bound(alloc, instance, windows, points, tables, sides, price)?;
+        return Ok((Some(found.0), found.1));
     }
-    let bound = span_bound_of(
-        alloc, instance, windows, points, sides, tables, spans, price,
+    let bound = gift_bound_of(
+        alloc, instance, windows, points, sides, tables, spans, gifts, price,
     )?;
     Ok((bound, kept))
 }
 
-// Whether a leaf of this bound is empty.
-fn is_empty(bound: LeafBound) -> bool
+// Whether a leaf of this bound, if it has one, is empty.
+fn is_empty(bound: Option<LeafBound>) -> bool
     ensures { IsTrue result ↔ IsEmptyBound bound }
 {
-    matches!(bound, LeafBound::Empty { .. })
+    matches!(bound, Some(LeafBound::Empty { .. }))
 }
 
 // Whether the leaf at the end of a way is worth what the certificate claims, or empty, where it is valued

@@ -15,8 +15,46 @@ pub(crate) enum Change {
     Replaced { place: usize, side: Side },
 }
 
-// Whether what meets one side meets another: of times the stricter one at the same terminal.
-fn implies(first: Side, second: Side) -> bool
+// Whether one side asks of the same run of times of an arc for no more trucks than another, or for
+// more than no fewer.
+fn is_stricter_count(first: Side, second: Side) -> bool
+    ensures { IsTrue result → Implies first second }
+{
+    match (first, second) {
+        (
+            Side::AtMost {
+                arc,
+                point,
+                until,
+                trucks,
+            },
+            Side::AtMost {
+                arc: other,
+                point: from,
+                until: end,
+                trucks: limit,
+            },
+        ) => arc == other && point == from && until == end && trucks <= limit,
+        (
+            Side::MoreThan {
+                arc,
+                point,
+                until,
+                trucks,
+            },
+            Side::MoreThan {
+                arc: other,
+                point: from,
+                until: end,
+                trucks: limit,
+            },
+        ) => arc == other && point == from && until == end && limit <= trucks,
+        _ => false,
+    }
+}
+
+// Whether one side asks a shipment to leave the same terminal no later than another, or no sooner.
+fn is_stricter_time(first: Side, second: Side) -> bool
     ensures { IsTrue result → Implies first second }
 {
     match (first, second) {
@@ -44,8 +82,16 @@ fn implies(first: Side, second: Side) -> bool
                 at: limit,
             },
         ) => shipment == other && terminal == there && limit <= at,
-        _ => first == second,
+        _ => false,
     }
+}
+
+// Whether what meets one side meets another: of times the stricter one at the same terminal, of
+// trucks the stricter one in the same run of an arc.
+fn implies(first: Side, second: Side) -> bool
+    ensures { IsTrue result → Implies first second }
+{
+    first == second || is_stricter_time(first, second) || is_stricter_count(first, second)
 }
 
 /// Adds a side to others: in the place of one that it implies, nowhere where one implies it, and

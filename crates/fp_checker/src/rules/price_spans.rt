@@ -1,49 +1,55 @@
-//! Whether the spans beside the tables are paid.
+//! Whether the spans and the gifts beside the tables are paid.
 ghost use Rattle.std.specs.Prelude.{◌≡◌, ◌<◌, ◌-◌, ◌^◌, ◌↔◌, List, All, IfOk, IsTrue, length};
 ghost use Rattle.fp_flatnet.specs.Belonging.{BelongsTo};
 ghost use Rattle.fp_flatnet.specs.Initial.{initial_points};
 ghost use Rattle.fp_flatnet.specs.Tables.{windows_in};
-ghost use Rattle.fp_certificate_lines.specs.Ranges.{IsInRange, IsSpanInRange};
+ghost use Rattle.fp_certificate_lines.specs.Ranges.{IsGiftInRange, IsInRange, IsSpanInRange};
 ghost use Rattle.fp_certificate_rules.specs.Points.{ArePointsOf};
+ghost use Rattle.fp_certificate_rules.specs.Prices.{ArePaid};
 ghost use Rattle.fp_prices_spans.specs.MomentRuns.{first_points};
-ghost use Rattle.fp_prices_spans.specs.SpanCharges.{ArePaidSpans};
 ghost use Rattle.fp_prices_spans.specs.Spans.{ClassSpan};
 
 use crate::NoMemory;
+use crate::rules::price_gifts::is_paid_beside;
 use fp_certificate_lines::Certificate;
 use fp_flatnet::Windows;
 use fp_model::Instance;
-use fp_prices_spans::{TableSpans, are_paid};
+use fp_prices_gifts::TableGifts;
+use fp_prices_spans::TableSpans;
 use fp_timenodes::Points;
 use std::alloc::Global;
 
-// Whether the spans beside each table are in order and light, keep the money rule, and their charges
-// pay, by the windows and the points as of the round 0.
+// Whether the spans and the gifts beside each table are in order and light, keep the money rule, and
+// the charges of the spans pay, by the windows and the points as of the round 0.
 fn all_paid(
     alloc: Global,
     instance: &Instance,
     windows: &Windows,
     points: &Points,
     spans: &[TableSpans],
+    gifts: &[TableGifts],
 ) -> Result<bool, NoMemory>
     requires belongs { BelongsTo instance.now windows.now }
     requires terminals { points.now.terminals ≡ length instance.now.terminals }
     requires range { All (All (IsSpanInRange instance.now)) spans.now }
     requires few { All (λ (list : List ClassSpan). length list < 2 ^ 32 - 1) spans.now }
+    requires given { All (All (IsGiftInRange instance.now)) gifts.now }
+    requires beside { length gifts.now ≡ length spans.now }
     ensures { IfOk result (λ paid. IsTrue paid
-        ↔ All (ArePaidSpans instance.now (windows_in windows.now) (first_points points.now))
-        spans.now) }
+        ↔ ArePaid instance.now (windows_in windows.now) (first_points points.now) spans.now gifts.now) }
 {
-    for beside in spans {
-        if !are_paid(alloc, instance, windows, points, &beside.spans)? {
+    for place in 0..spans.len() {
+        let held = &spans[place];
+        let given = &gifts[place];
+        if !is_paid_beside(alloc, instance, windows, points, &held.spans, &given.gifts)? {
             return Ok(false);
         }
     }
     Ok(true)
 }
 
-// Whether the spans of a certificate are paid, by the windows and the initial points. The points
-// are the certificate's: those that it adds are of later rounds.
+// Whether the spans and the gifts of a certificate are paid, by the windows and the initial points. The
+// points are the certificate's: those that it adds are of later rounds.
 pub(crate) fn has_paid_spans(
     alloc: Global,
     instance: &Instance,
@@ -57,8 +63,15 @@ pub(crate) fn has_paid_spans(
     requires range { IsInRange instance.now certificate.now }
     requires few { All (λ (list : List ClassSpan). length list < 2 ^ 32 - 1) certificate.now.spans }
     ensures { IfOk result (λ paid. IsTrue paid
-        ↔ All (ArePaidSpans instance.now (windows_in windows.now)
-        (initial_points instance.now windows.now.anchors)) certificate.now.spans) }
+        ↔ ArePaid instance.now (windows_in windows.now)
+        (initial_points instance.now windows.now.anchors) certificate.now.spans certificate.now.gifts) }
 {
-    all_paid(alloc, instance, windows, points, &certificate.spans)
+    all_paid(
+        alloc,
+        instance,
+        windows,
+        points,
+        &certificate.spans,
+        &certificate.gifts,
+    )
 }

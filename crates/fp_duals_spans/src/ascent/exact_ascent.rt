@@ -162,5 +162,5 @@ pub(crate) fn settle<D: Deadline>(
             break;
         }
     }
-    Ok(known.saturating_sub(charges))
+    Ok(prices.value(layout, known, charges))
 }

@@ -2,25 +2,25 @@
 //! value, and what they come to too much is charged.
 
 use crate::NoMemory;
-use crate::ascent::directions::Direction;
 use crate::efforts::SpanEffort;
 use fp_duals_ascent::{Target, Way, rate};
 use fp_duals_clashes::{Clashes, Ground};
+use fp_duals_directions::Direction;
 use fp_duals_layouts::{Charges, Layout, SpanPrices, change_costs};
 use fp_duals_nets::Nets;
 use fp_duals_runs::Averages;
 use fp_ends::{Deadline, Resources};
 use std::alloc::Global;
 
-// Where the ascent stands.
+/// Where the ascent stands.
 #[derive(Drop)]
-struct Climb {
+pub(crate) struct Climb {
     direction: Direction,
     averages: Averages,
-    charges: Charges,
-    // The value of the prices, the value at the start, the target above the best value, and the
-    // prices of that.
-    value: u64,
+    pub charges: Charges,
+    /// The value of the prices.
+    pub value: u64,
+    // The value at the start, and the target above the best value.
     start: u64,
     target: Target,
     best_prices: SpanPrices,
@@ -60,13 +60,18 @@ impl Climb {
         };
         prices.set_costs(layout, nets);
         climb.find_value(layout, nets, prices)?;
-        climb.start = climb.value;
-        climb.target.best = climb.value;
+        climb.note_start();
         Ok(climb)
     }
 
-    // Finds the value of the prices whose costs are set.
-    fn find_value(
+    // The prices as they are are the start and the best.
+    fn note_start(&mut self) {
+        self.start = self.value;
+        self.target.best = self.value;
+    }
+
+    /// Finds the value of the prices whose costs are set.
+    pub(crate) fn find_value(
         &mut self,
         layout: &Layout,
         nets: &mut Nets,
@@ -74,7 +79,7 @@ impl Climb {
     ) -> Result<(), NoMemory> {
         let least = self.direction.find_walks(nets)?;
         let charges = self.charges.find_all(layout, prices)?;
-        self.value = least.saturating_sub(charges);
+        self.value = prices.value(layout, least, charges);
         Ok(())
     }
 
@@ -92,7 +97,8 @@ impl Climb {
             if let Some(payer) = layout.payers.get(number)
                 && let Some(weight) = prices.weights.get_mut(number)
             {
-                let new = moved(*weight, payer.most, mean, rate);
+                let most = layout.most_weight(payer);
+                let new = moved(*weight, most, mean, rate);
                 if new != *weight {
                     change_costs(&mut nets.edges, layout.edges_of(payer), *weight, new);
                     *weight = new;
@@ -102,7 +108,14 @@ impl Climb {
         }
     }
 
-    // Moves the money of joined spans by `rate` times what it gains.
+    // Moves the amounts of gifts by `rate` times what they gain.
+    fn move_gifts(&self, layout: &Layout, prices: &mut SpanPrices, rate: u64) {
+        for (laid, amount) in layout.gifts.iter().zip(prices.amounts.iter_mut()) {
+            *amount = moved(*amount, laid.most, self.direction.gift_gain(laid), rate);
+        }
+    }
+
+    // Moves the money of joined spans, and gifts, by `rate` times what it gains.
     fn move_money(&mut self, layout: &Layout, prices: &mut SpanPrices, rate: u64) {
         for number in layout.singles..layout.spans.len() {
             let gain = self.direction.gain(layout, number);
@@ -110,11 +123,13 @@ impl Climb {
                 && let Some(money) = prices.money.get_mut(number)
                 && let Some(stale) = self.charges.stale.get_mut(number)
             {
-                let new = moved(*money, span.truck, gain, rate);
+                // Under a gift it may have more than a truck costs.
+                let new = moved(*money, span.truck.max(*money), gain, rate);
                 *stale |= new != *money;
                 *money = new;
             }
         }
+        self.move_gifts(layout, prices, rate);
         prices.spread(layout, &mut self.charges.stale);
     }
 
@@ -150,7 +165,7 @@ impl Climb {
         // The step is measured from the best value.
         let step = rate(self.target.gap(self.target.best), norm);
         self.move_weights(layout, nets, prices, step);
-        if layout.spans.len() > layout.singles {
+        if layout.spans.len() > layout.singles || !layout.gifts.is_empty() {
             self.move_money(layout, prices, step);
         }
         self.find_value(layout, nets, prices)?;
@@ -158,6 +173,24 @@ impl Climb {
             self.best_prices.copy(prices);
         }
         Ok(true)
+    }
+
+    // Gives those gifts an amount that have none and by which the prices are worth more.
+    fn begin_gifts<D: Deadline>(
+        &mut self,
+        resources: &Resources<D>,
+        layout: &Layout,
+        nets: &mut Nets,
+        prices: &mut SpanPrices,
+    ) -> Result<(), NoMemory> {
+        for number in 0..layout.gifts.len() {
+            if prices.amount_of(number) == 0 && !resources.is_over() {
+                self.search_line(resources.alloc, layout, nets, prices, number)?;
+            }
+        }
+        self.best_prices.copy(prices);
+        self.note_start();
+        Ok(())
     }
 
     // Lets the target come nearer where too many turns had little gain. Whether there is more to
@@ -193,6 +226,9 @@ pub(crate) fn ascend<D: Deadline>(
 ) -> Result<Averages, NoMemory> {
     let mut clashes = Clashes::of(resources.alloc, layout)?;
     let mut climb = Climb::of(resources.alloc, layout, nets, prices, effort, merges)?;
+    if !layout.gifts.is_empty() {
+        climb.begin_gifts(resources, layout, nets, prices)?;
+    }
     for turn in 0..effort.turns {
         if !merges && turn % VOTING == 0 {
             let walks = &climb.direction.walks;

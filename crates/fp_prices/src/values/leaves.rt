@@ -9,6 +9,7 @@ ghost use Rattle.fp_longestarcs.specs.Networks.{IsClass, points_in};
 ghost use Rattle.fp_allowed.specs.Allowed.{tails_of};
 ghost use Rattle.fp_allowed.specs.Bits.{IsRowUnder, allowed_in};
 ghost use Rattle.fp_allowed.specs.Chains.{IsForced, SeveralLeave};
+ghost use Rattle.fp_tree.specs.declared.sides.Split.TheVariants.{ByWay};
 ghost use Rattle.fp_allowed.specs.Choices.{IsTaken, OneAtMost};
 ghost use Rattle.fp_allowed.specs.Departures.{DividesDepartures, IsSplitAt};
 ghost use Rattle.fp_allowed.specs.Heads.{heads_within};
@@ -207,6 +208,22 @@ impl<'a> Leaf<'a> {
     {
         self.allowed()
             .choice(shipment, self.row(shipment), terminal)
+    }
+
+    /// The split of a shipment by the way by an arc that leaves it something on both sides, as
+    /// [`Allowed::way`] has it under the leaf's sides. `None` where not both the arc and another one that
+    /// leaves the same terminal have allowed classes. Takes no memory.
+    pub fn way(&self, shipment: u32, arc: u32) -> Option<Split>
+        requires shipment { shipment < length self.now.setting.problem.shipments }
+        requires arc { arc < length self.now.setting.problem.arcs }
+        ensures way { IfSome result (λ split. split ≡ ByWay shipment arc) }
+        ensures at { IfSome result (IsSplitAt self.now.setting.problem shipment
+            (tails_of self.now.setting.problem arc)) }
+        ensures divides { IfSome result (DividesDepartures self.now.setting.problem
+            (windows_in self.now.setting.windows) self.now.sides shipment
+            (tails_of self.now.setting.problem arc)) }
+    {
+        self.allowed().way(shipment, self.row(shipment), arc)
     }
 
     /// The bound of the leaf by prices of a kind: what the trucks of its forced chains cost, where

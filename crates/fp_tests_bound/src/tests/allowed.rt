@@ -8,6 +8,16 @@ use fp_tree::{Side, Split};
 use std::alloc::Global;
 use std::test::Fail;
 
+// At most so many trucks by the arc at a point or later and before a time.
+fn at_most(point: u32, until: u32, trucks: u32) -> Side {
+    Side::AtMost {
+        arc: 0,
+        point,
+        until,
+        trucks,
+    }
+}
+
 #[test]
 fn one_arc_under_sides(rt: HostRuntime) -> Result<(), Fail> {
     let alloc = rt.alloc();
@@ -45,6 +55,17 @@ fn one_arc_under_sides(rt: HostRuntime) -> Result<(), Fail> {
         shipment: 0,
         arc: 7,
         tail: 1,
+    };
+    let no_early = at_most(0, 3, 0);
+    let no_first = at_most(0, 2, 0);
+    let no_middle = at_most(2, 4, 0);
+    let no_late = at_most(3, 5, 0);
+    let no_last = at_most(5, 8, 0);
+    let some = Side::MoreThan {
+        arc: 0,
+        point: 0,
+        until: 9,
+        trucks: 0,
     };
     let several = ChainEnd::Several { terminal: 0 };
     let stuck = ChainEnd::Stuck { terminal: 0 };
@@ -86,6 +107,39 @@ fn one_arc_under_sides(rt: HostRuntime) -> Result<(), Fail> {
             [before].as_slice(),
             ((false, true), ChainEnd::Reached, None, 5),
         ),
+        // No truck from 0 until 3 leaves the class from 0 no moment, until 2 it leaves one.
+        (
+            0,
+            [no_early].as_slice(),
+            ((false, true), ChainEnd::Reached, None, 3),
+        ),
+        (
+            0,
+            [no_first].as_slice(),
+            ((true, true), several, at_three, 4),
+        ),
+        (
+            0,
+            [no_middle].as_slice(),
+            ((true, true), several, at_three, 4),
+        ),
+        // Two runs together leave the second shipment nothing, each alone leaves it something.
+        (
+            1,
+            [no_late].as_slice(),
+            ((false, true), ChainEnd::Reached, None, 3),
+        ),
+        (
+            1,
+            [no_late, no_last].as_slice(),
+            ((false, false), stuck, None, 0),
+        ),
+        // At most 1 and more than 0 forbid no class.
+        (
+            0,
+            [at_most(0, 9, 1), some].as_slice(),
+            ((true, true), several, at_three, 6),
+        ),
     ] {
         assert!(rt; shipment < 2);
         let row = allowed.row(alloc, shipment, sides)?;
@@ -98,6 +152,66 @@ fn one_arc_under_sides(rt: HostRuntime) -> Result<(), Fail> {
             "shipment {shipment} under {} sides",
             sides.len()
         );
+    }
+    Ok(())
+}
+
+// From A to D by B or by C.
+const DIAMOND: &str =
+    "terminal,A\nterminal,B\nterminal,C\nterminal,D\narc,A,B,5,10,100,0\narc,A,C,5,10,80,0\narc,B,D,5,10,100,0\narc,C,D,5,10,90,0\nshipment,S1,A,D,6,0,99\nshipment,S2,A,D,6,0,99\n";
+
+// Which of the four arcs have an allowed class for a shipment under sides, and whether S1's way by each of them
+// divides.
+fn ways_under(
+    alloc: Global,
+    shipment: u32,
+    sides: &[Side],
+) -> Result<Option<([bool; 4], [bool; 4])>, Fail> {
+    let instance = instance_of(alloc, DIAMOND)?;
+    let windows = Windows::of(alloc, &instance)?;
+    if instance.terminals().len() > 100 || instance.arcs().len() != 4 {
+        return Ok(None);
+    }
+    let network = Network::of(alloc, &instance, &initial(alloc, &instance, &windows)?, 0)?;
+    let allowed = Allowed::new(&instance, &windows, &network);
+    if shipment as usize >= instance.shipments().len() {
+        return Ok(None);
+    }
+    let row = allowed.row(alloc, shipment, sides)?;
+    let mut arcs = [false; 4];
+    let mut ways = [false; 4];
+    for class in 0..network.classes() {
+        let (arc, _) = network.of_class(class);
+        if row.get(class)
+            && let Some(has) = arcs.get_mut(arc as usize)
+        {
+            *has = true;
+        }
+    }
+    for (arc, divides) in ways.iter_mut().enumerate() {
+        if arc < instance.arcs().len() {
+            *divides = allowed.way(shipment, &row, arc as u32).is_some();
+        }
+    }
+    Ok(Some((arcs, ways)))
+}
+
+// By a way a shipment goes by no other arc that leaves the same terminal or enters the same one. It divides
+// where another arc leaves the same terminal.
+#[test]
+fn ways_of_a_diamond(rt: HostRuntime) -> Result<(), Fail> {
+    let alloc = rt.alloc();
+    let both = [true, true, false, false];
+    for (shipment, arc, arcs, ways) in [
+        (0, 0, [true, false, true, true], [false; 4]),
+        (0, 1, [false, true, true, true], [false; 4]),
+        (0, 2, [true, true, true, false], both),
+        (0, 3, [true, true, false, true], both),
+        (1, 0, [true; 4], both),
+    ] {
+        let through = Side::Through { shipment: 0, arc };
+        let found = ways_under(alloc, shipment, [through].as_slice())?;
+        assert!(rt; found == Some((arcs, ways)), "{shipment} {arc}");
     }
     Ok(())
 }

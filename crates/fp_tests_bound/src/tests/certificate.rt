@@ -45,6 +45,7 @@ fn what_is_read_is_written_as_it_stood(rt: HostRuntime) -> Result<(), Fail> {
         "answer,unfinished,170141183460469231731687303715884105727,299,branches\nscale,1000\ntable,1\ntable,2\nshare,B,C,7,12\nsplit,arc,S2,B,C\nsplit,time,S1,B,100000\nleaf,even,0,plain\nleaf,2,4000,forced,100000\nleaf,linear,0,forced,0\nend\n",
         "answer,unfinished,9,0,rounds\nend\n",
         "answer,unfinished,9,5,rounds\nscale,1000\nunit,5\ntable,1\nshare,A,B,0,0\nspan,A,B,0,100001,100000,0\nweight,S1,99\ngroup,4\ngroup,100000\nspan,B,C,4,5,0,7\ntable,2\nspan,A,B,1,9,3,0\ngroup,2\nleaf,2,0,plain\nend\n",
+        "answer,unfinished,9,5,rounds\nscale,1000\ntable,1\nspan,A,B,1,9,3,0\nweight,S1,3\ngroup,2\ngift,A,B,0,100001,least,60000\ngift,A,B,1,9,most,0\ntable,2\ngift,B,C,4,5,most,7\ntable,3\nshare,B,C,7,12\ngift,B,C,0,9,least,1\nsplit,trucks,A,B,0,100001,4294967295\nleaf,2,0,plain\nsplit,trucks,B,C,4,5,0\nleaf,even,0,plain\nleaf,1,0,plain\nend\n",
         "answer,direct,0\nleg,S1,A,B,0,4\nend\n",
         "answer,infeasible,S2,none\nend\n",
         "answer,infeasible,S1,9\nend\n",

@@ -80,12 +80,12 @@ const ROWS: [Row; 8] = [
 
 // What is told of a certificate behind an instance: its plan, and whether it is accepted.
 #[derive(Drop)]
-struct Told {
+pub(crate) struct Told {
     plan: Result<Plan, Rejected>,
-    verdict: Result<(), Rejected>,
+    pub(crate) verdict: Result<(), Rejected>,
 }
 
-fn told_of(alloc: Global, text: &str) -> Result<Told, Fail>
+pub(crate) fn told_of(alloc: Global, text: &str) -> Result<Told, Fail>
     requires { length text.now < 2000 }
 {
     let lines = records(alloc, text.as_bytes())?;

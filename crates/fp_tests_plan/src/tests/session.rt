@@ -135,7 +135,7 @@ fn figures(
 fn more_rounds_give_no_less(rt: HostRuntime) -> Result<(), Fail> {
     let alloc = rt.alloc();
     for seed in [1, 2, 3] {
-        let instance = generate(alloc, seed, 6, 15)?;
+        let instance = generate(alloc, seed, 4, 6)?;
         let mut before = None;
         for rounds in [0, 2, 6] {
             let budget = Budget {

@@ -99,6 +99,29 @@ fn let_vote(
     clashes.vote(layout, &model.nets, walks, charges, &mut ground)
 }
 
+// What spans are charged by such prices, and the edges of least walks under them.
+fn charged(
+    alloc: Global,
+    layout: &Layout,
+    model: &mut LeafNets,
+) -> Result<(Charges, Vec<usize>), NoMemory> {
+    let prices = dear(alloc, layout)?;
+    let mut charges = Charges::of(alloc, layout, 512, false)?;
+    let _sum = charges.find_all(layout, &prices)?;
+    prices.set_costs(layout, &mut model.nets);
+    let walks = walk_edges(alloc, model)?;
+    Ok((charges, walks))
+}
+
+// The votes of least walks by such prices. The nets are those of the leaf.
+fn votes_by(alloc: Global, leaf: &Leaf, model: &mut LeafNets) -> Result<ClashVotes, NoMemory> {
+    let layout = laid(alloc, leaf, model)?;
+    let (charges, walks) = charged(alloc, &layout, model)?;
+    let mut votes = ClashVotes::of(alloc, leaf.round().instance())?;
+    let_vote(alloc, &layout, model, &walks, &charges, &mut votes)?;
+    Ok(votes)
+}
+
 // The places that get votes by such prices, where each terminal has the point 0 alone.
 fn places_of(alloc: Global, instance: &Instance) -> Result<Vec<Place>, NoMemory>
     requires few { length instance.now.terminals ≤ 100 }
@@ -108,15 +131,7 @@ fn places_of(alloc: Global, instance: &Instance) -> Result<Vec<Place>, NoMemory>
     let round = RoundNetwork::of(alloc, instance, &points, 0)?;
     let leaf = Leaf::of(alloc, &round, &windows, &[])?;
     let mut nets = LentNets::new();
-    let model = nets.within(alloc, &leaf)?;
-    let layout = laid(alloc, &leaf, model)?;
-    let prices = dear(alloc, &layout)?;
-    let mut charges = Charges::of(alloc, &layout, 512, false)?;
-    let _charged = charges.find_all(&layout, &prices)?;
-    prices.set_costs(&layout, &mut model.nets);
-    let walks = walk_edges(alloc, model)?;
-    let mut votes = ClashVotes::of(alloc, instance)?;
-    let_vote(alloc, &layout, model, &walks, &charges, &mut votes)?;
+    let votes = votes_by(alloc, &leaf, nets.within(alloc, &leaf)?)?;
     votes.places(alloc, &round, 8)
 }
 

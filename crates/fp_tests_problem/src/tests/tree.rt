@@ -80,6 +80,62 @@ fn sides_of_eight_leaves(rt: HostRuntime) -> Result<(), Fail> {
 }
 
 #[test]
+fn sides_by_trucks(rt: HostRuntime) -> Result<(), Fail> {
+    let alloc = rt.alloc();
+    let split = Split::ByTrucks {
+        arc: ARC,
+        point: 10,
+        until: 20,
+        most: 2,
+    };
+    let mut tree = Tree::new(alloc, 0, 1)?;
+    if tree.leaves() == 1 && tree.splits() == 0 {
+        tree.split_leaf(alloc, 0, split, 0, (1, 2), (2, 3))?;
+    }
+    assert!(rt; tree.leaves() == 2 && tree.splits() == 1);
+    let few = Side::AtMost {
+        arc: ARC,
+        point: 10,
+        until: 20,
+        trucks: 2,
+    };
+    let many = Side::MoreThan {
+        arc: ARC,
+        point: 10,
+        until: 20,
+        trucks: 2,
+    };
+    assert_eq!(rt; tree.leaf_sides(alloc, 0)?.as_slice(), [few].as_slice());
+    assert_eq!(rt; tree.leaf_sides(alloc, 1)?.as_slice(), [many].as_slice());
+    Ok(())
+}
+
+#[test]
+fn sides_by_a_way(rt: HostRuntime) -> Result<(), Fail> {
+    let alloc = rt.alloc();
+    let split = Split::ByWay {
+        shipment: 1,
+        arc: ARC,
+    };
+    let mut tree = Tree::new(alloc, 0, 1)?;
+    if tree.leaves() == 1 && tree.splits() == 0 {
+        tree.split_leaf(alloc, 0, split, 0, (1, 2), (2, 3))?;
+    }
+    assert!(rt; tree.leaves() == 2 && tree.splits() == 1);
+    let without = Side::Without {
+        shipment: 1,
+        arc: ARC,
+    };
+    let through = Side::Through {
+        shipment: 1,
+        arc: ARC,
+    };
+    assert_eq!(rt; tree.leaf_sides(alloc, 0)?.as_slice(), [without].as_slice());
+    assert_eq!(rt; tree.leaf_sides(alloc, 1)?.as_slice(), [through].as_slice());
+    Ok(())
+}
+
+#[test]
 fn best_open_leaf(rt: HostRuntime) -> Result<(), Fail> {
     let alloc = rt.alloc();
     let mut tree = Tree::new(alloc, 7, 1)?;

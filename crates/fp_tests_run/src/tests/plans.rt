@@ -27,6 +27,13 @@ const DAY: &str =
 const HEAVY: &str =
     "terminal,A\nterminal,B\narc,A,B,5,10,100,1000000000000\nshipment,S1,A,B,10000000000000,0,10\n";
 
+// Three shipments of 5 from A to B, of which two fill a truck, straight for 60 or over C for 100, and one
+// that fills a truck to C. All straight take two trucks, 120, and the one to C 100, and 25 for their sizes.
+// Without a split they seem to share the second truck to C in halves, which is worth 235 at most; at most
+// one truck to C is worth 245, and so is more than one.
+const WAYS: &str =
+    "terminal,A\nterminal,B\nterminal,C\narc,A,B,5,10,60,1\narc,A,C,2,10,100,1\narc,C,B,2,10,0,0\nshipment,S1,A,B,5,0,9\nshipment,S2,A,B,5,0,9\nshipment,S3,A,B,5,0,9\nshipment,S4,A,C,10,0,9\n";
+
 const ANSWERED: [Row; 33] = [
     ("plan", ONE_ARC, 0, "answer,optimal,104\n"),
     (
@@ -242,6 +249,39 @@ fn trucks_of_a_day(rt: HostRuntime) -> Result<(), Fail> {
     let (_, text) = run_on(rt.alloc(), "plan", DAY)?;
     for (terminal, trucks) in [("NICE", 1), ("LYON", 2), ("PARIS", 1), ("LILLE", 0)] {
         assert_eq!(rt; trucks_from(&text, terminal), trucks, "{terminal}");
+    }
+    Ok(())
+}
+
+// Where spans are sought, leaves are split by the trucks of an arc and by ways.
+#[test]
+fn splits_by_spans_are_accepted(rt: HostRuntime) -> Result<(), Fail> {
+    let alloc = rt.alloc();
+    for (line, code, want, by_trucks, by_ways) in [
+        (
+            "plan --spans --branches 0",
+            10,
+            "answer,unfinished,245,235,branches\n",
+            0,
+            0,
+        ),
+        (
+            "plan --spans --branches 1",
+            10,
+            "answer,unfinished,245,235,branches\n",
+            1,
+            0,
+        ),
+        ("plan --spans --branches 3", 0, "answer,optimal,245\n", 1, 2),
+        ("plan --branches 3", 10, "answer,unfinished,245,", 0, 0),
+    ] {
+        let (status, text) = run_on(alloc, line, WAYS)?;
+        assert_eq!(rt; status, code, "{line}");
+        assert!(rt; text.starts_with(want.as_bytes()), "{line}");
+        assert_eq!(rt; lines_with(&text, "split,trucks,"), by_trucks, "{line}");
+        assert_eq!(rt; lines_with(&text, "split,way,"), by_ways, "{line}");
+        let (status, _) = check_on(alloc, WAYS, &text)?;
+        assert_eq!(rt; status, 0, "{line}");
     }
     Ok(())
 }

@@ -9,8 +9,8 @@ use Rattle.fp_allowed.proofs.DepartureCounts.{departures_at, departures_away, de
 use Rattle.fp_allowed.proofs.departures_left.departures.Goals as goal
 use Rattle.fp_allowed.proofs.departures_left.departures.Goals.{else-arc-terminal, then-arc-terminal}
 
-pub departures_by-total-requires-clause-arc : goal.departures_by-total-requires-clause-arc
-departures_by-total-requires-clause-arc c =
+pub departures_at-total-requires-clause-arc : goal.departures_at-total-requires-clause-arc
+departures_at-total-requires-clause-arc c =
     omega (
       arith,
       c.loop-arc-test.true,
@@ -19,8 +19,8 @@ departures_by-total-requires-clause-arc c =
       length-map c.args.instance.now.arcs (λ (a : Arc). a.from),
     )
 
-pub departures_by-total-requires-clause-in_time : goal.departures_by-total-requires-clause-in_time
-departures_by-total-requires-clause-in_time c =
+pub departures_at-total-requires-clause-in_time : goal.departures_at-total-requires-clause-in_time
+departures_at-total-requires-clause-in_time c =
     windows_in_time c.args.instance.now c.args.windows.now c.args.shipment c.loop-arc.arc c.requires.belongs c.requires.shipment
     (omega (arith, c.loop-arc-test.true, ap (λ (l : List Arc). length l) c.arcs.ensures.same))
 
@@ -33,14 +33,14 @@ overflow_add-total c =
     let arc : ℕ = c.loop-arc.arc in
     let exists : arc < length p.arcs = omega (arith, c.loop-arc-test.true, ap (λ (l : List Arc). length l) c.arcs.ensures.same) in
     let here : tails_of p arc ≡ c.args.terminal = ap (λ (a : Arc). a.from) (sym c.arc.ensures.same) ∙ c.if-arc-terminal.true in
-    let own : c.deref.result.now ≡ concerned p k (tails_of p arc) sides =
-    c.deref.ensures.value ∙ c.in_ok-own.ensures ∙ ap (λ (t : ℕ). concerned p k t sides) (sym here) in
-    let by : c.departures_by-total.result ≡ departures_in p sides k arc (windows k arc) = c.departures_by-total.ensures.exact p sides own in
+    let own : c.deref-then-arc-terminal.result.now ≡ concerned p k (tails_of p arc) sides =
+    c.deref-then-arc-terminal.ensures.value ∙ c.in_ok-own.ensures ∙ ap (λ (t : ℕ). concerned p k t sides) (sym here) in
+    let by : c.departures_at-total.result ≡ departures_in p sides k arc (windows k arc) = c.departures_at-total.ensures.exact sides own (c.deref.ensures.value ∙ c.in_ok-through.ensures) in
     let so_far : c.loop-arc.total ≤ arc * 100001 = rw c.loop-arc.invariant.0 (departures_below_le p c.args.windows.now sides k c.args.terminal arc c.requires.belongs c.requires.shipment (omega arith)) in
     let few : departures_in p sides k arc (windows k arc) ≤ 100001 =
     departures_in_le p k arc sides (windows k arc) (windows_in_time p c.args.windows.now k arc c.requires.belongs c.requires.shipment exists) in
     let arcs : length p.arcs ≤ 1000 = c.requires.belongs.valid.parts.few_arcs in
-    let small = within c.loop-arc.total c.departures_by-total.result arc (length p.arcs) so_far (rw by few) exists arcs in
+    let small = within c.loop-arc.total c.departures_at-total.result arc (length p.arcs) so_far (rw by few) exists arcs in
     omega (arith, small)
   where
     within : (total n arc arcs : ℕ) → total ≤ arc * 100001 → n ≤ 100001 → arc < arcs → arcs ≤ 1000 → total + n < 2 ^ 32
@@ -56,10 +56,10 @@ loop-arc-preserved c =
     elim c.if-arc-terminal.branch [
       | then-arc-terminal w ↦
           let here : tails_of p arc ≡ c.args.terminal = ap (λ (a : Arc). a.from) (sym c.arc.ensures.same) ∙ w.if-arc-terminal.true in
-          let own : w.deref.result.now ≡ concerned p k (tails_of p arc) sides = w.deref.ensures.value ∙ c.in_ok-own.ensures ∙ ap (λ (t : ℕ). concerned p k t sides) (sym here) in (
+          let own : w.deref-then-arc-terminal.result.now ≡ concerned p k (tails_of p arc) sides = w.deref-then-arc-terminal.ensures.value ∙ c.in_ok-own.ensures ∙ ap (λ (t : ℕ). concerned p k t sides) (sym here) in (
             rw w.total-is
-                (departures_at p windows sides k c.args.terminal arc w.departures_by-total.result c.loop-arc.total c.loop-arc.invariant.0 here (w.departures_by-total.ensures.exact p sides own)),
-            rw w.moments-is w.departures_by-total.ensures.long,
+                (departures_at p windows sides k c.args.terminal arc w.departures_at-total.result c.loop-arc.total c.loop-arc.invariant.0 here (w.departures_at-total.ensures.exact sides own (w.deref.ensures.value ∙ c.in_ok-through.ensures))),
+            rw w.moments-is w.departures_at-total.ensures.long,
           )
       | else-arc-terminal w ↦ (
         rw w.total-is

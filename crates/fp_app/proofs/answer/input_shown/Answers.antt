@@ -19,7 +19,7 @@ returns-in-Plan-clause-shown g c =
     let n : ℕ = g.C.Clock.faults c.plan_shown.new.clock in
     let input : List ℕ = c.args.bytes.items in
     subst (λ (o : Order). IfOk c.plan_shown.result (ShowsInput (has_shown (seconds_of (Some o)) m b n) o input)) (sym c.in-Plan.is)
-    (subst (λ (o : SearchOptions). IfOk c.plan_shown.result (λ shown. OfScaled c.in-Plan.scale input shown (λ p. ShowsSearch (within o.budget (has_shown o.seconds m b n)) o.spans p shown))) c.new-options.ensures c.plan_shown.ensures.shown)
+    (subst (λ (o : SearchOptions). IfOk c.plan_shown.result (λ shown. OfScaled c.in-Plan.scale input shown (λ p. ShowsSearch (within o.budget (has_shown o.seconds m b n) o.spans) p shown))) c.new-options.ensures c.plan_shown.ensures.shown)
 
 pub returns-in-Improve-clause-shown : goal.returns-in-Improve-clause-shown
 returns-in-Improve-clause-shown g c =
@@ -28,7 +28,7 @@ returns-in-Improve-clause-shown g c =
     let n : ℕ = g.C.Clock.faults c.improve_shown.new.clock in
     let input : List ℕ = c.args.bytes.items in
     subst (λ (o : Order). IfOk c.improve_shown.result (ShowsInput (has_shown (seconds_of (Some o)) m b n) o input)) (sym c.in-Improve.is)
-    (subst (λ (o : SearchOptions). IfOk c.improve_shown.result (ShowsImproveOf (within o.budget (has_shown o.seconds m b n)) c.in-Improve.scale o.spans input)) c.new-options-in-Improve.ensures c.improve_shown.ensures.shown)
+    (subst (λ (o : SearchOptions). IfOk c.improve_shown.result (ShowsImproveOf (within o.budget (has_shown o.seconds m b n) o.spans) c.in-Improve.scale input)) c.new-options-in-Improve.ensures c.improve_shown.ensures.shown)
 
 pub returns-in-None-clause-shown : goal.returns-in-None-clause-shown
 returns-in-None-clause-shown g c =
@@ -39,7 +39,7 @@ returns-in-None-clause-shown g c =
     let is : c.args.order ≡ Quote c.in-Quote.budget c.in-Quote.spans c.in-Quote.seconds c.in-Quote.wanted None =
     c.in-Quote.is ∙ ap (λ (name : Option (List ℕ)). Quote c.in-Quote.budget c.in-Quote.spans c.in-Quote.seconds c.in-Quote.wanted name) c.in-None.is in
     subst (λ (o : Order). IfOk c.quote_shown.result (ShowsInput (has_shown (seconds_of (Some o)) m b n) o input)) (sym is)
-    (subst (λ (o : SearchOptions). IfOk c.quote_shown.result (λ shown. OfQuoted input shown (λ p. ShowsQuote (within o.budget (has_shown (halved o.seconds) m b n)) o.spans p shown))) c.new-options-in-Quote.ensures c.quote_shown.ensures.shown)
+    (subst (λ (o : SearchOptions). IfOk c.quote_shown.result (λ shown. OfQuoted input shown (λ p. ShowsQuote (within o.budget (has_shown (halved o.seconds) m b n) o.spans) p shown))) c.new-options-in-Quote.ensures c.quote_shown.ensures.shown)
 
 pub returns-in-Some-clause-shown : goal.returns-in-Some-clause-shown
 returns-in-Some-clause-shown g c =
@@ -50,4 +50,4 @@ returns-in-Some-clause-shown g c =
     let is : c.args.order ≡ Quote c.in-Quote.budget c.in-Quote.spans c.in-Quote.seconds c.in-Quote.wanted (Some c.in-Some.name) =
     c.in-Quote.is ∙ ap (λ (name : Option (List ℕ)). Quote c.in-Quote.budget c.in-Quote.spans c.in-Quote.seconds c.in-Quote.wanted name) c.in-Some.is in
     subst (λ (o : Order). IfOk c.named_quote_shown.result (ShowsInput (has_shown (seconds_of (Some o)) m b n) o input)) (sym is)
-    (subst (λ (o : SearchOptions). IfOk c.named_quote_shown.result (λ shown. OfNamed c.in-Some.name input shown (λ p. ShowsNamedQuote (within o.budget (has_shown (halved o.seconds) m b n)) o.spans c.in-Some.name p shown))) c.new-options-in-Quote.ensures c.named_quote_shown.ensures.shown)
+    (subst (λ (o : SearchOptions). IfOk c.named_quote_shown.result (λ shown. OfNamed c.in-Some.name input shown (λ p. ShowsNamedQuote (within o.budget (has_shown (halved o.seconds) m b n) o.spans) c.in-Some.name p shown))) c.new-options-in-Quote.ensures c.named_quote_shown.ensures.shown)

@@ -1,7 +1,7 @@
 use Rattle.std.proofs.Common.{◌≡◌, ◌∙◌, ◌+◌, ◌≤◌, ℕ, sym, ap, drop, arith}
 use Rattle.fp_certificate.specs.declared.drafts.Draft.{Draft}
 use Rattle.fp_certificate.specs.Reading.{certificate_from, with_line}
-use Rattle.fp_certificate.proofs.Ranged.{read-on}
+use Rattle.fp_certificate.proofs.LinesOn.{read-on}
 use Rattle.fp_certificate.proofs.TableCounts.{line-count, table_count}
 use Rattle.fp_certificate.proofs.reading.draft_of.Goals as goal
 

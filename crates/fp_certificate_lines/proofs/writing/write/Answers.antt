@@ -18,6 +18,7 @@ returns c =
       points = i.points.items;
       tables = i.tables.items;
       spans = i.spans.items;
+      gifts = i.gifts.items;
       tree = i.tree.items;
     } in
     subst (λ (s : Statement). c.into_bytes.result.items ≡ lines_of (rows_of p s)) c.certificate.view_is
@@ -39,5 +40,6 @@ returns c =
       c.deref-4.ensures.value,
       c.deref-5.ensures.value,
       c.deref-6.ensures.value,
+      c.deref-7.ensures.value,
     )
     (sym (rows-text p v)))

@@ -14,6 +14,6 @@ returns-in_ok-worth-in-Priced-clause-improved g c =
     let found : IsPriceFound leaf.setting.problem (windows_in leaf.setting.windows) (points_in leaf.setting.network) leaf.sides c.improve.new.self c.args.round first c.in-Priced.walks.items =
     subst (IsImprovedBy leaf.setting.problem (windows_in leaf.setting.windows) (points_in leaf.setting.network) leaf.sides c.improve.new.self c.args.round) c.in-Priced.is c.in_ok-shipment.ensures.improved in
     found-no-less leaf.setting.problem leaf.setting.windows (points_in leaf.setting.network) leaf.sides c.spanned.new.prices c.args.round first c.in_ok-worth-in-Priced.worth c.in-Priced.walks.items
-    (found-stays leaf.setting.problem leaf.setting.windows (points_in leaf.setting.network) leaf.sides c.improve.new.self c.spanned.new.prices c.args.round first c.in-Priced.walks.items c.improve.ensures.grown.prices.beside
+    (found-stays leaf.setting.problem leaf.setting.windows (points_in leaf.setting.network) leaf.sides c.improve.new.self c.spanned.new.prices c.args.round first c.in-Priced.walks.items c.improve.ensures.grown.prices
     c.spanned.ensures.grown found)
     (subst (λ (r : ℕ). IsNoLess leaf.setting.problem (windows_in leaf.setting.windows) (points_in leaf.setting.network) leaf.sides c.spanned.new.prices r first c.in_ok-worth-in-Priced.worth) found.worth.of_round c.in_ok-worth-in-Priced.ensures.worth)

@@ -1,4 +1,4 @@
--- A table that was added without spans beside it, which goes again where it doesn't serve.
+-- A table that was added with nothing beside it, which goes again where it doesn't serve.
 use Rattle.std.proofs.Common.{◌≡◌, Bool, true, List, [], ◌∷◌, ◌∙◌, subst}
 use Rattle.std.specs.Prelude.{MatchBool}
 use Rattle.fp_model.specs.Problem.{Problem}
@@ -10,14 +10,20 @@ use Rattle.fp_duals_leaves.proofs.GrownPrices.{HaveGrown-cut, HaveGrown-same, Ha
 use Rattle.fp_duals_leaves.proofs.steady_prices.steady_price.Goals as goal
 
 -- what is known of the prices after a table was added
-added-told : (b : Bool) (before after : PriceLists) (shares : List ClassShare) → b ≡ true → MatchBool b (after ≡ with_more before (shares ∷ []) ([] ∷ [])) (after ≡ before) → after ≡ with_more before (shares ∷ []) ([] ∷ [])
-added-told b before after shares is told = subst (λ (x : Bool). MatchBool x (after ≡ with_more before (shares ∷ []) ([] ∷ [])) (after ≡ before)) is told
+added-told : (b : Bool) (before after : PriceLists) (shares : List ClassShare) → b ≡ true → MatchBool b (after ≡ with_more before (shares ∷ []) ([] ∷ []) ([] ∷ [])) (after ≡ before) →
+    after ≡ with_more before (shares ∷ []) ([] ∷ []) ([] ∷ [])
+added-told b before after shares is told = subst (λ (x : Bool). MatchBool x (after ≡ with_more before (shares ∷ []) ([] ∷ []) ([] ∷ [])) (after ≡ before)) is told
 
 -- so they have grown
 grown-by : (p q : Problem) (table : WindowTable) (b : Bool) (before after : PriceLists) (shares : List ClassShare) → ArePrices p table before → q ≡ p → ArePriceTables q after.tables → b ≡ true →
-    MatchBool b (after ≡ with_more before (shares ∷ []) ([] ∷ [])) (after ≡ before) → HaveGrown p table before after
+    MatchBool b (after ≡ with_more before (shares ∷ []) ([] ∷ []) ([] ∷ [])) (after ≡ before) → HaveGrown p table before after
 grown-by p q table b before after shares are same in_order is told =
     HaveGrown-table p table before after shares are (subst (λ (x : Problem). ArePriceTables x after.tables) same in_order) (added-told b before after shares is told)
+
+pub is_worth-requires-clause-prices : goal.is_worth-requires-clause-prices
+is_worth-requires-clause-prices c =
+    (grown-by c.args.leaf.now.setting.problem c.instance.result.now c.args.leaf.now.setting.windows c.in_ok-push_table.field-0 c.args.prices.now c.push_table.new.self c.in_ok-table.table c.requires.prices
+    (c.instance.ensures.same ∙ c.round.ensures.problem) c.in_ok-push_table.ensures.tables c.if-not-branch.false c.in_ok-push_table.ensures.added).prices
 
 pub returns-in_err-is_worth-clause-grown : goal.returns-in_err-is_worth-clause-grown
 returns-in_err-is_worth-clause-grown c =

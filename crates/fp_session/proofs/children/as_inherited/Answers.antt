@@ -3,6 +3,7 @@ use Rattle.std.proofs.Common.{◌≡◌, ⊎_elim, List, [], ◌∷◌, ◌++◌
 use Rattle.fp_prices.specs.declared.leaf_prices.LeafPrice.{LeafPrice}
 use Rattle.fp_tree.specs.declared.sides.Side.{Side}
 use Rattle.fp_duals_leaves.specs.Prices.{HaveGrown, PriceLists}
+use Rattle.fp_duals_leaves.proofs.SpansBeside.{ungiven-none}
 use Rattle.fp_session.specs.declared.kept.Kept.{Kept}
 use Rattle.fp_session.specs.declared.searches.Search.{Search}
 use Rattle.fp_session.specs.Nodes.{IsKept}
@@ -36,9 +37,10 @@ returns-clause-steady g c =
     let after : PriceLists = c.as_of_price.new.prices in
     let above : List Side = c.args.leaf.now.sides in
     let grown : HaveGrown s.instance s.windows before after = HaveGrown-twice s.instance s.windows before c.price_below.new.prices after c.price_below.ensures.grown c.as_of_price.ensures.grown in
+    let without = ap (λ (x : PriceLists). x.unit) grown.is ∙ c.requires.without in
     λ steady.
     c.better_of.ensures.no_less c.args.above.value
-    (steady-no_less (history s after) above (c.args.side ∷ []) c.args.above c.in_ok-then.then steady (ap (λ (x : PriceLists). x.unit) grown.is ∙ c.requires.without)
+    (steady-no_less (history s after) above (c.args.side ∷ []) c.args.above c.in_ok-then.then steady without (ungiven-none s.instance s.windows after c.args.above.payload.valuation.price.kind grown.prices without)
     (IsKept-grown s before after above c.args.above c.requires.search.prices grown c.requires.above) c.requires.some
     (subst (λ (price : LeafPrice). IsNoLessBy (history s after) (above ++ (c.args.side ∷ [])) price c.in_ok-then.then) (c.in_ok-price.ensures.same steady)
     (c.in_ok-then.ensures.inherited (ap (λ (x : PriceLists). x.unit) c.price_below.ensures.grown.is ∙ c.requires.without))))

@@ -12,9 +12,9 @@ loop-place-preserved g c = record {
   same = c.tried-in-loop-place.ensures.same ∙ c.loop-place.invariant.same;
   chosen = elim c.if-is_more.branch [
     | then-is_more w ↦
-        subst (λ (t : Trial). IsChosen (history c.args.search.now c.tried.new.prices) c.args.leaf.now t.chosen) (sym w.best-is)
-        (subst (λ (x : PriceLists). IsChosen (history c.args.search.now x) c.args.leaf.now c.in_ok-next.next.chosen) c.loop-place.invariant.same c.in_ok-next.ensures.chosen)
+        subst (λ (t : Trial). IsChosen (history c.args.search.now c.tried.new.prices) c.args.leaf.now.sides t.chosen) (sym w.best-is)
+        (subst (λ (x : PriceLists). IsChosen (history c.args.search.now x) c.args.leaf.now.sides c.in_ok-next.next.chosen) c.loop-place.invariant.same c.in_ok-next.ensures.chosen)
     | else-is_more w ↦
-        subst (λ (t : Trial). IsChosen (history c.args.search.now c.tried.new.prices) c.args.leaf.now t.chosen) (sym w.best-is) c.loop-place.invariant.chosen
+        subst (λ (t : Trial). IsChosen (history c.args.search.now c.tried.new.prices) c.args.leaf.now.sides t.chosen) (sym w.best-is) c.loop-place.invariant.chosen
   ];
 }

@@ -22,5 +22,5 @@ returns-in-Err-clause-same g c =
 
 pub returns-in-Ok-clause-chosen : goal.returns-in-Ok-clause-chosen
 returns-in-Ok-clause-chosen g c =
-    chosen-tried c.args.search.now c.args.prices.now c.both_sides.new.prices c.args.leaf.now c.args.candidate c.in-Ok.below c.trial_of.result.chosen c.count-count.result c.count-after.result c.requires.search c.both_sides.ensures.grown
-    c.in-Ok.ensures.kept c.requires.candidate c.trial_of.ensures.candidate c.trial_of.ensures.below (λ few. omega (arith, few, c.count-after.ensures, c.count-count.ensures))
+    chosen-tried c.args.search.now c.args.prices.now c.both_sides.new.prices c.args.leaf.now.sides c.args.branching c.in-Ok.below c.trial_of.result.chosen c.count-count.result c.count-after.result c.requires.search c.both_sides.ensures.grown
+    c.in-Ok.ensures.kept c.requires.branching c.trial_of.ensures.branching c.trial_of.ensures.below (λ few. omega (arith, few, c.count-after.ensures, c.count-count.ensures))

@@ -51,6 +51,12 @@ unreachable-requires g c =
 pub walks_to_split_by-walks-requires : goal.walks_to_split_by-walks-requires
 walks_to_split_by-walks-requires g c = under-exist c.args.search.now c.args.leaf.now.sides c.args.found.relaxed c.requires.found.walks
 
+pub several_move-requires-clause-several : goal.several_move-requires-clause-several
+several_move-requires-clause-several g c = (
+  c.in-Some-2.several,
+  subst (λ (o : Option Several). MatchOption o (NoneSeveral c.args.leaf.now (length c.shipments.result.now)) (IsSeveral c.args.leaf.now)) c.in-Some-2.is c.in_ok-first_several.ensures,
+)
+
 pub returns-then-splits-search-clause-planned : goal.returns-then-splits-search-clause-planned
 returns-then-splits-search-clause-planned g c =
     let some : IsSeveral c.args.leaf.now c.in-Some-2.several =

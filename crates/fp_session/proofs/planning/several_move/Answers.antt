@@ -1,4 +1,4 @@
--- The candidate that was chosen leaves the prices as they are.
+-- The branching that was chosen leaves the prices as they are.
 use Rattle.std.proofs.Common.{sym, subst}
 use Rattle.std.proofs.lemmas.Result.{IfOk-weaker}
 use Rattle.fp_duals_leaves.specs.Prices.{HaveGrown, PriceLists}
@@ -13,7 +13,7 @@ division-requires-clause-search g c = subst (IsSearch c.args.search.now) (sym c.
 
 pub division-requires-clause-chosen : goal.division-requires-clause-chosen
 division-requires-clause-chosen g c =
-    subst (λ (x : PriceLists). IsChosen (history c.args.search.now x) c.args.leaf.now c.in_ok-chosen.chosen) (sym c.choice.ensures.same) c.in_ok-chosen.ensures.chosen
+    subst (λ (x : PriceLists). IsChosen (history c.args.search.now x) c.args.leaf.now.sides c.in_ok-chosen.chosen) (sym c.choice.ensures.same) c.in_ok-chosen.ensures.chosen
 
 pub division-requires-clause-above : goal.division-requires-clause-above
 division-requires-clause-above g c = subst (λ (x : PriceLists). IsKept (history c.args.search.now x) c.args.leaf.now.sides c.args.kept.payload c.args.kept.value) (sym c.choice.ensures.same) c.requires.kept

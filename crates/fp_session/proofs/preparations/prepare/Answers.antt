@@ -12,3 +12,7 @@ returns-in-Err-clause-search g c =
     IsSearch-back c.args.search.now c.args.search.now c.args.prices.now c.cut.new.self refl
     (cut-back c.args.search.now.instance c.args.search.now.windows c.args.prices.now c.done_before_step.new.prices c.cut.new.self c.count-count.result c.requires.search.prices c.done_before_step.ensures.grown
     c.count-count.ensures c.cut.ensures) c.requires.search
+
+pub returns-in-Err-clause-prices : goal.returns-in-Err-clause-prices
+returns-in-Err-clause-prices g c =
+    cut-back c.args.search.now.instance c.args.search.now.windows c.args.prices.now c.done_before_step.new.prices c.cut.new.self c.count-count.result c.requires.search.prices c.done_before_step.ensures.grown c.count-count.ensures c.cut.ensures

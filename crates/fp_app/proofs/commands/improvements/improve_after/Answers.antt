@@ -15,18 +15,18 @@ pub returns-in_ok-shown-in-Read-clause-shown : goal.returns-in_ok-shown-in-Read-
 returns-in_ok-shown-in-Read-clause-shown g c =
     let given : IsAnswer (Of c.args.scale) c.args.place c.args.lines.now (answered.Read c.in-Read.instance c.in-Read.windows c.in-Read.certificate) = rw c.in-Read.is at c.in_ok-instance.ensures.given in
     read-shown (Of c.args.scale) c.args.place c.args.lines.now c.in_ok-shown-in-Read.shown
-    (λ (p : Problem) (wanted : Wanted) (d : Statement). ShowsImprove (within c.args.options.budget (has_shown c.args.options.seconds (g.C.Clock.moment c.search_told.new.clock) (g.C.Clock.faults c.args.clock.now) (g.C.Clock.faults c.search_told.new.clock))) c.args.options.spans p wanted d c.in_ok-shown-in-Read.shown)
+    (λ (p : Problem) (wanted : Wanted) (d : Statement). ShowsImprove (within c.args.options.budget (has_shown c.args.options.seconds (g.C.Clock.moment c.search_told.new.clock) (g.C.Clock.faults c.args.clock.now) (g.C.Clock.faults c.search_told.new.clock)) c.args.options.spans) p wanted d c.in_ok-shown-in-Read.shown)
     c.in-Read.instance c.in-Read.windows c.in-Read.certificate (λ wanted windows. rw c.in_ok-shown-in-Read.was at (c.search_told.ensures.shown wanted windows)) given
 
 pub returns-in-NoPlan-clause-shown : goal.returns-in-NoPlan-clause-shown
 returns-in-NoPlan-clause-shown g c =
     let given : IsAnswer (Of c.args.scale) c.args.place c.args.lines.now answered.NoPlan = rw c.in-NoPlan.is at c.in_ok-instance.ensures.given in
-    none-shown (Of c.args.scale) c.args.place c.args.lines.now (λ (p : Problem) (wanted : Wanted) (d : Statement). ShowsImprove (within c.args.options.budget (has_shown c.args.options.seconds (g.C.Clock.moment c.args.clock.now) (g.C.Clock.faults c.args.clock.now) (g.C.Clock.faults c.args.clock.now))) c.args.options.spans p wanted d (shown.RejectedPart 1)) given
+    none-shown (Of c.args.scale) c.args.place c.args.lines.now (λ (p : Problem) (wanted : Wanted) (d : Statement). ShowsImprove (within c.args.options.budget (has_shown c.args.options.seconds (g.C.Clock.moment c.args.clock.now) (g.C.Clock.faults c.args.clock.now) (g.C.Clock.faults c.args.clock.now)) c.args.options.spans) p wanted d (shown.RejectedPart 1)) given
 
 pub returns-in-Fault-clause-shown : goal.returns-in-Fault-clause-shown
 returns-in-Fault-clause-shown g c =
     let given : IsAnswer (Of c.args.scale) c.args.place c.args.lines.now (answered.Fault c.in-Fault.ordinal c.in-Fault.code) = rw c.in-Fault.is at c.in_ok-instance.ensures.given in
-    fault-shown (Of c.args.scale) c.args.place c.args.lines.now (λ (p : Problem) (wanted : Wanted) (d : Statement). ShowsImprove (within c.args.options.budget (has_shown c.args.options.seconds (g.C.Clock.moment c.args.clock.now) (g.C.Clock.faults c.args.clock.now) (g.C.Clock.faults c.args.clock.now))) c.args.options.spans p wanted d (shown.BadInput c.in-Fault.ordinal c.in-Fault.code)) c.in-Fault.ordinal c.in-Fault.code given
+    fault-shown (Of c.args.scale) c.args.place c.args.lines.now (λ (p : Problem) (wanted : Wanted) (d : Statement). ShowsImprove (within c.args.options.budget (has_shown c.args.options.seconds (g.C.Clock.moment c.args.clock.now) (g.C.Clock.faults c.args.clock.now) (g.C.Clock.faults c.args.clock.now)) c.args.options.spans) p wanted d (shown.BadInput c.in-Fault.ordinal c.in-Fault.code)) c.in-Fault.ordinal c.in-Fault.code given
 
 pub returns-in_ok-shown-in-Read-clause-noted : goal.returns-in_ok-shown-in-Read-clause-noted
 returns-in_ok-shown-in-Read-clause-noted g c =

@@ -21,8 +21,8 @@ returns-in-Some-clause-shown g c =
     let same : records_of input ≡ c.deref-in-Some.result.now = sym (c.deref-in-Some.ensures.value ∙ c.in_ok-lines.ensures.all ∙ ap records_of c.deref.ensures.value) in
     let s = c.in_ok-shown-in-Some.shown in
     let tells : IsTailAnswer input (Some c.in-Some.place) = rw c.in-Some.is at (c.tail_answer.ensures.tells input first) in
-    tail-shown (Of c.args.scale) input c.deref-in-Some.result.now same c.in-Some.place tells s (λ (p : Problem) (wanted : Wanted) (d : Statement). ShowsImprove (within c.args.options.budget (has_shown c.args.options.seconds (g.C.Clock.moment c.improve_after.new.clock) (g.C.Clock.faults c.args.clock.now) (g.C.Clock.faults c.improve_after.new.clock))) c.args.options.spans p wanted d s)
-    (OfCertified c.args.scale input s (λ (x : CertifiedInstance). ShowsImprove (within c.args.options.budget (has_shown c.args.options.seconds (g.C.Clock.moment c.improve_after.new.clock) (g.C.Clock.faults c.args.clock.now) (g.C.Clock.faults c.improve_after.new.clock))) c.args.options.spans x.instance every x.certificate s)) c.in_ok-shown-in-Some.ensures.shown
+    tail-shown (Of c.args.scale) input c.deref-in-Some.result.now same c.in-Some.place tells s (λ (p : Problem) (wanted : Wanted) (d : Statement). ShowsImprove (within c.args.options.budget (has_shown c.args.options.seconds (g.C.Clock.moment c.improve_after.new.clock) (g.C.Clock.faults c.args.clock.now) (g.C.Clock.faults c.improve_after.new.clock)) c.args.options.spans) p wanted d s)
+    (OfCertified c.args.scale input s (λ (x : CertifiedInstance). ShowsImprove (within c.args.options.budget (has_shown c.args.options.seconds (g.C.Clock.moment c.improve_after.new.clock) (g.C.Clock.faults c.args.clock.now) (g.C.Clock.faults c.improve_after.new.clock)) c.args.options.spans) x.instance every x.certificate s)) c.in_ok-shown-in-Some.ensures.shown
 
 pub returns-in-Some-clause-noted : goal.returns-in-Some-clause-noted
 returns-in-Some-clause-noted g c =

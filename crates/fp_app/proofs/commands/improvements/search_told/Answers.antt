@@ -19,7 +19,7 @@ returns-in-Ok-clause-shown g c = λ wanted windows.
         told = told;
         searched = searched;
         no_dearer =
-            no-dearer p wanted plan (within c.args.options.budget (has_shown c.args.options.seconds (g.C.Clock.moment c.search_from.new.clock) (g.C.Clock.faults c.args.clock.now) (g.C.Clock.faults c.search_from.new.clock))) c.args.options.spans
+            no-dearer p wanted plan (within c.args.options.budget (has_shown c.args.options.seconds (g.C.Clock.moment c.search_from.new.clock) (g.C.Clock.faults c.args.clock.now) (g.C.Clock.faults c.search_from.new.clock)) c.args.options.spans)
             c.in_ok-solved-in-Ok.solved searched;
       },
     )

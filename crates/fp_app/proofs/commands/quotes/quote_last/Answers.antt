@@ -15,7 +15,7 @@ returns-in_ok-after-in-All-clause-shown g c =
     let two =
     second-over c.args.options (g.C.Clock.moment c.solve_without_last.new.clock) (g.C.Clock.moment c.solve.new.clock) (g.C.Clock.faults c.args.clock.now) (g.C.Clock.faults c.solve_without_last.new.clock) (g.C.Clock.faults c.solve.new.clock) c.solve_without_last.ensures.later.faults c.args.instance every c.in_ok-after-in-All.after
     c.in_ok-after-in-All.ensures.searched in
-    (refl, searched-quoted c.args.instance (within c.args.options.budget (over c.args.options (g.C.Clock.moment c.solve_without_last.new.clock) (g.C.Clock.moment c.solve.new.clock) (g.C.Clock.faults c.args.clock.now) (g.C.Clock.faults c.solve_without_last.new.clock) (g.C.Clock.faults c.solve.new.clock))) c.args.options.spans c.in_ok-before-in-All.before c.in_ok-after-in-All.after one two)
+    (refl, searched-quoted c.args.instance (within c.args.options.budget (over c.args.options (g.C.Clock.moment c.solve_without_last.new.clock) (g.C.Clock.moment c.solve.new.clock) (g.C.Clock.faults c.args.clock.now) (g.C.Clock.faults c.solve_without_last.new.clock) (g.C.Clock.faults c.solve.new.clock)) c.args.options.spans) c.in_ok-before-in-All.before c.in_ok-after-in-All.after one two)
 
 pub returns-in_ok-after-in-All-clause-printable : goal.returns-in_ok-after-in-All-clause-printable
 returns-in_ok-after-in-All-clause-printable g c =
@@ -25,4 +25,4 @@ returns-in_ok-after-in-All-clause-printable g c =
     let two =
     second-over c.args.options (g.C.Clock.moment c.solve_without_last.new.clock) (g.C.Clock.moment c.solve.new.clock) (g.C.Clock.faults c.args.clock.now) (g.C.Clock.faults c.solve_without_last.new.clock) (g.C.Clock.faults c.solve.new.clock) c.solve_without_last.ensures.later.faults c.args.instance every c.in_ok-after-in-All.after
     c.in_ok-after-in-All.ensures.searched in
-    searched-can_be_quoted c.args.instance (within c.args.options.budget (over c.args.options (g.C.Clock.moment c.solve_without_last.new.clock) (g.C.Clock.moment c.solve.new.clock) (g.C.Clock.faults c.args.clock.now) (g.C.Clock.faults c.solve_without_last.new.clock) (g.C.Clock.faults c.solve.new.clock))) c.args.options.spans c.in_ok-before-in-All.before c.in_ok-after-in-All.after c.requires.shipment one two
+    searched-can_be_quoted c.args.instance (within c.args.options.budget (over c.args.options (g.C.Clock.moment c.solve_without_last.new.clock) (g.C.Clock.moment c.solve.new.clock) (g.C.Clock.faults c.args.clock.now) (g.C.Clock.faults c.solve_without_last.new.clock) (g.C.Clock.faults c.solve.new.clock)) c.args.options.spans) c.in_ok-before-in-All.before c.in_ok-after-in-All.after c.requires.shipment one two

@@ -41,7 +41,7 @@ returns-clause-searched g c = λ wanted windows first.
       | then-options+in_ok-session w ↦ rw (w.if-options.true, w.session-is) (record { of = w.in_ok-session.ensures.of; unit = w.in_ok-session.ensures.unit })
       | else-options+in_ok-session-2 w ↦ rw (w.if-options.false, w.session-is) (record { of = w.in_ok-session-2.ensures.of; unit = w.in_ok-session-2.ensures.unit })
     ] in
-    session-searched c.args.instance.now c.in_ok-instance.instance wanted c.args.windows (within c.args.options.budget (has_shown c.args.options.seconds (g.C.Clock.moment c.finish.new.clock) (g.C.Clock.faults c.args.clock.now) (g.C.Clock.faults c.finish.new.clock))) c.args.options.spans c.args.start c.if-options.session c.in_ok-solved.solved windows first
+    session-searched c.args.instance.now c.in_ok-instance.instance wanted c.args.windows (within c.args.options.budget (has_shown c.args.options.seconds (g.C.Clock.moment c.finish.new.clock) (g.C.Clock.faults c.args.clock.now) (g.C.Clock.faults c.finish.new.clock)) c.args.options.spans) c.args.start c.if-options.session c.in_ok-solved.solved windows first
     c.written_reads_back.ensures c.texts_are_short.ensures c.in_ok-instance.ensures chosen (solved-of c.if-options.session c.finish.new.session c.in_ok-solved.solved c.finish.ensures.fixed c.in_ok-solved.ensures.solved)
     (timely-of (has_shown c.args.options.seconds (g.C.Clock.moment c.finish.new.clock) (g.C.Clock.faults c.args.clock.now) (g.C.Clock.faults c.finish.new.clock)) c.finish.new.session.left (hand_of c.finish.new.session) c.in_ok-solved.solved
     c.in_ok-finish.ensures.ended c.finish.ensures.timed c.in_ok-solved.ensures.shown)

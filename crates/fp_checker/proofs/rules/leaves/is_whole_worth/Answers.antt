@@ -9,14 +9,14 @@ use Rattle.fp_checker.proofs.rules.leaves.is_whole_worth.Goals as goal
 pub returns-then-is_bound_worth-clause-exact : goal.returns-then-is_bound_worth-clause-exact
 returns-then-is_bound_worth-clause-exact c =
     let sides = way_sides (steps_of c.args.way.now) in
-    let worth = bound-worth c.args.case.now c.args.points.now c.args.price c.sides.result.now sides c.in_ok-found.found.0 c.in_ok-found.ensures.valid c.requires.points c.sides.ensures c.in_ok-found.ensures.exact in
+    let worth = bound-worth c.args.case.now c.args.price c.sides.result.now sides c.in_ok-found.found.0 c.sides.ensures c.in_ok-found.ensures.exact in
     ((λ _. inr (worth.0 (c.is_bound_worth.ensures.0 c.if-is_bound_worth.true))), (λ _. refl))
 
 pub returns-clause-exact : goal.returns-clause-exact
 returns-clause-exact c =
     let sides = way_sides (steps_of c.args.way.now) in
-    let worth = bound-worth c.args.case.now c.args.points.now c.args.price c.sides.result.now sides c.in_ok-found.found.0 c.in_ok-found.ensures.valid c.requires.points c.sides.ensures c.in_ok-found.ensures.exact in
-    let empty = bound-empty c.args.case.now c.args.points.now c.args.price c.sides.result.now sides c.in_ok-found.found.0 c.in_ok-found.ensures.valid c.requires.points c.sides.ensures c.in_ok-found.ensures.exact in (
+    let worth = bound-worth c.args.case.now c.args.price c.sides.result.now sides c.in_ok-found.found.0 c.sides.ensures c.in_ok-found.ensures.exact in
+    let empty = bound-empty c.args.case.now c.args.price c.sides.result.now sides c.in_ok-found.found.0 c.sides.ensures c.in_ok-found.ensures.exact in (
       λ h. inl (empty.0 (c.is_empty.ensures.0 h)),
       λ e.
           ⊎_elim (λ (x : IsEmptyUnder c.args.case.now c.args.price sides). c.is_empty.ensures.1 (empty.1 x))

@@ -1,10 +1,11 @@
-use Rattle.std.proofs.Common.{take}
-use Rattle.std.specs.Prelude.{All}
+use Rattle.std.proofs.Common.{◌<◌, ℕ, []}
+use Rattle.std.specs.Prelude.{slice_index_or}
 use Rattle.fp_flatnet.specs.Tables.{windows_in}
 use Rattle.fp_prices_spans.specs.MomentRuns.{first_points}
-use Rattle.fp_prices_spans.specs.SpanCharges.{ArePaidSpans}
+use Rattle.fp_certificate_rules.specs.Prices.{ArePaidBeside}
 use Rattle.fp_checker.proofs.rules.price_spans.all_paid.Given as goal
 
--- the spans that were passed are paid
-abbrev pub invariant-loop-beside : goal.invariant-loop-beside
-invariant-loop-beside l = All (ArePaidSpans l.instance (windows_in l.windows) (first_points l.points)) (take l.beside-index l.spans)
+-- the spans and the gifts that were passed are paid
+abbrev pub invariant-loop-place : goal.invariant-loop-place
+invariant-loop-place l =
+    (k : ℕ) → k < l.place → ArePaidBeside l.instance (windows_in l.windows) (first_points l.points) (slice_index_or l.spans k []) (slice_index_or l.gifts k [])

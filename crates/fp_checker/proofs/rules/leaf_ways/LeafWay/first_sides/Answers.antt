@@ -3,9 +3,8 @@ use Rattle.std.proofs.Math.Nat.{min-le_right}
 use Rattle.std.proofs.lemmas.List.{length-map, take_min}
 use Rattle.fp_tree.specs.declared.sides.Side.{Side}
 use Rattle.fp_tree.specs.Ways.{side_of, way_sides}
-use Rattle.fp_allowed.specs.Allowed.{meets_all}
 use Rattle.fp_checker.specs.declared.rules.leaf_ways.Entry.{Entry}
-use Rattle.fp_checker.specs.LeafWays.{IsAdded, steps_of}
+use Rattle.fp_checker.specs.LeafWays.{AskAlike, IsAdded, steps_of}
 use Rattle.fp_checker.proofs.LeafWays.{asks-first}
 use Rattle.fp_checker.proofs.rules.leaf_ways.LeafWay.first_sides.Goals as goal
 
@@ -28,4 +27,4 @@ returns c =
     let most : c.loop-place.place ≡ min c.args.count c.len.result = omega (arith, c.loop-place-test.false, c.loop-place.auto.place-end, c.min-most.ensures) in
     let all : take c.loop-place.place way ≡ take c.args.count way =
     ap (λ (n : ℕ). take n way) (most ∙ ap (min c.args.count) long) ∙ take_min c.args.count way in
-    λ k x. c.loop-place.invariant k x ∙ ap (λ (sides : List Side). meets_all k sides x) all
+    subst (AskAlike c.loop-place.sides.items) all c.loop-place.invariant

@@ -1,0 +1,4 @@
+pub mod Gifts
+pub mod GiftNumbers
+pub mod GiftLeaves
+pub mod GiftKinds

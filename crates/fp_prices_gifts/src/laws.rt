@@ -1,0 +1,52 @@
+//! The theory of leaves under prices with gifts, as contracts without a body.
+ghost use Rattle.std.specs.Prelude.{◌≡◌, ◌^◌};
+ghost use Rattle.fp_prices_gifts.specs.GiftLeaves.{GiftLeavesHaveOneValue, GiftValuesBoundPlans, RulesWithoutGifts, SoundGiftsKeepRules, ValuesWithoutGifts};
+
+use crate::gifts::MOST_GIFTS;
+
+/// No plan of a leaf costs less than the leaf is worth under prices with gifts, whoever finds the
+/// value, and whatever the windows, the points, the sides, the kind of prices, the tables, the spans
+/// and the gifts, plain or, without gifts, with forced classes paid whole.
+///
+/// A plan of a leaf lies within the windows and obeys the leaf's sides, those by trucks too. Its
+/// departures may be any fractions of the unit of time. The value counts parts of a unit of money, so
+/// it is compared with the scale times the plan's cost. The instance is valid, the shares of all
+/// tables keep the price rule, the spans keep the set rule by these windows and by first points that
+/// are all points of the leaf, and spans and gifts keep the money rule together.
+pub fn gift_values_bound_plans()
+    ensures { GiftValuesBoundPlans }
+{}
+
+/// Two values of one leaf under prices with gifts are the same number, and a leaf that is empty by its
+/// heads has none.
+///
+/// So the value is decided by the instance, the windows, the points, the sides, the tables, the
+/// spans, the gifts, the kind of prices and whether forced classes are paid whole.
+pub fn gift_leaves_have_one_value()
+    ensures { GiftLeavesHaveOneValue }
+{}
+
+/// Without gifts, a number is the leaf's value here exactly where it is the leaf's value by spans.
+pub fn values_without_gifts()
+    ensures { ValuesWithoutGifts }
+{}
+
+/// Spans that are in order and whose charges pay, and gifts that keep the money rule with them, keep
+/// the rules of spans and gifts, by the same windows and first points, whatever these are. The instance
+/// is valid, and the spans are of arcs, and their weights of shipments, that exist.
+///
+/// So what [`crate::check_gifts`] and `check_charges` of spans find is what the bound asks, and of the
+/// spans' own rules their order alone.
+pub fn sound_gifts_keep_rules()
+    ensures { SoundGiftsKeepRules }
+{}
+
+/// Spans that keep their own rules keep those with gifts, where there are none.
+pub fn rules_without_gifts()
+    ensures { RulesWithoutGifts }
+{}
+
+/// The limit of the amounts of all gifts together is this number.
+pub fn gift_limit_is_a_number()
+    ensures { MOST_GIFTS ≡ 2 ^ 90 }
+{}

@@ -1,0 +1,7 @@
+use Rattle.std.specs.Prelude.{All}
+use Rattle.fp_session.specs.Choices.{IsBranching}
+use Rattle.fp_session.specs.Searches.{history}
+use Rattle.fp_session.proofs.branchings.truck_branchings.Given as goal
+
+abbrev pub invariant-loop-place : goal.invariant-loop-place
+invariant-loop-place l = All (IsBranching (history l.search l.prices) l.leaf.sides) l.list.items
