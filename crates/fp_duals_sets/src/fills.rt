@@ -3,10 +3,11 @@
 //! 1990, section 2.2).
 
 use crate::NoMemory;
-use crate::items::{Fill, Gap, Item, MOST_GRAINS};
+use crate::items::{Fill, Gap, Item, MOST_GRAINS, weight_of};
 use crate::rows::Rows;
 use crate::sets::Terms;
 use std::alloc::Global;
+use std::mem::swap;
 
 /// By how much the money for the trucks of some set is passed at most, and how much the money passes
 /// what sets pay at least where it isn't passed.
@@ -28,6 +29,8 @@ pub(crate) struct Fills {
     rows: Rows,
     // Those about whom a fill doesn't decide.
     open: Vec<Item>,
+    // The set that was found last.
+    found: Vec<Item>,
     // The best set so far.
     best: Vec<Item>,
 }
@@ -49,6 +52,7 @@ impl Fills {
         Fills {
             rows: Rows::new(alloc),
             open: Vec::new(alloc),
+            found: Vec::new(alloc),
             best: Vec::new(alloc),
         }
     }
@@ -69,15 +73,17 @@ impl Fills {
         Ok(())
     }
 
-    // Keeps a set: those of a fill about whom it decides, and the best of the others.
-    fn keep(&mut self, items: &[Item], fill: Fill, gap: Gap) -> Result<(), NoMemory> {
-        self.best.clear();
+    // Takes a set: those of a fill about whom it decides, and of the others the best that the rows tell. What
+    // it pays.
+    fn take_best(&mut self, items: &[Item], fill: Fill, gap: Gap) -> Result<u64, NoMemory> {
+        self.found.clear();
         for item in items.iter().take(fill.items) {
             if !gap.leaves_open(item) {
-                self.best.push(*item)?;
+                self.found.push(*item)?;
             }
         }
-        self.rows.add_best(&self.open, &mut self.best)
+        self.rows.add_best(&self.open, &mut self.found)?;
+        Ok(weight_of(&self.found))
     }
 
     // Finds whether all together pay more than a goal.
@@ -117,11 +123,14 @@ impl Fills {
         };
         self.take_open(items, gap)?;
         self.rows.fill(&self.open, left)?;
-        let weight = held.weight.saturating_add(self.rows.most());
+        if held.weight.saturating_add(self.rows.most()) <= goal {
+            return Ok(Found::Less { slack: 0 });
+        }
+        let weight = self.take_best(items, fill, gap)?;
         if weight <= goal {
             return Ok(Found::Less { slack: 0 });
         }
-        self.keep(items, fill, gap)?;
+        swap(&mut self.best, &mut self.found);
         Ok(Found::More { weight })
     }
 

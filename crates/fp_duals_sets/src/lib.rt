@@ -2,7 +2,7 @@
 //! much one more may pay. A charge is a knapsack for each number of trucks: what is paid for a grain of
 //! size decides about most (S. Martello and P. Toth, "Knapsack Problems", Wiley, 1990, section 2.2), and
 //! only the others are weighed by loads (R. E. Bellman, "Dynamic Programming", Princeton University
-//! Press, 1957), in 64 bits and with few loads.
+//! Press, 1957), in numbers of 32 bits and with few loads.
 //!
 //! It's made for heuristics, whose results are tested afterwards: nothing is promised of it but that
 //! it's safe and ends.
@@ -11,6 +11,7 @@
 mod fills;
 mod items;
 mod load_rows;
+mod reciprocals;
 mod rows;
 mod sets;
 

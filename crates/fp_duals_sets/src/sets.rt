@@ -3,6 +3,7 @@
 use crate::NoMemory;
 use crate::fills::Fills;
 use crate::items::{Item, MOST_GRAINS, put_grains, sort_by_density};
+use crate::reciprocals::Reciprocals;
 use crate::rows::Rows;
 use std::alloc::Global;
 
@@ -25,6 +26,7 @@ pub struct Sets {
     weight: u64,
     fills: Fills,
     rows: Rows,
+    reciprocals: Reciprocals,
 }
 
 /// The charge of a group or a span, the trucks for the sets that are charged, and the slack
@@ -89,6 +91,7 @@ impl Sets {
             weight: 0,
             fills: Fills::new(alloc),
             rows: Rows::new(alloc),
+            reciprocals: Reciprocals::new(alloc),
         }
     }
 
@@ -140,7 +143,7 @@ impl Sets {
         let trucks = self.weight.saturating_sub(1) / terms.money.max(1);
         let most = self.size.min(trucks.saturating_mul(terms.capacity));
         let grain = self.grain_for(terms, self.size, most);
-        put_grains(&mut self.items, grain);
+        put_grains(&mut self.items, grain, &mut self.reciprocals)?;
         sort_by_density(&mut self.items);
         let excess = self
             .fills
@@ -200,7 +203,7 @@ impl Sets {
             .grain_for(terms, self.size.saturating_add(size), self.size.min(most))
             .max(1);
         let loads = most.saturating_sub(size).min(self.size) / grain;
-        put_grains(&mut self.items, grain);
+        put_grains(&mut self.items, grain, &mut self.reciprocals)?;
         self.rows
             .fill(&self.items, loads.min(MOST_GRAINS) as usize)?;
         Ok(self.least_room(terms, size, grain, charge))
@@ -224,7 +227,7 @@ impl Sets {
                 break;
             };
             let money = terms.money.saturating_mul(trucks).saturating_add(charge);
-            least = least.min(money.saturating_sub(weight.cast_unsigned()));
+            least = least.min(money.saturating_sub(self.rows.paid(*weight)));
             load = last.wrapping_add(1);
         }
         least
