@@ -2,9 +2,13 @@
 use fp_duals::Effort;
 use fp_duals_spans::SpanEffort;
 
-// Among more shipments the two sides of a split by trucks or by a way get fewer turns: a turn takes longer
-// there.
+// Among more shipments the search at the two sides of a split by trucks or by a way has less patience: a turn takes
+// longer there.
 const MANY_SHIPMENTS: usize = 40;
+
+// Among at most so many shipments the root of a search is priced over whole arcs where that is worth little less:
+// among more, rounds by classes raise it by more than splits do.
+const FEW_SHIPMENTS: usize = 100;
 
 /// How much work it may take to improve the price of a leaf: by tables; and by spans, where these
 /// are sought.
@@ -21,7 +25,7 @@ impl PriceEffort {
         spans: Some(SpanEffort::ROOT),
     };
     /// For the root after rounds, where spans are sought: it goes on from those that it has, so tables
-    /// are left out.
+    /// are left out. By points spans over whole arcs gain little, so few turns are made over these.
     pub const AGAIN: PriceEffort = PriceEffort {
         tables: Effort {
             turns: 0,
@@ -31,6 +35,8 @@ impl PriceEffort {
         spans: Some(SpanEffort {
             patience: 30,
             joins: 1,
+            arc_turns: 400,
+            merged_turns: 0,
             ..SpanEffort::ROOT
         }),
     };
@@ -41,6 +47,10 @@ impl PriceEffort {
             turns: 400,
             patience: 40,
             joins: 0,
+            arc_turns: 400,
+            arc_patience: 40,
+            merged_turns: 0,
+            alone: true,
             ..SpanEffort::ROOT
         }),
     };
@@ -70,36 +80,41 @@ impl PriceEffort {
         spans: None,
     };
 
-    // No tables, and spans and gifts by at most so many turns, on from the spans that a leaf inherits.
-    fn spans_alone(turns: u32, patience: u32) -> PriceEffort {
+    /// For the root of a search for plans among so many shipments before its first step, where spans are
+    /// sought: by these alone; and among few shipments over whole arcs where such are worth little less,
+    /// since splits and rounds take less time then.
+    pub fn first(shipments: usize) -> PriceEffort {
+        let arc_loss = if shipments > FEW_SHIPMENTS {
+            0
+        } else {
+            4 << 10
+        };
         PriceEffort {
             tables: PriceEffort::NONE.tables,
             spans: Some(SpanEffort {
-                turns,
-                patience,
-                joins: 0,
-                arc_turns: turns,
-                arc_patience: patience,
-                merged_turns: 0,
-                alone: true,
+                arc_loss,
                 ..SpanEffort::ROOT
             }),
         }
     }
 
-    /// For the trial of a split by trucks or by a way: no tables, and few turns for spans and gifts. By the
-    /// spans alone that they inherit, the two sides are worth little more than the leaf, or no more.
-    pub fn span_trial() -> PriceEffort {
-        PriceEffort::spans_alone(20, 60)
-    }
-
-    /// For the two sides of such a split among so many shipments: as much as they get until their next
-    /// split, and less where there are many.
+    /// For the two sides of a split by trucks or by a way among so many shipments: spans and gifts alone, on
+    /// from the spans that they inherit. That's as much as they get until their next split. The ascent's
+    /// direction is averaged anew at each leaf: with less patience it ends before it finds a better price.
     pub fn by_spans(shipments: usize) -> PriceEffort {
-        if shipments > MANY_SHIPMENTS {
-            PriceEffort::spans_alone(300, 20)
-        } else {
-            PriceEffort::spans_alone(2000, 60)
+        let patience = if shipments > MANY_SHIPMENTS { 60 } else { 90 };
+        PriceEffort {
+            tables: PriceEffort::NONE.tables,
+            spans: Some(SpanEffort {
+                turns: 2000,
+                patience,
+                joins: 0,
+                arc_turns: 2000,
+                arc_patience: patience,
+                merged_turns: 0,
+                alone: true,
+                ..SpanEffort::ROOT
+            }),
         }
     }
 }

@@ -18,6 +18,7 @@ mod span_prices;
 mod span_tests;
 mod steady_prices;
 mod steady_tables;
+mod trials;
 mod uses;
 mod walks;
 
@@ -28,6 +29,7 @@ pub use pricing::{Worth, bound_by, improve};
 pub use roots::improve_root;
 pub use span_prices::SpanPrice;
 pub use steady_prices::steady_price;
+pub use trials::promised_value;
 pub use uses::{LeafUses, leaf_uses};
 pub use walks::walks_by_spans;
 

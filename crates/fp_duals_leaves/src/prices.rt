@@ -15,6 +15,7 @@ ghost use Rattle.fp_duals_leaves.specs.Pricing.{IsImprovedBy};
 use crate::NoMemory;
 use fp_duals::{Effort, Improved, Tables, improve_leaf};
 use fp_duals_nets::LentNets;
+use fp_duals_spans::StartPrices;
 use fp_ends::{Deadline, Resources};
 use fp_model::Instance;
 use fp_prices::{Kind, Leaf, LeafPrice, Table};
@@ -160,6 +161,20 @@ impl Prices {
         ensures { result.now ≡ gifts_beside_kind self.now.gifts kind }
     {
         gifts_beside(&self.gifts, kind)
+    }
+
+    /// The prices from which a search goes on at a price: with the spans and the gifts beside its table.
+    pub(crate) fn start_at(&self, price: LeafPrice) -> StartPrices<'_>
+        ensures tables { result.tables.now ≡ self.now.tables }
+        ensures kind { result.kind ≡ price.kind }
+    {
+        StartPrices {
+            tables: self.tables(),
+            kind: price.kind,
+            forced: price.forced,
+            spans: self.spans_beside(price.kind),
+            gifts: self.gifts_beside(price.kind),
+        }
     }
 
     /// The unit, if there is one.

@@ -5,7 +5,7 @@ ghost use Rattle.fp_duals_leaves.specs.Prices.{ArePrices};
 use crate::NoMemory;
 use crate::prices::Prices;
 use fp_duals_nets::LentNets;
-use fp_duals_spans::{AveragedUses, PaidTrucks, StartPrices, averaged_uses};
+use fp_duals_spans::{AveragedUses, PaidTrucks, averaged_uses};
 use fp_ends::{Deadline, Resources};
 use fp_prices::{Leaf, LeafPrice};
 use std::alloc::Global;
@@ -48,14 +48,7 @@ pub fn leaf_uses<D: Deadline>(
     requires prices { ArePrices leaf.now.setting.problem leaf.now.setting.windows prices.now }
     requires kind { HasKind prices.now.tables price.kind }
 {
-    let LeafPrice { kind, forced, .. } = price;
-    let start = StartPrices {
-        tables: prices.tables(),
-        kind,
-        forced,
-        spans: prices.spans_beside(kind),
-        gifts: prices.gifts_beside(kind),
-    };
+    let start = prices.start_at(price);
     let model = nets.within(resources.alloc, leaf)?;
     let AveragedUses { trucks, ways } = averaged_uses(resources, leaf, model, start, TURNS)?;
     let arcs = leaf.round().instance().arcs().len();

@@ -7,7 +7,7 @@ ghost use Rattle.fp_duals_walks.specs.AllowedWalks.{AreAllowedWalks};
 use crate::NoMemory;
 use crate::prices::Prices;
 use fp_duals_nets::LentNets;
-use fp_duals_spans::{StartPrices, proposed_walks};
+use fp_duals_spans::proposed_walks;
 use fp_duals_walks::are_allowed_walks;
 use fp_longestarcs::TimedWalk;
 use fp_prices::{Leaf, LeafPrice};
@@ -28,18 +28,10 @@ pub fn walks_by_spans(
     requires kind { HasKind prices.now.tables price.kind }
     ensures { IfOk result (λ found. IfSome found (λ walks. AreAllowedWalks leaf.now walks.items)) }
 {
-    let LeafPrice { kind, forced, .. } = price;
-    let spans = prices.spans_beside(kind);
-    if spans.is_empty() {
+    let start = prices.start_at(price);
+    if start.spans.is_empty() {
         return Ok(None);
     }
-    let start = StartPrices {
-        tables: prices.tables(),
-        kind,
-        forced,
-        spans,
-        gifts: prices.gifts_beside(kind),
-    };
     let walks = proposed_walks(alloc, leaf, nets.within(alloc, leaf)?, start)?;
     if are_allowed_walks(leaf, &walks) {
         Ok(Some(walks))

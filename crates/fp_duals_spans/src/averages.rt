@@ -28,9 +28,9 @@ fn short_effort(turns: u32) -> SpanEffort {
     }
 }
 
-// The prices from which the ascent goes on: by spans over whole arcs where such ones alone are handed in,
+/// The prices from which a short ascent goes on: by spans over whole arcs where such ones alone are handed in,
 // and by spans over classes otherwise.
-fn laid_start(
+pub(crate) fn laid_start(
     alloc: Global,
     leaf: &Leaf,
     model: &mut LeafNets,

@@ -35,6 +35,9 @@ pub struct SpanEffort {
     pub merged_level: u32,
     /// Whether the search that goes on from spans over whole arcs is made alone, where such are handed in.
     pub alone: bool,
+    /// By how much less spans over whole arcs may be worth than others and are taken all the same, in parts
+    /// of 2^20 of their value: what goes on from them takes a fraction of the time.
+    pub arc_loss: u32,
 }
 
 impl SpanEffort {
@@ -54,5 +57,6 @@ impl SpanEffort {
         merged_turns: 2000,
         merged_level: 4 << 10,
         alone: false,
+        arc_loss: 0,
     };
 }

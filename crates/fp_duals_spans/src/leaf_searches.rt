@@ -63,6 +63,12 @@ fn found_over_arcs<D: Deadline>(
     Ok(Some(found))
 }
 
+// What a search over whole arcs counts for that came to a value: so much more as it may be worth less.
+fn arc_worth(value: u64, effort: &SpanEffort) -> u64 {
+    let more = u128::from(value).saturating_mul(u128::from(effort.arc_loss)) >> 20;
+    value.saturating_add(more.min(u128::from(u64::MAX)) as u64)
+}
+
 /// Spans for a leaf in the mode plain, in order, each with the least charge that pays; none where
 /// nothing better than prices by size alone is found. Beside them gifts, each with an amount, where
 /// the leaf has sides by trucks; spans and gifts keep the money rule together. The nets are those of
@@ -70,7 +76,8 @@ fn found_over_arcs<D: Deadline>(
 /// allowed timed walk. `NoMemory` only where no memory is found.
 ///
 /// On the way least walks vote for points where they clash. Spans are sought over whole arcs, and over
-/// classes and runs of them; the better ones are taken. Where there are many shipments they are sought
+/// classes and runs of them; the better ones are taken, or those over arcs where they're worth little less,
+/// as the effort has it. Where there are many shipments they are sought
 /// over arcs alone at first, and over classes alone once there are some.
 /// One search over each net for each turn of the effort, and one over the sets of each span
 /// whose prices move. Takes memory that grows with the edges of the nets.
@@ -113,10 +120,12 @@ pub fn proposed_spans<D: Deadline>(
         effort,
         merges: false,
     };
-    let known = over_arcs.as_ref().map_or(0, |over_arcs| over_arcs.value);
+    let known = over_arcs
+        .as_ref()
+        .map_or(0, |over_arcs| arc_worth(over_arcs.value, effort));
     let found = search.best(resources, model, known, votes)?;
     match over_arcs {
-        Some(over_arcs) if over_arcs.value > found.value => Ok(over_arcs.proposed),
+        Some(over_arcs) if known > found.value => Ok(over_arcs.proposed),
         _ => Ok(found.proposed),
     }
 }

@@ -30,6 +30,7 @@ mod moments;
 mod proposals;
 mod searches;
 mod starts;
+mod trials;
 mod whole_arcs;
 
 pub use averages::{AveragedUses, averaged_uses};
@@ -38,6 +39,7 @@ pub use fp_duals_runs::{PaidTrucks, TRUCK_PARTS};
 pub use laid_spans::StartPrices;
 pub use leaf_searches::{proposed_spans, proposed_walks};
 pub use proposals::Proposed;
+pub use trials::promised_value;
 
 /// The error of a call that finds no memory.
 pub type NoMemory = std::alloc::AllocError;

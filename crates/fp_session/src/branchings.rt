@@ -31,9 +31,6 @@ const MOST_TRUCKS_TRIED: usize = 4;
 
 const MOST_WAYS_TRIED: usize = 4;
 
-// So many shipments beside these: the sides of their splits get no spans while they are tried.
-const MOST_BESIDE_SPANS: usize = 2;
-
 // A split by which a leaf may be divided, with the terminal that its arc leaves: 0 for one by trucks or by a
 // way.
 #[derive(Clone, Copy, Debug, PartialEq, Eq)]
@@ -147,19 +144,9 @@ fn span_branchings<D: Deadline>(
     with_ways(resources.alloc, search, leaf, &ways, prices, list)
 }
 
-// How many shipments are tried at most, beside these splits.
-fn most_shipments(by_spans: &[Branching]) -> usize
-    ensures { 1 ≤ result }
-{
-    if by_spans.is_empty() {
-        MOST_TRIED
-    } else {
-        MOST_BESIDE_SPANS
-    }
-}
-
-// The splits by which a leaf may be divided in which a shipment has several ways to go: first those by
-// the trucks of arcs and by ways, and then those by shipments, by the leaf's price and by walks of least cost under it.
+// The splits by which a leaf may be divided in which a shipment has several ways to go: those by the trucks of
+// arcs and by ways, and where there are none those by shipments, by the leaf's price and by walks of least cost
+// under it: beside the others they were measured to gain nothing.
 pub(crate) fn branchings<D: Deadline>(
     resources: &Resources<D>,
     search: &Search,
@@ -177,7 +164,9 @@ pub(crate) fn branchings<D: Deadline>(
     ensures some { IfOk result (λ list. 1 ≤ length list.items) }
 {
     let mut list = span_branchings(resources, search, leaf, nets, price, prices)?;
-    let most = most_shipments(&list);
+    if !list.is_empty() {
+        return Ok(list);
+    }
     let by_shipments = candidates(
         resources.alloc,
         leaf,
@@ -185,7 +174,7 @@ pub(crate) fn branchings<D: Deadline>(
         price.kind,
         price.forced,
         walks,
-        most,
+        MOST_TRIED,
     )?;
     for place in 0..by_shipments.len() {
         list.push(by_shipment(by_shipments[place]))?;

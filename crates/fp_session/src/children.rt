@@ -24,7 +24,7 @@ use fp_tree::{Side, Split};
 use std::alloc::Global;
 
 // The sides of the leaf on one side of a split of a leaf.
-fn sides_below(alloc: Global, leaf: &Leaf, side: Side) -> Result<Vec<Side>, NoMemory>
+pub(crate) fn sides_below(alloc: Global, leaf: &Leaf, side: Side) -> Result<Vec<Side>, NoMemory>
     ensures { IfOk result (λ sides. sides.items ≡ leaf.now.sides ++ (side ∷ [])) }
 {
     let mut sides = leaf.sides().to_vec(alloc)?;
@@ -38,16 +38,7 @@ pub(crate) fn is_by_spans(split: Split) -> bool {
     matches!(split, Split::ByTrucks { .. } | Split::ByWay { .. })
 }
 
-// The effort at a leaf below a split while it's tried, where it has no price of its own yet.
-pub(crate) fn trial_effort(split: Split) -> PriceEffort {
-    if is_by_spans(split) {
-        PriceEffort::span_trial()
-    } else {
-        PriceEffort::CHILD
-    }
-}
-
-// The effort there once the leaf is split.
+// The effort at a leaf below a split, once the leaf above is split.
 fn child_effort(search: &Search, split: Split) -> PriceEffort {
     if is_by_spans(split) {
         PriceEffort::by_spans(search.instance.shipments().len())

@@ -9,11 +9,11 @@ ghost use Rattle.fp_session.specs.Searches.{IsSearch, history, setting_of};
 
 use crate::NoMemory;
 use crate::branchings::{Branching, branchings};
-use crate::children::{is_by_spans, new_child, trial_effort};
+use crate::children::{is_by_spans, new_child, sides_below};
 use crate::dividing::Several;
 use crate::kept::{Below, Kept};
 use crate::searches::Search;
-use fp_duals_leaves::Prices;
+use fp_duals_leaves::{PriceEffort, Prices, promised_value};
 use fp_duals_nets::LentNets;
 use fp_ends::{Deadline, Resources};
 use fp_prices::{Leaf, LeafPrice};
@@ -59,9 +59,14 @@ fn is_more(promise: Promise, other: Promise, by_both: bool) -> bool {
     promise.worse > other.worse || (promise.worse == other.worse && promise.better > other.better)
 }
 
+// The most that a side is worth to a search: what the incumbent costs.
+fn most_worth(search: &Search) -> u128 {
+    u128::from(search.instance.scale()).saturating_mul(search.cost)
+}
+
 // What a side is worth to a search: at most what the incumbent costs, and as much where it is empty.
 fn worth(search: &Search, kept: Kept) -> u128 {
-    let most = u128::from(search.instance.scale()).saturating_mul(search.cost);
+    let most = most_worth(search);
     if kept.payload.empty {
         most
     } else {
@@ -69,22 +74,65 @@ fn worth(search: &Search, kept: Kept) -> u128 {
     }
 }
 
-// What the sides of a split promise of which this is kept.
-fn promise_of(search: &Search, below: Below) -> Promise {
-    let first = worth(search, below.first);
-    let second = worth(search, below.second);
+// What two sides promise of which one is worth so much, and the other so much.
+fn promise_of(one: u128, other: u128) -> Promise {
     Promise {
-        worse: first.min(second),
-        better: first.max(second),
+        worse: one.min(other),
+        better: one.max(other),
     }
 }
 
-// What is kept of the leaf on one side of a split that is tried, after little effort.
+// What a side of a split by trucks or by a way promises after few turns: at most what the incumbent costs.
+fn side_promise<D: Deadline>(
+    resources: &Resources<D>,
+    search: &Search,
+    leaf: &Leaf,
+    side: Side,
+    inherited: LeafPrice,
+    prices: &Prices,
+) -> Result<u128, NoMemory>
+    requires setting { leaf.now.setting ≡ setting_of search.now }
+    requires search { IsSearch search.now prices.now }
+    requires kind { HasKind prices.now.tables inherited.kind }
+{
+    let sides = sides_below(resources.alloc, leaf, side)?;
+    let below = Leaf::of(resources.alloc, leaf.round(), leaf.windows(), &sides)?;
+    let mut nets = LentNets::new();
+    let value = promised_value(resources, &below, &mut nets, inherited, prices)?;
+    Ok(value.min(most_worth(search)))
+}
+
+// What the sides of a split by trucks or by a way promise.
+fn span_promise<D: Deadline>(
+    resources: &Resources<D>,
+    search: &Search,
+    leaf: &Leaf,
+    branching: Branching,
+    inherited: LeafPrice,
+    prices: &Prices,
+) -> Result<Promise, NoMemory>
+    requires setting { leaf.now.setting ≡ setting_of search.now }
+    requires search { IsSearch search.now prices.now }
+    requires kind { HasKind prices.now.tables inherited.kind }
+{
+    let Branching { split, tail } = branching;
+    let one = side_promise(resources, search, leaf, split.first(), inherited, prices)?;
+    let other = side_promise(
+        resources,
+        search,
+        leaf,
+        split.second(tail),
+        inherited,
+        prices,
+    )?;
+    Ok(promise_of(one, other))
+}
+
+// What is kept of the leaf on one side of a split by a shipment that is tried, after little effort.
 fn trial_child<D: Deadline>(
     resources: &Resources<D>,
     search: &Search,
     leaf: &Leaf,
-    split: Split,
     side: Side,
     inherited: LeafPrice,
     prices: &mut Prices,
@@ -96,7 +144,7 @@ fn trial_child<D: Deadline>(
     ensures kept { IfOk result (λ kept.
         IsKept (history search.now prices.new) (leaf.now.sides ++ (side ∷ [])) kept.payload kept.value) }
 {
-    let effort = &trial_effort(split);
+    let effort = &PriceEffort::CHILD;
     new_child(resources, search, leaf, side, inherited, effort, prices)
 }
 
@@ -119,8 +167,8 @@ fn both_sides<D: Deadline>(
     let Branching { split, tail } = branching;
     let one = split.first();
     let other = split.second(tail);
-    let first = trial_child(resources, search, leaf, split, one, inherited, prices)?;
-    let second = trial_child(resources, search, leaf, split, other, inherited, prices)?;
+    let first = trial_child(resources, search, leaf, one, inherited, prices)?;
+    let second = trial_child(resources, search, leaf, other, inherited, prices)?;
     Ok(Below { first, second })
 }
 
@@ -130,16 +178,14 @@ fn trial_of(search: &Search, branching: Branching, below: Below, before: u32, af
     ensures branching { result.chosen.branching ≡ branching }
     ensures below { IfSome result.chosen.below (λ told. (after ≤ before) × (told ≡ below)) }
 {
-    let promise = promise_of(search, below);
-    // A split by spans is priced again with more effort than its trial has.
-    let told = after <= before && !is_by_spans(branching.split);
-    let below = if told { Some(below) } else { None };
+    let promise = promise_of(worth(search, below.first), worth(search, below.second));
+    let below = if after <= before { Some(below) } else { None };
     let chosen = Chosen { branching, below };
     Trial { chosen, promise }
 }
 
-// A trial of a branching. The prices are as before: further tables serve the trial alone.
-fn tried<D: Deadline>(
+// A trial of a branching by a shipment. The prices are as before: further tables serve the trial alone.
+fn tried_by_sides<D: Deadline>(
     resources: &Resources<D>,
     search: &Search,
     leaf: &Leaf,
@@ -167,6 +213,35 @@ fn tried<D: Deadline>(
             Err(error)
         }
     }
+}
+
+// A trial of a branching. Of the sides of one by trucks or by a way nothing is kept: they are priced again with
+// more effort than their trial has.
+fn tried<D: Deadline>(
+    resources: &Resources<D>,
+    search: &Search,
+    leaf: &Leaf,
+    branching: Branching,
+    inherited: LeafPrice,
+    prices: &mut Prices,
+) -> Result<Trial, NoMemory>
+    requires setting { leaf.now.setting ≡ setting_of search.now }
+    requires search { IsSearch search.now prices.old }
+    requires going { search.now.left ≡ None }
+    requires branching { IsBranching (history search.now prices.old) leaf.now.sides branching }
+    requires kind { HasKind prices.old.tables inherited.kind }
+    ensures same { prices.new ≡ prices.old }
+    ensures chosen { IfOk result (λ trial. IsChosen (history search.now prices.old) leaf.now.sides trial.chosen) }
+{
+    if !is_by_spans(branching.split) {
+        return tried_by_sides(resources, search, leaf, branching, inherited, prices);
+    }
+    let promise = span_promise(resources, search, leaf, branching, inherited, prices)?;
+    let chosen = Chosen {
+        branching,
+        below: None,
+    };
+    Ok(Trial { chosen, promise })
 }
 
 // The branching whose sides promise most, the first of these, of those that are tried in time. The

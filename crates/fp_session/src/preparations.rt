@@ -37,6 +37,23 @@ pub(crate) enum Preparation {
     Nothing,
 }
 
+// Among at most so many shipments a look takes as long as many rounds of a series.
+const FEW_SHIPMENTS: usize = 100;
+
+// How much work lies between two looks, in rounds: among fewer shipments, where a round takes less time, there
+// is more; and where rounds come in series, of which each takes little time beside a look, more still.
+fn work_between_looks(instance: &Instance, has_series: bool) -> usize
+    ensures { 1 ≤ result }
+{
+    let shipments = instance.shipments().len().max(1);
+    let work = match (has_series, shipments <= FEW_SHIPMENTS) {
+        (true, true) => 800 / shipments,
+        (true, false) => 6,
+        (false, _) => 400 / shipments,
+    };
+    work.max(1)
+}
+
 impl Preparation {
     // What is done after it.
     fn next(self) -> Preparation
@@ -62,9 +79,7 @@ impl Preparation {
         }
     }
 
-    // What is done next after more work than `before`, in rounds: among fewer shipments, where a round
-    // takes less time, looks are rarer; and where rounds come in series, of which each takes little time
-    // beside a look among many shipments, there are some between two looks.
+    // What is done next after more work than `before`, in rounds.
     pub(crate) fn after_work(
         self,
         before: usize,
@@ -72,8 +87,7 @@ impl Preparation {
         instance: &Instance,
         has_series: bool,
     ) -> Preparation {
-        let least = if has_series { 6 } else { 1 };
-        let every = (400 / instance.shipments().len().max(1)).max(least);
+        let every = work_between_looks(instance, has_series);
         if self == Preparation::Nothing && before / every < now / every {
             Preparation::LaterLook
         } else {

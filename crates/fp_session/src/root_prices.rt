@@ -54,14 +54,6 @@ const TABLES: PriceEffort = PriceEffort {
     spans: None,
 };
 
-// The effort by spans alone.
-fn spans_alone() -> PriceEffort {
-    PriceEffort {
-        spans: PriceEffort::ROOT.spans,
-        ..PriceEffort::NONE
-    }
-}
-
 // The number of the root, as long as it is an open leaf that no step has worked on.
 fn open_root(search: &Search) -> Option<u32>
     ensures { IfSome result (IsWorkable search.now.tree) }
@@ -196,7 +188,7 @@ pub(crate) fn priced_by_spans<D: Deadline>(
     }
     let pricing = Pricing {
         inherited: search.tree.payload(number).valuation.price,
-        effort: spans_alone(),
+        effort: PriceEffort::first(search.instance.shipments().len()),
         times_walks: false,
         improved: Some(0),
     };

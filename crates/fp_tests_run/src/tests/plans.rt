@@ -272,7 +272,7 @@ fn splits_by_spans_are_accepted(rt: HostRuntime) -> Result<(), Fail> {
             1,
             0,
         ),
-        ("plan --spans --branches 3", 0, "answer,optimal,245\n", 1, 2),
+        ("plan --spans --branches 3", 0, "answer,optimal,245\n", 2, 1),
         ("plan --branches 3", 10, "answer,unfinished,245,", 0, 0),
     ] {
         let (status, text) = run_on(alloc, line, WAYS)?;

@@ -44,5 +44,5 @@ pub returns-clause-some : goal.returns-clause-some
 returns-clause-some g c =
     let several = c.requires.several in
     let some : 1 ≤ length c.in_ok-by_shipments.by_shipments.items =
-    c.in_ok-by_shipments.ensures.some (omega (arith, c.most_shipments-most.ensures)) several.0.shipment several.0.terminal (EndsInSeveral-several c.args.leaf.now several.0 several.1) in
+    c.in_ok-by_shipments.ensures.some (omega (arith)) several.0.shipment several.0.terminal (EndsInSeveral-several c.args.leaf.now several.0 several.1) in
     omega (arith, some, c.loop-place-test.false, c.loop-place.invariant.some)

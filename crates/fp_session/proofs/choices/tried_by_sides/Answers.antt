@@ -2,7 +2,7 @@
 use Rattle.std.proofs.Common.{arith}
 use Rattle.fp_session.proofs.SameHands.{cut-back, cut-few}
 use Rattle.fp_session.proofs.Trials.{chosen-tried}
-use Rattle.fp_session.proofs.choices.tried.Goals as goal
+use Rattle.fp_session.proofs.choices.tried_by_sides.Goals as goal
 
 pub cut-requires : goal.cut-requires
 cut-requires g c =
