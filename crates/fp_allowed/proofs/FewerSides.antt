@@ -77,4 +77,4 @@ obey-from p d k (r ∷ routes) = (legs-obey p d k r, obey-from p d (k + 1) route
 
 -- routes over any denominator obey no sides
 pub PlanObeys-none : (p : Problem) (d : ℕ) (routes : List (List Leg)) → PlanObeys p d [] routes
-PlanObeys-none p d routes = record { legs = obey-from p d 0 routes; trucks = tt }
+PlanObeys-none p d routes = record { legs = obey-from p d 0 routes; trucks = tt; ways = tt }

@@ -2,7 +2,7 @@
 -- its tail, written as a leg that leaves at that point. The source of classes, as timed arcs:
 -- Boland, Hewitt, Marshall and Savelsbergh, "The Continuous-Time Service Network Design Problem",
 -- Operations Research 65, 2017. Sides and forced chains are this project's own.
-use Rattle.std.specs.Prelude.{ℕ, ◌+◌, ◌≡◌, ◌≢◌, List, [], ◌∷◌, ◌++◌, length, Bool, true, false, ◌&&◌, ◌||◌, not, nat_eq, nat_lt, nat_le, Option, Some, None, All, Contains}
+use Rattle.std.specs.Prelude.{ℕ, ◌+◌, ◌≡◌, ◌≢◌, List, [], ◌∷◌, ◌++◌, length, Bool, true, false, ◌&&◌, ◌||◌, not, nat_eq, nat_lt, nat_le, Option, Some, None, All, Contains, map}
 use Rattle.std.specs.List.{AllByRecursion, list_all}
 use Rattle.fp_base_lists.specs.Below.{some_below}
 use Rattle.fp_model.specs.declared.parts.Leg.{Leg}
@@ -14,7 +14,7 @@ use Rattle.fp_timenodes.specs.Floor.{floor_point}
 use Rattle.fp_flatnet.specs.declared.window_tables.Window.{Window}
 use Rattle.fp_tree.specs.declared.sides.Side.{Side}
 use Rattle.fp_tree.specs.declared.sides.Side.TheVariants.{Without, Only, Before, From, AtMost, MoreThan, Through}
-use Rattle.fp_tree.specs.Sides.{Exit, HasCounts, MeetsAll}
+use Rattle.fp_tree.specs.Sides.{Exit, HasCounts, HasWays, MeetsAll}
 
 -- the terminal that an arc leaves
 abbrev pub tails_of : Problem → ℕ → ℕ
@@ -81,8 +81,9 @@ pub record IsForcedChain (p : Problem) (allowed : Leg → Bool) (s : Shipment) (
   pub forced : AreForced p allowed s.to [] s.from chain
   pub whole : (c : Leg) → AreForced p allowed s.to [] s.from (chain ++ (c ∷ [])) → ⊥
 
--- over the denominator d, each leg of each shipment meets the sides, and so many trucks leave as they
--- ask
+-- over the denominator d, each leg of each shipment meets the sides, so many trucks leave as they ask, and
+-- each shipment goes by the arcs that they ask it to go by
 pub record PlanObeys (p : Problem) (d : ℕ) (sides : List Side) (routes : List (List Leg)) : Type 0 where
   pub legs : AllFrom (λ k r. AllByRecursion (λ (l : Leg). MeetsAll d k sides (exit_of p l)) r) 0 routes
   pub trucks : HasCounts (trucks_between p d routes) sides
+  pub ways : HasWays (map (map (exit_of p)) routes) sides

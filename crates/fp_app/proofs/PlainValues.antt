@@ -15,10 +15,11 @@ use Rattle.fp_allowed.specs.Walks.{IsTimedWalk}
 use Rattle.fp_prices.specs.declared.leaf_prices.Kind.{Kind}
 use Rattle.fp_prices.specs.declared.leaf_prices.Kind.TheVariants.{Linear}
 use Rattle.fp_prices.specs.FlatBounds.{IsFlatBound}
-use Rattle.fp_prices.specs.Leaves.{IsChain, IsLeafValue, IsLeastCost, IsLeastCostBy, leaf_price, walk_cost}
+use Rattle.fp_prices.specs.Leaves.{IsChain, IsLeafValue, IsLeastCost, leaf_price, walk_cost}
 use Rattle.fp_prices.specs.Shares.{ClassShare}
 use Rattle.fp_prices.proofs.FlatBounds.{flat-le}
 use Rattle.fp_prices_spans.specs.SpanLeaves.{IsSpanLeafValue, leaf_heads}
+use Rattle.fp_prices_spans.specs.Ways.{IsLeastCostVia, leaf_ways}
 use Rattle.fp_prices_spans.specs.SpanPrices.{leaf_span_price}
 use Rattle.fp_prices_spans.proofs.LeafHeads.{leaf_walk-timed}
 use Rattle.fp_prices_spans.specs.Spans.{ClassSpan}
@@ -45,15 +46,15 @@ least-not_none p points allowed s price walk timed none =
     (walk_cost p price s.size walk) (walk, timed, refl)
 
 -- nor can all of them, where each has a least cost by the heads of a leaf, of a walk that is a timed walk too
-costs-not_none : (p : Problem) (windows : ℕ → ℕ → Option Window) (points : ℕ → List ℕ) (spans : List ClassSpan) (allowed : ℕ → Leg → Bool) (price other : ℕ → Shipment → Leg → ℕ) (i : ℕ) (shipments : List Shipment) (costs : List ℕ) →
-    AllZipFrom (λ k (s : Shipment) n. IsLeastCostBy p (leaf_heads p windows points spans k) (allowed k) s (price k s) n) i shipments costs →
+costs-not_none : (p : Problem) (windows : ℕ → ℕ → Option Window) (points : ℕ → List ℕ) (spans : List ClassSpan) (ways : ℕ → List ℕ) (allowed : ℕ → Leg → Bool) (price other : ℕ → Shipment → Leg → ℕ) (i : ℕ) (shipments : List Shipment) (costs : List ℕ) →
+    AllZipFrom (λ k (s : Shipment) n. IsLeastCostVia p (leaf_heads p windows points spans k) (ways k) (allowed k) s (price k s) n) i shipments costs →
     ((others : List ℕ) → AllZipFrom (λ k (s : Shipment) n. IsLeastCost p points (allowed k) s (other k s) n) i shipments others → ⊥) → ⊥
-costs-not_none p windows points spans allowed price other i [] [] least none = none [] tt
-costs-not_none p windows points spans allowed price other i [] (n ∷ costs) least none = absurd least
-costs-not_none p windows points spans allowed price other i (s ∷ shipments) [] least none = absurd least
-costs-not_none p windows points spans allowed price other i (s ∷ shipments) (n ∷ costs) least none =
-    least-not_none p points (allowed i) s (other i s) least.0.walk (leaf_walk-timed p windows points spans i (allowed i) s least.0.walk least.0.timed) (λ m is.
-    costs-not_none p windows points spans allowed price other (i + 1) shipments costs least.1 (λ others are. none (m ∷ others) (is, are)))
+costs-not_none p windows points spans ways allowed price other i [] [] least none = none [] tt
+costs-not_none p windows points spans ways allowed price other i [] (n ∷ costs) least none = absurd least
+costs-not_none p windows points spans ways allowed price other i (s ∷ shipments) [] least none = absurd least
+costs-not_none p windows points spans ways allowed price other i (s ∷ shipments) (n ∷ costs) least none =
+    least-not_none p points (allowed i) s (other i s) least.0.walk (leaf_walk-timed p windows points spans i (allowed i) s least.0.walk least.0.is.by_heads) (λ m is.
+    costs-not_none p windows points spans ways allowed price other (i + 1) shipments costs least.1 (λ others are. none (m ∷ others) (is, are)))
 
 -- a plain leaf counts no chains
 abbrev no_chains : List Shipment → List (List Leg)
@@ -69,7 +70,7 @@ linear-not_none : (p : Problem) (windows : ℕ → ℕ → Option Window) (point
 linear-not_none p windows points sides tables spans kind forced value is none =
     let allowed : ℕ → Leg → Bool = is_allowed p windows points sides in
     let chains : List (List Leg) = no_chains p.shipments in
-    costs-not_none p windows points spans allowed (λ k (s : Shipment). leaf_span_price p tables spans allowed kind is.chains k s.size) (λ k (s : Shipment). leaf_price p [] allowed Linear chains k s.size) 0 p.shipments is.costs is.are_least
+    costs-not_none p windows points spans (leaf_ways p sides spans) allowed (λ k (s : Shipment). leaf_span_price p tables spans allowed kind is.chains k s.size) (λ k (s : Shipment). leaf_price p [] allowed Linear chains k s.size) 0 p.shipments is.costs is.are_least
     (λ others are. none (p.scale * departures_cost p chains (all_legs chains) + sum_by (λ (n : ℕ). n) others) (record {
       chains = chains;
       costs = others;

@@ -22,17 +22,17 @@ use Rattle.fp_prices.specs.declared.values.bounds.LeafBound.TheVariants.{Value}
 use Rattle.fp_prices.specs.declared.leaf_prices.Kind.{Kind}
 use Rattle.fp_prices.specs.declared.leaf_prices.Kind.TheVariants.{Even, Linear}
 use Rattle.fp_prices.specs.declared.leaf_prices.LeafPrice.{LeafPrice}
-use Rattle.fp_prices.specs.Leaves.{IsFirstWithout, IsPlanOfLeaf}
+use Rattle.fp_prices.specs.Leaves.{IsPlanOfLeaf}
 use Rattle.fp_prices.specs.Shares.{ClassShare}
 use Rattle.fp_prices.specs.Tables.{AreTables}
-use Rattle.fp_prices.proofs.PlanBounds.{leaf-empty}
 use Rattle.fp_prices.proofs.SamePoints.{bound-same}
 use Rattle.fp_prices_gifts.specs.declared.gifts.Gift.{Gift}
 use Rattle.fp_prices_gifts.specs.GiftKinds.{gifts_beside}
 use Rattle.fp_prices_gifts.proofs.GiftBounds.{gift_leaf-bounds}
 use Rattle.fp_prices_gifts.proofs.OneGiftValue.{values-without-gifts}
 use Rattle.fp_prices_spans.specs.SpanKinds.{spans_beside}
-use Rattle.fp_prices_spans.specs.SpanLeaves.{IsSpanLeafValue}
+use Rattle.fp_prices_spans.specs.SpanLeaves.{IsSpanLeafEmpty, IsSpanLeafValue}
+use Rattle.fp_prices_spans.proofs.LeafWays.{leaf_route-via}
 use Rattle.fp_prices_spans.specs.MomentRuns.{AreAmong}
 use Rattle.fp_prices_spans.specs.Spans.{ClassSpan}
 use Rattle.fp_prices_spans.proofs.SameSpanValues.{span_value-same}
@@ -50,9 +50,9 @@ IsPlanOfLeaf-root : (p : Problem) (windows : ℕ → ℕ → Option Window) → 
 IsPlanOfLeaf-root p windows covers d routes some plan = record { denominator = some; plan = plan; within = covers d routes some plan; obeys = PlanObeys-none p d routes }
 
 -- where a plan exists, the root isn't empty
-pub root-not_empty : (p : Problem) (windows : ℕ → ℕ → Option Window) (points : ℕ → List ℕ) (k : ℕ) → CoverPlans p windows → PlanExists p → IsFirstWithout p windows points [] k → ⊥
-root-not_empty p windows points k covers exists first =
-    leaf-empty p windows points [] (record { shipment = k; exists = first.exists; none = first.none }) exists.0 exists.1 (IsPlanOfLeaf-root p windows covers exists.0 exists.1 exists.2 exists.3)
+pub root-not_empty : (p : Problem) (windows : ℕ → ℕ → Option Window) (points : ℕ → List ℕ) (spans : List ClassSpan) → CoverPlans p windows → PlanExists p → IsSpanLeafEmpty p windows points [] spans → ⊥
+root-not_empty p windows points spans covers exists empty =
+    empty.none _ (leaf_route-via p windows points [] spans exists.0 empty.shipment exists.1 empty.exists (IsPlanOfLeaf-root p windows covers exists.0 exists.1 exists.2 exists.3))
 
 -- no plan costs less than a value of the root in whole units
 root-plans : (p : Problem) (table : WindowTable) (points : ℕ → List ℕ) (tables : List (List ClassShare)) (spans : List ClassSpan) (kind : Kind) (forced : Bool) (value : ℕ) → IsValid p → AreAmong p (initial_points p table.anchors) points →

@@ -52,7 +52,6 @@ use Rattle.fp_session_history.specs.PrintedLeaves.{IsEmptyAt, IsPrintedLeaf, IsW
 use Rattle.fp_session_history.specs.Solutions.{HasCause, IsEarnedSolution, IsTimely, Solution, branches_shown, history_of, leaves_shown}
 use Rattle.fp_session_history.specs.Splits.{IsEarnedAt, IsValueAt}
 use Rattle.fp_session_history.proofs.AddedPoints.{AreAddedPoints-IsEarnedTrace, points-in_time}
-use Rattle.fp_session_history.proofs.EmptyLeaves.{empty-by_heads}
 use Rattle.fp_session_history.proofs.Enough.{EnoughBranches_hold, EnoughRounds_hold}
 use Rattle.fp_session.specs.Certificates.{IsPricedBy}
 use Rattle.fp_session.specs.Sessions.{SessionModel}
@@ -78,7 +77,7 @@ flat-price h sides v flat value least (inl empty) is =
     let price : LeafPrice = v.price in
     let whole : IsPricedValue h.problem (windows_in h.windows) (points_of h price.round) sides h.tables h.spans h.gifts price.kind price.forced value =
     subst (λ (o : Option ℕ). IsPricedValue h.problem (windows_in h.windows) (points_of h price.round) (first_sides o sides) h.tables h.spans h.gifts price.kind price.forced value) empty.whole is in
-    absurd (gift_leaves-have-one-value.some h.problem (windows_in h.windows) (points_of h price.round) sides h.tables (spans_beside h.spans price.kind) (gifts_beside h.gifts price.kind) price.kind price.forced value whole (empty-by_heads h sides v empty))
+    absurd (gift_leaves-have-one-value.some h.problem (windows_in h.windows) (points_of h price.round) sides h.tables (spans_beside h.spans price.kind) (gifts_beside h.gifts price.kind) price.kind price.forced value whole empty.empty)
 flat-price h sides v flat value least (inr earned) is =
     let price : LeafPrice = v.price in
     let under : List Side = sides_valued v sides in

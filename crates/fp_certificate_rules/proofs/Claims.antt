@@ -1,5 +1,5 @@
 -- What an accepted certificate claims is true.
-use Rattle.std.proofs.Common.{◌≡◌, ℕ, zero, suc, ◌+◌, ◌*◌, ◌<◌, ◌≤◌, List, [], ◌∷◌, length, take, ⊎_elim, refl, sym, subst, arith}
+use Rattle.std.proofs.Common.{◌≡◌, ℕ, zero, suc, ◌+◌, ◌*◌, ◌<◌, ◌≤◌, List, [], ◌∷◌, length, map, take, ⊎_elim, refl, sym, subst, arith}
 use Rattle.std.specs.Prelude.{Option, Some, None, slice_index_or}
 use Rattle.std.specs.Int.{div_ceil}
 use Rattle.std.specs.List.{AllByRecursion}
@@ -25,7 +25,7 @@ use Rattle.fp_allowed.specs.Allowed.{exit_of}
 use Rattle.fp_tree.specs.declared.sides.Side.{Side}
 use Rattle.fp_tree.specs.declared.sides.Split.{Split}
 use Rattle.fp_tree.specs.declared.sides.Split.TheVariants.{ByArc, ByTime, ByTrucks, ByWay}
-use Rattle.fp_tree.specs.Sides.{Counts, Exit, HasCount, HasCounts, IsTailOfSplit, Meets, MeetsAll}
+use Rattle.fp_tree.specs.Sides.{Counts, Exit, HasCount, HasCounts, HasWay, HasWays, IsTailOfSplit, Meets, MeetsAll}
 use Rattle.fp_tree.specs.Trees.{HaveTails, Leaf, tree_leaves}
 use Rattle.fp_prices.specs.declared.leaf_prices.LeafPrice.{LeafPrice}
 use Rattle.fp_prices.specs.Leaves.{IsPlanOfLeaf}
@@ -35,7 +35,7 @@ use Rattle.fp_prices_gifts.proofs.GiftBounds.{gift_leaf-bounds}
 use Rattle.fp_prices_spans.specs.SpanKinds.{spans_beside}
 use Rattle.fp_prices_spans.specs.SpanLeaves.{IsSpanLeafEmpty}
 use Rattle.fp_prices_spans.specs.Spans.{ClassSpan}
-use Rattle.fp_prices_spans.proofs.LeafHeads.{leaf_route-walk}
+use Rattle.fp_prices_spans.proofs.LeafWays.{leaf_route-via}
 use Rattle.fp_certificate_lines.specs.declared.certificates.Answer.{Answer}
 use Rattle.fp_certificate_lines.specs.declared.certificates.Answer.TheVariants.{Direct, Optimal, Unfinished, Infeasible}
 use Rattle.fp_certificate_lines.specs.declared.certificates.Node.{Node}
@@ -79,6 +79,11 @@ count-first : (counts : Counts) (count : Option ℕ) (sides : List Side) → Has
 count-first counts None sides has = has
 count-first counts (Some count) sides has = all-first (HasCount counts) count sides has
 
+-- and by whatever arcs all ask a shipment to go, the first ones do
+ways-first : (routes : List (List Exit)) (count : Option ℕ) (sides : List Side) → HasWays routes sides → HasWays routes (first_sides count sides)
+ways-first routes None sides has = has
+ways-first routes (Some count) sides has = all-first (HasWay routes) count sides has
+
 -- so a plan of a leaf is one of the leaf of those sides under which it is valued
 of-first-sides : (p : Problem) (windows : ℕ → ℕ → Option Window) (d : ℕ) (plan : List (List Leg)) (v : Valuation) (sides : List Side) → IsPlanOfLeaf p windows sides d plan →
     IsPlanOfLeaf p windows (sides_valued v sides) d plan
@@ -86,14 +91,14 @@ of-first-sides p windows d plan v sides of_leaf = record {
   denominator = of_leaf.denominator;
   plan = of_leaf.plan;
   within = of_leaf.within;
-  obeys = record { legs = obey-first p d 0 v.sides sides plan of_leaf.obeys.legs; trucks = count-first (trucks_between p d plan) v.sides sides of_leaf.obeys.trucks };
+  obeys = record { legs = obey-first p d 0 v.sides sides plan of_leaf.obeys.legs; trucks = count-first (trucks_between p d plan) v.sides sides of_leaf.obeys.trucks; ways = ways-first (map (map (exit_of p)) plan) v.sides sides of_leaf.obeys.ways };
 }
 
--- a leaf that is empty by its heads has no plan: the classes of a plan's route are a walk by them
+-- a leaf that is empty by its heads and ways has no plan: the classes of a plan's route are a walk by them
 span_leaf-empty : (p : Problem) (windows : ℕ → ℕ → Option Window) (points : ℕ → List ℕ) (sides : List Side) (spans : List ClassSpan) → IsSpanLeafEmpty p windows points sides spans → (d : ℕ) (plan : List (List Leg)) →
     IsPlanOfLeaf p windows sides d plan → ⊥
 span_leaf-empty p windows points sides spans empty d plan of_leaf =
-    empty.none _ (leaf_route-walk p windows points sides spans d empty.shipment plan empty.exists of_leaf)
+    empty.none _ (leaf_route-via p windows points sides spans d empty.shipment plan empty.exists of_leaf)
 
 -- a plan of a leaf costs at least what the leaf is worth
 IsLeafWorth-cost : (p : Problem) (table : WindowTable) (c : Statement) (claim d : ℕ) (plan : List (List Leg)) (x : Node) (sides : List Side) → IsValid p → AreKept p table c →

@@ -63,7 +63,11 @@ module _ (p : Problem) (windows : ℕ → ℕ → Option Window) (sides : List S
 
   -- without spans and gifts the bound is that by the tables
   bare-bound : (points : ℕ → List ℕ) (b : LeafBound) → IsBoundOf p windows points sides tables kind forced b → IsGiftBoundOf p windows points sides tables [] [] kind forced b
-  bare-bound points (Empty shipment) is = is
+  bare-bound points (Empty shipment) is = record {
+    exists = is.exists;
+    none = λ walk via. is.none walk via.by_heads;
+    before = λ j below none. is.before j below (λ walk goes. none walk (record { by_heads = goes; goes_by = tt }));
+  }
   bare-bound points (Value value) is =
       (values-without-gifts p windows points sides tables [] kind forced value).1 ((spanless-values p windows points sides tables kind forced value).1 is)
 

@@ -10,13 +10,13 @@ use Rattle.fp_tree.specs.declared.sides.Side.{Side}
 use Rattle.fp_prices.specs.declared.values.bounds.LeafBound.{LeafBound}
 use Rattle.fp_prices.specs.declared.values.bounds.LeafBound.TheVariants.{Empty, Value}
 use Rattle.fp_prices.specs.declared.leaf_prices.LeafPrice.{LeafPrice}
-use Rattle.fp_prices.specs.Leaves.{HasNoWalkBy, IsFirstWithoutBy}
 use Rattle.fp_allowed.specs.Allowed.{is_allowed}
 use Rattle.fp_prices_gifts.specs.GiftKinds.{IsPricedValue, gifts_beside}
 use Rattle.fp_prices_gifts.specs.GiftLeaves.{IsGiftBound}
 use Rattle.fp_prices_gifts.proofs.OneGiftValue.{gift_leaves-have-one-value}
 use Rattle.fp_prices_spans.specs.SpanKinds.{spans_beside}
 use Rattle.fp_prices_spans.specs.SpanLeaves.{IsSpanLeafEmpty, leaf_heads}
+use Rattle.fp_prices_spans.specs.Ways.{HasNoWalkVia, IsFirstWithoutVia, leaf_ways}
 use Rattle.fp_certificate_rules.specs.Accepted.{claim_of}
 use Rattle.fp_certificate_rules.specs.Points.{points_as_of}
 use Rattle.fp_certificate_rules.specs.Units.{rounded_up}
@@ -42,11 +42,11 @@ IsBoundUnder t price sides found =
     IsGiftBound t.problem (windows_in t.windows) (points_as_of t.problem t.windows.anchors t.told price.round) sides t.told.tables (spans_beside t.told.spans price.kind) (gifts_beside t.told.gifts price.kind) price.kind price.forced found
 
 -- where no shipment is the first without a walk, none is without one
-none-without : (p : Problem) (heads : ℕ → Leg → ℕ) (allowed : ℕ → Leg → Bool) → ((k : ℕ) → IsFirstWithoutBy p heads allowed k → ⊥) → (n k : ℕ) → k < n → k < length p.shipments →
-    HasNoWalkBy p (heads k) (allowed k) (shipment_at p k) → ⊥
-none-without p heads allowed no_first zero k lt exists none = absurd (omega (arith, lt))
-none-without p heads allowed no_first (suc n) k lt exists none =
-    no_first k (record { exists = exists; none = none; before = λ j below alone. none-without p heads allowed no_first n j (omega (arith, lt, below)) (omega (arith, exists, below)) alone })
+none-without : (p : Problem) (heads : ℕ → Leg → ℕ) (ways : ℕ → List ℕ) (allowed : ℕ → Leg → Bool) → ((k : ℕ) → IsFirstWithoutVia p heads ways allowed k → ⊥) → (n k : ℕ) → k < n → k < length p.shipments →
+    HasNoWalkVia p (heads k) (ways k) (allowed k) (shipment_at p k) → ⊥
+none-without p heads ways allowed no_first zero k lt exists none = absurd (omega (arith, lt))
+none-without p heads ways allowed no_first (suc n) k lt exists none =
+    no_first k (record { exists = exists; none = none; before = λ j below alone. none-without p heads ways allowed no_first n j (omega (arith, lt, below)) (omega (arith, exists, below)) alone })
 
 module _ (t : Tested) (price : LeafPrice) (own sides : List Side) (bound : Option LeafBound) (alike : AskAlike own sides) (is : IsBoundUnder t price own bound) where
   abbrev p : Problem
@@ -59,7 +59,7 @@ module _ (t : Tested) (price : LeafPrice) (own sides : List Side) (bound : Optio
   empty-own None none = (
     λ no. absurd no,
     λ empty.
-        absurd (none-without p (leaf_heads p (windows_in t.windows) points (spans_beside t.told.spans price.kind)) (is_allowed p (windows_in t.windows) points own) (λ k first. none (Empty k) first)
+        absurd (none-without p (leaf_heads p (windows_in t.windows) points (spans_beside t.told.spans price.kind)) (leaf_ways p own (spans_beside t.told.spans price.kind)) (is_allowed p (windows_in t.windows) points own) (λ k first. none (Empty k) first)
         (suc empty.shipment) empty.shipment (omega arith) empty.exists empty.none),
   )
   empty-own (Some (Empty shipment)) b = (λ _. record { shipment = shipment; exists = b.exists; none = b.none }, λ _. tt)

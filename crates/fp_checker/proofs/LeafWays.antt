@@ -1,16 +1,18 @@
 -- The steps of a way to a leaf, and what its sides ask.
-use Rattle.std.proofs.Common.{◌≡◌, ℕ, ◌+◌, ◌*◌, ◌<◌, ◌≤◌, ⊎_elim, Bool, true, false, cond, List, [], ◌∷◌, ◌++◌, map, length, get_or, take, refl, sym, ap, ◌∙◌, subst, arith}
+use Rattle.std.proofs.Common.{◌≡◌, ℕ, ◌+◌, ◌*◌, ◌<◌, ◌≤◌, ⊎_elim, Bool, true, false, cond, List, [], ◌∷◌, ◌++◌, map, length, append-nil, get_or, take, refl, sym, ap, ◌∙◌, subst, arith}
 use Rattle.std.specs.Prelude.{◌&&◌, Option}
+use Rattle.std.specs.List.{filter_map}
 use Rattle.std.proofs.Math.Bool.{and-true}
 use Rattle.std.proofs.Math.ListN.{get_or-map}
 use Rattle.std.proofs.Math.Nat.{eq-or-lt_of_le, min-le_left, min-le_right}
-use Rattle.std.proofs.lemmas.List.{get_or-take, get_or_append_left, get_or_push, length-append, length-map, length-take, map-append, take-append-le, take_all, take_more}
+use Rattle.std.proofs.lemmas.List.{append_assoc, get_or-take, get_or_append_left, get_or_push, length-append, length-map, length-take, map-append, take-append-le, take_all, take_more}
+use Rattle.std.proofs.lemmas.List.Elements.{filter_map-append}
 use Rattle.std.proofs.lemmas.List.Folds.{list_all-append}
 use Rattle.std.specs.declared.alloc.Global.{Global}
 use Rattle.std.specs.declared.vec.Vec.{Vec}
 use Rattle.fp_tree.specs.declared.sides.Side.{Side}
 use Rattle.fp_tree.specs.declared.ways.Step.{Step}
-use Rattle.fp_tree.specs.Sides.{Exit, second}
+use Rattle.fp_tree.specs.Sides.{Exit, second, way_of, ways_of}
 use Rattle.fp_tree.specs.Ways.{fork_at, pending_after, pending_on, side_of, way_sides}
 use Rattle.fp_tree.proofs.Steps.{IsTurned-pending}
 use Rattle.fp_allowed.specs.Allowed.{meets, meets_all}
@@ -52,8 +54,17 @@ comes-numbers old new (e ∷ entries) is gift =
     ∙ ap (λ (o : Option ℕ). better gift.least o rest) (is.1.numbers gift)
     ∙ sym (better-last gift.least (gift_number old gift) (number_by gift (side_of e.step)) rest)
 
+-- and so are the arcs that they ask shipments to go by
+comes-ways : (old new : List Side) (entries : List Entry) → ComesBy old entries new → (k : ℕ) → ways_of k new ≡ ways_of k old ++ ways_of k (way_sides (map (λ (e : Entry). e.step) entries))
+comes-ways old new [] is k = ap (ways_of k) is ∙ sym (append-nil (ways_of k old))
+comes-ways old new (e ∷ entries) is k =
+    let rest : List Side = way_sides (map (λ (y : Entry). y.step) entries) in
+    let side : Side = side_of e.step in
+    comes-ways is.0 new entries is.2 k ∙ ap (λ (ways : List ℕ). ways ++ ways_of k rest) (is.1.ways k) ∙ append_assoc (ways_of k old) (ways_of k (side ∷ [])) (ways_of k rest)
+    ∙ ap (λ (ways : List ℕ). ways_of k old ++ ways) (sym (filter_map-append (way_of k) (side ∷ []) rest))
+
 pub asks-alike : (new : List Side) (entries : List Entry) → ComesBy [] entries new → AskAlike new (way_sides (map (λ (e : Entry). e.step) entries))
-asks-alike new entries is = record { legs = λ k x. comes-alike [] new entries is k x; numbers = λ gift. comes-numbers [] new entries is gift }
+asks-alike new entries is = record { legs = λ k x. comes-alike [] new entries is k x; numbers = λ gift. comes-numbers [] new entries is gift; ways = λ k. comes-ways [] new entries is k }
 
 -- what one side more asks, of those of the first entries
 pub asks-first : (old new : List Side) (entries : List Entry) (i : ℕ) (e : Entry) (change : Change) → i < length entries → get_or entries i e ≡ e → AskAlike old (take i (way_sides (map (λ (y : Entry). y.step) entries))) →
@@ -74,6 +85,8 @@ asks-first old new entries i e change lt at alike added =
           let last : gift_number (take (i + 1) way) gift ≡ better gift.least (gift_number (take i way) gift) (number_by gift side) =
           ap (λ (l : List Side). gift_number l gift) more ∙ number-more (take i way) side gift in
           added.numbers gift ∙ ap (λ (o : Option ℕ). better gift.least o (number_by gift side)) (alike.numbers gift) ∙ sym last;
+      ways = λ k.
+          added.ways k ∙ ap (λ (ways : List ℕ). ways ++ ways_of k (side ∷ [])) (alike.ways k) ∙ sym (ap (ways_of k) more ∙ filter_map-append (way_of k) (take i way) (side ∷ []));
     }
 
 -- a last step by a second side leaves the trees to come as they are

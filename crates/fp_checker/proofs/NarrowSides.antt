@@ -1,12 +1,14 @@
 -- Sides that come to others, and what they ask together.
-use Rattle.std.proofs.Common.{◌≡◌, ℕ, zero, suc, ◌-◌, ◌<◌, Bool, true, false, List, [], ◌∷◌, ◌++◌, length, get_or, set, take, refl, ap, ◌∙◌, subst, arith}
-use Rattle.std.specs.Prelude.{◌&&◌}
-use Rattle.std.specs.List.{list_all}
+use Rattle.std.proofs.Common.{◌≡◌, ℕ, zero, suc, ◌-◌, ◌<◌, Bool, true, false, List, [], ◌∷◌, ◌++◌, length, append-nil, get_or, set, take, refl, sym, ap, ◌∙◌, subst, arith}
+use Rattle.std.specs.Prelude.{◌&&◌, None, Option}
+use Rattle.std.specs.List.{cons_option, list_all}
 use Rattle.std.proofs.lemmas.Bool.{false≢true}
 use Rattle.std.proofs.Math.Bool.{and-true}
 use Rattle.std.proofs.lemmas.List.{length-append, length-set, set-get_or, take-append-le, take_all}
+use Rattle.std.proofs.lemmas.List.Elements.{filter_map-append}
 use Rattle.std.proofs.lemmas.List.Folds.{list_all-append}
 use Rattle.fp_tree.specs.declared.sides.Side.{Side}
+use Rattle.fp_tree.specs.Sides.{way_of, ways_of}
 use Rattle.fp_allowed.specs.Allowed.{meets}
 use Rattle.fp_prices_gifts.specs.GiftNumbers.{better, number_by}
 use Rattle.fp_checker.specs.declared.rules.narrow_sides.Change.TheVariants.{Added, Replaced}
@@ -37,6 +39,16 @@ set-twice [] i side before = refl
 set-twice (x ∷ xs) zero side before = refl
 set-twice (x ∷ xs) (suc i) side before = ap (λ (rest : List Side). x ∷ rest) (set-twice xs i side before)
 
+-- where neither of two sides asks a shipment to go by an arc, one in the place of the other changes nothing of what is asked
+ways-set : (k : ℕ) (sides : List Side) (i : ℕ) (side d : Side) → way_of k side ≡ None → way_of k (get_or sides i d) ≡ None → ways_of k (set sides i side) ≡ ways_of k sides
+ways-set k [] i side d one other = refl
+ways-set k (x ∷ xs) zero side d one other = ap (λ (o : Option ℕ). cons_option o (ways_of k xs)) (one ∙ sym other)
+ways-set k (x ∷ xs) (suc i) side d one other = ap (cons_option (way_of k x)) (ways-set k xs i side d one other)
+
+-- one that asks for none adds none
+ways-none : (k : ℕ) (sides : List Side) (side : Side) → way_of k side ≡ None → ways_of k sides ≡ ways_of k sides ++ ways_of k (side ∷ [])
+ways-none k sides side none = sym (ap (λ (o : Option ℕ). ways_of k sides ++ cons_option o []) none ∙ append-nil (ways_of k sides))
+
 -- one in the place of another that it implies
 pub added-replaced : (old : List Side) (place : ℕ) (side before : Side) → place < length old → before ≡ get_or old place before → Implies side before → IsAdded old side (set old place side) (Replaced place before)
 added-replaced old place side before lt is implied = record {
@@ -45,6 +57,7 @@ added-replaced old place side before lt is implied = record {
   legs = λ k e. list_all-set (meets k e) old place side before lt (subst (λ (s : Side). (meets k e side && meets k e s) ≡ meets k e side) is (implied.legs k e));
   numbers = λ gift.
       number-set old place side before gift lt (subst (λ (s : Side). better gift.least (number_by gift side) (number_by gift s) ≡ number_by gift side) is (implied.numbers gift));
+  ways = λ k. ways-set k old place side before (implied.asks_none k) (subst (λ (s : Side). way_of k s ≡ None) is (implied.nor_other k)) ∙ ways-none k old side (implied.asks_none k);
 }
 
 -- a test that is implied by another is met where that is
@@ -67,6 +80,7 @@ added-implied old place side before lt is implied = record {
   legs = λ k e. list_all-implied (meets k e) old place side before lt (subst (λ (s : Side). (meets k e s && meets k e side) ≡ meets k e s) is (implied.legs k e));
   numbers = λ gift.
       number-implied old place side before gift lt (subst (λ (s : Side). better gift.least (number_by gift s) (number_by gift side) ≡ number_by gift s) is (implied.numbers gift));
+  ways = λ k. ways-none k old side (implied.nor_other k);
 }
 
 -- one behind the others
@@ -76,6 +90,7 @@ added-last old side = record {
   back = ap (λ (n : ℕ). take n (old ++ side ∷ [])) long ∙ take-append-le (length old) old (side ∷ []) (omega arith) ∙ take_all (length old) old (omega arith);
   legs = λ k e. list_all-append (meets k e) old (side ∷ []) ∙ ap (λ (b : Bool). list_all (meets k e) old && b) (and-true (meets k e side));
   numbers = λ gift. number-more old side gift;
+  ways = λ k. filter_map-append (way_of k) old (side ∷ []);
 }
   where
     long : length (old ++ side ∷ []) - 1 ≡ length old

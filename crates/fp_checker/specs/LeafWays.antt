@@ -1,10 +1,10 @@
 -- The way to a leaf, with the sides on it less those that others imply.
-use Rattle.std.specs.Prelude.{ℕ, ◌≡◌, ◌<◌, ◌≤◌, ◌+◌, ◌*◌, ◌-◌, List, [], ◌∷◌, get_or, length, map, take, ◌&&◌, slice_set}
+use Rattle.std.specs.Prelude.{ℕ, ◌≡◌, ◌<◌, ◌≤◌, ◌+◌, ◌*◌, ◌-◌, List, [], ◌∷◌, ◌++◌, None, get_or, length, map, take, ◌&&◌, slice_set}
 use Rattle.std.specs.declared.alloc.Global.{Global}
 use Rattle.std.specs.declared.vec.Vec.{Vec}
 use Rattle.fp_tree.specs.declared.sides.Side.{Side}
 use Rattle.fp_tree.specs.declared.ways.Step.{Step}
-use Rattle.fp_tree.specs.Sides.{Exit}
+use Rattle.fp_tree.specs.Sides.{Exit, way_of, ways_of}
 use Rattle.fp_tree.specs.Ways.{side_of, way_sides}
 use Rattle.fp_allowed.specs.Allowed.{meets, meets_all}
 use Rattle.fp_prices_gifts.specs.declared.gifts.Gift.{Gift}
@@ -15,15 +15,19 @@ use Rattle.fp_checker.specs.declared.rules.leaf_ways.TheConstants.{SPACING}
 use Rattle.fp_checker.specs.declared.rules.narrow_sides.Change.{Change}
 use Rattle.fp_checker.specs.declared.rules.narrow_sides.Change.TheVariants.{Added, Replaced}
 
--- what meets one side meets another, and the other tells no gift a better number of trucks
+-- what meets one side meets another, the other tells no gift a better number of trucks, and neither asks a shipment to go by an arc
 pub record Implies (one other : Side) : Type 0 where
   pub legs : (k : ℕ) (e : Exit) → (meets k e one && meets k e other) ≡ meets k e one
   pub numbers : (gift : Gift) → better gift.least (number_by gift one) (number_by gift other) ≡ number_by gift one
+  pub asks_none : (k : ℕ) → way_of k one ≡ None
+  pub nor_other : (k : ℕ) → way_of k other ≡ None
 
--- the same legs meet all of some sides as of others, and both tell each gift the same number of trucks
+-- the same legs meet all of some sides as of others, both tell each gift the same number of trucks, and ask each shipment to go by the
+-- same arcs
 pub record AskAlike (sides others : List Side) : Type 0 where
   pub legs : (k : ℕ) (e : Exit) → meets_all k sides e ≡ meets_all k others e
   pub numbers : (gift : Gift) → gift_number sides gift ≡ gift_number others gift
+  pub ways : (k : ℕ) → ways_of k sides ≡ ways_of k others
 
 -- the place of a change is one of the sides
 abbrev pub IsInside : Change → List Side → Type 0
@@ -41,6 +45,7 @@ pub record IsAdded (old : List Side) (side : Side) (new : List Side) (change : C
   pub back : undone change new ≡ old
   pub legs : (k : ℕ) (e : Exit) → meets_all k new e ≡ (meets_all k old e && meets k e side)
   pub numbers : (gift : Gift) → gift_number new gift ≡ better gift.least (gift_number old gift) (number_by gift side)
+  pub ways : (k : ℕ) → ways_of k new ≡ ways_of k old ++ ways_of k (side ∷ [])
 
 -- sides that come of others as the entries tell
 abbrev pub ComesBy : List Side → List Entry → List Side → Type 0

@@ -5,7 +5,7 @@ use crate::NoMemory;
 use crate::gifts::LaidGift;
 use crate::groups::{Groups, Member};
 use crate::payers::{ALWAYS, Payer, divisor_of, most_of};
-use fp_duals_nets::{ClassNodes, ClassPool, ClassPools, LeafNets, PoolPart, part_mut};
+use fp_duals_nets::{ClassNodes, ClassPool, ClassPools, EdgeUse, LeafNets, part_mut};
 use fp_model::limits::LATEST;
 use std::alloc::Global;
 
@@ -112,15 +112,34 @@ fn single_spans(
     Ok(spans)
 }
 
-// The payers of spans of single classes: each pays for one edge, at the same place as the payer.
-fn single_payers(alloc: Global, pools: &ClassPools) -> Result<Vec<Payer>, NoMemory> {
+// The edges of so many payers of spans of single classes: those that stand for the class. They are one
+// but where walks go by arcs.
+fn single_edges(alloc: Global, uses: &[EdgeUse], payers: usize) -> Result<Groups, NoMemory> {
+    let mut members = Vec::with_capacity(alloc, uses.len())?;
+    let mut number = 0usize;
+    for edge in uses {
+        if edge.part < payers {
+            let group = edge.part;
+            members.push(Member { group, number })?;
+        }
+        number = number.wrapping_add(1);
+    }
+    Groups::of(alloc, &members, payers)
+}
+
+// The payers of spans of single classes, each for a part of their pools, with these edges.
+fn single_payers(
+    alloc: Global,
+    pools: &ClassPools,
+    edges: &Groups,
+) -> Result<Vec<Payer>, NoMemory> {
     let mut payers = Vec::with_capacity(alloc, pools.parts.len())?;
     for part in &pools.parts {
         let most = match pools.list.get(part.pool) {
             Some(pool) => most_of(part.size, pool.arc.truck, pool.arc.capacity),
             None => 0,
         };
-        let first_edge = payers.len();
+        let (first_edge, end_edge) = edges.place(payers.len());
         payers.push(Payer {
             shipment: part.shipment,
             span: part.pool,
@@ -129,19 +148,10 @@ fn single_payers(alloc: Global, pools: &ClassPools) -> Result<Vec<Payer>, NoMemo
             lo: ALWAYS.0,
             hi: ALWAYS.1,
             first_edge,
-            end_edge: first_edge.wrapping_add(1),
+            end_edge,
         })?;
     }
     Ok(payers)
-}
-
-// The edges of these payers.
-fn single_edges(alloc: Global, parts: &[PoolPart]) -> Result<Vec<usize>, NoMemory> {
-    let mut edges = Vec::with_capacity(alloc, parts.len())?;
-    for part in parts {
-        edges.push(part.edge)?;
-    }
-    Ok(edges)
 }
 
 impl Layout {
@@ -151,11 +161,12 @@ impl Layout {
         ensures { OnErr result (model.new ≡ model.old) }
     {
         let pools = ClassPools::of(alloc, model, false, 0)?;
+        let edges = single_edges(alloc, &model.nets.uses, pools.parts.len())?;
         let mut layout = Layout {
             spans: single_spans(alloc, &pools.list, &model.classes)?,
             singles: pools.list.len(),
-            payers: single_payers(alloc, &pools)?,
-            edges: single_edges(alloc, &pools.parts)?,
+            payers: single_payers(alloc, &pools, &edges)?,
+            edges: edges.into_list(),
             ..Layout::empty(alloc)
         };
         layout.order_payers()?;

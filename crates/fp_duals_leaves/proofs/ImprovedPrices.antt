@@ -21,7 +21,7 @@ use Rattle.fp_duals.specs.Improvements.{AddsTable, IsImproved, IsPriced}
 use Rattle.fp_duals.specs.PriceTables.{ArePriceTables}
 use Rattle.fp_duals.specs.Starts.{IsStartKind}
 use Rattle.fp_duals_leaves.specs.Prices.{ArePrices, HaveGrown, PriceLists}
-use Rattle.fp_duals_leaves.specs.Pricing.{IsImprovedBy, IsPriceFound}
+use Rattle.fp_duals_leaves.specs.Pricing.{IsImprovedByTables, IsPriceFound}
 use Rattle.fp_duals_leaves.proofs.GrownPrices.{ArePrices-table, prices-same}
 use Rattle.fp_duals_leaves.proofs.SpansBeside.{given-length}
 use Rattle.fp_duals_leaves.proofs.Worths.{found-by_tables}
@@ -126,16 +126,16 @@ module _ (p : Problem) (table : WindowTable) (points : ℕ → List ℕ) (sides 
       prices = ArePrices-table p table old tables are in_order (omega (arith, longer, are.beside, front.few, ap length front.front, length-append old.tables front.more));
     }
 
-    pub improved-same : length tables ≤ length old.spans → IsImprovedBy p (windows_in table) points sides same_lists round r
+    pub improved-same : length tables ≤ length old.spans → IsImprovedByTables p (windows_in table) points sides same_lists round r
     improved-same few = of r is
       where
-        of : (o : Improved) → IsImproved p (windows_in table) points sides old.tables tables inherited round o → IsImprovedBy p (windows_in table) points sides same_lists round o
+        of : (o : Improved) → IsImproved p (windows_in table) points sides old.tables tables inherited round o → IsImprovedByTables p (windows_in table) points sides same_lists round o
         of (improved.Empty shipment) so = so.0
         of (improved.Priced price value walks) so = found-same old same_lists are inherited plain ungiven round price value walks.items so refl refl (omega (arith, few, are.beside))
 
-    pub improved-added : length old.spans < length tables → IsImprovedBy p (windows_in table) points sides more_lists round r
+    pub improved-added : length old.spans < length tables → IsImprovedByTables p (windows_in table) points sides more_lists round r
     improved-added longer = of r is
       where
-        of : (o : Improved) → IsImproved p (windows_in table) points sides old.tables tables inherited round o → IsImprovedBy p (windows_in table) points sides more_lists round o
+        of : (o : Improved) → IsImproved p (windows_in table) points sides old.tables tables inherited round o → IsImprovedByTables p (windows_in table) points sides more_lists round o
         of (improved.Empty shipment) so = so.0
         of (improved.Priced price value walks) so = found-added old more_lists are inherited plain ungiven round price value walks.items so refl refl (omega (arith, longer, are.beside))

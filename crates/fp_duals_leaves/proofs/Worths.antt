@@ -1,7 +1,6 @@
 -- What leaves are worth by tables, and by spans and gifts.
 use Rattle.std.proofs.Common.{◌≡◌, ℕ, ◌+◌, ◌-◌, ◌<◌, ◌≤◌, ⊎_elim, inl, inr, Bool, false, List, [], ◌∷◌, ◌++◌, length, refl, sym, ap, ◌∙◌, subst, arith}
-use Rattle.std.specs.Prelude.{IfOk, Result, Ok, Err, if◌then◌else◌, slice_index_or}
-use Rattle.std.specs.declared.alloc.AllocError.{AllocError}
+use Rattle.std.specs.Prelude.{if◌then◌else◌, slice_index_or}
 use Rattle.std.proofs.Math.Seq.{get_or-append_seam}
 use Rattle.std.proofs.lemmas.List.{length-append}
 use Rattle.fp_base_lists.specs.Numbered.{AllZipFrom}
@@ -17,10 +16,11 @@ use Rattle.fp_allowed.specs.Walks.{IsTimedWalk}
 use Rattle.fp_prices.specs.declared.leaf_prices.Kind.{Kind}
 use Rattle.fp_prices.specs.declared.leaf_prices.Kind.TheVariants.{Even, Linear, Table}
 use Rattle.fp_prices.specs.declared.leaf_prices.LeafPrice.{LeafPrice}
-use Rattle.fp_prices.specs.Leaves.{IsLeastCostBy, leaf_price}
+use Rattle.fp_prices.specs.Leaves.{IsFirstWithout, leaf_price}
 use Rattle.fp_prices.specs.LeastWalks.{IsLeastWalk}
 use Rattle.fp_prices.specs.Prices.{share_for, table_at, table_price}
 use Rattle.fp_prices.specs.Shares.{ClassShare}
+use Rattle.fp_prices.specs.Tables.{HasKind}
 use Rattle.fp_prices.proofs.TableAppends.{HasKind-append, IsLeafValue-append}
 use Rattle.fp_prices_gifts.specs.declared.gifts.Gift.{Gift}
 use Rattle.fp_prices_gifts.specs.GiftKinds.{gifts_beside}
@@ -29,13 +29,14 @@ use Rattle.fp_prices_gifts.proofs.GiftAppends.{gift_values-append}
 use Rattle.fp_prices_gifts.proofs.OneGiftValue.{values-without-gifts}
 use Rattle.fp_prices_spans.specs.SpanKinds.{spans_beside}
 use Rattle.fp_prices_spans.specs.SpanLeaves.{IsSpanLeafValue, leaf_heads}
+use Rattle.fp_prices_spans.specs.Ways.{IsLeastCostVia, leaf_ways}
 use Rattle.fp_prices_spans.specs.SpanPrices.{is_held, leaf_span_price, span_price}
 use Rattle.fp_prices_spans.specs.Spans.{ClassSpan}
 use Rattle.fp_prices_spans.proofs.SpanlessValues.{spanless-values}
 use Rattle.fp_duals.specs.Improvements.{IsPriced}
 use Rattle.fp_duals_leaves.specs.declared.pricing.Worth.{Worth}
 use Rattle.fp_duals_leaves.specs.Prices.{ArePrices, HaveGrown, PriceLists, with_more}
-use Rattle.fp_duals_leaves.specs.Pricing.{IsNoLess, IsPriceFound, IsWorthBy}
+use Rattle.fp_duals_leaves.specs.Pricing.{IsEmptyFound, IsNoLess, IsPriceFound, IsWorthBy}
 use Rattle.fp_duals_leaves.proofs.SpansBeside.{given-length}
 
 -- the price of a class by an empty table with spans beside it is that by linear prices with them
@@ -55,7 +56,7 @@ module _ (p : Problem) (table : WindowTable) (points : ℕ → List ℕ) (sides 
     costs = is.costs;
     charges = is.charges;
     are_chains = is.are_chains;
-    are_least = subst (λ (price : ℕ → ℕ → Leg → ℕ). AllZipFrom (λ k (s : Shipment) n. IsLeastCostBy p (leaf_heads p (windows_in table) points spans k) (is_allowed p (windows_in table) points sides k) s (price k s.size) n) 0 p.shipments is.costs)
+    are_least = subst (λ (price : ℕ → ℕ → Leg → ℕ). AllZipFrom (λ k (s : Shipment) n. IsLeastCostVia p (leaf_heads p (windows_in table) points spans k) (leaf_ways p sides spans k) (is_allowed p (windows_in table) points sides k) s (price k s.size) n) 0 p.shipments is.costs)
         (empty-price p tables spans (is_allowed p (windows_in table) points sides) id is.chains empty) is.are_least;
     are_charges = is.are_charges;
     value_is = is.value_is;
@@ -160,11 +161,17 @@ module _ (p : Problem) (table : WindowTable) (points : ℕ → List ℕ) (sides 
       it)
       two
 
-  -- the same of what a call gives
-  pub no-less_told : (before after : PriceLists) (round : ℕ) (first second : Worth) (r : Result Worth AllocError) → ArePrices p table before → HaveGrown p table before after →
-      IsNoLess p (windows_in table) points sides before round first second → IfOk r (IsNoLess p (windows_in table) points sides after round second) → IfOk r (IsNoLess p (windows_in table) points sides after round first)
-  no-less_told before after round first second (Err e) are grown one two = tt
-  no-less_told before after round first second (Ok third) are grown one two = no-less-twice before after round first second third are grown one two
+  -- a leaf with a shipment without an allowed timed walk is empty by linear prices
+  pub empty-by_linear : (x : PriceLists) (round shipment : ℕ) → IsFirstWithout p (windows_in table) points sides shipment → IsEmptyFound p (windows_in table) points sides x round (record { kind = Linear; round = round; forced = false })
+  empty-by_linear x round shipment first = record {
+    of_round = refl;
+    kind = tt;
+    is = record { shipment = shipment; exists = first.exists; none = λ walk via. first.none walk via.by_heads };
+  }
+
+  -- a price that there was still is there
+  pub kind-grown : (before after : PriceLists) (kind : Kind) → HaveGrown p table before after → HasKind before.tables kind → HasKind after.tables kind
+  kind-grown before after kind grown has = subst (λ (x : PriceLists). HasKind x.tables kind) (sym grown.is) (HasKind-append before.tables grown.tables kind has)
 
   -- a price by tables alone: neither spans nor gifts stand beside its table
   pub found-by_tables : (before after : PriceLists) (inherited : Kind) (round : ℕ) (price : LeafPrice) (value : ℕ) (walks : List (List Leg)) → spans_beside after.spans price.kind ≡ [] → gifts_beside after.gifts price.kind ≡ [] →

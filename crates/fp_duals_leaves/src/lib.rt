@@ -25,7 +25,7 @@ mod walks;
 pub use efforts::PriceEffort;
 pub use laws::price_lines_are_written;
 pub use prices::Prices;
-pub use pricing::{Worth, bound_by, improve};
+pub use pricing::{Improvement, Worth, bound_by, improve};
 pub use roots::improve_root;
 pub use span_prices::SpanPrice;
 pub use steady_prices::steady_price;

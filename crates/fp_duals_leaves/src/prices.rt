@@ -10,7 +10,7 @@ ghost use Rattle.fp_prices_gifts.specs.GiftKinds.{gifts_beside as gifts_beside_k
 ghost use Rattle.fp_prices_spans.specs.SpanKinds.{spans_beside as spans_beside_kind};
 ghost use Rattle.fp_duals_leaves.specs.PriceLines.{AreFewLines, gift_lines, price_lines, span_lines};
 ghost use Rattle.fp_duals_leaves.specs.Prices.{ArePrices, HaveGrown, empty_prices, first_prices, with_more};
-ghost use Rattle.fp_duals_leaves.specs.Pricing.{IsImprovedBy};
+ghost use Rattle.fp_duals_leaves.specs.Pricing.{IsImprovedByTables};
 
 use crate::NoMemory;
 use fp_duals::{Effort, Improved, Tables, improve_leaf};
@@ -257,7 +257,7 @@ impl Prices {
         requires prices { ArePrices leaf.now.setting.problem leaf.now.setting.windows self.old }
         requires kind { HasKind self.old.tables inherited.kind }
         ensures improved { IfOk result
-            (IsImprovedBy leaf.now.setting.problem (windows_in leaf.now.setting.windows)
+            (IsImprovedByTables leaf.now.setting.problem (windows_in leaf.now.setting.windows)
             (points_in leaf.now.setting.network) leaf.now.sides self.new round) }
         ensures grown { HaveGrown leaf.now.setting.problem leaf.now.setting.windows
             self.old self.new }

@@ -1,14 +1,15 @@
 //! The price of a leaf is improved, by tables and by spans.
-ghost use Rattle.std.specs.Prelude.{◌≡◌, ◌≢◌, None, [], IfOk, IsSomeAnd, OnErr, ⊤};
+ghost use Rattle.std.specs.Prelude.{◌≡◌, ◌≢◌, None, [], IfOk, IsSomeAnd, OnErr, false, ⊤};
 ghost use Rattle.fp_flatnet.specs.Tables.{windows_in};
 ghost use Rattle.fp_longestarcs.specs.Networks.{points_in};
+ghost use Rattle.fp_prices.specs.declared.leaf_prices.Kind.TheVariants.{Linear};
 ghost use Rattle.fp_prices.specs.Tables.{AreTables, HasKind};
 ghost use Rattle.fp_prices_gifts.specs.GiftKinds.{gifts_beside};
 ghost use Rattle.fp_prices_gifts.specs.GiftLeaves.{IsGiftBound};
 ghost use Rattle.fp_prices_gifts.specs.Gifts.{AreGifts};
 ghost use Rattle.fp_prices_spans.specs.SpanLists.{AreSpans};
 ghost use Rattle.fp_duals_leaves.specs.Prices.{ArePrices, HaveGrown};
-ghost use Rattle.fp_duals_leaves.specs.Pricing.{IsImprovedBy, IsNoLess, IsPricedBound};
+ghost use Rattle.fp_duals_leaves.specs.Pricing.{IsImprovedBy, IsNoLess, IsNoLessOr, IsPricedBound};
 
 use crate::NoMemory;
 use crate::efforts::PriceEffort;
@@ -19,6 +20,7 @@ use fp_duals_clashes::ClashVotes;
 use fp_duals_nets::LentNets;
 use fp_duals_spans::{SpanEffort, StartPrices};
 use fp_ends::{Deadline, Resources};
+use fp_longestarcs::TimedWalk;
 use fp_prices::{Kind, Leaf, LeafBound, LeafPrice, Table};
 use fp_prices_gifts::{Gift, gift_bound};
 use fp_prices_spans::{Span, span_bound};
@@ -44,6 +46,23 @@ fn most_clashes(leaf: &Leaf) -> usize {
 pub struct Worth {
     pub price: LeafPrice,
     pub value: u128,
+}
+
+/// What comes of improving the price of a leaf.
+#[derive(Drop)]
+pub enum Improvement {
+    /// The leaf is empty: some shipment has no allowed walk by the heads and the ways that walks go by
+    /// under this price.
+    Empty {
+        price: LeafPrice,
+    },
+    /// A price, what the leaf is worth by it in parts of a unit of money, and an allowed walk of each
+    /// shipment.
+    Priced {
+        price: LeafPrice,
+        value: u128,
+        walks: Vec<TimedWalk>,
+    },
 }
 
 // The bound of a leaf with gifts, which is that by spans where there are none.
@@ -99,38 +118,39 @@ pub fn bound_by(
 }
 
 // What a leaf is worth, as of the same round, by the prices that it inherits, with the spans and the
-// gifts beside their table, where it has spans and that is more. Where no walk goes by the heads of
-// these prices, or the leaf isn't priced by these gifts, it keeps its first price.
+// gifts beside their table, where it has spans and that is more. Nothing where the leaf is empty by the
+// heads and the ways of these prices; where it isn't priced by these gifts it keeps its first price.
 fn by_inherited(
     alloc: Global,
     leaf: &Leaf,
     inherited: LeafPrice,
     first: Worth,
     prices: &Prices,
-) -> Result<Worth, NoMemory>
+) -> Result<Option<Worth>, NoMemory>
     requires prices { ArePrices leaf.now.setting.problem leaf.now.setting.windows prices.now }
     requires kind { HasKind prices.now.tables inherited.kind }
     ensures { IfOk result
-        (IsNoLess leaf.now.setting.problem (windows_in leaf.now.setting.windows)
-        (points_in leaf.now.setting.network) leaf.now.sides prices.now first.price.round first) }
+        (IsNoLessOr leaf.now.setting.problem (windows_in leaf.now.setting.windows)
+        (points_in leaf.now.setting.network) leaf.now.sides prices.now first.price.round inherited.kind first) }
 {
     let kind = inherited.kind;
     let forced = inherited.forced;
     let spans = prices.spans_beside(kind);
     if spans.is_empty() {
-        return Ok(first);
+        return Ok(Some(first));
     }
     let gifts = prices.gifts_beside(kind);
     match gift_bound(alloc, leaf, prices.tables(), spans, gifts, kind, forced)? {
-        Some(LeafBound::Value { value }) if value > first.value => Ok(Worth {
+        Some(LeafBound::Empty { .. }) => Ok(None),
+        Some(LeafBound::Value { value }) if value > first.value => Ok(Some(Worth {
             price: LeafPrice {
                 kind,
                 round: first.price.round,
                 forced,
             },
             value,
-        }),
-        _ => Ok(first),
+        })),
+        _ => Ok(Some(first)),
     }
 }
 
@@ -184,7 +204,7 @@ fn by_spans<D: Deadline>(
 }
 
 // What a leaf is worth, as of the same round, by spans, where that is more: by those that it
-// inherits, or by others that are sought.
+// inherits, or by others that are sought. Nothing where the leaf is empty by those that it inherits.
 #[tactic(auto, using(crate::proofs::GrownPrices::HaveGrown_none))]
 fn spanned<D: Deadline>(
     resources: &Resources<D>,
@@ -194,23 +214,39 @@ fn spanned<D: Deadline>(
     effort: &PriceEffort,
     first: Worth,
     prices: &mut Prices,
-) -> Result<Worth, NoMemory>
+) -> Result<Option<Worth>, NoMemory>
     requires prices { ArePrices leaf.now.setting.problem leaf.now.setting.windows prices.old }
     requires inherited { HasKind prices.old.tables inherited.kind }
     requires kind { HasKind prices.old.tables first.price.kind }
     ensures grown { HaveGrown leaf.now.setting.problem leaf.now.setting.windows
         prices.old prices.new }
     ensures worth { IfOk result
-        (IsNoLess leaf.now.setting.problem (windows_in leaf.now.setting.windows)
-        (points_in leaf.now.setting.network) leaf.now.sides prices.new first.price.round first) }
+        (IsNoLessOr leaf.now.setting.problem (windows_in leaf.now.setting.windows)
+        (points_in leaf.now.setting.network) leaf.now.sides prices.new first.price.round inherited.kind first) }
 {
     if prices.unit().is_none() {
-        return Ok(first);
+        return Ok(Some(first));
     }
-    let worth = by_inherited(resources.alloc, leaf, inherited, first, prices)?;
+    let Some(worth) = by_inherited(resources.alloc, leaf, inherited, first, prices)? else {
+        return Ok(None);
+    };
     match &effort.spans {
-        Some(effort) => by_spans(resources, leaf, nets, effort, worth, prices),
-        None => Ok(worth),
+        Some(effort) => {
+            let better = by_spans(resources, leaf, nets, effort, worth, prices)?;
+            Ok(Some(better))
+        }
+        None => Ok(Some(worth)),
+    }
+}
+
+// Linear prices as of a round.
+fn linear(round: u32) -> LeafPrice
+    ensures { result ≡ record { kind = Linear; round = round; forced = false } }
+{
+    LeafPrice {
+        kind: Kind::Linear,
+        round,
+        forced: false,
     }
 }
 
@@ -223,7 +259,7 @@ fn improve_further<D: Deadline>(
     inherited: LeafPrice,
     effort: &PriceEffort,
     prices: &mut Prices,
-) -> Result<Improved, NoMemory>
+) -> Result<Improvement, NoMemory>
     requires prices { ArePrices leaf.now.setting.problem leaf.now.setting.windows prices.old }
     requires kind { HasKind prices.old.tables inherited.kind }
     ensures grown { HaveGrown leaf.now.setting.problem leaf.now.setting.windows
@@ -233,19 +269,25 @@ fn improve_further<D: Deadline>(
         (points_in leaf.now.setting.network) leaf.now.sides prices.new round) }
 {
     match prices.improve(resources, leaf, nets, round, inherited, &effort.tables)? {
-        Improved::Empty { shipment } => Ok(Improved::Empty { shipment }),
+        Improved::Empty { .. } => Ok(Improvement::Empty {
+            price: linear(round),
+        }),
         Improved::Priced {
             price,
             value,
             walks,
         } => {
             let first = Worth { price, value };
-            let worth = spanned(resources, leaf, nets, inherited, effort, first, prices)?;
-            Ok(Improved::Priced {
-                price: worth.price,
-                value: worth.value,
-                walks,
-            })
+            match spanned(resources, leaf, nets, inherited, effort, first, prices)? {
+                Some(worth) => Ok(Improvement::Priced {
+                    price: worth.price,
+                    value: worth.value,
+                    walks,
+                }),
+                None => Ok(Improvement::Empty {
+                    price: LeafPrice { round, ..inherited },
+                }),
+            }
         }
     }
 }
@@ -254,10 +296,10 @@ fn improve_further<D: Deadline>(
 /// the prices have a unit by spans too.
 ///
 /// The leaf lies over the network of the round, and the nets are those of the leaf. The spans and the
-/// gifts among the prices are sound by the leaf's windows, and so are those that come. What is found is the
-/// leaf's first shipment without an allowed walk; or a price as of the round, what the leaf is
-/// worth by it in parts of a unit of money, and an allowed walk of each shipment. The prices grow
-/// by at most two tables. `NoMemory` only where no memory is found; then they are as before.
+/// gifts among the prices are sound by the leaf's windows, and so are those that come. What is found is
+/// that the leaf is empty, by linear prices where it has no allowed timed walk for some shipment, and else
+/// by the prices that it inherits; or a price as of the round, what the leaf is worth by it in parts of a
+/// unit of money, and an allowed walk of each shipment. The prices grow by at most two tables. `NoMemory` only where no memory is found; then they are as before.
 #[tactic(auto, using(crate::proofs::GrownPrices::HaveGrown_none))]
 pub fn improve<D: Deadline>(
     resources: &Resources<D>,
@@ -267,7 +309,7 @@ pub fn improve<D: Deadline>(
     inherited: LeafPrice,
     effort: &PriceEffort,
     prices: &mut Prices,
-) -> Result<Improved, NoMemory>
+) -> Result<Improvement, NoMemory>
     requires prices { ArePrices leaf.now.setting.problem leaf.now.setting.windows prices.old }
     requires kind { HasKind prices.old.tables inherited.kind }
     ensures grown { HaveGrown leaf.now.setting.problem leaf.now.setting.windows

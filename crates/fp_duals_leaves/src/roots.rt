@@ -11,8 +11,7 @@ ghost use Rattle.fp_duals_leaves.specs.Pricing.{IsImprovedBy};
 use crate::NoMemory;
 use crate::efforts::PriceEffort;
 use crate::prices::Prices;
-use crate::pricing::improve;
-use fp_duals::Improved;
+use crate::pricing::{Improvement, improve};
 use fp_duals_nets::LentNets;
 use fp_ends::{Deadline, Resources};
 use fp_flatnet::Windows;
@@ -41,7 +40,7 @@ pub fn improve_root<D: Deadline>(
     network: Network,
     effort: &PriceEffort,
     prices: &mut Prices,
-) -> Result<Improved, NoMemory>
+) -> Result<Improvement, NoMemory>
     requires belongs { BelongsTo instance.now windows.now }
     requires whole { IsWholeNetwork instance.now network }
     requires few { point_count network ≤ MOST_POINTS }

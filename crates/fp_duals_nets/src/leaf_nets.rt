@@ -6,6 +6,7 @@ use crate::classes::forced_loads::{base_of, forced_chains, forced_loads};
 use crate::money::arc_money::{ArcMoney, arc_money};
 use crate::money::units::MoneyUnit;
 use crate::nets::all_nets::{NetParts, all_nets};
+use crate::nets::layers::{all_ways, most_layers};
 use crate::nets::shipment_nets::Nets;
 use crate::nets::steps::Heads;
 use fp_prices::Leaf;
@@ -42,14 +43,20 @@ impl Model for LeafNets {
 }
 
 impl LeafNets {
-    /// The nets at a leaf by such heads. `NoMemory` only where no memory is found. Takes time and memory
-    /// that grow with the allowed classes of all shipments, and with the points for each shipment.
+    /// The nets at a leaf by such heads; within windows the walks of a shipment go by the arcs that count
+    /// for it at the leaf. `NoMemory` only where no memory is found. Takes time and memory that grow with
+    /// the allowed classes of all shipments, and with the points for each shipment; where walks of a
+    /// shipment go by arcs, twice as much of it for each.
     pub(crate) fn of(alloc: Global, leaf: &Leaf, heads: Heads) -> Result<LeafNets, NoMemory> {
         let instance = leaf.round().instance();
         let network = leaf.round().network();
         let nodes = PointNodes::of(alloc, instance, network)?;
         let classes = all_classes(alloc, instance, network, &nodes)?;
-        let unit = MoneyUnit::of(instance, nodes.points.len());
+        let ways = all_ways(alloc, leaf, heads)?;
+        let unit = MoneyUnit::of(
+            instance,
+            nodes.points.len().wrapping_mul(most_layers(&ways)),
+        );
         let arcs = arc_money(alloc, instance, unit)?;
         let chains = forced_chains(alloc, leaf)?;
         let loads = forced_loads(alloc, leaf, &chains, classes.len())?;
@@ -59,7 +66,7 @@ impl LeafNets {
             arcs: &arcs,
             unit,
         };
-        let nets = all_nets(alloc, leaf, &parts, &chains, heads)?;
+        let nets = all_nets(alloc, leaf, &parts, &chains, &ways, heads)?;
         Ok(LeafNets {
             unit,
             classes,

@@ -3,7 +3,6 @@
 use crate::NoMemory;
 use crate::averages::{Averages, ONE};
 use fp_duals_layouts::{Charges, LaidSpan, Layout, Payer, SpanPrices};
-use fp_duals_nets::Nets;
 use std::alloc::Global;
 
 /// The parts of a truck.
@@ -28,7 +27,6 @@ struct Balance {
 #[derive(Clone, Copy)]
 struct Payments<'a> {
     layout: &'a Layout,
-    nets: &'a Nets,
     prices: &'a SpanPrices,
     averages: &'a Averages,
     charges: &'a Charges,
@@ -40,24 +38,27 @@ fn trucks_for(amount: u128, truck: u64) -> u128 {
 }
 
 impl Payments<'_> {
-    // How much of the averaged walks uses some edges of all nets, in parts of `ONE`.
-    fn edges_use(&self, edges: &[usize]) -> u64 {
+    // How much of the averaged walks of a shipment uses the single classes of a span, in parts of `ONE`.
+    fn classes_use(&self, shipment: u32, span: &LaidSpan) -> u64 {
+        let classes = span.first_single..span.end_single;
         let mut sum = 0u64;
-        for number in edges {
-            if let Some(edge) = self.nets.uses.get(*number) {
-                sum = sum.saturating_add(self.averages.use_of(edge.part));
+        for number in self.layout.own.group(shipment as usize) {
+            if let Some(payer) = self.layout.payers.get(*number)
+                && classes.contains(&payer.span)
+            {
+                sum = sum.saturating_add(self.averages.use_of(*number));
             }
         }
         sum
     }
 
-    // How much of them uses what a payer pays for. Uses are known by the spans of single classes: by one
-    // that is joined a payer pays for the edges of several of them.
-    fn payer_use(&self, number: usize, payer: &Payer) -> u64 {
+    // How much of them uses what a payer of a span pays for. Uses are known by the spans of single
+    // classes: by one that is joined a payer pays for several of them.
+    fn payer_use(&self, number: usize, payer: &Payer, span: &LaidSpan) -> u64 {
         if payer.span < self.layout.singles {
             self.averages.use_of(number)
         } else {
-            self.edges_use(self.layout.edges_of(payer))
+            self.classes_use(payer.shipment, span)
         }
     }
 
@@ -67,7 +68,7 @@ impl Payments<'_> {
         for number in span.first..span.end {
             if let Some(payer) = self.layout.payers.get(number) {
                 let weight = u128::from(self.prices.weight(number));
-                let used = u128::from(self.payer_use(number, payer));
+                let used = u128::from(self.payer_use(number, payer, span));
                 sum = sum.saturating_add(weight.saturating_mul(used));
             }
         }
@@ -117,7 +118,6 @@ impl Payments<'_> {
 pub fn paid_by_arc(
     alloc: Global,
     layout: &Layout,
-    nets: &Nets,
     prices: &SpanPrices,
     averages: &Averages,
     charges: &Charges,
@@ -125,7 +125,6 @@ pub fn paid_by_arc(
 ) -> Result<Vec<PaidTrucks>, NoMemory> {
     let payments = Payments {
         layout,
-        nets,
         prices,
         averages,
         charges,

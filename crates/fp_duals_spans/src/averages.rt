@@ -58,7 +58,6 @@ fn trucks_paid(
     paid_by_arc(
         alloc,
         &search.layout,
-        &model.nets,
         &search.prices,
         averages,
         &charges,

@@ -1,9 +1,12 @@
 -- The definitions at small graphs.
-use Rattle.std.proofs.Common.{◌≡◌, List, [], ◌∷◌, Option, None, Some, refl, arith}
+use Rattle.std.proofs.Common.{◌≡◌, true, false, List, [], ◌∷◌, Option, None, Some, ⊎_elim, inl, inr, refl, arith}
 use Rattle.std.proofs.lemmas.Bool.{false≢true}
+use Rattle.std.proofs.lemmas.Option.{same_Some}
 use Rattle.fp_labels.specs.declared.graphs.Edge.{Edge}
 use Rattle.fp_labels.specs.declared.walks.Label.{Label}
 use Rattle.fp_labels.specs.Walks.{Leads, IsOpen, walk_cost, nodes_on}
+use Rattle.fp_labels.specs.TaggedWalks.{HasTag, HasTags}
+use Rattle.fp_labels.specs.Layers.{lower_edge, upper_edge}
 use Rattle.fp_labels.specs.Labels.{distances_of, cost_to, walk_to}
 use Rattle.fp_labels.specs.Rows.{leaving, row_start}
 
@@ -53,3 +56,22 @@ tell_walk = refl
 
 tell_none : cost_to (distances_of three_labels) 3 ≡ None
 tell_none = refl
+
+-- the walk over both edges has the tag of the second, asked for twice
+has_tag : HasTags (Some 3 ∷ Some 7 ∷ []) (7 ∷ 7 ∷ []) (0 ∷ 1 ∷ [])
+has_tag = (inr (inl refl), (inr (inl refl), tt))
+
+-- the walk over the first edge lacks it
+lacks_tag : HasTags (Some 3 ∷ Some 7 ∷ []) (7 ∷ []) (0 ∷ []) → ⊥
+lacks_tag tagged =
+    ⊎_elim (λ (here : HasTag (Some 3 ∷ Some 7 ∷ []) 7 0). let same : 3 ≡ 7 = same_Some 3 7 here in omega (arith, same)) (λ (later : ⊥). later) tagged.0
+
+-- over three nodes, the lower copy of an edge with the tag leads up, and the upper copies stay above
+leads_up : lower_edge 3 true (record { from = 1; to = 2 }) ≡ record { from = 1; to = 5 }
+leads_up = refl
+
+stays_low : lower_edge 3 false (record { from = 1; to = 2 }) ≡ record { from = 1; to = 2 }
+stays_low = refl
+
+stays_high : upper_edge 3 (record { from = 1; to = 2 }) ≡ record { from = 4; to = 5 }
+stays_high = refl

@@ -7,4 +7,8 @@ pub mod EdgeRelaxation
 pub mod FreshSearch
 pub mod NextNode
 pub mod LeastLabels
+pub mod SmallWalks
+pub mod CopiedWalks
+pub mod LayeredEdges
+pub mod LayeredWalks
 pub mod Examples

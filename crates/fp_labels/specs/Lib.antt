@@ -1,5 +1,7 @@
 pub mod Graphs
 pub mod Walks
+pub mod TaggedWalks
+pub mod Layers
 pub mod Labels
 pub mod Rows
 pub mod Searches

@@ -57,10 +57,19 @@ impl Graph {
         })
     }
 
+    // How many nodes there are. The ends of the edges are among them.
     pub(crate) fn nodes(&self) -> u32
-        ensures { result ≡ self.now.nodes }
+        ensures value { result ≡ self.now.nodes }
+        ensures ends { HasEnds self.now.nodes self.now.edges }
     {
         self.nodes
+    }
+
+    // The edges in the order of their numbers.
+    pub(crate) fn edges(&self) -> &[Edge]
+        ensures { result.now ≡ self.now.edges }
+    {
+        &self.edges
     }
 
     // The numbers of the edges that leave a node.

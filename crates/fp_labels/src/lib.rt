@@ -8,11 +8,13 @@ ghost use Rattle.fp_labels.specs.Labels.{IsSmallFor, AreLabels};
 mod counting;
 mod graphs;
 mod settling;
+mod tagged;
 mod walks;
 
 pub use graphs::{Edge, Graph};
 use settling::find_labels;
 use std::alloc::Global;
+pub use tagged::tagged_distance;
 pub use walks::Labels;
 
 /// The error of a call that finds no memory.

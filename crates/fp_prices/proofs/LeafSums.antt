@@ -8,18 +8,18 @@ use Rattle.fp_model.specs.declared.parts.Arc.{Arc}
 use Rattle.fp_model.specs.declared.parts.Leg.{Leg}
 use Rattle.fp_model.specs.declared.parts.Shipment.{Shipment}
 use Rattle.fp_base_lists.specs.Numbered.{AllZipFrom}
+use Rattle.fp_base_lists.proofs.Numbered.{AllZipFrom-weaker}
 use Rattle.fp_model.specs.Problem.{Problem, arc_at}
 use Rattle.fp_model.specs.Costs.{has_leg, distinct, all_legs, departures_cost, flow_cost, flow_total}
 use Rattle.fp_model.proofs.Bounds.{departure_of, load-outside}
 use Rattle.fp_base_lists.proofs.Ceilings.{div_ceil-zero}
 use Rattle.fp_model.proofs.Distinct.{distinct_sum, distinct_sum-le}
 use Rattle.fp_base_lists.proofs.Sums.{sum_by-scaled, sum_by-same, sum_by-both}
-use Rattle.fp_longestarcs.specs.Classes.{head_of}
-use Rattle.fp_allowed.specs.Walks.{IsTimedWalk, IsWalkBy}
+use Rattle.fp_allowed.specs.Walks.{IsTimedWalk}
 use Rattle.fp_prices.specs.declared.leaf_prices.Kind.{Kind}
 use Rattle.fp_prices.specs.Shares.{ClassShare}
 use Rattle.fp_prices.specs.Prices.{AllKeepRule}
-use Rattle.fp_prices.specs.Leaves.{IsLeastCost, IsLeastCostBy, walk_cost, leaf_price}
+use Rattle.fp_prices.specs.Leaves.{IsLeastCost, walk_cost, leaf_price}
 use Rattle.fp_prices.proofs.TakenByClasses.{users, NoneTwiceInAny, paid, paid-le}
 use Rattle.fp_prices.proofs.Users.{AgreesFrom}
 use Rattle.fp_prices.proofs.ForcedClasses.{AreAmong, base-le}
@@ -70,26 +70,28 @@ walk-parts p price size walk =
     ∙ sum_by-both price (λ c. p.scale * flow c) walk in
     omega (arith, parts, sum_by-scaled p.scale flow walk)
 
--- the least costs by heads are at most what the shipments pay for their walks, and their flow
-pub costs-le_by : (p : Problem) (heads : ℕ → Leg → ℕ) (allowed : ℕ → Leg → Bool) (price : ℕ → ℕ → Leg → ℕ) (size : ℕ → ℕ) (i : ℕ) (shipments : List Shipment) (costs : List ℕ) (walks : List (List Leg)) →
-    AgreesFrom size i shipments → AllZipFrom (λ k (s : Shipment) n. IsLeastCostBy p (heads k) (allowed k) s (price k s.size) n) i shipments costs →
-    AllZipFrom (λ k (s : Shipment) walk. IsWalkBy p (heads k) (allowed k) s walk) i shipments walks →
-    sum_by (λ (n : ℕ). n) costs ≤ paid (λ c k. price k (size k) c) i walks + p.scale * flow_total p shipments walks
-costs-le_by p heads allowed price size i [] [] walks agrees least timed = omega arith
-costs-le_by p heads allowed price size i [] (n ∷ costs) walks agrees least timed = absurd least
-costs-le_by p heads allowed price size i (s ∷ shipments) [] walks agrees least timed = absurd least
-costs-le_by p heads allowed price size i (s ∷ shipments) (n ∷ costs) [] agrees least timed = absurd timed
-costs-le_by p heads allowed price size i (s ∷ shipments) (n ∷ costs) (walk ∷ walks) agrees least timed =
+-- costs that are at most what each walk of some kind costs are at most what the shipments pay for such walks, and their flow
+pub costs-le_among : (p : Problem) (IsWalk : ℕ → Shipment → List Leg → Type 0) (price : ℕ → ℕ → Leg → ℕ) (size : ℕ → ℕ) (i : ℕ) (shipments : List Shipment) (costs : List ℕ) (walks : List (List Leg)) →
+    AgreesFrom size i shipments → AllZipFrom (λ k (s : Shipment) n. (walk : List Leg) → IsWalk k s walk → n ≤ walk_cost p (price k s.size) s.size walk) i shipments costs →
+    AllZipFrom IsWalk i shipments walks → sum_by (λ (n : ℕ). n) costs ≤ paid (λ c k. price k (size k) c) i walks + p.scale * flow_total p shipments walks
+costs-le_among p IsWalk price size i [] [] walks agrees least are = omega arith
+costs-le_among p IsWalk price size i [] (n ∷ costs) walks agrees least are = absurd least
+costs-le_among p IsWalk price size i (s ∷ shipments) [] walks agrees least are = absurd least
+costs-le_among p IsWalk price size i (s ∷ shipments) (n ∷ costs) [] agrees least are = absurd are
+costs-le_among p IsWalk price size i (s ∷ shipments) (n ∷ costs) (walk ∷ walks) agrees least are =
     let own : Leg → ℕ = price i (size i) in
     let first : n ≤ walk_cost p own s.size walk =
-    subst (λ (z : ℕ). n ≤ walk_cost p (price i z) s.size walk) (sym agrees.0) (least.0.least walk timed.0) in
+    subst (λ (z : ℕ). n ≤ walk_cost p (price i z) s.size walk) (sym agrees.0) (least.0 walk are.0) in
     let rest : sum_by (λ (m : ℕ). m) costs ≤ paid (λ c k. price k (size k) c) (i + 1) walks + p.scale * flow_total p shipments walks =
-    costs-le_by p heads allowed price size (i + 1) shipments costs walks agrees.1 least.1 timed.1 in
+    costs-le_among p IsWalk price size (i + 1) shipments costs walks agrees.1 least.1 are.1 in
     omega (arith, first, walk-parts p own s.size walk, rest, sum_by-cons (λ (m : ℕ). m) n costs)
 
--- and so by the heads of the classes
+-- so the least costs of the timed walks are
 pub costs-le : (p : Problem) (points : ℕ → List ℕ) (allowed : ℕ → Leg → Bool) (price : ℕ → ℕ → Leg → ℕ) (size : ℕ → ℕ) (i : ℕ) (shipments : List Shipment) (costs : List ℕ) (walks : List (List Leg)) →
     AgreesFrom size i shipments → AllZipFrom (λ k (s : Shipment) n. IsLeastCost p points (allowed k) s (price k s.size) n) i shipments costs →
     AllZipFrom (λ k (s : Shipment) walk. IsTimedWalk p points (allowed k) s walk) i shipments walks →
     sum_by (λ (n : ℕ). n) costs ≤ paid (λ c k. price k (size k) c) i walks + p.scale * flow_total p shipments walks
-costs-le p points = costs-le_by p (λ k. head_of p points)
+costs-le p points allowed price size i shipments costs walks agrees least =
+    costs-le_among p (λ k (s : Shipment) walk. IsTimedWalk p points (allowed k) s walk) price size i shipments costs walks agrees
+    (AllZipFrom-weaker (λ k (s : Shipment) n. IsLeastCost p points (allowed k) s (price k s.size) n)
+    (λ k (s : Shipment) n. (walk : List Leg) → IsTimedWalk p points (allowed k) s walk → n ≤ walk_cost p (price k s.size) s.size walk) (λ k s n is. is.least) i shipments costs least)

@@ -1,21 +1,13 @@
 -- The distance in the graph of the points by heads, from the origin's first point to the destination's last, is the least cost over
--- the allowed walks of a shipment by them; and it is small.
-use Rattle.std.proofs.Common.{◌≡◌, ℕ, ◌+◌, ◌*◌, ◌<◌, ◌≤◌, Bool, List, [], ◌∷◌, length, get_or, ⊎_elim, sym, subst, arith}
-use Rattle.std.specs.Prelude.{All, Option, Some, None, IfSome, unwrap_or}
-use Rattle.std.specs.List.{AllByRecursion}
-use Rattle.std.proofs.Math.Nat.{mul-le-mul_right}
-use Rattle.std.proofs.lemmas.Bool.{cases_lt}
-use Rattle.std.proofs.lemmas.List.{get_or_past, length-map}
-use Rattle.std.proofs.lemmas.List.Sums.{sum_by-le}
+-- the allowed walks of a shipment by them.
+use Rattle.std.proofs.Common.{◌≡◌, ℕ, ◌+◌, ◌<◌, ◌≤◌, Bool, List, length, get_or, sym, subst, arith}
+use Rattle.std.specs.Prelude.{Option, Some, None}
 use Rattle.fp_base_lists.specs.Distinct.{AreDistinct}
-use Rattle.fp_labels.specs.declared.graphs.Edge.{Edge}
-use Rattle.fp_labels.specs.Graphs.{HasEnds, edge_at, no_edge}
 use Rattle.fp_labels.specs.Labels.{IsSimpleWalk}
-use Rattle.fp_labels.specs.Walks.{IsDistance, IsWalk, cost_of, nodes_on, Leads as LeadsOver, walk_cost as edges_cost}
+use Rattle.fp_labels.specs.Walks.{IsDistance, IsWalk, nodes_on, Leads as LeadsOver, walk_cost as edges_cost}
 use Rattle.fp_model.specs.declared.parts.Leg.{Leg}
 use Rattle.fp_model.specs.declared.parts.Shipment.{Shipment}
 use Rattle.fp_model.specs.Problem.{Problem}
-use Rattle.fp_base_lists.proofs.DistinctSums.{length-distinct-le}
 use Rattle.fp_longestarcs.specs.Classes.{head_of}
 use Rattle.fp_longestarcs.specs.Networks.{TimedNetwork, points_in}
 use Rattle.fp_longestarcs.proofs.NewPoints.{points-of}
@@ -32,18 +24,18 @@ use Rattle.fp_prices.proofs.PointEdges.{are-heads}
 use Rattle.fp_prices.proofs.TimedInGraph.{goes-timed}
 
 -- each allowed walk of a shipment by heads goes from the origin's first node to the destination's last
-shipment-goes : (p : Problem) (net : TimedNetwork) (heads : Leg → ℕ) (allowed : Leg → Bool) (price : Leg → ℕ) (costs : List (Option ℕ)) (s : Shipment) → AreCosts p net allowed price s.size costs →
+pub shipment-goes : (p : Problem) (net : TimedNetwork) (heads : Leg → ℕ) (allowed : Leg → Bool) (price : Leg → ℕ) (costs : List (Option ℕ)) (s : Shipment) → AreCosts p net allowed price s.size costs →
     AreHeads p net heads → s.from < length net.points → (walk : List Leg) → IsWalkBy p heads allowed s walk →
-    Goes (edges_by p net heads) costs (first_node net s.from) (last_node net s.to) (walk_cost p price s.size walk)
+    Goes net (edges_by p net heads) costs (first_node net s.from) (last_node net s.to) (walk_cost p price s.size walk) walk
 shipment-goes p net heads allowed price costs s are are_heads from walk timed =
     let begins = first-point (points_in net s.from) (points-of net s.from are.whole.valid from) in
     let node : first_node net s.from + 0 ≡ first_node net s.from = omega arith in
-    subst (λ (n : ℕ). Goes (edges_by p net heads) costs n (last_node net s.to) (walk_cost p price s.size walk)) node
+    subst (λ (n : ℕ). Goes net (edges_by p net heads) costs n (last_node net s.to) (walk_cost p price s.size walk) walk) node
     (goes-timed p net heads allowed price s.size costs are are_heads s.to walk s.from 0 from begins.1 timed.leads timed.allowed_all
     (subst (λ (n : ℕ). FollowsHeads heads n walk) (sym begins.2) timed.follows))
 
 -- and the classes of each open walk between these nodes are an allowed walk by them
-shipment-timed : (p : Problem) (net : TimedNetwork) (heads : Leg → ℕ) (allowed : Leg → Bool) (price : Leg → ℕ) (costs : List (Option ℕ)) (s : Shipment) → AreCosts p net allowed price s.size costs →
+pub shipment-timed : (p : Problem) (net : TimedNetwork) (heads : Leg → ℕ) (allowed : Leg → Bool) (price : Leg → ℕ) (costs : List (Option ℕ)) (s : Shipment) → AreCosts p net allowed price s.size costs →
     AreHeads p net heads → s.from < length net.points → s.to < length net.points → (walk : List ℕ) (cost : ℕ) → IsWalk (edges_by p net heads) costs (first_node net s.from) (last_node net s.to) walk cost →
     IsTimedFrom p heads allowed price s.size s.from 0 s.to cost (classes_on net walk)
 shipment-timed p net heads allowed price costs s are are_heads from to walk cost goes =
@@ -89,29 +81,3 @@ least-walk p net allowed price costs s are from to n walk least simple =
           (distinct-met p net are.valid are.whole (last_node net s.to) walk s.from 0 from begins.1 (subst (λ (m : ℕ). LeadsOver (edges_of p net) m walk (last_node net s.to)) node simple.goes.leads)
           (subst (λ (m : ℕ). AreDistinct (nodes_on (edges_of p net) m walk)) node simple.apart));
     }
-
--- the nodes on a walk are nodes
-nodes-below : (edges : List Edge) (nodes here there : ℕ) (walk : List ℕ) → HasEnds nodes edges → here < nodes → LeadsOver edges here walk there → AllByRecursion (λ i. i < nodes) (nodes_on edges here walk)
-nodes-below edges nodes here there [] ends inside leads = (inside, tt)
-nodes-below edges nodes here there (e ∷ walk) ends inside leads =
-    (inside, nodes-below edges nodes (edge_at edges e).to there walk ends (ends e no_edge leads.0).1 leads.2)
-
--- a walk that repeats no node costs at most the number of nodes times the greatest cost of an edge
-pub simple-small : (edges : List Edge) (costs : List (Option ℕ)) (nodes here there : ℕ) (walk : List ℕ) (cost most : ℕ) → HasEnds nodes edges → here < nodes →
-    IsSimpleWalk edges costs here there walk cost → All (λ o. IfSome o (λ (n : ℕ). n ≤ most)) costs → cost ≤ nodes * most
-simple-small edges costs nodes here there walk cost most ends inside simple all =
-    let few : length (nodes_on edges here walk) ≤ nodes = length-distinct-le nodes (nodes_on edges here walk) (nodes-below edges nodes here there walk ends inside simple.goes.leads) simple.apart in
-    let short : length walk ≤ nodes = omega (arith, few, length-map walk (λ (e : ℕ). (edge_at edges e).to)) in
-    let each : edges_cost costs walk ≤ length walk * most = sum_by-le (λ (e : ℕ). unwrap_or (cost_of costs e) 0) most walk (λ k d h. each-small (get_or walk k d)) in
-    omega (arith, each, mul-le-mul_right most short, simple.goes.costs_so)
-  where
-    small : (o : Option ℕ) → IfSome o (λ (n : ℕ). n ≤ most) → unwrap_or o 0 ≤ most
-    small None h = omega arith
-    small (Some n) h = h
-
-    each-small : (e : ℕ) → unwrap_or (cost_of costs e) 0 ≤ most
-    each-small e =
-        ⊎_elim
-        (λ (there : e < length costs). small (cost_of costs e) (all e None there))
-        (λ (past : length costs ≤ e). subst (λ (o : Option ℕ). unwrap_or o 0 ≤ most) (sym (get_or_past costs e None past)) (omega arith))
-        (cases_lt e (length costs))

@@ -5,6 +5,7 @@ use Rattle.std.specs.Prelude.{All, Option, Some, None, IfSome}
 use Rattle.std.proofs.lemmas.List.{get_or_read}
 use Rattle.fp_labels.specs.Labels.{Distances, IsSimpleWalk, cost_to, walk_to}
 use Rattle.fp_labels.specs.Walks.{IsDistance}
+use Rattle.fp_labels.proofs.SmallWalks.{simple-small}
 use Rattle.fp_model.specs.declared.parts.Leg.{Leg}
 use Rattle.fp_model.specs.declared.parts.Shipment.{Shipment}
 use Rattle.fp_model.specs.Numbered.{no_shipment, shipment_at}
@@ -19,7 +20,7 @@ use Rattle.fp_prices.specs.LeastWalks.{IsLeastWalk, classes_on}
 use Rattle.fp_prices.specs.PointGraphs.{AreOriginLabels, AreOriginLabelsBy}
 use Rattle.fp_prices.specs.Points.{AreFirstNodes, AreHeads, edges_by, edges_of, first_node, last_node}
 use Rattle.fp_prices.proofs.GraphWalks.{AreCosts}
-use Rattle.fp_prices.proofs.LeastOver.{least-over, least-walk, simple-small}
+use Rattle.fp_prices.proofs.LeastOver.{least-over, least-walk}
 use Rattle.fp_prices.proofs.Nodes.{first-point, node-within}
 use Rattle.fp_prices.proofs.PointEdges.{are-heads, has-ends}
 

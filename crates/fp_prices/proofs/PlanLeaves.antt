@@ -15,7 +15,7 @@ use Rattle.fp_base_lists.proofs.Elements.{AllByRecursion-from_map, AllByRecursio
 use Rattle.fp_base_lists.proofs.Maps.{get_or-map_default}
 use Rattle.fp_base_lists.proofs.Numbered.{AllFrom-from_get_or}
 use Rattle.fp_tree.specs.declared.sides.Side.{Side}
-use Rattle.fp_tree.specs.Sides.{Exit, Fork, HasCounts, MeetsAll, Obeys}
+use Rattle.fp_tree.specs.Sides.{Exit, Fork, HasCounts, HasWays, MeetsAll, Obeys}
 use Rattle.fp_tree.specs.Trees.{AreNoRivals, HaveTails, IsTree, Leaf, LeaveApart, tree_leaves}
 use Rattle.fp_base_lists.specs.Elements.{AnyByRecursion}
 use Rattle.fp_tree.proofs.Cover.{CoversAll-tree_leaves}
@@ -78,10 +78,12 @@ plan-apart p d [] (r ∷ plan) is = absurd is
 plan-apart p d (s ∷ shipments) [] is = absurd is
 plan-apart p d (s ∷ shipments) (r ∷ plan) is = (route-apart p s.from s.to r is.0.route.leads is.0.route.once, plan-apart p d shipments plan is.1)
 
--- a plan obeys sides where its legs do, as a tree sees them, and so many trucks leave as they ask
-obeys-plan : (p : Problem) (d : ℕ) (sides : List Side) (plan : List (List Leg)) → Obeys d (map (map (exit_of p)) plan) sides × HasCounts (trucks_between p d plan) sides → PlanObeys p d sides plan
+-- a plan obeys sides where its legs do, as a tree sees them, so many trucks leave as they ask, and shipments go by the arcs that they
+-- ask for
+obeys-plan : (p : Problem) (d : ℕ) (sides : List Side) (plan : List (List Leg)) → Obeys d (map (map (exit_of p)) plan) sides × HasCounts (trucks_between p d plan) sides × HasWays (map (map (exit_of p)) plan) sides → PlanObeys p d sides plan
 obeys-plan p d sides plan kept = record {
   trucks = kept.1;
+  ways = kept.2;
   legs = AllFrom-from_get_or (λ k r. AllByRecursion (λ (l : Leg). MeetsAll d k sides (exit_of p l)) r) plan [] 0 (λ k lt.
       let route : List Leg = slice_index_or plan k [] in
       let there : AllByRecursion (MeetsAll d k sides) (map (exit_of p) route) =
@@ -95,7 +97,7 @@ pub plan-obeys-leaf : {X : Type 0} (p : Problem) (fork_of : X → Option Fork) (
     IsValid p → IsPlan p d plan → AnyByRecursion (λ (l : Leaf X). PlanObeys p d l.sides plan) (tree_leaves fork_of nodes)
 plan-obeys-leaf {X} p fork_of nodes d plan told tree valid is =
     let routes : List (List Exit) = map (map (exit_of p)) plan in
-    AnyByRecursion-weaker (λ (l : Leaf X). Obeys d routes l.sides × HasCounts (trucks_between p d plan) l.sides) (λ (l : Leaf X). PlanObeys p d l.sides plan) (λ l. obeys-plan p d l.sides plan)
+    AnyByRecursion-weaker (λ (l : Leaf X). Obeys d routes l.sides × HasCounts (trucks_between p d plan) l.sides × HasWays routes l.sides) (λ (l : Leaf X). PlanObeys p d l.sides plan) (λ l. obeys-plan p d l.sides plan)
     (tree_leaves fork_of nodes)
     (CoversAll-tree_leaves (tails_of p) fork_of nodes told tree d routes (trucks_between p d plan)
     (λ k. AllByRecursion-get_or_default (LeaveApart (tails_of p)) routes k [] (plan-apart p d p.shipments plan is) tt) (plan-counts p d plan valid is))

@@ -12,9 +12,9 @@ use Rattle.fp_tree.specs.declared.sides.Side.{Side}
 use Rattle.fp_tree.specs.declared.sides.Side.TheVariants.{AtMost, MoreThan}
 use Rattle.fp_allowed.specs.Allowed.{is_allowed}
 use Rattle.fp_prices.specs.declared.leaf_prices.Kind.TheVariants.{Linear}
-use Rattle.fp_prices.specs.Leaves.{IsLeastCostBy}
 use Rattle.fp_prices_spans.specs.Spans.{ClassSpan}
 use Rattle.fp_prices_spans.specs.SpanLeaves.{IsSpanLeafValue, leaf_heads}
+use Rattle.fp_prices_spans.specs.Ways.{IsLeastCostVia, leaf_ways}
 use Rattle.fp_prices_spans.specs.SpanPrices.{leaf_span_price}
 use Rattle.fp_prices_gifts.specs.declared.gifts.Gift.{Gift}
 use Rattle.fp_prices_gifts.specs.Gifts.{KeepMoneyRule, KeepsAt, KeepsAtEnds}
@@ -102,12 +102,12 @@ run_ends least = record { point = refl; until = inr (lit< tt, (lit< tt, (lit< tt
 
 -- a shipment pays nothing for the class that it goes by
 free : (k name : ℕ) → allows k (leg 0) ≡ true →
-    IsLeastCostBy sixes (leaf_heads sixes windows points (span 0 ∷ []) k) (allows k) (parcel name) (leaf_span_price sixes [] (span 0 ∷ []) allows Linear ([] ∷ [] ∷ [] ∷ []) k 6) 0
+    IsLeastCostVia sixes (leaf_heads sixes windows points (span 0 ∷ []) k) (leaf_ways sixes three_at_least (span 0 ∷ []) k) (allows k) (parcel name) (leaf_span_price sixes [] (span 0 ∷ []) allows Linear ([] ∷ [] ∷ [] ∷ []) k 6) 0
 free k name allowed = record {
   walk = leg 0 ∷ [];
-  timed = record { leads = (lit< tt, refl, refl); allowed_all = (allowed, tt); follows = (omega arith, tt) };
+  is = record { by_heads = record { leads = (lit< tt, refl, refl); allowed_all = (allowed, tt); follows = (omega arith, tt) }; goes_by = tt };
   cost = omega arith;
-  least = λ other timed. omega arith;
+  least = λ other is. omega arith;
 }
 
 by_spans : IsSpanLeafValue sixes windows points three_at_least [] (span 0 ∷ []) Linear false 0

@@ -5,14 +5,14 @@ use Rattle.fp_base_lists.specs.Membership.{list_has}
 use Rattle.fp_model.specs.declared.parts.Leg.{Leg}
 use Rattle.fp_model.specs.declared.parts.Shipment.{Shipment}
 use Rattle.fp_model.specs.Costs.{cost}
-use Rattle.fp_model.specs.Problem.{IsValid, Problem, alone_total}
+use Rattle.fp_model.specs.Problem.{IsValid, Problem}
 use Rattle.fp_flatnet.specs.declared.window_tables.Window.{Window}
 use Rattle.fp_tree.specs.declared.sides.Side.{Side}
 use Rattle.fp_allowed.specs.Allowed.{is_allowed, tails_of}
 use Rattle.fp_prices.specs.declared.leaf_prices.Kind.{Kind}
 use Rattle.fp_prices.specs.declared.values.bounds.LeafBound.{LeafBound}
 use Rattle.fp_prices.specs.declared.values.bounds.LeafBound.TheVariants.{Empty, Value}
-use Rattle.fp_prices.specs.Leaves.{IsFirstWithoutBy, IsPlanOfLeaf}
+use Rattle.fp_prices.specs.Leaves.{IsPlanOfLeaf}
 use Rattle.fp_prices.specs.Prices.{AllKeepRule}
 use Rattle.fp_prices.specs.Shares.{ClassShare}
 use Rattle.fp_prices_spans.specs.MomentRuns.{AreAmong}
@@ -21,6 +21,7 @@ use Rattle.fp_prices_spans.specs.SpanCharges.{ChargePays}
 use Rattle.fp_prices_spans.specs.SpanLeaves.{IsSpanLeafEmpty, IsSpanLeafValue, leaf_heads}
 use Rattle.fp_prices_spans.specs.SpanLists.{AreSpansInOrder, IsSpanOf}
 use Rattle.fp_prices_spans.specs.SpanRules.{KeepSpanRules, KeepsSetRule}
+use Rattle.fp_prices_spans.specs.Ways.{IsFirstWithoutVia, leaf_ways}
 use Rattle.fp_prices_gifts.specs.declared.gifts.Gift.{Gift}
 use Rattle.fp_prices_gifts.specs.Gifts.{IsGiftList, KeepMoneyRule}
 use Rattle.fp_prices_gifts.specs.GiftNumbers.{gift_number}
@@ -60,11 +61,11 @@ pub record IsGiftLeafValue (p : Problem) (windows : ℕ → ℕ → Option Windo
   pub by_spans : IsSpanLeafValue p windows points sides tables spans kind forced before
   pub given : IsGiven p points sides gifts before value
 
--- the bound of a leaf under prices with gifts: that it is empty, by its first shipment without an allowed walk by the leaf's heads, or
--- its value
+-- the bound of a leaf under prices with gifts: that it is empty, by its first shipment without an allowed walk by the leaf's heads and
+-- ways, or its value
 abbrev pub IsGiftBoundOf : Problem → (ℕ → ℕ → Option Window) → (ℕ → List ℕ) → List Side → List (List ClassShare) → List ClassSpan → List Gift → Kind → Bool → LeafBound → Type 0
 IsGiftBoundOf p windows points sides tables spans gifts kind forced (Empty shipment) =
-    IsFirstWithoutBy p (leaf_heads p windows points spans) (is_allowed p windows points sides) shipment
+    IsFirstWithoutVia p (leaf_heads p windows points spans) (leaf_ways p sides spans) (is_allowed p windows points sides) shipment
 IsGiftBoundOf p windows points sides tables spans gifts kind forced (Value value) = IsGiftLeafValue p windows points sides tables spans gifts kind forced value
 
 -- the bound of a leaf, if it has one: a leaf that isn't empty has none where it isn't priced by the gifts
@@ -72,11 +73,10 @@ abbrev pub IsGiftBound : Problem → (ℕ → ℕ → Option Window) → (ℕ �
 IsGiftBound p windows points sides tables spans gifts kind forced found =
     MatchOption found ((b : LeafBound) → IsGiftBoundOf p windows points sides tables spans gifts kind forced b → ⊥) (IsGiftBoundOf p windows points sides tables spans gifts kind forced)
 
--- a value is at most 65,537 times what all shipments cost that each go over every arc alone, and 2^125, and 2^122; for a valid instance it
--- is below 2^128
-abbrev pub IsSmallGiftBound : Problem → LeafBound → Type 0
-IsSmallGiftBound p (Empty shipment) = Unit {0}
-IsSmallGiftBound p (Value value) = value ≤ p.scale * 65537 * alone_total p.arcs p.shipments + 2 ^ 125 + 2 ^ 122
+-- a value is below 2^128
+abbrev pub IsSmallGiftBound : LeafBound → Type 0
+IsSmallGiftBound (Empty shipment) = Unit {0}
+IsSmallGiftBound (Value value) = value ≤ 2 ^ 127 + 2 ^ 125 + 2 ^ 122
 
 -- what is asked of spans and gifts: the set rule of the spans, and the money rule of both
 pub record KeepGiftRules (p : Problem) (windows : ℕ → ℕ → Option Window) (first : ℕ → List ℕ) (spans : List ClassSpan) (gifts : List Gift) : Type 0 where

@@ -1,6 +1,6 @@
 //! The bound of a leaf under prices with gifts.
 ghost use Rattle.std.specs.Prelude.{ℕ, ◌≡◌, ◌+◌, ◌*◌, ◌≤◌, ◌^◌, ◌↔◌, IfOk, IfSome, IsTrue, List, MatchOption, length};
-ghost use Rattle.fp_model.specs.Problem.{IsValid, alone_total};
+ghost use Rattle.fp_model.specs.Problem.{IsValid};
 ghost use Rattle.fp_flatnet.specs.Belonging.{BelongsTo};
 ghost use Rattle.fp_flatnet.specs.Tables.{windows_in};
 ghost use Rattle.fp_timenodes.specs.Points.{points_at};
@@ -34,7 +34,7 @@ fn is_plain(gifts: &[Gift], forced: bool) -> bool
 // What gifts make of a leaf's value by spans, if the leaf is priced by them.
 fn value_with(leaf: &Leaf, gifts: &[Gift], forced: bool, value: u128) -> Option<u128>
     requires gifts { AreGifts leaf.now.setting.problem gifts.now }
-    requires small { value ≤ leaf.now.setting.problem.scale * 65537 * alone_total leaf.now.setting.problem.arcs leaf.now.setting.problem.shipments + 2 ^ 125 }
+    requires small { value ≤ 2 ^ 127 + 2 ^ 125 }
     ensures valid { IsValid leaf.now.setting.problem }
     ensures exact { MatchOption result
         ((v : ℕ) → IsPlain gifts.now forced → IsGiven leaf.now.setting.problem (points_in leaf.now.setting.network) leaf.now.sides gifts.now value v → ⊥)
@@ -51,7 +51,7 @@ fn value_with(leaf: &Leaf, gifts: &[Gift], forced: bool, value: u128) -> Option<
 
 /// The bound of a leaf under prices with gifts: its bound by spans, as
 /// [`span_bound`](fp_prices_spans::span_bound) finds it, with what the gifts give. `None` exactly where
-/// the leaf isn't empty by its heads and isn't priced by the gifts: there are some and forced classes
+/// the leaf isn't empty by its heads and ways and isn't priced by the gifts: there are some and forced classes
 /// are paid whole, the run of one doesn't begin at a point of its arc's tail or ends neither at one nor
 /// after all due times, or no side of the leaf is of its arc, its times and its kind.
 ///
@@ -82,7 +82,7 @@ pub fn gift_bound(
     ensures plans { (first : ℕ → List ℕ) → AreAmong leaf.now.setting.problem first (points_in leaf.now.setting.network) →
         KeepGiftRules leaf.now.setting.problem (windows_in leaf.now.setting.windows) first spans.now gifts.now →
         IfOk result (λ found. IfSome found (BoundsPlans leaf.now.setting.problem (windows_in leaf.now.setting.windows) leaf.now.sides)) }
-    ensures small { IfOk result (λ found. IfSome found (IsSmallGiftBound leaf.now.setting.problem)) }
+    ensures small { IfOk result (λ found. IfSome found IsSmallGiftBound) }
 {
     match span_bound(alloc, leaf, tables, spans, kind, forced)? {
         LeafBound::Empty { shipment } => Ok(Some(LeafBound::Empty { shipment })),
@@ -116,7 +116,7 @@ pub fn gift_bound_of(
     requires gifts { AreGifts instance.now gifts.now }
     ensures exact { IfOk result (IsGiftBound instance.now (windows_in windows.now)
         (λ terminal. points_at points.now terminal price.round) sides.now tables.now spans.now gifts.now price.kind price.forced) }
-    ensures small { IfOk result (λ found. IfSome found (IsSmallGiftBound instance.now)) }
+    ensures small { IfOk result (λ found. IfSome found IsSmallGiftBound) }
 {
     let network = RoundNetwork::of(alloc, instance, points, price.round)?;
     let leaf = Leaf::of(alloc, &network, windows, sides)?;

@@ -7,10 +7,9 @@ use Rattle.std.proofs.lemmas.Bool.{cases_Bool, cond-true, cond-false, false≢tr
 use Rattle.std.proofs.lemmas.List.Folds.{list_any-append}
 use Rattle.std.proofs.lemmas.List.Sums.{sum_by-le-sum_by}
 use Rattle.fp_base_lists.proofs.Ceilings.{div_ceil-zero}
-use Rattle.fp_base_lists.proofs.Sums.{sum_by-map, sum_by-same, sum_by-scaled, sum_by-swap}
+use Rattle.fp_base_lists.proofs.Sums.{sum_by-same, sum_by-scaled, sum_by-swap}
 use Rattle.fp_model.specs.declared.parts.Leg.{Leg}
-use Rattle.fp_model.specs.declared.parts.Shipment.{Shipment}
-use Rattle.fp_model.specs.Costs.{all_legs, distinct, flow_cost, flow_total, has_leg, load, same_leg, trucks}
+use Rattle.fp_model.specs.Costs.{all_legs, distinct, has_leg, load, same_leg, trucks}
 use Rattle.fp_model.specs.Problem.{Problem, arc_at}
 use Rattle.fp_model.proofs.Bounds.{load-outside}
 use Rattle.fp_model.proofs.Distinct.{distinct_sum, one-le, same_leg-comm, same_leg-refl, same_leg-true, term-le}

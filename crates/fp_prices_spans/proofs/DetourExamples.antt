@@ -20,12 +20,14 @@ use Rattle.fp_allowed.specs.Allowed.{is_allowed}
 use Rattle.fp_allowed.specs.Walks.{IsWalkBy}
 use Rattle.fp_allowed.proofs.AllowedClasses.{HasMoment, is_allowed_parts}
 use Rattle.fp_prices.specs.declared.leaf_prices.Kind.TheVariants.{Linear}
-use Rattle.fp_prices.specs.Leaves.{IsLeastCostBy, IsPlanOfLeaf}
+use Rattle.fp_prices.specs.Leaves.{IsPlanOfLeaf}
 use Rattle.fp_prices_spans.specs.MomentRuns.{group_weights, runs_of}
 use Rattle.fp_prices_spans.specs.Spans.{ClassSpan}
 use Rattle.fp_prices_spans.specs.SpanLeaves.{IsChargeOf, IsSpanLeafValue, leaf_heads}
 use Rattle.fp_prices_spans.specs.SpanPrices.{leaf_span_price}
 use Rattle.fp_prices_spans.specs.SpanRules.{KeepSpanRules, KeepWithin, KeepsSetRule}
+use Rattle.fp_prices_spans.specs.Ways.{IsLeastCostVia, leaf_ways}
+use Rattle.fp_prices_spans.proofs.LeafWays.{least-without_sides}
 use Rattle.fp_prices_spans.proofs.EqualWeights.{by_count}
 use Rattle.fp_prices_spans.proofs.SpanBounds.{span_leaf-bounds}
 
@@ -154,13 +156,15 @@ abbrev pays : List ClassSpan → ℕ → Leg → ℕ
 pays spans k c = leaf_span_price detour [] spans allows Linear ([] ∷ [] ∷ [] ∷ []) k 5 c + detour.scale * (arc_at detour c.arc).freight * 5
 
 least : (spans : List ClassSpan) (k name n : ℕ) → allows k (leg 0) ≡ true → pays spans k (leg 0) ≡ n → n ≤ pays spans k (leg 1) + pays spans k (leg 2) →
-    IsLeastCostBy detour (leaf_heads detour windows points spans k) (allows k) (load name) (leaf_span_price detour [] spans allows Linear ([] ∷ [] ∷ [] ∷ []) k 5) n
-least spans k name n allowed straight round = record {
-  walk = leg 0 ∷ [];
-  timed = record { leads = (lit< tt, refl, refl); allowed_all = (allowed, tt); follows = (omega arith, tt) };
-  cost = omega (arith, straight);
-  least = walk_pays (leaf_heads detour windows points spans k) k name n (pays spans k) (omega (arith, straight)) round;
-}
+    IsLeastCostVia detour (leaf_heads detour windows points spans k) (leaf_ways detour [] spans k) (allows k) (load name) (leaf_span_price detour [] spans allows Linear ([] ∷ [] ∷ [] ∷ []) k 5) n
+least spans k name n allowed straight round =
+    least-without_sides detour spans k (leaf_heads detour windows points spans k) (allows k) (load name) (leaf_span_price detour [] spans allows Linear ([] ∷ [] ∷ [] ∷ []) k 5) n
+    (record {
+      walk = leg 0 ∷ [];
+      timed = record { leads = (lit< tt, refl, refl); allowed_all = (allowed, tt); follows = (omega arith, tt) };
+      cost = omega (arith, straight);
+      least = walk_pays (leaf_heads detour windows points spans k) k name n (pays spans k) (omega (arith, straight)) round;
+    })
 
 -- by linear prices each pays 50, either way
 linear_value : IsSpanLeafValue detour windows points [] [] [] Linear false 150000000

@@ -17,12 +17,14 @@ use Rattle.fp_allowed.specs.Allowed.{IsForcedChain, is_allowed}
 use Rattle.fp_allowed.specs.Walks.{IsWalkBy}
 use Rattle.fp_allowed.proofs.AllowedClasses.{HasMoment, is_allowed_parts}
 use Rattle.fp_prices.specs.declared.leaf_prices.Kind.TheVariants.{Linear}
-use Rattle.fp_prices.specs.Leaves.{IsLeastCostBy, IsPlanOfLeaf}
+use Rattle.fp_prices.specs.Leaves.{IsPlanOfLeaf}
 use Rattle.fp_prices_spans.specs.MomentRuns.{group_weights, runs_of}
 use Rattle.fp_prices_spans.specs.Spans.{ClassSpan}
 use Rattle.fp_prices_spans.specs.SpanLeaves.{IsCharged, IsChargeOf, IsSpanLeafValue, leaf_heads}
 use Rattle.fp_prices_spans.specs.SpanPrices.{holds, leaf_span_price, money_at, span_price}
 use Rattle.fp_prices_spans.specs.SpanRules.{IsSetOf, KeepSpanRules, KeepWithin, KeepsMoneyRule, KeepsSetRule}
+use Rattle.fp_prices_spans.specs.Ways.{IsLeastCostVia, leaf_ways}
+use Rattle.fp_prices_spans.proofs.LeafWays.{least-without_sides}
 use Rattle.fp_prices_spans.proofs.EqualWeights.{by_count}
 use Rattle.fp_prices_spans.proofs.SpanBounds.{span_leaf-bounds}
 
@@ -95,13 +97,15 @@ pays qs spans k c = leaf_span_price road [] spans (allows qs) Linear ([] ∷ [] 
 -- a shipment goes by the class of a point that is no dearer than the other
 least_by : (qs : List ℕ) (spans : List ClassSpan) (k name q : ℕ) → allows qs k (leg q) ≡ true → pays qs spans k (leg q) ≤ pays qs spans k (leg (floor_point qs 1 0)) →
     pays qs spans k (leg q) ≤ pays qs spans k (leg (floor_point qs 1 1)) →
-    IsLeastCostBy road (leaf_heads road windows (points qs) spans k) (allows qs k) (parcel name) (leaf_span_price road [] spans (allows qs) Linear ([] ∷ [] ∷ []) k 5) (pays qs spans k (leg q))
-least_by qs spans k name q allowed first second = record {
-  walk = leg q ∷ [];
-  timed = record { leads = (lit< tt, refl, refl); allowed_all = (allowed, tt); follows = (omega arith, tt) };
-  cost = omega arith;
-  least = walk_pays qs (leaf_heads road windows (points qs) spans k) k name (pays qs spans k (leg q)) (pays qs spans k) first second;
-}
+    IsLeastCostVia road (leaf_heads road windows (points qs) spans k) (leaf_ways road [] spans k) (allows qs k) (parcel name) (leaf_span_price road [] spans (allows qs) Linear ([] ∷ [] ∷ []) k 5) (pays qs spans k (leg q))
+least_by qs spans k name q allowed first second =
+    least-without_sides road spans k (leaf_heads road windows (points qs) spans k) (allows qs k) (parcel name) (leaf_span_price road [] spans (allows qs) Linear ([] ∷ [] ∷ []) k 5) (pays qs spans k (leg q))
+    (record {
+      walk = leg q ∷ [];
+      timed = record { leads = (lit< tt, refl, refl); allowed_all = (allowed, tt); follows = (omega arith, tt) };
+      cost = omega arith;
+      least = walk_pays qs (leaf_heads road windows (points qs) spans k) k name (pays qs spans k (leg q)) (pays qs spans k) first second;
+    })
 
 -- the value where the shipments go by the classes of these points, and the spans take so much off
 plain : (qs : List ℕ) (spans : List ClassSpan) (q r : ℕ) (charges : List ℕ) → allows qs 0 (leg q) ≡ true → allows qs 1 (leg r) ≡ true →
@@ -289,13 +293,15 @@ abbrev chains : List (List Leg)
 chains = (leg 0 ∷ []) ∷ (leg 0 ∷ []) ∷ []
 
 free_by : (k name : ℕ) → allows alone k (leg 0) ≡ true →
-    IsLeastCostBy road (leaf_heads road windows (points alone) (whole 60000000 ∷ []) k) (allows alone k) (parcel name) (leaf_span_price road [] (whole 60000000 ∷ []) (allows alone) Linear chains k 5) 0
-free_by k name allowed = record {
-  walk = leg 0 ∷ [];
-  timed = record { leads = (lit< tt, refl, refl); allowed_all = (allowed, tt); follows = (omega arith, tt) };
-  cost = refl;
-  least = λ other timed. omega arith;
-}
+    IsLeastCostVia road (leaf_heads road windows (points alone) (whole 60000000 ∷ []) k) (leaf_ways road [] (whole 60000000 ∷ []) k) (allows alone k) (parcel name) (leaf_span_price road [] (whole 60000000 ∷ []) (allows alone) Linear chains k 5) 0
+free_by k name allowed =
+    least-without_sides road (whole 60000000 ∷ []) k (leaf_heads road windows (points alone) (whole 60000000 ∷ []) k) (allows alone k) (parcel name) (leaf_span_price road [] (whole 60000000 ∷ []) (allows alone) Linear chains k 5) 0
+    (record {
+      walk = leg 0 ∷ [];
+      timed = record { leads = (lit< tt, refl, refl); allowed_all = (allowed, tt); follows = (omega arith, tt) };
+      cost = refl;
+      least = λ other timed. omega arith;
+    })
 
 whole_free : IsCharged road (allows alone) chains (whole 60000000) → ⊥
 whole_free is =

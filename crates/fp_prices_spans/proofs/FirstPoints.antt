@@ -8,8 +8,6 @@ use Rattle.fp_model.specs.Problem.{Problem}
 use Rattle.fp_timenodes.specs.declared.places.AddedPoint.{AddedPoint}
 use Rattle.fp_timenodes.specs.Points.{TimePoints, added_at, points_at, times_at}
 use Rattle.fp_timenodes.proofs.Rounds.{list_has-points_at}
-use Rattle.fp_longestarcs.specs.Networks.{TimedNetwork, points_in}
-use Rattle.fp_longestarcs.specs.Whole.{IsNetworkOf}
 use Rattle.fp_prices_spans.specs.MomentRuns.{AreAmong, first_points}
 
 -- what was added by round 0 was added by each round

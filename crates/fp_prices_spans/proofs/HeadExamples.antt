@@ -20,11 +20,13 @@ use Rattle.fp_allowed.specs.Heads.{heads_within}
 use Rattle.fp_allowed.specs.Walks.{FollowsHeads, IsWalkBy}
 use Rattle.fp_allowed.proofs.AllowedClasses.{HasMoment, is_allowed_parts}
 use Rattle.fp_prices.specs.declared.leaf_prices.Kind.TheVariants.{Linear}
-use Rattle.fp_prices.specs.Leaves.{IsLeastCostBy, IsPlanOfLeaf}
+use Rattle.fp_prices.specs.Leaves.{IsPlanOfLeaf}
 use Rattle.fp_prices_spans.specs.Spans.{ClassSpan}
 use Rattle.fp_prices_spans.specs.SpanLeaves.{IsChargeOf, IsCharged, IsSpanLeafValue}
 use Rattle.fp_prices_spans.specs.SpanPrices.{holds, leaf_span_price}
 use Rattle.fp_prices_spans.specs.SpanRules.{KeepSpanRules}
+use Rattle.fp_prices_spans.specs.Ways.{IsLeastCostVia, leaf_ways}
+use Rattle.fp_prices_spans.proofs.LeafWays.{least-without_sides}
 use Rattle.fp_prices_spans.proofs.EqualWeights.{by_count}
 use Rattle.fp_prices_spans.proofs.SpanBounds.{span_leaf-bounds}
 
@@ -204,28 +206,32 @@ charged : (at from until shipment n : ℕ) → shipment < 2 → allows at shipme
 charged at from until shipment n exists allowed held = inl (record { class = leg 3 n; shipment = shipment; exists = exists; allowed_for_it = allowed; held = held; not_free = refl }, refl)
 
 second_least : (at : ℕ) → allows at 1 (leg 3 10) ≡ true → pays at 1 (leg 3 10) ≡ 60000000 → ((n : ℕ) → list_has (0 ∷ 10 ∷ at ∷ []) n ≡ true → allows at 1 (leg 3 n) ≡ true → 60000000 ≤ pays at 1 (leg 3 n)) →
-    IsLeastCostBy slow (heads at 1) (allows at 1) (record { name = 50 ∷ []; from = 2; to = 3; size = 5; release = 10; due = 25 }) (leaf_span_price slow [] (two at) (allows at) Linear none 1 5) 60000000
-second_least at allowed price each = record {
-  walk = leg 3 10 ∷ [];
-  timed = record { leads = (lit< tt, refl, refl); allowed_all = (allowed, tt); follows = (omega arith, tt) };
-  cost = omega (arith, price);
-  least = second_pays at each;
-}
+    IsLeastCostVia slow (heads at 1) (leaf_ways slow [] (two at) 1) (allows at 1) (record { name = 50 ∷ []; from = 2; to = 3; size = 5; release = 10; due = 25 }) (leaf_span_price slow [] (two at) (allows at) Linear none 1 5) 60000000
+second_least at allowed price each =
+    least-without_sides slow (two at) 1 (heads at 1) (allows at 1) (record { name = 50 ∷ []; from = 2; to = 3; size = 5; release = 10; due = 25 }) (leaf_span_price slow [] (two at) (allows at) Linear none 1 5) 60000000
+    (record {
+      walk = leg 3 10 ∷ [];
+      timed = record { leads = (lit< tt, refl, refl); allowed_all = (allowed, tt); follows = (omega arith, tt) };
+      cost = omega (arith, price);
+      least = second_pays at each;
+    })
 
 -- the first shipment goes over B and by the class of the point at which it comes to C
 first_least : (at n last : ℕ) → allows at 0 (leg 1 0) ≡ true → allows at 0 (leg 2 0) ≡ true → allows at 0 (leg 3 n) ≡ true → heads at 0 (leg 1 0) ≡ 0 → heads at 0 (leg 2 0) ≡ n → pays at 0 (leg 3 n) ≡ last → last ≤ 98000000 →
     ((m : ℕ) → list_has (0 ∷ 10 ∷ at ∷ []) m ≡ true → heads at 0 (leg 2 0) ≤ m → last ≤ pays at 0 (leg 3 m)) →
-    IsLeastCostBy slow (heads at 0) (allows at 0) (record { name = 49 ∷ []; from = 0; to = 3; size = 5; release = 0; due = 30 }) (leaf_span_price slow [] (two at) (allows at) Linear none 0 5) (2000000 + last)
-first_least at n last to_b to_c to_d from_b_on from_c_on price few each = record {
-  walk = leg 1 0 ∷ leg 2 0 ∷ leg 3 n ∷ [];
-  timed = record {
-    leads = (lit< tt, refl, (lit< tt, refl, (lit< tt, refl, refl)));
-    allowed_all = (to_b, (to_c, (to_d, tt)));
-    follows = (omega arith, (omega (arith, from_b_on), (omega (arith, from_c_on), tt)));
-  };
-  cost = omega (arith, price);
-  least = over_b at last few each;
-}
+    IsLeastCostVia slow (heads at 0) (leaf_ways slow [] (two at) 0) (allows at 0) (record { name = 49 ∷ []; from = 0; to = 3; size = 5; release = 0; due = 30 }) (leaf_span_price slow [] (two at) (allows at) Linear none 0 5) (2000000 + last)
+first_least at n last to_b to_c to_d from_b_on from_c_on price few each =
+    least-without_sides slow (two at) 0 (heads at 0) (allows at 0) (record { name = 49 ∷ []; from = 0; to = 3; size = 5; release = 0; due = 30 }) (leaf_span_price slow [] (two at) (allows at) Linear none 0 5) (2000000 + last)
+    (record {
+      walk = leg 1 0 ∷ leg 2 0 ∷ leg 3 n ∷ [];
+      timed = record {
+        leads = (lit< tt, refl, (lit< tt, refl, (lit< tt, refl, refl)));
+        allowed_all = (to_b, (to_c, (to_d, tt)));
+        follows = (omega arith, (omega (arith, from_b_on), (omega (arith, from_c_on), tt)));
+      };
+      cost = omega (arith, price);
+      least = over_b at last few each;
+    })
 
 -- with the point 16 the first shipment pays the second truck to D: what the cheapest plan costs
 value : IsSpanLeafValue slow windows (points 16) [] [] (two 16) Linear false 122000000

@@ -19,6 +19,8 @@ pub mod NoMoney
 pub mod EndMoney
 pub mod SpanSweeps
 pub mod LeafHeads
+pub mod LeafWays
+pub mod TaggedEdges
 pub mod SpanBounds
 pub mod PlaceSets
 pub mod SoundSpans

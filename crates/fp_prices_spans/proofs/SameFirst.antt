@@ -1,6 +1,6 @@
 -- First points come into whether charges pay only by which points there are, and not by how they are listed.
 use Rattle.std.proofs.Common.{◌≡◌, ℕ, zero, suc, ◌<◌, ◌≤◌, Bool, true, false, List, [], ◌∷◌, length, get_or, Option, Some, None, ⊎_elim, refl, sym, ap, ◌∙◌, subst, arith}
-use Rattle.std.specs.Prelude.{All, cond, nat_le}
+use Rattle.std.specs.Prelude.{All, cond}
 use Rattle.std.specs.List.{AllZip}
 use Rattle.std.proofs.lemmas.Bool.{cases_Bool, cases_lt, false≢true, le-leb}
 use Rattle.std.proofs.lemmas.List.Elements.{All-get_or}

@@ -16,26 +16,26 @@ use Rattle.fp_longestarcs.specs.Whole.{IsNetworkOf}
 use Rattle.fp_tree.specs.declared.sides.Side.{Side}
 use Rattle.fp_allowed.specs.Allowed.{is_allowed}
 use Rattle.fp_allowed.specs.SamePoints.{AgreeOnPoints}
-use Rattle.fp_allowed.specs.Walks.{IsWalkBy}
 use Rattle.fp_allowed.proofs.SamePoints.{AgreeOnPoints_sym, is_allowed_same}
 use Rattle.fp_prices.specs.declared.leaf_prices.Kind.{Kind}
 use Rattle.fp_prices.specs.declared.values.bounds.LeafBound.{LeafBound}
 use Rattle.fp_prices.specs.declared.values.bounds.LeafBound.TheVariants.{Empty, Value}
-use Rattle.fp_prices.specs.Leaves.{IsChain, IsLeastCostBy}
+use Rattle.fp_prices.specs.Leaves.{IsChain}
 use Rattle.fp_prices.specs.Shares.{ClassShare}
 use Rattle.fp_prices_spans.specs.SpanLeaves.{IsChargeOf, IsSpanBoundOf, IsSpanLeafValue, leaf_heads}
 use Rattle.fp_prices_spans.specs.SpanPrices.{leaf_span_price}
 use Rattle.fp_prices_spans.specs.Spans.{ClassSpan}
-use Rattle.fp_prices_spans.proofs.LeafHeads.{leaf_walk-same}
+use Rattle.fp_prices_spans.specs.Ways.{IsLeastCostVia, IsWalkVia, leaf_ways}
+use Rattle.fp_prices_spans.proofs.LeafWays.{leaf_via-same}
 
 module _ (p : Problem) (valid : IsValid p) (windows : ℕ → ℕ → Option Window) (points others : ℕ → List ℕ) (same : AgreeOnPoints p points others) (sides : List Side) where
-  least-same : (spans : List ClassSpan) (k : ℕ) (s : Shipment) (price : Leg → ℕ) (n : ℕ) → IsLeastCostBy p (leaf_heads p windows points spans k) (is_allowed p windows points sides k) s price n →
-      IsLeastCostBy p (leaf_heads p windows others spans k) (is_allowed p windows others sides k) s price n
+  least-same : (spans : List ClassSpan) (k : ℕ) (s : Shipment) (price : Leg → ℕ) (n : ℕ) → IsLeastCostVia p (leaf_heads p windows points spans k) (leaf_ways p sides spans k) (is_allowed p windows points sides k) s price n →
+      IsLeastCostVia p (leaf_heads p windows others spans k) (leaf_ways p sides spans k) (is_allowed p windows others sides k) s price n
   least-same spans k s price n least = record {
     walk = least.walk;
-    timed = leaf_walk-same p valid points others same windows sides spans k s least.walk least.timed;
+    is = leaf_via-same p valid points others same windows sides spans k s least.walk least.is;
     cost = least.cost;
-    least = λ other timed. least.least other (leaf_walk-same p valid others points (AgreeOnPoints_sym p points others same) windows sides spans k s other timed);
+    least = λ other is. least.least other (leaf_via-same p valid others points (AgreeOnPoints_sym p points others same) windows sides spans k s other is);
   }
 
   pub span_value-same : (tables : List (List ClassShare)) (spans : List ClassSpan) (kind : Kind) (forced : Bool) (value : ℕ) →
@@ -49,10 +49,10 @@ module _ (p : Problem) (valid : IsValid p) (windows : ℕ → ℕ → Option Win
         are_chains = subst (λ (allowed : ℕ → Leg → Bool). AllZipFrom (λ k. IsChain p (allowed k) forced) 0 p.shipments is.chains) e is.are_chains;
         are_least = subst
             (λ (allowed : ℕ → Leg → Bool).
-            AllZipFrom (λ k (s : Shipment) n. IsLeastCostBy p (leaf_heads p windows others spans k) (is_allowed p windows others sides k) s (leaf_span_price p tables spans allowed kind is.chains k s.size) n) 0 p.shipments is.costs) e
+            AllZipFrom (λ k (s : Shipment) n. IsLeastCostVia p (leaf_heads p windows others spans k) (leaf_ways p sides spans k) (is_allowed p windows others sides k) s (leaf_span_price p tables spans allowed kind is.chains k s.size) n) 0 p.shipments is.costs) e
             (AllZipFrom-weaker
-            (λ k (s : Shipment) n. IsLeastCostBy p (leaf_heads p windows points spans k) (is_allowed p windows points sides k) s (leaf_span_price p tables spans (is_allowed p windows points sides) kind is.chains k s.size) n)
-            (λ k (s : Shipment) n. IsLeastCostBy p (leaf_heads p windows others spans k) (is_allowed p windows others sides k) s (leaf_span_price p tables spans (is_allowed p windows points sides) kind is.chains k s.size) n)
+            (λ k (s : Shipment) n. IsLeastCostVia p (leaf_heads p windows points spans k) (leaf_ways p sides spans k) (is_allowed p windows points sides k) s (leaf_span_price p tables spans (is_allowed p windows points sides) kind is.chains k s.size) n)
+            (λ k (s : Shipment) n. IsLeastCostVia p (leaf_heads p windows others spans k) (leaf_ways p sides spans k) (is_allowed p windows others sides k) s (leaf_span_price p tables spans (is_allowed p windows points sides) kind is.chains k s.size) n)
             (λ k s n. least-same spans k s (leaf_span_price p tables spans (is_allowed p windows points sides) kind is.chains k s.size) n) 0 p.shipments is.costs is.are_least);
         are_charges = subst (λ (allowed : ℕ → Leg → Bool). AllZip (IsChargeOf p allowed is.chains) spans is.charges) e is.are_charges;
         value_is = is.value_is;
@@ -64,12 +64,12 @@ module _ (p : Problem) (valid : IsValid p) (windows : ℕ → ℕ → Option Win
   span_bound-same tables spans kind forced (Empty shipment) is = record {
     exists = is.exists;
     none = λ walk goes. is.none walk (back shipment walk goes);
-    before = λ j below none. is.before j below (λ walk goes. none walk (leaf_walk-same p valid points others same windows sides spans j (shipment_at p j) walk goes));
+    before = λ j below none. is.before j below (λ walk goes. none walk (leaf_via-same p valid points others same windows sides spans j (shipment_at p j) walk goes));
   }
     where
-      back : (k : ℕ) (walk : List Leg) → IsWalkBy p (leaf_heads p windows others spans k) (is_allowed p windows others sides k) (shipment_at p k) walk →
-          IsWalkBy p (leaf_heads p windows points spans k) (is_allowed p windows points sides k) (shipment_at p k) walk
-      back k walk goes = leaf_walk-same p valid others points (AgreeOnPoints_sym p points others same) windows sides spans k (shipment_at p k) walk goes
+      back : (k : ℕ) (walk : List Leg) → IsWalkVia p (leaf_heads p windows others spans k) (leaf_ways p sides spans k) (is_allowed p windows others sides k) (shipment_at p k) walk →
+          IsWalkVia p (leaf_heads p windows points spans k) (leaf_ways p sides spans k) (is_allowed p windows points sides k) (shipment_at p k) walk
+      back k walk goes = leaf_via-same p valid others points (AgreeOnPoints_sym p points others same) windows sides spans k (shipment_at p k) walk goes
   span_bound-same tables spans kind forced (Value value) is = span_value-same tables spans kind forced value is
 
 -- a bound over a network's points is one over the points as of its round

@@ -12,7 +12,6 @@ use Rattle.fp_tree.specs.declared.sides.Side.{Side}
 use Rattle.fp_allowed.specs.Allowed.{is_allowed}
 use Rattle.fp_prices.specs.declared.leaf_prices.Kind.{Kind}
 use Rattle.fp_prices.specs.declared.leaf_prices.Kind.TheVariants.{Linear, Even, Table}
-use Rattle.fp_prices.specs.Leaves.{IsLeastCostBy}
 use Rattle.fp_prices.specs.Prices.{share_for, table_at, table_price}
 use Rattle.fp_prices.specs.Shares.{ClassShare}
 use Rattle.fp_prices.specs.Tables.{HasKind}
@@ -20,6 +19,7 @@ use Rattle.fp_prices_spans.specs.SpanKinds.{IsPricedValue, spans_beside}
 use Rattle.fp_prices_spans.specs.SpanLeaves.{IsSpanLeafValue, leaf_heads}
 use Rattle.fp_prices_spans.specs.SpanPrices.{is_held, leaf_span_price, span_price}
 use Rattle.fp_prices_spans.specs.Spans.{ClassSpan}
+use Rattle.fp_prices_spans.specs.Ways.{IsLeastCostVia, leaf_ways}
 
 -- the prices by a kind that tables have, and spans, are the same by more tables
 leaf_span_price-append : (p : Problem) (tables more : List (List ClassShare)) (spans : List ClassSpan) (allowed : ℕ → Leg → Bool) (kind : Kind) (chains : List (List Leg)) → HasKind tables kind →
@@ -40,7 +40,7 @@ module _ (p : Problem) (windows : ℕ → ℕ → Option Window) (points : ℕ �
     costs = leaf.costs;
     charges = leaf.charges;
     are_chains = leaf.are_chains;
-    are_least = subst (λ (price : ℕ → ℕ → Leg → ℕ). AllZipFrom (λ k (s : Shipment) n. IsLeastCostBy p (leaf_heads p windows points spans k) (is_allowed p windows points sides k) s (price k s.size) n) 0 p.shipments leaf.costs)
+    are_least = subst (λ (price : ℕ → ℕ → Leg → ℕ). AllZipFrom (λ k (s : Shipment) n. IsLeastCostVia p (leaf_heads p windows points spans k) (leaf_ways p sides spans k) (is_allowed p windows points sides k) s (price k s.size) n) 0 p.shipments leaf.costs)
         (sym (leaf_span_price-append p tables more spans (is_allowed p windows points sides) kind leaf.chains has)) leaf.are_least;
     are_charges = leaf.are_charges;
     value_is = leaf.value_is;

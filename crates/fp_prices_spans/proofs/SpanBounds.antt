@@ -7,6 +7,7 @@ use Rattle.std.proofs.lemmas.List.Elements.{All-get_or, recursion_from_All}
 use Rattle.std.proofs.lemmas.Slice.Zip.{AllZip-long}
 use Rattle.fp_base_lists.specs.Distinct.{AreDistinct}
 use Rattle.fp_base_lists.specs.Numbered.{AllFrom}
+use Rattle.fp_base_lists.proofs.Numbered.{AllZipFrom-weaker}
 use Rattle.fp_base_lists.proofs.Distinct.{AreDistinct-from_map, AreDistinct-tail}
 use Rattle.fp_base_lists.proofs.Elements.{AllByRecursion-from_map}
 use Rattle.fp_base_lists.proofs.Sums.{sum_by-same, sum_by-scaled}
@@ -24,11 +25,11 @@ use Rattle.fp_allowed.specs.Allowed.{is_allowed}
 use Rattle.fp_allowed.proofs.AllowedClasses.{is_allowed_parts}
 use Rattle.fp_allowed.proofs.PlanClasses.{plan_timed}
 use Rattle.fp_prices.specs.declared.leaf_prices.Kind.{Kind}
-use Rattle.fp_prices.specs.Leaves.{IsPlanOfLeaf}
+use Rattle.fp_prices.specs.Leaves.{IsPlanOfLeaf, walk_cost}
 use Rattle.fp_prices.specs.Prices.{AllKeepRule}
 use Rattle.fp_prices.specs.Shares.{ClassShare}
 use Rattle.fp_prices.proofs.ClassPrices.{AreWalks}
-use Rattle.fp_prices.proofs.LeafSums.{costs-le_by}
+use Rattle.fp_prices.proofs.LeafSums.{costs-le_among}
 use Rattle.fp_prices.proofs.PlanBounds.{size_at, sizes-agree}
 use Rattle.fp_prices.proofs.TakenByClasses.{NoneTwiceInAny, paid}
 use Rattle.fp_prices.proofs.Users.{users-few}
@@ -38,9 +39,10 @@ use Rattle.fp_prices_spans.specs.Spans.{ClassSpan}
 use Rattle.fp_prices_spans.specs.SpanLeaves.{IsSpanLeafValue, SpanValuesBoundPlans, leaf_heads}
 use Rattle.fp_prices_spans.specs.SpanPrices.{leaf_span_price, most_paid}
 use Rattle.fp_prices_spans.specs.SpanRules.{KeepsSetRule}
+use Rattle.fp_prices_spans.specs.Ways.{IsLeastCostVia, IsWalkVia, leaf_ways}
 use Rattle.fp_prices_spans.proofs.ClassSums.{bases-and-span_prices}
 use Rattle.fp_prices_spans.proofs.DepartureTrucks.{ArePlanRoutes}
-use Rattle.fp_prices_spans.proofs.LeafHeads.{leaf_plan-walks}
+use Rattle.fp_prices_spans.proofs.LeafWays.{leaf_plan-via}
 use Rattle.fp_prices_spans.proofs.MoneySums.{most_paid-fits}
 
 -- a plan has no arc twice in a route, since a route enters no terminal twice
@@ -80,6 +82,7 @@ span_leaf-within p windows first points sides tables spans kind forced value lim
     let walks : List (List Leg) = map (map of) plan in
     let allowed : ℕ → Leg → Bool = is_allowed p windows points sides in
     let price : ℕ → ℕ → Leg → ℕ = λ k size. leaf_span_price p tables spans allowed kind leaf.chains k size in
+    let Via : ℕ → Shipment → List Leg → Type 0 = λ k s walk. IsWalkVia p (leaf_heads p windows points spans k) (leaf_ways p sides spans k) (allowed k) s walk in
     let timed : AreTimedWalks p points allowed 0 p.shipments walks = plan_timed p windows points sides d plan of_leaf.denominator of_leaf.plan of_leaf.within of_leaf.obeys in
     let each : length plan ≡ length p.shipments = AllZip-long (Carries p d) p.shipments plan of_leaf.plan in
     let long : length walks ≡ length p.shipments = length-map plan (map of) ∙ each in
@@ -105,8 +108,10 @@ span_leaf-within p windows first points sides tables spans kind forced value lim
     (λ k c allows. (is_allowed_parts p windows points sides k c allows).0) keep sets within_limits are
     (classes-once p points d p.shipments plan of_leaf.plan) routes of_leaf.within leaf.are_charges in
     let least : sum_by (λ (n : ℕ). n) leaf.costs ≤ paid (λ c k. price k (size_at p k) c) 0 walks + p.scale * flow_total p p.shipments walks =
-    costs-le_by p (leaf_heads p windows points spans) allowed price (size_at p) 0 p.shipments leaf.costs walks (sizes-agree p) leaf.are_least
-    (leaf_plan-walks p windows points sides spans d plan of_leaf) in
+    costs-le_among p Via price (size_at p) 0 p.shipments leaf.costs walks (sizes-agree p)
+    (AllZipFrom-weaker (λ k (s : Shipment) n. IsLeastCostVia p (leaf_heads p windows points spans k) (leaf_ways p sides spans k) (allowed k) s (price k s.size) n)
+    (λ k (s : Shipment) n. (walk : List Leg) → Via k s walk → n ≤ walk_cost p (price k s.size) s.size walk) (λ k s n is. is.least) 0 p.shipments leaf.costs leaf.are_least)
+    (leaf_plan-via p windows points sides spans d plan of_leaf) in
     let flow : p.scale * flow_total p p.shipments walks ≡ p.scale * flow_total p p.shipments plan = ap (λ (n : ℕ). p.scale * n) (flow_joins p of (λ l. refl) p.shipments plan) in
     omega (arith, leaf.value_is, bases, least, flow)
 

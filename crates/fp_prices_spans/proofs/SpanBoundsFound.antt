@@ -16,7 +16,7 @@ use Rattle.fp_prices_spans.specs.SpanCosts.{AreBases, HasChains, IsAfterCharges,
 use Rattle.fp_prices_spans.specs.SpanLeaves.{IsSpanBoundOf, IsSpanLeafValue}
 use Rattle.fp_prices_spans.specs.SpanRules.{KeepSpanRules}
 use Rattle.fp_prices_spans.specs.Spans.{ClassSpan}
-use Rattle.fp_prices_spans.proofs.LeafHeads.{leaf_route-walk}
+use Rattle.fp_prices_spans.proofs.LeafWays.{leaf_route-via}
 use Rattle.fp_prices_spans.proofs.SpanBounds.{span_leaf-bounds}
 
 module _ (m : PricingModel) (spans : List ClassSpan) where
@@ -45,6 +45,6 @@ module _ (m : PricingModel) (spans : List ClassSpan) where
       IsSpanBoundOf own (windows_in m.leaf.setting.windows) (points_in m.leaf.setting.network) m.leaf.sides m.tables spans m.kind m.forced b → BoundsPlans own (windows_in m.leaf.setting.windows) m.leaf.sides b
   bound-plans first (Empty shipment) valid among keep rules is = λ d plan of_leaf.
       is.none (map (class_of own (points_in m.leaf.setting.network) d) (route_at plan shipment))
-      (leaf_route-walk own (windows_in m.leaf.setting.windows) (points_in m.leaf.setting.network) m.leaf.sides spans d shipment plan is.exists of_leaf)
+      (leaf_route-via own (windows_in m.leaf.setting.windows) (points_in m.leaf.setting.network) m.leaf.sides spans d shipment plan is.exists of_leaf)
   bound-plans first (Value value) valid among keep rules is =
       span_leaf-bounds own (windows_in m.leaf.setting.windows) first (points_in m.leaf.setting.network) m.leaf.sides m.tables spans m.kind m.forced value valid among keep rules is

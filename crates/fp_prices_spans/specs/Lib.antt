@@ -2,6 +2,8 @@ pub mod Spans
 pub mod MomentRuns
 pub mod SpanPrices
 pub mod SpanRules
+pub mod Ways
+pub mod TaggedEdges
 pub mod SpanLeaves
 pub mod SpanLists
 pub mod HeldMoney

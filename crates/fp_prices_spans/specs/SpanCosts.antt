@@ -1,5 +1,5 @@
 -- What shipments cost at a leaf under prices by spans, what its forced chains cost, and what its spans take off.
-use Rattle.std.specs.Prelude.{ℕ, ◌+◌, ◌-◌, ◌*◌, ◌^◌, ◌≡◌, ◌<◌, ◌≤◌, List, Bool, true, Option, IfSome, length, slice_index, sum_by, if◌then◌else◌}
+use Rattle.std.specs.Prelude.{ℕ, ◌+◌, ◌-◌, ◌*◌, ◌≡◌, ◌<◌, ◌≤◌, List, Bool, true, Option, IfSome, length, slice_index, sum_by, if◌then◌else◌}
 use Rattle.std.specs.List.{AllZip}
 use Rattle.fp_model.specs.declared.parts.Leg.{Leg}
 use Rattle.fp_model.specs.declared.parts.Shipment.{Shipment}
@@ -12,13 +12,14 @@ use Rattle.fp_longestarcs.specs.Networks.{TimedNetwork, points_in}
 use Rattle.fp_allowed.specs.Listing.{class_at}
 use Rattle.fp_prices.specs.declared.values.bounds.LeafBound.{LeafBound}
 use Rattle.fp_prices.specs.declared.values.bounds.LeafBound.TheVariants.{Empty, Value}
-use Rattle.fp_prices.specs.ClassCosts.{HoldsClassCosts, IsLeastBy}
+use Rattle.fp_prices.specs.ClassCosts.{HoldsClassCosts}
 use Rattle.fp_prices.specs.LeafPricings.{AreChainsOf, PricingModel, allowed_at}
-use Rattle.fp_prices.specs.Leaves.{IsFirstWithoutBy, IsLeastCostBy}
+use Rattle.fp_prices.specs.Prices.{weight_in}
 use Rattle.fp_prices.specs.Rounds.{LeafModel}
 use Rattle.fp_prices_spans.specs.Spans.{ClassSpan}
 use Rattle.fp_prices_spans.specs.SpanLeaves.{IsChargeOf, leaf_heads}
 use Rattle.fp_prices_spans.specs.SpanPrices.{leaf_span_price}
+use Rattle.fp_prices_spans.specs.Ways.{IsFirstWithoutVia, IsLeastCostVia, IsLeastVia, leaf_ways, ways_fit}
 
 -- the leaf has chains that it counts
 abbrev pub HasChains : LeafModel → Bool → Type 0
@@ -39,15 +40,29 @@ AreSpanCostsOf m spans k costs =
 abbrev pub heads_at : LeafModel → List ClassSpan → ℕ → Leg → ℕ
 heads_at leaf spans k = leaf_heads leaf.setting.problem (windows_in leaf.setting.windows) (points_in leaf.setting.network) spans k
 
--- the least cost of the shipment with the number k, or that it has no allowed walk by the leaf's heads
+-- and the arcs by which its walks go
+abbrev pub ways_at : LeafModel → List ClassSpan → ℕ → List ℕ
+ways_at leaf spans k = leaf_ways leaf.setting.problem leaf.sides spans k
+
+-- the least cost of the shipment with the number k, or that it has no allowed walk by the leaf's heads and ways
 abbrev pub IsLeastBySpans : PricingModel → List ClassSpan → ℕ → Option ℕ → Type 0
 IsLeastBySpans m spans k cost =
     (chains : List (List Leg)) → AreChainsOf m.leaf m.forced chains →
-    IsLeastBy m.leaf.setting.problem (heads_at m.leaf spans k) (allowed_at m.leaf k) (shipment_at m.leaf.setting.problem k) (span_prices_at m spans chains k) cost
+    IsLeastVia m.leaf.setting.problem (heads_at m.leaf spans k) (ways_at m.leaf spans k) (allowed_at m.leaf k) (shipment_at m.leaf.setting.problem k) (span_prices_at m spans chains k) cost
 
--- the least cost, if there is one, is at most 65,536 times the scaled cost of going over every arc alone, and 2^116
-abbrev pub IsSmallBySpans : Problem → ℕ → Option ℕ → Type 0
-IsSmallBySpans p k cost = IfSome cost (λ n. n ≤ 65536 * (p.scale * sum_by (alone_cost (shipment_at p k).size) p.arcs) + 2 ^ 116)
+-- how many times the points a search goes over at most
+abbrev pub most_layers : Problem → ℕ
+most_layers p = if ways_fit p then 16 else 1
+
+-- the weights of the shipment with the number k in all spans
+abbrev pub own_weights : List ClassSpan → ℕ → ℕ
+own_weights spans k = sum_by (λ (span : ClassSpan). weight_in span.weights k) spans
+
+-- the least cost, if there is one, is at most 65,536 times the scaled cost of going over every arc alone and the shipment's weights, for
+-- each layer
+abbrev pub IsSmallBySpans : Problem → List ClassSpan → ℕ → Option ℕ → Type 0
+IsSmallBySpans p spans k cost =
+    IfSome cost (λ n. n ≤ most_layers p * (65536 * (p.scale * sum_by (alone_cost (shipment_at p k).size) p.arcs + own_weights spans k)))
 
 -- what the trucks cost of the class with a number, where some chain has it
 abbrev pub base_of : Problem → TimedNetwork → (chains : List (List Leg)) → ℕ → ℕ
@@ -79,13 +94,13 @@ pub record IsValueBySpans (m : PricingModel) (spans : List ClassSpan) (bases val
   pub costs : List ℕ
   pub least : (chains : List (List Leg)) → AreChainsOf m.leaf m.forced chains →
       AllZipFrom
-      (λ k (s : Shipment) n. IsLeastCostBy m.leaf.setting.problem (heads_at m.leaf spans k) (allowed_at m.leaf k) s
+      (λ k (s : Shipment) n. IsLeastCostVia m.leaf.setting.problem (heads_at m.leaf spans k) (ways_at m.leaf spans k) (allowed_at m.leaf k) s
       (leaf_span_price m.leaf.setting.problem m.tables spans (allowed_at m.leaf) m.kind chains k s.size) n)
       0 m.leaf.setting.problem.shipments costs
   pub is : value ≡ bases + sum_by (λ (n : ℕ). n) costs
 
--- what is found before the charges are taken off: the value, or the first shipment without an allowed walk by the leaf's heads
+-- what is found before the charges are taken off: the value, or the first shipment without an allowed walk by the leaf's heads and ways
 abbrev pub IsFoundBySpans : PricingModel → List ClassSpan → (bases : ℕ) → LeafBound → Type 0
 IsFoundBySpans m spans bases (Empty shipment) =
-    IsFirstWithoutBy m.leaf.setting.problem (heads_at m.leaf spans) (allowed_at m.leaf) shipment
+    IsFirstWithoutVia m.leaf.setting.problem (heads_at m.leaf spans) (ways_at m.leaf spans) (allowed_at m.leaf) shipment
 IsFoundBySpans m spans bases (Value value) = IsValueBySpans m spans bases value

@@ -7,7 +7,7 @@ use Rattle.fp_base_lists.specs.Numbered.{AllZipFrom}
 use Rattle.fp_model.specs.declared.parts.Leg.{Leg}
 use Rattle.fp_model.specs.declared.parts.Shipment.{Shipment}
 use Rattle.fp_model.specs.Costs.{all_legs, cost, departures_cost, has_leg}
-use Rattle.fp_model.specs.Problem.{Problem, IsValid, alone_total}
+use Rattle.fp_model.specs.Problem.{Problem, IsValid}
 use Rattle.fp_flatnet.specs.declared.window_tables.Window.{Window}
 use Rattle.fp_longestarcs.specs.Classes.{head_of}
 use Rattle.fp_tree.specs.declared.sides.Side.{Side}
@@ -16,13 +16,14 @@ use Rattle.fp_allowed.specs.Heads.{heads_within}
 use Rattle.fp_prices.specs.declared.values.bounds.LeafBound.{LeafBound}
 use Rattle.fp_prices.specs.declared.values.bounds.LeafBound.TheVariants.{Empty, Value}
 use Rattle.fp_prices.specs.declared.leaf_prices.Kind.{Kind}
-use Rattle.fp_prices.specs.Leaves.{IsChain, IsEmptyBy, IsFirstWithoutBy, IsLeafValue, IsLeastCostBy, IsPlanOfLeaf}
+use Rattle.fp_prices.specs.Leaves.{IsChain, IsLeafValue, IsPlanOfLeaf}
 use Rattle.fp_prices.specs.Prices.{AllKeepRule}
 use Rattle.fp_prices.specs.Shares.{ClassShare}
 use Rattle.fp_prices_spans.specs.MomentRuns.{AreAmong}
 use Rattle.fp_prices_spans.specs.Spans.{ClassSpan}
 use Rattle.fp_prices_spans.specs.SpanPrices.{holds, leaf_span_price}
 use Rattle.fp_prices_spans.specs.SpanRules.{KeepSpanRules}
+use Rattle.fp_prices_spans.specs.Ways.{IsEmptyVia, IsFirstWithoutVia, IsLeastCostVia, leaf_ways}
 
 -- a span is charged at a leaf: it holds for a class that is allowed for some shipment and isn't free, so in no forced chain
 pub record IsCharged (p : Problem) (allowed : ℕ → Leg → Bool) (chains : List (List Leg)) (span : ClassSpan) : Type 0 where
@@ -45,35 +46,35 @@ leaf_heads p windows points [] k = head_of p points
 leaf_heads p windows points (span ∷ spans) k = heads_within p windows points k
 
 -- the value of a leaf that isn't empty, under prices by spans: the bases, which are what the trucks of the forced chains cost, and the
--- least cost of each shipment, less the charge of each span that is charged, once each, and at least 0
+-- least cost of each shipment over the walks by the leaf's heads that go by its ways, less the charge of each span that is charged, once
+-- each, and at least 0
 pub record IsSpanLeafValue (p : Problem) (windows : ℕ → ℕ → Option Window) (points : ℕ → List ℕ) (sides : List Side) (tables : List (List ClassShare)) (spans : List ClassSpan) (kind : Kind) (forced : Bool) (value : ℕ) : Type 0 where
   pub chains : List (List Leg)
   pub costs : List ℕ
   pub charges : List ℕ
   pub are_chains : AllZipFrom (λ k. IsChain p (is_allowed p windows points sides k) forced) 0 p.shipments chains
   pub are_least : AllZipFrom
-      (λ k (s : Shipment) n. IsLeastCostBy p (leaf_heads p windows points spans k) (is_allowed p windows points sides k) s
+      (λ k (s : Shipment) n. IsLeastCostVia p (leaf_heads p windows points spans k) (leaf_ways p sides spans k) (is_allowed p windows points sides k) s
       (leaf_span_price p tables spans (is_allowed p windows points sides) kind chains k s.size) n)
       0 p.shipments costs
   pub are_charges : AllZip (IsChargeOf p (is_allowed p windows points sides) chains) spans charges
   pub value_is : value ≡ p.scale * departures_cost p chains (all_legs chains) + sum_by (λ (n : ℕ). n) costs - sum_by (λ (n : ℕ). n) charges
 
--- a leaf is empty by its heads: some shipment has no allowed walk by them
+-- a leaf is empty by its heads and its ways: some shipment has no allowed walk by them
 abbrev pub IsSpanLeafEmpty : Problem → (ℕ → ℕ → Option Window) → (ℕ → List ℕ) → List Side → List ClassSpan → Type 0
-IsSpanLeafEmpty p windows points sides spans = IsEmptyBy p (leaf_heads p windows points spans) (is_allowed p windows points sides)
+IsSpanLeafEmpty p windows points sides spans = IsEmptyVia p (leaf_heads p windows points spans) (leaf_ways p sides spans) (is_allowed p windows points sides)
 
--- the bound of a leaf under prices by spans: that it is empty, by its first shipment without an allowed walk by the leaf's heads, or
--- its value
+-- the bound of a leaf under prices by spans: that it is empty, by its first shipment without an allowed walk by the leaf's heads and ways,
+-- or its value
 abbrev pub IsSpanBoundOf : Problem → (ℕ → ℕ → Option Window) → (ℕ → List ℕ) → List Side → List (List ClassShare) → List ClassSpan → Kind → Bool → LeafBound → Type 0
 IsSpanBoundOf p windows points sides tables spans kind forced (Empty shipment) =
-    IsFirstWithoutBy p (leaf_heads p windows points spans) (is_allowed p windows points sides) shipment
+    IsFirstWithoutVia p (leaf_heads p windows points spans) (leaf_ways p sides spans) (is_allowed p windows points sides) shipment
 IsSpanBoundOf p windows points sides tables spans kind forced (Value value) = IsSpanLeafValue p windows points sides tables spans kind forced value
 
--- a value is at most 65,537 times what all shipments cost that each go over every arc alone, and 2^125; for a valid instance it is
--- below 2^128
-abbrev pub IsSmallSpanBound : Problem → LeafBound → Type 0
-IsSmallSpanBound p (Empty shipment) = Unit {0}
-IsSmallSpanBound p (Value value) = value ≤ p.scale * 65537 * alone_total p.arcs p.shipments + 2 ^ 125
+-- a value is below 2^128
+abbrev pub IsSmallSpanBound : LeafBound → Type 0
+IsSmallSpanBound (Empty shipment) = Unit {0}
+IsSmallSpanBound (Value value) = value ≤ 2 ^ 127 + 2 ^ 125
 
 -- every value of a leaf by spans that keep their rules, whoever finds it, bounds the plans of the leaf; the spans keep the set rule by
 -- first points, which are all points of the leaf

@@ -13,6 +13,7 @@ mod rules;
 mod spans;
 mod table_spans;
 mod values;
+mod ways;
 
 pub use laws::{
     charges_keep_set_rule, sound_spans_keep_rules, span_leaves_have_one_value,
@@ -26,6 +27,7 @@ pub use spans::{MOST_SPAN_WEIGHT, Span};
 pub use table_spans::{TableSpans, spans_beside};
 pub use values::rounds::span_bound_of;
 pub use values::span_bounds::span_bound;
+pub use ways::{MOST_WAYS, leaf_ways};
 
 /// The error of a call that finds no memory.
 pub type NoMemory = std::alloc::AllocError;

@@ -30,9 +30,8 @@ use Rattle.fp_prices.specs.Tables.{HasKind}
 use Rattle.fp_prices.proofs.TableAppends.{HasKind-append}
 use Rattle.fp_duals_leaves.specs.Prices.{HaveGrown, PriceLists}
 use Rattle.fp_session_history.specs.Divisions.{DividesTrucks, MaySplit}
-use Rattle.fp_session.specs.declared.branchings.Branching.{Branching}
 use Rattle.fp_session.specs.declared.searches.Search.{Search}
-use Rattle.fp_session.specs.Choices.{IsBranching, fork_by}
+use Rattle.fp_session.specs.Choices.{IsBranching}
 use Rattle.fp_session.specs.Searches.{IsSearch, history, setting_of}
 
 -- what holds of each element of a list holds of the one at a place

@@ -24,10 +24,10 @@ use Rattle.fp_prices_gifts.proofs.OneGiftValue.{gift_leaves-have-one-value}
 use Rattle.fp_prices_spans.specs.SpanKinds.{spans_beside}
 use Rattle.fp_prices_spans.specs.SpanLeaves.{IsSpanLeafEmpty}
 use Rattle.fp_prices_spans.specs.Spans.{ClassSpan}
-use Rattle.fp_duals.specs.declared.improvements.Improved.{Improved}
-use Rattle.fp_duals.specs.declared.improvements.Improved.TheVariants as improved
+use Rattle.fp_duals_leaves.specs.declared.pricing.Improvement.{Improvement}
+use Rattle.fp_duals_leaves.specs.declared.pricing.Improvement.TheVariants as improved
 use Rattle.fp_duals_leaves.specs.Prices.{HaveGrown, PriceLists}
-use Rattle.fp_duals_leaves.specs.Pricing.{IsPriceFound}
+use Rattle.fp_duals_leaves.specs.Pricing.{IsEmptyFound, IsPriceFound}
 use Rattle.fp_duals_leaves.proofs.SpansBeside.{beside-none, ungiven-none}
 use Rattle.fp_duals_leaves.proofs.Worths.{found-no-less}
 use Rattle.fp_session_history.specs.Notes.{points_of}
@@ -53,17 +53,19 @@ pub leaf-setting_with : (s : Search) (net : TimedNetwork) (r : RoundModel) (x : 
 leaf-setting_with s net r x is of = of ∙ ap (λ (q : RoundModel). let y : Setting = record { problem = q.problem; windows = s.windows; network = q.network } in y) is
 
 module _ (s : Search) (before after : PriceLists) (is : IsSearch s before) (sides : List Side) (net : TimedNetwork) (round : ℕ) (had : round ≤ length s.trace.items) (of : IsNetworkOf s.instance s.points round net)
-    (x : Setting) (setting : x ≡ setting_with s net) (r : Improved) (here : ImprovedIn x sides after round r) where
+    (x : Setting) (setting : x ≡ setting_with s net) (r : Improvement) (here : ImprovedIn x sides after round r) where
   -- the points of such a network are those as of the round
   agree-then : AgreeOnPoints s.instance (points_in net) (points_of (history s after) round)
   agree-then = AgreeOnPoints-history (history s before) s.started s.cost is.belongs is.trace (omega (arith, is.rounds, is.budget.rounds)) s.points round net is.points is.added of
 
-  own-then : (q : Improved) → r ≡ q → ImprovedIn (setting_with s net) sides after round q
-  own-then q was = subst (λ (z : Improved). ImprovedIn (setting_with s net) sides after round z) was (subst (λ (y : Setting). ImprovedIn y sides after round r) setting here)
+  own-then : (q : Improvement) → r ≡ q → ImprovedIn (setting_with s net) sides after round q
+  own-then q was = subst (λ (z : Improvement). ImprovedIn (setting_with s net) sides after round z) was (subst (λ (y : Setting). ImprovedIn y sides after round r) setting here)
 
   -- what is kept of one that was empty then
-  pub empty-then : (shipment : ℕ) → r ≡ improved.Empty shipment → IsKept (history s after) sides (empty_kept round).payload (empty_kept round).value
-  empty-then shipment was = empty-as-of (history s after) net sides is.belongs.valid round had agree-then shipment 0 0 (own-then (improved.Empty shipment) was)
+  pub empty-then : (price : LeafPrice) → r ≡ improved.Empty price → IsKept (history s after) sides (empty_kept price).payload (empty_kept price).value × (price.round ≡ round)
+  empty-then price was =
+      let found : IsEmptyFound s.instance (windows_in s.windows) (points_in net) sides after round price = own-then (improved.Empty price) was in
+      (empty-as-of (history s after) net sides is.belongs.valid round had agree-then price 0 0 found, found.of_round)
 
   -- the values by linear and by even prices are at most the one that was found
   pub starts-then : (price : LeafPrice) (value : ℕ) (walks : Vec (List Leg) Global) → r ≡ improved.Priced price value walks → AreAtMost (history s after) round sides value
@@ -154,7 +156,7 @@ module _ (s : Search) (before after : PriceLists) (is : IsSearch s before) (side
 
 -- so it is of a leaf under sides that it has, by a price as of the round
 pub best-under : (s : Search) (before after : PriceLists) (is : IsSearch s before) (own sides : List Side) (net : TimedNetwork) (price : LeafPrice) (had : price.round ≤ length s.trace.items)
-    (of : IsNetworkOf s.instance s.points price.round net) (x : Setting) (setting : x ≡ setting_with s net) (r : Improved) (here : ImprovedIn x own after price.round r) (kind : HasKind after.tables price.kind) (grown : HaveGrown s.instance s.windows before after)
+    (of : IsNetworkOf s.instance s.points price.round net) (x : Setting) (setting : x ≡ setting_with s net) (r : Improvement) (here : ImprovedIn x own after price.round r) (kind : HasKind after.tables price.kind) (grown : HaveGrown s.instance s.windows before after)
     (first : LeafPrice) (value : ℕ) (walks : Vec (List Leg) Global) → r ≡ improved.Priced first value walks → (found : Kept) → found ≡ priced_kept first value → own ≡ sides → (kept : Kept) →
     IsBestBy (record { setting = x; sides = own }) after found price kept →
     IsKept (history s after) sides kept.payload kept.value × (kept.payload.valuation.price.round ≡ price.round) × (before.unit ≡ None → IsNoLessBy (history s after) sides price kept)

@@ -16,24 +16,26 @@ use Rattle.fp_allowed.specs.Walks.{IsTimedWalk}
 use Rattle.fp_allowed.proofs.SamePoints.{allowed_walk_same, is_allowed_same}
 use Rattle.fp_prices.specs.declared.leaf_prices.Kind.TheVariants.{Even, Linear}
 use Rattle.fp_prices.specs.declared.leaf_prices.LeafPrice.{LeafPrice}
-use Rattle.fp_prices.specs.Leaves.{IsFirstWithout, IsLeafValue}
+use Rattle.fp_prices.specs.Leaves.{IsLeafValue}
 use Rattle.fp_prices.specs.Shares.{ClassShare}
 use Rattle.fp_prices.proofs.TableAppends.{HasKind-append}
 use Rattle.fp_prices_gifts.specs.declared.gifts.Gift.{Gift}
 use Rattle.fp_prices_gifts.specs.GiftKinds.{IsPricedValue}
+use Rattle.fp_prices_spans.specs.SpanKinds.{spans_beside}
+use Rattle.fp_prices_spans.specs.SpanLeaves.{IsSpanLeafEmpty}
 use Rattle.fp_prices_spans.specs.Spans.{ClassSpan}
 use Rattle.fp_duals.specs.Improvements.{IsReachedChain}
 use Rattle.fp_session_history.specs.Notes.{History, last_round, points_of, with_tables}
 use Rattle.fp_session_history.specs.PrintedLeaves.{IsEmptyAt}
-use Rattle.fp_session_history.proofs.SamePoints.{EachValue_same, IsLeafEmpty_same}
-use Rattle.fp_session_history.proofs.Stays.{IsEarnedAt-with_tables}
+use Rattle.fp_session_history.proofs.SamePoints.{EachValue_same, IsSpanLeafEmpty_same}
+use Rattle.fp_session_history.proofs.Stays.{IsEarnedAt-with_tables, IsEmptyAt-with_tables}
 use Rattle.fp_session.specs.declared.kept.Kept.{Kept}
 use Rattle.fp_session.specs.declared.payloads.Payload.{Payload}
 use Rattle.fp_certificate_lines.specs.declared.certificates.Valuation.{Valuation}
 use Rattle.fp_session.specs.Nodes.{IsEarnedAs, IsKept, IsValuedUnder}
 use Rattle.fp_session.specs.Outcomes.{IsAtLeastStarts, IsFound}
 use Rattle.fp_duals_leaves.specs.Prices.{ArePrices, PriceLists}
-use Rattle.fp_duals_leaves.specs.Pricing.{IsPriceFound}
+use Rattle.fp_duals_leaves.specs.Pricing.{IsEmptyFound, IsPriceFound}
 use Rattle.fp_session.proofs.SameValues.{priced_value-same}
 
 -- what is kept of a leaf stays true with more prices
@@ -47,7 +49,7 @@ IsKept-with_tables h more spans gifts sides payload value beside given kept = re
   where
     by_mark : (b : Bool) → MatchBool b (IsEmptyAt h sides payload.valuation) (IsEarnedAs h sides payload.valuation value) →
         MatchBool b (IsEmptyAt (with_tables h more spans gifts) sides payload.valuation) (IsEarnedAs (with_tables h more spans gifts) sides payload.valuation value)
-    by_mark true is = record { empty = is.empty; linear = is.linear; plain = is.plain; whole = is.whole }
+    by_mark true is = IsEmptyAt-with_tables h more spans gifts sides payload.valuation beside kept.price.kind is
     by_mark false is = record { earned = IsEarnedAt-with_tables h more spans gifts sides payload.valuation beside given kept.price.kind is.earned; is = is.is }
 
 -- the prices of a search
@@ -98,24 +100,23 @@ kept-as-of h net sides valid are round had same price value walks is incumbent =
 
 -- and one that is empty as of such a round is kept as empty
 pub empty-as-of : (h : History) (net : TimedNetwork) (sides : List Side) (valid : IsValid h.problem) (round : ℕ) → round ≤ last_round h → AgreeOnPoints h.problem (points_in net) (points_of h round) →
-    (shipment incumbent value : ℕ) → IsFirstWithout h.problem (windows_in h.windows) (points_in net) sides shipment →
-    IsKept h sides (record { valuation = whole_price (record { kind = Linear; round = round; forced = false }); empty = true; incumbent = incumbent; improved = None }) value
-empty-as-of h net sides valid round had same shipment incumbent value first = record {
-  price = record { round = had; kind = tt };
-  under = under-all h sides (record { kind = Linear; round = round; forced = false });
+    (price : LeafPrice) (incumbent value : ℕ) → IsEmptyFound h.problem (windows_in h.windows) (points_in net) sides (prices_of h) round price →
+    IsKept h sides (record { valuation = whole_price price; empty = true; incumbent = incumbent; improved = None }) value
+empty-as-of h net sides valid round had same price incumbent value found = record {
+  price = record { round = omega (arith, had, found.of_round); kind = found.kind };
+  under = under-all h sides price;
   worth = record {
-    empty = IsLeafEmpty_same h.problem valid (windows_in h.windows) (points_in net) (points_of h round) same sides (record { shipment = shipment; exists = first.exists; none = first.none });
-    linear = refl;
-    plain = refl;
+    empty = subst (λ (n : ℕ). IsSpanLeafEmpty h.problem (windows_in h.windows) (points_of h n) sides (spans_beside h.spans price.kind)) (sym found.of_round)
+        (IsSpanLeafEmpty_same h.problem valid (windows_in h.windows) (points_in net) (points_of h round) same sides (spans_beside h.spans price.kind) found.is);
     whole = refl;
   };
 }
 
 module _ (h : History) (net : TimedNetwork) (sides : List Side) (valid : IsValid h.problem) (same : AgreeOnPoints h.problem (points_in net) (points_of h (last_round h))) where
   -- an empty leaf is kept as one
-  pub kept-empty : (shipment incumbent value : ℕ) → IsFirstWithout h.problem (windows_in h.windows) (points_in net) sides shipment →
-      IsKept h sides (record { valuation = whole_price (record { kind = Linear; round = last_round h; forced = false }); empty = true; incumbent = incumbent; improved = None }) value
-  kept-empty shipment incumbent value first = empty-as-of h net sides valid (last_round h) (omega arith) same shipment incumbent value first
+  pub kept-empty : (price : LeafPrice) (incumbent value : ℕ) → IsEmptyFound h.problem (windows_in h.windows) (points_in net) sides (prices_of h) (last_round h) price →
+      IsKept h sides (record { valuation = whole_price price; empty = true; incumbent = incumbent; improved = None }) value
+  kept-empty price incumbent value found = empty-as-of h net sides valid (last_round h) (omega arith) same price incumbent value found
 
   module _ (price : LeafPrice) (value : ℕ) (walks : List (List Leg))
       (is : IsPriceFound h.problem (windows_in h.windows) (points_in net) sides (prices_of h) (last_round h) (record { price = price; value = value }) walks) where

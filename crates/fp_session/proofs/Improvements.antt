@@ -12,15 +12,15 @@ use Rattle.fp_prices.specs.declared.leaf_prices.LeafPrice.{LeafPrice}
 use Rattle.fp_prices.specs.Shares.{ClassShare}
 use Rattle.fp_prices_gifts.specs.declared.gifts.Gift.{Gift}
 use Rattle.fp_prices_spans.specs.Spans.{ClassSpan}
-use Rattle.fp_duals.specs.declared.improvements.Improved.{Improved}
-use Rattle.fp_duals.specs.declared.improvements.Improved.TheVariants as improved
+use Rattle.fp_duals_leaves.specs.declared.pricing.Improvement.{Improvement}
+use Rattle.fp_duals_leaves.specs.declared.pricing.Improvement.TheVariants as improved
 use Rattle.fp_session_history.specs.Notes.{last_round}
 use Rattle.fp_session.specs.declared.kept.Kept.{Kept}
 use Rattle.fp_session.specs.declared.searches.Search.{Search}
 use Rattle.fp_session.specs.Nodes.{IsKept}
 use Rattle.fp_session.specs.Outcomes.{IsFound, IsGreater, empty_kept, priced_kept}
 use Rattle.fp_duals_leaves.specs.Prices.{ArePrices, HaveGrown, PriceLists, with_more}
-use Rattle.fp_duals_leaves.specs.Pricing.{IsImprovedBy, IsPriceFound}
+use Rattle.fp_duals_leaves.specs.Pricing.{IsEmptyFound, IsImprovedBy, IsPriceFound}
 use Rattle.fp_duals_leaves.proofs.SpansBeside.{given-length}
 use Rattle.fp_session.specs.Searches.{IsSearch, history, setting_of}
 use Rattle.fp_session.proofs.ImprovedLeaves.{IsKept-with_tables, found-priced, kept-empty, kept-priced}
@@ -48,27 +48,27 @@ IsKept-grown s before after sides kept are grown is =
     subst (λ (x : PriceLists). IsKept (history s x) sides kept.payload kept.value) (sym grown.is) (IsKept-with_tables (history s before) grown.tables grown.spans grown.gifts sides kept.payload kept.value are.beside (given-length s.instance s.windows before are) is)
 
 -- what comes of improving a leaf in a setting
-abbrev pub ImprovedIn : Setting → List Side → PriceLists → ℕ → Improved → Type 0
+abbrev pub ImprovedIn : Setting → List Side → PriceLists → ℕ → Improvement → Type 0
 ImprovedIn x sides after round r = IsImprovedBy x.problem (windows_in x.windows) (points_in x.network) sides after round r
 
-module _ (s : Search) (before after : PriceLists) (is : IsSearch s before) (sides : List Side) (x : Setting) (setting : x ≡ setting_of s) (round : ℕ) (r : Improved)
+module _ (s : Search) (before after : PriceLists) (is : IsSearch s before) (sides : List Side) (x : Setting) (setting : x ≡ setting_of s) (round : ℕ) (r : Improvement)
     (here : ImprovedIn x sides after round r) (at : round ≡ last_round (history s before)) where
   -- in the setting of the search
   own : ImprovedIn (setting_of s) sides after round r
   own = subst (λ (y : Setting). ImprovedIn y sides after round r) setting here
 
   -- what is kept of a leaf that is empty
-  pub empty-here : (shipment : ℕ) → r ≡ improved.Empty shipment → IsKept (history s after) sides (empty_kept round).payload (empty_kept round).value
-  empty-here shipment was =
-      subst (λ (n : ℕ). IsKept (history s after) sides (empty_kept n).payload (empty_kept n).value) (sym at)
-      (kept-empty (history s after) s.network sides is.belongs.valid (agree-now s before is) shipment 0 0 (subst (λ (q : Improved). ImprovedIn (setting_of s) sides after round q) was own))
+  pub empty-here : (price : LeafPrice) → r ≡ improved.Empty price → IsKept (history s after) sides (empty_kept price).payload (empty_kept price).value
+  empty-here price was =
+      kept-empty (history s after) s.network sides is.belongs.valid (agree-now s before is) price 0 0
+      (subst (λ (n : ℕ). IsEmptyFound s.instance (windows_in s.windows) (points_in s.network) sides after n price) at (subst (λ (q : Improvement). ImprovedIn (setting_of s) sides after round q) was own))
 
   module _ (price : LeafPrice) (value : ℕ) (walks : Vec (List Leg) Global) (was : r ≡ improved.Priced price value walks) where
     -- the price of one that isn't
     priced-own : IsPriceFound s.instance (windows_in s.windows) (points_in s.network) sides after (last_round (history s before)) (record { price = price; value = value }) walks.items
     priced-own =
         subst (λ (n : ℕ). IsPriceFound s.instance (windows_in s.windows) (points_in s.network) sides after n (record { price = price; value = value }) walks.items) at
-        (subst (λ (q : Improved). ImprovedIn (setting_of s) sides after round q) was own)
+        (subst (λ (q : Improvement). ImprovedIn (setting_of s) sides after round q) was own)
 
     -- what is kept of it
     pub priced-here : ArePrices s.instance s.windows after → IsKept (history s after) sides (priced_kept price value).payload (priced_kept price value).value

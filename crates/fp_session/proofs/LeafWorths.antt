@@ -21,7 +21,6 @@ use Rattle.fp_session_history.specs.Notes.{History, points_of, worth_of}
 use Rattle.fp_session_history.specs.PrintedLeaves.{IsEmptyAt, IsLeastWorth, IsOpenBelow, IsPrintedLeaf, IsWorth, OfLeaf}
 use Rattle.fp_session_history.specs.Solutions.{AtLeaf}
 use Rattle.fp_session_history.specs.Splits.{IsEarnedAt, IsValueAt}
-use Rattle.fp_session_history.proofs.EmptyLeaves.{empty-by_heads}
 use Rattle.fp_session.specs.declared.payloads.Payload.{Payload}
 use Rattle.fp_session.specs.Nodes.{IsEarnedAs, IsKept, IsLeafOf, IsSettled}
 use Rattle.fp_session.specs.TreeLines.{IsLeastBelow, leaf_worth, lines_of}
@@ -47,7 +46,7 @@ module _ (h : History) where
       let own : LeafPrice = payload.valuation.price in
       let whole : IsPricedValue h.problem (windows_in h.windows) (points_of h own.round) sides h.tables h.spans h.gifts own.kind own.forced v =
       subst (λ (o : Option ℕ). IsPricedValue h.problem (windows_in h.windows) (points_of h own.round) (first_sides o sides) h.tables h.spans h.gifts own.kind own.forced v) empty.whole is in
-      absurd (gift_leaves-have-one-value.some h.problem (windows_in h.windows) (points_of h own.round) sides h.tables (spans_beside h.spans own.kind) (gifts_beside h.gifts own.kind) own.kind own.forced v whole (empty-by_heads h sides payload.valuation empty)))
+      absurd (gift_leaves-have-one-value.some h.problem (windows_in h.windows) (points_of h own.round) sides h.tables (spans_beside h.spans own.kind) (gifts_beside h.gifts own.kind) own.kind own.forced v whole empty.empty))
       (λ mark earned.
       let own : LeafPrice = payload.valuation.price in (
         mark,
@@ -70,7 +69,7 @@ module _ (h : History) where
   pub worth-kept : (claim : ℕ) (sides : List Side) (payload : Payload) (value : ℕ) → IsKept h sides payload value → (payload.empty ≡ false → claim ≤ worth_of h value) → IsWorthClaim claim sides payload.valuation
   worth-kept claim sides payload value kept unmarked =
       let v : Valuation = payload.valuation in
-      by_mark (IsWorthClaim claim sides v) sides payload value kept (λ mark empty. inl (empty-by_heads h sides v empty))
+      by_mark (IsWorthClaim claim sides v) sides payload value kept (λ mark empty. inl empty.empty)
       (λ mark earned. inr (earned.earned.value, earned.earned.is, subst (λ (n : ℕ). claim ≤ worth_of h n) earned.is (unmarked mark)))
 
   -- a leaf that is settled and isn't empty is worth the cost

@@ -18,7 +18,6 @@ use Rattle.fp_allowed.proofs.FewerSides.{AreAmong_append, is_allowed_fewer}
 use Rattle.fp_prices.specs.declared.leaf_prices.Kind.{Kind}
 use Rattle.fp_prices.specs.declared.leaf_prices.Kind.TheVariants.{Even, Linear, Table}
 use Rattle.fp_prices.specs.declared.leaf_prices.LeafPrice.{LeafPrice}
-use Rattle.fp_prices.specs.Leaves.{IsLeastCostBy}
 use Rattle.fp_prices.specs.Prices.{truck_price}
 use Rattle.fp_prices.specs.Shares.{ClassShare}
 use Rattle.fp_prices.proofs.PlainChains.{all_legs-plain}
@@ -31,6 +30,8 @@ use Rattle.fp_prices_spans.specs.SpanLeaves.{IsCharged, IsChargeOf, IsSpanLeafVa
 use Rattle.fp_certificate_lines.specs.Valuations.{first_sides, sides_valued}
 use Rattle.fp_prices_spans.specs.SpanPrices.{is_held, span_price}
 use Rattle.fp_prices_spans.specs.Spans.{ClassSpan}
+use Rattle.fp_prices_spans.specs.Ways.{IsLeastCostVia, IsWalkVia, leaf_ways}
+use Rattle.fp_prices_spans.proofs.LeafWays.{ways-fewer}
 use Rattle.fp_session_history.specs.Notes.{History, points_of}
 use Rattle.fp_session.specs.declared.kept.Kept.{Kept}
 use Rattle.fp_session.specs.Nodes.{IsEarnedAs, IsKept, IsNoLess, IsSteady}
@@ -48,7 +49,13 @@ price-shared p tables spans allowed other Linear free shared = refl
 price-shared p tables spans allowed other Even free shared = absurd (shared refl)
 price-shared p tables spans allowed other (Table id) free shared = refl
 
-module _ (p : Problem) (windows : ℕ → ℕ → Option Window) (points : ℕ → List ℕ) (fewer sides : List Side) (among : AreAmong fewer sides) where
+module _ (p : Problem) (windows : ℕ → ℕ → Option Window) (points : ℕ → List ℕ) (fewer extra : List Side) where
+  abbrev sides : List Side
+  sides = fewer ++ extra
+
+  among : AreAmong fewer sides
+  among = AreAmong_append fewer extra
+
   -- what is allowed under the sides, and under fewer
   abbrev narrow : ℕ → Leg → Bool
   narrow = is_allowed p windows points sides
@@ -64,19 +71,25 @@ module _ (p : Problem) (windows : ℕ → ℕ → Option Window) (points : ℕ �
     follows = goes.follows;
   }
 
+  -- and it goes by the ways under fewer too
+  via-fewer : (spans : List ClassSpan) (heads : Leg → ℕ) (k : ℕ) (s : Shipment) (walk : List Leg) → IsWalkVia p heads (leaf_ways p sides spans k) (narrow k) s walk → IsWalkVia p heads (leaf_ways p fewer spans k) (wide k) s walk
+  via-fewer spans heads k s walk is = record { by_heads = walk-fewer heads k s walk is.by_heads; goes_by = ways-fewer p fewer extra spans k walk is.goes_by }
+
   -- so the least cost of a shipment isn't less
-  least-more : (heads : Leg → ℕ) (k : ℕ) (s : Shipment) (price : Leg → ℕ) (n m : ℕ) → IsLeastCostBy p heads (wide k) s price n → IsLeastCostBy p heads (narrow k) s price m → n ≤ m
-  least-more heads k s price n m few more = omega (arith, few.least more.walk (walk-fewer heads k s more.walk more.timed), more.cost)
+  least-more : (spans : List ClassSpan) (heads : Leg → ℕ) (k : ℕ) (s : Shipment) (price : Leg → ℕ) (n m : ℕ) → IsLeastCostVia p heads (leaf_ways p fewer spans k) (wide k) s price n →
+      IsLeastCostVia p heads (leaf_ways p sides spans k) (narrow k) s price m → n ≤ m
+  least-more spans heads k s price n m few more = omega (arith, few.least more.walk (via-fewer spans heads k s more.walk more.is), more.cost)
 
   -- nor are those of all
-  costs-more : (heads : ℕ → Leg → ℕ) (price : ℕ → ℕ → Leg → ℕ) (i : ℕ) (shipments : List Shipment) (A B : List ℕ) → AllZipFrom (λ k (s : Shipment) n. IsLeastCostBy p (heads k) (wide k) s (price k s.size) n) i shipments A →
-      AllZipFrom (λ k (s : Shipment) n. IsLeastCostBy p (heads k) (narrow k) s (price k s.size) n) i shipments B → sum_by (λ (n : ℕ). n) A ≤ sum_by (λ (n : ℕ). n) B
-  costs-more heads price i [] [] [] few more = omega arith
-  costs-more heads price i [] [] (b ∷ B) few more = absurd more
-  costs-more heads price i [] (a ∷ A) B few more = absurd few
-  costs-more heads price i (s ∷ shipments) [] B few more = absurd few
-  costs-more heads price i (s ∷ shipments) (a ∷ A) [] few more = absurd more
-  costs-more heads price i (s ∷ shipments) (a ∷ A) (b ∷ B) few more = omega (arith, least-more (heads i) i s (price i s.size) a b few.0 more.0, costs-more heads price (i + 1) shipments A B few.1 more.1, sum_by-cons (λ (n : ℕ). n) a A, sum_by-cons (λ (n : ℕ). n) b B)
+  costs-more : (spans : List ClassSpan) (heads : ℕ → Leg → ℕ) (price : ℕ → ℕ → Leg → ℕ) (i : ℕ) (shipments : List Shipment) (A B : List ℕ) →
+      AllZipFrom (λ k (s : Shipment) n. IsLeastCostVia p (heads k) (leaf_ways p fewer spans k) (wide k) s (price k s.size) n) i shipments A →
+      AllZipFrom (λ k (s : Shipment) n. IsLeastCostVia p (heads k) (leaf_ways p sides spans k) (narrow k) s (price k s.size) n) i shipments B → sum_by (λ (n : ℕ). n) A ≤ sum_by (λ (n : ℕ). n) B
+  costs-more spans heads price i [] [] [] few more = omega arith
+  costs-more spans heads price i [] [] (b ∷ B) few more = absurd more
+  costs-more spans heads price i [] (a ∷ A) B few more = absurd few
+  costs-more spans heads price i (s ∷ shipments) [] B few more = absurd few
+  costs-more spans heads price i (s ∷ shipments) (a ∷ A) [] few more = absurd more
+  costs-more spans heads price i (s ∷ shipments) (a ∷ A) (b ∷ B) few more = omega (arith, least-more spans (heads i) i s (price i s.size) a b few.0 more.0, costs-more spans heads price (i + 1) shipments A B few.1 more.1, sum_by-cons (λ (n : ℕ). n) a A, sum_by-cons (λ (n : ℕ). n) b B)
 
   -- a span that is charged is so under fewer sides
   charged-fewer : (chains others : List (List Leg)) → all_legs others ≡ [] → (span : ClassSpan) → IsCharged p narrow chains span → IsCharged p wide others span
@@ -115,19 +128,20 @@ module _ (p : Problem) (windows : ℕ → ℕ → Option Window) (points : ℕ �
   steady-value tables spans kind shared v w few more =
       let none : all_legs few.chains ≡ [] = all_legs-plain p wide 0 p.shipments few.chains few.are_chains in
       let nothing : all_legs more.chains ≡ [] = all_legs-plain p narrow 0 p.shipments more.chains more.are_chains in
-      let IsLeast : (ℕ → Leg → Bool) → (ℕ → ℕ → Leg → ℕ) → List ℕ → Type 0 = λ allowed price costs. AllZipFrom (λ k (s : Shipment) n. IsLeastCostBy p (leaf_heads p windows points spans k) (allowed k) s (price k s.size) n) 0 p.shipments costs in
+      let IsLeast : List Side → (ℕ → Leg → Bool) → (ℕ → ℕ → Leg → ℕ) → List ℕ → Type 0 = λ under allowed price costs.
+      AllZipFrom (λ k (s : Shipment) n. IsLeastCostVia p (leaf_heads p windows points spans k) (leaf_ways p under spans k) (allowed k) s (price k s.size) n) 0 p.shipments costs in
       let price : ℕ → ℕ → Leg → ℕ = price_with p tables spans wide kind [] in
-      let own : IsLeast wide price few.costs = subst (λ (free : List Leg). IsLeast wide (price_with p tables spans wide kind free) few.costs) none few.are_least in
-      let below : IsLeast narrow price more.costs =
-      subst (λ (f : ℕ → ℕ → Leg → ℕ). IsLeast narrow f more.costs) (price-shared p tables spans narrow wide kind [] shared)
-      (subst (λ (free : List Leg). IsLeast narrow (price_with p tables spans narrow kind free) more.costs) nothing more.are_least) in
+      let own : IsLeast fewer wide price few.costs = subst (λ (free : List Leg). IsLeast fewer wide (price_with p tables spans wide kind free) few.costs) none few.are_least in
+      let below : IsLeast sides narrow price more.costs =
+      subst (λ (f : ℕ → ℕ → Leg → ℕ). IsLeast sides narrow f more.costs) (price-shared p tables spans narrow wide kind [] shared)
+      (subst (λ (free : List Leg). IsLeast sides narrow (price_with p tables spans narrow kind free) more.costs) nothing more.are_least) in
       let base : departures_cost p few.chains (all_legs few.chains) ≡ 0 = ap (departures_cost p few.chains) none in
       omega (
         arith,
         few.value_is,
         more.value_is,
         ap (λ (n : ℕ). p.scale * n) base,
-        costs-more (leaf_heads p windows points spans) price 0 p.shipments few.costs more.costs own below,
+        costs-more spans (leaf_heads p windows points spans) price 0 p.shipments few.costs more.costs own below,
         charges-less more.chains few.chains none spans few.charges more.charges few.are_charges more.are_charges,
       )
 
@@ -143,7 +157,7 @@ steady-no_less h sides more above kept steady without ungiven is some by =
       arith,
       own.is,
       worth.2,
-      steady-value h.problem (windows_in h.windows) (points_of h price.round) sides (sides ++ more) (AreAmong_append sides more) h.tables (spans_beside h.spans price.kind) price.kind steady.shared own.earned.value worth.0
+      steady-value h.problem (windows_in h.windows) (points_of h price.round) sides more h.tables (spans_beside h.spans price.kind) price.kind steady.shared own.earned.value worth.0
           (here own.earned.is) (plain (sides ++ more) worth.0 worth.1),
     )))
     by

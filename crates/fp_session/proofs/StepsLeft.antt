@@ -8,9 +8,6 @@ use Rattle.fp_session_history.specs.declared.endings.Left.{Left}
 use Rattle.fp_session_history.specs.Notes.{Refinement}
 use Rattle.fp_session.specs.declared.steps.Step.{Step}
 use Rattle.fp_session.specs.declared.steps.Step.TheVariants as step
-use Rattle.fp_session.specs.declared.preparations.Preparation.{Preparation}
-use Rattle.fp_session.specs.declared.preparations.Preparation.TheVariants as preparation
-use Rattle.fp_session.specs.Preparations.{preparations_left}
 use Rattle.fp_session.specs.Searches.{InHand}
 use Rattle.fp_session.specs.StepCauses.{ending_of}
 use Rattle.fp_session.specs.Steps.{IsStep, StayFixed, last_step, steps_left}

@@ -40,10 +40,10 @@ pub record IsFound (h : History) (sides : List Side) (now : Kept) (chosen : List
       AllZipFrom (λ k. IsReachedChain h.problem (is_allowed h.problem (windows_in h.windows) (points_of h (last_round h)) sides k)) 0 h.problem.shipments chains →
       h.problem.scale * cost h.problem chains ≤ now.value
 
--- what is kept of a leaf that is empty as of a round
-abbrev pub empty_kept : ℕ → Kept
-empty_kept round = record {
-  payload = record { valuation = record { price = record { kind = Linear; round = round; forced = false }; sides = None }; empty = true; incumbent = 0; improved = None };
+-- what is kept of a leaf that is empty by the heads and ways of a price
+abbrev pub empty_kept : LeafPrice → Kept
+empty_kept price = record {
+  payload = record { valuation = record { price = price; sides = None }; empty = true; incumbent = 0; improved = None };
   value = 0;
 }
 

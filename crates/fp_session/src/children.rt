@@ -14,8 +14,7 @@ use crate::outcomes::Outcome;
 use crate::payloads::Payload;
 use crate::searches::Search;
 use fp_certificate_lines::Valuation;
-use fp_duals::Improved;
-use fp_duals_leaves::{PriceEffort, Prices, bound_by, improve, steady_price};
+use fp_duals_leaves::{Improvement, PriceEffort, Prices, bound_by, improve, steady_price};
 use fp_duals_nets::LentNets;
 use fp_ends::{Deadline, Resources};
 use fp_longestarcs::Network;
@@ -73,8 +72,8 @@ pub(crate) fn new_child<D: Deadline>(
     match improve(
         resources, &below, &mut nets, number, inherited, effort, prices,
     )? {
-        Improved::Empty { .. } => Ok(emptied(number)),
-        Improved::Priced { price, value, .. } => Ok(priced(price, value)),
+        Improvement::Empty { price } => Ok(emptied(price)),
+        Improvement::Priced { price, value, .. } => Ok(priced(price, value)),
     }
 }
 
@@ -211,8 +210,8 @@ fn as_of_price<D: Deadline>(
         effort,
         prices,
     )? {
-        Improved::Empty { .. } => Ok(emptied(price.round)),
-        Improved::Priced {
+        Improvement::Empty { price: own } => Ok(emptied(own)),
+        Improvement::Priced {
             price: own,
             value,
             ..

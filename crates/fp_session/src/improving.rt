@@ -12,26 +12,18 @@ use crate::outcomes::Outcome;
 use crate::payloads::Payload;
 use crate::searches::Search;
 use fp_certificate_lines::Valuation;
-use fp_duals::Improved;
-use fp_duals_leaves::{PriceEffort, Prices, improve};
+use fp_duals_leaves::{Improvement, PriceEffort, Prices, improve};
 use fp_duals_nets::LentNets;
 use fp_ends::{Deadline, Resources};
-use fp_prices::{Kind, Leaf, LeafPrice};
+use fp_prices::{Leaf, LeafPrice};
 
-// What is kept of a leaf that is empty as of a round.
-pub(crate) fn emptied(round: u32) -> Kept
-    ensures { result ≡ empty_kept round }
+// What is kept of a leaf that is empty by the heads and the ways that walks go by under a price.
+pub(crate) fn emptied(price: LeafPrice) -> Kept
+    ensures { result ≡ empty_kept price }
 {
     Kept {
         payload: Payload {
-            valuation: Valuation {
-                price: LeafPrice {
-                    kind: Kind::Linear,
-                    round,
-                    forced: false,
-                },
-                sides: None,
-            },
+            valuation: Valuation { price, sides: None },
             empty: true,
             incumbent: 0,
             improved: None,
@@ -90,10 +82,10 @@ pub(crate) fn improved<D: Deadline>(
 {
     let round = search.trace.len() as u32;
     match improve(resources, leaf, nets, round, inherited, effort, prices)? {
-        Improved::Empty { .. } => Ok(Outcome::Empty {
-            kept: emptied(round),
+        Improvement::Empty { price } => Ok(Outcome::Empty {
+            kept: emptied(price),
         }),
-        Improved::Priced {
+        Improvement::Priced {
             price,
             value,
             walks,

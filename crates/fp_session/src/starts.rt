@@ -21,8 +21,7 @@ use crate::improving::{emptied, priced};
 use crate::kept::Kept;
 use crate::preparations::Preparation;
 use crate::searches::Search;
-use fp_duals::Improved;
-use fp_duals_leaves::{PriceEffort, Prices, improve};
+use fp_duals_leaves::{Improvement, PriceEffort, Prices, improve};
 use fp_duals_nets::LentNets;
 use fp_ends::Resources;
 use fp_flatnet::{Windows, initial};
@@ -62,8 +61,8 @@ fn root(
     let effort = &PriceEffort::VALUE;
     let resources = &Resources::endless(alloc);
     match improve(resources, &leaf, &mut nets, 0, linear, effort, prices)? {
-        Improved::Empty { .. } => Ok(emptied(0)),
-        Improved::Priced { price, value, .. } => Ok(priced(price, value)),
+        Improvement::Empty { price } => Ok(emptied(price)),
+        Improvement::Priced { price, value, .. } => Ok(priced(price, value)),
     }
 }
 

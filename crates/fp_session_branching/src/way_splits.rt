@@ -6,6 +6,7 @@ ghost use Rattle.fp_session_branching.specs.Ways.{IsWayCandidate};
 use crate::NoMemory;
 use fp_model::Instance;
 use fp_prices::Leaf;
+use fp_prices_spans::{MOST_WAYS, leaf_ways};
 use fp_tree::Split;
 use std::alloc::Global;
 use std::cmp::Reverse;
@@ -118,6 +119,18 @@ fn candidate_at(leaf: &Leaf, way: WayCandidate) -> Option<WayCandidate>
     Some(way)
 }
 
+// The same, where walks of the shipment would go by the arc: as many others as can don't count for it at the
+// leaf already.
+fn counting(alloc: Global, leaf: &Leaf, way: WayCandidate) -> Result<Option<WayCandidate>, NoMemory>
+    ensures { IfOk result (λ found. IfSome found (IsWayCandidate leaf.now)) }
+{
+    let ways = leaf_ways(alloc, leaf, way.shipment)?;
+    if ways.len() >= MOST_WAYS {
+        return Ok(None);
+    }
+    Ok(candidate_at(leaf, way))
+}
+
 /// The shipments and arcs by whose ways it promises most to split a leaf, the best first and at most so many:
 /// by whether the shipment goes by the arc, each side of the split leaving fewer departures at the arc's
 /// tail than the sides of the leaf do.
@@ -126,8 +139,9 @@ fn candidate_at(leaf: &Leaf, way: WayCandidate) -> Option<WayCandidate>
 /// the arc's number, how much of the shipment's walks goes by the arc, in parts of 2^20. A way's score is how
 /// far that is from none and from all of them, at least 5 %, times the shipment's part of what a truck costs;
 /// at equal scores the shipment and the arc with the lower numbers come first. A way is left out that doesn't
-/// divide, and so are those after the first few. Any numbers may be handed in: they decide the order alone,
-/// and a way without one isn't used. `NoMemory` only where no memory is found.
+/// divide, or is of a shipment for which the most ways count already, and so are those after the first few.
+/// Any numbers may be handed in: they decide the order alone, and a way without one isn't used. `NoMemory`
+/// only where no memory is found.
 pub fn way_candidates(
     alloc: Global,
     leaf: &Leaf,
@@ -143,7 +157,7 @@ pub fn way_candidates(
         if list.len() == most {
             break;
         }
-        if let Some(candidate) = candidate_at(leaf, way.candidate) {
+        if let Some(candidate) = counting(alloc, leaf, way.candidate)? {
             list.push(candidate)?;
         }
     }

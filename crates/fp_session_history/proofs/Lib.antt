@@ -1,7 +1,6 @@
 mod Examples
 pub mod PointsKept
 pub mod Stays
-pub mod EmptyLeaves
 pub mod AddedPoints
 pub mod BranchLimits
 pub mod Enough

@@ -11,10 +11,13 @@ use Rattle.fp_flatnet.specs.Tables.{windows_in}
 use Rattle.fp_tree.specs.declared.sides.Side.{Side}
 use Rattle.fp_prices.specs.declared.leaf_prices.Kind.{Kind}
 use Rattle.fp_prices.specs.declared.leaf_prices.Kind.TheVariants.{Even, Linear}
-use Rattle.fp_prices.specs.Leaves.{IsLeafEmpty, IsLeafValue}
+use Rattle.fp_prices.specs.Leaves.{IsLeafValue}
 use Rattle.fp_prices.specs.Shares.{ClassShare}
 use Rattle.fp_prices.specs.Tables.{HasKind}
+use Rattle.fp_prices_spans.specs.SpanKinds.{spans_beside}
+use Rattle.fp_prices_spans.specs.SpanLeaves.{IsSpanLeafEmpty}
 use Rattle.fp_prices_spans.specs.Spans.{ClassSpan}
+use Rattle.fp_prices_spans.proofs.SpanAppends.{beside-append}
 use Rattle.fp_prices_gifts.specs.declared.gifts.Gift.{Gift}
 use Rattle.fp_prices_gifts.specs.GiftKinds.{IsPricedValue}
 use Rattle.fp_prices_gifts.proofs.GiftAppends.{gift_values-append}
@@ -46,11 +49,17 @@ module _ (h : History) (n : Refinement) (sides : List Side) (v : Valuation) (les
   -- and so does one that was empty
   pub IsEmptyAt-with_note : IsEmptyAt h sides v → IsEmptyAt (with_note h n) sides v
   IsEmptyAt-with_note leaf = record {
-    empty = subst (λ (qs : ℕ → List ℕ). IsLeafEmpty h.problem (windows_in h.windows) qs sides) (sym (points_of-with_note h n v.price.round less)) leaf.empty;
-    linear = leaf.linear;
-    plain = leaf.plain;
+    empty = subst (λ (qs : ℕ → List ℕ). IsSpanLeafEmpty h.problem (windows_in h.windows) qs sides (spans_beside h.spans v.price.kind)) (sym (points_of-with_note h n v.price.round less)) leaf.empty;
     whole = leaf.whole;
   }
+
+-- one that was empty stays so when tables are added too, with spans beside them
+pub IsEmptyAt-with_tables : (h : History) (more : List (List ClassShare)) (spans : List (List ClassSpan)) (gifts : List (List Gift)) (sides : List Side) (v : Valuation) → length h.spans ≡ length h.tables →
+    HasKind h.tables v.price.kind → IsEmptyAt h sides v → IsEmptyAt (with_tables h more spans gifts) sides v
+IsEmptyAt-with_tables h more spans gifts sides v beside has leaf = record {
+  empty = subst (IsSpanLeafEmpty h.problem (windows_in h.windows) (points_of h v.price.round) sides) (sym (beside-append h.tables h.spans spans v.price.kind beside has)) leaf.empty;
+  whole = leaf.whole;
+}
 
 -- a leaf that was earned stays so when tables are added, with spans and gifts beside them
 abbrev pub IsEarnedAt-with_tables : (h : History) (more : List (List ClassShare)) (spans : List (List ClassSpan)) (gifts : List (List Gift)) (sides : List Side) (v : Valuation) → length h.spans ≡ length h.tables →

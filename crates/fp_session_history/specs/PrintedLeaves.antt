@@ -6,19 +6,19 @@ use Rattle.fp_flatnet.specs.Tables.{windows_in}
 use Rattle.fp_tree.specs.declared.sides.Side.{Side}
 use Rattle.fp_tree.specs.Trees.{Leaf}
 use Rattle.fp_prices.specs.declared.leaf_prices.Kind.TheVariants.{Even, Linear}
-use Rattle.fp_prices.specs.Leaves.{IsLeafEmpty, IsLeafValue}
+use Rattle.fp_prices.specs.Leaves.{IsLeafValue}
+use Rattle.fp_prices_spans.specs.SpanKinds.{spans_beside}
+use Rattle.fp_prices_spans.specs.SpanLeaves.{IsSpanLeafEmpty}
 use Rattle.fp_certificate_lines.specs.declared.certificates.Node.{Node}
 use Rattle.fp_certificate_lines.specs.declared.certificates.Node.TheVariants as node
 use Rattle.fp_certificate_lines.specs.declared.certificates.Valuation.{Valuation}
 use Rattle.fp_session_history.specs.Notes.{History, last_round, points_of, worth_of}
 use Rattle.fp_session_history.specs.Splits.{IsEarnedAt, IsValueAt}
 
--- a leaf is empty over the points as of its price's round, its price is linear and plain, and it is
--- valued under all its sides
+-- a leaf is empty over the points as of its price's round, by the heads and the ways that walks go by
+-- under its price, and it is valued under all its sides
 pub record IsEmptyAt (h : History) (sides : List Side) (v : Valuation) : Type 0 where
-  pub empty : IsLeafEmpty h.problem (windows_in h.windows) (points_of h v.price.round) sides
-  pub linear : v.price.kind ≡ Linear
-  pub plain : v.price.forced ≡ false
+  pub empty : IsSpanLeafEmpty h.problem (windows_in h.windows) (points_of h v.price.round) sides (spans_beside h.spans v.price.kind)
   pub whole : v.sides ≡ None
 
 -- of a node that is a leaf: P of how it is valued and of the sides on its way

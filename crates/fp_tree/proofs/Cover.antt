@@ -9,7 +9,7 @@ use Rattle.fp_tree.specs.declared.sides.Split.{Split}
 use Rattle.fp_tree.specs.declared.sides.Split.TheVariants.{ByArc, ByTime, ByTrucks, ByWay}
 use Rattle.fp_tree.specs.declared.sides.Side.{Side}
 use Rattle.fp_tree.specs.declared.sides.Side.TheVariants.{Without, Only, Before, From, AtMost, MoreThan, Through}
-use Rattle.fp_tree.specs.Sides.{AreCounts, Counts, Exit, Fork, HasCount, HasCounts, HasTail, IsOutside, IsTailOfSplit, Meets, MeetsAll, Obeys, first, second, first_of_split, second_of_split}
+use Rattle.fp_tree.specs.Sides.{AreCounts, Counts, Exit, Fork, HasCount, HasCounts, HasTail, HasWay, HasWays, IsOutside, IsTailOfSplit, Meets, MeetsAll, Obeys, first, second, first_of_split, second_of_split}
 use Rattle.fp_tree.specs.Trees.{AreNoRivals, Leaf, leaves_of, AreTrees, IsTree, tree_leaves, LeaveApart, HaveTails, CoversAll}
 use Rattle.fp_base_lists.specs.Elements.{AnyByRecursion}
 
@@ -40,17 +40,25 @@ tails_told : (tails : ℕ → ℕ) (exits : List Exit) → LeaveApart tails exit
 tails_told tails [] apart = tt
 tails_told tails (e ∷ exits) apart = (apart.0, tails_told tails exits apart.2)
 
--- no leg goes by an arc, or none by a rival of it
+-- a leg goes by the arc, and none by a rival of it
+pub record GoesBy (arc : ℕ) (exits : List Exit) : Type 0 where
+  pub none : AllByRecursion (λ (e : Exit). e.is_rival arc ≡ false) exits
+  pub one : AnyByRecursion (λ (e : Exit). e.arc ≡ arc) exits
+
+-- no leg goes by an arc, or one does and none by a rival of it
 way_or_other : (tails : ℕ → ℕ) (arc : ℕ) (exits : List Exit) → LeaveApart tails exits →
-    AllByRecursion (λ (e : Exit). e.arc ≢ arc) exits ⊎ AllByRecursion (λ (e : Exit). e.is_rival arc ≡ false) exits
+    AllByRecursion (λ (e : Exit). e.arc ≢ arc) exits ⊎ GoesBy arc exits
 way_or_other tails arc [] apart = inl tt
 way_or_other tails arc (e ∷ exits) apart =
     ⊎_elim
     (λ (here : e.arc ≡ arc).
-    inr (
-      subst (λ (a : ℕ). e.is_rival a ≡ false) here apart.3,
-      AllByRecursion-weaker (AreNoRivals e) (λ (f : Exit). f.is_rival arc ≡ false) (λ f apart. subst (λ (a : ℕ). f.is_rival a ≡ false) here apart.other) exits apart.4,
-    ))
+    inr (record {
+      none = (
+        subst (λ (a : ℕ). e.is_rival a ≡ false) here apart.3,
+        AllByRecursion-weaker (AreNoRivals e) (λ (f : Exit). f.is_rival arc ≡ false) (λ f apart. subst (λ (a : ℕ). f.is_rival a ≡ false) here apart.other) exits apart.4,
+      );
+      one = inl here;
+    }))
     (λ (away : e.arc ≢ arc). later away (way_or_other tails arc exits apart.2))
     (same_or_not e.arc arc)
   where
@@ -63,10 +71,9 @@ way_or_other tails arc (e ∷ exits) apart =
         (λ (other : f.arc ≢ arc). ⊎_elim (λ rest. inl (other, rest)) (λ own. inr own) (rival xs apart.1))
         (same_or_not f.arc arc)
 
-    later : e.arc ≢ arc → AllByRecursion (λ (f : Exit). f.arc ≢ arc) exits ⊎ AllByRecursion (λ (f : Exit). f.is_rival arc ≡ false) exits →
-        AllByRecursion (λ (f : Exit). f.arc ≢ arc) (e ∷ exits) ⊎ AllByRecursion (λ (f : Exit). f.is_rival arc ≡ false) (e ∷ exits)
+    later : e.arc ≢ arc → AllByRecursion (λ (f : Exit). f.arc ≢ arc) exits ⊎ GoesBy arc exits → AllByRecursion (λ (f : Exit). f.arc ≢ arc) (e ∷ exits) ⊎ GoesBy arc (e ∷ exits)
     later away (inl without) = inl (away, without)
-    later away (inr through) = ⊎_elim (λ without. inl (away, without)) (λ own. inr (own, through)) (rival exits apart.4)
+    later away (inr through) = ⊎_elim (λ without. inl (away, without)) (λ own. inr (record { none = (own, through.none); one = inr through.one })) (rival exits apart.4)
 
 -- what obeys sides and one more
 meets_more : (d k : ℕ) (sides : List Side) (side : Side) (e : Exit) → MeetsAll d k sides e → Meets d k e side → MeetsAll d k (sides ++ (side ∷ [])) e
@@ -97,10 +104,16 @@ counts_more : (counts : Counts) (sides : List Side) (side : Side) → HasCounts 
 counts_more counts [] side all one = (one, tt)
 counts_more counts (s ∷ sides) side all one = (all.0, counts_more counts sides side all.1 one)
 
--- all legs meet a side, and so many trucks leave as it asks
+-- each shipment goes by the arcs that sides ask for, and by one more
+ways_more : (routes : List (List Exit)) (sides : List Side) (side : Side) → HasWays routes sides → HasWay routes side → HasWays routes (sides ++ (side ∷ []))
+ways_more routes [] side all one = (one, tt)
+ways_more routes (s ∷ sides) side all one = (all.0, ways_more routes sides side all.1 one)
+
+-- all legs meet a side, so many trucks leave as it asks, and a shipment goes by the arc that it asks for
 pub record IsKept (d : ℕ) (routes : List (List Exit)) (counts : Counts) (side : Side) : Type 0 where
   pub legs : (k : ℕ) → AllByRecursion (λ e. Meets d k e side) (slice_index_or routes k [])
   pub trucks : HasCount counts side
+  pub way : HasWay routes side
 
 -- where at most so many trucks leave, no leg does if there is to be none
 at_most_kept : (d : ℕ) (routes : List (List Exit)) (counts : Counts) (arc point until trucks : ℕ) → AreCounts d routes counts → counts arc point until ≤ trucks → IsKept d routes counts (AtMost arc point until trucks)
@@ -113,6 +126,7 @@ at_most_kept d routes counts arc point until trucks counted few = record {
       (λ (some : trucks ≢ 0). free some (slice_index_or routes k []))
       (same_or_not trucks 0);
   trucks = few;
+  way = tt;
 }
   where
     free : trucks ≢ 0 → (xs : List Exit) → AllByRecursion (λ e. trucks ≡ 0 → IsOutside d arc point until e) xs
@@ -121,7 +135,7 @@ at_most_kept d routes counts arc point until trucks counted few = record {
 
 -- that more leave asks nothing of the legs
 more_than_kept : (d : ℕ) (routes : List (List Exit)) (counts : Counts) (arc point until trucks : ℕ) → trucks < counts arc point until → IsKept d routes counts (MoreThan arc point until trucks)
-more_than_kept d routes counts arc point until trucks many = record { legs = λ k. free (slice_index_or routes k []); trucks = many }
+more_than_kept d routes counts arc point until trucks many = record { legs = λ k. free (slice_index_or routes k []); trucks = many; way = tt }
   where
     free : (xs : List Exit) → AllByRecursion (λ (e : Exit). Unit {0}) xs
     free [] = tt
@@ -137,6 +151,7 @@ one_side tails d routes counts apart counted (ByArc shipment arc) tail is_tail =
     (λ (without : AllByRecursion (λ e. e.tail ≡ tail → e.arc ≢ arc) exits).
     inl (record {
       trucks = tt;
+      way = tt;
       legs = alone d shipment routes (Without shipment arc) (λ k e other same. absurd (other same))
           (AllByRecursion-weaker (λ e. (e.tail ≡ tail → e.arc ≢ arc) × (e.tail ≡ tails e.arc)) (λ e. shipment ≡ shipment → e.arc ≢ arc)
           (λ e both own is. both.0 (both.1 ∙ ap tails is ∙ sym is_tail) is) exits (AllByRecursion-both (λ e. e.tail ≡ tail → e.arc ≢ arc) (λ e. e.tail ≡ tails e.arc) exits without told));
@@ -144,6 +159,7 @@ one_side tails d routes counts apart counted (ByArc shipment arc) tail is_tail =
     (λ (only : AllByRecursion (λ e. e.tail ≡ tail → e.arc ≡ arc) exits).
     inr (record {
       trucks = tt;
+      way = tt;
       legs = alone d shipment routes (Only shipment arc tail) (λ k e other same. absurd (other same))
           (AllByRecursion-weaker (λ e. e.tail ≡ tail → e.arc ≡ arc) (λ e. shipment ≡ shipment → e.tail ≡ tail → e.arc ≡ arc) (λ e only_it own. only_it) exits only);
     }))
@@ -155,12 +171,14 @@ one_side tails d routes counts apart counted (ByTime shipment terminal at) tail 
     (λ (before : AllByRecursion (λ e. e.tail ≡ terminal → e.moment < d * at) exits).
     inl (record {
       trucks = tt;
+      way = tt;
       legs = alone d shipment routes (Before shipment terminal at) (λ k e other same. absurd (other same))
           (AllByRecursion-weaker (λ e. e.tail ≡ terminal → e.moment < d * at) (λ e. shipment ≡ shipment → e.tail ≡ terminal → e.moment < d * at) (λ e h own. h) exits before);
     }))
     (λ (after : AllByRecursion (λ e. e.tail ≡ terminal → d * at ≤ e.moment) exits).
     inr (record {
       trucks = tt;
+      way = tt;
       legs = alone d shipment routes (From shipment terminal at) (λ k e other same. absurd (other same))
           (AllByRecursion-weaker (λ e. e.tail ≡ terminal → d * at ≤ e.moment) (λ e. shipment ≡ shipment → e.tail ≡ terminal → d * at ≤ e.moment) (λ e h own. h) exits after);
     }))
@@ -177,23 +195,25 @@ one_side tails d routes counts apart counted (ByWay shipment arc) tail is_tail =
     (λ (without : AllByRecursion (λ (e : Exit). e.arc ≢ arc) exits).
     inl (record {
       trucks = tt;
+      way = tt;
       legs = alone d shipment routes (Without shipment arc) (λ k e other same. absurd (other same))
           (AllByRecursion-weaker (λ (e : Exit). e.arc ≢ arc) (λ e. shipment ≡ shipment → e.arc ≢ arc) (λ e other own. other) exits without);
     }))
-    (λ (through : AllByRecursion (λ (e : Exit). e.is_rival arc ≡ false) exits).
+    (λ (through : GoesBy arc exits).
     inr (record {
       trucks = tt;
+      way = through.one;
       legs = alone d shipment routes (Through shipment arc) (λ k e other same. absurd (other same))
-          (AllByRecursion-weaker (λ (e : Exit). e.is_rival arc ≡ false) (λ e. shipment ≡ shipment → e.is_rival arc ≡ false) (λ e none own. none) exits through);
+          (AllByRecursion-weaker (λ (e : Exit). e.is_rival arc ≡ false) (λ e. shipment ≡ shipment → e.is_rival arc ≡ false) (λ e none own. none) exits through.none);
     }))
     (way_or_other tails arc exits (apart shipment))
 
--- all sides are obeyed, and so many trucks leave as they ask
+-- all sides are obeyed, so many trucks leave as they ask, and shipments go by the arcs that they ask for
 abbrev AreKept : ℕ → List (List Exit) → Counts → List Side → Type 0
-AreKept d routes counts sides = Obeys d routes sides × HasCounts counts sides
+AreKept d routes counts sides = Obeys d routes sides × HasCounts counts sides × HasWays routes sides
 
 kept_more : (d : ℕ) (routes : List (List Exit)) (counts : Counts) (sides : List Side) (side : Side) → AreKept d routes counts sides → IsKept d routes counts side → AreKept d routes counts (sides ++ (side ∷ []))
-kept_more d routes counts sides side all one = (obeys_more d routes sides side all.0 one.legs, counts_more counts sides side all.1 one.trucks)
+kept_more d routes counts sides side all one = (obeys_more d routes sides side all.0 one.legs, counts_more counts sides side all.1 one.trucks, ways_more routes sides side all.2 one.way)
 
 -- what obeys the sides of one of the trees to come obeys those of one of their leaves
 covers_pending : {X : Type 0} (tails : ℕ → ℕ) (fork_of : X → Option Fork) (d : ℕ) (routes : List (List Exit)) (counts : Counts) → ((k : ℕ) → LeaveApart tails (slice_index_or routes k [])) → AreCounts d routes counts →
@@ -229,7 +249,7 @@ covers_pending {X} tails fork_of d routes counts apart counted (x ∷ nodes) (si
 -- the leaves of a tree cover all
 pub CoversAll-tree_leaves : {X : Type 0} (tails : ℕ → ℕ) (fork_of : X → Option Fork) (nodes : List X) → HaveTails tails fork_of nodes → IsTree fork_of nodes → CoversAll tails (tree_leaves fork_of nodes)
 CoversAll-tree_leaves tails fork_of nodes told tree d routes counts apart counted =
-    covers_pending tails fork_of d routes counts apart counted nodes ([] ∷ []) told tree (inl ((λ k. every (slice_index_or routes k [])), tt))
+    covers_pending tails fork_of d routes counts apart counted nodes ([] ∷ []) told tree (inl ((λ k. every (slice_index_or routes k [])), tt, tt))
   where
     every : (xs : List Exit) → AllByRecursion (λ (e : Exit). Unit {0}) xs
     every [] = tt

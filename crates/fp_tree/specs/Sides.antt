@@ -1,7 +1,8 @@
 -- What the sides of a split ask of the legs of shipments, and of the trucks that leave by an arc in
 -- a run of times. A leg leaves at n / d, over any denominator d.
-use Rattle.std.specs.Prelude.{ℕ, ◌*◌, ◌<◌, ◌≤◌, ◌≡◌, ◌≢◌, Bool, false, List, [], slice_index_or}
-use Rattle.std.specs.List.{AllByRecursion}
+use Rattle.std.specs.Prelude.{ℕ, ◌*◌, ◌<◌, ◌≤◌, ◌≡◌, ◌≢◌, Bool, false, nat_eq, List, [], Option, None, Some, slice_index_or, if◌then◌else◌}
+use Rattle.std.specs.List.{AllByRecursion, filter_map}
+use Rattle.fp_base_lists.specs.Elements.{AnyByRecursion}
 use Rattle.fp_tree.specs.declared.sides.Split.{Split}
 use Rattle.fp_tree.specs.declared.sides.Split.TheVariants.{ByArc, ByTime, ByTrucks, ByWay}
 use Rattle.fp_tree.specs.declared.sides.Side.{Side}
@@ -62,6 +63,34 @@ HasCount counts (Through shipment arc) = Unit {0}
 abbrev pub HasCounts : Counts → List Side → Type 0
 HasCounts counts sides = AllByRecursion (HasCount counts) sides
 
+-- A leg of the shipment goes by the arc, if a side asks that it goes by one.
+abbrev pub HasWay : List (List Exit) → Side → Type 0
+HasWay routes (Without shipment arc) = Unit {0}
+HasWay routes (Only shipment arc tail) = Unit {0}
+HasWay routes (Before shipment terminal at) = Unit {0}
+HasWay routes (From shipment terminal at) = Unit {0}
+HasWay routes (AtMost arc point until trucks) = Unit {0}
+HasWay routes (MoreThan arc point until trucks) = Unit {0}
+HasWay routes (Through shipment arc) = AnyByRecursion (λ (e : Exit). e.arc ≡ arc) (slice_index_or routes shipment [])
+
+-- Each shipment goes by the arcs that the sides ask it to go by.
+abbrev pub HasWays : List (List Exit) → List Side → Type 0
+HasWays routes sides = AllByRecursion (HasWay routes) sides
+
+-- The arc that a side asks the shipment with the number k to go by, if it asks it for one.
+abbrev pub way_of : ℕ → Side → Option ℕ
+way_of k (Without shipment arc) = None
+way_of k (Only shipment arc tail) = None
+way_of k (Before shipment terminal at) = None
+way_of k (From shipment terminal at) = None
+way_of k (AtMost arc point until trucks) = None
+way_of k (MoreThan arc point until trucks) = None
+way_of k (Through shipment arc) = if nat_eq shipment k then Some arc else None
+
+-- The arcs that sides ask it to go by, in their order.
+abbrev pub ways_of : ℕ → List Side → List ℕ
+ways_of k sides = filter_map (way_of k) sides
+
 -- A split, with the terminal that its arc leaves where it is one by an arc.
 pub record Fork : Type 0 where
   pub split : Split
@@ -75,7 +104,7 @@ first_of_split (ByTrucks arc point until most) = AtMost arc point until most
 first_of_split (ByWay shipment arc) = Without shipment arc
 
 -- The second side of a split: only by the arc where its tail is left, from the time on, more trucks,
--- or by no rival of the arc.
+-- or by the arc and so by no rival of it.
 abbrev pub second_of_split : Split → ℕ → Side
 second_of_split (ByArc shipment arc) tail = Only shipment arc tail
 second_of_split (ByTime shipment terminal at) tail = From shipment terminal at

@@ -5,7 +5,7 @@ use Rattle.std.specs.Prelude.{ℕ, zero, suc, ◌≡◌, ◌≢◌, ◌<◌, Lis
 use Rattle.std.specs.List.{AllByRecursion}
 use Rattle.fp_base_lists.specs.Elements.{AnyByRecursion}
 use Rattle.fp_tree.specs.declared.sides.Side.{Side}
-use Rattle.fp_tree.specs.Sides.{AreCounts, Counts, Exit, Fork, HasCounts, HasTail, Obeys, first, second}
+use Rattle.fp_tree.specs.Sides.{AreCounts, Counts, Exit, Fork, HasCounts, HasTail, HasWays, Obeys, first, second}
 
 -- A node that is a leaf, with the sides on its way from the root.
 pub record Leaf (X : Type 0) : Type 0 where
@@ -107,8 +107,8 @@ abbrev pub HaveTails : {X : Type 0} → (ℕ → ℕ) → (X → Option Fork) �
 HaveTails tails fork_of nodes = AllByRecursion (λ x. IfSome (fork_of x) (HasTail tails)) nodes
 
 -- Each way of sending shipments, over any denominator and with trucks that are counted in any way,
--- obeys all sides of some leaf, and has so many trucks as they ask.
+-- obeys all sides of some leaf, has so many trucks as they ask, and goes by the arcs that they ask for.
 abbrev pub CoversAll : {X : Type 0} → (ℕ → ℕ) → List (Leaf X) → Type 0
 CoversAll tails leaves =
     (d : ℕ) (routes : List (List Exit)) (counts : Counts) → ((k : ℕ) → LeaveApart tails (slice_index_or routes k [])) → AreCounts d routes counts →
-    AnyByRecursion (λ l. Obeys d routes l.sides × HasCounts counts l.sides) leaves
+    AnyByRecursion (λ l. Obeys d routes l.sides × HasCounts counts l.sides × HasWays routes l.sides) leaves

@@ -11,7 +11,7 @@ mod ways;
 
 pub use laws::split_limit_is_a_number;
 pub use layout::MOST_SPLITS;
-pub use sides::{Side, Split};
+pub use sides::{Side, Split, ways_of};
 pub use trees::{Tree, leaves_cover_all};
 pub use ways::{Step, Way};
 

@@ -1,6 +1,9 @@
 //! Splits of a branch-and-bound search, and the sides that they leave.
-ghost use Rattle.std.specs.Prelude.{◌≡◌};
-ghost use Rattle.fp_tree.specs.Sides.{first_of_split, second_of_split};
+ghost use Rattle.std.specs.Prelude.{◌≡◌, IfOk};
+ghost use Rattle.fp_tree.specs.Sides.{first_of_split, second_of_split, way_of as way_by, ways_of as ways_by};
+
+use crate::NoMemory;
+use std::alloc::Global;
 
 /// What divides the plans of a search in two. Shipments, arcs and terminals go by their numbers.
 ///
@@ -78,8 +81,8 @@ pub enum Side {
         until: u32,
         trucks: u32,
     },
-    /// No leg goes by a rival of the arc: by another arc that leaves the same terminal, or enters the same
-    /// one.
+    /// A leg goes by the arc, and so none by a rival of it: by another arc that leaves the same terminal, or
+    /// enters the same one.
     Through {
         shipment: u32,
         arc: u32,
@@ -154,4 +157,31 @@ impl Split {
             Split::ByWay { shipment, arc } => Side::Through { shipment, arc },
         }
     }
+}
+
+// The arc that a side asks a shipment to go by, if it asks it for one.
+fn way_of(side: Side, shipment: u32) -> Option<u32>
+    ensures { result ≡ way_by shipment side }
+{
+    match side {
+        Side::Through {
+            shipment: asked,
+            arc,
+        } if asked == shipment => Some(arc),
+        _ => None,
+    }
+}
+
+/// The arcs that sides ask a shipment to go by, in the order of the sides. `NoMemory` only where no memory
+/// is found.
+pub fn ways_of(alloc: Global, sides: &[Side], shipment: u32) -> Result<Vec<u32>, NoMemory>
+    ensures { IfOk result (λ ways. ways.items ≡ ways_by shipment sides.now) }
+{
+    let mut ways = Vec::new(alloc);
+    for side in sides {
+        if let Some(arc) = way_of(*side, shipment) {
+            ways.push(arc)?;
+        }
+    }
+    Ok(ways)
 }

@@ -12,8 +12,7 @@ ghost use Rattle.fp_app.specs.Shown.{IsPrintable};
 use crate::inputs::instances::{InstanceInput, read_instance};
 use crate::{NoMemory, Shown};
 use fp_certificate_rules::unit_of;
-use fp_duals::Improved;
-use fp_duals_leaves::{PriceEffort, Prices, improve_root};
+use fp_duals_leaves::{Improvement, PriceEffort, Prices, improve_root};
 use fp_ends::{Deadline, Resources};
 use fp_flatnet::{Verdict, Windows, feasible, initial};
 use fp_longestarcs::Network;
@@ -105,7 +104,7 @@ fn bound_root<D: Deadline>(
     let mut prices = first_prices(alloc, &instance, option);
     let effort = &PriceEffort::ROOT;
     match improve_root(resources, &instance, &windows, network, effort, &mut prices)? {
-        Improved::Priced { price, value, .. } => {
+        Improvement::Priced { price, value, .. } => {
             let (tables, lists, _, _) = prices.into_parts();
             let spans = taken_beside(alloc, lists, price.kind);
             Ok(Shown::Bound {
@@ -116,6 +115,6 @@ fn bound_root<D: Deadline>(
                 value,
             })
         }
-        Improved::Empty { .. } => unreachable!(),
+        Improvement::Empty { .. } => unreachable!(),
     }
 }

@@ -86,12 +86,23 @@ fn is_stricter_time(first: Side, second: Side) -> bool
     }
 }
 
+// Whether the sides are one that stands twice. Sides that ask a shipment to go by an arc all stay, since
+// their number counts.
+fn is_same(first: Side, second: Side) -> bool
+    ensures { IsTrue result → Implies first second }
+{
+    match first {
+        Side::Through { .. } => false,
+        _ => first == second,
+    }
+}
+
 // Whether what meets one side meets another: of times the stricter one at the same terminal, of
 // trucks the stricter one in the same run of an arc.
 fn implies(first: Side, second: Side) -> bool
     ensures { IsTrue result → Implies first second }
 {
-    first == second || is_stricter_time(first, second) || is_stricter_count(first, second)
+    is_same(first, second) || is_stricter_time(first, second) || is_stricter_count(first, second)
 }
 
 /// Adds a side to others: in the place of one that it implies, nowhere where one implies it, and

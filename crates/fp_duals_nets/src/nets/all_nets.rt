@@ -5,6 +5,7 @@ use crate::classes::class_nodes::{ClassNodes, PointNodes};
 use crate::classes::set_bits::list_set;
 use crate::money::arc_money::ArcMoney;
 use crate::money::units::MoneyUnit;
+use crate::nets::layers::lead_by;
 use crate::nets::net_drafts::{NetDraft, Traveler};
 use crate::nets::point_groups::PointGroups;
 use crate::nets::shipment_nets::Nets;
@@ -23,6 +24,14 @@ pub(crate) struct NetParts<'a> {
     pub unit: MoneyUnit,
 }
 
+// A shipment with its forced chain, and the arcs by which its walks go.
+#[derive(Clone, Copy)]
+struct Led<'a> {
+    shipment: &'a Shipment,
+    chain: &'a Chain,
+    ways: &'a [u32],
+}
+
 // Drops the classes that leave a terminal.
 fn drop_leaving(numbers: &mut Vec<u32>, classes: &[ClassNodes], terminal: u32) {
     numbers.retain(|number| match classes.get(*number as usize) {
@@ -31,16 +40,20 @@ fn drop_leaving(numbers: &mut Vec<u32>, classes: &[ClassNodes], terminal: u32) {
     });
 }
 
-// Adds the net of a shipment with a chain that may take these steps.
+// Adds the net of a shipment that may take these steps.
 fn push_net(
     nets: &mut Nets,
     draft: &mut NetDraft,
     groups: &mut PointGroups,
     parts: &NetParts,
-    shipment: &Shipment,
-    chain: &Chain,
+    led: &Led,
     steps: &[Step],
 ) -> Result<(), NoMemory> {
+    let Led {
+        shipment,
+        chain,
+        ways,
+    } = *led;
     groups.group(steps);
     groups.list_edges(parts, steps, shipment.size, &mut draft.between)?;
     let traveler = Traveler {
@@ -50,15 +63,26 @@ fn push_net(
         goal: groups.of_node(parts.nodes.first(shipment.to)),
         groups: groups.count,
     };
+    let traveler = lead_by(traveler, ways, parts.classes, &mut draft.between)?;
     draft.push_net(nets, &traveler)
 }
 
-/// The nets of all shipments of a leaf, whose chains these are, by such heads.
+// The arcs by which the walks of a shipment go; none where nothing is told of it.
+fn ways_in(ways: &[Vec<u32>], shipment: u32) -> &[u32] {
+    match ways.get(shipment as usize) {
+        Some(arcs) => arcs,
+        None => &[],
+    }
+}
+
+/// The nets of all shipments of a leaf by such heads, where these are their chains and the arcs by which
+/// their walks go.
 pub(crate) fn all_nets(
     alloc: Global,
     leaf: &Leaf,
     parts: &NetParts,
     chains: &[Chain],
+    ways: &[Vec<u32>],
     heads: Heads,
 ) -> Result<Nets, NoMemory> {
     let mut nets = Nets::new(alloc);
@@ -82,15 +106,12 @@ pub(crate) fn all_nets(
             &mut steps,
         )?;
         if let Some(chain) = chains.get(number as usize) {
-            push_net(
-                &mut nets,
-                &mut draft,
-                &mut groups,
-                parts,
+            let led = Led {
                 shipment,
                 chain,
-                &steps,
-            )?;
+                ways: ways_in(ways, number),
+            };
+            push_net(&mut nets, &mut draft, &mut groups, parts, &led, &steps)?;
         }
     }
     Ok(nets)

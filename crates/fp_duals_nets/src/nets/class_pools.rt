@@ -18,20 +18,21 @@ pub struct ClassPool {
     pub end: usize,
 }
 
-/// What a part of a pool is for: the use of the class by one shipment, over one edge of its net.
+/// What a part of a pool is for: the use of the class by one shipment, over whichever edge of its net.
 #[derive(Clone, Copy)]
 pub struct PoolPart {
-    /// The edge, or no edge's number where the part is for none.
+    /// The first such edge, or no edge's number where the part is for none. It's the only one but in nets
+    /// whose walks go by arcs.
     pub edge: usize,
     /// The number of the pool.
     pub pool: usize,
     pub shipment: u32,
     pub size: u64,
-    /// What the freight costs over the edge.
+    /// What the freight costs over such an edge.
     pub flow: u64,
 }
 
-/// A part that is for no edge.
+/// A part that is for nobody.
 const NOBODY: PoolPart = PoolPart {
     edge: usize::MAX,
     pool: 0,
@@ -41,18 +42,18 @@ const NOBODY: PoolPart = PoolPart {
 };
 
 /// Pools of classes, by class, and their parts. Those of a pool stand together: first those for the
-/// edges of its class, by shipment, and then those for none.
+/// shipments that may use its class, in their order, and then those for nobody.
 #[derive(Drop)]
 pub struct ClassPools {
     pub list: Vec<ClassPool>,
     pub parts: Vec<PoolPart>,
-    // How many parts of each pool are for no edge.
+    // How many parts of each pool are for nobody.
     spare: usize,
 }
 
 impl ClassPools {
     /// A pool for each class of some net's edges, but for those that a chain is forced to use where
-    /// `forced` leaves them out, with so many parts for no edge. Tells the edges of the nets their
+    /// `forced` leaves them out, with so many parts for nobody. Tells the edges of the nets their
     /// pools and parts. `NoMemory` only where no memory is found.
     pub fn of(
         alloc: Global,
@@ -80,7 +81,7 @@ impl ClassPools {
         forced: bool,
     ) -> Result<Vec<u32>, NoMemory> {
         let free = loads_where(forced, &model.loads);
-        let counts = model.nets.count_edges(alloc, model.classes.len())?;
+        let counts = model.nets.count_users(alloc, model.classes.len())?;
         let mut numbers = Vec::with_capacity(alloc, counts.len())?;
         let mut class = 0u32;
         let mut opened = 0u32;
@@ -99,11 +100,11 @@ impl ClassPools {
         Ok(numbers)
     }
 
-    // Opens the pool of a class with so many edges. Its end rises as they are placed.
-    fn open(&mut self, class: u32, arc: ArcMoney, edges: usize) -> Result<(), NoMemory> {
+    // Opens the pool of a class that so many shipments may use. Its end rises as they are placed.
+    fn open(&mut self, class: u32, arc: ArcMoney, users: usize) -> Result<(), NoMemory> {
         let first = self.parts.len();
         let end = first.wrapping_add(self.spare);
-        self.parts.resize(end.wrapping_add(edges), NOBODY)?;
+        self.parts.resize(end.wrapping_add(users), NOBODY)?;
         self.list.push(ClassPool {
             class,
             arc,
@@ -113,7 +114,7 @@ impl ClassPools {
         Ok(())
     }
 
-    // Gives each edge of a class with a pool its part of the pool, by shipment.
+    // Gives each edge of a class with a pool its shipment's part of the pool.
     fn place_edges(&mut self, nets: &mut Nets, numbers: &[u32]) {
         let mut shipment = 0u32;
         for net in &nets.list {
@@ -129,21 +130,35 @@ impl ClassPools {
         let mut number = net.first_edge;
         for edge in uses.iter_mut() {
             edge.pool = numbers.get(edge.class as usize).copied().unwrap_or(NONE);
-            edge.part = NO_PART;
-            if let Some(pool) = self.list.get_mut(edge.pool as usize) {
-                edge.part = pool.end.wrapping_sub(self.spare);
-                pool.end = pool.end.wrapping_add(1);
-                if let Some(part) = self.parts.get_mut(edge.part) {
-                    *part = PoolPart {
-                        edge: number,
-                        pool: edge.pool as usize,
-                        shipment,
-                        size: net.size,
-                        flow: edge.flow,
-                    };
-                }
-            }
+            edge.part = self.part_for(&PoolPart {
+                edge: number,
+                pool: edge.pool as usize,
+                shipment,
+                size: net.size,
+                flow: edge.flow,
+            });
             number = number.wrapping_add(1);
         }
+    }
+
+    // The place of a part in its pool: that of the same shipment, if it's placed already, and else the
+    // next one, where it's put. `NO_PART` where there is no such pool.
+    fn part_for(&mut self, wanted: &PoolPart) -> usize {
+        let Some(pool) = self.list.get_mut(wanted.pool) else {
+            return NO_PART;
+        };
+        let next = pool.end.wrapping_sub(self.spare);
+        let newest = next.wrapping_sub(1);
+        if next > pool.first
+            && let Some(part) = self.parts.get(newest)
+            && part.shipment == wanted.shipment
+        {
+            return newest;
+        }
+        pool.end = pool.end.wrapping_add(1);
+        if let Some(part) = self.parts.get_mut(next) {
+            *part = *wanted;
+        }
+        next
     }
 }

@@ -27,7 +27,8 @@ pub struct EdgeUse {
 }
 
 /// The net of a shipment: its edges and nodes among those of all nets. No edges where it has no
-/// allowed timed walk.
+/// allowed timed walk. Several edges may stand for one class where its walks go by arcs that count at
+/// the leaf: one before such an arc, and one after it.
 #[derive(Clone, Copy)]
 pub struct Net {
     pub size: u64,
@@ -51,6 +52,27 @@ pub struct Nets {
     pub labels: Vec<Label>,
 }
 
+// How many shipments so far have edges that stand for a class, and the newest of them.
+#[derive(Clone, Copy)]
+struct Users {
+    count: u32,
+    newest: u32,
+}
+
+// Counts a shipment whose edges stand for these classes, once for each.
+fn count_user(users: &mut [Users], uses: &[EdgeUse], shipment: u32) {
+    for edge in uses {
+        if let Some(users) = users.get_mut(edge.class as usize)
+            && users.newest != shipment
+        {
+            *users = Users {
+                count: users.count.wrapping_add(1),
+                newest: shipment,
+            };
+        }
+    }
+}
+
 impl Nets {
     /// No nets.
     pub(crate) fn new(alloc: Global) -> Nets {
@@ -63,13 +85,21 @@ impl Nets {
         }
     }
 
-    /// How many edges of all nets stand for each of so many classes.
-    pub(crate) fn count_edges(&self, alloc: Global, classes: usize) -> Result<Vec<u32>, NoMemory> {
-        let mut counts = vec![in alloc; 0u32; classes]?;
-        for edge in &self.uses {
-            if let Some(count) = counts.get_mut(edge.class as usize) {
-                *count = count.wrapping_add(1);
-            }
+    /// How many shipments have edges that stand for each of so many classes.
+    pub(crate) fn count_users(&self, alloc: Global, classes: usize) -> Result<Vec<u32>, NoMemory> {
+        let nobody = Users {
+            count: 0,
+            newest: NONE,
+        };
+        let mut users = vec![in alloc; nobody; classes]?;
+        let mut shipment = 0u32;
+        for net in &self.list {
+            count_user(&mut users, self.uses_of(net), shipment);
+            shipment = shipment.wrapping_add(1);
+        }
+        let mut counts = Vec::with_capacity(alloc, classes)?;
+        for users in &users {
+            counts.push(users.count)?;
         }
         Ok(counts)
     }

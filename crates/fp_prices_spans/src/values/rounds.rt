@@ -37,7 +37,7 @@ pub fn span_bound_of(
     requires prices { ArePrices instance.now tables.now spans.now price.kind }
     ensures exact { IfOk result (IsSpanBoundOf instance.now (windows_in windows.now)
         (λ terminal. points_at points.now terminal price.round) sides.now tables.now spans.now price.kind price.forced) }
-    ensures small { IfOk result (IsSmallSpanBound instance.now) }
+    ensures small { IfOk result IsSmallSpanBound }
 {
     let network = RoundNetwork::of(alloc, instance, points, price.round)?;
     let leaf = Leaf::of(alloc, &network, windows, sides)?;

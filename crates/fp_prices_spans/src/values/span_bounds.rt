@@ -28,7 +28,7 @@ fn value_over(alloc: Global, by_spans: &SpanPricing, bases: u128) -> Result<Leaf
     requires bases { bases ≤ by_spans.now.pricing.now.leaf.setting.problem.scale * alone_total by_spans.now.pricing.now.leaf.setting.problem.arcs by_spans.now.pricing.now.leaf.setting.problem.shipments }
     ensures valid { IfOk result (λ _. IsValid by_spans.now.pricing.now.leaf.setting.problem) }
     ensures exact { IfOk result (IsFoundBySpans by_spans.now.pricing.now by_spans.now.spans.now bases) }
-    ensures small { IfOk result (IsSmallSpanBound by_spans.now.pricing.now.leaf.setting.problem) }
+    ensures small { IfOk result IsSmallSpanBound }
 {
     let round = by_spans.pricing.leaf().round();
     let mut costs = round.free_costs(alloc)?;
@@ -85,7 +85,7 @@ pub fn span_bound(
     ensures plans { (first : ℕ → List ℕ) → AreAmong leaf.now.setting.problem first (points_in leaf.now.setting.network) →
         KeepSpanRules leaf.now.setting.problem (windows_in leaf.now.setting.windows) first spans.now →
         IfOk result (BoundsPlans leaf.now.setting.problem (windows_in leaf.now.setting.windows) leaf.now.sides) }
-    ensures small { IfOk result (IsSmallSpanBound leaf.now.setting.problem) }
+    ensures small { IfOk result IsSmallSpanBound }
 {
     let pricing = leaf.pricing(alloc, tables, kind, forced)?;
     let row = spanned_row(alloc, &pricing, spans)?;

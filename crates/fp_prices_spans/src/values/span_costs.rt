@@ -1,5 +1,5 @@
 //! What shipments cost at a leaf under prices by spans.
-ghost use Rattle.std.specs.Prelude.{ℕ, ◌≡◌, ◌<◌, ◌≤◌, All, IfOk, None, if◌then◌else◌, length, slice_index_or};
+ghost use Rattle.std.specs.Prelude.{ℕ, ◌≡◌, ◌*◌, ◌<◌, ◌≤◌, ◌^◌, All, IfOk, IfSome, None, if◌then◌else◌, length, slice_index_or};
 ghost use Rattle.std.specs.Option.{option_map};
 ghost use Rattle.fp_model.specs.Problem.{IsValid};
 ghost use Rattle.fp_labels.specs.Labels.{IsSmallFor};
@@ -11,13 +11,16 @@ ghost use Rattle.fp_prices.specs.ClassCosts.{IsFree};
 ghost use Rattle.fp_prices.specs.PointGraphs.{AreOriginLabelsBy};
 ghost use Rattle.fp_prices.specs.Points.{edges_of};
 ghost use Rattle.fp_prices_spans.specs.declared.spans.TheConstants.{MOST_SPAN_WEIGHT};
-ghost use Rattle.fp_prices_spans.specs.SpanCosts.{AreSpanCostsOf, IsLeastBySpans, IsSmallBySpans, cost_at, heads_at};
+ghost use Rattle.fp_prices_spans.specs.declared.ways.TheConstants.{MOST_WAYS};
+ghost use Rattle.fp_prices_spans.specs.SpanCosts.{AreSpanCostsOf, IsLeastBySpans, IsSmallBySpans, cost_at, heads_at, ways_at};
 ghost use Rattle.fp_prices_spans.specs.SpanPricings.{IsSpanPricing};
+ghost use Rattle.fp_prices_spans.specs.TaggedEdges.{IsDistanceVia};
 
 use crate::NoMemory;
 use crate::spans::Span;
 use crate::values::span_prices::fill_prices;
-use fp_labels::{Labels, distances};
+use crate::ways::{arc_tags, leaf_ways};
+use fp_labels::{Labels, distances, tagged_distance};
 use fp_longestarcs::Network;
 use fp_model::Instance;
 use fp_prices::LeafPricing;
@@ -154,9 +157,55 @@ fn labels(
     distances(alloc, &graph, costs, start)
 }
 
+// The arcs by which the walks of a shipment go: none where no span stands.
+fn ways(alloc: Global, by_spans: &SpanPricing, shipment: u32) -> Result<Vec<u32>, NoMemory>
+    ensures { IfOk result (λ ways. ways.items ≡ ways_at by_spans.now.pricing.now.leaf by_spans.now.spans.now shipment) }
+{
+    if by_spans.spans.is_empty() {
+        return Ok(Vec::new(alloc));
+    }
+    leaf_ways(alloc, by_spans.pricing.leaf(), shipment)
+}
+
+// The least cost of the walks of a shipment by the leaf's heads that go by arcs, where these are the
+// costs of the edges. Spans stand at the leaf.
+fn least_via(
+    alloc: Global,
+    by_spans: &SpanPricing,
+    shipment: u32,
+    ways: &[u32],
+    costs: &[Option<u128>],
+) -> Result<Option<u128>, NoMemory>
+    requires valid { IsValid by_spans.now.pricing.now.leaf.setting.problem }
+    requires whole { IsWholeNetwork by_spans.now.pricing.now.leaf.setting.problem by_spans.now.pricing.now.leaf.setting.network }
+    requires points { point_count by_spans.now.pricing.now.leaf.setting.network ≤ MOST_POINTS }
+    requires shipment { shipment < length by_spans.now.pricing.now.leaf.setting.problem.shipments }
+    requires edges { length costs.now ≡ length (edges_of by_spans.now.pricing.now.leaf.setting.problem by_spans.now.pricing.now.leaf.setting.network) }
+    requires few { length ways.now ≤ MOST_WAYS }
+    requires small { All (IsSmallFor (2 ^ length ways.now * point_count by_spans.now.pricing.now.leaf.setting.network)) costs.now }
+    ensures exact { IfOk result (IsDistanceVia by_spans.now.pricing.now.leaf ways.now shipment costs.now) }
+    ensures small { IfOk result (λ cost. (most : ℕ) → All (λ o. IfSome o (λ n. n ≤ most)) costs.now →
+        IfSome cost (λ n. n ≤ 2 ^ length ways.now * point_count by_spans.now.pricing.now.leaf.setting.network * most)) }
+{
+    let leaf = by_spans.pricing.leaf();
+    let round = leaf.round();
+    let graph = leaf.graph(alloc, shipment)?;
+    let tags = arc_tags(alloc, round.network(), costs.len())?;
+    tagged_distance(
+        alloc,
+        &graph,
+        costs,
+        &tags,
+        ways,
+        round.start(shipment),
+        round.end(shipment),
+    )
+}
+
 /// The least cost of a shipment under prices by spans, `None` exactly where it has no allowed walk by
-/// the leaf's heads. Prices and costs are put in anew. `NoMemory` only where no memory is found. One
-/// search over the points, and where spans stand one graph of them.
+/// the leaf's heads and ways. Prices and costs are put in anew. `NoMemory` only where no memory is
+/// found. One search over the points, which are doubled for each way, and where spans stand one graph
+/// of them.
 pub(crate) fn least_cost(
     alloc: Global,
     by_spans: &SpanPricing,
@@ -171,10 +220,14 @@ pub(crate) fn least_cost(
     requires free { IsFree (class_count by_spans.now.pricing.now.leaf.setting.network) costs.old }
     ensures free { IsFree (class_count by_spans.now.pricing.now.leaf.setting.network) costs.new }
     ensures exact { IfOk result (IsLeastBySpans by_spans.now.pricing.now by_spans.now.spans.now shipment) }
-    ensures small { IfOk result (IsSmallBySpans by_spans.now.pricing.now.leaf.setting.problem shipment) }
+    ensures small { IfOk result (IsSmallBySpans by_spans.now.pricing.now.leaf.setting.problem by_spans.now.spans.now shipment) }
 {
-    let round = by_spans.pricing.leaf().round();
     fill_costs(by_spans, shipment, prices, costs);
+    let ways = ways(alloc, by_spans, shipment)?;
+    if !ways.is_empty() {
+        return least_via(alloc, by_spans, shipment, &ways, costs);
+    }
+    let round = by_spans.pricing.leaf().round();
     let found = labels(alloc, by_spans, shipment, costs)?;
     Ok(found.to(round.end(shipment)))
 }

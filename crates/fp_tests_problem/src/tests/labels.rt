@@ -1,8 +1,8 @@
 //! Least distances over four nodes.
-ghost use Rattle.std.specs.Prelude.{◌≡◌, length, All};
+ghost use Rattle.std.specs.Prelude.{◌≡◌, ◌≤◌, length, All};
 ghost use Rattle.fp_labels.specs.Labels.{IsSmallFor};
 
-use fp_labels::{Edge, Graph, NoMemory, distances};
+use fp_labels::{Edge, Graph, NoMemory, distances, tagged_distance};
 use std::alloc::Global;
 
 // What leads from A over the edges A to B, B to C, A to C and B to A: the costs to A, B, C and to
@@ -52,4 +52,33 @@ fn three_nodes_and_one_alone(rt: HostRuntime) {
     let most = 42535295865117307932921825928971026431;
     let (costs, _) = from_a(alloc, &[Some(most), Some(most), None, None]).expect(&rt, "memory");
     assert!(rt; costs == [Some(0), Some(most), Some(most * 2), None]);
+}
+
+// The least cost from A to C over the same edges, which cost 4, 5, 9 and 1, of a walk that has these
+// tags: A to B has the tag 7, A to C the tag 8, B to A the tag 9, and B to C none.
+fn tagged(alloc: Global, wanted: &[u32]) -> Result<Option<u128>, NoMemory>
+    requires few { length wanted.now ≤ 3 }
+{
+    let edges = [
+        Edge { from: 0, to: 1 },
+        Edge { from: 1, to: 2 },
+        Edge { from: 0, to: 2 },
+        Edge { from: 1, to: 0 },
+    ];
+    let graph = Graph::new(alloc, 4, &edges)?;
+    let costs = [Some(4), Some(5), Some(9), Some(1)];
+    let tags = [Some(7), None, Some(8), Some(9)];
+    tagged_distance(alloc, &graph, &costs, &tags, wanted, 0, 2)
+}
+
+#[test]
+fn walks_with_tags(rt: HostRuntime) {
+    let alloc = rt.alloc();
+    assert!(rt; tagged(alloc, &[]).expect(&rt, "memory") == Some(9));
+    assert!(rt; tagged(alloc, &[7]).expect(&rt, "memory") == Some(9));
+    // Round the cycle of A and B, and on by B or by the edge from A to C.
+    assert!(rt; tagged(alloc, &[9]).expect(&rt, "memory") == Some(14));
+    assert!(rt; tagged(alloc, &[8, 7]).expect(&rt, "memory") == Some(14));
+    assert!(rt; tagged(alloc, &[7, 7]).expect(&rt, "memory") == Some(9));
+    assert!(rt; tagged(alloc, &[6]).expect(&rt, "memory") == None);
 }

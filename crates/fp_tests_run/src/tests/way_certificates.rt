@@ -13,6 +13,53 @@ const DIAMOND: &str =
 const BY_WAY: &str =
     "answer,unfinished,170,120,branches\nleg,S1,A,C,0,5\nleg,S1,C,D,5,10\ntruck,A,C,0,1,6\ntruck,C,D,5,1,6\nsplit,way,S1,B,D\nsplit,arc,S1,A,B\nleaf,linear,0,forced\nleaf,linear,0,plain\nleaf,linear,0,plain\nend\n";
 
+// One shipment from A to D: by Z for 200, by X and Y for 300. The arc from X to Y has no rival on the way by Z.
+const BYPASS: &str =
+    "terminal,A\nterminal,X\nterminal,Y\nterminal,Z\nterminal,D\narc,A,X,5,10,100,0\narc,X,Y,5,10,100,0\narc,Y,D,5,10,100,0\narc,A,Z,5,10,100,0\narc,Z,D,5,10,100,0\nshipment,S1,A,D,6,0,99\n";
+
+// Without the arc from X to Y spans over the way by Z are worth its trucks. With it, a walk beside whose table spans stand
+// goes by it, for 60 + 100 + 60, and the one by Z, for 120 by what its size costs, doesn't count.
+const BY_SPANS: &str =
+    "answer,optimal,200\nleg,S1,A,Z,0,5\nleg,S1,Z,D,5,10\ntruck,A,Z,0,1,6\ntruck,Z,D,5,1,6\ntable,1\nspan,A,Z,0,100,100000000,0\nweight,S1,100000000\nspan,Z,D,0,100,100000000,0\nweight,S1,100000000\ntable,2\nspan,X,Y,0,100,100000000,0\nweight,S1,100000000\nsplit,way,S1,X,Y\nleaf,1,0,plain\nleaf,2,0,plain\nend\n";
+
+const WALKS: [Checked; 5] = [
+    (BYPASS, BY_SPANS, "", "", 0, "accepted,optimal\n"),
+    // Without spans, or where the shipment needn't come to X, the walk by Z counts.
+    (
+        BYPASS,
+        BY_SPANS,
+        "leaf,2",
+        "leaf,linear",
+        12,
+        "rejected,7\n",
+    ),
+    (
+        BYPASS,
+        BY_SPANS,
+        "split,way",
+        "split,arc",
+        12,
+        "rejected,7\n",
+    ),
+    // No walk goes by both arcs, so a leaf with both is empty; not without spans, where the one by Z is left.
+    (
+        BYPASS,
+        BY_SPANS,
+        "leaf,2,0,plain\n",
+        "split,way,S1,A,Z\nleaf,2,0,plain\nleaf,2,0,plain\n",
+        0,
+        "accepted,optimal\n",
+    ),
+    (
+        BYPASS,
+        BY_SPANS,
+        "leaf,2,0,plain\n",
+        "split,way,S1,A,Z\nleaf,2,0,plain\nleaf,linear,0,plain\n",
+        12,
+        "rejected,7\n",
+    ),
+];
+
 const TESTED: [Checked; 6] = [
     (DIAMOND, BY_WAY, "", "", 0, "accepted,unfinished\n"),
     (DIAMOND, BY_WAY, "170,120", "170,121", 12, "rejected,7\n"),
@@ -91,6 +138,7 @@ const REFUSED: [Checked; 4] = [
 fn verdicts_by_ways(rt: HostRuntime) -> Result<(), Fail> {
     let alloc = rt.alloc();
     assert_eq!(rt; wrong_row(alloc, &TESTED)?, None);
+    assert_eq!(rt; wrong_row(alloc, &WALKS)?, None);
     assert_eq!(rt; wrong_row(alloc, &REFUSED)?, None);
     Ok(())
 }

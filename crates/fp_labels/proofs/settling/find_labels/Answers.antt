@@ -15,7 +15,7 @@ use Rattle.fp_labels.proofs.settling.find_labels.Goals as goal
 pub loop-init : goal.loop-init
 loop-init c =
     let s = c.in_ok-search.search in
-    let fresh : IsFresh c.args.graph.now.nodes c.args.start s.labels.items s.settled.items (heap_items s.queue) = rw (← c.nodes.ensures) c.in_ok-search.ensures in
+    let fresh : IsFresh c.args.graph.now.nodes c.args.start s.labels.items s.settled.items (heap_items s.queue) = rw (← c.nodes.ensures.value) c.in_ok-search.ensures in
     record {
       searched = fresh_search c.args.graph.now c.args.costs.now c.args.start s.labels.items s.settled.items (heap_items s.queue) fresh;
       counted = fresh_counted c.args.graph.now.nodes c.args.start s.labels.items s.settled.items (heap_items s.queue) fresh;
@@ -66,6 +66,6 @@ returns c =
     let start : ℕ = c.args.start in
     let s = c.loop.search in
     let searched = c.loop.invariant.searched in
-    let counted : settled_count s.settled.items ≡ graph.nodes = omega (arith, c.loop.invariant.counted, c.loop-test.false, c.loop.auto.counter-end, c.nodes-end.ensures) in
+    let counted : settled_count s.settled.items ≡ graph.nodes = omega (arith, c.loop.invariant.counted, c.loop-test.false, c.loop.auto.counter-end, c.nodes-end.ensures.value) in
     found graph costs start s.labels.items s.settled.items (heap_items s.queue) searched
     (all_settled graph costs start s.labels.items s.settled.items (heap_items s.queue) searched counted) (omega (arith, c.requires.inside))

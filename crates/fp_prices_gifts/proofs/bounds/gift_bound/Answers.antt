@@ -6,7 +6,7 @@ use Rattle.fp_longestarcs.specs.Networks.{points_in}
 use Rattle.fp_prices.specs.declared.values.bounds.LeafBound.{LeafBound}
 use Rattle.fp_prices.specs.Rounds.{LeafModel}
 use Rattle.fp_prices_spans.specs.SpanLeaves.{IsSpanBoundOf}
-use Rattle.fp_prices_spans.proofs.LeafHeads.{leaf_route-walk}
+use Rattle.fp_prices_spans.proofs.LeafWays.{leaf_route-via}
 use Rattle.fp_prices_gifts.proofs.GiftBounds.{gift_leaf-bounds}
 use Rattle.fp_prices_gifts.proofs.OneGiftValue.{no-bound}
 use Rattle.fp_prices_gifts.proofs.bounds.gift_bound.Goals as goal
@@ -17,7 +17,7 @@ returns-in-Empty-clause-plans c first among rules d routes of_leaf =
     let Is : LeafBound → Type 0 = IsSpanBoundOf m.setting.problem (windows_in m.setting.windows) (points_in m.setting.network) m.sides c.args.tables.now c.args.spans.now c.args.kind c.args.forced in
     let is = subst Is c.in-Empty.is c.in_ok-shipment.ensures.exact in
     is.none (map (class_of m.setting.problem (points_in m.setting.network) d) (route_at routes c.in-Empty.shipment))
-    (leaf_route-walk m.setting.problem (windows_in m.setting.windows) (points_in m.setting.network) m.sides c.args.spans.now d c.in-Empty.shipment routes is.exists of_leaf)
+    (leaf_route-via m.setting.problem (windows_in m.setting.windows) (points_in m.setting.network) m.sides c.args.spans.now d c.in-Empty.shipment routes is.exists of_leaf)
 
 pub returns-in-Some-clause-plans : goal.returns-in-Some-clause-plans
 returns-in-Some-clause-plans c first among rules d routes of_leaf =

@@ -1,5 +1,5 @@
 -- Each split by a way that is listed is a branching.
-use Rattle.std.proofs.Common.{List, length, sym, subst, arith}
+use Rattle.std.proofs.Common.{List, sym, subst, arith}
 use Rattle.std.specs.Prelude.{All}
 use Rattle.std.proofs.lemmas.List.Elements.{All-push}
 use Rattle.fp_allowed.specs.Settings.{Setting}

@@ -27,13 +27,18 @@ returns-in-Empty-clause-kept g c =
     let s : Search = c.args.search.now in
     let round : ℕ = c.args.price.round in
     let setting = leaf-setting_with s c.in_ok-network.network c.in_ok-round.round c.in_ok-below.below.setting c.in_ok-round.ensures c.in_ok-below.ensures.setting in
-    kept-under s c.improve.new.prices c.in_ok-below.below.sides (c.args.leaf.now.sides ++ (c.args.side ∷ [])) c.emptied.result (empty_kept round)
+    kept-under s c.improve.new.prices c.in_ok-below.below.sides (c.args.leaf.now.sides ++ (c.args.side ∷ [])) c.emptied.result (empty_kept c.in-Empty.own)
     (c.in_ok-below.ensures.sides ∙ c.deref.ensures.value ∙ c.in_ok-sides.ensures) c.emptied.ensures
-    (empty-then s c.args.prices.now c.improve.new.prices c.requires.search c.in_ok-below.below.sides c.in_ok-network.network round c.requires.price.round c.in_ok-network.ensures.whole
-    c.in_ok-below.below.setting setting c.in_ok-improve.field-0 c.in_ok-improve.ensures.improved c.in-Empty.shipment c.in-Empty.is)
+    ((empty-then s c.args.prices.now c.improve.new.prices c.requires.search c.in_ok-below.below.sides c.in_ok-network.network round c.requires.price.round c.in_ok-network.ensures.whole
+    c.in_ok-below.below.setting setting c.in_ok-own.field-0 c.in_ok-own.ensures.improved c.in-Empty.own c.in-Empty.is).0)
 
 pub returns-in-Empty-clause-round : goal.returns-in-Empty-clause-round
-returns-in-Empty-clause-round g c = ap (λ (k : Kept). k.payload.valuation.price.round) c.emptied.ensures
+returns-in-Empty-clause-round g c =
+    let s : Search = c.args.search.now in
+    let setting = leaf-setting_with s c.in_ok-network.network c.in_ok-round.round c.in_ok-below.below.setting c.in_ok-round.ensures c.in_ok-below.ensures.setting in
+    ap (λ (k : Kept). k.payload.valuation.price.round) c.emptied.ensures
+    ∙ (empty-then s c.args.prices.now c.improve.new.prices c.requires.search c.in_ok-below.below.sides c.in_ok-network.network c.args.price.round c.requires.price.round c.in_ok-network.ensures.whole
+    c.in_ok-below.below.setting setting c.in_ok-own.field-0 c.in_ok-own.ensures.improved c.in-Empty.own c.in-Empty.is).1
 
 pub returns-in-Empty-clause-inherited : goal.returns-in-Empty-clause-inherited
 returns-in-Empty-clause-inherited g c = λ _. inl (ap (λ (k : Kept). k.payload.empty) c.emptied.ensures)
@@ -55,7 +60,7 @@ returns-clause-kept g c =
     IfOk-weaker c.or_by.result (IsBestBy c.in_ok-below.below after c.priced.result c.args.price) (λ (kept : Kept). IsKept (history s after) sides kept.payload kept.value)
     (λ kept best.
     (best-under s c.args.prices.now after c.requires.search c.in_ok-below.below.sides sides c.in_ok-network.network c.args.price c.requires.price.round c.in_ok-network.ensures.whole
-    c.in_ok-below.below.setting setting c.in_ok-improve.field-0 c.in_ok-improve.ensures.improved kind grown c.in-Priced.own c.in-Priced.value c.in-Priced.walks c.in-Priced.is c.priced.result c.priced.ensures
+    c.in_ok-below.below.setting setting c.in_ok-own.field-0 c.in_ok-own.ensures.improved kind grown c.in-Priced.own c.in-Priced.value c.in-Priced.walks c.in-Priced.is c.priced.result c.priced.ensures
     (c.in_ok-below.ensures.sides ∙ c.deref.ensures.value ∙ c.in_ok-sides.ensures) kept best).0)
     c.or_by.ensures
 
@@ -70,7 +75,7 @@ returns-clause-round g c =
     IfOk-weaker c.or_by.result (IsBestBy c.in_ok-below.below after c.priced.result c.args.price) (λ (kept : Kept). kept.payload.valuation.price.round ≡ c.args.price.round)
     (λ kept best.
     (best-under s c.args.prices.now after c.requires.search c.in_ok-below.below.sides sides c.in_ok-network.network c.args.price c.requires.price.round c.in_ok-network.ensures.whole
-    c.in_ok-below.below.setting setting c.in_ok-improve.field-0 c.in_ok-improve.ensures.improved kind grown c.in-Priced.own c.in-Priced.value c.in-Priced.walks c.in-Priced.is c.priced.result c.priced.ensures
+    c.in_ok-below.below.setting setting c.in_ok-own.field-0 c.in_ok-own.ensures.improved kind grown c.in-Priced.own c.in-Priced.value c.in-Priced.walks c.in-Priced.is c.priced.result c.priced.ensures
     (c.in_ok-below.ensures.sides ∙ c.deref.ensures.value ∙ c.in_ok-sides.ensures) kept best).1)
     c.or_by.ensures
 
@@ -86,6 +91,6 @@ returns-clause-inherited g c =
     IfOk-weaker c.or_by.result (IsBestBy c.in_ok-below.below after c.priced.result c.args.price) (IsNoLessBy (history s after) sides c.args.price)
     (λ kept best.
     (best-under s c.args.prices.now after c.requires.search c.in_ok-below.below.sides sides c.in_ok-network.network c.args.price c.requires.price.round c.in_ok-network.ensures.whole
-    c.in_ok-below.below.setting setting c.in_ok-improve.field-0 c.in_ok-improve.ensures.improved kind grown c.in-Priced.own c.in-Priced.value c.in-Priced.walks c.in-Priced.is c.priced.result c.priced.ensures
+    c.in_ok-below.below.setting setting c.in_ok-own.field-0 c.in_ok-own.ensures.improved kind grown c.in-Priced.own c.in-Priced.value c.in-Priced.walks c.in-Priced.is c.priced.result c.priced.ensures
     (c.in_ok-below.ensures.sides ∙ c.deref.ensures.value ∙ c.in_ok-sides.ensures) kept best).2 without)
     c.or_by.ensures

@@ -22,10 +22,10 @@ of-requires g c = belongs-here c.args.leaf.now.setting c.round.result.now.proble
 
 pub returns-in-Empty-clause-kept : goal.returns-in-Empty-clause-kept
 returns-in-Empty-clause-kept g c =
-    kept-under c.args.search.now c.improve.new.prices c.in_ok-below.below.sides (c.args.leaf.now.sides ++ (c.args.side ∷ [])) c.emptied.result (empty_kept c.len-number.result)
+    kept-under c.args.search.now c.improve.new.prices c.in_ok-below.below.sides (c.args.leaf.now.sides ++ (c.args.side ∷ [])) c.emptied.result (empty_kept c.in-Empty.price)
     (c.in_ok-below.ensures.sides ∙ c.deref.ensures.value ∙ c.in_ok-sides.ensures) c.emptied.ensures
     (empty-here c.args.search.now c.args.prices.now c.improve.new.prices c.requires.search c.in_ok-below.below.sides c.in_ok-below.below.setting (leaf-setting_of c.args.search.now c.args.leaf.now.setting c.in_ok-below.below.setting c.round.result.now.problem c.windows.result.now c.round.result.now.network c.requires.setting c.round.ensures.problem c.windows.ensures.same c.round.ensures.network c.in_ok-below.ensures.setting) c.len-number.result
-    c.in_ok-improve.field-0 c.in_ok-improve.ensures.improved (omega (arith, c.len-number.ensures, c.args.search.now.trace.ok)) c.in-Empty.shipment c.in-Empty.is)
+    c.in_ok-price.field-0 c.in_ok-price.ensures.improved (omega (arith, c.len-number.ensures, c.args.search.now.trace.ok)) c.in-Empty.price c.in-Empty.is)
 
 pub returns-clause-kept : goal.returns-clause-kept
 returns-clause-kept g c =
@@ -34,4 +34,4 @@ returns-clause-kept g c =
     kept-under c.args.search.now c.improve.new.prices c.in_ok-below.below.sides (c.args.leaf.now.sides ++ (c.args.side ∷ [])) c.priced.result (priced_kept c.in-Priced.price c.in-Priced.value)
     (c.in_ok-below.ensures.sides ∙ c.deref.ensures.value ∙ c.in_ok-sides.ensures) c.priced.ensures
     (priced-here c.args.search.now c.args.prices.now c.improve.new.prices c.requires.search c.in_ok-below.below.sides c.in_ok-below.below.setting setting c.len-number.result
-    c.in_ok-improve.field-0 c.in_ok-improve.ensures.improved (omega (arith, c.len-number.ensures, c.args.search.now.trace.ok)) c.in-Priced.price c.in-Priced.value c.in-Priced.walks c.in-Priced.is grown.prices)
+    c.in_ok-price.field-0 c.in_ok-price.ensures.improved (omega (arith, c.len-number.ensures, c.args.search.now.trace.ok)) c.in-Priced.price c.in-Priced.value c.in-Priced.walks c.in-Priced.is grown.prices)

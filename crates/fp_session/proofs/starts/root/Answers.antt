@@ -24,9 +24,9 @@ setting-root x p table net copy r is of same =
 pub returns-in-Empty-clause-kept : goal.returns-in-Empty-clause-kept
 returns-in-Empty-clause-kept c =
     subst (λ (k : Kept). IsKept (start_of c.args.instance.now c.args.windows.now c.improve.new.prices) [] k.payload k.value) (sym c.emptied.ensures)
-    (root-empty c.args.instance.now c.args.windows.now c.args.network.now c.requires.belongs.valid c.requires.points c.improve.new.prices c.in_ok-improve.field-0 c.in_ok-leaf.leaf.setting
+    (root-empty c.args.instance.now c.args.windows.now c.args.network.now c.requires.belongs.valid c.requires.points c.improve.new.prices c.in_ok-price.field-0 c.in_ok-leaf.leaf.setting
     (setting-root c.in_ok-leaf.leaf.setting c.args.instance.now c.args.windows.now c.args.network.now c.in_ok-copy.field-0 c.in_ok-round.round c.in_ok-leaf.ensures.setting c.in_ok-round.ensures c.in_ok-copy.ensures)
-    (subst (λ (l : List Side). ImprovedIn c.in_ok-leaf.leaf.setting l c.improve.new.prices 0 c.in_ok-improve.field-0) c.in_ok-leaf.ensures.sides c.in_ok-improve.ensures.improved) c.in-Empty.shipment
+    (subst (λ (l : List Side). ImprovedIn c.in_ok-leaf.leaf.setting l c.improve.new.prices 0 c.in_ok-price.field-0) c.in_ok-leaf.ensures.sides c.in_ok-price.ensures.improved) c.in-Empty.price
     c.in-Empty.is)
 
 pub returns-clause-kept : goal.returns-clause-kept
@@ -36,6 +36,6 @@ returns-clause-kept c =
     let grown : HaveGrown c.args.instance.now c.args.windows.now c.args.prices.now c.improve.new.prices =
     subst (λ (x : Setting). HaveGrown x.problem x.windows c.args.prices.now c.improve.new.prices) setting c.improve.ensures.grown in
     subst (λ (k : Kept). IsKept (start_of c.args.instance.now c.args.windows.now c.improve.new.prices) [] k.payload k.value) (sym c.priced.ensures)
-    (root-priced c.args.instance.now c.args.windows.now c.args.network.now c.requires.belongs.valid c.requires.points c.improve.new.prices c.in_ok-improve.field-0 c.in_ok-leaf.leaf.setting setting
-    (subst (λ (l : List Side). ImprovedIn c.in_ok-leaf.leaf.setting l c.improve.new.prices 0 c.in_ok-improve.field-0) c.in_ok-leaf.ensures.sides c.in_ok-improve.ensures.improved) grown.prices c.in-Priced.price
+    (root-priced c.args.instance.now c.args.windows.now c.args.network.now c.requires.belongs.valid c.requires.points c.improve.new.prices c.in_ok-price.field-0 c.in_ok-leaf.leaf.setting setting
+    (subst (λ (l : List Side). ImprovedIn c.in_ok-leaf.leaf.setting l c.improve.new.prices 0 c.in_ok-price.field-0) c.in_ok-leaf.ensures.sides c.in_ok-price.ensures.improved) grown.prices c.in-Priced.price
     c.in-Priced.value c.in-Priced.walks c.in-Priced.is)

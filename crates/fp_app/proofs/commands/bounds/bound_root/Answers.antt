@@ -41,4 +41,4 @@ pub unreachable-requires : goal.unreachable-requires
 unreachable-requires g c =
     let none =
     subst (IsImprovedBy c.args.instance (windows_in c.in_ok-windows.windows) (points_in c.in_ok-network.network) [] c.improve_root.new.prices 0) c.in-Empty.is c.in_ok-price.ensures.improved in
-    root-not_empty c.args.instance (windows_in c.in_ok-windows.windows) (points_in c.in_ok-network.network) c.in-Empty.shipment c.in_ok-windows.ensures.covers c.requires none
+    root-not_empty c.args.instance (windows_in c.in_ok-windows.windows) (points_in c.in_ok-network.network) (spans_beside c.improve_root.new.prices.spans c.in-Empty.price.kind) c.in_ok-windows.ensures.covers c.requires none.is

@@ -8,7 +8,7 @@ use Rattle.fp_prices_gifts.specs.GiftKinds.{gifts_beside}
 use Rattle.fp_prices_spans.specs.SpanKinds.{spans_beside}
 use Rattle.fp_prices_spans.specs.Spans.{ClassSpan}
 use Rattle.fp_duals_leaves.specs.Prices.{ArePrices, HaveGrown, PriceLists}
-use Rattle.fp_duals_leaves.specs.Pricing.{IsImprovedBy}
+use Rattle.fp_duals_leaves.specs.Pricing.{IsImprovedByTables}
 use Rattle.fp_duals_leaves.proofs.GrownPrices.{HaveGrown-same, prices-same}
 use Rattle.fp_duals_leaves.proofs.ImprovedPrices.{cut-front, grown-added, grown-same, improved-added, improved-same}
 use Rattle.fp_duals_leaves.proofs.prices.Prices.improve.Goals as goal
@@ -62,7 +62,7 @@ returns-clause-improved g c =
     let leaf = c.args.leaf.now in
     let kind = c.without_spans-plain.result.kind in
     let inside : PriceLists = record { tables = c.self.inside.tables; spans = c.self.inside.spans.items; gifts = c.self.inside.gifts.items; unit = c.self.inside.unit } in
-    subst (λ (x : PriceLists). IsImprovedBy leaf.setting.problem (windows_in leaf.setting.windows) (points_in leaf.setting.network) leaf.sides x c.args.round c.in_ok-improved.improved)
+    subst (λ (x : PriceLists). IsImprovedByTables leaf.setting.problem (windows_in leaf.setting.windows) (points_in leaf.setting.network) leaf.sides x c.args.round c.in_ok-improved.improved)
     (sym (prices-same c.improve_leaf.new.tables c.improve_leaf.new.tables c.push_beside.new.all_spans.items (inside.spans ++ ([] ∷ [])) c.push_beside.new.all_gifts.items (inside.gifts ++ ([] ∷ [])) c.self.inside.unit refl
     (c.in_default.ensures.spans ∙ ap (λ (ss : List ClassSpan). inside.spans ++ (ss ∷ [])) c.new-spans.ensures.items)
     (c.in_default.ensures.gifts ∙ ap (λ (gs : List Gift). inside.gifts ++ (gs ∷ [])) c.new-gifts.ensures.items)))

@@ -7,7 +7,7 @@ use Rattle.fp_longestarcs.specs.Networks.{points_in}
 use Rattle.fp_prices.specs.Rounds.{LeafModel}
 use Rattle.fp_prices.specs.Tables.{AreTables}
 use Rattle.fp_prices.proofs.LeafBounds.{leaf-is}
-use Rattle.fp_prices_spans.specs.SpanLeaves.{IsSmallSpanBound, IsSpanBoundOf}
+use Rattle.fp_prices_spans.specs.SpanLeaves.{IsSpanBoundOf}
 use Rattle.fp_prices_spans.specs.SpanLists.{AreSpans}
 use Rattle.fp_prices_spans.proofs.SameSpanValues.{span_bound-as_of}
 use Rattle.fp_prices_spans.proofs.values.rounds.span_bound_of.Goals as goal
@@ -37,6 +37,4 @@ returns-clause-exact c =
     (subst (λ (l : LeafModel). IfOk c.span_bound.result (IsSpanBoundOf l.setting.problem (windows_in l.setting.windows) (points_in l.setting.network) l.sides c.args.tables.now c.args.spans.now c.args.price.kind c.args.price.forced)) is c.span_bound.ensures.exact)
 
 pub returns-clause-small : goal.returns-clause-small
-returns-clause-small c =
-    let is = leaf-is c.args.instance.now c.args.windows.now c.args.sides.now c.in_ok-network.network c.in_ok-leaf.leaf c.in_ok-network.ensures.instance c.in_ok-leaf.ensures.setting c.in_ok-leaf.ensures.sides in
-    subst (λ (l : LeafModel). IfOk c.span_bound.result (IsSmallSpanBound l.setting.problem)) is c.span_bound.ensures.small
+returns-clause-small c = c.span_bound.ensures.small

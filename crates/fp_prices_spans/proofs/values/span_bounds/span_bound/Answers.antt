@@ -1,6 +1,6 @@
-use Rattle.std.proofs.Common.{◌≡◌, ℕ, ◌+◌, ◌*◌, ◌^◌, ◌≤◌, List, sym, ap, subst, arith}
+use Rattle.std.proofs.Common.{◌≡◌, ℕ, ◌+◌, ◌^◌, ◌≤◌, List, sym, subst, arith}
 use Rattle.fp_model.specs.declared.parts.Leg.{Leg}
-use Rattle.fp_model.specs.Problem.{IsValid, Problem, alone_total}
+use Rattle.fp_model.specs.Problem.{IsValid}
 use Rattle.fp_flatnet.specs.Tables.{windows_in}
 use Rattle.fp_longestarcs.specs.Networks.{points_in}
 use Rattle.fp_prices.specs.declared.values.bounds.LeafBound.{LeafBound}
@@ -57,17 +57,14 @@ returns-clause-plans c first among rules =
 
 pub returns-clause-small : goal.returns-clause-small
 returns-clause-small c =
-    let p : Problem = c.args.leaf.now.setting.problem in
-    let same : c.in_ok-pricing.pricing.leaf.setting.problem ≡ p = ap (λ (o : PricingModel). o.leaf.setting.problem) c.in_ok-pricing.ensures.is in
-    let small : IsSmallSpanBound p c.in_ok-found.found = subst (λ (q : Problem). IsSmallSpanBound q c.in_ok-found.found) same c.in_ok-found.ensures.small in
     let chains = c.in_ok-pricing.ensures.chains in
-    elim c.match-found.branch as (λ _. IsSmallSpanBound p c.match-found.result) [
+    elim c.match-found.branch as (λ _. IsSmallSpanBound c.match-found.result) [
       | in-Value w ↦
           let m : PricingModel = c.in_ok-pricing.pricing in
           let is : AreChainsOf m.leaf m.forced chains.0 = subst (λ (o : PricingModel). AreChainsOf o.leaf o.forced chains.0) (sym c.in_ok-pricing.ensures.is) chains.1 in
           let off : IsAfterCharges m c.args.spans.now chains.0 w.in-Value.value w.after_charges.result = w.after_charges.ensures chains.0 is in
-          let before : w.in-Value.value ≤ p.scale * 65537 * alone_total p.arcs p.shipments + 2 ^ 125 = subst (IsSmallSpanBound p) w.in-Value.is small in
-          let after : w.after_charges.result ≤ p.scale * 65537 * alone_total p.arcs p.shipments + 2 ^ 125 = omega (arith, off.is, before) in
-          subst (IsSmallSpanBound p) (sym w.result-is) after
-      | in-Empty w ↦ subst (IsSmallSpanBound p) (sym w.result-is) tt
+          let before : w.in-Value.value ≤ 2 ^ 127 + 2 ^ 125 = subst IsSmallSpanBound w.in-Value.is c.in_ok-found.ensures.small in
+          let after : w.after_charges.result ≤ 2 ^ 127 + 2 ^ 125 = omega (arith, off.is, before) in
+          subst IsSmallSpanBound (sym w.result-is) after
+      | in-Empty w ↦ subst IsSmallSpanBound (sym w.result-is) tt
     ]

@@ -33,7 +33,7 @@ overflow_add-value c =
     let instance : c.instance.result.now ≡ p = c.instance.ensures.same ∙ c.round-round.ensures.problem ∙ ap (λ (l : LeafModel). l.setting.problem) c.leaf.ensures in
     let exists : i < length p.shipments = omega (arith, ap (λ (l : List Shipment). length l) c.shipments.ensures.same, ap (λ (q : Problem). length q.shipments) instance) in
     let valid : IsValid p = subst IsValid instance c.shipments.ensures.valid in
-    omega (arith, more-fits m c.args.by_spans.now.spans.now c.args.bases i c.loop-shipment.value exists c.loop-shipment.invariant.so_far c.in-Some.cost valid c.requires.bases (subst (IsSmallBySpans p i) c.in-Some.is c.in_ok-cost.ensures.small))
+    omega (arith, more-fits m c.args.by_spans.now.spans.now c.args.bases i c.loop-shipment.value exists c.loop-shipment.invariant.so_far c.in-Some.cost valid c.requires.by_spans.spans.light c.requires.bases (subst (IsSmallBySpans p c.args.by_spans.now.spans.now i) c.in-Some.is c.in_ok-cost.ensures.small))
 
 pub loop-shipment-preserved : goal.loop-shipment-preserved
 loop-shipment-preserved c =
@@ -52,7 +52,7 @@ loop-shipment-preserved c =
     whole_write c.loop-shipment.costs.len costs (drop (length costs) c.loop-shipment.costs.items) (omega (arith, c.loop-shipment.costs.ok, costs_long)) in
     record {
       so_far = least-more m c.args.by_spans.now.spans.now c.args.bases i c.loop-shipment.value exists c.loop-shipment.invariant.so_far c.in-Some.cost (subst (IsLeastBySpans m c.args.by_spans.now.spans.now i) c.in-Some.is c.in_ok-cost.ensures.exact)
-          (subst (IsSmallBySpans p i) c.in-Some.is c.in_ok-cost.ensures.small);
+          (subst (IsSmallBySpans p c.args.by_spans.now.spans.now i) c.in-Some.is c.in_ok-cost.ensures.small);
       long = ap (λ (l : List ℕ). length l) prices_written ∙ prices_long ∙ c.loop-shipment.invariant.long;
       edges = ap (λ (l : List (Option ℕ)). length l) costs_written ∙ costs_long ∙ c.loop-shipment.invariant.edges;
       free = subst (IsFree (class_count m.leaf.setting.network)) (sym costs_written) c.in_ok-cost.ensures.free;
@@ -87,5 +87,5 @@ returns-clause-small c =
     let p : Problem = m.leaf.setting.problem in
     let instance : c.instance.result.now ≡ p = c.instance.ensures.same ∙ c.round-round.ensures.problem ∙ ap (λ (l : LeafModel). l.setting.problem) c.leaf.ensures in
     all-small m c.args.by_spans.now.spans.now c.args.bases c.loop-shipment.shipment c.loop-shipment.value
-    (omega (arith, ap (λ (l : List Shipment). length l) c.shipments.ensures.same, ap (λ (q : Problem). length q.shipments) instance, c.loop-shipment.auto.shipment-end)) (subst IsValid instance c.shipments.ensures.valid) c.requires.bases
+    (subst IsValid instance c.shipments.ensures.valid) c.requires.by_spans.spans.light c.requires.bases
     c.loop-shipment.invariant.so_far
