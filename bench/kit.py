@@ -58,10 +58,11 @@ def planned(words, text):
 
 
 def check_answer(program, name, text, printed):
-    """Hands an answer to an instance back to the program's `check`; the run ends where it isn't accepted."""
-    checked, _, _ = measured([program, "check"], text + printed)
+    """The seconds in which the program's `check` accepts an answer to an instance; the run ends where it doesn't."""
+    checked, seconds, _ = measured([program, "check"], text + printed)
     if not checked.startswith("accepted,"):
         sys.exit(f"{name}: check says {checked!r}")
+    return seconds
 
 
 def is_wanted(name):
@@ -72,6 +73,12 @@ def is_wanted(name):
 def row_of(cost, bound, ending, seconds, megabytes):
     """Figures as they stand in a table; nothing was found where there is no cost."""
     return f"{'-' if cost is None else cost:>8} {bound:>8} {ending:9} {seconds:8.1f} {megabytes:6.0f}"
+
+
+def splits_of(printed):
+    """How many splits of each kind the tree of an answer has: by an arc, by a time, by trucks and by a way, as 3/0/2/1."""
+    kinds = [line.split(",", 2)[1] for line in printed.splitlines() if line.startswith("split,")]
+    return "/".join(str(kinds.count(kind)) for kind in ("arc", "time", "trucks", "way"))
 
 
 HEADS = f"{'cost':>8} {'bound':>8} {'ending':9} {'seconds':>8} {'MB':>6}"

@@ -15,12 +15,11 @@ import sys
 
 sys.path.insert(0, os.path.dirname(os.path.abspath(__file__)))
 from instances import cases, generated
-from kit import HEADS, TOP, built_program, check_answer, is_wanted, planned, row_of
+from kit import HEADS, TOP, built_program, check_answer, is_wanted, planned, row_of, splits_of
 
 SPANS = "--spans"
 SHORT = ["--rounds", "40", "--branches", "100"]
 ROOT = ["--rounds", "40", "--branches", "0", SPANS]
-KINDS = ("arc", "time", "trucks", "way")
 
 
 def all_cases():
@@ -35,12 +34,6 @@ def all_cases():
         day = file.read()
     yield "france-day.csv", day, SHORT
     yield "france-day.csv, spans", day, SHORT + [SPANS]
-
-
-def splits_of(printed):
-    """How many splits of each kind the tree of an answer has."""
-    kinds = [line.split(",", 2)[1] for line in printed.splitlines() if line.startswith("split,")]
-    return "/".join(str(kinds.count(kind)) for kind in KINDS)
 
 
 def main():

@@ -1,0 +1,135 @@
+"""Small trees of splits at their greatest claims, beside all plans of small instances: no claim is accepted that some plan is cheaper than."""
+
+import pathlib
+import random
+import subprocess
+import sys
+import unittest
+from itertools import combinations, islice
+
+sys.dont_write_bytecode = True
+sys.path.insert(0, str(pathlib.Path(__file__).resolve().parent))
+from programs import proved  # noqa: E402
+from small_plans import Detour, Small  # noqa: E402
+
+SCALE = 12
+KINDS = ((Small, 30), (Detour, 16))
+MOST_PLANS = 10_000
+SEARCHES = ("--rounds 0 --branches 0 --spans", "--rounds 0 --branches 1 --spans", "--rounds 2 --branches 3 --spans", "--rounds 0 --branches 2")
+
+
+def charge_of(small, arc, money, weights):
+    """What the weights of any shipments pass the money of their trucks by at most."""
+    sizes = {it[0]: it[3] for it in small.shipments}
+    sets = [chosen for count in range(1, len(weights) + 1) for chosen in combinations(weights, count)]
+    over = [sum(weights[it] for it in chosen) - money * -(-sum(sizes[it] for it in chosen) // arc[3]) for chosen in sets]
+    return max([0, *over])
+
+
+def table_of(draw, small, runs):
+    """The spans and the gifts of a table: on some arcs one span over all time, with a gift for each of some sides of splits by trucks."""
+    spans, gifts = [], []
+    for arc in small.arcs:
+        given = [(side, draw.randrange(SCALE * arc[4] + 1)) for run, side in runs if run == arc[:2]]
+        off, more = (sum(amount for side, amount in given if side == which) for which in ("least", "most"))
+        if off > SCALE * arc[4] or (not given and draw.random() < 0.3):
+            continue
+        money = SCALE * arc[4] - off + draw.randrange(more + 1)
+        weights = {it[0]: draw.randrange(1, money + 2) for it in small.shipments if draw.random() < 0.8}
+        spans.append(f"span,{arc[0]},{arc[1]},0,100001,{money},{charge_of(small, arc, money, weights)}")
+        spans += [f"weight,{name},{weight}" for name, weight in weights.items()]
+        gifts += [f"gift,{arc[0]},{arc[1]},0,100001,{side},{amount}" for side, amount in given]
+    return spans + gifts
+
+
+def split_of(draw, small):
+    """A split, and for one by trucks its arc."""
+    arc, shipment = draw.choice(small.arcs), draw.choice(small.shipments)[0]
+    kind = draw.choice(("arc", "time", "trucks", "trucks", "way", "way"))
+    if kind == "time":
+        return f"split,time,{shipment},{draw.choice(small.names)},{draw.randrange(1, 9)}", None
+    if kind == "trucks":
+        return f"split,trucks,{arc[0]},{arc[1]},0,100001,{draw.randrange(3)}", arc[:2]
+    return f"split,{kind},{shipment},{arc[0]},{arc[1]}", None
+
+
+def tree_of(draw, small, depth, runs, tables):
+    """The lines of a tree below these sides by trucks; each leaf may add a table of its own."""
+    if depth and draw.random() < 0.8:
+        line, arc = split_of(draw, small)
+        sides = [[*runs, (arc, side)] if arc else runs for side in ("most", "least")]
+        return [line] + [it for side in sides for it in tree_of(draw, small, depth - 1, side, tables)]
+    kind = draw.choice(("linear", "even", "own", "own"))
+    if kind == "own":
+        tables.append(table_of(draw, small, runs))
+        kind = len(tables)
+    return [f"leaf,{kind},0,{draw.choice(('plain', 'forced'))}"]
+
+
+def random_tree(draw, small):
+    """The lines of an answer after its plan: tables, splits and leaves."""
+    tables = []
+    tree = tree_of(draw, small, 2, [], tables)
+    return [line for number, table in enumerate(tables, 1) for line in (f"table,{number}", *table)] + tree + ["end", ""]
+
+
+@unittest.skipIf(proved() is None, "the proved program of these sources isn't here")
+class Trees(unittest.TestCase):
+    def said(self, words, text):
+        return subprocess.run([proved(), *words.split()], input=text.encode(), capture_output=True).stdout.decode()
+
+    def is_accepted(self, text, cost, claim, lines):
+        """Whether a claim is accepted; where it isn't, a leaf is worth less."""
+        first = f"answer,optimal,{cost}" if claim == cost else f"answer,unfinished,{cost},{claim},branches"
+        verdict = self.said("check", text + "\n".join([first, *lines]))
+        self.assertIn(verdict, (f"accepted,{first.split(',')[1]}\n", "rejected,7\n"), text + "\n".join([first, *lines]))
+        return verdict.startswith("accepted")
+
+    def greatest(self, text, cost, lines):
+        """The greatest claim that is accepted, beside a plan of this cost; -1 where none is."""
+        least, most = -1, cost
+        while least < most:
+            middle = (least + most + 1) // 2
+            if self.is_accepted(text, cost, middle, lines):
+                least = middle
+            else:
+                most = middle - 1
+        return least
+
+    def test_claims(self):
+        draw = random.Random(1)
+        for kind, count in KINDS:
+            for small, costs, plans in islice(self.instances(draw, kind), count):
+                dear = max(range(len(plans)), key=costs.__getitem__)
+                with self.subTest(instance=small.text()):
+                    self.claims_of_trees(draw, small, [f"scale,{SCALE}", *small.lines(plans[dear])], costs[dear], min(costs))
+                    self.claims_of_searches(small, small.lines(plans[dear]), costs[dear], min(costs))
+
+    def instances(self, draw, kind):
+        """Instances that have plans of different costs, and not too many, with these."""
+        while True:
+            small = kind(draw)
+            plans = list(islice(small.plans(), MOST_PLANS + 1))
+            costs = [small.cost(it) for it in plans[:MOST_PLANS]]
+            if len(plans) <= MOST_PLANS and len(set(costs)) > 1:
+                yield small, costs, plans
+
+    def claims_of_trees(self, draw, small, plan, dear, cheap):
+        for _ in range(3):
+            lines = plan + random_tree(draw, small)
+            self.assertLessEqual(self.greatest(small.text(), dear, lines), cheap, lines)
+
+    def claims_of_searches(self, small, plan, dear, cheap):
+        """A search's own tree, beside a dear plan."""
+        for options in SEARCHES:
+            head, *answer = self.said(f"plan {options}", small.text()).splitlines()
+            _, kind, cost, *rest = head.split(",")
+            bound = int(rest[0]) if kind == "unfinished" else int(cost)
+            heads = [it for it in answer if it.startswith(("scale,", "unit,"))]
+            tree = [it for it in answer if not it.startswith(("scale,", "unit,", "leg,", "truck,"))]
+            claim = self.greatest(small.text(), dear, [*heads, *plan, *tree, ""])
+            self.assertTrue(bound <= claim <= cheap <= int(cost), (options, head, claim, cheap))
+
+
+if __name__ == "__main__":
+    unittest.main()
