@@ -46,6 +46,8 @@ LINES = (
     (4, ("leaf,linear,0,plain,100001",), "8,28", 'field SIDES is "100001"'),
     (3, ("truck,A,B,0,1,4", "leg,S1,A,B,0,5"), "8,24", "a leg can't stand after the truck of line 7"),
     (4, ("table,2", "leaf,linear,0,forced"), "8,24", "this has to be table 1"),
+    (4, ("table,1,moment", "leaf,1,0,plain"), "8,23", 'field MOMENTS is "moment": not moments'),
+    (4, ("table,1,moments,1", "leaf,1,0,plain"), "8,22", "4 fields in place of 3: table,ID,MOMENTS"),
     (2, ("leg,S9,A,B,0,5",), "6,25", 'field SHIPMENT is "S9": no shipment'),
     (2, ("leg,S1,B,A,0,5",), "6,25", 'no arc leads from "B" to "A"'),
     (2, ("leg,S1,A,B,100001,5",), "6,28", 'field DEPART is "100001"'),

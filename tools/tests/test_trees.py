@@ -27,7 +27,11 @@ def charge_of(small, arc, money, weights):
 
 
 def table_of(draw, small, runs):
-    """The spans and the gifts of a table: on some arcs one span over all time, with a gift for each of some sides of splits by trucks."""
+    """The word of a table and its spans and gifts: on some arcs one span over all time, with a gift for each of some sides of splits by trucks.
+
+    By moments a span may have no charge: it pays at a leaf whose sides part its shipments.
+    """
+    word = draw.choice(("", ",moments"))
     spans, gifts = [], []
     for arc in small.arcs:
         given = [(side, draw.randrange(SCALE * arc[4] + 1)) for run, side in runs if run == arc[:2]]
@@ -36,10 +40,11 @@ def table_of(draw, small, runs):
             continue
         money = SCALE * arc[4] - off + draw.randrange(more + 1)
         weights = {it[0]: draw.randrange(1, money + 2) for it in small.shipments if draw.random() < 0.8}
-        spans.append(f"span,{arc[0]},{arc[1]},0,100001,{money},{charge_of(small, arc, money, weights)}")
+        charge = 0 if word and draw.random() < 0.7 else charge_of(small, arc, money, weights)
+        spans.append(f"span,{arc[0]},{arc[1]},0,100001,{money},{charge}")
         spans += [f"weight,{name},{weight}" for name, weight in weights.items()]
         gifts += [f"gift,{arc[0]},{arc[1]},0,100001,{side},{amount}" for side, amount in given]
-    return spans + gifts
+    return word, spans + gifts
 
 
 def split_of(draw, small):
@@ -70,7 +75,7 @@ def random_tree(draw, small):
     """The lines of an answer after its plan: tables, splits and leaves."""
     tables = []
     tree = tree_of(draw, small, 2, [], tables)
-    return [line for number, table in enumerate(tables, 1) for line in (f"table,{number}", *table)] + tree + ["end", ""]
+    return [line for number, (word, table) in enumerate(tables, 1) for line in (f"table,{number}{word}", *table)] + tree + ["end", ""]
 
 
 @unittest.skipIf(proved() is None, "the proved program of these sources isn't here")
@@ -120,7 +125,7 @@ class Trees(unittest.TestCase):
             self.assertLessEqual(self.greatest(small.text(), dear, lines), cheap, lines)
 
     def claims_of_searches(self, small, plan, dear, cheap):
-        """A search's own tree, beside a dear plan."""
+        """A search's own tree, beside a dear plan; and the same with all its tables by moments."""
         for options in SEARCHES:
             head, *answer = self.said(f"plan {options}", small.text()).splitlines()
             _, kind, cost, *rest = head.split(",")
@@ -129,6 +134,8 @@ class Trees(unittest.TestCase):
             tree = [it for it in answer if not it.startswith(("scale,", "unit,", "leg,", "truck,"))]
             claim = self.greatest(small.text(), dear, [*heads, *plan, *tree, ""])
             self.assertTrue(bound <= claim <= cheap <= int(cost), (options, head, claim, cheap))
+            timed = [f"{it},moments" if it.startswith("table,") else it for it in tree]
+            self.assertLessEqual(self.greatest(small.text(), dear, [*heads, *plan, *timed, ""]), cheap, (options, head))
 
 
 if __name__ == "__main__":

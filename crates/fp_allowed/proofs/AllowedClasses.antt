@@ -2,7 +2,6 @@
 -- sides.
 use Rattle.std.proofs.Common.{◌≡◌, ℕ, ◌+◌, ◌*◌, ◌/◌, ◌<◌, ◌≤◌, Bool, true, ◌&&◌, List, length, refl, arith}
 use Rattle.std.specs.Prelude.{nat_eq, nat_lt, nat_le, Option, Some, None, IsSomeAnd}
-use Rattle.std.proofs.Math.Nat.{le-div_iff_mul-le, div-lt_iff_lt-mul}
 use Rattle.std.proofs.lemmas.Bool.{and_parts, and_from, le-leb, lt-ltb, leb-true, ltb-true, eq-eqb, eqb-true, false≢true}
 use Rattle.fp_base_lists.proofs.CountsBelow.{some_below-true, some_below-witness}
 use Rattle.fp_model.specs.declared.parts.Leg.{Leg}
@@ -67,19 +66,20 @@ is_allowed_parts p windows points sides k c h =
     let parts = and_parts (nat_lt c.arc (length p.arcs)) (has_moment p points sides k c (windows k c.arc)) h in
     (ltb-true c.arc (length p.arcs) parts.0, has_moment_parts p points sides k c (windows k c.arc) parts.1)
 
--- the class of a leg within its window that meets the sides is allowed
+-- the class of a leg whose whole moment lies in its window, and that meets the sides, is allowed
 pub class_allowed : (p : Problem) (windows : ℕ → ℕ → Option Window) (points : ℕ → List ℕ) (sides : List Side) (d k : ℕ) (l : Leg) → 0 < d → l.arc < length p.arcs →
-    IsSomeAnd (windows k l.arc) (IsInside d l.depart) → MeetsAll d k sides (exit_of p l) → is_allowed p windows points sides k (class_of p points d l) ≡ true
+    IsSomeAnd (windows k l.arc) (IsInside 1 (l.depart / d)) → MeetsAll d k sides (exit_of p l) → is_allowed p windows points sides k (class_of p points d l) ≡ true
 class_allowed p windows points sides d k l h exists inside meets = is_allowed_from p windows points sides k (class_of p points d l) exists (has (windows k l.arc) inside)
   where
-    has : (o : Option Window) → IsSomeAnd o (IsInside d l.depart) → IsSomeAnd o (HasMoment p points sides k (class_of p points d l))
+    has : (o : Option Window) → IsSomeAnd o (IsInside 1 (l.depart / d)) → IsSomeAnd o (HasMoment p points sides k (class_of p points d l))
     has None within = absurd within
     has (Some w) within =
-        let until : l.depart / d < w.hi + 1 = (div-lt_iff_lt-mul h).1 (let e : l.depart < (w.hi + 1) * d = omega (arith, within.1, h) in e) in
+        let since : 1 * w.lo ≤ l.depart / d = within.0 in
+        let until : l.depart / d ≤ 1 * w.hi = within.1 in
         record {
           moment = l.depart / d;
           falls = floor_whole (points (tails_of p l.arc)) d l.depart h;
-          after = (le-div_iff_mul-le h).1 (let e : w.lo * d ≤ l.depart = omega (arith, within.0) in e);
+          after = omega (arith, since);
           before = omega (arith, until);
           met = meets_all_true d k (exit_of p l) sides h meets;
         }

@@ -5,10 +5,9 @@ use Rattle.std.proofs.lemmas.Bool.{and_right, eq-eqb, ne_eqb}
 use Rattle.fp_model.specs.declared.parts.Shipment.{Shipment}
 use Rattle.fp_model.specs.Numbered.{no_shipment, shipment_at}
 use Rattle.fp_model.specs.Problem.{Problem}
-use Rattle.fp_timenodes.specs.declared.places.Place.{Place}
 use Rattle.fp_timenodes.specs.declared.places.TheConstants.{LATEST}
 use Rattle.fp_flatnet.specs.declared.window_tables.Window.{Window}
-use Rattle.fp_flatnet.specs.Belonging.{BelongsTo, IsNarrowed}
+use Rattle.fp_flatnet.specs.Belonging.{FitsInstance, IsInsideWindow}
 use Rattle.fp_flatnet.specs.Tables.{WindowTable, windows_in}
 use Rattle.fp_tree.specs.declared.sides.Side.{Side}
 use Rattle.fp_allowed.specs.Allowed.{exit_of, meets_all, tails_of}
@@ -22,14 +21,14 @@ use Rattle.fp_allowed.proofs.OpenMoments.{meets_all-barred, meets_all-concerned}
 abbrev pub IsInTime : Window → Type 0
 IsInTime w = (w.lo ≤ w.hi) × (w.hi ≤ LATEST)
 
-narrowed-in_time : (p : Problem) (s : Shipment) (a : ℕ) (anchors : List Place) (o : Option Window) → s.due ≤ LATEST → IfSome o (IsNarrowed p s a anchors) → IfSome o IsInTime
-narrowed-in_time p s a anchors None due is = tt
-narrowed-in_time p s a anchors (Some w) due is = (is.some, omega (arith, is.hi, is.is_window.hi, due))
+inside-in_time : (p : Problem) (s : Shipment) (a : ℕ) (o : Option Window) → s.due ≤ LATEST → IfSome o (IsInsideWindow p s a) → IfSome o IsInTime
+inside-in_time p s a None due is = tt
+inside-in_time p s a (Some w) due is = (is.some, omega (arith, is.hi, is.is_window.hi, due))
 
--- windows that belong to an instance are in time
-pub windows_in_time : (p : Problem) (table : WindowTable) (k a : ℕ) → BelongsTo p table → k < length p.shipments → a < length p.arcs → IfSome (windows_in table k a) IsInTime
-windows_in_time p table k a belongs shipment arc =
-    narrowed-in_time p (shipment_at p k) a table.anchors (windows_in table k a) (belongs.valid.parts.shipments k no_shipment shipment).within.due (belongs.narrowed k a shipment arc)
+-- windows that fit an instance are in time
+pub windows_in_time : (p : Problem) (table : WindowTable) (k a : ℕ) → FitsInstance p table → k < length p.shipments → a < length p.arcs → IfSome (windows_in table k a) IsInTime
+windows_in_time p table k a fits shipment arc =
+    inside-in_time p (shipment_at p k) a (windows_in table k a) (fits.valid.parts.shipments k no_shipment shipment).within.due (fits.inside k a shipment arc)
 
 -- what the concerned sides let leave in a window are the departures in it
 departures-let : (p : Problem) (k arc : ℕ) (sides own : List Side) (w : Window) → own ≡ concerned p k (tails_of p arc) sides → is_barred p k arc sides ≡ false →
@@ -75,12 +74,12 @@ pub departures_at : (p : Problem) (windows : ℕ → ℕ → Option Window) (sid
 departures_at p windows sides k terminal a n total so_far here is = omega (arith, so_far, departures_here p windows sides k terminal a n here is)
 
 -- so there are few in all
-pub departures_below_le : (p : Problem) (table : WindowTable) (sides : List Side) (k terminal a : ℕ) → BelongsTo p table → k < length p.shipments → a ≤ length p.arcs →
+pub departures_below_le : (p : Problem) (table : WindowTable) (sides : List Side) (k terminal a : ℕ) → FitsInstance p table → k < length p.shipments → a ≤ length p.arcs →
     departures_below p (windows_in table) sides k terminal a ≤ a * 100001
-departures_below_le p table sides k terminal zero belongs shipment within = omega arith
-departures_below_le p table sides k terminal (suc a) belongs shipment within =
-    let rest : departures_below p (windows_in table) sides k terminal a ≤ a * 100001 = departures_below_le p table sides k terminal a belongs shipment (omega arith) in
-    let here : departures_in p sides k a (windows_in table k a) ≤ 100001 = departures_in_le p k a sides (windows_in table k a) (windows_in_time p table k a belongs shipment (omega arith)) in
+departures_below_le p table sides k terminal zero fits shipment within = omega arith
+departures_below_le p table sides k terminal (suc a) fits shipment within =
+    let rest : departures_below p (windows_in table) sides k terminal a ≤ a * 100001 = departures_below_le p table sides k terminal a fits shipment (omega arith) in
+    let here : departures_in p sides k a (windows_in table k a) ≤ 100001 = departures_in_le p k a sides (windows_in table k a) (windows_in_time p table k a fits shipment (omega arith)) in
     omega (arith, rest, here, at-most (nat_eq (tails_of p a) terminal) (departures_in p sides k a (windows_in table k a)))
   where
     at-most : (b : Bool) (n : ℕ) → cond b n 0 ≤ n

@@ -1,7 +1,7 @@
 -- What the end of a forced chain says of the walks over allowed classes: each begins with the
 -- chain.
 use Rattle.std.proofs.Common.{◌≡◌, ◌≢◌, ℕ, ◌<◌, Bool, true, ◌⊎◌, List, [], ◌∷◌, ◌++◌, length, ⊎_elim, inl, inr, refl, sym, ap, ◌∙◌, subst}
-use Rattle.std.specs.Prelude.{Contains, IfSome, Option}
+use Rattle.std.specs.Prelude.{Contains}
 use Rattle.std.specs.List.{AllByRecursion}
 use Rattle.std.proofs.lemmas.List.{append-nil}
 use Rattle.fp_base_lists.proofs.Distinct.{AreDistinct-cons, AreDistinct-nil}
@@ -14,8 +14,7 @@ use Rattle.fp_base_lists.specs.Distinct.{AreDistinct}
 use Rattle.fp_base_lists.proofs.Elements.{AllByRecursion-weaker}
 use Rattle.fp_base_lists.specs.Membership.{list_has}
 use Rattle.fp_base_lists.proofs.Membership.{list_has-rest, list_has-first, list_has-cons_cases, list_has-get_or}
-use Rattle.fp_flatnet.specs.declared.window_tables.Window.{Window}
-use Rattle.fp_flatnet.specs.Belonging.{BelongsTo, IsNarrowed}
+use Rattle.fp_flatnet.specs.Belonging.{FitsInstance}
 use Rattle.fp_flatnet.specs.Tables.{WindowTable, windows_in}
 use Rattle.fp_longestarcs.specs.Networks.{points_in}
 use Rattle.fp_tree.specs.declared.sides.Side.{Side}
@@ -28,16 +27,15 @@ use Rattle.fp_allowed.specs.ForcedChains.{ForcedChain}
 use Rattle.fp_allowed.specs.Listing.{classes_at}
 use Rattle.fp_allowed.specs.Settings.{IsSetting, Setting}
 use Rattle.fp_allowed.specs.Walks.{IsTimedWalk}
+use Rattle.fp_flatnet.proofs.WindowTimes.{FitsInstance_leaves}
 use Rattle.fp_allowed.proofs.ClassTimes.{HasWindow, allowed_exists, allowed_window}
 
 -- no allowed class leaves a shipment's destination
-pub NoneLeaves-destination : (p : Problem) (table : WindowTable) (points : ℕ → List ℕ) (sides : List Side) (k : ℕ) → BelongsTo p table → k < length p.shipments →
+pub NoneLeaves-destination : (p : Problem) (table : WindowTable) (points : ℕ → List ℕ) (sides : List Side) (k : ℕ) → FitsInstance p table → k < length p.shipments →
     NoneLeaves p (is_allowed p (windows_in table) points sides k) (shipment_at p k).to
-NoneLeaves-destination p table points sides k belongs shipment = λ c allowed leaves.
+NoneLeaves-destination p table points sides k fits shipment = λ c allowed leaves.
     let has : HasWindow (windows_in table) k c = allowed_window p (windows_in table) points sides k c allowed in
-    let exists : c.arc < length p.arcs = allowed_exists p (windows_in table) points sides k c allowed in
-    let narrowed : IsNarrowed p (shipment_at p k) c.arc table.anchors has.window = subst (λ (o : Option Window). IfSome o (IsNarrowed p (shipment_at p k) c.arc table.anchors)) has.is (belongs.narrowed k c.arc shipment exists) in
-    narrowed.is_window.leaves leaves
+    FitsInstance_leaves p table k c.arc has.window fits has.is leaves
 
 module _ (p : Problem) (allowed : Leg → Bool) where
   -- a walk is the chain and goes on from its end over allowed classes

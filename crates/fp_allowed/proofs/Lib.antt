@@ -30,4 +30,11 @@ pub mod ArcPicks
 pub mod MiddleClasses
 pub mod SplitDepartures
 pub mod RowsUnderSides
+pub mod FreeMoments
+pub mod Sweeps
+pub mod Passages
+pub mod WholeLegs
+pub mod WindowsUnder
+pub mod LeafWindows
+pub mod OneWindowRows
 mod Examples

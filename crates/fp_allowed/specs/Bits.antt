@@ -5,7 +5,7 @@ use Rattle.fp_model.specs.Numbered.{route_at, shipment_at}
 use Rattle.fp_model.specs.Plans.{IsPlan}
 use Rattle.fp_base_lists.specs.Membership.{list_has}
 use Rattle.fp_flatnet.specs.Tables.{windows_in}
-use Rattle.fp_flatnet.specs.Windows.{PlanLiesWithin}
+use Rattle.fp_flatnet.specs.Windows.{PlanLiesWithinWhole}
 use Rattle.fp_longestarcs.specs.Classes.{class_of}
 use Rattle.fp_longestarcs.specs.Networks.{TimedNetwork, points_in, tail_in, IsClass, class_count, class_number}
 use Rattle.fp_tree.specs.declared.sides.Side.{Side}
@@ -37,9 +37,9 @@ pub record IsRowUnder (s : Setting) (sides : List Side) (k : ℕ) (row : List Bo
   pub long : length row ≡ class_count s.network
   pub exact : (c : Leg) → IsClass s.network c → bit_of row (class_number s.network c) ≡ allowed_in s sides k c
 
--- for every plan over any denominator that lies within the windows and obeys the sides, the classes
--- of the shipment's legs are a timed walk over classes whose bits are set
+-- for every plan over any denominator that lies within the windows by its whole moments and obeys the
+-- sides, the classes of the shipment's legs are a timed walk over classes whose bits are set
 abbrev pub AllowsPlans : Setting → List Side → ℕ → List Bool → Type 0
 AllowsPlans s sides k row =
-    (d : ℕ) (routes : List (List Leg)) → 1 ≤ d → IsPlan s.problem d routes → PlanLiesWithin (windows_in s.windows) d routes → PlanObeys s.problem d sides routes →
+    (d : ℕ) (routes : List (List Leg)) → 1 ≤ d → IsPlan s.problem d routes → PlanLiesWithinWhole (windows_in s.windows) d routes → PlanObeys s.problem d sides routes →
     IsTimedWalk s.problem (points_in s.network) (row_allows s.network row) (shipment_at s.problem k) (map (class_of s.problem (points_in s.network) d) (route_at routes k))

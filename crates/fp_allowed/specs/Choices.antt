@@ -2,7 +2,7 @@
 use Rattle.std.specs.Prelude.{ℕ, ◌+◌, ◌/◌, ◌≡◌, ◌≢◌, ◌<◌, ◌≤◌, ◌⊎◌, Bool, true, false, length, Option, Some, None, MatchBool, MatchOption}
 use Rattle.fp_model.specs.declared.parts.Leg.{Leg}
 use Rattle.fp_model.specs.Problem.{Problem}
-use Rattle.fp_flatnet.specs.Belonging.{BelongsTo}
+use Rattle.fp_flatnet.specs.Belonging.{FitsInstance}
 use Rattle.fp_flatnet.specs.declared.window_tables.Window.{Window}
 use Rattle.fp_longestarcs.specs.Networks.{TimedNetwork, class_count, class_number}
 use Rattle.fp_longestarcs.specs.Whole.{IsWholeNetwork}
@@ -13,10 +13,10 @@ use Rattle.fp_allowed.specs.declared.choices.Pick.{Pick}
 use Rattle.fp_allowed.specs.Allowed.{tails_of}
 use Rattle.fp_allowed.specs.Leaving.{OneLeaves}
 
--- the shipment exists, the windows belong to the instance, the network is whole for it, and the row has one bit per class
+-- the shipment exists, the windows fit the instance, the network is whole for it, and the row has one bit per class
 pub record IsLeaving (l : Leaving) : Type 0 where
   pub shipment : l.shipment < length l.instance.now.shipments
-  pub belongs : BelongsTo l.instance.now l.windows.now
+  pub fits : FitsInstance l.instance.now l.windows.now
   pub whole : IsWholeNetwork l.instance.now l.network.now
   pub long : length l.row.now ≡ class_count l.network.now
 

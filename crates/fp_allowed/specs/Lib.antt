@@ -12,4 +12,7 @@ pub mod Departures
 pub mod Slack
 pub mod Moments
 pub mod Leaving
+pub mod WindowsUnder
+pub mod FreeMoments
+pub mod Sweeps
 pub mod Choices

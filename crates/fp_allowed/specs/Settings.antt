@@ -1,6 +1,6 @@
 -- What decides which classes are allowed.
 use Rattle.fp_model.specs.Problem.{Problem}
-use Rattle.fp_flatnet.specs.Belonging.{BelongsTo}
+use Rattle.fp_flatnet.specs.Belonging.{FitsInstance}
 use Rattle.fp_flatnet.specs.Tables.{WindowTable}
 use Rattle.fp_longestarcs.specs.Networks.{TimedNetwork}
 use Rattle.fp_longestarcs.specs.Whole.{IsWholeNetwork}
@@ -11,7 +11,7 @@ pub record Setting : Type 0 where
   pub windows : WindowTable
   pub network : TimedNetwork
 
--- the windows belong to the instance, and the network is whole for it
+-- the windows fit the instance, and the network is whole for it
 pub record IsSetting (s : Setting) : Type 0 where
-  pub belongs : BelongsTo s.problem s.windows
+  pub belongs : FitsInstance s.problem s.windows
   pub whole : IsWholeNetwork s.problem s.network

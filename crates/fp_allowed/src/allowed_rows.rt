@@ -5,7 +5,7 @@ ghost use Rattle.std.specs.declared.alloc.Global.{Global};
 ghost use Rattle.std.specs.declared.vec.Vec.{Vec};
 ghost use Rattle.fp_model.specs.declared.parts.Leg.{Leg};
 ghost use Rattle.fp_timenodes.specs.Floor.{floor_point};
-ghost use Rattle.fp_flatnet.specs.Belonging.{BelongsTo};
+ghost use Rattle.fp_flatnet.specs.Belonging.{FitsInstance};
 ghost use Rattle.fp_flatnet.specs.Tables.{windows_in};
 ghost use Rattle.fp_longestarcs.specs.Networks.{IsNetwork, class_count, class_number, points_in, tail_in};
 ghost use Rattle.fp_longestarcs.specs.Whole.{IsWholeNetwork};
@@ -25,7 +25,7 @@ use fp_tree::Side;
 use std::alloc::Global;
 
 // For each terminal the sides that restrict the departures of a shipment from it.
-fn sides_by_terminal(
+pub(crate) fn sides_by_terminal(
     alloc: Global,
     instance: &Instance,
     shipment: u32,
@@ -128,7 +128,7 @@ fn fill_arc(
 )
     requires shipment { shipment < length instance.now.shipments }
     requires arc { arc < length instance.now.arcs }
-    requires belongs { BelongsTo instance.now windows.now }
+    requires fits { FitsInstance instance.now windows.now }
     requires whole { IsWholeNetwork instance.now network.now }
     requires long { length row.old ≡ class_count network.now }
     ensures { (others : List Side) → sides.now ≡ concerned instance.now shipment (tails_of instance.now arc) others → is_barred_of instance.now shipment arc others ≡ false →
@@ -150,7 +150,7 @@ pub(crate) fn allowed_row(
     sides: &[Side],
 ) -> Result<Row, NoMemory>
     requires shipment { shipment < length instance.now.shipments }
-    requires belongs { BelongsTo instance.now windows.now }
+    requires fits { FitsInstance instance.now windows.now }
     requires whole { IsWholeNetwork instance.now network.now }
     ensures { IfOk result (λ row. IsRowUnder (record { problem = instance.now; windows = windows.now; network = network.now }) sides.now shipment row) }
 {

@@ -1,7 +1,7 @@
 //! The head of a class for a shipment.
 
 ghost use Rattle.std.specs.Prelude.{◌≡◌, ◌<◌, length};
-ghost use Rattle.fp_flatnet.specs.Belonging.{BelongsTo};
+ghost use Rattle.fp_flatnet.specs.Belonging.{FitsInstance};
 ghost use Rattle.fp_flatnet.specs.Tables.{windows_in};
 ghost use Rattle.fp_longestarcs.specs.Networks.{IsClass, points_in};
 ghost use Rattle.fp_longestarcs.specs.Whole.{IsWholeNetwork};
@@ -23,7 +23,7 @@ pub(crate) fn head_for(
 ) -> u32
     requires shipment { shipment < length instance.now.shipments }
     requires class { IsClass network.now (record { arc = arc; depart = point }) }
-    requires belongs { BelongsTo instance.now windows.now }
+    requires fits { FitsInstance instance.now windows.now }
     requires whole { IsWholeNetwork instance.now network.now }
     ensures { result ≡ heads_within instance.now (windows_in windows.now) (points_in network.now) shipment (record { arc = arc; depart = point }) }
 {

@@ -1,8 +1,8 @@
 //! What may be asked of an instance, its windows and a network: rows, forced chains and splits.
 
-ghost use Rattle.std.specs.Prelude.{◌≡◌, ◌<◌, List, IfOk, IfSome, IsNone, IsSome, length};
+ghost use Rattle.std.specs.Prelude.{◌≡◌, ◌<◌, List, [], IfOk, IfSome, IsNone, IsSome, length};
 ghost use Rattle.fp_model.specs.Numbered.{shipment_at};
-ghost use Rattle.fp_flatnet.specs.Belonging.{BelongsTo};
+ghost use Rattle.fp_flatnet.specs.Belonging.{BelongsTo, FitsInstance};
 ghost use Rattle.fp_flatnet.specs.Tables.{windows_in};
 ghost use Rattle.fp_longestarcs.specs.Networks.{IsClass, class_count, points_in};
 ghost use Rattle.fp_longestarcs.specs.Whole.{IsWholeNetwork};
@@ -15,6 +15,7 @@ ghost use Rattle.fp_allowed.specs.Choices.{IsTaken, OneAtMost};
 ghost use Rattle.fp_allowed.specs.Departures.{DividesDepartures, IsSplitAt};
 ghost use Rattle.fp_allowed.specs.Heads.{heads_within};
 ghost use Rattle.fp_allowed.specs.Settings.{IsSetting};
+ghost use Rattle.fp_allowed.specs.WindowsUnder.{AreWindowRowsUnder, IsWindowRowUnder, KeepsPlansWhole};
 
 use crate::NoMemory;
 use crate::allowed_rows::allowed_row;
@@ -22,7 +23,8 @@ use crate::chain_ends::Chain;
 use crate::choices::{Leaving, parting_split, way_split};
 use crate::class_heads::head_for;
 use crate::forced_chains::forced_chain;
-use fp_flatnet::Windows;
+use crate::windows_under::{all_windows, window_row};
+use fp_flatnet::{Window, Windows};
 use fp_longestarcs::Network;
 use fp_model::Instance;
 use fp_rows::Row;
@@ -30,7 +32,7 @@ use fp_tree::{Side, Split};
 use std::alloc::Global;
 use std::marker::Model;
 
-/// An instance, windows that belong to it, and a network that is whole for it: they decide which
+/// An instance, windows that fit it, and a network that is whole for it: they decide which
 /// classes a shipment may use under sides.
 ///
 /// Contracts see the three as one record. A row has one bit per class of the network, at the
@@ -53,9 +55,20 @@ impl<'a> Model for Allowed<'a> {
 }
 
 impl<'a> Allowed<'a> {
-    /// The three together. Takes no memory.
+    /// An instance, windows that belong to it, and a network together. Takes no memory.
+    #[tactic(auto, using(fp_flatnet::proofs::WindowTimes::BelongsTo_fits))]
     pub fn new(instance: &'a Instance, windows: &'a Windows, network: &'a Network) -> Allowed<'a>
         requires belongs { BelongsTo instance.now windows.now }
+        requires whole { IsWholeNetwork instance.now network.now }
+        ensures { result ≡ record { problem = instance.now; windows = windows.now; network = network.now } }
+    {
+        Allowed::within(instance, windows, network)
+    }
+
+    /// An instance, windows that fit it, and a network together: the windows need have no anchors.
+    /// Takes no memory.
+    pub fn within(instance: &'a Instance, windows: &'a Windows, network: &'a Network) -> Allowed<'a>
+        requires fits { FitsInstance instance.now windows.now }
         requires whole { IsWholeNetwork instance.now network.now }
         ensures { result ≡ record { problem = instance.now; windows = windows.now; network = network.now } }
     {
@@ -70,9 +83,9 @@ impl<'a> Allowed<'a> {
     /// whole moment inside the shipment's window for the arc that no side forbids. The sides of
     /// other shipments ask nothing of it, nor do those by trucks but where at most 0 are to leave.
     ///
-    /// So for every plan over any denominator that lies within the windows and obeys the sides, the
-    /// classes of the shipment's legs are set, and each stands at or after the head of the one
-    /// before. `NoMemory` only where no memory is found.
+    /// So for every plan over any denominator that lies within the windows by its whole moments and
+    /// obeys the sides, the classes of the shipment's legs are set, and each stands at or after the
+    /// head of the one before. `NoMemory` only where no memory is found.
     pub fn row(&self, alloc: Global, shipment: u32, sides: &[Side]) -> Result<Row, NoMemory>
         requires { shipment < length self.now.problem.shipments }
         ensures exact { IfOk result (IsRowUnder self.now sides.now shipment) }
@@ -86,6 +99,39 @@ impl<'a> Allowed<'a> {
             shipment,
             sides,
         )
+    }
+
+    /// For each arc the window of a shipment under sides: the first and the last whole moment at which it
+    /// can leave by the arc on some way from its origin to its destination on which each leg leaves at a
+    /// whole moment, once the shipment is ready for it, in the shipment's window for its arc, and as no
+    /// side forbids; or none where there is no such way. A way may enter a terminal twice. The sides of
+    /// other shipments ask nothing of it, nor do those by trucks but where at most 0 are to leave.
+    ///
+    /// So for every plan over any denominator that lies within the windows by its whole moments and
+    /// obeys the sides, each leg of the shipment, put at the whole moment at its own or before it, lies
+    /// in the window of its arc. `NoMemory` only where no memory is found.
+    pub fn windows_under(
+        &self,
+        alloc: Global,
+        shipment: u32,
+        sides: &[Side],
+    ) -> Result<Vec<Option<Window>>, NoMemory>
+        requires { shipment < length self.now.problem.shipments }
+        ensures exact { IfOk result (λ row. IsWindowRowUnder self.now.problem (windows_in self.now.windows) sides.now shipment row.items) }
+        ensures plans { IfOk result (λ row. KeepsPlansWhole self.now.problem (windows_in self.now.windows) sides.now shipment row.items) }
+    {
+        window_row(alloc, self.instance, self.windows, shipment, sides)
+    }
+
+    /// The windows of all shipments under sides, as [`Allowed::windows_under`] finds them, as windows
+    /// of the instance. They fit the instance, and have no anchors. `NoMemory` only where no memory is
+    /// found.
+    pub fn leaf_windows(&self, alloc: Global, sides: &[Side]) -> Result<Windows, NoMemory>
+        ensures rows { IfOk result (λ w. AreWindowRowsUnder self.now.problem (windows_in self.now.windows) sides.now w.rows) }
+        ensures anchors { IfOk result (λ w. w.anchors ≡ []) }
+        ensures fits { IfOk result (FitsInstance self.now.problem) }
+    {
+        all_windows(alloc, self.instance, self.windows, sides)
     }
 
     /// The head of a class for a shipment: the greatest point of the arc's head that isn't after the

@@ -17,7 +17,9 @@ mod classes;
 mod departures_left;
 mod exits;
 mod forced_chains;
+mod free_moments;
 mod moments;
+mod windows_under;
 
 pub use chain_ends::{Chain, ChainEnd};
 pub use classes::Allowed;

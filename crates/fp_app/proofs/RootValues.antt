@@ -25,6 +25,7 @@ use Rattle.fp_prices.specs.declared.leaf_prices.LeafPrice.{LeafPrice}
 use Rattle.fp_prices.specs.Leaves.{IsPlanOfLeaf}
 use Rattle.fp_prices.specs.Shares.{ClassShare}
 use Rattle.fp_prices.specs.Tables.{AreTables}
+use Rattle.fp_prices.proofs.LeafPlans.{IsPlanOfLeaf-within}
 use Rattle.fp_prices.proofs.SamePoints.{bound-same}
 use Rattle.fp_prices_gifts.specs.declared.gifts.Gift.{Gift}
 use Rattle.fp_prices_gifts.specs.GiftKinds.{gifts_beside}
@@ -47,7 +48,7 @@ use Rattle.fp_app.proofs.PlainValues.{flat-le_leaf}
 
 -- every plan is one of the leaf without sides
 IsPlanOfLeaf-root : (p : Problem) (windows : ℕ → ℕ → Option Window) → CoverPlans p windows → (d : ℕ) (routes : List (List Leg)) → 1 ≤ d → IsPlan p d routes → IsPlanOfLeaf p windows [] d routes
-IsPlanOfLeaf-root p windows covers d routes some plan = record { denominator = some; plan = plan; within = covers d routes some plan; obeys = PlanObeys-none p d routes }
+IsPlanOfLeaf-root p windows covers d routes some plan = IsPlanOfLeaf-within p windows [] d routes some plan (covers d routes some plan) (PlanObeys-none p d routes)
 
 -- where a plan exists, the root isn't empty
 pub root-not_empty : (p : Problem) (windows : ℕ → ℕ → Option Window) (points : ℕ → List ℕ) (spans : List ClassSpan) → CoverPlans p windows → PlanExists p → IsSpanLeafEmpty p windows points [] spans → ⊥

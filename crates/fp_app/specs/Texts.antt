@@ -25,7 +25,7 @@ use Rattle.fp_app.specs.declared.shown.Shown.TheVariants as shown
 
 -- an answer with a timetable and no more
 abbrev pub timetable_of : Answer → List LegLine → List TruckLine → Statement
-timetable_of a legs trucks = record { answer = a; scale = None; unit = None; legs = legs; trucks = trucks; points = []; tables = []; spans = []; gifts = []; tree = [] }
+timetable_of a legs trucks = record { answer = a; scale = None; unit = None; legs = legs; trucks = trucks; points = []; tables = []; spans = []; gifts = []; moments = []; tree = [] }
 
 -- the certificate of a direct plan: its cost, its legs and its departures
 pub record IsDirectCertificate (p : Problem) (routes : List (List Leg)) (c : Statement) : Type 0 where

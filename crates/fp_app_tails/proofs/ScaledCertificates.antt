@@ -93,6 +93,7 @@ module _ (p : Problem) (scale : ℕ) where
     gifts = All-weaker (λ (t : List Gift). All (IsGiftInRange p) t) (λ (t : List Gift). All (IsGiftInRange rescaled) t)
         (λ t are. All-weaker (IsGiftInRange p) (IsGiftInRange rescaled) gift-in_range t are) c.gifts is.gifts;
     given = is.given;
+    timed = is.timed;
     tree = All-weaker (IsNodeInRange p c.tables) (IsNodeInRange rescaled c.tables) (node-in_range c.tables) c.tree is.tree;
   }
 

@@ -95,6 +95,26 @@ after-direct = refl
 table-next : read (answer ∷ (codes "table" ∷ codes "001" ∷ []) ∷ (codes "table" ∷ codes "3" ∷ []) ∷ []) ≡ bad 7 24
 table-next = refl
 
+-- a table by moments has the word as a third field, which is another table than without it
+reads-moments : read (answer ∷ (codes "table" ∷ codes "1" ∷ codes "moments" ∷ []) ∷ (codes "table" ∷ codes "2" ∷ []) ∷ last ∷ [])
+    ≡ Ok (record best {
+      legs = [];
+      trucks = [];
+      tables = [] ∷ ([] ∷ []);
+      spans = [] ∷ ([] ∷ []);
+      gifts = [] ∷ ([] ∷ []);
+      moments = true ∷ (false ∷ []);
+      tree = [];
+    })
+reads-moments = refl
+
+-- no other word stands there, and nothing after it
+other-word : read (answer ∷ (codes "table" ∷ codes "1" ∷ codes "moment" ∷ []) ∷ []) ≡ bad 6 23
+other-word = refl
+
+after-word : read (answer ∷ (codes "table" ∷ codes "1" ∷ codes "moments" ∷ codes "1" ∷ []) ∷ []) ≡ bad 6 22
+after-word = refl
+
 -- a weight without a share in its table
 no-share : read (answer ∷ (codes "table" ∷ codes "1" ∷ []) ∷ (codes "share" ∷ codes "A" ∷ codes "B" ∷ codes "0" ∷ codes "0" ∷ [])
     ∷ (codes "table" ∷ codes "2" ∷ []) ∷ (codes "weight" ∷ codes "S1" ∷ codes "1" ∷ []) ∷ []) ≡ bad 9 24
@@ -150,6 +170,7 @@ reads-span : read (answer ∷ table ∷ share ∷ weight (codes "3") ∷ span (c
       tables = ((record { arc = 0; point = 7; v = 20; weights = (record { shipment = 0; w = 3 }) ∷ [] }) ∷ []) ∷ [];
       spans = ((record { arc = 0; point = 7; until = 9; money = 100; charge = 5; weights = (record { shipment = 0; w = 4 }) ∷ []; groups = [] }) ∷ []) ∷ [];
       gifts = [] ∷ [];
+      moments = false ∷ [];
       tree = [];
     })
 reads-span = refl
@@ -188,6 +209,7 @@ reads-groups : read (answer ∷ table ∷ span (codes "9") (codes "5") ∷ group
       spans = ((record { arc = 0; point = 7; until = 9; money = 100; charge = 5; weights = []; groups = 8 ∷ [] })
           ∷ (record { arc = 0; point = 7; until = 11; money = 100; charge = 5; weights = (record { shipment = 0; w = 4 }) ∷ []; groups = 8 ∷ 10 ∷ [] }) ∷ []) ∷ [];
       gifts = [] ∷ [];
+      moments = false ∷ [];
       tree = [];
     })
 reads-groups = refl
@@ -223,6 +245,7 @@ reads-gifts : read (answer ∷ table ∷ span (codes "9") (codes "5") ∷ weight
       spans = ((record { arc = 0; point = 7; until = 9; money = 100; charge = 5; weights = (record { shipment = 0; w = 4 }) ∷ []; groups = 8 ∷ [] }) ∷ []) ∷ ([] ∷ []);
       gifts = ((record { arc = 0; point = 0; until = 11; least = true; amount = 60 }) ∷ (record { arc = 0; point = 0; until = 8; least = false; amount = 7 }) ∷ [])
           ∷ (((record { arc = 0; point = 0; until = 100001; least = false; amount = 170141183460469231731687303715884105727 }) ∷ []) ∷ []);
+      moments = false ∷ (false ∷ []);
       tree = [];
     })
 reads-gifts = refl

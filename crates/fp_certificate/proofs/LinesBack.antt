@@ -119,10 +119,16 @@ unit-step p before n r open_still placed none =
       gives = rw back.value refl;
     }
 
--- a table with the next number
-pub table-step : (p : Problem) (before : Draft) (id : ℕ) → id ≡ length before.certificate.tables + 1 → id < 10 ^ 64 → has_ended before ≡ false
-    → is_misplaced before section.Tables ≡ false → IsStep p before (table_fields id) (with_table before)
-table-step p before id next small open_still placed =
+-- a table with the next number, by moments or not
+pub table-step : (p : Problem) (before : Draft) (id : ℕ) (by_moments : Bool) → id ≡ length before.certificate.tables + 1 → id < 10 ^ 64 → has_ended before ≡ false
+    → is_misplaced before section.Tables ≡ false → IsStep p before (table_fields id by_moments) (with_table before by_moments)
+table-step p before id true next small open_still placed =
+    let back = number-back id small in
+    record {
+      clean = rw (open_still, placed, back.is, back.value, eq-eqb id (length before.certificate.tables + 1) next) refl;
+      gives = refl;
+    }
+table-step p before id false next small open_still placed =
     let back = number-back id small in
     record {
       clean = rw (open_still, placed, back.is, back.value, eq-eqb id (length before.certificate.tables + 1) next) refl;

@@ -33,6 +33,7 @@ use Rattle.fp_certificate_lines.specs.declared.certificates.Answer.TheVariants a
 use Rattle.fp_certificate_lines.specs.declared.certificates.Node.{Node}
 use Rattle.fp_certificate_lines.specs.declared.certificates.Node.TheVariants as node
 use Rattle.fp_certificate_lines.specs.declared.certificates.Spent.TheVariants as spent
+use Rattle.fp_certificate_lines.specs.Moments.{moments_of_table}
 use Rattle.fp_certificate_lines.specs.Ranges.{HaveNames, IsAnswerInRange, IsGiftInRange, IsGroupInRange, IsInRange, IsLegInRange, IsNodeInRange, IsPointInRange, IsScaleInRange, IsShareInRange, IsSpanInRange, IsTruckInRange, IsUnitInRange, IsWeightInRange}
 use Rattle.fp_certificate_lines.specs.Rows.{answer_fields, beside_rows, gift_fields, group_fields, head_name, kind_text, leg_fields, mode_text, leaf_fields, node_fields, point_fields, rows_of, scale_rows, share_fields, share_rows, shipment_name, side_text, span_fields, span_rows, table_fields, table_rows, tables_rows, tail_name, terminal_name, truck_fields, unit_rows, weight_fields}
 use Rattle.fp_certificate_lines.specs.Statements.{Statement}
@@ -201,20 +202,27 @@ besides-plain p spans gifts v named held given =
 beside-range : {X : Type 0} (P : X → Type 0) (lists : List (List X)) (id : ℕ) → All (All P) lists → All P (slice_index_or lists (id - 1) [])
 beside-range P lists id all = AllByRecursion-get_or_default (All P) lists (id - 1) [] (recursion_from_All (All P) lists all) (All-nil P)
 
-tables-plain : (p : Problem) (spans : List (List ClassSpan)) (gifts : List (List Gift)) (id : ℕ) (tables : List (List ClassShare)) → IsValid p → HaveNames p → id + length tables < 10 ^ 64
-    → All (All (IsShareInRange p)) tables → All (All (IsSpanInRange p)) spans → All (All (IsGiftInRange p)) gifts → list_all is_plain_record (tables_rows p spans gifts id tables) ≡ true
-tables-plain p spans gifts id [] v named few all held given = refl
-tables-plain p spans gifts id (table ∷ tables) v named few all held given =
-    let line : is_plain_record (table_fields id) ≡ true = rw (number-back id (omega arith)).plain refl in
+-- the line of a table
+table-plain : (id : ℕ) (by_moments : Bool) → id < 10 ^ 64 → is_plain_record (table_fields id by_moments) ≡ true
+table-plain id true small = rw (number-back id small).plain refl
+table-plain id false small = rw (number-back id small).plain refl
+
+tables-plain : (p : Problem) (spans : List (List ClassSpan)) (gifts : List (List Gift)) (moments : List Bool) (id : ℕ) (tables : List (List ClassShare)) → IsValid p → HaveNames p
+    → id + length tables < 10 ^ 64 → All (All (IsShareInRange p)) tables → All (All (IsSpanInRange p)) spans → All (All (IsGiftInRange p)) gifts
+    → list_all is_plain_record (tables_rows p spans gifts moments id tables) ≡ true
+tables-plain p spans gifts moments id [] v named few all held given = refl
+tables-plain p spans gifts moments id (table ∷ tables) v named few all held given =
+    let by_moments = moments_of_table moments id in
+    let line : is_plain_record (table_fields id by_moments) ≡ true = table-plain id by_moments (omega arith) in
     let runs = spans_of_table spans id in
     let gives = gifts_of_table gifts id in
     let shares = flat_map (share_rows p) table in
     let beside = beside_rows p runs gives in
-    both-plain (table_rows p id table runs gives) (tables_rows p spans gifts (id + 1) tables)
-    (and_from (is_plain_record (table_fields id)) (list_all is_plain_record (shares ++ beside)) line
+    both-plain (table_rows p id by_moments table runs gives) (tables_rows p spans gifts moments (id + 1) tables)
+    (and_from (is_plain_record (table_fields id by_moments)) (list_all is_plain_record (shares ++ beside)) line
     (both-plain shares beside (shares-plain p table v named (All-head (All (IsShareInRange p)) table tables all))
     (besides-plain p runs gives v named (beside-range (IsSpanInRange p) spans id held) (beside-range (IsGiftInRange p) gifts id given))))
-    (tables-plain p spans gifts (id + 1) tables v named (omega arith) (All-tail (All (IsShareInRange p)) table tables all) held given)
+    (tables-plain p spans gifts moments (id + 1) tables v named (omega arith) (All-tail (All (IsShareInRange p)) table tables all) held given)
 
 kind-plain : (tables : List (List ClassShare)) (kind : Kind) → length tables < 10 ^ 64 → HasKind tables kind → is_plain_field (kind_text kind) ≡ true
 kind-plain tables price.Linear few r = refl
@@ -259,7 +267,7 @@ rows-plain p c v named r few =
     (both-plain (map (leg_fields p) c.legs) _ (each-plain (leg_fields p) (IsLegInRange p) (λ l. leg-plain p l v named) c.legs (recursion_from_All (IsLegInRange p) c.legs r.legs))
     (both-plain (map (truck_fields p) c.trucks) _ (each-plain (truck_fields p) (IsTruckInRange p) (λ t. truck-plain p t v) c.trucks (recursion_from_All (IsTruckInRange p) c.trucks r.trucks))
     (both-plain (map (point_fields p) c.points) _ (each-plain (point_fields p) (IsPointInRange p) (λ x. point-plain p x v) c.points (recursion_from_All (IsPointInRange p) c.points r.points))
-    (both-plain (tables_rows p c.spans c.gifts 1 c.tables) _ (tables-plain p c.spans c.gifts 1 c.tables v named (omega (arith, few)) r.tables r.spans r.gifts)
+    (both-plain (tables_rows p c.spans c.gifts c.moments 1 c.tables) _ (tables-plain p c.spans c.gifts c.moments 1 c.tables v named (omega (arith, few)) r.tables r.spans r.gifts)
     (both-plain (map (node_fields p) c.tree) _
     (each-plain (node_fields p) (IsNodeInRange p c.tables) (λ n. node-plain p c.tables n v named (omega (arith, few))) c.tree (recursion_from_All (IsNodeInRange p c.tables) c.tree r.tree))
     refl)))))))

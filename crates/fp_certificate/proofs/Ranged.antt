@@ -27,7 +27,7 @@ use Rattle.fp_certificate.specs.Points.{point_in}
 use Rattle.fp_certificate_lines.specs.Ranges.{IsGiftInRange, IsGroupInRange, IsInRange, IsLegInRange, IsNodeInRange, IsPointInRange, IsShareInRange, IsSpanInRange, IsTruckInRange, IsWeightInRange, largest_count, largest_figure}
 use Rattle.fp_certificate.specs.Reading.{certificate_from, faults_of, kind_code, line_code, nothing_read, with_kind, with_kind_of, with_line}
 use Rattle.fp_certificate_lines.specs.Statements.{Statement}
-use Rattle.fp_certificate.specs.Tables.{and_share, and_span, share_in, span_in, weight_in}
+use Rattle.fp_certificate.specs.Tables.{and_share, and_span, moments_in, share_in, span_in, weight_in}
 use Rattle.fp_certificate.specs.Timetables.{ends_in_range, is_time, leg_in, truck_in}
 use Rattle.fp_certificate.specs.Trees.{by_trucks_in, has_kind_word, has_leaf_digits, has_leaf_ranges, has_sides_range, lacks_sides, leaf_in}
 use Rattle.fp_certificate.proofs.LineRanges.{in-time, small}
@@ -82,6 +82,7 @@ kind-ranged p before Scale fields h r =
       beside = r.beside;
       gifts = r.gifts;
       given = r.given;
+      timed = r.timed;
       tree = r.tree;
     }
 kind-ranged p before kind.Unit fields h r =
@@ -102,6 +103,7 @@ kind-ranged p before kind.Unit fields h r =
       beside = r.beside;
       gifts = r.gifts;
       given = r.given;
+      timed = r.timed;
       tree = r.tree;
     }
 kind-ranged p before Leg fields h r =
@@ -129,6 +131,7 @@ kind-ranged p before Leg fields h r =
       beside = r.beside;
       gifts = r.gifts;
       given = r.given;
+      timed = r.timed;
       tree = r.tree;
     }
 kind-ranged p before Truck fields h r =
@@ -157,6 +160,7 @@ kind-ranged p before Truck fields h r =
       beside = r.beside;
       gifts = r.gifts;
       given = r.given;
+      timed = r.timed;
       tree = r.tree;
     }
 kind-ranged p before Point fields h r =
@@ -183,15 +187,19 @@ kind-ranged p before Point fields h r =
       beside = r.beside;
       gifts = r.gifts;
       given = r.given;
+      timed = r.timed;
       tree = r.tree;
     }
 kind-ranged p before Table fields h r =
     let tables = before.certificate.tables in
     let spans = before.certificate.spans in
     let gifts = before.certificate.gifts in
-    IsInRange-with_lists p before.certificate (tables ++ ([] ∷ [])) (spans ++ ([] ∷ [])) (gifts ++ ([] ∷ [])) (omega (arith, length_push tables []))
+    let moments = before.certificate.moments in
+    let by_moments = moments_in fields in
+    IsInRange-with_lists p before.certificate (tables ++ ([] ∷ [])) (spans ++ ([] ∷ [])) (gifts ++ ([] ∷ [])) (moments ++ (by_moments ∷ [])) (omega (arith, length_push tables []))
     (omega (arith, r.beside, length_push tables [], length_push spans []))
     (omega (arith, r.given, length_push tables [], length_push gifts []))
+    (omega (arith, r.timed, length_push tables [], length_push moments by_moments))
     (All-push (All (IsShareInRange p)) tables [] r.tables (All-nil (IsShareInRange p)))
     (All-push (All (IsSpanInRange p)) spans [] r.spans (All-nil (IsSpanInRange p)))
     (All-push (All (IsGiftInRange p)) gifts [] r.gifts (All-nil (IsGiftInRange p))) r
@@ -366,6 +374,7 @@ nothing-ranged p = record {
   beside = refl;
   gifts = All-nil (All (IsGiftInRange p));
   given = refl;
+  timed = refl;
   tree = All-nil (IsNodeInRange p []);
 }
 

@@ -1,5 +1,5 @@
 -- What the fields of a line tell is in range.
-use Rattle.std.proofs.Common.{◌≡◌, ℕ, ◌+◌, ◌^◌, ◌<◌, ◌≤◌, true, false, List, [], ◌∷◌, ◌++◌, length, arith, inl, inr}
+use Rattle.std.proofs.Common.{◌≡◌, ℕ, ◌+◌, ◌^◌, ◌<◌, ◌≤◌, Bool, true, false, List, [], ◌∷◌, ◌++◌, length, arith, inl, inr}
 use Rattle.std.specs.Prelude.{All, IfSome, ◌&&◌, ◌||◌, codes, nat_lt}
 use Rattle.std.proofs.lemmas.Bool.{and_parts, cases_Bool, ltb-true, not-false}
 use Rattle.std.proofs.lemmas.List.Elements.{All-push, All-weaker}
@@ -43,6 +43,7 @@ with-answer p c a h r = record {
   beside = r.beside;
   gifts = r.gifts;
   given = r.given;
+  timed = r.timed;
   tree = r.tree;
 }
 
@@ -60,6 +61,7 @@ IsInRange-with_node p c n h r = record {
   beside = r.beside;
   gifts = r.gifts;
   given = r.given;
+  timed = r.timed;
   tree = All-push (IsNodeInRange p c.tables) c.tree n r.tree h;
 }
 
@@ -73,12 +75,12 @@ pub node-grows : (p : Problem) (few many : List (List ClassShare)) (n : Node) �
 node-grows p few many (Branch split) le h = h
 node-grows p few many (node.Leaf v) le h = record { kind = kind-grows few many v.price.kind le h.kind; round = h.round; sides = h.sides }
 
--- with other tables, and other spans and gifts beside them, no fewer than before
-pub IsInRange-with_lists : (p : Problem) (c : Statement) (tables : List (List ClassShare)) (spans : List (List ClassSpan)) (gifts : List (List Gift))
-    → length c.tables ≤ length tables → length spans ≡ length tables → length gifts ≡ length tables
+-- with other tables, and what stands beside them, no fewer than before
+pub IsInRange-with_lists : (p : Problem) (c : Statement) (tables : List (List ClassShare)) (spans : List (List ClassSpan)) (gifts : List (List Gift)) (moments : List Bool)
+    → length c.tables ≤ length tables → length spans ≡ length tables → length gifts ≡ length tables → length moments ≡ length tables
     → All (All (IsShareInRange p)) tables → All (All (IsSpanInRange p)) spans → All (All (IsGiftInRange p)) gifts → IsInRange p c
-    → IsInRange p (record c { tables = tables; spans = spans; gifts = gifts })
-IsInRange-with_lists p c tables spans gifts le beside given h t g r = record {
+    → IsInRange p (record c { tables = tables; spans = spans; gifts = gifts; moments = moments })
+IsInRange-with_lists p c tables spans gifts moments le beside given timed h t g r = record {
   answer = r.answer;
   scale = r.scale;
   unit = r.unit;
@@ -90,6 +92,7 @@ IsInRange-with_lists p c tables spans gifts le beside given h t g r = record {
   beside = beside;
   gifts = g;
   given = given;
+  timed = timed;
   tree = All-weaker (IsNodeInRange p c.tables) (IsNodeInRange p tables) (λ n. node-grows p c.tables tables n le) c.tree r.tree;
 }
 
@@ -98,7 +101,7 @@ pub with-last-table : (p : Problem) (c : Statement) (f : List ClassShare → Lis
     → IsInRange p c → IsInRange p (record c { tables = with_last f c.tables })
 with-last-table p c f changes r =
     let stays : length (with_last f c.tables) ≡ length c.tables = length-with_last f c.tables in
-    IsInRange-with_lists p c (with_last f c.tables) c.spans c.gifts (omega arith) (omega (arith, r.beside)) (omega (arith, r.given))
+    IsInRange-with_lists p c (with_last f c.tables) c.spans c.gifts c.moments (omega arith) (omega (arith, r.beside)) (omega (arith, r.given)) (omega (arith, r.timed))
     (All-with_last (All (IsShareInRange p)) (All (IsShareInRange p)) f c.tables (λ table all. all) changes r.tables) r.spans r.gifts r
 
 -- with a changed last list of spans, which are in range again
@@ -106,7 +109,7 @@ pub with-last-spans : (p : Problem) (c : Statement) (f : List ClassSpan → List
     → IsInRange p c → IsInRange p (record c { spans = with_last f c.spans })
 with-last-spans p c f changes r =
     let stays : length (with_last f c.spans) ≡ length c.spans = length-with_last f c.spans in
-    IsInRange-with_lists p c c.tables (with_last f c.spans) c.gifts (omega arith) (omega (arith, r.beside)) r.given r.tables
+    IsInRange-with_lists p c c.tables (with_last f c.spans) c.gifts c.moments (omega arith) (omega (arith, r.beside)) r.given r.timed r.tables
     (All-with_last (All (IsSpanInRange p)) (All (IsSpanInRange p)) f c.spans (λ list all. all) changes r.spans) r.gifts r
 
 -- with a changed last list of gifts, which are in range again
@@ -114,7 +117,7 @@ pub with-last-gifts : (p : Problem) (c : Statement) (f : List Gift → List Gift
     → IsInRange p c → IsInRange p (record c { gifts = with_last f c.gifts })
 with-last-gifts p c f changes r =
     let stays : length (with_last f c.gifts) ≡ length c.gifts = length-with_last f c.gifts in
-    IsInRange-with_lists p c c.tables c.spans (with_last f c.gifts) (omega arith) r.beside (omega (arith, r.given)) r.tables r.spans
+    IsInRange-with_lists p c c.tables c.spans (with_last f c.gifts) c.moments (omega arith) r.beside (omega (arith, r.given)) r.timed r.tables r.spans
     (All-with_last (All (IsGiftInRange p)) (All (IsGiftInRange p)) f c.gifts (λ list all. all) changes r.gifts) r
 
 -- with one more weight

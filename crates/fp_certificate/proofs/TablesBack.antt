@@ -1,4 +1,4 @@
--- The tables of a certificate are read back from their lines, each with the spans and the gifts beside it.
+-- The tables of a certificate are read back from their lines, each with the spans and the gifts beside it and whether it is by moments.
 use Rattle.std.proofs.Common.{◌≡◌, ◌∙◌, ℕ, ◌+◌, ◌^◌, ◌-◌, ◌<◌, ◌≤◌, Bool, false, List, [], ◌∷◌, ◌++◌, length, map, refl, sym, ap, subst, append_assoc, arith, lit≤, inl, inr}
 use Rattle.std.specs.Prelude.{◌⊎◌, All, not}
 use Rattle.std.specs.List.{AllByRecursion, flat_map, fold}
@@ -17,6 +17,7 @@ use Rattle.fp_records.specs.Fields.{is_empty}
 use Rattle.fp_certificate.specs.declared.lines.sections.Section.{Section}
 use Rattle.fp_certificate.specs.declared.lines.sections.Section.TheVariants as section
 use Rattle.fp_certificate.specs.Sections.{is_forbidden, place_of}
+use Rattle.fp_certificate_lines.specs.Moments.{moments_of_table}
 use Rattle.fp_certificate_lines.specs.Ranges.{IsGiftInRange, IsGroupInRange, IsShareInRange, IsSpanInRange, IsWeightInRange}
 use Rattle.fp_certificate_lines.specs.Rows.{beside_rows, gift_fields, group_fields, share_fields, share_rows, span_fields, span_rows, table_fields, tables_rows, weight_fields}
 use Rattle.fp_certificate_lines.specs.Statements.{Statement}
@@ -234,13 +235,18 @@ gifts-back p s c v free rest lists (x ∷ gifts) list all after =
 abbrev with : Statement → List (List ClassShare) → List (List ClassSpan) → List (List Gift) → Statement
 with s tables spans gifts = record s { tables = tables; spans = spans; gifts = gifts }
 
--- the same tables, spans and gifts
-moved : (p : Problem) (rest : List (List (List ℕ))) (s c : Statement) (ts us : List (List ClassShare)) (ls ms : List (List ClassSpan)) (gs hs : List (List Gift)) → ts ≡ us → ls ≡ ms → gs ≡ hs
-    → ReadsTo p 6 rest (with s us ms hs) c → ReadsTo p 6 rest (with s ts ls gs) c
-moved p rest s c ts us ls ms gs hs tables spans gifts after =
-    subst (λ (t : List (List ClassShare)). ReadsTo p 6 rest (with s t ls gs) c) (sym tables)
-    (subst (λ (l : List (List ClassSpan)). ReadsTo p 6 rest (with s us l gs) c) (sym spans)
-    (subst (λ (g : List (List Gift)). ReadsTo p 6 rest (with s us ms g) c) (sym gifts) after))
+-- with other tables by moments
+abbrev with-moments : Statement → List Bool → Statement
+with-moments s moments = record s { moments = moments }
+
+-- the same tables, spans, gifts, and tables by moments
+moved : (p : Problem) (rest : List (List (List ℕ))) (s c : Statement) (ts us : List (List ClassShare)) (ls ms : List (List ClassSpan)) (gs hs : List (List Gift)) (bs ds : List Bool)
+    → ts ≡ us → ls ≡ ms → gs ≡ hs → bs ≡ ds → ReadsTo p 6 rest (with (with-moments s ds) us ms hs) c → ReadsTo p 6 rest (with (with-moments s bs) ts ls gs) c
+moved p rest s c ts us ls ms gs hs bs ds tables spans gifts moments after =
+    subst (λ (t : List (List ClassShare)). ReadsTo p 6 rest (with (with-moments s bs) t ls gs) c) (sym tables)
+    (subst (λ (l : List (List ClassSpan)). ReadsTo p 6 rest (with (with-moments s bs) us l gs) c) (sym spans)
+    (subst (λ (g : List (List Gift)). ReadsTo p 6 rest (with (with-moments s bs) us ms g) c) (sym gifts)
+    (subst (λ (b : List Bool). ReadsTo p 6 rest (with (with-moments s b) us ms hs) c) (sym moments) after)))
 
 -- the shares of a table, and the spans and the gifts beside it, after the line of the table
 table-back : (p : Problem) (s c : Statement) (table : List ClassShare) (spans : List ClassSpan) (gifts : List Gift) (rest : List (List (List ℕ))) → IsValid p
@@ -260,72 +266,88 @@ table-back p s c table spans gifts rest v free shares-fit spans-fit gifts-fit af
     elements-back p (with-tables fresh) (share_fields p) bare-share (share-parts p) (IsShareInRange p) c (shares-read p fresh c v free none ungiven)
     (flat_map (span_rows p) spans ++ given) s.tables table [] shares-fit beside
 
--- there are as many lists of spans and of gifts as tables
-abbrev pub AreLevel : List (List ClassShare) → List (List ClassSpan) → List (List Gift) → Type 0
-AreLevel tables spans gifts = (length spans ≡ length tables) × (length gifts ≡ length tables)
+-- there are as many lists of spans and of gifts as tables, and for each table it is told whether it is by moments
+abbrev pub AreLevel : List (List ClassShare) → List (List ClassSpan) → List (List Gift) → List Bool → Type 0
+AreLevel tables spans gifts moments = (length spans ≡ length tables) × (length gifts ≡ length tables) × (length moments ≡ length tables)
 
 -- tables, spans and gifts are in range
 abbrev pub AreFit : Problem → List (List ClassShare) → List (List ClassSpan) → List (List Gift) → Type 0
 AreFit p tables spans gifts = All (All (IsShareInRange p)) tables × All (All (IsSpanInRange p)) spans × All (All (IsGiftInRange p)) gifts
 
 -- tables that are numbered from the next on, with the lists of spans and of gifts that are left
-numbered-back : (p : Problem) (c : Statement) (rest : List (List (List ℕ))) (every : List (List ClassSpan)) (whole : List (List Gift)) → IsValid p
-    → (tables : List (List ClassShare)) (spans : List (List ClassSpan)) (gifts : List (List Gift)) (s : Statement) (id : ℕ)
-    → id ≡ length s.tables + 1 → AreLevel s.tables s.spans s.gifts → s.spans ++ spans ≡ every → s.gifts ++ gifts ≡ whole → AreLevel tables spans gifts → id + length tables < 10 ^ 64
-    → AreFit p tables spans gifts → is_forbidden s.answer section.Tables ≡ false
-    → ReadsTo p 6 rest (with s (s.tables ++ tables) (s.spans ++ spans) (s.gifts ++ gifts)) c → ReadsTo p 6 (tables_rows p every whole id tables ++ rest) s c
-numbered-back p c rest every whole v [] [] [] s id next level together given beside few fit free after =
-    moved p rest s c s.tables (s.tables ++ []) s.spans (s.spans ++ []) s.gifts (s.gifts ++ []) (sym (append-nil s.tables)) (sym (append-nil s.spans)) (sym (append-nil s.gifts)) after
-numbered-back p c rest every whole v [] [] (others ∷ gifts) s id next level together given beside few fit free after = absurd (omega (arith, beside.1))
-numbered-back p c rest every whole v [] (list ∷ spans) gifts s id next level together given beside few fit free after = absurd (omega (arith, beside.0))
-numbered-back p c rest every whole v (table ∷ tables) [] gifts s id next level together given beside few fit free after = absurd (omega (arith, beside.0))
-numbered-back p c rest every whole v (table ∷ tables) (list ∷ spans) [] s id next level together given beside few fit free after = absurd (omega (arith, beside.1))
-numbered-back p c rest every whole v (table ∷ tables) (list ∷ spans) (own ∷ gifts) s id next level together given beside few fit free after =
+numbered-back : (p : Problem) (c : Statement) (rest : List (List (List ℕ))) (every : List (List ClassSpan)) (whole : List (List Gift)) (told : List Bool) → IsValid p
+    → (tables : List (List ClassShare)) (spans : List (List ClassSpan)) (gifts : List (List Gift)) (moments : List Bool) (s : Statement) (id : ℕ)
+    → id ≡ length s.tables + 1 → AreLevel s.tables s.spans s.gifts s.moments → s.spans ++ spans ≡ every → s.gifts ++ gifts ≡ whole → s.moments ++ moments ≡ told
+    → AreLevel tables spans gifts moments → id + length tables < 10 ^ 64 → AreFit p tables spans gifts → is_forbidden s.answer section.Tables ≡ false
+    → ReadsTo p 6 rest (with (with-moments s (s.moments ++ moments)) (s.tables ++ tables) (s.spans ++ spans) (s.gifts ++ gifts)) c
+    → ReadsTo p 6 (tables_rows p every whole told id tables ++ rest) s c
+numbered-back p c rest every whole told v [] [] [] [] s id next level together given timed beside few fit free after =
+    moved p rest s c s.tables (s.tables ++ []) s.spans (s.spans ++ []) s.gifts (s.gifts ++ []) s.moments (s.moments ++ [])
+    (sym (append-nil s.tables)) (sym (append-nil s.spans)) (sym (append-nil s.gifts)) (sym (append-nil s.moments)) after
+numbered-back p c rest every whole told v [] [] [] (b ∷ moments) s id next level together given timed beside few fit free after = absurd (omega (arith, beside.2))
+numbered-back p c rest every whole told v [] [] (others ∷ gifts) moments s id next level together given timed beside few fit free after = absurd (omega (arith, beside.1))
+numbered-back p c rest every whole told v [] (list ∷ spans) gifts moments s id next level together given timed beside few fit free after = absurd (omega (arith, beside.0))
+numbered-back p c rest every whole told v (table ∷ tables) [] gifts moments s id next level together given timed beside few fit free after = absurd (omega (arith, beside.0))
+numbered-back p c rest every whole told v (table ∷ tables) (list ∷ spans) [] moments s id next level together given timed beside few fit free after = absurd (omega (arith, beside.1))
+numbered-back p c rest every whole told v (table ∷ tables) (list ∷ spans) (own ∷ gifts) [] s id next level together given timed beside few fit free after = absurd (omega (arith, beside.2))
+numbered-back p c rest every whole told v (table ∷ tables) (list ∷ spans) (own ∷ gifts) (b ∷ moments) s id next level together given timed beside few fit free after =
     let shares = flat_map (share_rows p) table in
     let runs = flat_map (span_rows p) list in
     let gives = map (gift_fields p) own in
-    let others = tables_rows p every whole (id + 1) tables in
-    let more = with s (ending s.tables table) (ending s.spans list) (ending s.gifts own) in
-    let fresh = with s (ending s.tables []) (ending s.spans []) (ending s.gifts []) in
+    let others = tables_rows p every whole told (id + 1) tables in
+    let begun = with-moments s (s.moments ++ (b ∷ [])) in
+    let more = with begun (ending s.tables table) (ending s.spans list) (ending s.gifts own) in
+    let fresh = with begun (ending s.tables []) (ending s.spans []) (ending s.gifts []) in
     let place : id - 1 ≡ length s.spans = omega (arith, level.0) in
     let spot : id - 1 ≡ length s.gifts = omega (arith, level.1) in
+    let point : id - 1 ≡ length s.moments = omega (arith, level.2) in
     let held : spans_of_table every id ≡ list = rw (← together, place) (get_or-append_seam s.spans list spans []) in
     let mine : gifts_of_table whole id ≡ own = rw (← given, spot) (get_or-append_seam s.gifts own gifts []) in
-    let still : AreLevel (ending s.tables table) (ending s.spans list) (ending s.gifts own) = (
+    let said : moments_of_table told id ≡ b = rw (← timed, point) (get_or-append_seam s.moments b moments false) in
+    let still : AreLevel (ending s.tables table) (ending s.spans list) (ending s.gifts own) begun.moments = (
       omega (arith, level.0, length_push s.tables table, length_push s.spans list),
       omega (arith, level.1, length_push s.tables table, length_push s.gifts own),
+      omega (arith, level.2, length_push s.tables table, length_push s.moments b),
     ) in
     let later : ReadsTo p 6 (others ++ rest) more c =
-    numbered-back p c rest every whole v tables spans gifts more (id + 1) (omega (arith, length_push s.tables table)) still
-    (append_assoc s.spans (list ∷ []) spans ∙ together) (append_assoc s.gifts (own ∷ []) gifts ∙ given) (omega (arith, beside.0), omega (arith, beside.1)) (omega arith)
+    numbered-back p c rest every whole told v tables spans gifts moments more (id + 1) (omega (arith, length_push s.tables table)) still
+    (append_assoc s.spans (list ∷ []) spans ∙ together) (append_assoc s.gifts (own ∷ []) gifts ∙ given) (append_assoc s.moments (b ∷ []) moments ∙ timed)
+    (omega (arith, beside.0), omega (arith, beside.1), omega (arith, beside.2)) (omega arith)
     (All-tail (All (IsShareInRange p)) table tables fit.0, All-tail (All (IsSpanInRange p)) list spans fit.1, All-tail (All (IsGiftInRange p)) own gifts fit.2) free
     (moved p rest s c (ending s.tables table ++ tables) (s.tables ++ (table ∷ tables)) (ending s.spans list ++ spans) (s.spans ++ (list ∷ spans)) (ending s.gifts own ++ gifts) (s.gifts ++ (own ∷ gifts))
-    (append_assoc s.tables (table ∷ []) tables) (append_assoc s.spans (list ∷ []) spans) (append_assoc s.gifts (own ∷ []) gifts) after) in
-    let inside = table-back p s c table list own (others ++ rest) v free (All-head (All (IsShareInRange p)) table tables fit.0)
+    (begun.moments ++ moments) (s.moments ++ (b ∷ moments))
+    (append_assoc s.tables (table ∷ []) tables) (append_assoc s.spans (list ∷ []) spans) (append_assoc s.gifts (own ∷ []) gifts) (append_assoc s.moments (b ∷ []) moments) after) in
+    let inside = table-back p begun c table list own (others ++ rest) v free (All-head (All (IsShareInRange p)) table tables fit.0)
     (All-head (All (IsSpanInRange p)) list spans fit.1) (All-head (All (IsGiftInRange p)) own gifts fit.2) later in
     let lines : ((shares ++ (runs ++ gives)) ++ others) ++ rest ≡ shares ++ (runs ++ (gives ++ (others ++ rest))) =
     append_assoc (shares ++ (runs ++ gives)) others rest
     ∙ append_assoc shares (runs ++ gives) (others ++ rest)
     ∙ ap (λ (l : List (List (List ℕ))). shares ++ l) (append_assoc runs gives (others ++ rest)) in
-    subst (λ (ls : List ClassSpan). ReadsTo p 6 (table_fields id ∷ (((shares ++ beside_rows p ls (gifts_of_table whole id)) ++ others) ++ rest)) s c) (sym held)
-    (subst (λ (gs : List Gift). ReadsTo p 6 (table_fields id ∷ (((shares ++ beside_rows p list gs) ++ others) ++ rest)) s c) (sym mine)
-    (one-line p 6 section.Tables (table_fields id) s fresh c (((shares ++ (runs ++ gives)) ++ others) ++ rest) (lit≤ tt)
-    (λ g le. table-step p (at s g) id next (omega arith) (has_ended_at-before_end g (omega arith)) (is_misplaced_after-later g section.Tables s.answer refl le free))
-    (subst (λ (ls : List (List (List ℕ))). ReadsTo p 6 ls fresh c) (sym lines) inside)))
+    subst (λ (m : Bool). ReadsTo p 6 (table_fields id m ∷ (((shares ++ beside_rows p (spans_of_table every id) (gifts_of_table whole id)) ++ others) ++ rest)) s c) (sym said)
+    (subst (λ (ls : List ClassSpan). ReadsTo p 6 (table_fields id b ∷ (((shares ++ beside_rows p ls (gifts_of_table whole id)) ++ others) ++ rest)) s c) (sym held)
+    (subst (λ (gs : List Gift). ReadsTo p 6 (table_fields id b ∷ (((shares ++ beside_rows p list gs) ++ others) ++ rest)) s c) (sym mine)
+    (one-line p 6 section.Tables (table_fields id b) s fresh c (((shares ++ (runs ++ gives)) ++ others) ++ rest) (lit≤ tt)
+    (λ g le. table-step p (at s g) id b next (omega arith) (has_ended_at-before_end g (omega arith)) (is_misplaced_after-later g section.Tables s.answer refl le free))
+    (subst (λ (ls : List (List (List ℕ))). ReadsTo p 6 ls fresh c) (sym lines) inside))))
+
+-- a statement has no tables yet, and nothing beside them
+abbrev pub HasNoTables : Statement → Type 0
+HasNoTables s = (s.tables ≡ []) × (s.spans ≡ []) × (s.gifts ≡ []) × (s.moments ≡ [])
 
 -- all tables
-pub tables-back : (p : Problem) (s c : Statement) (tables : List (List ClassShare)) (spans : List (List ClassSpan)) (gifts : List (List Gift)) (rest : List (List (List ℕ))) → IsValid p
-    → (s.tables ≡ []) × (s.spans ≡ []) × (s.gifts ≡ []) → AreLevel tables spans gifts → length tables < 2 ^ 32 - 1 → AreFit p tables spans gifts
-    → (is_forbidden s.answer section.Tables ≡ false) ⊎ ((tables ≡ []) × (spans ≡ []) × (gifts ≡ []))
-    → ReadsTo p 6 rest (record s { tables = tables; spans = spans; gifts = gifts }) c → ReadsTo p 6 (tables_rows p spans gifts 1 tables ++ rest) s c
-tables-back p s c tables spans gifts rest v none beside few fit (inl free) after =
+pub tables-back : (p : Problem) (s c : Statement) (tables : List (List ClassShare)) (spans : List (List ClassSpan)) (gifts : List (List Gift)) (moments : List Bool) (rest : List (List (List ℕ)))
+    → IsValid p → HasNoTables s → AreLevel tables spans gifts moments → length tables < 2 ^ 32 - 1 → AreFit p tables spans gifts
+    → (is_forbidden s.answer section.Tables ≡ false) ⊎ ((tables ≡ []) × (spans ≡ []) × (gifts ≡ []) × (moments ≡ []))
+    → ReadsTo p 6 rest (record s { tables = tables; spans = spans; gifts = gifts; moments = moments }) c → ReadsTo p 6 (tables_rows p spans gifts moments 1 tables ++ rest) s c
+tables-back p s c tables spans gifts moments rest v none beside few fit (inl free) after =
     let start : 1 ≡ length s.tables + 1 = rw none.0 refl in
-    let level : AreLevel s.tables s.spans s.gifts = (rw (none.0, none.1) refl, rw (none.0, none.2) refl) in
+    let level : AreLevel s.tables s.spans s.gifts s.moments = (rw (none.0, none.1) refl, rw (none.0, none.2) refl, rw (none.0, none.3) refl) in
     let no-tables : s.tables ++ tables ≡ tables = rw none.0 refl in
     let no-spans : s.spans ++ spans ≡ spans = rw none.1 refl in
     let no-gifts : s.gifts ++ gifts ≡ gifts = rw none.2 refl in
-    numbered-back p c rest spans gifts v tables spans gifts s 1 start level no-spans no-gifts beside (omega arith) fit free
-    (moved p rest s c (s.tables ++ tables) tables (s.spans ++ spans) spans (s.gifts ++ gifts) gifts no-tables no-spans no-gifts after)
-tables-back p s c tables spans gifts rest v none beside few fit (inr empty) after =
-    subst (λ (ts : List (List ClassShare)). ReadsTo p 6 (tables_rows p spans gifts 1 ts ++ rest) s c) (sym empty.0)
-    (moved p rest s c s.tables tables s.spans spans s.gifts gifts (none.0 ∙ sym empty.0) (none.1 ∙ sym empty.1) (none.2 ∙ sym empty.2) after)
+    let no-moments : s.moments ++ moments ≡ moments = rw none.3 refl in
+    numbered-back p c rest spans gifts moments v tables spans gifts moments s 1 start level no-spans no-gifts no-moments beside (omega arith) fit free
+    (moved p rest s c (s.tables ++ tables) tables (s.spans ++ spans) spans (s.gifts ++ gifts) gifts (s.moments ++ moments) moments no-tables no-spans no-gifts no-moments after)
+tables-back p s c tables spans gifts moments rest v none beside few fit (inr empty) after =
+    subst (λ (ts : List (List ClassShare)). ReadsTo p 6 (tables_rows p spans gifts moments 1 ts ++ rest) s c) (sym empty.0)
+    (moved p rest s c s.tables tables s.spans spans s.gifts gifts s.moments moments (none.0 ∙ sym empty.0) (none.1 ∙ sym empty.1) (none.2 ∙ sym empty.2) (none.3 ∙ sym empty.3) after)

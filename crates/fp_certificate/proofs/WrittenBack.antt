@@ -29,7 +29,7 @@ record IsFree (c : Statement) : Type 0 where
   legs : Free (is_forbidden c.answer section.Legs) c.legs
   trucks : Free (is_forbidden c.answer section.Trucks) c.trucks
   points : Free (is_forbidden c.answer section.Points) c.points
-  tables : (is_forbidden c.answer section.Tables ≡ false) ⊎ ((c.tables ≡ []) × (c.spans ≡ []) × (c.gifts ≡ []))
+  tables : (is_forbidden c.answer section.Tables ≡ false) ⊎ ((c.tables ≡ []) × (c.spans ≡ []) × (c.gifts ≡ []) × (c.moments ≡ []))
   tree : Free (is_forbidden c.answer section.Tree) c.tree
 
 free-answer : (a : Answer) (c : Statement) → c.answer ≡ a → Allows a c → IsFree c
@@ -39,7 +39,7 @@ free-answer (answer.Direct cost) c is h = record {
   legs = inl (rw is refl);
   trucks = inl (rw is refl);
   points = inr h.points;
-  tables = inr (h.tables, h.spans, h.gifts);
+  tables = inr (h.tables, h.spans, h.gifts, h.moments);
   tree = inr h.tree;
 }
 free-answer (answer.Optimal cost) c is h = record {
@@ -66,7 +66,7 @@ free-answer (answer.Infeasible shipment time) c is h = record {
   legs = inr h.legs;
   trucks = inr h.trucks;
   points = inr h.rest.points;
-  tables = inr (h.rest.tables, h.rest.spans, h.rest.gifts);
+  tables = inr (h.rest.tables, h.rest.spans, h.rest.gifts, h.rest.moments);
   tree = inr h.rest.tree;
 }
 
@@ -122,7 +122,7 @@ parts-back : (p : Problem) (c : Statement) → IsValid p → IsInRange p c → l
     ++ (map (leg_fields p) c.legs
     ++ (map (truck_fields p) c.trucks
     ++ (map (point_fields p) c.points
-    ++ (tables_rows p c.spans c.gifts 1 c.tables
+    ++ (tables_rows p c.spans c.gifts c.moments 1 c.tables
     ++ (map (node_fields p) c.tree
     ++ (end_fields ∷ [])))))))) (record nothing_read.certificate { answer = c.answer }) c
 parts-back p c v r few free =
@@ -132,16 +132,17 @@ parts-back p c v r few free =
     let with-legs : Statement = record with-unit { legs = c.legs } in
     let with-trucks : Statement = record with-legs { trucks = c.trucks } in
     let with-points : Statement = record with-trucks { points = c.points } in
-    let with-tables : Statement = record with-points { tables = c.tables; spans = c.spans; gifts = c.gifts } in
+    let with-tables : Statement = record with-points { tables = c.tables; spans = c.spans; gifts = c.gifts; moments = c.moments } in
     let last = end_fields ∷ [] in
     let tree = map (node_fields p) c.tree ++ last in
-    let tables = tables_rows p c.spans c.gifts 1 c.tables ++ tree in
+    let tables = tables_rows p c.spans c.gifts c.moments 1 c.tables ++ tree in
     let points = map (point_fields p) c.points ++ tables in
     let trucks = map (truck_fields p) c.trucks ++ points in
     let legs = map (leg_fields p) c.legs ++ trucks in
     let seven : ReadsTo p 7 tree with-tables c = tree-back p with-tables c c.tree last v (omega arith) r.tree free.tree (end-back p c) in
     let six : ReadsTo p 6 tables with-points c =
-    tables-back p with-points c c.tables c.spans c.gifts tree v (refl, refl, refl) (r.beside, r.given) few (r.tables, r.spans, r.gifts) free.tables (sooner p 6 7 tree with-tables c (lit≤ tt) seven) in
+    tables-back p with-points c c.tables c.spans c.gifts c.moments tree v (refl, refl, refl, refl) (r.beside, r.given, r.timed) few (r.tables, r.spans, r.gifts) free.tables
+    (sooner p 6 7 tree with-tables c (lit≤ tt) seven) in
     let five : ReadsTo p 5 points with-trucks c = points-back p with-trucks c c.points tables v r.points free.points (sooner p 5 6 tables with-points c (lit≤ tt) six) in
     let four : ReadsTo p 4 trucks with-legs c = trucks-back p with-legs c c.trucks points v r.trucks free.trucks (sooner p 4 5 points with-trucks c (lit≤ tt) five) in
     let three : ReadsTo p 3 legs with-unit c = legs-back p with-unit c c.legs trucks v r.legs free.legs (sooner p 3 4 trucks with-legs c (lit≤ tt) four) in

@@ -19,6 +19,7 @@ pub record HasTimetableAlone (c : Statement) : Type 0 where
   pub tables : c.tables ≡ []
   pub spans : c.spans ≡ []
   pub gifts : c.gifts ≡ []
+  pub moments : c.moments ≡ []
   pub tree : c.tree ≡ []
 
 -- there is nothing beside an answer

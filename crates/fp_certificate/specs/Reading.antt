@@ -15,14 +15,14 @@ use Rattle.fp_certificate.specs.Sections.{has_ended}
 use Rattle.fp_certificate.specs.Kinds.{kind_of}
 use Rattle.fp_certificate.specs.Points.{point_faults, point_in, with_point}
 use Rattle.fp_certificate_lines.specs.Statements.{Statement}
-use Rattle.fp_certificate.specs.Tables.{group_faults, share_faults, share_in, span_faults, span_in, table_faults, weight_faults, weight_in, with_group, with_share, with_span, with_table, with_weight}
+use Rattle.fp_certificate.specs.Tables.{group_faults, moments_in, share_faults, share_in, span_faults, span_in, table_faults, weight_faults, weight_in, with_group, with_share, with_span, with_table, with_weight}
 use Rattle.fp_certificate.specs.Timetables.{leg_faults, leg_in, truck_faults, truck_in, with_leg, with_truck}
 use Rattle.fp_certificate.specs.Trees.{by_arc_faults, by_arc_in, by_time_faults, by_time_in, by_trucks_faults, by_trucks_in, by_way_faults, by_way_in, end_faults, leaf_faults, leaf_in, with_end, with_node}
 
 -- nothing read yet; the answer stands for none
 abbrev pub nothing_read : Draft
 nothing_read = record {
-  certificate = record { answer = answer.Direct 0; scale = None; unit = None; legs = []; trucks = []; points = []; tables = []; spans = []; gifts = []; tree = [] };
+  certificate = record { answer = answer.Direct 0; scale = None; unit = None; legs = []; trucks = []; points = []; tables = []; spans = []; gifts = []; moments = []; tree = [] };
   latest = None;
 }
 
@@ -70,7 +70,7 @@ with_kind p before kind.Unit fields = with_unit before (number_at fields 1)
 with_kind p before Leg fields = with_leg before (leg_in p fields)
 with_kind p before Truck fields = with_truck before (truck_in p fields)
 with_kind p before Point fields = with_point before (point_in p fields)
-with_kind p before Table fields = with_table before
+with_kind p before Table fields = with_table before (moments_in fields)
 with_kind p before Share fields = with_share before (share_in p fields)
 with_kind p before Span fields = with_span before (span_in p fields)
 with_kind p before Weight fields = with_weight before (weight_in p fields)

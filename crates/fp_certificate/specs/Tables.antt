@@ -1,6 +1,6 @@
 -- The lines of tables, shares, spans, weights and groups: their faults in the order in which they are
 -- looked for, and what they give.
-use Rattle.std.specs.Prelude.{ℕ, ◌+◌, List, [], ◌∷◌, ◌++◌, length, Bool, true, false, ◌&&◌, ◌||◌, not, ◌==◌, if◌then◌else◌, Some}
+use Rattle.std.specs.Prelude.{ℕ, ◌+◌, List, [], ◌∷◌, ◌++◌, length, Bool, true, false, ◌&&◌, ◌||◌, not, ◌==◌, if◌then◌else◌, Some, codes}
 use Rattle.fp_model.specs.Problem.{Problem}
 use Rattle.fp_prices.specs.declared.tables.Weight.{Weight}
 use Rattle.fp_prices.specs.Shares.{ClassShare}
@@ -8,7 +8,7 @@ use Rattle.fp_prices_gifts.specs.declared.gifts.Gift.{Gift}
 use Rattle.fp_prices_spans.specs.Spans.{ClassSpan}
 use Rattle.fp_records_fields.specs.Findings.{finding}
 use Rattle.fp_records_fields.specs.Findings.{Finding}
-use Rattle.fp_records_fields.specs.Fields.{has_number, number_at}
+use Rattle.fp_records_fields.specs.Fields.{has_number, has_word, number_at}
 use Rattle.fp_records.specs.Fields.{is_empty}
 use Rattle.fp_certificate.specs.declared.drafts.Draft.{Draft}
 use Rattle.fp_certificate.specs.declared.lines.sections.Section.TheVariants as section
@@ -64,11 +64,23 @@ lacks_weighed tables spans = if has_span spans then has_group spans else lacks_s
 abbrev pub bars_weight : List (List ClassShare) → List (List ClassSpan) → List (List Gift) → Bool
 bars_weight tables spans gifts = has_gift gifts || lacks_weighed tables spans
 
--- the faults of `table,ID`. An ID has to be the next number, so none that passes is out of range
+-- whether the line of a table doesn't tell that the table is by moments: it isn't
+abbrev pub lacks_moments : List (List ℕ) → Bool
+lacks_moments fields = length fields == 2
+
+-- whether the table of a line is by moments
+abbrev pub moments_in : List (List ℕ) → Bool
+moments_in fields = has_word (codes "moments") fields 2
+
+-- whether the number of a table, and the word where there is one, are such
+abbrev pub has_table_digits : List (List ℕ) → Bool
+has_table_digits fields = has_number fields 1 && (lacks_moments fields || moments_in fields)
+
+-- the faults of `table,ID` and `table,ID,moments`. An ID has to be the next number, so none that passes is out of range
 abbrev pub table_faults : Draft → List (List ℕ) → List Finding
 table_faults before fields =
-    finding 22 (not (length fields == 2))
-    ∷ finding 23 (not (has_number fields 1))
+    finding 22 (not (lacks_moments fields || length fields == 3))
+    ∷ finding 23 (not (has_table_digits fields))
     ∷ finding 24 (is_misplaced before section.Tables || not (number_at fields 1 == length before.certificate.tables + 1))
     ∷ []
 
@@ -77,13 +89,14 @@ abbrev pub with_lists : Draft → List (List ClassShare) → List (List ClassSpa
 with_lists before tables spans =
     record { certificate = record before.certificate { tables = tables; spans = spans }; latest = Some section.Tables }
 
--- a draft with one more table, which has no shares, no spans and no gifts yet
-abbrev pub with_table : Draft → Draft
-with_table before = record {
+-- a draft with one more table, by moments or not, which has no shares, no spans and no gifts yet
+abbrev pub with_table : Draft → Bool → Draft
+with_table before by_moments = record {
   certificate = record before.certificate {
     tables = before.certificate.tables ++ ([] ∷ []);
     spans = before.certificate.spans ++ ([] ∷ []);
     gifts = before.certificate.gifts ++ ([] ∷ []);
+    moments = before.certificate.moments ++ (by_moments ∷ []);
   };
   latest = Some section.Tables;
 }

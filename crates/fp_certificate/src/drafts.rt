@@ -50,6 +50,7 @@ impl Draft {
                 tables: Vec::new(alloc),
                 spans: Vec::new(alloc),
                 gifts: Vec::new(alloc),
+                moments: Vec::new(alloc),
                 tree: Vec::new(alloc),
             },
             latest: None,
@@ -144,9 +145,10 @@ impl Draft {
         Ok(())
     }
 
-    /// Adds a table with no shares, no spans and no gifts. The only error is `NoMemory`.
-    pub fn add_table(&mut self) -> Result<(), NoMemory>
-        ensures { OnOk result (self.new ≡ with_table self.old) }
+    /// Adds a table, by moments or not, with no shares, no spans and no gifts. The only error is
+    /// `NoMemory`.
+    pub fn add_table(&mut self, by_moments: bool) -> Result<(), NoMemory>
+        ensures { OnOk result (self.new ≡ with_table self.old by_moments) }
     {
         let alloc = self.allocator();
         let certificate = &mut self.certificate;
@@ -159,6 +161,7 @@ impl Draft {
         certificate.gifts.push(TableGifts {
             gifts: Vec::new(alloc),
         })?;
+        certificate.moments.push(by_moments)?;
         self.latest = Some(Section::Tables);
         Ok(())
     }

@@ -9,6 +9,7 @@ use Rattle.fp_tree.specs.declared.sides.Side.{Side}
 use Rattle.fp_tree.specs.declared.sides.Side.TheVariants.{Only, Without}
 use Rattle.fp_certificate_lines.specs.declared.certificates.Answer.TheVariants.{Optimal}
 use Rattle.fp_certificate_lines.specs.declared.certificates.Node.TheVariants.{Leaf}
+use Rattle.fp_certificate_lines.specs.Moments.{by_moments}
 use Rattle.fp_certificate_lines.specs.Rows.{kind_text, leaf_fields, rows_of, split_fields, tables_rows}
 use Rattle.fp_certificate_lines.specs.Statements.{Statement}
 use Rattle.fp_certificate_lines.specs.Valuations.{sides_valued}
@@ -35,6 +36,7 @@ best = record {
   tables = [];
   spans = [];
   gifts = [];
+  moments = [];
   tree = Leaf (record { price = record { kind = Linear; round = 0; forced = true }; sides = None }) ∷ [];
 }
 
@@ -65,14 +67,14 @@ unfolding digits
 writes = refl
 
 -- tables are numbered from 1, and weights follow their shares
-numbered : tables_rows small [] [] 1 ([] ∷ ((record { arc = 0; point = 7; v = 20; weights = (record { shipment = 0; w = 3 }) ∷ [] }) ∷ []) ∷ [])
+numbered : tables_rows small [] [] [] 1 ([] ∷ ((record { arc = 0; point = 7; v = 20; weights = (record { shipment = 0; w = 3 }) ∷ [] }) ∷ []) ∷ [])
     ≡ (codes "table" ∷ codes "1" ∷ []) ∷ (codes "table" ∷ codes "2" ∷ []) ∷ (codes "share" ∷ codes "A" ∷ codes "B" ∷ codes "7" ∷ codes "20" ∷ [])
     ∷ (codes "weight" ∷ codes "S1" ∷ codes "3" ∷ []) ∷ []
 unfolding digits
 numbered = refl
 
 -- spans follow the shares of their table
-beside : tables_rows small ([] ∷ (record { arc = 0; point = 7; until = 9; money = 100; charge = 5; weights = (record { shipment = 0; w = 3 }) ∷ []; groups = [] } ∷ []) ∷ []) [] 1
+beside : tables_rows small ([] ∷ (record { arc = 0; point = 7; until = 9; money = 100; charge = 5; weights = (record { shipment = 0; w = 3 }) ∷ []; groups = [] } ∷ []) ∷ []) [] [] 1
     ([] ∷ ((record { arc = 0; point = 7; v = 20; weights = [] }) ∷ []) ∷ [])
     ≡ (codes "table" ∷ codes "1" ∷ []) ∷ (codes "table" ∷ codes "2" ∷ []) ∷ (codes "share" ∷ codes "A" ∷ codes "B" ∷ codes "7" ∷ codes "20" ∷ [])
     ∷ (codes "span" ∷ codes "A" ∷ codes "B" ∷ codes "7" ∷ codes "9" ∷ codes "100" ∷ codes "5" ∷ []) ∷ (codes "weight" ∷ codes "S1" ∷ codes "3" ∷ []) ∷ []
@@ -80,7 +82,7 @@ unfolding digits
 beside = refl
 
 -- groups follow the weights of their span
-grouped : tables_rows small ((record { arc = 0; point = 0; until = 9; money = 100; charge = 0; weights = (record { shipment = 0; w = 3 }) ∷ []; groups = 4 ∷ 6 ∷ [] } ∷ []) ∷ []) [] 1 ([] ∷ [])
+grouped : tables_rows small ((record { arc = 0; point = 0; until = 9; money = 100; charge = 0; weights = (record { shipment = 0; w = 3 }) ∷ []; groups = 4 ∷ 6 ∷ [] } ∷ []) ∷ []) [] [] 1 ([] ∷ [])
     ≡ (codes "table" ∷ codes "1" ∷ []) ∷ (codes "span" ∷ codes "A" ∷ codes "B" ∷ codes "0" ∷ codes "9" ∷ codes "100" ∷ codes "0" ∷ [])
     ∷ (codes "weight" ∷ codes "S1" ∷ codes "3" ∷ []) ∷ (codes "group" ∷ codes "4" ∷ []) ∷ (codes "group" ∷ codes "6" ∷ []) ∷ []
 unfolding digits
@@ -88,12 +90,28 @@ grouped = refl
 
 -- gifts follow the spans of their table, whether it has spans or none
 given : tables_rows small ((record { arc = 0; point = 0; until = 9; money = 40; charge = 0; weights = []; groups = 4 ∷ [] } ∷ []) ∷ ([] ∷ []))
-    ((record { arc = 0; point = 0; until = 11; least = true; amount = 60 } ∷ []) ∷ ((record { arc = 0; point = 3; until = 8; least = false; amount = 5 } ∷ []) ∷ [])) 1 ([] ∷ ([] ∷ []))
+    ((record { arc = 0; point = 0; until = 11; least = true; amount = 60 } ∷ []) ∷ ((record { arc = 0; point = 3; until = 8; least = false; amount = 5 } ∷ []) ∷ [])) [] 1 ([] ∷ ([] ∷ []))
     ≡ (codes "table" ∷ codes "1" ∷ []) ∷ (codes "span" ∷ codes "A" ∷ codes "B" ∷ codes "0" ∷ codes "9" ∷ codes "40" ∷ codes "0" ∷ []) ∷ (codes "group" ∷ codes "4" ∷ [])
     ∷ (codes "gift" ∷ codes "A" ∷ codes "B" ∷ codes "0" ∷ codes "11" ∷ codes "least" ∷ codes "60" ∷ []) ∷ (codes "table" ∷ codes "2" ∷ [])
     ∷ (codes "gift" ∷ codes "A" ∷ codes "B" ∷ codes "3" ∷ codes "8" ∷ codes "most" ∷ codes "5" ∷ []) ∷ []
 unfolding digits
 given = refl
+
+-- the line of a table by moments says so
+timed : tables_rows small [] [] (false ∷ true ∷ []) 1 ([] ∷ ([] ∷ []))
+    ≡ (codes "table" ∷ codes "1" ∷ []) ∷ (codes "table" ∷ codes "2" ∷ codes "moments" ∷ []) ∷ []
+unfolding digits
+timed = refl
+
+-- leaves are priced by moments by such a table, and by no other kind of prices
+timed-kind : by_moments (false ∷ true ∷ []) (Table 2) ≡ true
+timed-kind = refl
+
+timed-other : by_moments (false ∷ true ∷ []) (Table 1) ≡ false
+timed-other = refl
+
+timed-none : by_moments (false ∷ true ∷ []) (Table 3) ≡ false
+timed-none = refl
 
 -- a split by trucks names no shipment
 by-trucks : split_fields small (ByTrucks 0 2 9 1) ≡ codes "split" ∷ codes "trucks" ∷ codes "A" ∷ codes "B" ∷ codes "2" ∷ codes "9" ∷ codes "1" ∷ []

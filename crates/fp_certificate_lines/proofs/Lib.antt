@@ -1,6 +1,7 @@
 pub mod Named
 pub mod SpanRanges
 mod RowTexts
+pub mod NoMoments
 pub mod Examples
 pub mod LineLengths
 pub mod TextLengths

@@ -18,7 +18,7 @@ part text rows more = ap (λ (t : List ℕ). text ++ t) (lines_of-append rows mo
 -- the text of all lines
 pub rows-text : (p : Problem) (c : Statement) → lines_of (rows_of p c) ≡
     ((((((((line_of (answer_fields p c.answer) ++ lines_of (scale_rows c.scale)) ++ lines_of (unit_rows c.unit)) ++ lines_of (map (leg_fields p) c.legs))
-    ++ lines_of (map (truck_fields p) c.trucks)) ++ lines_of (map (point_fields p) c.points)) ++ lines_of (tables_rows p c.spans c.gifts 1 c.tables))
+    ++ lines_of (map (truck_fields p) c.trucks)) ++ lines_of (map (point_fields p) c.points)) ++ lines_of (tables_rows p c.spans c.gifts c.moments 1 c.tables))
     ++ lines_of (map (node_fields p) c.tree)) ++ line_of end_fields)
 rows-text p c =
     let answer = line_of (answer_fields p c.answer) in
@@ -27,7 +27,7 @@ rows-text p c =
     let legs = map (leg_fields p) c.legs in
     let trucks = map (truck_fields p) c.trucks in
     let points = map (point_fields p) c.points in
-    let tables = tables_rows p c.spans c.gifts 1 c.tables in
+    let tables = tables_rows p c.spans c.gifts c.moments 1 c.tables in
     let tree = map (node_fields p) c.tree in
     let last = end_fields ∷ [] in
     part answer scale (unit ++ (legs ++ (trucks ++ (points ++ (tables ++ (tree ++ last))))))

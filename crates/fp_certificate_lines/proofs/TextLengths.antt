@@ -34,7 +34,8 @@ use Rattle.fp_certificate_lines.specs.declared.certificates.Spent.{Spent}
 use Rattle.fp_certificate_lines.specs.declared.certificates.Spent.TheVariants.{Rounds, Branches, Time}
 use Rattle.fp_certificate_lines.specs.Lengths.{most_bytes, node_bytes, price_rows}
 use Rattle.fp_certificate_lines.specs.Ranges.{HaveNames, IsAnswerInRange, IsGiftInRange, IsGroupInRange, IsInRange, IsLegInRange, IsNodeInRange, IsPointInRange, IsScaleInRange, IsShareInRange, IsSpanInRange, IsSplitInRange, IsTruckInRange, IsUnitInRange, IsWeightInRange, largest_figure}
-use Rattle.fp_certificate_lines.specs.Rows.{answer_fields, beside_rows, end_fields, gift_fields, group_fields, head_name, kind_text, leg_fields, mode_text, node_fields, point_fields, rows_of, scale_rows, share_fields, share_rows, shipment_name, side_text, sides_fields, span_fields, span_rows, spent_text, split_fields, table_fields, table_rows, tables_rows, tail_name, terminal_name, time_text, truck_fields, unit_rows, weight_fields}
+use Rattle.fp_certificate_lines.specs.Moments.{moments_of_table}
+use Rattle.fp_certificate_lines.specs.Rows.{answer_fields, beside_rows, end_fields, gift_fields, group_fields, head_name, kind_text, leg_fields, mode_text, moments_fields, node_fields, point_fields, rows_of, scale_rows, share_fields, share_rows, shipment_name, side_text, sides_fields, span_fields, span_rows, spent_text, split_fields, table_fields, table_rows, tables_rows, tail_name, terminal_name, time_text, truck_fields, unit_rows, weight_fields}
 use Rattle.fp_certificate_lines.specs.Statements.{Statement}
 use Rattle.fp_certificate_lines.proofs.LineLengths.{All-flat_map, All-made, IsShortRow, digits-le, field_bytes, line-bytes, lines-append, lines-cons, rows-bytes}
 
@@ -202,24 +203,32 @@ module _ (p : Problem) (valid : IsValid p) (names : HaveNames p) where
       (All-made (IsGiftInRange p) (IsShortRow 165) (gift_fields p) gift-bytes gifts given)
 
   -- a table's own line, and with it those of its shares and of what stands beside it
-  table-bytes : (id : ℕ) → id < 2 ^ 32 → IsShortRow 165 (table_fields id)
-  table-bytes id lt = omega (arith, line-bytes (codes "table") (decimal id ∷ []), word (codes "table") 5 refl, short-digits id lt)
+  moments-short : (by_moments : Bool) → field_bytes (moments_fields by_moments) ≤ 8
+  moments-short true = omega (arith, word (codes "moments") 7 refl)
+  moments-short false = omega arith
 
-  one-table : (id : ℕ) (table : List ClassShare) (spans : List ClassSpan) (gifts : List Gift) → id < 2 ^ 32 → All (IsShareInRange p) table → All (IsSpanInRange p) spans → All (IsGiftInRange p) gifts →
-      All (IsShortRow 165) (table_rows p id table spans gifts)
-  one-table id table spans gifts lt shares held given =
-      All-cons (IsShortRow 165) (table_fields id) (flat_map (share_rows p) table ++ beside_rows p spans gifts) (table-bytes id lt)
+  table-bytes : (id : ℕ) (by_moments : Bool) → id < 2 ^ 32 → IsShortRow 165 (table_fields id by_moments)
+  table-bytes id by_moments lt =
+      omega (arith, line-bytes (codes "table") (decimal id ∷ moments_fields by_moments), word (codes "table") 5 refl, short-digits id lt, moments-short by_moments)
+
+  one-table : (id : ℕ) (by_moments : Bool) (table : List ClassShare) (spans : List ClassSpan) (gifts : List Gift) →
+      id < 2 ^ 32 → All (IsShareInRange p) table → All (IsSpanInRange p) spans → All (IsGiftInRange p) gifts → All (IsShortRow 165) (table_rows p id by_moments table spans gifts)
+  one-table id by_moments table spans gifts lt shares held given =
+      All-cons (IsShortRow 165) (table_fields id by_moments) (flat_map (share_rows p) table ++ beside_rows p spans gifts) (table-bytes id by_moments lt)
       (All-append (IsShortRow 165) (flat_map (share_rows p) table) (beside_rows p spans gifts) (All-flat_map (IsShareInRange p) (IsShortRow 165) (share_rows p) shares-bytes table shares)
       (besides-bytes spans gifts held given))
 
   -- the lines of tables, where the spans and the gifts of each list are in range
-  tables-each : (spans : List (List ClassSpan)) (gifts : List (List Gift)) → AllByRecursion (All (IsSpanInRange p)) spans → AllByRecursion (All (IsGiftInRange p)) gifts → (id : ℕ) (tables : List (List ClassShare)) →
-      id + length tables < 2 ^ 32 → AllByRecursion (All (IsShareInRange p)) tables → All (IsShortRow 165) (tables_rows p spans gifts id tables)
-  tables-each spans gifts held given id [] few all = All-nil (IsShortRow 165)
-  tables-each spans gifts held given id (table ∷ tables) few all =
-      All-append (IsShortRow 165) (table_rows p id table (spans_of_table spans id) (gifts_of_table gifts id)) (tables_rows p spans gifts (id + 1) tables)
-      (one-table id table (spans_of_table spans id) (gifts_of_table gifts id) (omega (arith, few)) all.0 (beside-range (IsSpanInRange p) spans (id - 1) held) (beside-range (IsGiftInRange p) gifts (id - 1) given))
-      (tables-each spans gifts held given (id + 1) tables (omega (arith, few)) all.1)
+  tables-each : (spans : List (List ClassSpan)) (gifts : List (List Gift)) (moments : List Bool) →
+      AllByRecursion (All (IsSpanInRange p)) spans → AllByRecursion (All (IsGiftInRange p)) gifts → (id : ℕ) (tables : List (List ClassShare)) →
+      id + length tables < 2 ^ 32 → AllByRecursion (All (IsShareInRange p)) tables → All (IsShortRow 165) (tables_rows p spans gifts moments id tables)
+  tables-each spans gifts moments held given id [] few all = All-nil (IsShortRow 165)
+  tables-each spans gifts moments held given id (table ∷ tables) few all =
+      let by_moments = moments_of_table moments id in
+      All-append (IsShortRow 165) (table_rows p id by_moments table (spans_of_table spans id) (gifts_of_table gifts id)) (tables_rows p spans gifts moments (id + 1) tables)
+      (one-table id by_moments table (spans_of_table spans id) (gifts_of_table gifts id) (omega (arith, few)) all.0
+      (beside-range (IsSpanInRange p) spans (id - 1) held) (beside-range (IsGiftInRange p) gifts (id - 1) given))
+      (tables-each spans gifts moments held given (id + 1) tables (omega (arith, few)) all.1)
 
   -- a split's line, and a leaf's
   split-bytes : (s : Split) → IsSplitInRange p s → IsShortRow 109 (split_fields p s)
@@ -372,7 +381,7 @@ module _ (p : Problem) (valid : IsValid p) (names : HaveNames p) where
       let last = end_fields ∷ [] in
       let prices : length (lines_of tables) ≤ length tables * 165 =
       rows-bytes 165 tables
-      (tables-each c.spans c.gifts (recursion_from_All (All (IsSpanInRange p)) c.spans r.spans) (recursion_from_All (All (IsGiftInRange p)) c.gifts r.gifts) 1 c.tables (omega (arith, countable.few_tables)) (recursion_from_All (All (IsShareInRange p)) c.tables r.tables)) in
+      (tables-each c.spans c.gifts c.moments (recursion_from_All (All (IsSpanInRange p)) c.spans r.spans) (recursion_from_All (All (IsGiftInRange p)) c.gifts r.gifts) 1 c.tables (omega (arith, countable.few_tables)) (recursion_from_All (All (IsShareInRange p)) c.tables r.tables)) in
       omega (
         arith,
         lines-cons (answer_fields p c.answer) (scale ++ (unit ++ (legs ++ (trucks ++ (points ++ (tables ++ (tree ++ last))))))),

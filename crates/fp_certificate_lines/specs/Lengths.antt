@@ -17,7 +17,7 @@ node_bytes (Leaf valuation) = 35
 -- the lines of tables, of their shares, of the spans beside them, of the weights of both, of the groups
 -- of spans, and of the gifts beside tables
 abbrev pub price_rows : Problem → Statement → List (List (List ℕ))
-price_rows p c = tables_rows p c.spans c.gifts 1 c.tables
+price_rows p c = tables_rows p c.spans c.gifts c.moments 1 c.tables
 
 -- the most bytes of a certificate: of its answer, its scale, its unit and its end together 173, of a
 -- leg 117, of a departure 159, of a point 51, of a price line 165, and of each node

@@ -1,3 +1,4 @@
+pub mod Moments
 pub mod Statements
 pub mod Rows
 pub mod Ranges

@@ -137,8 +137,8 @@ abbrev pub IsNodeInRange : Problem → List (List ClassShare) → Node → Type 
 IsNodeInRange p tables (Branch split) = IsSplitInRange p split
 IsNodeInRange p tables (Leaf valuation) = IsLeafInRange tables valuation
 
--- all numbers are in range, all terminals, arcs, shipments and tables exist, and there is a list of
--- spans and one of gifts for each table
+-- all numbers are in range, all terminals, arcs, shipments and tables exist, and for each table there
+-- is a list of spans, one of gifts, and whether it is by moments
 pub record IsInRange (p : Problem) (c : Statement) : Type 0 where
   pub answer : IsAnswerInRange p c.answer
   pub scale : IfSome c.scale (IsScaleInRange p)
@@ -151,6 +151,7 @@ pub record IsInRange (p : Problem) (c : Statement) : Type 0 where
   pub beside : length c.spans ≡ length c.tables
   pub gifts : All (All (IsGiftInRange p)) c.gifts
   pub given : length c.gifts ≡ length c.tables
+  pub timed : length c.moments ≡ length c.tables
   pub tree : All (IsNodeInRange p c.tables) c.tree
 
 -- the names of the shipments are names, as they are in each instance

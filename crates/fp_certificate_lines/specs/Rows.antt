@@ -25,6 +25,7 @@ use Rattle.fp_certificate_lines.specs.declared.certificates.Node.TheVariants.{Br
 use Rattle.fp_certificate_lines.specs.declared.certificates.Spent.{Spent}
 use Rattle.fp_certificate_lines.specs.declared.certificates.Spent.TheVariants.{Rounds, Branches, Time}
 use Rattle.fp_certificate_lines.specs.declared.certificates.Valuation.{Valuation}
+use Rattle.fp_certificate_lines.specs.Moments.{moments_of_table}
 use Rattle.fp_certificate_lines.specs.Statements.{Statement}
 
 -- the name of the terminal with a number
@@ -113,9 +114,17 @@ truck_fields p t =
 abbrev pub point_fields : Problem → AddedPoint → List (List ℕ)
 point_fields p point = codes "point" ∷ terminal_name p point.terminal ∷ decimal point.at ∷ decimal point.round ∷ []
 
--- `table,ID`
-abbrev pub table_fields : ℕ → List (List ℕ)
-table_fields id = codes "table" ∷ decimal id ∷ []
+-- that leaves are priced by moments by a table, where they are
+abbrev pub moments_fields : Bool → List (List ℕ)
+moments_fields by_moments = if by_moments then codes "moments" ∷ [] else []
+
+-- a line that has been begun, and this
+abbrev pub with_moments : Lines → Bool → Lines
+with_moments line by_moments = if by_moments then with_field line (codes "moments") else line
+
+-- `table,ID` or `table,ID,moments`
+abbrev pub table_fields : ℕ → Bool → List (List ℕ)
+table_fields id by_moments = codes "table" ∷ decimal id ∷ moments_fields by_moments
 
 -- `share,FROM,TO,POINT,V`
 abbrev pub share_fields : Problem → ClassShare → List (List ℕ)
@@ -156,14 +165,14 @@ abbrev pub beside_rows : Problem → List ClassSpan → List Gift → List (List
 beside_rows p spans gifts = flat_map (span_rows p) spans ++ map (gift_fields p) gifts
 
 -- the line of a table with a number, followed by its shares, by the spans beside it and by the gifts beside it
-abbrev pub table_rows : Problem → ℕ → List ClassShare → List ClassSpan → List Gift → List (List (List ℕ))
-table_rows p id table spans gifts = table_fields id ∷ (flat_map (share_rows p) table ++ beside_rows p spans gifts)
+abbrev pub table_rows : Problem → ℕ → Bool → List ClassShare → List ClassSpan → List Gift → List (List (List ℕ))
+table_rows p id by_moments table spans gifts = table_fields id by_moments ∷ (flat_map (share_rows p) table ++ beside_rows p spans gifts)
 
--- the lines of tables that are numbered from a number on, beside which these spans and gifts are
-abbrev pub tables_rows : Problem → List (List ClassSpan) → List (List Gift) → ℕ → List (List ClassShare) → List (List (List ℕ))
-tables_rows p spans gifts id [] = []
-tables_rows p spans gifts id (table ∷ tables) =
-    table_rows p id table (spans_of_table spans id) (gifts_of_table gifts id) ++ tables_rows p spans gifts (id + 1) tables
+-- the lines of tables that are numbered from a number on, beside which these spans and gifts are, some of them by moments
+abbrev pub tables_rows : Problem → List (List ClassSpan) → List (List Gift) → List Bool → ℕ → List (List ClassShare) → List (List (List ℕ))
+tables_rows p spans gifts moments id [] = []
+tables_rows p spans gifts moments id (table ∷ tables) =
+    table_rows p id (moments_of_table moments id) table (spans_of_table spans id) (gifts_of_table gifts id) ++ tables_rows p spans gifts moments (id + 1) tables
 
 -- `split,arc,SHIPMENT,FROM,TO`, `split,time,SHIPMENT,TERMINAL,AT`, `split,trucks,FROM,TO,POINT,UNTIL,N` or
 -- `split,way,SHIPMENT,FROM,TO`
@@ -217,6 +226,6 @@ rows_of p c =
     ++ (map (leg_fields p) c.legs
     ++ (map (truck_fields p) c.trucks
     ++ (map (point_fields p) c.points
-    ++ (tables_rows p c.spans c.gifts 1 c.tables
+    ++ (tables_rows p c.spans c.gifts c.moments 1 c.tables
     ++ (map (node_fields p) c.tree
     ++ (end_fields ∷ []))))))))

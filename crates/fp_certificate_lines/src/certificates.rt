@@ -91,6 +91,9 @@ pub struct Certificate {
     pub spans: Vec<TableSpans>,
     /// The gifts beside each table, in the order of the tables.
     pub gifts: Vec<TableGifts>,
+    /// Whether leaves are priced by moments by each table, in the order of the tables: by the windows
+    /// that their sides narrow, where only a span that is charged at the leaf has to pay.
+    pub moments: Vec<bool>,
     /// The tree of the search in preorder.
     pub tree: Vec<Node>,
 }
@@ -110,6 +113,7 @@ impl Model for Certificate {
       tables = c.tables.items;
       spans = c.spans.items;
       gifts = c.gifts.items;
+      moments = c.moments.items;
       tree = c.tree.items;
     } };
 }

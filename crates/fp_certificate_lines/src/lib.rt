@@ -8,12 +8,14 @@ mod certificates;
 mod laws;
 mod limits;
 mod lines;
+mod moments;
 mod writing;
 
 pub use certificates::{Answer, Certificate, Node, Spent, Valuation};
 pub use laws::{instances_are_named, largest_figure_is_a_number, texts_are_short};
 pub use limits::LARGEST_FIGURE;
 pub use lines::answers::write_answer;
+pub use moments::by_moments;
 pub use writing::write;
 
 /// The error of a call that finds no memory.

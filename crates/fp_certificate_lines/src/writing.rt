@@ -37,7 +37,8 @@ fn write_end(line: &mut Line) -> Result<(), NoMemory>
 /// - `scale,N`, where the certificate has a scale, and `unit,Q`, where it has a unit.
 /// - `leg,SHIPMENT,FROM,TO,DEPART,ARRIVE` for each leg, `truck,FROM,TO,DEPART,TRUCKS,LOAD` for each
 ///   departure, and `point,TERMINAL,TIME,ROUND` for each added point.
-/// - `table,ID` for each table, followed by `share,FROM,TO,POINT,V` for each of its shares, each
+/// - `table,ID` for each table, or `table,ID,moments` where leaves are priced by moments by it,
+///   followed by `share,FROM,TO,POINT,V` for each of its shares, each
 ///   followed by `weight,SHIPMENT,W` for each of its weights; and then by
 ///   `span,FROM,TO,POINT,UNTIL,MONEY,CHARGE` for each span beside it, each followed by its weights
 ///   and then by `group,MOMENT` for each moment at which a further group begins; and then by
@@ -70,6 +71,7 @@ pub fn write(
         &certificate.tables,
         &certificate.spans,
         &certificate.gifts,
+        &certificate.moments,
     )?;
     write_tree(&mut line, instance, &certificate.tree)?;
     write_end(&mut line)?;

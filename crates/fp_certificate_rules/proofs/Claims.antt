@@ -1,5 +1,5 @@
 -- What an accepted certificate claims is true.
-use Rattle.std.proofs.Common.{◌≡◌, ℕ, zero, suc, ◌+◌, ◌*◌, ◌<◌, ◌≤◌, List, [], ◌∷◌, length, map, take, ⊎_elim, refl, sym, subst, arith}
+use Rattle.std.proofs.Common.{◌≡◌, ℕ, zero, suc, ◌+◌, ◌*◌, ◌<◌, ◌≤◌, Bool, true, false, List, [], ◌∷◌, length, map, take, ⊎_elim, refl, sym, subst, arith}
 use Rattle.std.specs.Prelude.{Option, Some, None, slice_index_or}
 use Rattle.std.specs.Int.{div_ceil}
 use Rattle.std.specs.List.{AllByRecursion}
@@ -27,30 +27,36 @@ use Rattle.fp_tree.specs.declared.sides.Split.{Split}
 use Rattle.fp_tree.specs.declared.sides.Split.TheVariants.{ByArc, ByTime, ByTrucks, ByWay}
 use Rattle.fp_tree.specs.Sides.{Counts, Exit, HasCount, HasCounts, HasWay, HasWays, IsTailOfSplit, Meets, MeetsAll}
 use Rattle.fp_tree.specs.Trees.{HaveTails, Leaf, tree_leaves}
+use Rattle.fp_prices.specs.declared.leaf_prices.Kind.{Kind}
 use Rattle.fp_prices.specs.declared.leaf_prices.LeafPrice.{LeafPrice}
 use Rattle.fp_prices.specs.Leaves.{IsPlanOfLeaf}
+use Rattle.fp_prices.specs.Prices.{AllKeepRule}
+use Rattle.fp_prices.specs.Shares.{ClassShare}
+use Rattle.fp_prices.proofs.LeafPlans.{IsPlanOfLeaf-within}
 use Rattle.fp_prices.proofs.PlanLeaves.{plan-obeys-leaf}
-use Rattle.fp_prices_gifts.specs.GiftKinds.{IsPricedValue, gifts_beside}
+use Rattle.fp_prices_gifts.specs.declared.gifts.Gift.{Gift}
+use Rattle.fp_prices_gifts.specs.GiftKinds.{gifts_beside}
 use Rattle.fp_prices_gifts.proofs.GiftBounds.{gift_leaf-bounds}
+use Rattle.fp_prices_gifts.proofs.MomentLeaves.{moment_leaves-bound-plans, span_leaf-empty}
+use Rattle.fp_prices_spans.specs.MomentRuns.{AreAmong}
 use Rattle.fp_prices_spans.specs.SpanKinds.{spans_beside}
-use Rattle.fp_prices_spans.specs.SpanLeaves.{IsSpanLeafEmpty}
 use Rattle.fp_prices_spans.specs.Spans.{ClassSpan}
-use Rattle.fp_prices_spans.proofs.LeafWays.{leaf_route-via}
 use Rattle.fp_certificate_lines.specs.declared.certificates.Answer.{Answer}
 use Rattle.fp_certificate_lines.specs.declared.certificates.Answer.TheVariants.{Direct, Optimal, Unfinished, Infeasible}
 use Rattle.fp_certificate_lines.specs.declared.certificates.Node.{Node}
 use Rattle.fp_certificate_lines.specs.declared.certificates.Node.TheVariants as node
 use Rattle.fp_certificate_lines.specs.declared.certificates.Valuation.{Valuation}
+use Rattle.fp_certificate_lines.specs.Moments.{by_moments}
 use Rattle.fp_certificate_lines.specs.Ranges.{IsAnswerInRange, IsInRange}
 use Rattle.fp_certificate_lines.specs.Statements.{Statement}
 use Rattle.fp_certificate_lines.specs.Valuations.{first_sides, sides_valued}
 use Rattle.fp_certificate_rules.specs.Accepted.{Applies, IsAccepted, IsBlockedAs, IsTooLate, Part, claim_of}
 use Rattle.fp_certificate_rules.specs.Claims.{AcceptedClaims, Claims, ClaimsWithin, NoPlanWithinCheaper}
-use Rattle.fp_certificate_rules.specs.Leaves.{AreLeavesWorth, HasTree, IsLeafWorth, fork_of, split_tail}
+use Rattle.fp_certificate_rules.specs.Leaves.{AreLeavesWorth, HasTree, IsLeafEmptyBy, IsLeafValueBy, IsLeafWorth, fork_of, split_tail}
 use Rattle.fp_certificate_rules.specs.Points.{points_as_of}
 use Rattle.fp_certificate_rules.specs.Units.{rounded_up}
 use Rattle.fp_certificate_rules.proofs.FirstPoints.{initial-among}
-use Rattle.fp_certificate_rules.proofs.KeptPrices.{AreKept, HasPrices-kept}
+use Rattle.fp_certificate_rules.proofs.KeptPrices.{AreKept, AreKeptBeside, HasPrices-kept}
 use Rattle.fp_certificate_rules.proofs.UnitCosts.{rounded_up-cost}
 
 -- what holds of all elements of a list holds of the first ones
@@ -94,11 +100,20 @@ of-first-sides p windows d plan v sides of_leaf = record {
   obeys = record { legs = obey-first p d 0 v.sides sides plan of_leaf.obeys.legs; trucks = count-first (trucks_between p d plan) v.sides sides of_leaf.obeys.trucks; ways = ways-first (map (map (exit_of p)) plan) v.sides sides of_leaf.obeys.ways };
 }
 
--- a leaf that is empty by its heads and ways has no plan: the classes of a plan's route are a walk by them
-span_leaf-empty : (p : Problem) (windows : ℕ → ℕ → Option Window) (points : ℕ → List ℕ) (sides : List Side) (spans : List ClassSpan) → IsSpanLeafEmpty p windows points sides spans → (d : ℕ) (plan : List (List Leg)) →
+-- a leaf that is empty has no plan: the classes of a plan's route are a walk by its heads and ways
+leaf_empty-none : (timed : Bool) (p : Problem) (windows : ℕ → ℕ → Option Window) (points : ℕ → List ℕ) (sides : List Side) (spans : List ClassSpan) → IsLeafEmptyBy timed p windows points sides spans → (d : ℕ) (plan : List (List Leg)) →
     IsPlanOfLeaf p windows sides d plan → ⊥
-span_leaf-empty p windows points sides spans empty d plan of_leaf =
-    empty.none _ (leaf_route-via p windows points sides spans d empty.shipment plan empty.exists of_leaf)
+leaf_empty-none false p windows points sides spans empty d plan of_leaf = span_leaf-empty p windows points sides spans empty d plan of_leaf
+leaf_empty-none true p windows points sides spans empty d plan of_leaf = moment_leaves-bound-plans.empties p windows points sides spans empty d plan of_leaf
+
+-- no plan of a leaf costs less than its value, also by moments
+leaf_value-bounds : (timed : Bool) (p : Problem) (windows : ℕ → ℕ → Option Window) (first points : ℕ → List ℕ) (sides : List Side) (tables : List (List ClassShare)) (spans : List ClassSpan) (gifts : List Gift) (kind : Kind) (forced : Bool) (value : ℕ) → IsValid p →
+    AreAmong p first points → AllKeepRule p tables → AreKeptBeside timed p windows first spans gifts → IsLeafValueBy timed p windows points sides tables spans gifts kind forced value → (d : ℕ) (plan : List (List Leg)) →
+    IsPlanOfLeaf p windows sides d plan → value ≤ p.scale * cost p plan
+leaf_value-bounds false p windows first points sides tables spans gifts kind forced value valid among rule keep leaf d plan of_leaf =
+    gift_leaf-bounds p windows first points sides tables spans gifts kind forced value valid among rule keep leaf d plan of_leaf
+leaf_value-bounds true p windows first points sides tables spans gifts kind forced value valid among rule keep leaf d plan of_leaf =
+    moment_leaves-bound-plans.values p windows points sides tables spans gifts kind forced value valid rule keep.exist keep.ordered keep.money leaf d plan of_leaf
 
 -- a plan of a leaf costs at least what the leaf is worth
 IsLeafWorth-cost : (p : Problem) (table : WindowTable) (c : Statement) (claim d : ℕ) (plan : List (List Leg)) (x : Node) (sides : List Side) → IsValid p → AreKept p table c →
@@ -107,11 +122,13 @@ IsLeafWorth-cost p table c claim d plan (node.Branch split) sides valid keep of_
 IsLeafWorth-cost p table c claim d plan (node.Leaf v) sides valid keep of_leaf worth =
     let price : LeafPrice = v.price in
     let points : ℕ → List ℕ = points_as_of p table.anchors c price.round in
+    let timed : Bool = by_moments c.moments price.kind in
+    let spans : List ClassSpan = spans_beside c.spans price.kind in
+    let gifts : List Gift = gifts_beside c.gifts price.kind in
     ⊎_elim
-    (λ (empty : IsSpanLeafEmpty p (windows_in table) points sides (spans_beside c.spans price.kind)).
-    absurd (span_leaf-empty p (windows_in table) points sides (spans_beside c.spans price.kind) empty d plan of_leaf))
-    (λ (leaf : (value : ℕ) × IsPricedValue p (windows_in table) points (sides_valued v sides) c.tables c.spans c.gifts price.kind price.forced value × (claim ≤ rounded_up c.unit (div_ceil value p.scale))).
-    let le : leaf.0 ≤ p.scale * cost p plan = gift_leaf-bounds p (windows_in table) (initial_points p table.anchors) points (sides_valued v sides) c.tables (spans_beside c.spans price.kind) (gifts_beside c.gifts price.kind) price.kind price.forced leaf.0 valid
+    (λ (empty : IsLeafEmptyBy timed p (windows_in table) points sides spans). absurd (leaf_empty-none timed p (windows_in table) points sides spans empty d plan of_leaf))
+    (λ (leaf : (value : ℕ) × IsLeafValueBy timed p (windows_in table) points (sides_valued v sides) c.tables spans gifts price.kind price.forced value × (claim ≤ rounded_up c.unit (div_ceil value p.scale))).
+    let le : leaf.0 ≤ p.scale * cost p plan = leaf_value-bounds timed p (windows_in table) (initial_points p table.anchors) points (sides_valued v sides) c.tables spans gifts price.kind price.forced leaf.0 valid
     (initial-among p table.anchors c.points price.round) keep.tables (keep.spans price.kind) leaf.1 d plan (of-first-sides p (windows_in table) d plan v sides of_leaf) in
     let few : div_ceil leaf.0 p.scale ≤ cost p plan = div_ceil-least leaf.0 p.scale (cost p plan) (omega (arith, valid.scale.0)) (omega (arith, le)) in
     let rounded : rounded_up c.unit (div_ceil leaf.0 p.scale) ≤ cost p plan = rounded_up-cost p c.unit (div_ceil leaf.0 p.scale) plan keep.range keep.unit few in
@@ -139,7 +156,7 @@ pub AreLeavesWorth-NoPlanWithinCheaper : (p : Problem) (table : WindowTable) (c 
     NoPlanWithinCheaper p (windows_in table) claim
 AreLeavesWorth-NoPlanWithinCheaper p table c claim valid keep tree worth d plan some is within =
     AnyByRecursion-all _ (λ (l : Leaf Node). IsLeafWorth p table c claim l.node l.sides) (claim ≤ cost p plan)
-    (λ l obeys here. IsLeafWorth-cost p table c claim d plan l.node l.sides valid keep (record { denominator = some; plan = is; within = within; obeys = obeys }) here)
+    (λ l obeys here. IsLeafWorth-cost p table c claim d plan l.node l.sides valid keep (IsPlanOfLeaf-within p (windows_in table) l.sides d plan some is within obeys) here)
     (tree_leaves (fork_of p) c.tree)
     (plan-obeys-leaf p (fork_of p) c.tree d plan (HaveTails-fork_of p c.tree) tree.tree valid is)
     worth

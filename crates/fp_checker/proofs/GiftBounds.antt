@@ -40,10 +40,10 @@ ends-same p points others (gift ∷ gifts) valid same exist ends =
 
 module _ (p : Problem) (windows : ℕ → ℕ → Option Window) (sides : List Side) (tables : List (List ClassShare)) (kind : Kind) (forced : Bool) where
   module _ (valid : IsValid p) (spans : List ClassSpan) (gifts : List Gift) (exist : AllByRecursion (λ (gift : Gift). gift.arc < length p.arcs) gifts) where
-    bound_of-same : (points others : ℕ → List ℕ) → AgreeOnPoints p points others → (b : LeafBound) → IsGiftBoundOf p windows points sides tables spans gifts kind forced b →
+    pub gift_bound_of-same : (points others : ℕ → List ℕ) → AgreeOnPoints p points others → (b : LeafBound) → IsGiftBoundOf p windows points sides tables spans gifts kind forced b →
         IsGiftBoundOf p windows others sides tables spans gifts kind forced b
-    bound_of-same points others same (Empty shipment) is = span_bound-same p valid windows points others same sides tables spans kind forced (Empty shipment) is
-    bound_of-same points others same (Value value) is = record {
+    gift_bound_of-same points others same (Empty shipment) is = span_bound-same p valid windows points others same sides tables spans kind forced (Empty shipment) is
+    gift_bound_of-same points others same (Value value) is = record {
       before = is.before;
       plain = is.plain;
       by_spans = span_value-same p valid windows points others same sides tables spans kind forced is.before is.by_spans;
@@ -58,8 +58,8 @@ module _ (p : Problem) (windows : ℕ → ℕ → Option Window) (sides : List S
     -- a bound, or none, over other lists of the same points
     pub gift_bound-same : (points others : ℕ → List ℕ) → AgreeOnPoints p points others → (found : Option LeafBound) → IsGiftBound p windows points sides tables spans gifts kind forced found →
         IsGiftBound p windows others sides tables spans gifts kind forced found
-    gift_bound-same points others same None none = λ b is. none b (bound_of-same others points (AgreeOnPoints_sym p points others same) b is)
-    gift_bound-same points others same (Some b) is = bound_of-same points others same b is
+    gift_bound-same points others same None none = λ b is. none b (gift_bound_of-same others points (AgreeOnPoints_sym p points others same) b is)
+    gift_bound-same points others same (Some b) is = gift_bound_of-same points others same b is
 
   -- without spans and gifts the bound is that by the tables
   bare-bound : (points : ℕ → List ℕ) (b : LeafBound) → IsBoundOf p windows points sides tables kind forced b → IsGiftBoundOf p windows points sides tables [] [] kind forced b

@@ -7,9 +7,13 @@ pub mod LeavesPassed
 pub mod FirstParts
 pub mod GiftFaults
 pub mod GiftBounds
+pub mod ChargedChains
+pub mod MomentBounds
 pub mod Spanned
 pub mod TruckNumbers
 pub mod NarrowSides
 pub mod LeafWays
 pub mod SameSides
+pub mod SameMoments
+pub mod LeavesBy
 pub mod LeafBounds

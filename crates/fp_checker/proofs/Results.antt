@@ -1,6 +1,6 @@
 -- What the results of tests tell.
 use Rattle.std.proofs.Common.{◌≡◌, ℕ, Bool, true, false, List, [], ◌∷◌, length, refl, ap, sym, ◌∙◌, arith}
-use Rattle.std.specs.Prelude.{◌==◌, Result, Ok, Err}
+use Rattle.std.specs.Prelude.{◌==◌, ◌↔◌, IsTrue, MatchOption, None, Option, Some, Result, Ok, Err, is_some, not}
 use Rattle.std.proofs.lemmas.Bool.{eqb-true, false≢true}
 use Rattle.fp_timenodes.specs.declared.places.Added.{Added}
 use Rattle.fp_timenodes.specs.declared.places.Added.TheVariants as added
@@ -33,3 +33,10 @@ New-not_There r a is new there = new-or-there (cc)
 pub nothing-in : {X : Type 0} (xs : List X) → (length xs == 0) ≡ true → xs ≡ []
 nothing-in [] h = refl
 nothing-in (x ∷ xs) h = absurd (omega (arith, eqb-true (length (x ∷ xs)) 0 h))
+
+-- a rule is kept exactly where no fault is found, since what is found refutes it
+pub none-kept : {X : Type 0} (Kept : Type 0) (Broken : X → Type 0) (r : Option X) (none : Bool) → is_some r ≡ not none → MatchOption r Kept Broken → ((x : X) → Broken x → Kept → ⊥) → (IsTrue none ↔ Kept)
+none-kept Kept Broken None true e kept refutes = (λ _. kept, λ _. refl)
+none-kept Kept Broken None false e kept refutes = absurd (false≢true e)
+none-kept Kept Broken (Some x) true e broken refutes = absurd (false≢true (sym e))
+none-kept Kept Broken (Some x) false e broken refutes = (λ h. absurd (false≢true h), λ kept. absurd (refutes x broken kept))

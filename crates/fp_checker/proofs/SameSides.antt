@@ -40,7 +40,7 @@ module _ (p : Problem) (windows : ℕ → ℕ → Option Window) (points : ℕ �
   one-alike k c = ap (λ (b : Bool). nat_lt c.arc (length p.arcs) && b) (moment-alike k c (windows k c.arc))
 
   -- the same classes are allowed for each shipment
-  allowed-alike : is_allowed p windows points sides ≡ is_allowed p windows points others
+  pub allowed-alike : is_allowed p windows points sides ≡ is_allowed p windows points others
   allowed-alike = λ i k c. one-alike k c i
 
   -- and the walks of a leaf go by the same arcs

@@ -16,7 +16,7 @@ use Rattle.fp_model.specs.Routes.{Leads, arcs_of}
 use Rattle.fp_model.specs.Costs.{all_legs, cost, departures_cost, flow_total, has_leg, same_leg}
 use Rattle.fp_model.proofs.TruckCounts.{sizes-some}
 use Rattle.fp_flatnet.specs.declared.window_tables.Window.{Window}
-use Rattle.fp_flatnet.specs.Belonging.{BelongsTo}
+use Rattle.fp_flatnet.specs.Belonging.{FitsInstance}
 use Rattle.fp_flatnet.specs.Tables.{WindowTable, windows_in}
 use Rattle.fp_tree.specs.declared.sides.Side.{Side}
 use Rattle.fp_allowed.specs.Allowed.{AreForced, IsForcedChain, is_allowed, tails_of}
@@ -144,24 +144,24 @@ only-walks p points allowed price i (s ∷ shipments) (chain ∷ chains) (r ∷ 
     }
 
 -- no allowed class leaves a shipment's destination
-none-leave : (p : Problem) (table : WindowTable) (points : ℕ → List ℕ) (sides : List Side) → BelongsTo p table → AllFrom (λ k (s : Shipment). NoneLeaves p (is_allowed p (windows_in table) points sides k) s.to) 0 p.shipments
-none-leave p table points sides belongs =
+none-leave : (p : Problem) (table : WindowTable) (points : ℕ → List ℕ) (sides : List Side) → FitsInstance p table → AllFrom (λ k (s : Shipment). NoneLeaves p (is_allowed p (windows_in table) points sides k) s.to) 0 p.shipments
+none-leave p table points sides fits =
     AllFrom-from_get_or (λ k (s : Shipment). NoneLeaves p (is_allowed p (windows_in table) points sides k) s.to) p.shipments no_shipment 0 (λ k lt.
     let number : k ≡ 0 + k = omega arith in
-    subst (λ (j : ℕ). NoneLeaves p (is_allowed p (windows_in table) points sides j) (shipment_at p k).to) number (NoneLeaves-destination p table points sides k belongs lt))
+    subst (λ (j : ℕ). NoneLeaves p (is_allowed p (windows_in table) points sides j) (shipment_at p k).to) number (NoneLeaves-destination p table points sides k fits lt))
 
 -- so a value that is at least the one by linear prices with forced classes paid whole is the scale times what the chains cost
 pub reached-value : (p : Problem) (table : WindowTable) (points : ℕ → List ℕ) (sides : List Side) (tables after : List (List ClassShare)) (kind : Kind) (forced : Bool) (first value : ℕ) (chains : List (List Leg)) →
-    BelongsTo p table → AllKeepRule p after → IsLeafValue p (windows_in table) points sides tables Linear true first → IsLeafValue p (windows_in table) points sides after kind forced value → first ≤ value →
+    FitsInstance p table → AllKeepRule p after → IsLeafValue p (windows_in table) points sides tables Linear true first → IsLeafValue p (windows_in table) points sides after kind forced value → first ≤ value →
     AllZipFrom (λ k. IsReachedChain p (is_allowed p (windows_in table) points sides k)) 0 p.shipments chains → value ≡ p.scale * cost p chains
-reached-value p table points sides tables after kind forced first value chains belongs keep whole leaf above reached =
+reached-value p table points sides tables after kind forced first value chains fits keep whole leaf above reached =
     let windows : ℕ → ℕ → Option Window = windows_in table in
     let allowed : ℕ → Leg → Bool = is_allowed p windows points sides in
     let only : AreOnlyWalks p points allowed 0 p.shipments whole.chains chains =
-    only-walks p points allowed (λ k size. leaf_price p tables allowed Linear whole.chains k size) 0 p.shipments whole.chains chains whole.costs (none-leave p table points sides belongs) whole.are_chains reached whole.are_least in
+    only-walks p points allowed (λ k size. leaf_price p tables allowed Linear whole.chains k size) 0 p.shipments whole.chains chains whole.costs (none-leave p table points sides fits) whole.are_chains reached whole.are_least in
     let least : first ≡ p.scale * cost p whole.chains =
     value-reached p windows points sides tables Linear first whole (subst (λ (cs : List (List Leg)). AllZipFrom (λ k. IsReached p (allowed k)) 0 p.shipments cs) (sym only.same) only.ends) in
     let same : p.scale * cost p whole.chains ≡ p.scale * cost p chains = ap (λ (cs : List (List Leg)). p.scale * cost p cs) only.same in
     let most : value ≤ p.scale * cost p chains =
-    value-le_walks p windows points sides after kind forced value chains belongs.valid keep leaf (reached-long p allowed 0 p.shipments chains reached) only.timed (reached-once p allowed 0 p.shipments chains reached) in
+    value-le_walks p windows points sides after kind forced value chains fits.valid keep leaf (reached-long p allowed 0 p.shipments chains reached) only.timed (reached-once p allowed 0 p.shipments chains reached) in
     omega (arith, least, same, most, above)

@@ -100,7 +100,7 @@ fn priced<D: Deadline>(
     ensures lines { IfOk result (λ _. line_total tables.new ≤ line_total tables.old + room) }
     ensures err { OnErr result (tables.new ≡ tables.old) }
 {
-    // They belong to the instance, so no allowed class leaves a destination, and a forced chain that
+    // They fit the instance, so no allowed class leaves a destination, and a forced chain that
     // reaches one is the only walk.
     let _windows = leaf.windows();
     let count = tables.list().len() as u32;
@@ -193,6 +193,7 @@ pub fn improve_leaf<D: Deadline>(
 ///
 /// The windows and the points belong to the instance; the terminals, the first points and the added
 /// points are together at most [`MOST_POINTS`].
+#[tactic(auto, using(fp_flatnet::proofs::WindowTimes::BelongsTo_fits))]
 pub fn improve(
     alloc: Global,
     instance: &Instance,

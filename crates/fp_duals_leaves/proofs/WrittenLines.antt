@@ -1,5 +1,5 @@
 -- The lines of tables, and of the spans and the gifts beside them, when they are written.
-use Rattle.std.proofs.Common.{◌≡◌, ℕ, ◌+◌, ◌-◌, ◌≤◌, List, [], ◌∷◌, length, drop, refl, ap, arith}
+use Rattle.std.proofs.Common.{◌≡◌, ℕ, ◌+◌, ◌-◌, ◌≤◌, Bool, List, [], ◌∷◌, length, drop, refl, ap, arith}
 use Rattle.std.specs.Prelude.{map, sum_by}
 use Rattle.std.specs.List.{flat_map}
 use Rattle.std.proofs.lemmas.List.{drop_all, length-append, length-map}
@@ -11,6 +11,7 @@ use Rattle.fp_prices_gifts.specs.declared.gifts.Gift.{Gift}
 use Rattle.fp_prices_gifts.specs.GiftKinds.{gifts_of_table}
 use Rattle.fp_prices_spans.specs.SpanKinds.{spans_of_table}
 use Rattle.fp_prices_spans.specs.Spans.{ClassSpan}
+use Rattle.fp_certificate_lines.specs.Moments.{moments_of_table}
 use Rattle.fp_certificate_lines.specs.Rows.{beside_rows, gift_fields, group_fields, share_rows, span_rows, table_rows, tables_rows, weight_fields}
 use Rattle.fp_duals.specs.PriceLines.{line_count, line_total}
 use Rattle.fp_duals_leaves.specs.PriceLines.{PriceLinesAreWritten, gift_lines, span_lines}
@@ -49,26 +50,26 @@ module _ (p : Problem) where
   beside-long spans gifts = omega (arith, length-append (flat_map (span_rows p) spans) (map (gift_fields p) gifts), spans-long spans, length-map gifts (gift_fields p))
 
   -- a table with what stands beside it
-  table-long : (id : ℕ) (table : List ClassShare) (spans : List ClassSpan) (gifts : List Gift) → length (table_rows p id table spans gifts) ≡ line_count table + span_lines spans + gift_lines gifts
-  table-long id table spans gifts = omega (arith, length-append (flat_map (share_rows p) table) (beside_rows p spans gifts), shares-long table, beside-long spans gifts)
+  table-long : (id : ℕ) (by_moments : Bool) (table : List ClassShare) (spans : List ClassSpan) (gifts : List Gift) → length (table_rows p id by_moments table spans gifts) ≡ line_count table + span_lines spans + gift_lines gifts
+  table-long id by_moments table spans gifts = omega (arith, length-append (flat_map (share_rows p) table) (beside_rows p spans gifts), shares-long table, beside-long spans gifts)
 
   -- tables from a number on, with the spans and the gifts that are left for them
-  tables-long : (spans : List (List ClassSpan)) (gifts : List (List Gift)) (id : ℕ) (tables : List (List ClassShare)) → 1 ≤ id → id - 1 + length tables ≡ length spans →
+  tables-long : (spans : List (List ClassSpan)) (gifts : List (List Gift)) (moments : List Bool) (id : ℕ) (tables : List (List ClassShare)) → 1 ≤ id → id - 1 + length tables ≡ length spans →
       id - 1 + length tables ≡ length gifts →
-      length (tables_rows p spans gifts id tables) ≡ line_total tables + sum_by span_lines (drop (id - 1) spans) + sum_by gift_lines (drop (id - 1) gifts)
-  tables-long spans gifts id [] some beside given =
+      length (tables_rows p spans gifts moments id tables) ≡ line_total tables + sum_by span_lines (drop (id - 1) spans) + sum_by gift_lines (drop (id - 1) gifts)
+  tables-long spans gifts moments id [] some beside given =
       omega (
         arith,
         ap (sum_by span_lines) (drop_all (id - 1) spans (omega (arith, beside))),
         ap (sum_by gift_lines) (drop_all (id - 1) gifts (omega (arith, given))),
       )
-  tables-long spans gifts id (table ∷ tables) some beside given =
+  tables-long spans gifts moments id (table ∷ tables) some beside given =
       let next : id - 1 + 1 ≡ id + 1 - 1 = omega (arith, some) in
       omega (
         arith,
-        length-append (table_rows p id table (spans_of_table spans id) (gifts_of_table gifts id)) (tables_rows p spans gifts (id + 1) tables),
-        table-long id table (spans_of_table spans id) (gifts_of_table gifts id),
-        tables-long spans gifts (id + 1) tables (omega arith) (omega (arith, some, beside)) (omega (arith, some, given)),
+        length-append (table_rows p id (moments_of_table moments id) table (spans_of_table spans id) (gifts_of_table gifts id)) (tables_rows p spans gifts moments (id + 1) tables),
+        table-long id (moments_of_table moments id) table (spans_of_table spans id) (gifts_of_table gifts id),
+        tables-long spans gifts moments (id + 1) tables (omega arith) (omega (arith, some, beside)) (omega (arith, some, given)),
         sum_by-cons line_count table tables,
         sum_by-drop_more span_lines spans (id - 1) [] (omega (arith, beside)),
         ap (λ (n : ℕ). sum_by span_lines (drop n spans)) next,
@@ -78,4 +79,4 @@ module _ (p : Problem) where
 
 pub PriceLinesAreWritten_hold : PriceLinesAreWritten
 PriceLinesAreWritten_hold p c beside given =
-    let some : 1 ≤ 1 = omega arith in tables-long p c.spans c.gifts 1 c.tables some (omega (arith, beside)) (omega (arith, given))
+    let some : 1 ≤ 1 = omega arith in tables-long p c.spans c.gifts c.moments 1 c.tables some (omega (arith, beside)) (omega (arith, given))

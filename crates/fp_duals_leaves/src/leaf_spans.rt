@@ -1,5 +1,6 @@
 //! Spans and gifts by which a leaf is worth more.
 ghost use Rattle.std.specs.Prelude.{IfOk, IfSome};
+ghost use Rattle.fp_flatnet.specs.Belonging.{BelongsTo};
 ghost use Rattle.fp_longestarcs.specs.Networks.{points_in};
 ghost use Rattle.fp_prices.specs.Tables.{AreTables, HasKind};
 ghost use Rattle.fp_duals_leaves.specs.SpanPrices.{IsBetterPrice};
@@ -23,6 +24,7 @@ fn price_by(
     proposed: Proposed,
     value: u128,
 ) -> Result<Option<SpanPrice>, NoMemory>
+    requires { BelongsTo leaf.now.setting.problem leaf.now.setting.windows }
     ensures { IfOk result (λ found. IfSome found
         (IsBetterPrice leaf.now.setting.problem leaf.now.setting.windows
         (points_in leaf.now.setting.network) leaf.now.sides value)) }
@@ -44,11 +46,12 @@ fn price_by(
 
 /// Spans and gifts by which a leaf is worth more than a value, where such are found.
 ///
-/// They are sought from some prices, over the nets of the leaf. What is found keeps the rules of spans
-/// and gifts, by the leaf's windows and the initial points, so no plan of the leaf costs less than it's
-/// worth by them, where the initial points are among those of its network. Gifts are found beside spans
-/// alone, and only where the leaf has sides by trucks. On the way least walks vote for points.
-/// Nothing is promised of when spans are found. `NoMemory` only where no memory is found.
+/// They are sought from some prices, over the nets of the leaf, whose windows belong to the instance.
+/// What is found keeps the rules of spans and gifts, by the leaf's windows and the initial points, so no
+/// plan of the leaf costs less than it's worth by them, where the initial points are among those of its
+/// network. Gifts are found beside spans alone, and only where the leaf has sides by trucks. On the way
+/// least walks vote for points. Nothing is promised of when spans are found. `NoMemory` only where no
+/// memory is found.
 pub(crate) fn better_spans<D: Deadline>(
     resources: &Resources<D>,
     leaf: &Leaf,
@@ -58,6 +61,7 @@ pub(crate) fn better_spans<D: Deadline>(
     effort: &SpanEffort,
     votes: &mut ClashVotes,
 ) -> Result<Option<SpanPrice>, NoMemory>
+    requires belongs { BelongsTo leaf.now.setting.problem leaf.now.setting.windows }
     requires tables { AreTables leaf.now.setting.problem start.tables.now }
     requires kind { HasKind start.tables.now start.kind }
     ensures { IfOk result (λ found. IfSome found

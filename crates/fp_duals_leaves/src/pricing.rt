@@ -1,5 +1,6 @@
 //! The price of a leaf is improved, by tables and by spans.
 ghost use Rattle.std.specs.Prelude.{◌≡◌, ◌≢◌, None, [], IfOk, IsSomeAnd, OnErr, false, ⊤};
+ghost use Rattle.fp_flatnet.specs.Belonging.{BelongsTo};
 ghost use Rattle.fp_flatnet.specs.Tables.{windows_in};
 ghost use Rattle.fp_longestarcs.specs.Networks.{points_in};
 ghost use Rattle.fp_prices.specs.declared.leaf_prices.Kind.TheVariants.{Linear};
@@ -165,6 +166,7 @@ fn by_spans<D: Deadline>(
     first: Worth,
     prices: &mut Prices,
 ) -> Result<Worth, NoMemory>
+    requires belongs { BelongsTo leaf.now.setting.problem leaf.now.setting.windows }
     requires prices { ArePrices leaf.now.setting.problem leaf.now.setting.windows prices.old }
     requires unit { prices.old.unit ≢ None }
     requires kind { HasKind prices.old.tables first.price.kind }
@@ -215,6 +217,7 @@ fn spanned<D: Deadline>(
     first: Worth,
     prices: &mut Prices,
 ) -> Result<Option<Worth>, NoMemory>
+    requires belongs { BelongsTo leaf.now.setting.problem leaf.now.setting.windows }
     requires prices { ArePrices leaf.now.setting.problem leaf.now.setting.windows prices.old }
     requires inherited { HasKind prices.old.tables inherited.kind }
     requires kind { HasKind prices.old.tables first.price.kind }
@@ -260,6 +263,7 @@ fn improve_further<D: Deadline>(
     effort: &PriceEffort,
     prices: &mut Prices,
 ) -> Result<Improvement, NoMemory>
+    requires belongs { BelongsTo leaf.now.setting.problem leaf.now.setting.windows }
     requires prices { ArePrices leaf.now.setting.problem leaf.now.setting.windows prices.old }
     requires kind { HasKind prices.old.tables inherited.kind }
     ensures grown { HaveGrown leaf.now.setting.problem leaf.now.setting.windows
@@ -295,11 +299,12 @@ fn improve_further<D: Deadline>(
 /// Improves the price of a leaf as of a round, from a price that it inherits: by tables, and where
 /// the prices have a unit by spans too.
 ///
-/// The leaf lies over the network of the round, and the nets are those of the leaf. The spans and the
-/// gifts among the prices are sound by the leaf's windows, and so are those that come. What is found is
-/// that the leaf is empty, by linear prices where it has no allowed timed walk for some shipment, and else
-/// by the prices that it inherits; or a price as of the round, what the leaf is worth by it in parts of a
-/// unit of money, and an allowed walk of each shipment. The prices grow by at most two tables. `NoMemory` only where no memory is found; then they are as before.
+/// The leaf lies over the network of the round, its windows belong to the instance, and the nets are
+/// those of the leaf. The spans and the gifts among the prices are sound by the leaf's windows, and so
+/// are those that come. What is found is that the leaf is empty, by linear prices where it has no allowed
+/// timed walk for some shipment, and else by the prices that it inherits; or a price as of the round, what
+/// the leaf is worth by it in parts of a unit of money, and an allowed walk of each shipment. The prices
+/// grow by at most two tables. `NoMemory` only where no memory is found; then they are as before.
 #[tactic(auto, using(crate::proofs::GrownPrices::HaveGrown_none))]
 pub fn improve<D: Deadline>(
     resources: &Resources<D>,
@@ -310,6 +315,7 @@ pub fn improve<D: Deadline>(
     effort: &PriceEffort,
     prices: &mut Prices,
 ) -> Result<Improvement, NoMemory>
+    requires belongs { BelongsTo leaf.now.setting.problem leaf.now.setting.windows }
     requires prices { ArePrices leaf.now.setting.problem leaf.now.setting.windows prices.old }
     requires kind { HasKind prices.old.tables inherited.kind }
     ensures grown { HaveGrown leaf.now.setting.problem leaf.now.setting.windows

@@ -32,7 +32,7 @@ const LINEAR: LeafPrice = LeafPrice {
 /// The windows belong to the instance, for which the network is whole; it has at most
 /// [`MOST_POINTS`](fp_timenodes::MOST_POINTS) points. The spans among the prices are sound by these
 /// windows. `NoMemory` only where no memory is found.
-#[tactic(auto, using(crate::proofs::GrownPrices::HaveGrown_none))]
+#[tactic(auto, using(crate::proofs::GrownPrices::HaveGrown_none, fp_flatnet::proofs::WindowTimes::BelongsTo_fits))]
 pub fn improve_root<D: Deadline>(
     resources: &Resources<D>,
     instance: &Instance,

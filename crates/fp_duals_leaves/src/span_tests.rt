@@ -1,7 +1,7 @@
 //! Whether spans and gifts that are proposed are of the instance and keep their rules.
 ghost use Rattle.std.specs.Prelude.{◌≡◌, ◌<◌, ◌-◌, ◌^◌, All, IfOk, length};
 ghost use Rattle.std.specs.Bool.{OnTrue};
-ghost use Rattle.fp_flatnet.specs.Belonging.{BelongsTo};
+ghost use Rattle.fp_flatnet.specs.Belonging.{BelongsTo, FitsInstance};
 ghost use Rattle.fp_flatnet.specs.Tables.{windows_in};
 ghost use Rattle.fp_prices_spans.specs.MomentRuns.{first_points};
 ghost use Rattle.fp_prices_spans.specs.SpanLists.{AreSpansInOrder, weight_total};
@@ -108,7 +108,7 @@ fn are_paid_beside(
     spans: &[Span],
     gifts: &[Gift],
 ) -> Result<bool, NoMemory>
-    requires belongs { BelongsTo instance.now windows.now }
+    requires fits { FitsInstance instance.now windows.now }
     requires terminals { points.now.terminals ≡ length instance.now.terminals }
     requires range { All (IsSpanInRange instance.now) spans.now }
     requires few { length spans.now < 2 ^ 32 - 1 }

@@ -6,7 +6,7 @@ use Rattle.fp_base_lists.proofs.Numbered.{AllZipFrom-get_or}
 use Rattle.fp_model.specs.declared.parts.Leg.{Leg}
 use Rattle.fp_model.specs.Numbered.{no_shipment, shipment_at}
 use Rattle.fp_model.specs.Problem.{Problem}
-use Rattle.fp_flatnet.specs.Belonging.{BelongsTo}
+use Rattle.fp_flatnet.specs.Belonging.{FitsInstance}
 use Rattle.fp_longestarcs.specs.Networks.{TimedNetwork, points_in}
 use Rattle.fp_longestarcs.specs.Whole.{IsWholeNetwork}
 use Rattle.fp_allowed.specs.Bits.{IsRowUnder, row_allows}
@@ -19,13 +19,13 @@ use Rattle.fp_duals_walks.specs.AllowedWalks.{AreAllowedWalks, IsAllowedWalk}
 -- over a round's network, what is decided by a shipment's row is decided of its allowed timed walks at the leaf
 pub row-decides : (leaf : LeafModel) (k : ℕ) (round : RoundModel) (p : Problem) (net : TimedNetwork) (row : List Bool) (walk : List Leg) (b : Bool) →
     round.problem ≡ leaf.setting.problem → round.network ≡ leaf.setting.network → p ≡ round.problem → net ≡ round.network →
-    BelongsTo leaf.setting.problem leaf.setting.windows → IsWholeNetwork round.problem round.network → IsRowUnder leaf.setting leaf.sides k row →
+    FitsInstance leaf.setting.problem leaf.setting.windows → IsWholeNetwork round.problem round.network → IsRowUnder leaf.setting leaf.sides k row →
     (IsTrue b ↔ IsTimedWalk p (points_in net) (row_allows net row) (shipment_at p k) walk) →
     IsTrue b ↔ IsAllowedWalk leaf k (shipment_at leaf.setting.problem k) walk
-row-decides leaf k round p net row walk b problem network same_p same_net belongs whole under decides =
+row-decides leaf k round p net row walk b problem network same_p same_net fits whole under decides =
     let whole_there : IsWholeNetwork leaf.setting.problem leaf.setting.network =
     subst (λ (n : TimedNetwork). IsWholeNetwork leaf.setting.problem n) network (subst (λ (q : Problem). IsWholeNetwork q round.network) problem whole) in
-    let setting : IsSetting leaf.setting = record { belongs = belongs; whole = whole_there } in
+    let setting : IsSetting leaf.setting = record { belongs = fits; whole = whole_there } in
     let at_round : IsTrue b ↔ IsTimedWalk round.problem (points_in round.network) (row_allows round.network row) (shipment_at round.problem k) walk =
     subst (λ (n : TimedNetwork). IsTrue b ↔ IsTimedWalk round.problem (points_in n) (row_allows n row) (shipment_at round.problem k) walk) same_net
     (subst (λ (q : Problem). IsTrue b ↔ IsTimedWalk q (points_in net) (row_allows net row) (shipment_at q k) walk) same_p decides) in

@@ -19,7 +19,7 @@ pub fn is_allowed_walk(leaf: &Leaf, shipment: u32, walk: &TimedWalk) -> bool
     let instance = round.instance();
     let network = round.network();
     let row = leaf.row(shipment);
-    // They belong to the instance, so each allowed class is one of the network, and has a bit.
+    // They fit the instance, so each allowed class is one of the network, and has a bit.
     let _windows = leaf.windows();
     is_row_walk(instance, network, row, shipment, &walk.stops)
 }

@@ -1,14 +1,15 @@
 -- The definitions on two arcs, from A to B in 4 and from B to C in 5, with a shipment from A to C
 -- and one from B to C that is due at 8.
-use Rattle.std.proofs.Common.{◌≡◌, ℕ, [], ◌∷◌, Some, None, refl, arith, lit≤}
+use Rattle.std.proofs.Common.{◌≡◌, ℕ, List, [], ◌∷◌, Some, None, refl, arith, lit≤}
 use Rattle.fp_model.specs.declared.parts.Arc.{Arc}
+use Rattle.fp_model.specs.declared.parts.Leg.{Leg}
 use Rattle.fp_model.specs.declared.parts.Shipment.{Shipment}
 use Rattle.fp_model.specs.Numbered.{shipment_at}
 use Rattle.fp_model.specs.Problem.{Problem}
 use Rattle.fp_model.specs.Times.{IsLeastTime}
 use Rattle.fp_flatnet.specs.Initial.{initial_points}
 use Rattle.fp_flatnet.specs.Tables.{WindowTable, closed, narrowed, windows_in}
-use Rattle.fp_flatnet.specs.Windows.{IsWindow, time_before, time_after}
+use Rattle.fp_flatnet.specs.Windows.{IsWindow, PlanLiesWithin, PlanLiesWithinWhole, time_before, time_after}
 use Rattle.fp_flatnet.proofs.PromptLegs.{at_once}
 
 -- an arc of a time
@@ -75,6 +76,21 @@ points_at_b = refl
 -- the second shipment's row alone
 abbrev one_row : WindowTable
 one_row = record { tails = 0 ∷ 1 ∷ []; rows = (None ∷ Some (record { lo = 0; hi = 3 }) ∷ []) ∷ []; anchors = [] }
+
+-- over the denominator 2, a leg by the second arc at 7, which is half a unit after the window's end: it lies within by its whole
+-- moment, and not by its own
+abbrev half_past : List (List Leg)
+half_past = (record { arc = 1; depart = 7 } ∷ []) ∷ []
+
+half_past_whole : PlanLiesWithinWhole (windows_in one_row) 2 half_past
+half_past_whole = (((lit≤ tt, lit≤ tt), tt), tt)
+
+half_past_own : PlanLiesWithin (windows_in one_row) 2 half_past → ⊥
+half_past_own within = omega (arith, within.0.0.1)
+
+-- a whole unit after the end it doesn't lie within by its whole moment either
+later_whole : PlanLiesWithinWhole (windows_in one_row) 2 ((record { arc = 1; depart = 8 } ∷ []) ∷ []) → ⊥
+later_whole within = omega (arith, within.0.0.1)
 
 narrowed_window : windows_in (narrowed one_row 0 1 2 2) 0 1 ≡ Some (record { lo = 2; hi = 2 })
 narrowed_window = refl

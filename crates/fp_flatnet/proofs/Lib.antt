@@ -17,3 +17,4 @@ pub mod PartialRoutes
 pub mod WindowRows
 mod Examples
 pub mod WindowTimes
+pub mod WholeMoments

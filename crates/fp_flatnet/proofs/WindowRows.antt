@@ -12,7 +12,7 @@ use Rattle.fp_base_lists.proofs.Numbered.{AllFrom-from_get_or}
 use Rattle.fp_timenodes.specs.declared.places.Place.{Place}
 use Rattle.fp_timenodes.specs.Points.{IsPlace}
 use Rattle.fp_flatnet.specs.declared.window_tables.Window.{Window}
-use Rattle.fp_flatnet.specs.Belonging.{BelongsTo, IsNarrowed}
+use Rattle.fp_flatnet.specs.Belonging.{AreNarrower, BelongsTo, IsNarrowed}
 use Rattle.fp_flatnet.specs.Tables.{WindowTable, AreFull, tail_of, windows_in, row_lists}
 use Rattle.fp_flatnet.specs.Windows.{AreWindows, AreWindowRows, IsWindowOrNone, IsWindowRow}
 use Rattle.fp_flatnet.proofs.WindowEntries.{length-row_lists}
@@ -27,7 +27,16 @@ AreFull-window_rows p tails rows are same =
     let here : slice_index_or (row_lists rows) k [] ≡ (slice_index_or rows k d).items = get_or-map items rows k d [] lt in
     ap (λ (r : List (Option Window)). length r) (sym here) ∙ row.one_each ∙ sym (length-map p.arcs tail_of) ∙ ap (λ (ts : List ℕ). length ts) (sym same)
 
--- and tell the windows of the problem
+-- and so are rows of an instance that are narrower
+pub AreFull-narrower : (p : Problem) (tails : List ℕ) (rows : List (Vec (Option Window) Global)) → AreNarrower p (row_lists rows) → tails ≡ map tail_of p.arcs → AreFull tails rows
+AreFull-narrower p tails rows are same =
+    λ k d lt.
+    let items : Vec (Option Window) Global → List (Option Window) = λ r. r.items in
+    let there : k < length (row_lists rows) = omega (arith, lt, length-row_lists rows) in
+    let here : slice_index_or (row_lists rows) k [] ≡ (slice_index_or rows k d).items = get_or-map items rows k d [] lt in
+    ap (λ (r : List (Option Window)). length r) (sym here) ∙ are.arcs k [] there ∙ sym (length-map p.arcs tail_of) ∙ ap (λ (ts : List ℕ). length ts) (sym same)
+
+-- the rows of all shipments tell the windows of the problem
 pub AreWindows-window_rows : (p : Problem) (table : WindowTable) → AreWindowRows p table.rows → AreWindows p (windows_in table)
 AreWindows-window_rows p table are =
     AllFrom-from_get_or (λ k (s : Shipment). (a : ℕ) → a < length p.arcs → IsWindowOrNone p s a (windows_in table k a)) p.shipments no_shipment 0

@@ -1,6 +1,6 @@
 -- When a shipment can leave by an arc, and plans that keep to it. A plan over the denominator d
 -- leaves at `depart / d`.
-use Rattle.std.specs.Prelude.{ℕ, ◌+◌, ◌*◌, ◌≤◌, ◌<◌, ◌≡◌, ◌≢◌, List, [], length, cond, nat_eq, Option, None, IsSomeAnd, MatchOption, slice_index_or}
+use Rattle.std.specs.Prelude.{ℕ, ◌+◌, ◌*◌, ◌/◌, ◌≤◌, ◌<◌, ◌≡◌, ◌≢◌, List, [], length, map, cond, nat_eq, Option, None, IsSomeAnd, MatchOption, slice_index_or}
 use Rattle.std.specs.List.{AllByRecursion}
 use Rattle.fp_model.specs.declared.parts.Leg.{Leg}
 use Rattle.fp_model.specs.declared.parts.Shipment.{Shipment}
@@ -69,6 +69,24 @@ LiesWithin windows d k legs = AllByRecursion (λ (l : Leg). IsSomeAnd (windows k
 -- over the denominator d, each leg of each shipment has a window and leaves inside it
 abbrev pub PlanLiesWithin : (ℕ → ℕ → Option Window) → ℕ → List (List Leg) → Type 0
 PlanLiesWithin windows d routes = AllFrom (LiesWithin windows d) 0 routes
+
+-- a leg over the denominator d as it leaves at the whole moment at its own or the last one before it
+abbrev pub whole_leg : ℕ → Leg → Leg
+whole_leg d l = record { arc = l.arc; depart = l.depart / d }
+
+-- legs as each of them leaves so
+abbrev pub whole_legs : ℕ → List Leg → List Leg
+whole_legs d legs = map (whole_leg d) legs
+
+-- over the denominator d, each leg of the shipment with a number has a window, and leaves inside it
+-- by the whole part of its moment: it may leave at a fraction after the window's end
+abbrev pub LiesWithinWhole : (ℕ → ℕ → Option Window) → ℕ → ℕ → List Leg → Type 0
+LiesWithinWhole windows d k legs = LiesWithin windows 1 k (whole_legs d legs)
+
+-- over the denominator d, each leg of each shipment has a window, and leaves inside it by the whole
+-- part of its moment
+abbrev pub PlanLiesWithinWhole : (ℕ → ℕ → Option Window) → ℕ → List (List Leg) → Type 0
+PlanLiesWithinWhole windows d routes = PlanLiesWithin windows 1 (map (whole_legs d) routes)
 
 -- every plan, over whatever denominator, lies within the windows
 abbrev pub CoverPlans : Problem → (ℕ → ℕ → Option Window) → Type 0

@@ -2,7 +2,7 @@
 ghost use Rattle.std.specs.Prelude.{ℕ, ◌≡◌, ◌<◌, List, [], length, map, slice_index_or, IfOk, OnOk, OnErr};
 ghost use Rattle.std.specs.Option.{option_map};
 ghost use Rattle.fp_model.specs.Problem.{Problem};
-ghost use Rattle.fp_flatnet.specs.Belonging.{BelongsTo};
+ghost use Rattle.fp_flatnet.specs.Belonging.{AreNarrower, BelongsTo, FitsInstance};
 ghost use Rattle.fp_flatnet.specs.Windows.{AreWindows, CoverPlans};
 ghost use Rattle.fp_flatnet.specs.Tables.{AreFull, CanNarrow, closed, tail_of, narrowed, windows_in, with_entry, row_lists};
 
@@ -64,11 +64,35 @@ impl Windows {
         ensures windows { IfOk result (λ w. AreWindows instance.now (windows_in w)) }
         ensures anchors { IfOk result (λ w. w.anchors ≡ []) }
         ensures belongs { IfOk result (BelongsTo instance.now) }
+        ensures fits { IfOk result (FitsInstance instance.now) }
         ensures covers { IfOk result (λ w. CoverPlans instance.now (windows_in w)) }
     {
         Ok(Windows {
             tails: tails_of(alloc, instance.arcs())?,
             rows: all_rows(alloc, instance)?,
+            anchors: Vec::new(alloc),
+        })
+    }
+
+    /// Windows of these rows for an instance, without anchors.
+    ///
+    /// There is one row a shipment with one entry an arc, and each window lies inside the problem's
+    /// window of its shipment and arc. It may begin anywhere inside it: as no anchors are kept,
+    /// `narrow` doesn't make such windows belong to the instance. `NoMemory` only where no memory is
+    /// found.
+    pub fn narrower(
+        alloc: Global,
+        instance: &Instance,
+        rows: Vec<Vec<Option<Window>>>,
+    ) -> Result<Windows, NoMemory>
+        requires { AreNarrower instance.now (row_lists rows.items) }
+        ensures rows { IfOk result (λ w. w.rows ≡ row_lists rows.items) }
+        ensures anchors { IfOk result (λ w. w.anchors ≡ []) }
+        ensures fits { IfOk result (FitsInstance instance.now) }
+    {
+        Ok(Windows {
+            tails: tails_of(alloc, instance.arcs())?,
+            rows,
             anchors: Vec::new(alloc),
         })
     }

@@ -1,6 +1,6 @@
 -- The distance in the graph of the points by heads, from the origin's first point to the destination's last, is the least cost over
 -- the allowed walks of a shipment by them.
-use Rattle.std.proofs.Common.{◌≡◌, ℕ, ◌+◌, ◌<◌, ◌≤◌, Bool, List, length, get_or, sym, subst, arith}
+use Rattle.std.proofs.Common.{◌≡◌, ℕ, ◌+◌, ◌<◌, ◌≤◌, Bool, List, length, sym, subst, arith}
 use Rattle.std.specs.Prelude.{Option, Some, None}
 use Rattle.fp_base_lists.specs.Distinct.{AreDistinct}
 use Rattle.fp_labels.specs.Labels.{IsSimpleWalk}

@@ -32,6 +32,7 @@ pub mod TableAppends
 pub mod WalkClasses
 pub mod PlanBounds
 pub mod PlanLeaves
+pub mod LeafPlans
 pub mod OneValue
 pub mod SmallPrices
 pub mod SmallBounds

@@ -10,11 +10,13 @@ use Rattle.fp_base_lists.specs.Numbered.{AllZipFrom}
 use Rattle.fp_model.specs.Plans.{IsPlan}
 use Rattle.fp_model.specs.Problem.{Problem, IsValid, arc_at, alone_total}
 use Rattle.fp_flatnet.specs.declared.window_tables.Window.{Window}
-use Rattle.fp_flatnet.specs.Windows.{PlanLiesWithin}
+use Rattle.fp_flatnet.specs.Tables.{WindowTable, windows_in}
+use Rattle.fp_flatnet.specs.Windows.{PlanLiesWithinWhole}
 use Rattle.fp_longestarcs.specs.Classes.{head_of}
 use Rattle.fp_tree.specs.declared.sides.Side.{Side}
 use Rattle.fp_allowed.specs.Allowed.{IsForcedChain, PlanObeys, is_allowed}
-use Rattle.fp_allowed.specs.Walks.{IsTimedWalk, IsWalkBy}
+use Rattle.fp_allowed.specs.Walks.{IsWalkBy}
+use Rattle.fp_allowed.specs.WindowsUnder.{AreWindowRowsUnder}
 use Rattle.fp_prices.specs.declared.leaf_prices.Kind.{Kind}
 use Rattle.fp_prices.specs.declared.values.bounds.LeafBound.{LeafBound}
 use Rattle.fp_prices.specs.declared.values.bounds.LeafBound.TheVariants.{Empty, Value}
@@ -88,12 +90,18 @@ abbrev pub IsBoundOf : Problem → (ℕ → ℕ → Option Window) → (ℕ → 
 IsBoundOf p windows points sides tables kind forced (Empty shipment) = IsFirstWithout p windows points sides shipment
 IsBoundOf p windows points sides tables kind forced (Value value) = IsLeafValue p windows points sides tables kind forced value
 
--- a plan over the denominator d of the leaf: it lies within the windows and obeys the sides
+-- a plan over the denominator d of the leaf: it lies within the windows by its whole moments, and obeys the sides
 pub record IsPlanOfLeaf (p : Problem) (windows : ℕ → ℕ → Option Window) (sides : List Side) (d : ℕ) (routes : List (List Leg)) : Type 0 where
   pub denominator : 1 ≤ d
   pub plan : IsPlan p d routes
-  pub within : PlanLiesWithin windows d routes
+  pub within : PlanLiesWithinWhole windows d routes
   pub obeys : PlanObeys p d sides routes
+
+-- a plan of a leaf is one of the leaf over the windows that the leaf's sides narrow, under the same sides
+abbrev pub LeafWindowsKeepPlans : Type 0
+LeafWindowsKeepPlans =
+    (p : Problem) (windows : ℕ → ℕ → Option Window) (sides : List Side) (narrower : WindowTable) → AreWindowRowsUnder p windows sides narrower.rows →
+    (d : ℕ) (routes : List (List Leg)) → IsPlanOfLeaf p windows sides d routes → IsPlanOfLeaf p (windows_in narrower) sides d routes
 
 -- for every denominator, no plan of the leaf costs less: the scale times its cost is at least the value, and where the leaf is empty there is no such plan
 abbrev pub BoundsPlans : Problem → (ℕ → ℕ → Option Window) → List Side → LeafBound → Type 0

@@ -17,7 +17,7 @@ mod tables;
 mod values;
 
 pub use graphs::class_walks::class_walk;
-pub use laws::{leaves_bound_plans, leaves_have_one_value};
+pub use laws::{leaf_windows_keep_plans, leaves_bound_plans, leaves_have_one_value};
 pub use leaf_prices::{Kind, LeafPrice};
 pub use price_rule::check_tables;
 pub use tables::{Share, Table, TableFault, Weight};

@@ -20,10 +20,10 @@ use Rattle.fp_prices_spans.specs.SpanLeaves.{IsSpanLeafValue}
 use Rattle.fp_prices_spans.specs.SpanPrices.{is_held, money_at, most_paid}
 use Rattle.fp_prices_spans.proofs.MoneySums.{most_paid-fits}
 use Rattle.fp_prices_spans.proofs.SoundSpans.{charges-keep_set_rule}
-use Rattle.fp_prices_spans.proofs.SpanBounds.{limits_for, span_leaf-within}
+use Rattle.fp_prices_spans.proofs.SpanBounds.{limits_for, sets-charged, span_leaf-within}
 use Rattle.fp_prices_gifts.specs.declared.gifts.Gift.{Gift}
 use Rattle.fp_prices_gifts.specs.Gifts.{KeepMoneyRule, least_at, most_at}
-use Rattle.fp_prices_gifts.specs.GiftLeaves.{GiftValuesBoundPlans, IsPlain, RulesWithoutGifts, SoundGiftsKeepRules}
+use Rattle.fp_prices_gifts.specs.GiftLeaves.{ChargedGiftsBoundPlans, GiftValuesBoundPlans, IsPlain, RulesWithoutGifts, SoundGiftsKeepRules}
 use Rattle.fp_prices_gifts.proofs.GiftSums.{least-given, most-given}
 
 -- what may be paid for a truck of a class
@@ -87,19 +87,25 @@ limits-and-gifts p spans gifts points d plan rule =
       sum_by-scaled p.scale (departure_cost p plan) legs,
     )
 
--- the value of a leaf with gifts is at most the scaled cost of each of its plans
-pub gift_leaf-bounds : GiftValuesBoundPlans
-gift_leaf-bounds p windows first points sides tables spans gifts kind forced value valid among keep rules leaf d plan of_leaf =
+-- the value of a leaf with gifts is at most the scaled cost of each of its plans, where the spans that are charged keep the set rule
+pub charged_gifts-bound : ChargedGiftsBoundPlans
+charged_gifts-bound p windows first points sides tables spans gifts kind forced value valid among keep money leaf sets d plan of_leaf =
     let positive : 0 < d = omega (arith, of_leaf.denominator) in
     omega (
       arith,
       leaf.given.value_is,
-      span_leaf-within p windows first points sides tables spans kind forced leaf.before (limit_at p gifts) valid among keep rules.sets leaf.by_spans
-          (limits-fit p windows points sides tables spans gifts kind forced leaf.before rules.money leaf.plain leaf.by_spans) d plan of_leaf,
-      limits-and-gifts p spans gifts points d plan rules.money,
+      span_leaf-within p windows first points sides tables spans kind forced leaf.before (limit_at p gifts) valid among keep leaf.by_spans sets
+          (limits-fit p windows points sides tables spans gifts kind forced leaf.before money leaf.plain leaf.by_spans) d plan of_leaf,
+      limits-and-gifts p spans gifts points d plan money,
       least-given p points d plan positive of_leaf.plan sides of_leaf.obeys.trucks gifts leaf.given.numbers leaf.given.ends leaf.given.are_numbers,
       most-given p points d plan positive of_leaf.plan sides of_leaf.obeys.trucks gifts leaf.given.numbers leaf.given.ends leaf.given.are_numbers,
     )
+
+-- so it is where all spans keep it
+pub gift_leaf-bounds : GiftValuesBoundPlans
+gift_leaf-bounds p windows first points sides tables spans gifts kind forced value valid among keep rules leaf d plan of_leaf =
+    charged_gifts-bound p windows first points sides tables spans gifts kind forced value valid among keep rules.money leaf
+    (sets-charged p windows first (is_allowed p windows points sides) leaf.by_spans.chains spans rules.sets) d plan of_leaf
 
 -- what the tests of spans and gifts find is what the bound asks
 pub sound_gifts-keep_rules : SoundGiftsKeepRules

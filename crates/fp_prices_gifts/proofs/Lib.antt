@@ -9,3 +9,5 @@ pub mod TruckSums
 pub mod OneGiftValue
 pub mod SameGiftValues
 pub mod GiftAppends
+pub mod MomentLeaves
+pub mod MomentBounds

@@ -18,7 +18,7 @@ use Rattle.fp_prices.specs.Shares.{ClassShare}
 use Rattle.fp_prices_spans.specs.MomentRuns.{AreAmong}
 use Rattle.fp_prices_spans.specs.Spans.{ClassSpan}
 use Rattle.fp_prices_spans.specs.SpanCharges.{ChargePays}
-use Rattle.fp_prices_spans.specs.SpanLeaves.{IsSpanLeafEmpty, IsSpanLeafValue, leaf_heads}
+use Rattle.fp_prices_spans.specs.SpanLeaves.{ChargedKeepSetRule, IsSpanLeafEmpty, IsSpanLeafValue, leaf_heads}
 use Rattle.fp_prices_spans.specs.SpanLists.{AreSpansInOrder, IsSpanOf}
 use Rattle.fp_prices_spans.specs.SpanRules.{KeepSpanRules, KeepsSetRule}
 use Rattle.fp_prices_spans.specs.Ways.{IsFirstWithoutVia, leaf_ways}
@@ -89,6 +89,14 @@ abbrev pub GiftValuesBoundPlans : Type 0
 GiftValuesBoundPlans =
     (p : Problem) (windows : ℕ → ℕ → Option Window) (first points : ℕ → List ℕ) (sides : List Side) (tables : List (List ClassShare)) (spans : List ClassSpan) (gifts : List Gift) (kind : Kind) (forced : Bool) (v : ℕ) → IsValid p →
     AreAmong p first points → AllKeepRule p tables → KeepGiftRules p windows first spans gifts → IsGiftLeafValue p windows points sides tables spans gifts kind forced v →
+    (d : ℕ) (routes : List (List Leg)) → IsPlanOfLeaf p windows sides d routes → v ≤ p.scale * cost p routes
+
+-- the set rule is asked only of spans that are charged at the leaf: the others may break it, and the value bounds the leaf's plans still
+abbrev pub ChargedGiftsBoundPlans : Type 0
+ChargedGiftsBoundPlans =
+    (p : Problem) (windows : ℕ → ℕ → Option Window) (first points : ℕ → List ℕ) (sides : List Side) (tables : List (List ClassShare)) (spans : List ClassSpan) (gifts : List Gift) (kind : Kind) (forced : Bool) (v : ℕ) → IsValid p →
+    AreAmong p first points → AllKeepRule p tables → KeepMoneyRule p spans gifts → (leaf : IsGiftLeafValue p windows points sides tables spans gifts kind forced v) →
+    ChargedKeepSetRule p windows first (is_allowed p windows points sides) leaf.by_spans.chains spans →
     (d : ℕ) (routes : List (List Leg)) → IsPlanOfLeaf p windows sides d routes → v ≤ p.scale * cost p routes
 
 -- spans in order keep the rules with gifts, where they keep the money rule together and the charges pay

@@ -1,4 +1,5 @@
 pub mod Gifts
 pub mod GiftNumbers
 pub mod GiftLeaves
+pub mod MomentLeaves
 pub mod GiftKinds

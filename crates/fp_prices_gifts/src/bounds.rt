@@ -1,7 +1,7 @@
 //! The bound of a leaf under prices with gifts.
 ghost use Rattle.std.specs.Prelude.{ℕ, ◌≡◌, ◌+◌, ◌*◌, ◌≤◌, ◌^◌, ◌↔◌, IfOk, IfSome, IsTrue, List, MatchOption, length};
 ghost use Rattle.fp_model.specs.Problem.{IsValid};
-ghost use Rattle.fp_flatnet.specs.Belonging.{BelongsTo};
+ghost use Rattle.fp_flatnet.specs.Belonging.{FitsInstance};
 ghost use Rattle.fp_flatnet.specs.Tables.{windows_in};
 ghost use Rattle.fp_timenodes.specs.Points.{points_at};
 ghost use Rattle.fp_longestarcs.specs.Networks.{points_in};
@@ -96,7 +96,7 @@ pub fn gift_bound(
 /// The bound of the leaf under sides, with the points as of the price's round, as [`gift_bound`] finds
 /// it, on the same conditions.
 ///
-/// The windows and the points belong to the instance; the terminals, the first points and the added
+/// The windows fit the instance, and the points have its terminals; the terminals, the first points and the added
 /// points are together at most [`MOST_POINTS`].
 pub fn gift_bound_of(
     alloc: Global,
@@ -109,7 +109,7 @@ pub fn gift_bound_of(
     gifts: &[Gift],
     price: LeafPrice,
 ) -> Result<Option<LeafBound>, NoMemory>
-    requires belongs { BelongsTo instance.now windows.now }
+    requires fits { FitsInstance instance.now windows.now }
     requires terminals { points.now.terminals ≡ length instance.now.terminals }
     requires few { points.now.terminals + length points.now.first + length points.now.added ≤ MOST_POINTS }
     requires prices { ArePrices instance.now tables.now spans.now price.kind }

@@ -1,6 +1,7 @@
 //! The theory of leaves under prices with gifts, as contracts without a body.
 ghost use Rattle.std.specs.Prelude.{◌≡◌, ◌^◌};
-ghost use Rattle.fp_prices_gifts.specs.GiftLeaves.{GiftLeavesHaveOneValue, GiftValuesBoundPlans, RulesWithoutGifts, SoundGiftsKeepRules, ValuesWithoutGifts};
+ghost use Rattle.fp_prices_gifts.specs.GiftLeaves.{ChargedGiftsBoundPlans, GiftLeavesHaveOneValue, GiftValuesBoundPlans, RulesWithoutGifts, SoundGiftsKeepRules, ValuesWithoutGifts};
+ghost use Rattle.fp_prices_gifts.specs.MomentLeaves.{MomentLeavesBoundPlans, MomentLeavesHaveOneValue};
 
 use crate::gifts::MOST_GIFTS;
 
@@ -17,6 +18,15 @@ pub fn gift_values_bound_plans()
     ensures { GiftValuesBoundPlans }
 {}
 
+/// The set rule is asked only of spans that are charged at the leaf: of those that hold for a class
+/// that some shipment may use and that is in no forced chain.
+///
+/// Of the others only the money rule is asked, with the gifts, and the value bounds the leaf's plans as
+/// in [`gift_values_bound_plans`].
+pub fn charged_gifts_bound_plans()
+    ensures { ChargedGiftsBoundPlans }
+{}
+
 /// Two values of one leaf under prices with gifts are the same number, and a leaf that is empty by its
 /// heads has none.
 ///
@@ -24,6 +34,22 @@ pub fn gift_values_bound_plans()
 /// spans, the gifts, the kind of prices and whether forced classes are paid whole.
 pub fn gift_leaves_have_one_value()
     ensures { GiftLeavesHaveOneValue }
+{}
+
+/// No plan of a leaf costs less than the leaf is worth by moments, whoever finds the value, and a leaf
+/// that is empty by moments has no plan.
+///
+/// By moments: by the windows that the leaf's sides narrow, where each span that is charged at the leaf
+/// pays by these and by the leaf's points. The plans lie within the wider windows and obey the sides;
+/// their departures may be any fractions of the unit of time. The instance is valid, the shares of all
+/// tables keep the price rule, and the spans are in order and keep the money rule with the gifts.
+pub fn moment_leaves_bound_plans()
+    ensures { MomentLeavesBoundPlans }
+{}
+
+/// Two values of one leaf by moments are the same number, and a leaf that is empty by moments has none.
+pub fn moment_leaves_have_one_value()
+    ensures { MomentLeavesHaveOneValue }
 {}
 
 /// Without gifts, a number is the leaf's value here exactly where it is the leaf's value by spans.

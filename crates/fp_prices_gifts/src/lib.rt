@@ -9,6 +9,7 @@
 mod bounds;
 mod gifts;
 mod laws;
+mod moment_bounds;
 mod money_rule;
 mod numbers;
 mod runs;
@@ -19,9 +20,11 @@ mod values;
 pub use bounds::{gift_bound, gift_bound_of};
 pub use gifts::{Gift, MOST_GIFTS};
 pub use laws::{
-    gift_leaves_have_one_value, gift_limit_is_a_number, gift_values_bound_plans,
+    charged_gifts_bound_plans, gift_leaves_have_one_value, gift_limit_is_a_number,
+    gift_values_bound_plans, moment_leaves_bound_plans, moment_leaves_have_one_value,
     rules_without_gifts, sound_gifts_keep_rules, values_without_gifts,
 };
+pub use moment_bounds::moment_bound_of;
 pub use money_rule::{GiftFault, check_gifts};
 pub use numbers::gift_number;
 pub use table_gifts::{TableGifts, gifts_beside};

@@ -2,11 +2,10 @@
 -- charges.
 use Rattle.std.proofs.Common.{◌≡◌, ℕ, ◌+◌, ◌*◌, ◌<◌, ◌≤◌, Bool, true, false, List, Option, length, map, ⊎_elim, refl, sym, ap, ◌∙◌, arith}
 use Rattle.std.specs.Prelude.{sum_by, if◌then◌else◌}
-use Rattle.std.specs.List.{AllByRecursion, AllZip}
+use Rattle.std.specs.List.{AllZip}
 use Rattle.std.proofs.Math.Nat.{mul-le-mul_left, mul-le-mul_right}
 use Rattle.std.proofs.lemmas.Bool.{cases_Bool, cond-false, cond-true}
 use Rattle.std.proofs.lemmas.List.Sums.{sum_by-le-sum_by}
-use Rattle.fp_base_lists.specs.Numbered.{AllFrom}
 use Rattle.fp_base_lists.proofs.Sums.{sum_by-both, sum_by-const, sum_by-same, sum_by-scaled, sum_by-scaled_right, sum_by-swap}
 use Rattle.fp_model.specs.declared.parts.Leg.{Leg}
 use Rattle.fp_model.specs.Costs.{all_legs, departures_cost, distinct, has_leg, trucks}
@@ -14,7 +13,7 @@ use Rattle.fp_model.specs.Problem.{IsValid, Problem, arc_at}
 use Rattle.fp_model.proofs.Bounds.{departure_of, departure-outside}
 use Rattle.fp_model.proofs.Distinct.{distinct_sum, distinct_sum-le}
 use Rattle.fp_flatnet.specs.declared.window_tables.Window.{Window}
-use Rattle.fp_flatnet.specs.Windows.{LiesWithin}
+use Rattle.fp_flatnet.specs.Windows.{PlanLiesWithinWhole}
 use Rattle.fp_longestarcs.specs.Classes.{class_of}
 use Rattle.fp_prices.specs.declared.leaf_prices.Kind.{Kind}
 use Rattle.fp_prices.specs.Leaves.{leaf_price}
@@ -26,9 +25,8 @@ use Rattle.fp_prices.proofs.PlanBounds.{size_at}
 use Rattle.fp_prices.proofs.TakenByClasses.{NoneTwiceInAny, paid, paid-le, users}
 use Rattle.fp_prices_spans.specs.MomentRuns.{AreAmong}
 use Rattle.fp_prices_spans.specs.Spans.{ClassSpan}
-use Rattle.fp_prices_spans.specs.SpanLeaves.{IsChargeOf}
+use Rattle.fp_prices_spans.specs.SpanLeaves.{ChargedKeepSetRule, IsChargeOf}
 use Rattle.fp_prices_spans.specs.SpanPrices.{is_held, leaf_span_price, money_at, most_paid}
-use Rattle.fp_prices_spans.specs.SpanRules.{KeepsSetRule}
 use Rattle.fp_prices_spans.proofs.ClassTrucks.{class_trucks, class_trucks-hold, classes-ge, classes-le}
 use Rattle.fp_prices_spans.proofs.DepartureTrucks.{ArePlanRoutes, tested_trucks}
 use Rattle.fp_prices_spans.proofs.CountedParts.{counted, counted-free, counted-held, counts, price-parts, single-le, single_price}
@@ -110,9 +108,9 @@ money-by_departures p points d chains routes spans legs =
 -- the bases and all that shipments pay for their classes are at most what may be paid for the trucks of the departures, each by its
 -- class, and the charges
 pub bases-and-span_prices : (p : Problem) (windows : ℕ → ℕ → Option Window) (first points : ℕ → List ℕ) (d : ℕ) (shares : List (List ClassShare)) (spans : List ClassSpan) (allowed : ℕ → Leg → Bool) (kind : Kind)
-    (chains routes : List (List Leg)) (charges : List ℕ) (limit : Leg → ℕ) → IsValid p → 0 < d → AreAmong p first points → ((k : ℕ) (c : Leg) → allowed k c ≡ true → c.arc < length p.arcs) → AllKeepRule p shares → AllByRecursion (KeepsSetRule p windows first) spans → ((c : Leg) → most_paid p spans chains c ≤ limit c) →
+    (chains routes : List (List Leg)) (charges : List ℕ) (limit : Leg → ℕ) → IsValid p → 0 < d → AreAmong p first points → ((k : ℕ) (c : Leg) → allowed k c ≡ true → c.arc < length p.arcs) → AllKeepRule p shares → ChargedKeepSetRule p windows first allowed chains spans → ((c : Leg) → most_paid p spans chains c ≤ limit c) →
     AreWalks p allowed (size_at p) chains (map (map (class_of p points d)) routes) → NoneTwiceInAny (map (map (class_of p points d)) routes) →
-    ArePlanRoutes p (λ k l. allowed k (class_of p points d l)) routes → AllFrom (LiesWithin windows d) 0 routes → AllZip (IsChargeOf p allowed chains) spans charges →
+    ArePlanRoutes p (λ k l. allowed k (class_of p points d l)) routes → PlanLiesWithinWhole windows d routes → AllZip (IsChargeOf p allowed chains) spans charges →
     p.scale * departures_cost p chains (all_legs chains) + paid (λ c k. leaf_span_price p shares spans allowed kind chains k (size_at p k) c) 0 (map (map (class_of p points d)) routes)
     ≤ distinct_sum (λ l. limit (class_of p points d l) * trucks p routes l) (all_legs routes) + sum_by (λ (n : ℕ). n) charges
 bases-and-span_prices p windows first points d shares spans allowed kind chains routes charges limit valid positive among exist keep sets within_limits are once plan within are_charges =

@@ -40,6 +40,7 @@ pub mod SpanValues
 pub mod SpanBoundsFound
 pub mod SameSpanValues
 pub mod PaidSpans
+pub mod PaidLeaves
 pub mod SpanAppends
 mod EqualWeights
 mod Examples

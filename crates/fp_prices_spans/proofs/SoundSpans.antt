@@ -6,6 +6,7 @@ use Rattle.std.proofs.lemmas.List.{get_or-map, length-map}
 use Rattle.std.proofs.lemmas.List.Elements.{All-filter, All-get_or, recursion_from_All}
 use Rattle.std.proofs.lemmas.List.Kept.{AllPairs-filter}
 use Rattle.fp_base_lists.specs.Below.{some_below, sum_below}
+use Rattle.fp_base_lists.proofs.Elements.{AllByRecursion-get_or}
 use Rattle.fp_base_lists.proofs.SumsBelow.{sum_below-same}
 use Rattle.fp_prices_knapsack.specs.declared.items.Item.{Item}
 use Rattle.fp_prices_knapsack.specs.Charges.{Pays}
@@ -18,8 +19,10 @@ use Rattle.fp_flatnet.specs.declared.window_tables.Window.{Window}
 use Rattle.fp_prices.specs.declared.tables.Weight.{Weight}
 use Rattle.fp_prices_spans.specs.declared.rules.moment_runs.MomentRun.{MomentRun}
 use Rattle.fp_prices_spans.specs.MomentRuns.{can_leave, group_weights, runs_of}
+use Rattle.fp_prices_spans.specs.PaidLeaves.{ChargedPayKeepSetRule}
 use Rattle.fp_prices_spans.specs.Spans.{ClassSpan}
 use Rattle.fp_prices_spans.specs.SpanCharges.{ChargePays, ChargesKeepSetRule, SoundSpansKeepRules, item_of, items_of}
+use Rattle.fp_prices_spans.specs.SpanLeaves.{IsCharged}
 use Rattle.fp_prices_spans.specs.SpanLists.{IsSpanOf}
 use Rattle.fp_prices_spans.specs.SpanRules.{KeepWithin, KeepsSetRule, WeightsAscend}
 use Rattle.fp_prices_spans.proofs.PlaceSets.{KeepPlaceRule, no_weight, set_rule-by_places, weight_at}
@@ -87,6 +90,12 @@ charge-keeps p windows first span valid of ascend pays = record { parts = pays.p
 pub charges-keep_set_rule : ChargesKeepSetRule
 charges-keep_set_rule p windows first spans valid of ordered pay =
     recursion_from_All (KeepsSetRule p windows first) spans (λ k d lt. charge-keeps p windows first _ valid (of k d lt) (ordered.weights k d lt) (pay k d lt))
+
+-- and so do those that are charged at a leaf, where theirs pay
+pub charged_pay-keep_set_rule : ChargedPayKeepSetRule
+charged_pay-keep_set_rule p windows points allowed chains spans valid of ordered pay =
+    recursion_from_All (λ span. IsCharged p allowed chains span → KeepsSetRule p windows points span) spans
+    (λ k d lt charged. charge-keeps p windows points _ valid (of k d lt) (ordered.weights k d lt) (AllByRecursion-get_or (λ span. IsCharged p allowed chains span → ChargePays p windows points span) spans k d pay lt charged))
 
 pub sound_spans-keep_rules : SoundSpansKeepRules
 sound_spans-keep_rules p windows first spans valid of sound pay = record { money = sound.money; sets = charges-keep_set_rule p windows first spans valid of sound.ordered pay }

@@ -9,7 +9,7 @@ use Rattle.fp_base_lists.specs.Distinct.{AreDistinct}
 use Rattle.fp_base_lists.specs.Numbered.{AllFrom}
 use Rattle.fp_base_lists.proofs.Numbered.{AllZipFrom-weaker}
 use Rattle.fp_base_lists.proofs.Distinct.{AreDistinct-from_map, AreDistinct-tail}
-use Rattle.fp_base_lists.proofs.Elements.{AllByRecursion-from_map}
+use Rattle.fp_base_lists.proofs.Elements.{AllByRecursion-from_map, AllByRecursion-weaker}
 use Rattle.fp_base_lists.proofs.Sums.{sum_by-same, sum_by-scaled}
 use Rattle.fp_model.specs.declared.parts.Leg.{Leg}
 use Rattle.fp_model.specs.declared.parts.Shipment.{Shipment}
@@ -36,7 +36,7 @@ use Rattle.fp_prices.proofs.Users.{users-few}
 use Rattle.fp_prices.proofs.WalkClasses.{AreTimedWalks, chains-among, classes-once, none-twice, used-allowed, used-exist}
 use Rattle.fp_prices_spans.specs.MomentRuns.{AreAmong}
 use Rattle.fp_prices_spans.specs.Spans.{ClassSpan}
-use Rattle.fp_prices_spans.specs.SpanLeaves.{IsSpanLeafValue, SpanValuesBoundPlans, leaf_heads}
+use Rattle.fp_prices_spans.specs.SpanLeaves.{ChargedKeepSetRule, ChargedSpansBoundPlans, IsCharged, IsSpanLeafValue, SpanValuesBoundPlans, leaf_heads}
 use Rattle.fp_prices_spans.specs.SpanPrices.{leaf_span_price, most_paid}
 use Rattle.fp_prices_spans.specs.SpanRules.{KeepsSetRule}
 use Rattle.fp_prices_spans.specs.Ways.{IsLeastCostVia, IsWalkVia, leaf_ways}
@@ -74,10 +74,10 @@ limits_for p limit of plan = distinct_sum (λ l. limit (of l) * trucks p plan l)
 -- where shipments pay no more for a truck of a class than a limit, the value of a leaf is at most the limits for the trucks of each of
 -- its plans, and the flow
 pub span_leaf-within : (p : Problem) (windows : ℕ → ℕ → Option Window) (first points : ℕ → List ℕ) (sides : List Side) (tables : List (List ClassShare)) (spans : List ClassSpan) (kind : Kind) (forced : Bool) (value : ℕ) (limit : Leg → ℕ) →
-    IsValid p → AreAmong p first points → AllKeepRule p tables → AllByRecursion (KeepsSetRule p windows first) spans → (leaf : IsSpanLeafValue p windows points sides tables spans kind forced value) →
+    IsValid p → AreAmong p first points → AllKeepRule p tables → (leaf : IsSpanLeafValue p windows points sides tables spans kind forced value) → ChargedKeepSetRule p windows first (is_allowed p windows points sides) leaf.chains spans →
     ((c : Leg) → most_paid p spans leaf.chains c ≤ limit c) → (d : ℕ) (plan : List (List Leg)) → IsPlanOfLeaf p windows sides d plan →
     value ≤ limits_for p limit (class_of p points d) plan + p.scale * flow_total p p.shipments plan
-span_leaf-within p windows first points sides tables spans kind forced value limit valid among keep sets leaf within_limits d plan of_leaf =
+span_leaf-within p windows first points sides tables spans kind forced value limit valid among keep leaf sets within_limits d plan of_leaf =
     let of : Leg → Leg = class_of p points d in
     let walks : List (List Leg) = map (map of) plan in
     let allowed : ℕ → Leg → Bool = is_allowed p windows points sides in
@@ -122,12 +122,24 @@ scaled-trucks p of plan keeps =
     (λ l. ap (λ (a : ℕ). p.scale * (arc_at p a).truck * trucks p plan l) (keeps l) ∙ (let e : p.scale * (arc_at p l.arc).truck * trucks p plan l ≡ p.scale * departure_cost p plan l = omega arith in e)) (distinct (all_legs plan))
     ∙ sum_by-scaled p.scale (departure_cost p plan) (distinct (all_legs plan))
 
--- so by spans that keep both rules it is at most the scaled cost of each of its plans
-pub span_leaf-bounds : SpanValuesBoundPlans
-span_leaf-bounds p windows first points sides tables spans kind forced value valid among keep rules leaf d plan of_leaf =
+-- so by spans that keep the money rule, and the set rule where they are charged, it is at most the scaled cost of each of its plans
+pub charged_spans-bound : ChargedSpansBoundPlans
+charged_spans-bound p windows first points sides tables spans kind forced value valid among keep money leaf sets d plan of_leaf =
     omega (
       arith,
-      span_leaf-within p windows first points sides tables spans kind forced value (λ c. p.scale * (arc_at p c.arc).truck) valid among keep rules.sets leaf
-          (λ c. most_paid-fits p spans leaf.chains c rules.money) d plan of_leaf,
+      span_leaf-within p windows first points sides tables spans kind forced value (λ c. p.scale * (arc_at p c.arc).truck) valid among keep leaf sets
+          (λ c. most_paid-fits p spans leaf.chains c money) d plan of_leaf,
       scaled-trucks p (class_of p points d) plan (λ l. refl),
     )
+
+-- spans that all keep the set rule keep it where they are charged
+pub sets-charged : (p : Problem) (windows : ℕ → ℕ → Option Window) (first : ℕ → List ℕ) (allowed : ℕ → Leg → Bool) (chains : List (List Leg)) (spans : List ClassSpan) →
+    AllByRecursion (KeepsSetRule p windows first) spans → ChargedKeepSetRule p windows first allowed chains spans
+sets-charged p windows first allowed chains spans sets =
+    AllByRecursion-weaker (KeepsSetRule p windows first) (λ span. IsCharged p allowed chains span → KeepsSetRule p windows first span) (λ span keeps charged. keeps) spans sets
+
+-- and so by spans that keep both rules
+pub span_leaf-bounds : SpanValuesBoundPlans
+span_leaf-bounds p windows first points sides tables spans kind forced value valid among keep rules leaf d plan of_leaf =
+    charged_spans-bound p windows first points sides tables spans kind forced value valid among keep rules.money leaf
+    (sets-charged p windows first (is_allowed p windows points sides) leaf.chains spans rules.sets) d plan of_leaf

@@ -1,5 +1,6 @@
 -- What shipments pay by a span is within its money for the trucks of the departures at whose classes it counts, and its charge. The
--- departures are counted group by group: in each run of the span's moments only shipments leave that can leave in it.
+-- departures are counted group by group: in each run of the span's moments only shipments leave that can leave in it. A span by which some pay is charged, so only such spans need
+-- keep the set rule.
 use Rattle.std.proofs.Common.{◌≡◌, ℕ, ◌+◌, ◌*◌, ◌/◌, ◌<◌, ◌≤◌, Bool, true, false, cond, List, [], ◌∷◌, length, Option, ⊎_elim, refl, sym, ap, ◌∙◌, subst, arith}
 use Rattle.std.specs.Prelude.{sum_by, ◌&&◌, not, if◌then◌else◌}
 use Rattle.std.specs.List.{AllByRecursion, AllZip, list_any}
@@ -7,7 +8,6 @@ use Rattle.std.proofs.Math.Nat.{mul-le-mul_left}
 use Rattle.std.proofs.lemmas.Bool.{and_parts, cond-false, false_from_ne_true, false≢true, not-true, or_cases}
 use Rattle.std.proofs.lemmas.List.Elements.{All-get_or}
 use Rattle.std.proofs.lemmas.List.Sums.{sum_by-cons}
-use Rattle.fp_base_lists.specs.Numbered.{AllFrom}
 use Rattle.fp_base_lists.proofs.Elements.{AllByRecursion-weaker}
 use Rattle.fp_base_lists.proofs.Sums.{sum_by-both, sum_by-same, sum_by-same_each}
 use Rattle.fp_model.specs.declared.parts.Leg.{Leg}
@@ -15,7 +15,7 @@ use Rattle.fp_model.specs.Costs.{all_legs, distinct, has_leg, trucks}
 use Rattle.fp_model.specs.Problem.{IsArc, IsValid, Problem, arc_at, no_arc}
 use Rattle.fp_model.proofs.Distinct.{distinct_sum}
 use Rattle.fp_flatnet.specs.declared.window_tables.Window.{Window}
-use Rattle.fp_flatnet.specs.Windows.{LiesWithin}
+use Rattle.fp_flatnet.specs.Windows.{PlanLiesWithinWhole}
 use Rattle.fp_longestarcs.specs.Classes.{class_of}
 use Rattle.fp_prices.specs.Prices.{weight_in}
 use Rattle.fp_prices.proofs.TakenByClasses.{paid}
@@ -24,7 +24,7 @@ use Rattle.fp_prices_spans.specs.MomentRuns.{AreAmong, can_leave, group_weights,
 use Rattle.fp_prices_spans.specs.Spans.{ClassSpan}
 use Rattle.fp_prices_spans.specs.SpanPrices.{holds}
 use Rattle.fp_prices_spans.specs.SpanRules.{KeepWithin, KeepsSetRule, trucks_for}
-use Rattle.fp_prices_spans.specs.SpanLeaves.{IsCharged, IsChargeOf}
+use Rattle.fp_prices_spans.specs.SpanLeaves.{ChargedKeepSetRule, IsCharged, IsChargeOf}
 use Rattle.fp_prices_spans.proofs.CountedParts.{counts}
 use Rattle.fp_prices_spans.proofs.DepartureTrucks.{AreBy, ArePlanRoutes, one-each, tested_trucks, trucks-hold}
 use Rattle.fp_prices_spans.proofs.GroupUsers.{LieIn, users-leave}
@@ -44,8 +44,8 @@ two_parts true true n = omega arith
 two_parts true false n = omega arith
 two_parts false b n = refl
 
-module _ (p : Problem) (allowed : ℕ → Leg → Bool) (windows : ℕ → ℕ → Option Window) (d : ℕ) (routes : List (List Leg)) (are : ArePlanRoutes p allowed routes) (positive : 0 < d)
-    (within : AllFrom (LiesWithin windows d) 0 routes) (span : ClassSpan) where
+module _ (p : Problem) (allowed : ℕ → Leg → Bool) (windows : ℕ → ℕ → Option Window) (d : ℕ) (routes : List (List Leg)) (are : ArePlanRoutes p allowed routes)
+    (within : PlanLiesWithinWhole windows d routes) (span : ClassSpan) where
   -- the money for the trucks of the departures that pass a test
   abbrev pub money_for : (Leg → Bool) → ℕ
   money_for test = span.money * distinct_sum (tested_trucks p routes test) (all_legs routes)
@@ -60,7 +60,7 @@ module _ (p : Problem) (allowed : ℕ → Leg → Bool) (windows : ℕ → ℕ �
       let pays : paid (pays_for span test) 0 routes ≡ sum_by (weight_in span.weights) set = paid-users test (weight_in span.weights) 0 routes (one-each p allowed routes are span.arc test by) in
       let leave : AllByRecursion (λ k. weight_in span.weights k ≡ weight_in group k) set =
       AllByRecursion-weaker (λ k. can_leave windows run span.arc k ≡ true) (λ k. weight_in span.weights k ≡ weight_in group k)
-      (λ k can. sym (weight-of_passing (can_leave windows run span.arc) span.weights k can)) set (users-leave windows run span.arc d test 0 routes positive lie within) in
+      (λ k can. sym (weight-of_passing (can_leave windows run span.arc) span.weights k can)) set (users-leave windows run span.arc d test 0 routes lie within) in
       let same : sum_by (weight_in span.weights) set ≡ sum_by (weight_in group) set = sum_by-same_each (weight_in span.weights) (weight_in group) set leave in
       let fits : sum_by (weight_in group) set ≤ span.money * trucks_for p span.arc set + part = set-fits p span.arc span.money group part set rule (users_by-apart test 0 routes) in
       omega (arith, pays, same, fits, mul-le-mul_left span.money (trucks-hold p allowed routes are span.arc test by))
@@ -122,14 +122,14 @@ charged p points d allowed chains span has =
 
 module _ (p : Problem) (windows : ℕ → ℕ → Option Window) (first points : ℕ → List ℕ) (d : ℕ) (allowed : ℕ → Leg → Bool) (chains routes : List (List Leg)) (valid : IsValid p) (positive : 0 < d) (among : AreAmong p first points)
     (exist : (k : ℕ) (c : Leg) → allowed k c ≡ true → c.arc < length p.arcs)
-    (are : ArePlanRoutes p (λ k l. allowed k (class_of p points d l)) routes) (within : AllFrom (LiesWithin windows d) 0 routes) where
+    (are : ArePlanRoutes p (λ k l. allowed k (class_of p points d l)) routes) (within : PlanLiesWithinWhole windows d routes) where
   abbrev of_class : ℕ → Leg → Bool
   of_class k l = allowed k (class_of p points d l)
 
-  -- what all shipments pay by a span
-  span-pays : (span : ClassSpan) (n : ℕ) → KeepsSetRule p windows first span → IsChargeOf p allowed chains span n →
+  -- what all shipments pay by a span: where some pay, it is charged
+  span-pays : (span : ClassSpan) (n : ℕ) → (IsCharged p allowed chains span → KeepsSetRule p windows first span) → IsChargeOf p allowed chains span n →
       paid (pays_for span (counts_at p points d chains span)) 0 routes ≤ span.money * distinct_sum (tested_trucks p routes (counts_at p points d chains span)) (all_legs routes) + n
-  span-pays span n rule charge =
+  span-pays span n keeps charge =
       let test : Leg → Bool = counts_at p points d chains span in
       let by : AreBy span.arc test = counts-by p points d chains span in
       ⊎_elim
@@ -138,10 +138,12 @@ module _ (p : Problem) (windows : ℕ → ℕ → Option Window) (first points :
       paid-users test (weight_in span.weights) 0 routes (one-each p of_class routes are span.arc test by) in
       omega (arith, pays, ap (sum_by (weight_in span.weights)) none))
       (λ (some : HasUser test of_class (length p.shipments)).
+      let is_charged : IsCharged p allowed chains span = charged p points d allowed chains span some in
+      let rule : KeepsSetRule p windows first span = keeps is_charged in
       let whole : n ≡ span.charge =
       ⊎_elim
       (λ (yes : IsCharged p allowed chains span × (n ≡ span.charge)). yes.1)
-      (λ (no : (IsCharged p allowed chains span → ⊥) × (n ≡ 0)). absurd (no.0 (charged p points d allowed chains span some)))
+      (λ (no : (IsCharged p allowed chains span → ⊥) × (n ≡ 0)). absurd (no.0 is_charged))
       charge in
       let arc : span.arc < length p.arcs = subst (λ (a : ℕ). a < length p.arcs) (by some.class some.passes) (exist some.shipment (class_of p points d some.class) some.allows) in
       let tail : (arc_at p span.arc).from < length p.terminals = (All-get_or (IsArc (length p.terminals)) p.arcs span.arc no_arc arc valid.parts.arcs).from in
@@ -149,7 +151,7 @@ module _ (p : Problem) (windows : ℕ → ℕ → Option Window) (first points :
         arith,
         whole,
         rule.enough,
-        runs-pay p of_class windows d routes are positive within span (runs_of p first span) rule.parts test rule.keep by
+        runs-pay p of_class windows d routes are within span (runs_of p first span) rule.parts test rule.keep by
             (λ l h.
             let class : Leg = class_of p points d l in
             departure-covered p first points d span l positive (λ q. among (arc_at p span.arc).from q tail) (and_parts (not (has_leg class (all_legs chains))) (holds span class) h).1),
@@ -157,7 +159,7 @@ module _ (p : Problem) (windows : ℕ → ℕ → Option Window) (first points :
       (first-user test of_class (length p.shipments) 0 routes (omega (arith, are.long)) are.allows)
 
   -- what they pay by all spans
-  pub spans-pay : (spans : List ClassSpan) (charges : List ℕ) → AllByRecursion (KeepsSetRule p windows first) spans → AllZip (IsChargeOf p allowed chains) spans charges →
+  pub spans-pay : (spans : List ClassSpan) (charges : List ℕ) → ChargedKeepSetRule p windows first allowed chains spans → AllZip (IsChargeOf p allowed chains) spans charges →
       sum_by (λ span. paid (pays_for span (counts_at p points d chains span)) 0 routes) spans
       ≤ sum_by (λ span. span.money * distinct_sum (tested_trucks p routes (counts_at p points d chains span)) (all_legs routes)) spans + sum_by (λ (n : ℕ). n) charges
   spans-pay [] charges rule is = omega arith

@@ -8,6 +8,7 @@ pub mod SpanLeaves
 pub mod SpanLists
 pub mod HeldMoney
 pub mod SpanCharges
+pub mod PaidLeaves
 pub mod ClassRanges
 pub mod SpanCosts
 pub mod SpanPricings

@@ -2,7 +2,7 @@
 -- The relaxation over a partially time-expanded network: Boland, Hewitt, Marshall and Savelsbergh, "The Continuous-Time Service
 -- Network Design Problem", Operations Research 65, 2017. Its bound by spans is this project's own.
 use Rattle.std.specs.Prelude.{ℕ, ◌+◌, ◌-◌, ◌*◌, ◌^◌, ◌≤◌, ◌≡◌, ◌<◌, ◌⊎◌, List, [], ◌∷◌, length, Bool, true, false, sum_by, Option, ◌↔◌}
-use Rattle.std.specs.List.{AllZip}
+use Rattle.std.specs.List.{AllByRecursion, AllZip}
 use Rattle.fp_base_lists.specs.Numbered.{AllZipFrom}
 use Rattle.fp_model.specs.declared.parts.Leg.{Leg}
 use Rattle.fp_model.specs.declared.parts.Shipment.{Shipment}
@@ -22,7 +22,7 @@ use Rattle.fp_prices.specs.Shares.{ClassShare}
 use Rattle.fp_prices_spans.specs.MomentRuns.{AreAmong}
 use Rattle.fp_prices_spans.specs.Spans.{ClassSpan}
 use Rattle.fp_prices_spans.specs.SpanPrices.{holds, leaf_span_price}
-use Rattle.fp_prices_spans.specs.SpanRules.{KeepSpanRules}
+use Rattle.fp_prices_spans.specs.SpanRules.{KeepSpanRules, KeepsMoneyRule, KeepsSetRule}
 use Rattle.fp_prices_spans.specs.Ways.{IsEmptyVia, IsFirstWithoutVia, IsLeastCostVia, leaf_ways}
 
 -- a span is charged at a leaf: it holds for a class that is allowed for some shipment and isn't free, so in no forced chain
@@ -38,6 +38,10 @@ pub record IsCharged (p : Problem) (allowed : ℕ → Leg → Bool) (chains : Li
 abbrev pub IsChargeOf : Problem → (ℕ → Leg → Bool) → (chains : List (List Leg)) → ClassSpan → ℕ → Type 0
 IsChargeOf p allowed chains span n =
     (IsCharged p allowed chains span × (n ≡ span.charge)) ⊎ ((IsCharged p allowed chains span → ⊥) × (n ≡ 0))
+
+-- each span that is charged at a leaf keeps the set rule by first points
+abbrev pub ChargedKeepSetRule : Problem → (ℕ → ℕ → Option Window) → (first : ℕ → List ℕ) → (ℕ → Leg → Bool) → (chains : List (List Leg)) → List ClassSpan → Type 0
+ChargedKeepSetRule p windows first allowed chains spans = AllByRecursion (λ span. IsCharged p allowed chains span → KeepsSetRule p windows first span) spans
 
 -- the heads by which the shipment with the number k goes at a leaf: where spans price it, those within the shipment's windows, and
 -- else those of the classes
@@ -83,6 +87,13 @@ SpanValuesBoundPlans =
     (p : Problem) (windows : ℕ → ℕ → Option Window) (first points : ℕ → List ℕ) (sides : List Side) (tables : List (List ClassShare)) (spans : List ClassSpan) (kind : Kind) (forced : Bool) (v : ℕ) → IsValid p →
     AreAmong p first points → AllKeepRule p tables → KeepSpanRules p windows first spans → IsSpanLeafValue p windows points sides tables spans kind forced v →
     (d : ℕ) (routes : List (List Leg)) → IsPlanOfLeaf p windows sides d routes → v ≤ p.scale * cost p routes
+
+-- the set rule is asked only of spans that are charged at the leaf: the others may break it, and the value bounds the leaf's plans still
+abbrev pub ChargedSpansBoundPlans : Type 0
+ChargedSpansBoundPlans =
+    (p : Problem) (windows : ℕ → ℕ → Option Window) (first points : ℕ → List ℕ) (sides : List Side) (tables : List (List ClassShare)) (spans : List ClassSpan) (kind : Kind) (forced : Bool) (v : ℕ) → IsValid p →
+    AreAmong p first points → AllKeepRule p tables → AllByRecursion (KeepsMoneyRule p spans) spans → (leaf : IsSpanLeafValue p windows points sides tables spans kind forced v) →
+    ChargedKeepSetRule p windows first (is_allowed p windows points sides) leaf.chains spans → (d : ℕ) (routes : List (List Leg)) → IsPlanOfLeaf p windows sides d routes → v ≤ p.scale * cost p routes
 
 -- a leaf has one value only, whatever the windows, points, sides and prices, and none where it is empty
 pub record SpanLeavesHaveOneValue : Type 0 where

@@ -1,7 +1,8 @@
 //! The theory of leaves under prices by spans, as contracts without a body.
 ghost use Rattle.std.specs.Prelude.{◌≡◌, ◌^◌};
+ghost use Rattle.fp_prices_spans.specs.PaidLeaves.{ChargedPayKeepSetRule};
 ghost use Rattle.fp_prices_spans.specs.SpanCharges.{ChargesKeepSetRule, SoundSpansKeepRules};
-ghost use Rattle.fp_prices_spans.specs.SpanLeaves.{SpanLeavesHaveOneValue, SpanValuesBoundPlans, ValuesWithoutSpans};
+ghost use Rattle.fp_prices_spans.specs.SpanLeaves.{ChargedSpansBoundPlans, SpanLeavesHaveOneValue, SpanValuesBoundPlans, ValuesWithoutSpans};
 
 use crate::spans::MOST_SPAN_WEIGHT;
 
@@ -17,6 +18,15 @@ use crate::spans::MOST_SPAN_WEIGHT;
 /// [`span_bound`](crate::span_bound).
 pub fn span_values_bound_plans()
     ensures { SpanValuesBoundPlans }
+{}
+
+/// The set rule is asked only of spans that are charged at the leaf: of those that hold for a class
+/// that some shipment may use and that is in no forced chain.
+///
+/// Of the others only the money rule is asked, and the value bounds the leaf's plans as in
+/// [`span_values_bound_plans`].
+pub fn charged_spans_bound_plans()
+    ensures { ChargedSpansBoundPlans }
 {}
 
 /// Two values of one leaf under prices by spans are the same number, and a leaf that is empty by its
@@ -52,6 +62,13 @@ pub fn sound_spans_keep_rules()
 /// valid, and the spans are of arcs, and their weights of shipments, that exist.
 pub fn charges_keep_set_rule()
     ensures { ChargesKeepSetRule }
+{}
+
+/// Of spans that are in order, those that are charged at a leaf keep the set rule where their
+/// charges pay, by whatever windows and points: the leaf's own too. The instance is valid, and the
+/// spans are of arcs, and their weights of shipments, that exist.
+pub fn charged_pay_keep_set_rule()
+    ensures { ChargedPayKeepSetRule }
 {}
 
 /// The limit of the weights of all spans together is this number.

@@ -16,8 +16,9 @@ mod values;
 mod ways;
 
 pub use laws::{
-    charges_keep_set_rule, sound_spans_keep_rules, span_leaves_have_one_value,
-    span_values_bound_plans, span_weight_limit_is_a_number, values_without_spans,
+    charged_pay_keep_set_rule, charged_spans_bound_plans, charges_keep_set_rule,
+    sound_spans_keep_rules, span_leaves_have_one_value, span_values_bound_plans,
+    span_weight_limit_is_a_number, values_without_spans,
 };
 pub use rules::charge_rule::check_charges;
 pub use rules::money_rule::check_spans;
@@ -25,6 +26,7 @@ pub use rules::paid_spans::are_paid;
 pub use rules::span_faults::SpanFault;
 pub use spans::{MOST_SPAN_WEIGHT, Span};
 pub use table_spans::{TableSpans, spans_beside};
+pub use values::paid_leaves::charged_pay;
 pub use values::rounds::span_bound_of;
 pub use values::span_bounds::span_bound;
 pub use ways::{MOST_WAYS, leaf_ways};

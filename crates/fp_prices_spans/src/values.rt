@@ -2,6 +2,7 @@
 pub(crate) mod class_ranges;
 pub(crate) mod leaf_bases;
 pub(crate) mod leaf_charges;
+pub(crate) mod paid_leaves;
 pub(crate) mod rounds;
 pub(crate) mod span_bounds;
 pub(crate) mod span_costs;

@@ -16,6 +16,7 @@ use Rattle.fp_model.proofs.Bounds.{length-lists_of}
 use Rattle.fp_base_lists.proofs.Maps.{get_or-map_default}
 use Rattle.fp_flatnet.specs.declared.window_tables.Window.{Window}
 use Rattle.fp_flatnet.specs.Windows.{PlanLiesWithin}
+use Rattle.fp_flatnet.proofs.WholeMoments.{PlanLiesWithin-whole}
 use Rattle.fp_longestarcs.proofs.ClassCosts.{cost-classes}
 use Rattle.fp_allowed.specs.Allowed.{is_allowed}
 use Rattle.fp_allowed.specs.Walks.{IsTimedWalk}
@@ -70,7 +71,7 @@ pub relaxed-coarsened : (p : Problem) (windows : ℕ → ℕ → Option Window) 
     IsRelaxedPlan p windows points (coarsened p points d routes)
 relaxed-coarsened p windows points d routes h plan within =
     relaxed-from p windows points 0 p.shipments (coarsened p points d routes) (HasRoutes-coarsened p points d routes plan)
-    (plan_timed p windows points [] d routes h plan within (PlanObeys-none p d routes))
+    (plan_timed p windows points [] d routes h plan (PlanLiesWithin-whole windows d routes h within) (PlanObeys-none p d routes))
 
 -- routes coarsen into walks that cost no more
 pub cost-coarsened : (p : Problem) (points : ℕ → List ℕ) (d : ℕ) (routes : List (List Leg)) → cost p (coarsened p points d routes) ≤ cost p routes

@@ -1,6 +1,6 @@
 -- No plan within the windows costs less than the least that a leaf of a search is worth, whatever the
 -- search has yet to do.
-use Rattle.std.proofs.Common.{ℕ, [], arith}
+use Rattle.std.proofs.Common.{ℕ, false, [], length, replicate, arith}
 use Rattle.std.specs.Prelude.{None}
 use Rattle.fp_flatnet.specs.Tables.{windows_in}
 use Rattle.fp_tree.specs.Nodes.{fork_of as fork_at, value_of}
@@ -39,6 +39,7 @@ module _ (s : Search) (prices : PriceLists) (search : IsSearch s prices) (whole 
     tables = prices.tables;
     spans = prices.spans;
     gifts = prices.gifts;
+    moments = replicate (length prices.tables) false;
     tree = lines_of s.tree;
   }
 
@@ -53,5 +54,5 @@ module _ (s : Search) (prices : PriceLists) (search : IsSearch s prices) (whole 
         few = omega (arith, splits-lines s.instance s.tree search.tails whole, search.few, search.budget.branches);
       })
       (leaves-printed s.instance s.tree search.tails whole (λ (l : Leaf Line). IsLeafWorth s.instance s.windows bare bound l.node l.sides)
-      (λ k l at. worth-kept h bound l.sides l.node.payload (value_of l.node) (leaf-of h s.cost s.tree search.tails whole search.leaves k l at).kept
+      (λ k l at. worth-kept h (length prices.tables) bound l.sides l.node.payload (value_of l.node) (leaf-of h s.cost s.tree search.tails whole search.leaves k l at).kept
       (bound-le h s.cost s.tree search.tails whole search.leaves bound is k l at)))

@@ -5,7 +5,7 @@ use Rattle.std.specs.declared.alloc.Global.{Global}
 use Rattle.std.specs.declared.vec.Vec.{Vec}
 use Rattle.fp_model.specs.declared.parts.Leg.{Leg}
 use Rattle.fp_model.specs.Problem.{Problem}
-use Rattle.fp_flatnet.specs.Belonging.{BelongsTo}
+use Rattle.fp_flatnet.specs.Belonging.{FitsInstance}
 use Rattle.fp_flatnet.specs.Tables.{WindowTable, windows_in}
 use Rattle.fp_longestarcs.specs.Networks.{TimedNetwork, points_in}
 use Rattle.fp_longestarcs.specs.Whole.{IsNetworkOf}
@@ -182,7 +182,7 @@ leaf-setting_of s own x p w n setting problem windows network of =
     ∙ ap (λ (v : WindowTable). let y : Setting = record { problem = s.instance; windows = v; network = n } in y) (windows ∙ ap (λ (y : Setting). y.windows) setting)
     ∙ ap (λ (m : TimedNetwork). let y : Setting = record { problem = s.instance; windows = s.windows; network = m } in y) (network ∙ ap (λ (y : Setting). y.network) setting)
 
--- and its windows belong to its instance
-pub belongs-here : (own : Setting) (p : Problem) (w : WindowTable) → p ≡ own.problem → w ≡ own.windows → BelongsTo own.problem own.windows → BelongsTo p w
-belongs-here own p w problem windows belongs =
-    subst (λ (q : Problem). BelongsTo q w) (sym problem) (subst (λ (v : WindowTable). BelongsTo own.problem v) (sym windows) belongs)
+-- and its windows fit its instance
+pub fits-here : (own : Setting) (p : Problem) (w : WindowTable) → p ≡ own.problem → w ≡ own.windows → FitsInstance own.problem own.windows → FitsInstance p w
+fits-here own p w problem windows fits =
+    subst (λ (q : Problem). FitsInstance q w) (sym problem) (subst (λ (v : WindowTable). FitsInstance own.problem v) (sym windows) fits)

@@ -1,5 +1,5 @@
 -- What the leaves of a search are worth, and the bound of an answer that is unfinished.
-use Rattle.std.proofs.Common.{◌≡◌, ℕ, ◌<◌, ◌≤◌, Bool, true, false, List, ◌⊎◌, inl, inr, ⊎_elim, refl, sym, ap, ◌∙◌, subst, arith}
+use Rattle.std.proofs.Common.{◌≡◌, ℕ, ◌<◌, ◌≤◌, Bool, true, false, List, replicate, ◌⊎◌, inl, inr, ⊎_elim, refl, sym, ap, ◌∙◌, subst, arith}
 use Rattle.std.specs.Prelude.{All, IsSomeAnd, MatchBool, Option, Some}
 use Rattle.std.proofs.lemmas.Bool.{false≢true}
 use Rattle.std.proofs.lemmas.Option.{slice_get_within}
@@ -10,13 +10,14 @@ use Rattle.fp_tree.specs.Trees.{HaveTails, IsTree, Leaf, tree_leaves}
 use Rattle.fp_allowed.specs.Allowed.{tails_of}
 use Rattle.fp_prices.specs.declared.leaf_prices.LeafPrice.{LeafPrice}
 use Rattle.fp_prices_spans.specs.SpanKinds.{spans_beside}
-use Rattle.fp_prices_spans.specs.SpanLeaves.{IsSpanLeafEmpty}
 use Rattle.fp_prices_gifts.specs.GiftKinds.{IsPricedValue, gifts_beside}
 use Rattle.fp_prices_gifts.proofs.OneGiftValue.{gift_leaves-have-one-value}
 use Rattle.fp_certificate_lines.specs.declared.certificates.Node.{Node as Line}
 use Rattle.fp_certificate_lines.specs.declared.certificates.Valuation.{Valuation}
+use Rattle.fp_certificate_lines.specs.Moments.{by_moments}
 use Rattle.fp_certificate_lines.specs.Valuations.{first_sides, sides_valued}
-use Rattle.fp_certificate_rules.specs.Leaves.{fork_of}
+use Rattle.fp_certificate_lines.proofs.NoMoments.{by_moments-none}
+use Rattle.fp_certificate_rules.specs.Leaves.{IsLeafEmptyBy, IsLeafValueBy, fork_of}
 use Rattle.fp_session_history.specs.Notes.{History, points_of, worth_of}
 use Rattle.fp_session_history.specs.PrintedLeaves.{IsEmptyAt, IsLeastWorth, IsOpenBelow, IsPrintedLeaf, IsWorth, OfLeaf}
 use Rattle.fp_session_history.specs.Solutions.{AtLeaf}
@@ -60,17 +61,22 @@ module _ (h : History) where
   printed-kept sides payload value kept =
       by_mark (IsEmptyAt h sides payload.valuation ⊎ IsEarnedAt h sides payload.valuation) sides payload value kept (λ mark empty. inl empty) (λ mark earned. inr earned.earned)
 
-  -- a leaf is empty by its heads, or worth a claim
-  abbrev pub IsWorthClaim : (claim : ℕ) → List Side → Valuation → Type 0
-  IsWorthClaim claim sides v =
-      IsSpanLeafEmpty h.problem (windows_in h.windows) (points_of h v.price.round) sides (spans_beside h.spans v.price.kind) ⊎ ((value : ℕ) × IsValueAt h sides v value × (claim ≤ worth_of h value))
+  -- a leaf, priced by moments or not, is empty, or worth a claim
+  abbrev pub IsWorthClaim : (by_moments : Bool) → (claim : ℕ) → List Side → Valuation → Type 0
+  IsWorthClaim by_moments claim sides v =
+      IsLeafEmptyBy by_moments h.problem (windows_in h.windows) (points_of h v.price.round) sides (spans_beside h.spans v.price.kind)
+      ⊎ ((value : ℕ)
+      × IsLeafValueBy by_moments h.problem (windows_in h.windows) (points_of h v.price.round) (sides_valued v sides) h.tables (spans_beside h.spans v.price.kind) (gifts_beside h.gifts v.price.kind) v.price.kind v.price.forced value
+      × (claim ≤ worth_of h value))
 
-  -- it is worth what it keeps
-  pub worth-kept : (claim : ℕ) (sides : List Side) (payload : Payload) (value : ℕ) → IsKept h sides payload value → (payload.empty ≡ false → claim ≤ worth_of h value) → IsWorthClaim claim sides payload.valuation
-  worth-kept claim sides payload value kept unmarked =
+  -- where none of the tables is by moments, it is worth what it keeps
+  pub worth-kept : (tables claim : ℕ) (sides : List Side) (payload : Payload) (value : ℕ) → IsKept h sides payload value → (payload.empty ≡ false → claim ≤ worth_of h value) →
+      IsWorthClaim (by_moments (replicate tables false) payload.valuation.price.kind) claim sides payload.valuation
+  worth-kept tables claim sides payload value kept unmarked =
       let v : Valuation = payload.valuation in
-      by_mark (IsWorthClaim claim sides v) sides payload value kept (λ mark empty. inl empty.empty)
-      (λ mark earned. inr (earned.earned.value, earned.earned.is, subst (λ (n : ℕ). claim ≤ worth_of h n) earned.is (unmarked mark)))
+      subst (λ (by : Bool). IsWorthClaim by claim sides v) (sym (by_moments-none tables v.price.kind))
+      (by_mark (IsWorthClaim false claim sides v) sides payload value kept (λ mark empty. inl empty.empty)
+      (λ mark earned. inr (earned.earned.value, earned.earned.is, subst (λ (n : ℕ). claim ≤ worth_of h n) earned.is (unmarked mark))))
 
   -- a leaf that is settled and isn't empty is worth the cost
   pub settled-worth : (cost : ℕ) (payload : Payload) (value : ℕ) → IsSettled h cost payload value → payload.empty ≡ false → cost ≤ worth_of h value

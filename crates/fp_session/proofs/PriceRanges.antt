@@ -1,5 +1,5 @@
 -- The spans, the gifts and the unit of a search are in range, and its prices hold.
-use Rattle.std.proofs.Common.{ℕ, ◌-◌, ◌^◌, ◌<◌, List, [], ◌∷◌, length}
+use Rattle.std.proofs.Common.{ℕ, ◌-◌, ◌^◌, ◌<◌, false, List, [], ◌∷◌, length, replicate}
 use Rattle.std.specs.Prelude.{All, IfSome, Option, None, Some}
 use Rattle.std.specs.List.{AllZip}
 use Rattle.std.proofs.lemmas.List.Elements.{All-cons, All-nil}
@@ -44,11 +44,11 @@ module _ (p : Problem) (table : WindowTable) (x : PriceLists) (are : ArePrices p
   pub spans-few : All (λ (spans : List ClassSpan). length spans < 2 ^ 32 - 1) x.spans
   spans-few = each-first (AreSoundSpans p table) (λ (spans : List ClassSpan). length spans < 2 ^ 32 - 1) (λ spans gifts sound. sound.few) x.spans x.gifts are.sound
 
-  -- what is asked of the prices of a certificate
+  -- what is asked of the prices of a certificate none of whose tables is by moments
   pub record AreHeld : Type 0 where
     pub tables : AreTables p x.tables
-    pub spans : ArePaid p (windows_in table) (initial_points p table.anchors) x.spans x.gifts
+    pub spans : ArePaid p (windows_in table) (initial_points p table.anchors) x.spans x.gifts (replicate (length x.tables) false)
     pub unit : IfSome x.unit (IsUnit p)
 
   pub prices-hold : AreHeld
-  prices-hold = record { tables = are.tables.in_order; spans = paid-each p table x are; unit = of-unit p (IsUnit p) (λ u is. is.divides) x.unit are.unit }
+  prices-hold = record { tables = are.tables.in_order; spans = paid-each p table x (replicate (length x.tables) false) are; unit = of-unit p (IsUnit p) (λ u is. is.divides) x.unit are.unit }

@@ -16,6 +16,7 @@ use Rattle.fp_model.specs.Numbered.{no_shipment, shipment_at}
 use Rattle.fp_model.specs.Routes.{IsRoute, arcs_of}
 use Rattle.fp_flatnet.specs.Belonging.{BelongsTo}
 use Rattle.fp_flatnet.specs.Tables.{windows_in}
+use Rattle.fp_flatnet.proofs.WindowTimes.{BelongsTo-FitsInstance}
 use Rattle.fp_longestarcs.specs.Networks.{TimedNetwork, points_in}
 use Rattle.fp_tree.specs.declared.sides.Side.{Side}
 use Rattle.fp_allowed.specs.declared.chain_ends.ChainEnd.TheVariants as end
@@ -61,7 +62,7 @@ module _ (h : History) (net : TimedNetwork) (sides : List Side) (belongs : Belon
       ⊎_elim
       (λ (reached : EndsAs h.problem (allowed k) s elsewhere.chain end.Reached).
       let is : walk ≡ elsewhere.chain =
-      Reached-only_walk h.problem (allowed k) s elsewhere.chain walk forced reached (NoneLeaves-destination h.problem h.windows (points_of h (last_round h)) sides k belongs exists) timed.leads timed.allowed_all in
+      Reached-only_walk h.problem (allowed k) s elsewhere.chain walk forced reached (NoneLeaves-destination h.problem h.windows (points_of h (last_round h)) sides k (BelongsTo-FitsInstance h.problem h.windows belongs) exists) timed.leads timed.allowed_all in
       subst (IsReachedChain h.problem (allowed k) s) (sym is) (record { chain = forced; reached = reached }))
       (λ (stuck : (terminal : ℕ) × EndsAs h.problem (allowed k) s elsewhere.chain (end.Stuck terminal)).
       absurd (Stuck-no_walk h.problem (allowed k) s elsewhere.chain walk stuck.0 forced stuck.1 timed.leads timed.allowed_all))

@@ -1,7 +1,8 @@
 -- All that is shown of a search that has ended.
-use Rattle.std.proofs.Common.{◌≡◌, ℕ, ◌<◌, ◌≤◌, Bool, true, false, cond, List, [], ◌∷◌, refl, sym, ap, ◌∙◌, subst, arith}
+use Rattle.std.proofs.Common.{◌≡◌, ℕ, ◌<◌, ◌≤◌, Bool, true, false, cond, List, [], ◌∷◌, length, replicate, refl, sym, ap, ◌∙◌, subst, arith}
 use Rattle.std.specs.Prelude.{◌==◌, All, IfSome, Option, Some, None, slice_index_or}
 use Rattle.std.specs.List.{AllByRecursion}
+use Rattle.std.proofs.lemmas.List.{length-replicate}
 use Rattle.std.proofs.lemmas.List.Elements.{All-from_recursion, All-weaker, recursion_from_All}
 use Rattle.std.proofs.lemmas.Option.{IfSome_then}
 use Rattle.fp_model.specs.declared.limits.TheConstants.{LAST_ROUND, SCALE}
@@ -86,6 +87,7 @@ module _ (s : Search) (prices : PriceLists) (search : IsSearch s prices) (whole 
     tables = prices.tables;
     spans = prices.spans;
     gifts = prices.gifts;
+    moments = replicate (length prices.tables) false;
     tree = lines_of s.tree;
   }
 
@@ -121,7 +123,7 @@ module _ (s : Search) (prices : PriceLists) (search : IsSearch s prices) (whole 
       AreLeavesWorth s.instance s.windows (statement stated) claim
   leaves-worth stated claim unmarked =
       leaves-printed s.instance s.tree search.tails whole (λ (l : Leaf Line). IsLeafWorth s.instance s.windows (statement stated) claim l.node l.sides)
-      (λ k l at. worth-kept h claim l.sides l.node.payload (value_of l.node) (leaf-of h s.cost s.tree search.tails whole search.leaves k l at).kept (unmarked k l at))
+      (λ k l at. worth-kept h (length prices.tables) claim l.sides l.node.payload (value_of l.node) (leaf-of h s.cost s.tree search.tails whole search.leaves k l at).kept (unmarked k l at))
 
   -- where the answer is in range, so is the certificate
   statement-in_range : (stated : Answer) → IsAnswerInRange s.instance stated → IsInRange s.instance (statement stated)
@@ -137,6 +139,7 @@ module _ (s : Search) (prices : PriceLists) (search : IsSearch s prices) (whole 
     beside = search.prices.beside;
     gifts = gifts-in_range s.instance s.windows prices search.prices;
     given = given-length s.instance s.windows prices search.prices;
+    timed = length-replicate (length prices.tables) false;
     tree = tree-fits (IsNodeInRange s.instance prices.tables) s.tree whole
         (All-weaker (IsSplitOf h s.started s.cost) (λ (b : Branch (Node Payload)). IfSome (fork_at b.node) (λ (f : Fork). IsSplitInRange s.instance f.split)) (λ b split. split.range) (tree_branches fork_at s.tree) search.splits)
         (All-from_recursion (λ (l : Leaf (Node Payload)). IsLeafInRange prices.tables l.node.payload.valuation) (tree_leaves fork_at s.tree)
@@ -283,20 +286,22 @@ pub IsShown-certificate : (s : Search) (prices : PriceLists) (kept : Left) (stat
     IsTree fork_at s.tree → IsAnswer s prices kept stated → IsCertificate s prices stated c → splits ≡ notes_of s.tree →
     IsShown s prices.unit kept (record { certificate = c; trace = s.trace.items; splits = splits; left = kept })
 IsShown-certificate s prices kept stated c splits search left whole answered is noted =
-    let made : Answer → Option ℕ → List AddedPoint → PriceLists → List Line → Statement =
-    λ a n points x tree. record { answer = a; scale = n; unit = x.unit; legs = c.legs; trucks = c.trucks; points = points; tables = x.tables; spans = x.spans; gifts = x.gifts; tree = tree } in
+    let made : Answer → Option ℕ → List AddedPoint → PriceLists → List Bool → List Line → Statement =
+    λ a n points x moments tree. record { answer = a; scale = n; unit = x.unit; legs = c.legs; trucks = c.trucks; points = points; tables = x.tables; spans = x.spans; gifts = x.gifts; moments = moments; tree = tree } in
     let shown : PriceLists = record { tables = c.tables; spans = c.spans; gifts = c.gifts; unit = c.unit } in
     let priced : shown ≡ prices =
     ap (λ (ts : List (List ClassShare)). record { tables = ts; spans = c.spans; gifts = c.gifts; unit = c.unit }) is.tables
     ∙ ap (λ (ss : List (List ClassSpan)). record { tables = prices.tables; spans = ss; gifts = c.gifts; unit = c.unit }) is.spans
     ∙ ap (λ (gs : List (List Gift)). record { tables = prices.tables; spans = prices.spans; gifts = gs; unit = c.unit }) is.gifts
     ∙ ap (λ (u : Option ℕ). record { tables = prices.tables; spans = prices.spans; gifts = prices.gifts; unit = u }) is.unit in
-    let same : c ≡ made stated (named_scale s.instance.scale) (added_of s.trace.items) prices (lines_of s.tree) =
-    ap (λ (a : Answer). made a c.scale c.points shown c.tree) is.answer
-    ∙ ap (λ (n : Option ℕ). made stated n c.points shown c.tree) is.scale
-    ∙ ap (λ (points : List AddedPoint). made stated (named_scale s.instance.scale) points shown c.tree) (is.points ∙ search.added)
-    ∙ ap (λ (x : PriceLists). made stated (named_scale s.instance.scale) (added_of s.trace.items) x c.tree) priced
-    ∙ ap (λ (tree : List Line). made stated (named_scale s.instance.scale) (added_of s.trace.items) prices tree) is.tree in
+    let none_timed : List Bool = replicate (length prices.tables) false in
+    let same : c ≡ made stated (named_scale s.instance.scale) (added_of s.trace.items) prices none_timed (lines_of s.tree) =
+    ap (λ (a : Answer). made a c.scale c.points shown c.moments c.tree) is.answer
+    ∙ ap (λ (n : Option ℕ). made stated n c.points shown c.moments c.tree) is.scale
+    ∙ ap (λ (points : List AddedPoint). made stated (named_scale s.instance.scale) points shown c.moments c.tree) (is.points ∙ search.added)
+    ∙ ap (λ (x : PriceLists). made stated (named_scale s.instance.scale) (added_of s.trace.items) x c.moments c.tree) priced
+    ∙ ap (λ (moments : List Bool). made stated (named_scale s.instance.scale) (added_of s.trace.items) prices moments c.tree) is.moments
+    ∙ ap (λ (tree : List Line). made stated (named_scale s.instance.scale) (added_of s.trace.items) prices none_timed tree) is.tree in
     subst (λ (x : Statement). IsShown s prices.unit kept (record { certificate = x; trace = s.trace.items; splits = splits; left = kept })) (sym same)
-    (subst (λ (notes : List SplitNote). IsShown s prices.unit kept (record { certificate = made stated (named_scale s.instance.scale) (added_of s.trace.items) prices (lines_of s.tree); trace = s.trace.items; splits = notes; left = kept })) (sym noted)
+    (subst (λ (notes : List SplitNote). IsShown s prices.unit kept (record { certificate = made stated (named_scale s.instance.scale) (added_of s.trace.items) prices none_timed (lines_of s.tree); trace = s.trace.items; splits = notes; left = kept })) (sym noted)
     (shown-answer s prices search whole is.within is.few c.legs c.trucks is.legs is.routes is.legs_exist is.trucks is.trucks_exist stated kept left answered))

@@ -1,5 +1,5 @@
 -- The certificate of a search that has ended, and all that is shown of it.
-use Rattle.std.specs.Prelude.{ℕ, ◌==◌, ◌-◌, ◌^◌, ◌<◌, ◌≡◌, List, [], All, length, Option, Some, None, if◌then◌else◌}
+use Rattle.std.specs.Prelude.{ℕ, ◌==◌, ◌-◌, ◌^◌, ◌<◌, ◌≡◌, List, [], All, false, length, replicate, Option, Some, None, if◌then◌else◌}
 use Rattle.fp_model.specs.declared.limits.TheConstants.{SCALE}
 use Rattle.fp_tree.specs.Nodes.{leaf_count}
 use Rattle.fp_timetable.specs.Lines.{AreLegLines, AreTruckLines, LegExists, TruckExists, routes_from}
@@ -42,7 +42,7 @@ abbrev pub named_scale : ℕ → Option ℕ
 named_scale scale = if scale == SCALE then None else Some scale
 
 -- a certificate has an answer, the lines of the incumbent, the added points, the prices, of which there
--- are few, and the tree of a search
+-- are few, none of them by moments, and the tree of a search
 pub record IsCertificate (s : Search) (prices : PriceLists) (stated : Answer) (c : Statement) : Type 0 where
   pub answer : c.answer ≡ stated
   pub scale : c.scale ≡ named_scale s.instance.scale
@@ -55,6 +55,7 @@ pub record IsCertificate (s : Search) (prices : PriceLists) (stated : Answer) (c
   pub tables : c.tables ≡ prices.tables
   pub spans : c.spans ≡ prices.spans
   pub gifts : c.gifts ≡ prices.gifts
+  pub moments : c.moments ≡ replicate (length prices.tables) false
   pub unit : c.unit ≡ prices.unit
   pub within : AreWithinLimits prices.tables
   pub few : AreFewLines prices.tables prices.spans prices.gifts

@@ -40,6 +40,8 @@ pub(crate) fn certificate(
     let points = search.points.added().to_vec(alloc)?;
     let tree = tree_lines(alloc, &search.tree)?;
     let (tables, spans, gifts, unit) = prices.into_parts();
+    // The search prices no leaf by moments.
+    let moments = vec![in alloc; false; tables.len()]?;
     Ok(Certificate {
         answer,
         scale: named_scale(&search.instance),
@@ -50,6 +52,7 @@ pub(crate) fn certificate(
         tables,
         spans,
         gifts,
+        moments,
         tree,
     })
 }

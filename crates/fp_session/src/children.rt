@@ -172,7 +172,7 @@ fn or_by(
 // What is kept of such a leaf as of the round that a price of the leaf above is of: that it is empty, or
 // the best of those that each leaf has and of that price, where walks go by its heads. Points that were
 // added since can make a table worth less.
-#[tactic(auto, using(fp_duals_leaves::proofs::GrownPrices::HaveGrown_none))]
+#[tactic(auto, using(fp_duals_leaves::proofs::GrownPrices::HaveGrown_none, fp_flatnet::proofs::WindowTimes::BelongsTo_fits))]
 fn as_of_price<D: Deadline>(
     resources: &Resources<D>,
     search: &Search,
@@ -287,7 +287,7 @@ fn is_steady(price: LeafPrice) -> bool
 
 // The price of a leaf of which this is kept, where it is steady or no other is found; or one that is, by
 // which the leaf is worth no less.
-#[tactic(auto, using(fp_duals_leaves::proofs::GrownPrices::HaveGrown_none))]
+#[tactic(auto, using(fp_duals_leaves::proofs::GrownPrices::HaveGrown_none, fp_flatnet::proofs::WindowTimes::BelongsTo_fits))]
 fn price_below(
     alloc: Global,
     search: &Search,

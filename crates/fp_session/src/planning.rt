@@ -247,7 +247,7 @@ fn late(search: &Search, number: u32) -> Move
 
 // What a step is going to do at an open leaf of which this was kept and which isn't known to be
 // empty, and what it keeps of it.
-#[tactic(auto, using(fp_duals_leaves::proofs::GrownPrices::HaveGrown_none))]
+#[tactic(auto, using(fp_duals_leaves::proofs::GrownPrices::HaveGrown_none, fp_flatnet::proofs::WindowTimes::BelongsTo_fits))]
 fn open_move<D: Deadline>(
     resources: &Resources<D>,
     search: &Search,

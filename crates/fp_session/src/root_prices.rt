@@ -99,7 +99,7 @@ fn plan_of_walks<D: Deadline>(
 }
 
 // What comes of pricing an open leaf that isn't known to be empty.
-#[tactic(auto, using(fp_duals_leaves::proofs::GrownPrices::HaveGrown_none))]
+#[tactic(auto, using(fp_duals_leaves::proofs::GrownPrices::HaveGrown_none, fp_flatnet::proofs::WindowTimes::BelongsTo_fits))]
 fn priced_at<D: Deadline>(
     resources: &Resources<D>,
     search: &Search,

@@ -34,7 +34,7 @@ use fp_tree::Tree;
 use std::alloc::Global;
 
 // What is kept of the root before any round, by the prices that every leaf has.
-#[tactic(auto, using(fp_duals_leaves::proofs::GrownPrices::HaveGrown_none))]
+#[tactic(auto, using(fp_duals_leaves::proofs::GrownPrices::HaveGrown_none, fp_flatnet::proofs::WindowTimes::BelongsTo_fits))]
 fn root(
     alloc: Global,
     instance: &Instance,

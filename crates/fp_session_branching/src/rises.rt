@@ -81,7 +81,7 @@ fn cost_beside(
     let round = leaf.round();
     let mut sides = Vec::from_slice(alloc, leaf.sides())?;
     sides.push(side)?;
-    let allowed = Allowed::new(round.instance(), leaf.windows(), round.network());
+    let allowed = Allowed::within(round.instance(), leaf.windows(), round.network());
     let row = allowed.row(alloc, shipment, &sides)?;
     let cost = cost_over(alloc, pricing, shipment, &row)?;
     Ok(cost.unwrap_or(u128::MAX))

@@ -1,5 +1,5 @@
 //! The legs of walks in one list, and which of them go by one class.
-ghost use Rattle.fp_flatnet.specs.Belonging.{BelongsTo};
+ghost use Rattle.fp_flatnet.specs.Belonging.{FitsInstance};
 
 use crate::NoMemory;
 use fp_flatnet::Windows;
@@ -41,7 +41,7 @@ fn leg_of(
     stop: Stop,
     goes_on: bool,
 ) -> Option<WalkLeg>
-    requires { BelongsTo instance.now windows.now }
+    requires { FitsInstance instance.now windows.now }
 {
     let known = (shipment as usize) < instance.shipments().len()
         && (stop.arc as usize) < instance.arcs().len();
@@ -71,7 +71,7 @@ impl WalkLegs {
         shipment: u32,
         stops: &[Stop],
     ) -> Result<bool, NoMemory>
-        requires { BelongsTo instance.now windows.now }
+        requires { FitsInstance instance.now windows.now }
     {
         self.firsts.push(self.list.len())?;
         let mut left = stops.len();
@@ -127,14 +127,14 @@ impl WalkLegs {
     }
 
     /// The legs of walks, by the numbers of the shipments; `None` where one has no window. The windows
-    /// belong to the instance. `NoMemory` only where no memory is found.
+    /// fit the instance. `NoMemory` only where no memory is found.
     pub(crate) fn of(
         alloc: Global,
         instance: &Instance,
         windows: &Windows,
         walks: &[TimedWalk],
     ) -> Result<Option<WalkLegs>, NoMemory>
-        requires { BelongsTo instance.now windows.now }
+        requires { FitsInstance instance.now windows.now }
     {
         let mut legs = WalkLegs {
             list: Vec::new(alloc),

@@ -12,6 +12,7 @@ use Rattle.fp_model.specs.Problem.{Problem}
 use Rattle.fp_flatnet.specs.declared.window_tables.Window.{Window}
 use Rattle.fp_flatnet.specs.Belonging.{BelongsTo}
 use Rattle.fp_flatnet.specs.Tables.{WindowTable, windows_in}
+use Rattle.fp_flatnet.proofs.WindowTimes.{BelongsTo-FitsInstance}
 use Rattle.fp_longestarcs.specs.Networks.{IsClass, TimedNetwork, points_in}
 use Rattle.fp_longestarcs.specs.Whole.{IsWholeNetwork}
 use Rattle.fp_allowed.specs.Allowed.{is_allowed}
@@ -46,5 +47,5 @@ classes-relaxed p table net walks belongs whole relaxed =
     All-from_get_or (All (IsClass net)) walks [] (λ k lt.
     All-from_get_or (IsClass net) (route_at walks k) no_leg (λ i less.
     let s : Setting = record { problem = p; windows = table; network = net } in
-    allowed_in-IsClass s [] k (leg_at (route_at walks k) i) (record { belongs = belongs; whole = whole })
+    allowed_in-IsClass s [] k (leg_at (route_at walks k) i) (record { belongs = BelongsTo-FitsInstance p table belongs; whole = whole })
     (leg-allowed p (windows_in table) (points_in net) walks relaxed (record { shipment = k; leg = i }) (record { shipment = lt; leg = less }))))

@@ -12,6 +12,7 @@ mod failing_ends;
 mod group_certificates;
 mod improvements;
 mod input_faults;
+mod moment_certificates;
 mod notes;
 mod plans;
 mod quotes;

@@ -38,8 +38,8 @@ LINES = {
     "leaf": (("KIND", (1, GREATEST, "linear", "even")), ("ROUND", (0, LATEST_ROUND)), ("MODE", ("plain", "forced"))),
     "end": (),
 }  # fmt: skip
-# The fields that may stand after those of a line: under how many of its sides a leaf is valued.
-FURTHER = {"leaf": (("SIDES", (0, MOST_SPLITS)),)}
+# The fields that may stand after those of a line: that leaves are priced by moments by a table, and under how many of its sides a leaf is valued.
+FURTHER = {"table": (("MOMENTS", ("moments",)),), "leaf": (("SIDES", (0, MOST_SPLITS)),)}
 UNDER_DIRECT = ("leg", "truck", "end")
 # The lines with a number whose limit is another number, or hangs on the instance.
 LIMITED = ("scale", "span", "gift", "split", "leaf")

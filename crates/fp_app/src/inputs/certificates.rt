@@ -30,6 +30,7 @@ fn timetable_of(
         tables: Vec::new(alloc),
         spans: Vec::new(alloc),
         gifts: Vec::new(alloc),
+        moments: Vec::new(alloc),
         tree: Vec::new(alloc),
     }
 }

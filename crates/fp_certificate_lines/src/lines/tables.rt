@@ -1,8 +1,9 @@
-//! Lines `table,ID`, each followed by its shares, and by the spans and the gifts beside it.
+//! Lines `table,ID` and `table,ID,moments`, each followed by its shares, and by the spans and the
+//! gifts beside it.
 ghost use Rattle.std.specs.Prelude.{◌≡◌, ◌++◌, [], All, false, slice_index_or, OnOk};
 ghost use Rattle.fp_records.specs.Text.{line_of, lines_of};
 ghost use Rattle.fp_certificate_lines.specs.Ranges.{GiftExists, ShareExists, SpanExists};
-ghost use Rattle.fp_certificate_lines.specs.Rows.{table_fields, table_rows, tables_rows};
+ghost use Rattle.fp_certificate_lines.specs.Rows.{table_fields, table_rows, tables_rows, with_moments};
 
 use crate::NoMemory;
 use crate::lines::gifts::write_gifts;
@@ -14,14 +15,25 @@ use fp_prices_gifts::{Gift, TableGifts};
 use fp_prices_spans::{Span, TableSpans};
 use fp_records::Line;
 
-// Adds `table,ID`.
-fn write_id(line: &mut Line, id: u128) -> Result<(), NoMemory>
+// Adds the field of a table by moments to a line that has been begun, where it is one.
+fn write_moments(line: &mut Line, by_moments: bool) -> Result<(), NoMemory>
+    ensures { OnOk result (line.new ≡ with_moments line.old by_moments) }
+{
+    if by_moments {
+        line.word(b"moments")?;
+    }
+    Ok(())
+}
+
+// Adds `table,ID` or `table,ID,moments`.
+fn write_id(line: &mut Line, id: u128, by_moments: bool) -> Result<(), NoMemory>
     requires begun { line.old.begun ≡ false }
-    ensures text { OnOk result (line.new.text ≡ line.old.text ++ line_of (table_fields id)) }
+    ensures text { OnOk result (line.new.text ≡ line.old.text ++ line_of (table_fields id by_moments)) }
     ensures ended { OnOk result (line.new.begun ≡ false) }
 {
     line.word(b"table")?;
     line.number(id)?;
+    write_moments(line, by_moments)?;
     line.end()
 }
 
@@ -30,6 +42,7 @@ fn write_table(
     line: &mut Line,
     instance: &Instance,
     id: u128,
+    by_moments: bool,
     table: &Table,
     spans: &[Span],
     gifts: &[Gift],
@@ -38,10 +51,10 @@ fn write_table(
     requires shares { All (ShareExists instance.now) table.now }
     requires spans { All (SpanExists instance.now) spans.now }
     requires gifts { All (GiftExists instance.now) gifts.now }
-    ensures text { OnOk result (line.new.text ≡ line.old.text ++ lines_of (table_rows instance.now id table.now spans.now gifts.now)) }
+    ensures text { OnOk result (line.new.text ≡ line.old.text ++ lines_of (table_rows instance.now id by_moments table.now spans.now gifts.now)) }
     ensures ended { OnOk result (line.new.begun ≡ false) }
 {
-    write_id(line, id)?;
+    write_id(line, id, by_moments)?;
     write_shares(line, instance, &table.shares)?;
     write_spans(line, instance, spans)?;
     write_gifts(line, instance, gifts)
@@ -67,6 +80,16 @@ fn gifts_at(gifts: &[TableGifts], place: usize) -> &[Gift]
     }
 }
 
+// Whether the table at a place is by moments, where it is told.
+fn moments_at(moments: &[bool], place: usize) -> bool
+    ensures { result ≡ slice_index_or moments.now place false }
+{
+    match moments.get(place) {
+        Some(by_moments) => *by_moments,
+        None => false,
+    }
+}
+
 /// Adds the lines of tables, numbered from 1, each followed by its shares, and by the spans and the
 /// gifts beside it.
 pub fn write_tables(
@@ -75,18 +98,21 @@ pub fn write_tables(
     tables: &[Table],
     spans: &[TableSpans],
     gifts: &[TableGifts],
+    moments: &[bool],
 ) -> Result<(), NoMemory>
     requires begun { line.old.begun ≡ false }
     requires shares { All (All (ShareExists instance.now)) tables.now }
     requires spans { All (All (SpanExists instance.now)) spans.now }
     requires gifts { All (All (GiftExists instance.now)) gifts.now }
-    ensures text { OnOk result (line.new.text ≡ line.old.text ++ lines_of (tables_rows instance.now spans.now gifts.now 1 tables.now)) }
+    ensures text { OnOk result (line.new.text ≡ line.old.text ++ lines_of (tables_rows instance.now spans.now gifts.now moments.now 1 tables.now)) }
     ensures ended { OnOk result (line.new.begun ≡ false) }
 {
     for (place, table) in tables.iter().enumerate() {
         let held = spans_at(spans, place);
         let given = gifts_at(gifts, place);
-        write_table(line, instance, place as u128 + 1, table, held, given)?;
+        let by_moments = moments_at(moments, place);
+        let id = place as u128 + 1;
+        write_table(line, instance, id, by_moments, table, held, given)?;
     }
     Ok(())
 }

@@ -4,14 +4,14 @@ ghost use Rattle.fp_prices.specs.RoundBounds.{AreRoundBounds};
 ghost use Rattle.fp_prices.specs.Tables.{HasKind};
 ghost use Rattle.fp_prices_spans.specs.SpanKinds.{spans_beside as spans_beside_table};
 ghost use Rattle.fp_prices_gifts.specs.GiftKinds.{gifts_beside as gifts_beside_table};
-ghost use Rattle.fp_prices_gifts.specs.GiftLeaves.{IsGiftBound};
 ghost use Rattle.fp_flatnet.specs.Tables.{windows_in};
 ghost use Rattle.fp_tree.specs.Ways.{way_sides};
 ghost use Rattle.fp_certificate_lines.specs.declared.certificates.Node.TheVariants.{Leaf};
+ghost use Rattle.fp_certificate_lines.specs.Moments.{by_moments as by_moments_of};
 ghost use Rattle.fp_certificate_lines.specs.Ranges.{IsSplitInRange};
 ghost use Rattle.fp_certificate_rules.specs.Accepted.{claim_of as claim_of_answer};
 ghost use Rattle.fp_certificate_rules.specs.Leaves.{AreLeavesWorth, IsLeafWorth, split_tail as tail_of_split};
-ghost use Rattle.fp_checker.specs.Bounds.{IsBoundWorth, IsEmptyBound};
+ghost use Rattle.fp_checker.specs.Bounds.{IsBoundWorth, IsEmptyBound, IsLeafBoundBy};
 ghost use Rattle.fp_checker.specs.LeafWays.{IsKept, steps_of};
 ghost use Rattle.fp_certificate_rules.specs.Points.{ArePointsOf, points_as_of};
 ghost use Rattle.fp_certificate_rules.specs.Prices.{HasPrices};
@@ -19,11 +19,11 @@ ghost use Rattle.fp_certificate_rules.specs.Prices.{HasPrices};
 use crate::NoMemory;
 use crate::cases::Case;
 use crate::rules::leaf_ways::LeafWay;
-use fp_certificate_lines::{Answer, Node, Valuation};
+use fp_certificate_lines::{Answer, Node, Valuation, by_moments};
 use fp_certificate_rules::reaches;
 use fp_model::Instance;
 use fp_prices::{Kind, LeafBound, LeafPrice, RoundBounds};
-use fp_prices_gifts::{gift_bound_of, gifts_beside};
+use fp_prices_gifts::{gift_bound_of, gifts_beside, moment_bound_of};
 use fp_prices_spans::spans_beside;
 use fp_timenodes::Points;
 use fp_tree::{Side, Split};
@@ -80,7 +80,9 @@ fn is_bound_worth(case: &Case<'_>, bound: Option<LeafBound>) -> bool
 }
 
 // The bound of a leaf under sides by the certificate's prices, if it has one, with what is kept for the
-// leaves after it. A leaf that isn't empty has none where it isn't priced by the gifts beside its table.
+// leaves after it. A leaf that isn't empty has none where it isn't priced by the gifts beside its table,
+// or where its table is by moments and a span that is charged doesn't pay by the windows that the sides
+// narrow.
 fn leaf_bound<'a>(
     alloc: Global,
     case: &Case<'a>,
@@ -94,7 +96,7 @@ fn leaf_bound<'a>(
     requires prices { HasPrices case.now.problem case.now.windows case.now.told }
     requires kind { HasKind case.now.told.tables price.kind }
     requires kept { AreRoundBounds case.now.problem points.now case.now.told.tables kept }
-    ensures exact { IfOk result (λ found. IsGiftBound case.now.problem (windows_in case.now.windows)
+    ensures exact { IfOk result (λ found. IsLeafBoundBy (by_moments_of case.now.told.moments price.kind) case.now.problem (windows_in case.now.windows)
         (points_as_of case.now.problem case.now.windows.anchors case.now.told price.round) sides.now case.now.told.tables
         (spans_beside_table case.now.told.spans price.kind) (gifts_beside_table case.now.told.gifts price.kind) price.kind price.forced found.0) }
     ensures kept { IfOk result (λ found. AreRoundBounds case.now.problem points.now case.now.told.tables found.1) }
@@ -105,6 +107,12 @@ fn leaf_bound<'a>(
     let tables = certificate.tables.as_slice();
     let spans = spans_beside(&certificate.spans, price.kind);
     let gifts = gifts_beside(&certificate.gifts, price.kind);
+    if by_moments(&certificate.moments, price.kind) {
+        let bound = moment_bound_of(
+            alloc, instance, windows, points, sides, tables, spans, gifts, price,
+        )?;
+        return Ok((bound, kept));
+    }
     if spans.is_empty() && gifts.is_empty() {
         let found = kept.bound(alloc, instance, windows, points, tables, sides, price)?;
         return Ok((Some(found.0), found.1));

@@ -10,7 +10,7 @@ ghost use Rattle.fp_prices_spans.specs.MomentRuns.{first_points};
 ghost use Rattle.fp_prices_spans.specs.Spans.{ClassSpan};
 
 use crate::NoMemory;
-use crate::rules::price_gifts::is_paid_beside;
+use crate::rules::price_gifts::are_prices_beside;
 use fp_certificate_lines::Certificate;
 use fp_flatnet::Windows;
 use fp_model::Instance;
@@ -19,8 +19,8 @@ use fp_prices_spans::TableSpans;
 use fp_timenodes::Points;
 use std::alloc::Global;
 
-// Whether the spans and the gifts beside each table are in order and light, keep the money rule, and
-// the charges of the spans pay, by the windows and the points as of the round 0.
+// Whether the spans and the gifts beside each table are in order and light, keep the money rule, and, but
+// for tables by moments, the charges of the spans pay, by the windows and the points as of the round 0.
 fn all_paid(
     alloc: Global,
     instance: &Instance,
@@ -28,6 +28,7 @@ fn all_paid(
     points: &Points,
     spans: &[TableSpans],
     gifts: &[TableGifts],
+    moments: &[bool],
 ) -> Result<bool, NoMemory>
     requires belongs { BelongsTo instance.now windows.now }
     requires terminals { points.now.terminals ≡ length instance.now.terminals }
@@ -35,21 +36,31 @@ fn all_paid(
     requires few { All (λ (list : List ClassSpan). length list < 2 ^ 32 - 1) spans.now }
     requires given { All (All (IsGiftInRange instance.now)) gifts.now }
     requires beside { length gifts.now ≡ length spans.now }
+    requires timed { length moments.now ≡ length spans.now }
     ensures { IfOk result (λ paid. IsTrue paid
-        ↔ ArePaid instance.now (windows_in windows.now) (first_points points.now) spans.now gifts.now) }
+        ↔ ArePaid instance.now (windows_in windows.now) (first_points points.now) spans.now gifts.now moments.now) }
 {
     for place in 0..spans.len() {
         let held = &spans[place];
         let given = &gifts[place];
-        if !is_paid_beside(alloc, instance, windows, points, &held.spans, &given.gifts)? {
+        if !are_prices_beside(
+            alloc,
+            instance,
+            windows,
+            points,
+            &held.spans,
+            &given.gifts,
+            moments[place],
+        )? {
             return Ok(false);
         }
     }
     Ok(true)
 }
 
-// Whether the spans and the gifts of a certificate are paid, by the windows and the initial points. The
-// points are the certificate's: those that it adds are of later rounds.
+// Whether the spans and the gifts of a certificate are paid, by the windows and the initial points, or
+// only listed where their table is by moments. The points are the certificate's: those that it adds are
+// of later rounds.
 pub(crate) fn has_paid_spans(
     alloc: Global,
     instance: &Instance,
@@ -64,7 +75,7 @@ pub(crate) fn has_paid_spans(
     requires few { All (λ (list : List ClassSpan). length list < 2 ^ 32 - 1) certificate.now.spans }
     ensures { IfOk result (λ paid. IsTrue paid
         ↔ ArePaid instance.now (windows_in windows.now)
-        (initial_points instance.now windows.now.anchors) certificate.now.spans certificate.now.gifts) }
+        (initial_points instance.now windows.now.anchors) certificate.now.spans certificate.now.gifts certificate.now.moments) }
 {
     all_paid(
         alloc,
@@ -73,5 +84,6 @@ pub(crate) fn has_paid_spans(
         points,
         &certificate.spans,
         &certificate.gifts,
+        &certificate.moments,
     )
 }

@@ -30,8 +30,8 @@ fn has_unit(instance: &Instance, unit: Option<u128>) -> bool
 }
 
 // Whether the tables are in order and keep the price rule, the spans and the gifts beside each are paid
-// by the windows and the initial points, and the unit divides what plans cost. The points are the
-// certificate's.
+// by the windows and the initial points, or only listed where the table is by moments, and the unit
+// divides what plans cost. The points are the certificate's.
 pub(crate) fn has_prices(
     alloc: Global,
     instance: &Instance,

@@ -3,7 +3,7 @@
 ghost use Rattle.std.specs.Prelude.{◌≡◌, ◌<◌, IfNone, IfOk, IfSome, IsNone, IsSome, List, false, length};
 ghost use Rattle.fp_model.specs.declared.parts.Leg.{Leg};
 ghost use Rattle.fp_model.specs.Numbered.{shipment_at};
-ghost use Rattle.fp_flatnet.specs.Belonging.{BelongsTo};
+ghost use Rattle.fp_flatnet.specs.Belonging.{FitsInstance};
 ghost use Rattle.fp_flatnet.specs.Tables.{windows_in};
 ghost use Rattle.fp_longestarcs.specs.Networks.{IsClass, points_in};
 ghost use Rattle.fp_allowed.specs.Allowed.{tails_of};
@@ -89,20 +89,20 @@ impl<'a> Model for Leaf<'a> {
 }
 
 impl<'a> Leaf<'a> {
-    /// The leaf under sides, with windows that belong to the instance. `NoMemory` only where no
-    /// memory is found.
+    /// The leaf under sides, with windows that fit the instance: they may have no anchors. `NoMemory`
+    /// only where no memory is found.
     pub fn of(
         alloc: Global,
         round: &'a RoundNetwork<'a>,
         windows: &'a Windows,
         sides: &'a [Side],
     ) -> Result<Leaf<'a>, NoMemory>
-        requires { BelongsTo round.now.problem windows.now }
+        requires { FitsInstance round.now.problem windows.now }
         ensures setting { IfOk result (λ leaf. leaf.setting
             ≡ record { problem = round.now.problem; windows = windows.now; network = round.now.network }) }
         ensures sides { IfOk result (λ leaf. leaf.sides ≡ sides.now) }
     {
-        let allowed = Allowed::new(round.instance(), windows, round.network());
+        let allowed = Allowed::within(round.instance(), windows, round.network());
         let rows = all_rows(alloc, round.instance(), &allowed, sides)?;
         Ok(Leaf {
             round,
@@ -116,7 +116,7 @@ impl<'a> Leaf<'a> {
     fn allowed(&self) -> Allowed<'_>
         ensures { result ≡ self.now.setting }
     {
-        Allowed::new(self.round.instance(), self.windows, self.round.network())
+        Allowed::within(self.round.instance(), self.windows, self.round.network())
     }
 
     /// The head of a class for a shipment, as [`Allowed::head`] has it.
@@ -155,10 +155,10 @@ impl<'a> Leaf<'a> {
         self.round
     }
 
-    /// The windows.
+    /// The windows, which fit the instance.
     pub fn windows(&self) -> &'a Windows
         ensures same { result.now ≡ self.now.setting.windows }
-        ensures belongs { BelongsTo self.now.setting.problem self.now.setting.windows }
+        ensures belongs { FitsInstance self.now.setting.problem self.now.setting.windows }
     {
         self.windows
     }

@@ -2,7 +2,7 @@
 //! leaf.
 ghost use Rattle.std.specs.Prelude.{◌≡◌, ◌+◌, ◌≤◌, ◌↔◌, IfOk, IsTrue, List, false, length};
 ghost use Rattle.fp_timenodes.specs.Points.{points_at};
-ghost use Rattle.fp_flatnet.specs.Belonging.{BelongsTo};
+ghost use Rattle.fp_flatnet.specs.Belonging.{BelongsTo, FitsInstance};
 ghost use Rattle.fp_flatnet.specs.Tables.{windows_in};
 ghost use Rattle.fp_longestarcs.specs.Networks.{points_in};
 ghost use Rattle.fp_prices.specs.KnownCosts.{AreKnownCosts, IsSharedKind};
@@ -44,7 +44,7 @@ fn bound_over(
     sides: &[Side],
     price: LeafPrice,
 ) -> Result<LeafBound, NoMemory>
-    requires belongs { BelongsTo network.now.problem windows.now }
+    requires fits { FitsInstance network.now.problem windows.now }
     requires tables { AreTables network.now.problem tables.now }
     requires kind { HasKind tables.now price.kind }
     requires known { AreKnownCosts network.now.problem network.now.network tables.now price.kind false known.old.items }

@@ -1,8 +1,9 @@
 //! The moments of a span, in runs, and who can leave in a run.
 ghost use Rattle.std.specs.Prelude.{◌≡◌, ◌<◌, ◌≤◌, length, slice_index_or};
 ghost use Rattle.fp_flatnet.specs.Tables.{windows_in};
+ghost use Rattle.fp_timenodes.specs.Points.{points_at};
 ghost use Rattle.fp_prices_spans.specs.declared.rules.moment_runs.MomentRun.{MomentRun};
-ghost use Rattle.fp_prices_spans.specs.MomentRuns.{can_leave as can_leave_in, end_of, first_points, is_before, runs_from};
+ghost use Rattle.fp_prices_spans.specs.MomentRuns.{can_leave as can_leave_in, end_of, is_before, runs_from};
 
 use crate::spans::Span;
 use fp_flatnet::Windows;
@@ -16,16 +17,16 @@ pub(crate) struct MomentRun {
     pub(crate) before: Option<u32>,
 }
 
-/// Where the moments of a span end: at the first of the points of the start, at its arc's tail,
-/// that is at `until` or after it. None where there is none.
-pub(crate) fn span_end(instance: &Instance, points: &Points, span: &Span) -> Option<u32>
+/// Where the moments of a span end: at the first point of its arc's tail, as of a round, that is at
+/// `until` or after it. None where there is none.
+pub(crate) fn span_end(instance: &Instance, points: &Points, round: u32, span: &Span) -> Option<u32>
     requires terminals { points.now.terminals ≡ length instance.now.terminals }
     requires arc { span.now.arc < length instance.now.arcs }
-    ensures { result ≡ end_of instance.now (first_points points.now) span.now }
+    ensures { result ≡ end_of instance.now (λ terminal. points_at points.now terminal round) span.now }
 {
     let tail = instance.arc(span.arc).from;
     match span.until.checked_sub(1) {
-        Some(last) => points.next(tail, last, 0),
+        Some(last) => points.next(tail, last, round),
         // 0 is always a point.
         None => Some(0),
     }

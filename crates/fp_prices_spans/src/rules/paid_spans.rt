@@ -1,6 +1,6 @@
 //! Whether spans are paid.
 ghost use Rattle.std.specs.Prelude.{◌≡◌, ◌<◌, ◌-◌, ◌^◌, ◌↔◌, All, IfOk, IsTrue, length};
-ghost use Rattle.fp_flatnet.specs.Belonging.{BelongsTo};
+ghost use Rattle.fp_flatnet.specs.Belonging.{FitsInstance};
 ghost use Rattle.fp_flatnet.specs.Tables.{windows_in};
 ghost use Rattle.fp_prices_spans.specs.MomentRuns.{first_points};
 ghost use Rattle.fp_prices_spans.specs.SpanCharges.{ArePaidSpans};
@@ -19,7 +19,7 @@ use std::alloc::Global;
 /// neither [`check_spans`] nor [`check_charges`] finds a fault. Then they keep both rules of spans,
 /// so what leaves are worth by them bounds plans.
 ///
-/// The windows belong to the instance, and the points have its terminals: by the windows, and by
+/// The windows fit the instance, and the points have its terminals: by the windows, and by
 /// the points as of round 0, it is told who can leave in a group. The spans are of arcs, and their
 /// weights of shipments, that exist, and there are fewer than 2^32 - 1 spans. `NoMemory` only where
 /// no memory is found.
@@ -30,7 +30,7 @@ pub fn are_paid(
     points: &Points,
     spans: &[Span],
 ) -> Result<bool, NoMemory>
-    requires belongs { BelongsTo instance.now windows.now }
+    requires fits { FitsInstance instance.now windows.now }
     requires terminals { points.now.terminals ≡ length instance.now.terminals }
     requires few { length spans.now < 2 ^ 32 - 1 }
     requires of { All (IsSpanOf instance.now) spans.now }

@@ -26,9 +26,9 @@ fn is_usable(leaf: &Leaf, class: u32) -> bool
     false
 }
 
-// Whether a span is charged: it holds for a class that isn't forced and is allowed for some
-// shipment.
-fn is_charged(pricing: &LeafPricing, span: &Span) -> bool
+/// Whether a span is charged: it holds for a class that isn't forced and is allowed for some
+/// shipment. Takes no memory.
+pub(crate) fn is_charged(pricing: &LeafPricing, span: &Span) -> bool
     requires { span.now.arc < length pricing.now.leaf.setting.problem.arcs }
     ensures { (chains : List (List Leg)) → AreChainsOf pricing.now.leaf pricing.now.forced chains →
         IsTrue result ↔ IsCharged pricing.now.leaf.setting.problem (allowed_at pricing.now.leaf) chains span.now }

@@ -1,6 +1,6 @@
 //! The bound of a leaf by spans, with the points as of a round.
 ghost use Rattle.std.specs.Prelude.{◌≡◌, ◌+◌, ◌≤◌, IfOk, length};
-ghost use Rattle.fp_flatnet.specs.Belonging.{BelongsTo};
+ghost use Rattle.fp_flatnet.specs.Belonging.{FitsInstance};
 ghost use Rattle.fp_flatnet.specs.Tables.{windows_in};
 ghost use Rattle.fp_timenodes.specs.Points.{points_at};
 ghost use Rattle.fp_prices_spans.specs.SpanLeaves.{IsSmallSpanBound, IsSpanBoundOf};
@@ -19,7 +19,7 @@ use std::alloc::Global;
 /// The bound of the leaf under sides, with the points as of the price's round, as [`span_bound`]
 /// finds it, on the same conditions.
 ///
-/// The windows and the points belong to the instance; the terminals, the first points and the added
+/// The windows fit the instance, and the points have its terminals; the terminals, the first points and the added
 /// points are together at most [`MOST_POINTS`].
 pub fn span_bound_of(
     alloc: Global,
@@ -31,7 +31,7 @@ pub fn span_bound_of(
     spans: &[Span],
     price: LeafPrice,
 ) -> Result<LeafBound, NoMemory>
-    requires belongs { BelongsTo instance.now windows.now }
+    requires fits { FitsInstance instance.now windows.now }
     requires terminals { points.now.terminals ≡ length instance.now.terminals }
     requires few { points.now.terminals + length points.now.first + length points.now.added ≤ MOST_POINTS }
     requires prices { ArePrices instance.now tables.now spans.now price.kind }

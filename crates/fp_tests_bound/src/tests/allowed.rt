@@ -255,3 +255,55 @@ fn heads_for_a_shipment(rt: HostRuntime) -> Result<(), Fail> {
     assert_eq!(rt; heads_with(alloc, 21)?, Some((10, 10, 10, 10)));
     Ok(())
 }
+
+// The first and the last moment at which a shipment can leave by the only arc under sides.
+fn window_under(alloc: Global, shipment: u32, sides: &[Side]) -> Result<Option<(u32, u32)>, Fail> {
+    let instance = instance_of(alloc, PAIR)?;
+    let windows = Windows::of(alloc, &instance)?;
+    let network = Network::of(alloc, &instance, &initial(alloc, &instance, &windows)?, 0)?;
+    let allowed = Allowed::new(&instance, &windows, &network);
+    if shipment as usize >= instance.shipments().len() {
+        return Ok(None);
+    }
+    let row = allowed.windows_under(alloc, shipment, sides)?;
+    match row.first() {
+        Some(Some(window)) => Ok(Some((window.lo, window.hi))),
+        _ => Ok(None),
+    }
+}
+
+// S1 can leave from 0 to 5, S2 from 3 to 7. What lies between two moments that are left doesn't count.
+#[test]
+fn windows_under_sides(rt: HostRuntime) -> Result<(), Fail> {
+    let alloc = rt.alloc();
+    let before = Side::Before {
+        shipment: 0,
+        terminal: 0,
+        at: 3,
+    };
+    let from = Side::From {
+        shipment: 0,
+        terminal: 0,
+        at: 3,
+    };
+    let without = Side::Without {
+        shipment: 0,
+        arc: 0,
+    };
+    for (shipment, sides, want) in [
+        (0, [].as_slice(), Some((0, 5))),
+        (0, [before].as_slice(), Some((0, 2))),
+        (0, [from].as_slice(), Some((3, 5))),
+        (0, [before, from].as_slice(), None),
+        (0, [without].as_slice(), None),
+        (0, [at_most(0, 3, 0)].as_slice(), Some((3, 5))),
+        (0, [at_most(2, 4, 0)].as_slice(), Some((0, 5))),
+        (0, [at_most(0, 9, 1)].as_slice(), Some((0, 5))),
+        (1, [before].as_slice(), Some((3, 7))),
+        (1, [at_most(5, 8, 0)].as_slice(), Some((3, 4))),
+        (1, [at_most(3, 5, 0), at_most(5, 8, 0)].as_slice(), None),
+    ] {
+        assert_eq!(rt; window_under(alloc, shipment, sides)?, want);
+    }
+    Ok(())
+}

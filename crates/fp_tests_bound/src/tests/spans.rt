@@ -1,7 +1,7 @@
 //! What leaves are worth under prices by spans, and which spans are refused.
 
 ghost use Rattle.std.specs.Prelude.{[], ◌≡◌, ◌-◌, ◌<◌, ◌≤◌, ◌^◌, ◌∷◌, All, IfOk, length};
-ghost use Rattle.fp_flatnet.specs.Belonging.{BelongsTo};
+ghost use Rattle.fp_flatnet.specs.Belonging.{FitsInstance};
 ghost use Rattle.fp_prices_spans.specs.SpanLists.{IsSpanOf};
 
 use fp_flatnet::{Windows, initial};
@@ -140,7 +140,7 @@ fn leaf_bound(
     sides: &[Side],
     forced: bool,
 ) -> Result<Option<LeafBound>, NoMemory>
-    requires belongs { BelongsTo round.now.problem windows.now }
+    requires fits { FitsInstance round.now.problem windows.now }
     requires exist { All (IsSpanOf round.now.problem) spans.now }
     requires few { length spans.now < 2 ^ 32 - 1 }
 {

@@ -32,7 +32,7 @@ loop-arc-preserved c =
       | then-not-is_barred w ↦
           let from : ℕ = w.arc.result.from in
           let leaves : from ≡ tails_of p c.loop-arc.arc = ap (λ (a : Arc). a.from) w.arc.ensures.same in
-          let exists : from < length c.in_ok-by_terminal.by_terminal.items = omega (arith, leaves, lists.one_each, (c.requires.belongs.valid.parts.arcs c.loop-arc.arc no_arc arc).from) in
+          let exists : from < length c.in_ok-by_terminal.by_terminal.items = omega (arith, leaves, lists.one_each, (c.requires.fits.valid.parts.arcs c.loop-arc.arc no_arc arc).from) in
           let own : w.deref-then-not-is_barred.result.now ≡ concerned p c.args.shipment (tails_of p c.loop-arc.arc) sides =
           w.deref-then-not-is_barred.ensures.value ∙ ap (λ (v : Vec Side Global). v.items) w.index-own.ensures ∙ lists.exact from w.index-own.result.now exists ∙
           ap (λ (t : ℕ). concerned p c.args.shipment t sides) leaves in

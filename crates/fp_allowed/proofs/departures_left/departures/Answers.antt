@@ -2,6 +2,7 @@ use Rattle.std.proofs.Common.{◌≡◌, ℕ, ◌+◌, ◌*◌, ◌<◌, ◌≤�
 use Rattle.std.proofs.lemmas.List.{length-map}
 use Rattle.fp_model.specs.declared.parts.Arc.{Arc}
 use Rattle.fp_flatnet.specs.Tables.{windows_in}
+use Rattle.fp_flatnet.proofs.WindowTimes.{BelongsTo-FitsInstance}
 use Rattle.fp_allowed.specs.Allowed.{tails_of}
 use Rattle.fp_allowed.specs.Departures.{departures_below, departures_in}
 use Rattle.fp_allowed.specs.Moments.{concerned}
@@ -21,7 +22,7 @@ departures_at-total-requires-clause-arc c =
 
 pub departures_at-total-requires-clause-in_time : goal.departures_at-total-requires-clause-in_time
 departures_at-total-requires-clause-in_time c =
-    windows_in_time c.args.instance.now c.args.windows.now c.args.shipment c.loop-arc.arc c.requires.belongs c.requires.shipment
+    windows_in_time c.args.instance.now c.args.windows.now c.args.shipment c.loop-arc.arc (BelongsTo-FitsInstance c.args.instance.now c.args.windows.now c.requires.belongs) c.requires.shipment
     (omega (arith, c.loop-arc-test.true, ap (λ (l : List Arc). length l) c.arcs.ensures.same))
 
 pub overflow_add-total : goal.overflow_add-total
@@ -36,9 +37,9 @@ overflow_add-total c =
     let own : c.deref-then-arc-terminal.result.now ≡ concerned p k (tails_of p arc) sides =
     c.deref-then-arc-terminal.ensures.value ∙ c.in_ok-own.ensures ∙ ap (λ (t : ℕ). concerned p k t sides) (sym here) in
     let by : c.departures_at-total.result ≡ departures_in p sides k arc (windows k arc) = c.departures_at-total.ensures.exact sides own (c.deref.ensures.value ∙ c.in_ok-through.ensures) in
-    let so_far : c.loop-arc.total ≤ arc * 100001 = rw c.loop-arc.invariant.0 (departures_below_le p c.args.windows.now sides k c.args.terminal arc c.requires.belongs c.requires.shipment (omega arith)) in
+    let so_far : c.loop-arc.total ≤ arc * 100001 = rw c.loop-arc.invariant.0 (departures_below_le p c.args.windows.now sides k c.args.terminal arc (BelongsTo-FitsInstance c.args.instance.now c.args.windows.now c.requires.belongs) c.requires.shipment (omega arith)) in
     let few : departures_in p sides k arc (windows k arc) ≤ 100001 =
-    departures_in_le p k arc sides (windows k arc) (windows_in_time p c.args.windows.now k arc c.requires.belongs c.requires.shipment exists) in
+    departures_in_le p k arc sides (windows k arc) (windows_in_time p c.args.windows.now k arc (BelongsTo-FitsInstance c.args.instance.now c.args.windows.now c.requires.belongs) c.requires.shipment exists) in
     let arcs : length p.arcs ≤ 1000 = c.requires.belongs.valid.parts.few_arcs in
     let small = within c.loop-arc.total c.departures_at-total.result arc (length p.arcs) so_far (rw by few) exists arcs in
     omega (arith, small)

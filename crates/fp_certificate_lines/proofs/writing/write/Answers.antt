@@ -19,6 +19,7 @@ returns c =
       tables = i.tables.items;
       spans = i.spans.items;
       gifts = i.gifts.items;
+      moments = i.moments.items;
       tree = i.tree.items;
     } in
     subst (λ (s : Statement). c.into_bytes.result.items ≡ lines_of (rows_of p s)) c.certificate.view_is
@@ -41,5 +42,6 @@ returns c =
       c.deref-5.ensures.value,
       c.deref-6.ensures.value,
       c.deref-7.ensures.value,
+      c.deref-8.ensures.value,
     )
     (sym (rows-text p v)))

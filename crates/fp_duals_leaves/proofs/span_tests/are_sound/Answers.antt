@@ -1,6 +1,10 @@
 use Rattle.std.proofs.Common.{arith}
+use Rattle.fp_flatnet.proofs.WindowTimes.{BelongsTo-FitsInstance}
 use Rattle.fp_duals_leaves.proofs.SoundSpans.{paid-told}
 use Rattle.fp_duals_leaves.proofs.span_tests.are_sound.Goals as goal
+
+pub are_paid_beside-requires-clause-fits : goal.are_paid_beside-requires-clause-fits
+are_paid_beside-requires-clause-fits c = BelongsTo-FitsInstance c.args.instance.now c.args.windows.now c.requires
 
 pub returns : goal.returns
 returns c =

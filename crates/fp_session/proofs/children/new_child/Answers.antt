@@ -8,7 +8,7 @@ use Rattle.fp_session.specs.Outcomes.{empty_kept, priced_kept}
 use Rattle.fp_session.specs.Searches.{history}
 use Rattle.fp_allowed.specs.Settings.{Setting}
 use Rattle.fp_duals_leaves.specs.Prices.{HaveGrown, PriceLists}
-use Rattle.fp_session.proofs.EarlierPrices.{belongs-here, leaf-setting_of}
+use Rattle.fp_session.proofs.EarlierPrices.{fits-here, leaf-setting_of}
 use Rattle.fp_session.proofs.Improvements.{empty-here, priced-here}
 use Rattle.fp_session.proofs.children.new_child.Goals as goal
 
@@ -18,7 +18,7 @@ kept-under s prices own sides kept made way is keeps =
     subst (λ (k : Kept). IsKept (history s prices) sides k.payload k.value) (sym is) (subst (λ (l : List Side). IsKept (history s prices) l made.payload made.value) way keeps)
 
 pub of-requires : goal.of-requires
-of-requires g c = belongs-here c.args.leaf.now.setting c.round.result.now.problem c.windows.result.now c.round.ensures.problem c.windows.ensures.same c.windows.ensures.belongs
+of-requires g c = fits-here c.args.leaf.now.setting c.round.result.now.problem c.windows.result.now c.round.ensures.problem c.windows.ensures.same c.windows.ensures.belongs
 
 pub returns-in-Empty-clause-kept : goal.returns-in-Empty-clause-kept
 returns-in-Empty-clause-kept g c =

@@ -7,5 +7,5 @@ use Rattle.fp_certificate_lines.proofs.lines.tables.write_tables.Given as goal
 abbrev pub invariant-loop-place : goal.invariant-loop-place
 invariant-loop-place l = record {
   begun : l.line.begun ≡ false;
-  text : l.line.text ++ lines_of (tables_rows l.instance l.spans l.gifts (l.place + 1) (drop l.place l.tables)) ≡ l.initial.line.text ++ lines_of (tables_rows l.instance l.spans l.gifts 1 l.tables);
+  text : l.line.text ++ lines_of (tables_rows l.instance l.spans l.gifts l.moments (l.place + 1) (drop l.place l.tables)) ≡ l.initial.line.text ++ lines_of (tables_rows l.instance l.spans l.gifts l.moments 1 l.tables);
 }

@@ -1,8 +1,9 @@
 use Rattle.std.proofs.Common.{sym, subst}
 use Rattle.std.specs.Prelude.{IfOk}
 use Rattle.fp_model.specs.Problem.{Problem}
-use Rattle.fp_flatnet.specs.Belonging.{BelongsTo}
+use Rattle.fp_flatnet.specs.Belonging.{FitsInstance}
 use Rattle.fp_flatnet.specs.Tables.{windows_in}
+use Rattle.fp_flatnet.proofs.WindowTimes.{BelongsTo-FitsInstance}
 use Rattle.fp_longestarcs.specs.Networks.{points_in}
 use Rattle.fp_prices.specs.Leaves.{BoundsPlans, IsBoundOf, IsSmallBound}
 use Rattle.fp_prices.specs.Rounds.{LeafModel}
@@ -12,7 +13,8 @@ use Rattle.fp_prices.proofs.SamePoints.{bound-as_of}
 use Rattle.fp_prices.proofs.values.bounds.bound.Goals as goal
 
 pub of-requires-2 : goal.of-requires-2
-of-requires-2 c = subst (λ (p : Problem). BelongsTo p c.args.windows.now) (sym c.in_ok-network.ensures.instance) c.requires.belongs
+of-requires-2 c =
+    subst (λ (p : Problem). FitsInstance p c.args.windows.now) (sym c.in_ok-network.ensures.instance) (BelongsTo-FitsInstance c.args.instance.now c.args.windows.now c.requires.belongs)
 
 pub bound-requires-clause-tables : goal.bound-requires-clause-tables
 bound-requires-clause-tables c =

@@ -13,7 +13,7 @@ loop-number-preserved c =
     let Paid : ClassSpan → Type 0 = ChargePays c.args.instance.now (windows_in c.args.windows.now) (first_points c.args.points.now) in
     let here : c.loop-number.number < length c.args.spans.now = omega arith in
     All-more Paid c.args.spans.now c.loop-number.number c.index-spans-number.result here c.loop-number.invariant
-    (subst Paid c.index-spans-number.is (c.in_ok-charge_pays.ensures.0 c.if-not-branch.false))
+    (subst Paid c.index-spans-number.is (c.in_ok-pays.ensures.0 c.if-not-branch.false))
 
 pub returns : goal.returns
 returns c =

@@ -1,8 +1,9 @@
 use Rattle.std.proofs.Common.{ℕ, false, sym, subst}
 use Rattle.fp_model.specs.Problem.{Problem}
 use Rattle.fp_timenodes.specs.Points.{points_at}
-use Rattle.fp_flatnet.specs.Belonging.{BelongsTo}
+use Rattle.fp_flatnet.specs.Belonging.{FitsInstance}
 use Rattle.fp_flatnet.specs.Tables.{windows_in}
+use Rattle.fp_flatnet.proofs.WindowTimes.{BelongsTo-FitsInstance}
 use Rattle.fp_longestarcs.specs.Networks.{points_in}
 use Rattle.fp_longestarcs.specs.Whole.{IsNetworkOf}
 use Rattle.fp_prices.specs.declared.leaf_prices.Kind.{Kind}
@@ -12,10 +13,10 @@ use Rattle.fp_prices.specs.Tables.{AreTables}
 use Rattle.fp_prices.proofs.SamePoints.{bound-same}
 use Rattle.fp_prices.proofs.values.round_bounds.RoundBounds.bound.Goals as goal
 
-pub bound_over-requires-clause-belongs : goal.bound_over-requires-clause-belongs
-bound_over-requires-clause-belongs c =
+pub bound_over-requires-clause-fits : goal.bound_over-requires-clause-fits
+bound_over-requires-clause-fits c =
     let is = c.in_ok-bounds.ensures.holds c.args.tables.now c.requires.holds in
-    subst (λ (p : Problem). BelongsTo p c.args.windows.now) (sym is.instance) c.requires.belongs
+    subst (λ (p : Problem). FitsInstance p c.args.windows.now) (sym is.instance) (BelongsTo-FitsInstance c.args.instance.now c.args.windows.now c.requires.belongs)
 
 pub bound_over-requires-clause-tables : goal.bound_over-requires-clause-tables
 bound_over-requires-clause-tables c =
