@@ -11,7 +11,7 @@ from programs import TOP, proved  # noqa: E402
 
 
 # The instances of the page, in its order: all but the second have their certificates with them.
-EXAMPLES = ("hub-proof", "three-trucks", "two-groups", "two-or-three", "two-ways")
+EXAMPLES = ("hub-proof", "three-trucks", "two-groups", "two-or-three", "two-ways", "parted-shipments")
 
 
 def shown_lines():
@@ -23,10 +23,10 @@ def shown_lines():
 @unittest.skipIf(proved() is None, "the proved program of these sources isn't here")
 class Page(unittest.TestCase):
     def test_lines(self):
-        hub, trio, groups, trucks, ways = ((TOP / f"examples/{name}.csv").read_bytes() for name in EXAMPLES)
+        hub, trio, groups, trucks, ways, parted = ((TOP / f"examples/{name}.csv").read_bytes() for name in EXAMPLES)
         answer = self.prints("plan --spans --branches 0", trio)
-        self.assertEqual("\n".join(shown_lines()) + "\n", (hub + trio + answer + groups + trucks + ways).decode())
-        for data in (hub, trio + answer, groups, trucks):
+        self.assertEqual("\n".join(shown_lines()) + "\n", (hub + trio + answer + groups + trucks + ways + parted).decode())
+        for data in (hub, trio + answer, groups, trucks, parted):
             self.assertEqual(self.prints("check", data), b"accepted,optimal\n")
         self.assertEqual(self.prints("check", ways), b"accepted,unfinished\n")
 

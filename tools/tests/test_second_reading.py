@@ -159,7 +159,7 @@ BYTES = (b",", b"\n", b"\r", b'"', b" ", b"\t", b"0", b"9", b"A", b";", b"\xa0",
 FIELDS = (b"", b"0", b"100001", b"99999999999999999999", b"A", b"S1", b"terminal", b"answer", b"kept", b"end", b"table", b"optimal", b"none", b'"x"', b"now", b"stuck", b"700", b"trucks", b"way", b"gift", b"most")
 EXAMPLES = (
     ("direct", "carrier-day.csv"), ("bound", "one-arc.csv"), ("quote --rounds 0 --branches 0", "shared-truck.csv"),
-    ("check", "hub-proof.csv"), ("check", "two-or-three.csv"), ("check", "two-ways.csv"), ("check", "proved-plan.csv"), ("yard 1", "proved-plan.csv"), ("fleet", "proved-plan.csv"), ("replan --rounds 0 --branches 0", "kept-day.csv"),
+    ("check", "hub-proof.csv"), ("check", "two-or-three.csv"), ("check", "two-ways.csv"), ("check", "parted-shipments.csv"), ("check", "proved-plan.csv"), ("yard 1", "proved-plan.csv"), ("fleet", "proved-plan.csv"), ("replan --rounds 0 --branches 0", "kept-day.csv"),
     ("replan --rounds 0 --branches 0", "new-order.csv"), ("check", "late-answer.csv"), ("check", "stuck-answer.csv"), ("yard 1", "late-answer.csv"),
     ("fleet --trucks", "late-answer.csv"), ("improve --rounds 0 --branches 0", "late-answer.csv"), ("quote --rounds 0 P4", "carrier-day.csv"),
 )  # fmt: skip
